@@ -1,0 +1,19 @@
+-- What a clause sees of a source, and what a read does to it.
+use Rattle.std.specs.Prelude.{ℕ, ◌<◌, ◌≤◌, List, length, take}
+use Rattle.std.specs.declared.option.Option.{Option}
+use Rattle.std.specs.Io.KnownBytes.{Keeps, Consumes, IsAtEnd}
+use Rattle.bq_io.specs.Counts.{Rose}
+use Rattle.bq_io.specs.declared.source.ReadAnswer.{ReadAnswer}
+use Rattle.bq_io.specs.declared.source.ReadAnswer.TheVariants.{Got, End, Failed}
+
+-- the bytes that are left, where the source tells them, and how often a read has failed
+pub record SourceState : Type 0 where
+  pub left : Option (List ℕ)
+  pub faults : ℕ
+
+-- What a read gives: the first bytes that were left, at least one; the end, where none was left; or a fault, where the
+-- count of faults rose. The count never falls.
+abbrev pub ReadsSome : ReadAnswer → List ℕ → SourceState → SourceState → Type 0
+ReadsSome (Got n) buffer before after = (0 < n) × (n ≤ length buffer) × Consumes before.left after.left (take n buffer) × (before.faults ≤ after.faults)
+ReadsSome End buffer before after = IsAtEnd before.left × Keeps before.left after.left × (before.faults ≤ after.faults)
+ReadsSome Failed buffer before after = Rose before.faults after.faults × Keeps before.left after.left × (before.faults ≤ after.faults)

@@ -1,0 +1,22 @@
+//! The outside: where bytes come from, where they go, and what stands for both in memory and at the process.
+//!
+//! A clause sees a source as the bytes that are left and a count of faults, and a sink as the bytes written and a
+//! count of faults. Every call that writes a text has the one clause `Writes`: the text was written, or a front of
+//! it, and then the sink failed.
+#![tactic(auto)]
+
+mod memory;
+mod sink;
+mod source;
+mod standard;
+mod status;
+mod steps;
+mod write;
+
+pub use memory::{MemSink, MemSource, SureSource};
+pub use sink::{Sink, WriteAnswer, WriteFault};
+pub use source::{ReadAnswer, Source};
+pub use standard::{StdSink, StdSource};
+pub use status::Status;
+pub use steps::Steps;
+pub use write::{write_all, write_pieces};

@@ -1,0 +1,4 @@
+pub mod Copied
+pub mod Cuts
+pub mod ParsedValue
+pub mod WordLists

@@ -1,0 +1,6 @@
+pub mod Key
+pub mod Lines
+pub mod Name
+pub mod Stored
+pub mod Value
+pub mod Word

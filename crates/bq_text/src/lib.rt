@@ -1,0 +1,17 @@
+//! Names, integers and lines, as bytes.
+//!
+//! A text is a list of bytes. A name is a word that is not reserved, of at most 24 bytes; a value is an integer of 64 bits
+//! with an optional sign; a text is cut into lines at each LF.
+#![tactic(auto)]
+
+mod key;
+mod line;
+mod name;
+mod value;
+mod word;
+
+pub use key::{Key, key_of};
+pub use line::{cut, first_line};
+pub use name::Name;
+pub use value::read_i64;
+pub use word::{is_letter, is_word, is_word_byte};
