@@ -1,11 +1,39 @@
 //! The trusted edge: a reader and a writer of the process. They tell no bytes, so a contract speaks of their faults alone.
-ghost use Rattle.std.specs.Prelude.{◌≡◌};
+ghost use Rattle.std.specs.Prelude.{◌≡◌, ◌≤◌, length, IfSome};
 
 use crate::sink::{Sink, WriteAnswer};
 use crate::source::{ReadAnswer, Source};
 use std::io::{ErrorKind, Read, Write};
 
-/// A reader that counts its failures.
+// Reads, and again where a signal interrupts the read. A read that fails gives nothing.
+fn read_again<R: Read>(inner: &mut R, buffer: &mut [u8]) -> Option<usize>
+    ensures { IfSome result (λ n. n ≤ length buffer.old) }
+{
+    for _ in 0..u64::MAX {
+        match inner.read(buffer) {
+            Ok(n) => return Some(n),
+            Err(error) if error.kind() == ErrorKind::Interrupted => {}
+            Err(_) => return None,
+        }
+    }
+    None
+}
+
+// Writes, and again where a signal interrupts the write. A write that fails gives nothing.
+fn write_again<W: Write>(inner: &mut W, piece: &[u8]) -> Option<usize>
+    ensures { IfSome result (λ n. n ≤ length piece.now) }
+{
+    for _ in 0..u64::MAX {
+        match inner.write(piece) {
+            Ok(n) => return Some(n),
+            Err(error) if error.kind() == ErrorKind::Interrupted => {}
+            Err(_) => return None,
+        }
+    }
+    None
+}
+
+/// A reader that counts its failures. A read that a signal interrupts is tried again.
 #[derive(Drop)]
 pub struct StdSource<R: Read + Drop> {
     inner: R,
@@ -30,10 +58,10 @@ impl<R: Read + Drop> Source for StdSource<R> {
     ghost seen = { λ s. record { left = None; faults = s.failed } };
 
     fn read(&mut self, buffer: &mut [u8]) -> ReadAnswer {
-        match self.inner.read(buffer) {
-            Ok(0) => ReadAnswer::End,
-            Ok(n) => ReadAnswer::Got(n),
-            Err(_) => {
+        match read_again(&mut self.inner, buffer) {
+            Some(0) => ReadAnswer::End,
+            Some(n) => ReadAnswer::Got(n),
+            None => {
                 self.failed = self.failed.saturating_add(1);
                 ReadAnswer::Failed
             }
@@ -41,7 +69,7 @@ impl<R: Read + Drop> Source for StdSource<R> {
     }
 }
 
-/// A writer that counts its failures. What it took has been flushed.
+/// A writer that counts its failures. What it took has been flushed. A write that a signal interrupts is tried again.
 #[derive(Drop)]
 pub struct StdSink<W: Write + Drop> {
     inner: W,
@@ -66,13 +94,13 @@ impl<W: Write + Drop> Sink for StdSink<W> {
     ghost seen = { λ s. record { written = None; faults = s.failed; below = 0; passed = 0 } };
 
     fn write(&mut self, piece: &[u8]) -> WriteAnswer {
-        match self.inner.write(piece) {
-            Ok(n) => {
+        match write_again(&mut self.inner, piece) {
+            Some(n) => {
                 if n > 0 && self.inner.flush().is_ok() {
                     return WriteAnswer::Took(n);
                 }
             }
-            Err(_) => {}
+            None => {}
         }
         self.failed = self.failed.saturating_add(1);
         WriteAnswer::Failed

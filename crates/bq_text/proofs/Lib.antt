@@ -1,4 +1,5 @@
 pub mod Copied
 pub mod Cuts
+pub mod LinesInPieces
 pub mod ParsedValue
 pub mod WordLists

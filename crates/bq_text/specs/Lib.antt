@@ -1,4 +1,5 @@
 pub mod Key
+pub mod Laws
 pub mod Lines
 pub mod Name
 pub mod Stored

@@ -5,6 +5,7 @@
 #![tactic(auto)]
 
 mod key;
+pub mod laws;
 mod line;
 mod name;
 mod value;

@@ -34,6 +34,7 @@ impl Name {
     pub const MOST_BYTES: usize = 24;
 
     /// The name that the text is, where it is one.
+    #[tactic(auto, unfolding(crate::specs::Name::is_name))]
     pub fn read(text: &[u8]) -> Option<Name>
         ensures { result ≡ (if is_name text.now then Some text.now else None) }
     {

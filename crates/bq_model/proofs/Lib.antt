@@ -1,0 +1,4 @@
+pub mod FilterAlone
+pub mod WithNew
+pub mod AtPlace
+pub mod NamedInOthers

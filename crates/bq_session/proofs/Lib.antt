@@ -1,0 +1,4 @@
+pub mod ColumnLists
+pub mod LineRuns
+pub mod NameLists
+pub mod RowReply
