@@ -17,6 +17,11 @@ pub enum Element {
 }
 
 impl Default for Element {
+    ghost use Rattle.std.specs.Prelude.{◌≡◌, pos};
+    ghost use Rattle.bq_model.specs.declared.atom.Element.TheVariants as element;
+
+    ghost is_default = { λ e. e ≡ element.Const (pos 0) };
+
     fn default() -> Element {
         Element::Const(0)
     }

@@ -1,0 +1,5 @@
+pub mod Folded
+pub mod InPlace
+pub mod Before
+pub mod Extended
+pub mod Added

@@ -1,0 +1,60 @@
+//! Reads and writes that fail, each in turn.
+use crate::run::{Edges, REPLIES, SCRIPT, run_over};
+use bq_io::Status;
+use std::test::Fail;
+
+// With one byte a call, the call k of a sink fails behind k - 1 bytes.
+#[test]
+fn each_write_fails_in_turn(rt: HostRuntime) -> Result<(), Fail> {
+    for call in 1..=REPLIES.len() {
+        let fails = [call as u64];
+        let edges = Edges {
+            piece: 4096,
+            read_fails: &[],
+            most: 1,
+            write_fails: &fails,
+        };
+        let (status, output) = run_over(rt.alloc(), SCRIPT, edges)?;
+        assert_eq!(rt; status, Status::WriteFault, "call {call}");
+        assert_eq!(rt; status.number(), 5);
+        assert_eq!(rt; output.bytes(), &REPLIES[..call - 1], "call {call}");
+        assert_eq!(rt; output.lacked(), 0);
+    }
+    Ok(())
+}
+
+// With one byte a call, a source is asked once for each byte and once for the end.
+#[test]
+fn each_read_fails_in_turn(rt: HostRuntime) -> Result<(), Fail> {
+    for call in 1..=SCRIPT.len() + 1 {
+        let fails = [call as u64];
+        let edges = Edges {
+            piece: 1,
+            read_fails: &fails,
+            most: 4096,
+            write_fails: &[],
+        };
+        let (status, output) = run_over(rt.alloc(), SCRIPT, edges)?;
+        assert_eq!(rt; status, Status::ReadFault, "call {call}");
+        assert_eq!(rt; status.number(), 4);
+        assert_eq!(rt; output.bytes(), b"".as_slice(), "call {call}");
+    }
+    Ok(())
+}
+
+// Calls that are never made do not fail.
+#[test]
+fn later_calls_fail_nothing(rt: HostRuntime) -> Result<(), Fail> {
+    let read_fails = [SCRIPT.len() as u64 + 2];
+    let write_fails = [REPLIES.len() as u64 + 1];
+    let edges = Edges {
+        piece: 1,
+        read_fails: &read_fails,
+        most: 1,
+        write_fails: &write_fails,
+    };
+    let (status, output) = run_over(rt.alloc(), SCRIPT, edges)?;
+    assert_eq!(rt; status, Status::Done);
+    assert_eq!(rt; output.bytes(), REPLIES);
+    Ok(())
+}

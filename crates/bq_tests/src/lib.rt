@@ -1,0 +1,13 @@
+//! Tests that cross crates: what no clause says. Expected values come from the worked cases, never from the program.
+#![tactic(auto)]
+
+#[cfg(test)]
+mod edge;
+#[cfg(test)]
+mod faults;
+#[cfg(test)]
+mod oracle;
+#[cfg(test)]
+mod run;
+#[cfg(test)]
+mod runs;
