@@ -4,6 +4,7 @@
 use bq_io::{Status, StdSink, StdSource};
 use bq_top::run;
 use std::env;
+use std::io::ErrorKind;
 use std::process::ExitCode;
 
 fn main(rt: HostRuntime) -> ExitCode {
@@ -12,8 +13,10 @@ fn main(rt: HostRuntime) -> ExitCode {
 
 // The words after the program's name. A word that is no text is wrong usage.
 fn words(rt: &HostRuntime) -> Result<Vec<String>, Status> {
-    let Ok(args) = env::args(rt) else {
-        return Err(Status::Usage);
+    let args = match env::args(rt) {
+        Ok(args) => args,
+        Err(error) if error.kind() == ErrorKind::OutOfMemory => return Err(Status::Memory),
+        Err(_) => return Err(Status::Usage),
     };
     let mut words = Vec::new(rt.alloc());
     for word in args.skip(1) {
