@@ -1,5 +1,5 @@
 -- Assignments of integers to columns, and what it means that a comparison holds of one.
-use Rattle.std.specs.Prelude.{ℤ, int_lt, Bool, map, List}
+use Rattle.std.specs.Prelude.{ℤ, int_lt, Bool, IsTrue, map, List}
 use Rattle.std.specs.List.{list_all}
 use Rattle.std.specs.Ordering.{int_eq}
 use Rattle.bq_model.specs.declared.atom.Attr.{Attr}
@@ -24,13 +24,21 @@ compares Lt x y = int_lt x y
 compares Eq x y = int_eq x y
 compares Gt x y = int_lt y x
 
--- the comparison holds
+-- whether the comparison holds
 abbrev pub meets : Assignment → Atom → Bool
 meets v t = compares t.op (value t.left v) (value t.right v)
 
--- the condition of the query holds: all its comparisons do
+-- whether the condition of the query holds: all its comparisons do
 abbrev pub holds : QueryValue → Assignment → Bool
 holds q v = list_all (meets v) q.atoms
+
+-- the comparison holds of the assignment
+abbrev pub AtomHolds : Assignment → Atom → Type 0
+AtomHolds v t = IsTrue (meets v t)
+
+-- the condition of the query holds of the assignment
+abbrev pub Holds : QueryValue → Assignment → Type 0
+Holds q v = IsTrue (holds q v)
 
 -- the values of the selected columns
 abbrev pub projected : QueryValue → Assignment → List ℤ

@@ -3,3 +3,9 @@ pub mod Assignment
 pub mod Tuples
 pub mod Meaning
 pub mod Filter
+pub mod Parts
+pub mod Order
+pub mod Links
+pub mod Violation
+pub mod Laws
+pub mod Cases

@@ -8,11 +8,13 @@ mod key;
 pub mod laws;
 mod line;
 mod name;
+mod put;
 mod value;
 mod word;
 
 pub use key::{Key, key_of};
 pub use line::{cut, first_line};
 pub use name::Name;
+pub use put::{put_i64, put_name, put_u64};
 pub use value::read_i64;
 pub use word::{is_letter, is_word, is_word_byte};

@@ -1,0 +1,92 @@
+//! Rows in order of arrival with their counts, and their numbers in order of tuples.
+ghost use Rattle.std.specs.Prelude.{◌≡◌, ℕ, ◌+◌, ◌*◌, ◌<◌, ◌≤◌, ◌^◌, ◌⊎◌, [], ◌∷◌, ◌++◌, length, filter, slice_index, slice_set, vec_capacity};
+ghost use Rattle.std.specs.List.{insert};
+ghost use Rattle.bq_answers.specs.Entries.{Ascends};
+ghost use Rattle.bq_answers.specs.Fields.{entries_of};
+ghost use Rattle.bq_answers.specs.Rows.{counts_for};
+
+use crate::search::{rank, row};
+use arrayvec::ArrayVec;
+use bq_model::Tuple;
+
+/// Appends a row with the count 0, and puts its number at that place of the order.
+pub fn insert_row(
+    values: &mut Vec<i64>,
+    counts: &mut Vec<u128>,
+    order: &mut Vec<u32>,
+    place: usize,
+    t: &[i64],
+)
+    requires place { place ≤ length order.old.items }
+    requires few { length counts.old.items < 2 ^ 32 }
+    requires values { length values.old.items + length t.now ≤ vec_capacity values.old }
+    requires counts { length counts.old.items < vec_capacity counts.old }
+    requires order { length order.old.items < vec_capacity order.old }
+    ensures values { values.new.items ≡ values.old.items ++ t.now }
+    ensures counts { counts.new.items ≡ counts.old.items ++ 0 ∷ [] }
+    ensures order { order.new.items ≡ insert order.old.items place (length counts.old.items) }
+    ensures value_room { vec_capacity values.old ≤ vec_capacity values.new }
+    ensures count_room { vec_capacity counts.old ≤ vec_capacity counts.new }
+    ensures order_room { vec_capacity order.old ≤ vec_capacity order.new }
+{
+    let number = counts.len() as u32;
+    let _values_stored = values.extend_from_slice(t).is_ok();
+    let _count_stored = counts.push(0).is_ok();
+    let _number_stored = order.insert(place, number).is_ok();
+}
+
+/// Sets the count of the row at that place of the order, and keeps the list of the numbers of those that wait.
+pub fn set_count(
+    values: &[i64],
+    width: usize,
+    order: &[u32],
+    place: usize,
+    count: u128,
+    counts: &mut [u128],
+    due: &mut Vec<u32>,
+)
+    requires place { place < length order.now }
+    requires rows { (i : ℕ) → i < length order.now → slice_index order.now i * width + width ≤ length values.now }
+    requires counts { (i : ℕ) → i < length order.now → slice_index order.now i < length counts.old }
+    requires ascending { Ascends (entries_of values.now counts.old width order.now) }
+    requires due { due.old.items ≡ filter (counts_for counts.old) order.now }
+    requires room { length order.now ≤ vec_capacity due.old }
+    ensures counts { counts.new ≡ slice_set counts.old (slice_index order.now place) count }
+    ensures due { due.new.items ≡ filter (counts_for (slice_set counts.old (slice_index order.now place) count)) order.now }
+    ensures due_room { vec_capacity due.old ≤ vec_capacity due.new }
+{
+    let number = order[place];
+    let k = number as usize;
+    let waited = counts[k] > 0;
+    counts[k] = count;
+    if waited {
+        if count == 0 {
+            let i = rank(values, due, width, row(values, width, k));
+            due.remove(i);
+        }
+    } else if count > 0 {
+        let i = rank(values, due, width, row(values, width, k));
+        let _number_stored = due.insert(i, number).is_ok();
+    }
+}
+
+/// Sets the counts of these numbers to 0.
+pub fn clear_counts(counts: &mut [u128], numbers: &[u32])
+    requires { (i : ℕ) → i < length numbers.now → slice_index numbers.now i < length counts.old }
+    ensures cleared { (i : ℕ) → i < length numbers.now → slice_index counts.new (slice_index numbers.now i) ≡ 0 }
+    ensures others { (k : ℕ) → (slice_index counts.new k ≡ 0) ⊎ (slice_index counts.new k ≡ slice_index counts.old k) }
+{
+    for i in 0..numbers.len() {
+        counts[numbers[i] as usize] = 0;
+    }
+}
+
+/// The values of a row as a tuple.
+pub fn tuple_of(row: &[i64]) -> Tuple
+    requires { length row.now ≤ 8 }
+    ensures { result.items ≡ row.now }
+{
+    let mut tuple = ArrayVec::new();
+    let _whole = tuple.try_extend_from_slice(row).is_ok();
+    tuple
+}

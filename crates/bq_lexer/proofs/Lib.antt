@@ -1,0 +1,4 @@
+pub mod Longest
+pub mod Standing
+pub mod TextKinds
+pub mod TokenLists

@@ -1,0 +1,12 @@
+//! The tokens of a statement line.
+//!
+//! A token is a word, an integer or a symbol. At each place the longest text that is a token is taken; spaces and tabs stand
+//! between tokens and say nothing else.
+#![tactic(auto)]
+
+mod lexing;
+mod token;
+
+pub use bq_text::Key;
+pub use lexing::{is_blank_byte, lex};
+pub use token::{LexError, Token, TokenKind, Tokens};

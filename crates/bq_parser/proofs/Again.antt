@@ -1,0 +1,159 @@
+-- Each statement's tokens are read as it.
+use Rattle.std.proofs.Common.{◌≡◌, ℕ, ◌<◌, ◌⊎◌, Bool, true, false, List, [], ◌∷◌, ◌++◌, length, Some, refl, ap, ◌∙◌, append_assoc, arith, inl, inr, Ok}
+use Rattle.std.specs.List.{AllByRecursion}
+use Rattle.bq_text.specs.declared.key.Key.TheVariants.{CreateKey, QueryKey, AsKey, SelectKey, FromKey, AndKey}
+use Rattle.bq_parser.specs.declared.places.Place.{Place}
+use Rattle.bq_parser.specs.declared.places.Place.TheVariants.{Start, ColumnName, AfterColumn, FirstSelected, SelectedStream, AfterSelected, FromName, AfterFrom, AtomLeft, AfterAtom, Complete, Ended}
+use Rattle.bq_parser.specs.declared.tree.ColumnAst.{ColumnAst}
+use Rattle.bq_parser.specs.declared.tree.OperandAst.{OperandAst}
+use Rattle.bq_parser.specs.declared.tree.OperandAst.TheVariants.{Column, Integer}
+use Rattle.bq_parser.specs.declared.tree.AtomAst.{AtomAst}
+use Rattle.bq_parser.specs.declared.tree.Statement.{Statement}
+use Rattle.bq_model.specs.declared.atom.Op.{Op}
+use Rattle.bq_model.specs.declared.atom.Op.TheVariants.{Lt, Eq, Gt}
+use Rattle.bq_parser.specs.Grammar.{Lexeme, word, key, comma, closing, semicolon, separated, name_tokens, column_tokens, atom_tokens, where_tokens, distinct_tokens, statement_tokens, IsColumn, HasColumn, IsWhole, Spells}
+use Rattle.bq_parser.specs.declared.draft.Form.TheVariants as forms
+use Rattle.bq_parser.specs.Reading.{Parts, no_parts, built, finished, walk}
+use Rattle.bq_parser.specs.declared.tree.Statement.TheVariants.{CreateStream, CreateQuery, Explain, DropQuery}
+use Rattle.bq_parser.proofs.WalkLaws.{walk_append}
+
+columns_walk : (p : Parts) (c : List ℕ) (cs : List (List ℕ)) → walk ColumnName p (separated comma name_tokens (c ∷ cs)) ≡ Ok (AfterColumn, record p { columns = p.columns ++ c ∷ cs })
+columns_walk p c [] = refl
+columns_walk p c (d ∷ cs) = columns_walk (record p { columns = p.columns ++ c ∷ [] }) d cs ∙ ap (λ xs. Ok (AfterColumn, record p { columns = xs })) (append_assoc p.columns (c ∷ []) (d ∷ cs))
+
+from_walk : (p : Parts) (c : List ℕ) (cs : List (List ℕ)) → walk FromName p (separated comma name_tokens (c ∷ cs)) ≡ Ok (AfterFrom, record p { from = p.from ++ c ∷ cs })
+from_walk p c [] = refl
+from_walk p c (d ∷ cs) = from_walk (record p { from = p.from ++ c ∷ [] }) d cs ∙ ap (λ xs. Ok (AfterFrom, record p { from = xs })) (append_assoc p.from (c ∷ []) (d ∷ cs))
+
+last_column : ColumnAst → List ColumnAst → ColumnAst
+last_column c [] = c
+last_column c (d ∷ cs) = last_column d cs
+
+selected_walk : (p : Parts) (c : ColumnAst) (cs : List ColumnAst) → (stream : List ℕ) × (walk SelectedStream p (separated comma column_tokens (c ∷ cs)) ≡ Ok (AfterSelected, record p { select = p.select ++ c ∷ cs; stream = stream }))
+selected_walk p c [] = (c.stream, refl)
+selected_walk p c (d ∷ cs) =
+    let rest = selected_walk (record p { select = p.select ++ c ∷ []; stream = c.stream }) d cs in
+    (rest.0, rest.1 ∙ ap (λ xs. Ok (AfterSelected, record p { select = xs; stream = rest.0 })) (append_assoc p.select (c ∷ []) (d ∷ cs)))
+
+-- the parts q are those of p with these atoms, and what is left of the last one
+abbrev pub WithAtoms : Parts → List AtomAst → Parts → Type 0
+WithAtoms p atoms q = q ≡ record p { atoms = atoms; stream = q.stream; left = q.left; op = q.op }
+
+abbrev pub AtomRead : Parts → AtomAst → Type 0
+AtomRead p a = (q : Parts) × (walk AtomLeft p (atom_tokens a) ≡ Ok (AfterAtom, q)) × WithAtoms p (p.atoms ++ a ∷ []) q
+
+atom_walk : (p : Parts) (left : OperandAst) (op : Op) (right : OperandAst) → IsColumn left ⊎ IsColumn right → AtomRead p (record { left = left; op = op; right = right })
+atom_walk p (Column c) Lt (Column d) h = (record p { stream = d.stream; left = Column c; op = Lt; atoms = p.atoms ++ (record { left = Column c; op = Lt; right = Column d }) ∷ [] }, refl, refl)
+atom_walk p (Column c) Lt (Integer y) h = (record p { stream = c.stream; left = Column c; op = Lt; atoms = p.atoms ++ (record { left = Column c; op = Lt; right = Integer y }) ∷ [] }, refl, refl)
+atom_walk p (Integer z) Lt (Column d) h = (record p { stream = d.stream; left = Integer z; op = Lt; atoms = p.atoms ++ (record { left = Integer z; op = Lt; right = Column d }) ∷ [] }, refl, refl)
+atom_walk p (Integer z) Lt (Integer y) h = absurd (elim h [ inl e ↦ e | inr e ↦ e ])
+atom_walk p (Column c) Eq (Column d) h = (record p { stream = d.stream; left = Column c; op = Eq; atoms = p.atoms ++ (record { left = Column c; op = Eq; right = Column d }) ∷ [] }, refl, refl)
+atom_walk p (Column c) Eq (Integer y) h = (record p { stream = c.stream; left = Column c; op = Eq; atoms = p.atoms ++ (record { left = Column c; op = Eq; right = Integer y }) ∷ [] }, refl, refl)
+atom_walk p (Integer z) Eq (Column d) h = (record p { stream = d.stream; left = Integer z; op = Eq; atoms = p.atoms ++ (record { left = Integer z; op = Eq; right = Column d }) ∷ [] }, refl, refl)
+atom_walk p (Integer z) Eq (Integer y) h = absurd (elim h [ inl e ↦ e | inr e ↦ e ])
+atom_walk p (Column c) Gt (Column d) h = (record p { stream = d.stream; left = Column c; op = Gt; atoms = p.atoms ++ (record { left = Column c; op = Gt; right = Column d }) ∷ [] }, refl, refl)
+atom_walk p (Column c) Gt (Integer y) h = (record p { stream = c.stream; left = Column c; op = Gt; atoms = p.atoms ++ (record { left = Column c; op = Gt; right = Integer y }) ∷ [] }, refl, refl)
+atom_walk p (Integer z) Gt (Column d) h = (record p { stream = d.stream; left = Integer z; op = Gt; atoms = p.atoms ++ (record { left = Integer z; op = Gt; right = Column d }) ∷ [] }, refl, refl)
+atom_walk p (Integer z) Gt (Integer y) h = absurd (elim h [ inl e ↦ e | inr e ↦ e ])
+
+atoms_walk : (p : Parts) (a : AtomAst) (atoms : List AtomAst) → AllByRecursion HasColumn (a ∷ atoms) → (q : Parts) × (walk AtomLeft p (separated (key AndKey) atom_tokens (a ∷ atoms)) ≡ Ok (AfterAtom, q)) × WithAtoms p (p.atoms ++ a ∷ atoms) q
+atoms_walk p a [] h = atom_walk p a.left a.op a.right h.0
+atoms_walk p a (b ∷ atoms) h =
+    let first = atom_walk p a.left a.op a.right h.0 in
+    let rest = atoms_walk first.0 b atoms h.1 in
+    let q = rest.0 in
+    let F : Parts → Parts = λ m. record m { atoms = m.atoms ++ b ∷ atoms; stream = q.stream; left = q.left; op = q.op } in (
+      q,
+      walk_append AtomLeft p (atom_tokens a) (key AndKey ∷ separated (key AndKey) atom_tokens (b ∷ atoms)) AfterAtom first.0 first.1 ∙ rest.1,
+      rest.2 ∙ ap F first.2 ∙ ap (λ xs. record p { atoms = xs; stream = q.stream; left = q.left; op = q.op }) (append_assoc p.atoms (a ∷ []) (b ∷ atoms)),
+    )
+
+-- the tokens lead to a place where the statement may end, and where a semicolon may stand
+pub record IsRead (s : Statement) : Type 0 where
+  pub to : Place
+  pub parts : Parts
+  pub read : walk Start no_parts (statement_tokens s) ≡ Ok (to, parts)
+  pub finished_there : finished to parts ≡ Some s
+  pub ends : walk to parts (semicolon ∷ []) ≡ Ok (Ended, parts)
+  pub finished_behind : finished Ended parts ≡ Some s
+
+stream_read : (name c : List ℕ) (cs : List (List ℕ)) → IsRead (CreateStream name (record { items = c ∷ cs }))
+stream_read name c cs =
+    let p : Parts = record no_parts { form = forms.Stream; name = name } in
+    let q : Parts = record p { columns = c ∷ cs } in
+    record { to = Complete; parts = q; read = walk_append ColumnName p (separated comma name_tokens (c ∷ cs)) (closing ∷ []) AfterColumn q (columns_walk p c cs); finished_there = refl; ends = refl; finished_behind = refl }
+
+abbrev pub query_words : List ℕ → Bool → List Lexeme
+query_words name d = key CreateKey ∷ key QueryKey ∷ word name ∷ key AsKey ∷ key SelectKey ∷ distinct_tokens d
+
+first_selected : (p : Parts) (c : ColumnAst) (cs : List ColumnAst) (more : List Lexeme) → walk FirstSelected p (separated comma column_tokens (c ∷ cs) ++ more) ≡ walk SelectedStream p (separated comma column_tokens (c ∷ cs) ++ more)
+first_selected p c [] more = refl
+first_selected p c (d ∷ cs) more = refl
+
+query_begun : (name : List ℕ) (d : Bool) (c : ColumnAst) (cs : List ColumnAst) (more : List Lexeme) → walk Start no_parts (query_words name d ++ (separated comma column_tokens (c ∷ cs) ++ more)) ≡ walk SelectedStream (record no_parts { form = forms.Query; name = name; distinct = d }) (separated comma column_tokens (c ∷ cs) ++ more)
+query_begun name true c cs more = refl
+query_begun name false c cs more = first_selected (record no_parts { form = forms.Query; name = name }) c cs more
+
+regroup : (a b c d : List Lexeme) → ((a ++ b) ++ c) ++ d ≡ a ++ (b ++ (c ++ d))
+regroup a b c d = simp append_assoc
+
+-- the tokens up to the atoms
+query_front : (name : List ℕ) (d : Bool) (c : ColumnAst) (cs : List ColumnAst) (n : List ℕ) (ns : List (List ℕ)) (more : List Lexeme) → (stream : List ℕ) × (walk Start no_parts (((query_words name d ++ separated comma column_tokens (c ∷ cs)) ++ key FromKey ∷ separated comma name_tokens (n ∷ ns)) ++ more) ≡ walk AfterFrom (record no_parts { form = forms.Query; name = name; distinct = d; select = c ∷ cs; from = n ∷ ns; stream = stream }) more)
+query_front name d c cs n ns more =
+    let p1 : Parts = record no_parts { form = forms.Query; name = name; distinct = d } in
+    let chosen = selected_walk p1 c cs in
+    let p2 : Parts = record p1 { select = c ∷ cs; stream = chosen.0 } in (
+      chosen.0,
+      ap (walk Start no_parts) (regroup (query_words name d) (separated comma column_tokens (c ∷ cs)) (key FromKey ∷ separated comma name_tokens (n ∷ ns)) more)
+          ∙ query_begun name d c cs (key FromKey ∷ separated comma name_tokens (n ∷ ns) ++ more)
+          ∙ walk_append SelectedStream p1 (separated comma column_tokens (c ∷ cs)) (key FromKey ∷ separated comma name_tokens (n ∷ ns) ++ more) AfterSelected p2 chosen.1
+          ∙ walk_append FromName p2 (separated comma name_tokens (n ∷ ns)) more AfterFrom (record p2 { from = n ∷ ns }) (from_walk p2 n ns),
+    )
+
+query_read : (name : List ℕ) (d : Bool) (c : ColumnAst) (cs : List ColumnAst) (n : List ℕ) (ns : List (List ℕ)) (atoms : List AtomAst) → AllByRecursion HasColumn atoms → IsRead (CreateQuery name (record { distinct = d; select = record { items = c ∷ cs }; from = record { items = n ∷ ns }; atoms = record { items = atoms } }))
+query_read name d c cs n ns [] h =
+    let front = query_front name d c cs n ns [] in
+    record { to = AfterFrom; parts = record no_parts { form = forms.Query; name = name; distinct = d; select = c ∷ cs; from = n ∷ ns; stream = front.0 }; read = front.1; finished_there = refl; ends = refl; finished_behind = refl }
+query_read name d c cs n ns (a ∷ atoms) h =
+    let front = query_front name d c cs n ns (where_tokens (a ∷ atoms)) in
+    let p : Parts = record no_parts { form = forms.Query; name = name; distinct = d; select = c ∷ cs; from = n ∷ ns; stream = front.0 } in
+    let last = atoms_walk p a atoms h in
+    record {
+      to = AfterAtom;
+      parts = last.0;
+      read = front.1 ∙ last.1;
+      finished_there = ap (λ m. Some (built forms.Query m)) last.2;
+      ends = refl;
+      finished_behind = ap (λ m. Some (built m.form m)) last.2;
+    }
+
+stream_items : (name : List ℕ) (columns : List (List ℕ)) → 0 < length columns → IsRead (CreateStream name (record { items = columns }))
+stream_items name [] h = absurd (omega arith)
+stream_items name (c ∷ cs) h = stream_read name c cs
+
+query_items : (name : List ℕ) (d : Bool) (select : List ColumnAst) (from : List (List ℕ)) (atoms : List AtomAst) → 0 < length select → 0 < length from → AllByRecursion HasColumn atoms → IsRead (CreateQuery name (record { distinct = d; select = record { items = select }; from = record { items = from }; atoms = record { items = atoms } }))
+query_items name d [] from atoms h k a = absurd (omega arith)
+query_items name d (c ∷ cs) [] atoms h k a = absurd (omega arith)
+query_items name d (c ∷ cs) (n ∷ ns) atoms h k a = query_read name d c cs n ns atoms a
+
+-- each whole statement is read from its tokens
+pub is_read : (s : Statement) → IsWhole s → IsRead s
+is_read (CreateStream name columns) w = stream_items name columns.items w
+is_read (CreateQuery name select) w = query_items name select.distinct select.select.items select.from.items select.atoms.items w.0 w.1 w.2
+is_read (Explain name) w = record { to = Complete; parts = record no_parts { form = forms.Explain; name = name }; read = refl; finished_there = refl; ends = refl; finished_behind = refl }
+is_read (DropQuery name) w = record { to = Complete; parts = record no_parts { form = forms.Drop; name = name }; read = refl; finished_there = refl; ends = refl; finished_behind = refl }
+
+-- what a spelled statement is read as
+pub record ReadAs (ts : List Lexeme) (s : Statement) : Type 0 where
+  pub to : Place
+  pub parts : Parts
+  pub read : walk Start no_parts ts ≡ Ok (to, parts)
+  pub finished_there : finished to parts ≡ Some s
+
+pub spelled_read : (ts : List Lexeme) (s : Statement) → Spells ts s → ReadAs ts s
+spelled_read ts s (w, spelled) =
+    let r = is_read s w in
+    elim spelled [
+      | inl e ↦ record { to = r.to; parts = r.parts; read = ap (walk Start no_parts) e ∙ r.read; finished_there = r.finished_there }
+      | inr e ↦ record { to = Ended; parts = r.parts; read = ap (walk Start no_parts) e ∙ walk_append Start no_parts (statement_tokens s) (semicolon ∷ []) r.to r.parts r.read ∙ r.ends; finished_there = r.finished_behind }
+    ]

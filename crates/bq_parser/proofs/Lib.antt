@@ -1,0 +1,15 @@
+pub mod Again
+pub mod Begun
+pub mod KeptLaw
+pub mod WalkLaws
+pub mod Names
+pub mod PrintedText
+pub mod ReadBack
+pub mod RoundTrip
+pub mod RowText
+pub mod Said
+pub mod Spaced
+pub mod Told
+pub mod Verdict
+pub mod Within
+pub mod WritesBehind

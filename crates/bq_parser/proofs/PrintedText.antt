@@ -1,0 +1,164 @@
+-- The printed form of a statement is its parts.
+use Rattle.std.proofs.Common.{◌≡◌, ℕ, Bool, true, false, cond, ◌||◌, List, [], ◌∷◌, ◌++◌, flat_map, codes, refl, ap, sym, ◌∙◌, append_assoc, append-nil}
+use Rattle.bq_text.specs.declared.key.Key.TheVariants.{CreateKey, QueryKey, AsKey, SelectKey, DistinctKey, FromKey, WhereKey, AndKey}
+use Rattle.bq_model.specs.declared.atom.Op.{Op}
+use Rattle.bq_model.specs.declared.atom.Op.TheVariants.{Lt, Eq, Gt}
+use Rattle.bq_parser.specs.declared.tree.ColumnAst.{ColumnAst}
+use Rattle.bq_parser.specs.declared.tree.OperandAst.{OperandAst}
+use Rattle.bq_parser.specs.declared.tree.OperandAst.TheVariants.{Column, Integer}
+use Rattle.bq_parser.specs.declared.tree.AtomAst.{AtomAst}
+use Rattle.bq_parser.specs.declared.tree.SelectAst.{SelectAst}
+use Rattle.bq_parser.specs.declared.tree.Statement.TheVariants.{CreateStream, CreateQuery}
+use Rattle.bq_parser.specs.Grammar.{Lexeme, word, number, key, comma, opening, closing, less, equal, greater, separated, name_tokens, column_tokens, operand_tokens, op_token, atom_tokens, where_tokens, distinct_tokens}
+use Rattle.bq_parser.specs.Printed.{text_for, joins_next, joins_last, gap, printed, printed_form}
+use Rattle.bq_parser.specs.PrintedParts.{each_behind, listed, name_text, column_text, operand_text, op_text, atom_text, names_text, columns_text, atoms_text, distinct_text, sources_text, selection_text, query_text, stream_text}
+use Rattle.bq_parser.proofs.Said.{select_grouped}
+
+-- what is printed behind a token
+abbrev pub behind : Lexeme → List Lexeme → List ℕ
+behind l [] = []
+behind l (m ∷ ls) = gap l m ++ printed (m ∷ ls)
+
+printed_first : (l : Lexeme) (ls : List Lexeme) → printed (l ∷ ls) ≡ text_for l ++ behind l ls
+printed_first l [] = sym (append-nil (text_for l))
+printed_first l (m ∷ ls) = refl
+
+-- what is printed behind a name or an integer
+abbrev pub behind_name : List Lexeme → List ℕ
+behind_name ls = behind (word []) ls
+
+word_behind : (w : List ℕ) (ls : List Lexeme) → printed (word w ∷ ls) ≡ w ++ behind_name ls
+word_behind w [] = sym (append-nil w)
+word_behind w (m ∷ ls) = refl
+
+number_behind : (l : Lexeme) (ls : List Lexeme) → joins_next l ≡ false → behind l ls ≡ behind_name ls
+number_behind l [] h = refl
+number_behind l (m ∷ ls) h = ap (λ t. cond (t || joins_last m) [] (32 ∷ []) ++ printed (m ∷ ls)) h
+
+-- the tokens of a list, by its first item
+separated_first : {X : Type 0} (sep : Lexeme) (f : X → List Lexeme) (x : X) (xs : List X) → separated sep f (x ∷ xs) ≡ f x ++ flat_map (λ y. sep ∷ f y) xs
+separated_first sep f x [] = sym (append-nil (f x))
+separated_first sep f x (y ∷ ys) = ap (λ ls. f x ++ sep ∷ ls) (separated_first sep f y ys)
+
+-- the tokens of one item behind a token print as a text
+abbrev pub PrintsBehind : {X : Type 0} → Lexeme → (X → List Lexeme) → List ℕ → (X → List ℕ) → Type 0
+PrintsBehind {X = X} l f lead text = (x : X) (rest : List Lexeme) → behind l (f x ++ rest) ≡ lead ++ (text x ++ behind_name rest)
+
+more_behind : {X : Type 0} (sep : Lexeme) (f : X → List Lexeme) (sep_text : List ℕ) (text : X → List ℕ) → ((x : X) (rest : List Lexeme) → behind_name (sep ∷ (f x ++ rest)) ≡ sep_text ++ (text x ++ behind_name rest)) → (xs : List X) (rest : List Lexeme) → behind_name (flat_map (λ y. sep ∷ f y) xs ++ rest) ≡ each_behind sep_text text xs ++ behind_name rest
+more_behind sep f sep_text text each [] rest = refl
+more_behind sep f sep_text text each (x ∷ xs) rest =
+    ap (λ ls. behind_name (sep ∷ ls)) (append_assoc (f x) (flat_map (λ y. sep ∷ f y) xs) rest)
+    ∙ each x (flat_map (λ y. sep ∷ f y) xs ++ rest)
+    ∙ ap (λ bs. sep_text ++ (text x ++ bs)) (more_behind sep f sep_text text each xs rest)
+    ∙ ap (λ bs. sep_text ++ bs) (sym (append_assoc (text x) (each_behind sep_text text xs) (behind_name rest)))
+    ∙ sym (append_assoc sep_text (text x ++ each_behind sep_text text xs) (behind_name rest))
+    ∙ ap (λ bs. bs ++ behind_name rest) (sym (append_assoc sep_text (text x) (each_behind sep_text text xs)))
+
+list_behind : {X : Type 0} (l sep : Lexeme) (f : X → List Lexeme) (lead sep_text : List ℕ) (text : X → List ℕ) → ((x : X) (rest : List Lexeme) → behind l (f x ++ rest) ≡ lead ++ (text x ++ behind_name rest)) → ((x : X) (rest : List Lexeme) → behind_name (sep ∷ (f x ++ rest)) ≡ sep_text ++ (text x ++ behind_name rest)) → (x : X) (xs : List X) (rest : List Lexeme) → behind l (separated sep f (x ∷ xs) ++ rest) ≡ listed lead sep_text text (x ∷ xs) ++ behind_name rest
+list_behind l sep f lead sep_text text first each x xs rest =
+    ap (λ ls. behind l (ls ++ rest)) (separated_first sep f x xs)
+    ∙ ap (behind l) (append_assoc (f x) (flat_map (λ y. sep ∷ f y) xs) rest)
+    ∙ first x (flat_map (λ y. sep ∷ f y) xs ++ rest)
+    ∙ ap (λ bs. lead ++ (text x ++ bs)) (more_behind sep f sep_text text each xs rest)
+    ∙ ap (λ bs. lead ++ bs) (sym (append_assoc (text x) (each_behind sep_text text xs) (behind_name rest)))
+    ∙ sym (append_assoc lead (text x ++ each_behind sep_text text xs) (behind_name rest))
+    ∙ ap (λ bs. bs ++ behind_name rest) (sym (append_assoc lead (text x) (each_behind sep_text text xs)))
+
+-- names
+name_behind_comma : (n : List ℕ) (rest : List Lexeme) → behind_name (comma ∷ (name_tokens n ++ rest)) ≡ codes ", " ++ (name_text n ++ behind_name rest)
+name_behind_comma n rest = ap (λ bs. codes ", " ++ bs) (word_behind n rest)
+
+-- columns
+column_behind : (c : ColumnAst) (rest : List Lexeme) → printed (column_tokens c ++ rest) ≡ column_text c ++ behind_name rest
+column_behind c rest = ap (λ bs. c.stream ++ 46 ∷ bs) (word_behind c.column rest) ∙ sym (append_assoc c.stream (46 ∷ c.column) (behind_name rest))
+
+column_behind_comma : (c : ColumnAst) (rest : List Lexeme) → behind_name (comma ∷ (column_tokens c ++ rest)) ≡ codes ", " ++ (column_text c ++ behind_name rest)
+column_behind_comma c rest = ap (λ bs. codes ", " ++ bs) (column_behind c rest)
+
+-- operands and atoms, behind a token that a space follows
+operand_printed : (o : OperandAst) (rest : List Lexeme) → printed (operand_tokens o ++ rest) ≡ operand_text o ++ behind_name rest
+operand_printed (Column c) rest = column_behind c rest
+operand_printed (Integer z) rest = printed_first (number z) rest ∙ ap (λ bs. operand_text (Integer z) ++ bs) (number_behind (number z) rest refl)
+
+space_before : (l : Lexeme) → joins_next l ≡ false → (o : OperandAst) (rest : List Lexeme) → behind l (operand_tokens o ++ rest) ≡ 32 ∷ printed (operand_tokens o ++ rest)
+space_before l h (Column c) rest = ap (λ t. cond (t || false) [] (32 ∷ []) ++ printed (operand_tokens (Column c) ++ rest)) h
+space_before l h (Integer z) rest = ap (λ t. cond (t || false) [] (32 ∷ []) ++ printed (operand_tokens (Integer z) ++ rest)) h
+
+operand_behind : (l : Lexeme) → joins_next l ≡ false → (o : OperandAst) (rest : List Lexeme) → behind l (operand_tokens o ++ rest) ≡ 32 ∷ (operand_text o ++ behind_name rest)
+operand_behind l h o rest = space_before l h o rest ∙ ap (λ bs. 32 ∷ bs) (operand_printed o rest)
+
+op_behind : (op : Op) (o : OperandAst) (rest : List Lexeme) → behind_name (op_token op ∷ (operand_tokens o ++ rest)) ≡ op_text op ++ (operand_text o ++ behind_name rest)
+op_behind Lt o rest = ap (λ bs. 32 ∷ bs) (printed_first less (operand_tokens o ++ rest)) ∙ ap (λ bs. 32 ∷ 60 ∷ bs) (operand_behind less refl o rest)
+op_behind Eq o rest = ap (λ bs. 32 ∷ bs) (printed_first equal (operand_tokens o ++ rest)) ∙ ap (λ bs. 32 ∷ 61 ∷ bs) (operand_behind equal refl o rest)
+op_behind Gt o rest = ap (λ bs. 32 ∷ bs) (printed_first greater (operand_tokens o ++ rest)) ∙ ap (λ bs. 32 ∷ 62 ∷ bs) (operand_behind greater refl o rest)
+
+atom_behind : (l : Lexeme) → joins_next l ≡ false → (a : AtomAst) (rest : List Lexeme) → behind l (atom_tokens a ++ rest) ≡ 32 ∷ (atom_text a ++ behind_name rest)
+atom_behind l h a rest =
+    ap (behind l) (append_assoc (operand_tokens a.left) (op_token a.op ∷ operand_tokens a.right) rest)
+    ∙ operand_behind l h a.left (op_token a.op ∷ (operand_tokens a.right ++ rest))
+    ∙ ap (λ bs. 32 ∷ (operand_text a.left ++ bs)) (op_behind a.op a.right rest)
+    ∙ ap (λ bs. 32 ∷ (operand_text a.left ++ bs)) (sym (append_assoc (op_text a.op) (operand_text a.right) (behind_name rest)))
+    ∙ ap (λ bs. 32 ∷ bs) (sym (append_assoc (operand_text a.left) (op_text a.op ++ operand_text a.right) (behind_name rest)))
+
+atom_behind_and : (a : AtomAst) (rest : List Lexeme) → behind_name (key AndKey ∷ (atom_tokens a ++ rest)) ≡ codes " AND " ++ (atom_text a ++ behind_name rest)
+atom_behind_and a rest = ap (λ bs. 32 ∷ bs) (printed_first (key AndKey) (atom_tokens a ++ rest)) ∙ ap (λ bs. codes " AND" ++ bs) (atom_behind (key AndKey) refl a rest)
+
+where_key : (l : Lexeme) → joins_next l ≡ false → (ls : List Lexeme) → behind l (key WhereKey ∷ ls) ≡ codes " WHERE" ++ behind (key WhereKey) ls
+where_key l h ls = ap (λ t. cond (t || false) [] (32 ∷ []) ++ printed (key WhereKey ∷ ls)) h ∙ ap (λ bs. 32 ∷ bs) (printed_first (key WhereKey) ls)
+
+-- the atoms, which stand last
+where_behind : (l : Lexeme) → joins_next l ≡ false → (atoms : List AtomAst) → behind l (where_tokens atoms) ≡ atoms_text atoms
+where_behind l h [] = refl
+where_behind l h (a ∷ atoms) =
+    where_key l h (separated (key AndKey) atom_tokens (a ∷ atoms))
+    ∙ ap (λ ls. codes " WHERE" ++ behind (key WhereKey) ls) (sym (append-nil (separated (key AndKey) atom_tokens (a ∷ atoms))))
+    ∙ ap (λ bs. codes " WHERE" ++ bs) (list_behind (key WhereKey) (key AndKey) atom_tokens (32 ∷ []) (codes " AND ") atom_text (atom_behind (key WhereKey) refl) atom_behind_and a atoms [])
+    ∙ append-nil (codes " WHERE" ++ listed (32 ∷ []) (codes " AND ") atom_text (a ∷ atoms))
+
+streams_behind : (names : List (List ℕ)) (atoms : List AtomAst) → behind (key FromKey) (separated comma name_tokens names ++ where_tokens atoms) ≡ names_text (codes " ") names ++ atoms_text atoms
+streams_behind [] atoms = where_behind (key FromKey) refl atoms
+streams_behind (n ∷ names) atoms =
+    list_behind (key FromKey) comma name_tokens (codes " ") (codes ", ") name_text (λ m rest. ap (λ bs. 32 ∷ bs) (word_behind m rest)) name_behind_comma n names (where_tokens atoms)
+    ∙ ap (λ bs. names_text (codes " ") (n ∷ names) ++ bs) (where_behind (word []) refl atoms)
+
+from_behind : (l : Lexeme) → joins_next l ≡ false → (s : SelectAst) → behind l (key FromKey ∷ (separated comma name_tokens s.from.items ++ where_tokens s.atoms.items)) ≡ sources_text s
+from_behind l h s =
+    let ls = separated comma name_tokens s.from.items ++ where_tokens s.atoms.items in
+    ap (λ t. cond (t || false) [] (32 ∷ []) ++ printed (key FromKey ∷ ls)) h
+    ∙ ap (λ bs. 32 ∷ bs) (printed_first (key FromKey) ls)
+    ∙ ap (λ bs. codes " FROM" ++ bs) (streams_behind s.from.items s.atoms.items)
+
+space_column : (l : Lexeme) → joins_next l ≡ false → (c : ColumnAst) (rest : List Lexeme) → behind l (column_tokens c ++ rest) ≡ codes " " ++ (column_text c ++ behind_name rest)
+space_column l h c rest = operand_behind l h (Column c) rest
+
+columns_behind : (l : Lexeme) → joins_next l ≡ false → (columns : List ColumnAst) (s : SelectAst) → behind l (separated comma column_tokens columns ++ (key FromKey ∷ (separated comma name_tokens s.from.items ++ where_tokens s.atoms.items))) ≡ columns_text columns ++ sources_text s
+columns_behind l h [] s = from_behind l h s
+columns_behind l h (c ∷ columns) s =
+    list_behind l comma column_tokens (codes " ") (codes ", ") column_text (space_column l h) column_behind_comma c columns (key FromKey ∷ (separated comma name_tokens s.from.items ++ where_tokens s.atoms.items))
+    ∙ ap (λ bs. columns_text (c ∷ columns) ++ bs) (from_behind (word []) refl s)
+
+select_behind : (d : Bool) (s : SelectAst) → printed (key SelectKey ∷ (distinct_tokens d ++ (separated comma column_tokens s.select.items ++ (key FromKey ∷ (separated comma name_tokens s.from.items ++ where_tokens s.atoms.items))))) ≡ (codes "SELECT" ++ distinct_text d) ++ selection_text s
+select_behind true s =
+    let ls = separated comma column_tokens s.select.items ++ (key FromKey ∷ (separated comma name_tokens s.from.items ++ where_tokens s.atoms.items)) in
+    ap (λ bs. codes "SELECT " ++ bs) (printed_first (key DistinctKey) ls)
+    ∙ ap (λ bs. codes "SELECT DISTINCT" ++ bs) (columns_behind (key DistinctKey) refl s.select.items s)
+select_behind false s =
+    let ls = separated comma column_tokens s.select.items ++ (key FromKey ∷ (separated comma name_tokens s.from.items ++ where_tokens s.atoms.items)) in
+    printed_first (key SelectKey) ls
+    ∙ ap (λ bs. codes "SELECT" ++ bs) (columns_behind (key SelectKey) refl s.select.items s)
+
+pub query_printed : (name : List ℕ) (s : SelectAst) → query_text name s ≡ printed_form (CreateQuery name s)
+query_printed name s =
+    sym (ap (λ ls. printed (key CreateKey ∷ key QueryKey ∷ word name ∷ key AsKey ∷ ls)) (select_grouped s)
+    ∙ ap (λ bs. codes "CREATE QUERY " ++ (name ++ (codes " AS " ++ bs))) (select_behind s.distinct s)
+    ∙ ap (λ bs. codes "CREATE QUERY " ++ bs) (sym (append_assoc name (codes " AS SELECT" ++ distinct_text s.distinct) (selection_text s))))
+
+stream_behind : (columns : List (List ℕ)) → behind opening (separated comma name_tokens columns ++ closing ∷ []) ≡ names_text [] columns ++ codes ")"
+stream_behind [] = refl
+stream_behind (c ∷ columns) = list_behind opening comma name_tokens [] (codes ", ") name_text word_behind name_behind_comma c columns (closing ∷ [])
+
+pub stream_printed : (name : List ℕ) (columns : List (List ℕ)) → stream_text name columns ≡ printed_form (CreateStream name (record { items = columns }))
+stream_printed name columns =
+    sym (ap (λ bs. codes "CREATE STREAM " ++ (name ++ (codes " " ++ bs))) (printed_first opening (separated comma name_tokens columns ++ closing ∷ []))
+    ∙ ap (λ bs. codes "CREATE STREAM " ++ (name ++ (codes " (" ++ bs))) (stream_behind columns)
+    ∙ ap (λ bs. codes "CREATE STREAM " ++ bs) (sym (append_assoc name (codes " (") (names_text [] columns ++ codes ")"))))

@@ -1,0 +1,221 @@
+-- The tokens that lead to a place, and each step adds one.
+use Rattle.std.proofs.Common.{◌≡◌, ◌<◌, true, false, List, [], ◌∷◌, ◌++◌, length, IfSome, refl, ap, sym, ◌∙◌, append_assoc, arith, inl, inr, length-append, append-nil, subst}
+use Rattle.std.specs.List.{AllByRecursion}
+use Rattle.bq_text.specs.declared.key.Key.TheVariants.{CreateKey, StreamKey, QueryKey, AsKey, SelectKey, DistinctKey, FromKey, WhereKey, AndKey, ExplainKey, DropKey}
+use Rattle.bq_parser.specs.declared.places.Place.{Place}
+use Rattle.bq_parser.specs.declared.places.Place.TheVariants.{Start, AfterCreate, StreamName, OpenColumns, ColumnName, AfterColumn, QueryName, QueryAs, QuerySelect, FirstSelected, SelectedStream, SelectedPoint, SelectedColumn, AfterSelected, FromName, AfterFrom, AtomLeft, LeftPoint, LeftColumn, ColumnOp, RightAny, IntegerOp, RightStream, RightPoint, RightColumn, AfterAtom, ExplainName, AfterDrop, DropName, Complete, Ended}
+use Rattle.bq_parser.specs.declared.tree.OperandAst.TheVariants.{Column, Integer}
+use Rattle.bq_parser.specs.declared.tree.AtomAst.{AtomAst}
+use Rattle.bq_parser.specs.Steps.{step}
+use Rattle.bq_parser.specs.Grammar.{Lexeme, word, number, key, comma, point, opening, closing, less, equal, greater, semicolon, separated, name_tokens, column_tokens, operand_tokens, op_token, atom_tokens, where_tokens, distinct_tokens, statement_tokens, IsColumn, HasColumn, IsWhole}
+use Rattle.bq_parser.specs.declared.draft.Form.{Form}
+use Rattle.bq_parser.specs.declared.draft.Form.TheVariants as forms
+use Rattle.bq_parser.specs.Reading.{Parts, act, kind_at, built}
+
+-- each of xs as its tokens, and a separator behind each
+abbrev pub ended_by : {X : Type 0} → Lexeme → (X → List Lexeme) → List X → List Lexeme
+ended_by sep f [] = []
+ended_by sep f (x ∷ xs) = f x ++ sep ∷ ended_by sep f xs
+
+-- one more, at the end
+pub separated_more : {X : Type 0} (sep : Lexeme) (f : X → List Lexeme) (xs : List X) (y : X) → separated sep f (xs ++ y ∷ []) ≡ ended_by sep f xs ++ f y
+separated_more sep f [] y = refl
+separated_more sep f (x ∷ []) y = sym (append_assoc (f x) (sep ∷ []) (f y))
+separated_more sep f (x ∷ z ∷ xs) y = ap (λ r. f x ++ sep ∷ r) (separated_more sep f (z ∷ xs) y) ∙ sym (append_assoc (f x) (sep ∷ ended_by sep f (z ∷ xs)) (f y))
+
+-- a separator behind the last
+pub ended_last : {X : Type 0} (sep : Lexeme) (f : X → List Lexeme) (xs : List X) → 0 < length xs → separated sep f xs ++ sep ∷ [] ≡ ended_by sep f xs
+ended_last sep f [] h = absurd (omega arith)
+ended_last sep f (x ∷ []) h = refl
+ended_last sep f (x ∷ z ∷ xs) h = append_assoc (f x) (sep ∷ separated sep f (z ∷ xs)) (sep ∷ []) ∙ ap (λ r. f x ++ sep ∷ r) (ended_last sep f (z ∷ xs) (omega arith))
+
+abbrev pub stream_head : Parts → List Lexeme
+stream_head p = key CreateKey ∷ key StreamKey ∷ word p.name ∷ opening ∷ []
+
+abbrev pub query_head : Parts → List Lexeme
+query_head p = key CreateKey ∷ key QueryKey ∷ word p.name ∷ key AsKey ∷ key SelectKey ∷ distinct_tokens p.distinct
+
+abbrev pub from_head : Parts → List Lexeme
+from_head p = query_head p ++ separated comma column_tokens p.select ++ key FromKey ∷ []
+
+abbrev pub where_head : Parts → List Lexeme
+where_head p = from_head p ++ separated comma name_tokens p.from ++ key WhereKey ∷ ended_by (key AndKey) atom_tokens p.atoms
+
+abbrev pub where_all : Parts → List Lexeme
+where_all p = from_head p ++ separated comma name_tokens p.from ++ where_tokens p.atoms
+
+-- the tokens before a place
+abbrev pub told : Place → Parts → List Lexeme
+told Start p = []
+told AfterCreate p = key CreateKey ∷ []
+told StreamName p = key CreateKey ∷ key StreamKey ∷ []
+told OpenColumns p = key CreateKey ∷ key StreamKey ∷ word p.name ∷ []
+told ColumnName p = stream_head p ++ ended_by comma name_tokens p.columns
+told AfterColumn p = stream_head p ++ separated comma name_tokens p.columns
+told QueryName p = key CreateKey ∷ key QueryKey ∷ []
+told QueryAs p = key CreateKey ∷ key QueryKey ∷ word p.name ∷ []
+told QuerySelect p = key CreateKey ∷ key QueryKey ∷ word p.name ∷ key AsKey ∷ []
+told FirstSelected p = key CreateKey ∷ key QueryKey ∷ word p.name ∷ key AsKey ∷ key SelectKey ∷ []
+told SelectedStream p = query_head p ++ ended_by comma column_tokens p.select
+told SelectedPoint p = query_head p ++ ended_by comma column_tokens p.select ++ word p.stream ∷ []
+told SelectedColumn p = query_head p ++ ended_by comma column_tokens p.select ++ word p.stream ∷ point ∷ []
+told AfterSelected p = query_head p ++ separated comma column_tokens p.select
+told FromName p = from_head p ++ ended_by comma name_tokens p.from
+told AfterFrom p = from_head p ++ separated comma name_tokens p.from
+told AtomLeft p = where_head p
+told LeftPoint p = where_head p ++ word p.stream ∷ []
+told LeftColumn p = where_head p ++ word p.stream ∷ point ∷ []
+told ColumnOp p = where_head p ++ operand_tokens p.left
+told IntegerOp p = where_head p ++ operand_tokens p.left
+told RightAny p = where_head p ++ operand_tokens p.left ++ op_token p.op ∷ []
+told RightStream p = where_head p ++ operand_tokens p.left ++ op_token p.op ∷ []
+told RightPoint p = where_head p ++ operand_tokens p.left ++ op_token p.op ∷ word p.stream ∷ []
+told RightColumn p = where_head p ++ operand_tokens p.left ++ op_token p.op ∷ word p.stream ∷ point ∷ []
+told AfterAtom p = where_all p
+told ExplainName p = key ExplainKey ∷ []
+told AfterDrop p = key DropKey ∷ []
+told DropName p = key DropKey ∷ key QueryKey ∷ []
+told Complete p = statement_tokens (built p.form p)
+told Ended p = statement_tokens (built p.form p) ++ semicolon ∷ []
+
+-- what holds of the parts at a place
+pub record Selected (p : Parts) : Type 0 where
+  pub form : p.form ≡ forms.Query
+  pub select : 0 < length p.select
+
+pub record Sourced (p : Parts) : Type 0 where
+  pub form : p.form ≡ forms.Query
+  pub select : 0 < length p.select
+  pub from : 0 < length p.from
+  pub atoms : AllByRecursion HasColumn p.atoms
+
+abbrev pub Fine : Place → Parts → Type 0
+Fine StreamName p = p.form ≡ forms.Stream
+Fine OpenColumns p = p.form ≡ forms.Stream
+Fine ColumnName p = p.form ≡ forms.Stream
+Fine AfterColumn p = (p.form ≡ forms.Stream) × (0 < length p.columns)
+Fine ExplainName p = p.form ≡ forms.Explain
+Fine AfterDrop p = p.form ≡ forms.Drop
+Fine DropName p = p.form ≡ forms.Drop
+Fine Complete p = IsWhole (built p.form p)
+Fine Ended p = IsWhole (built p.form p)
+Fine QueryName p = p.form ≡ forms.Query
+Fine QueryAs p = p.form ≡ forms.Query
+Fine QuerySelect p = p.form ≡ forms.Query
+Fine FirstSelected p = (p.form ≡ forms.Query) × (p.distinct ≡ false) × (p.select ≡ [])
+Fine SelectedStream p = p.form ≡ forms.Query
+Fine SelectedPoint p = p.form ≡ forms.Query
+Fine SelectedColumn p = p.form ≡ forms.Query
+Fine AfterSelected p = Selected p
+Fine FromName p = Selected p × (p.atoms ≡ [])
+Fine AfterFrom p = Sourced p × (p.atoms ≡ [])
+Fine AtomLeft p = Sourced p
+Fine LeftPoint p = Sourced p
+Fine LeftColumn p = Sourced p
+Fine ColumnOp p = Sourced p × IsColumn p.left
+Fine RightAny p = Sourced p × IsColumn p.left
+Fine IntegerOp p = Sourced p
+Fine RightStream p = Sourced p
+Fine RightPoint p = Sourced p
+Fine RightColumn p = Sourced p
+Fine AfterAtom p = Sourced p × (0 < length p.atoms)
+Fine _ p = Unit {0}
+
+-- one more atom, and a separator behind the last
+where_more : (atoms : List AtomAst) (a : AtomAst) → where_tokens (atoms ++ a ∷ []) ≡ key WhereKey ∷ ended_by (key AndKey) atom_tokens atoms ++ atom_tokens a
+where_more [] a = refl
+where_more (x ∷ xs) a = ap (λ r. key WhereKey ∷ r) (separated_more (key AndKey) atom_tokens (x ∷ xs) a)
+
+where_last : (atoms : List AtomAst) → 0 < length atoms → where_tokens atoms ++ key AndKey ∷ [] ≡ key WhereKey ∷ ended_by (key AndKey) atom_tokens atoms
+where_last [] h = absurd (omega arith)
+where_last (x ∷ xs) h = ap (λ r. key WhereKey ∷ r) (ended_last (key AndKey) atom_tokens (x ∷ xs) h)
+
+all_more : {X : Type 0} (P : X → Type 0) (xs : List X) (x : X) → AllByRecursion P xs → P x → AllByRecursion P (xs ++ x ∷ [])
+all_more P [] x h here = (here, tt)
+all_more P (y ∷ ys) x h here = (h.0, all_more P ys x h.1 here)
+
+more_than_none : {X : Type 0} (xs : List X) (x : X) → 0 < length (xs ++ x ∷ [])
+more_than_none xs x = omega (arith, length-append xs (x ∷ []))
+
+-- what is built is spelled by what was told
+pub query_spelled : (p : Parts) → statement_tokens (built forms.Query p) ≡ where_all p
+query_spelled p = simp append_assoc
+
+pub query_told : (p : Parts) → p.form ≡ forms.Query → statement_tokens (built p.form p) ≡ where_all p
+query_told p f = ap (λ m. statement_tokens (built m p)) f ∙ query_spelled p
+
+pub none_told : (p : Parts) → p.atoms ≡ [] → where_all p ≡ from_head p ++ separated comma name_tokens p.from
+none_told p e = ap (λ atoms. from_head p ++ separated comma name_tokens p.from ++ where_tokens atoms) e ∙ append-nil (from_head p ++ separated comma name_tokens p.from)
+
+pub whole_query : (p : Parts) → Sourced p → IsWhole (built p.form p)
+whole_query p s = let P : Form → Type 0 = λ m. IsWhole (built m p) in subst P (sym s.form) (s.select, s.from, s.atoms)
+
+pub no_atoms : (p : Parts) → p.atoms ≡ [] → AllByRecursion HasColumn p.atoms
+no_atoms p e = let P : List AtomAst → Type 0 = λ atoms. AllByRecursion HasColumn atoms in subst P (sym e) tt
+
+-- each step adds its token
+pub told_step : (place : Place) (p : Parts) (l : Lexeme) → Fine place p → IfSome (step place (kind_at l)) (λ m. (told m.0 (act m.1 l p) ≡ told place p ++ l ∷ []) × Fine m.0 (act m.1 l p))
+told_step Start p (key CreateKey) f = (refl, tt)
+told_step Start p (key ExplainKey) f = (refl, refl)
+told_step Start p (key DropKey) f = (refl, refl)
+told_step AfterCreate p (key StreamKey) f = (refl, refl)
+told_step AfterCreate p (key QueryKey) f = (refl, refl)
+told_step StreamName p (word w) f = (refl, f)
+told_step OpenColumns p opening f = (refl, f)
+told_step ColumnName p (word w) f = (ap (λ r. stream_head p ++ r) (separated_more comma name_tokens p.columns w), (f, more_than_none p.columns w))
+told_step AfterColumn p comma f = (ap (λ r. stream_head p ++ r) (sym (ended_last comma name_tokens p.columns f.1)), f.0)
+told_step AfterColumn p closing f = (ap (λ m. statement_tokens (built m p)) f.0, (let P : Form → Type 0 = λ m. IsWhole (built m p) in subst P (sym f.0) f.1))
+told_step QueryName p (word w) f = (refl, f)
+told_step QueryAs p (key AsKey) f = (refl, f)
+told_step QuerySelect p (key SelectKey) f = (refl, (f, refl, refl))
+told_step FirstSelected p (key DistinctKey) f = (ap (λ xs. query_head (record p { distinct = true }) ++ ended_by comma column_tokens xs) f.2, f.0)
+told_step FirstSelected p (word w) f = (
+  ap (λ d. (key CreateKey ∷ key QueryKey ∷ word p.name ∷ key AsKey ∷ key SelectKey ∷ distinct_tokens d) ++ ended_by comma column_tokens p.select ++ word w ∷ []) f.1
+      ∙ ap (λ xs. (key CreateKey ∷ key QueryKey ∷ word p.name ∷ key AsKey ∷ key SelectKey ∷ []) ++ ended_by comma column_tokens xs ++ word w ∷ []) f.2,
+  f.0,
+)
+told_step SelectedStream p (word w) f = (refl, f)
+told_step SelectedPoint p point f = (simp append_assoc, f)
+told_step SelectedColumn p (word w) f = (ap (λ r. query_head p ++ r) (separated_more comma column_tokens p.select (record { stream = p.stream; column = w })) ∙ simp append_assoc, record { form = f; select = more_than_none p.select (record { stream = p.stream; column = w }) })
+told_step AfterSelected p comma f = (ap (λ r. query_head p ++ r) (sym (ended_last comma column_tokens p.select f.select)) ∙ sym (append_assoc (query_head p) (separated comma column_tokens p.select) (comma ∷ [])), f.form)
+told_step AfterSelected p (key FromKey) f = (append-nil (from_head p), (record { form = f.form; select = f.select }, refl))
+told_step FromName p (word w) f = (
+  ap (λ r. from_head p ++ r) (separated_more comma name_tokens p.from w) ∙ sym (append_assoc (from_head p) (ended_by comma name_tokens p.from) (word w ∷ [])),
+  (record { form = f.0.form; select = f.0.select; from = more_than_none p.from w; atoms = no_atoms p f.1 }, f.1),
+)
+told_step AfterFrom p comma f = (
+  ap (λ r. from_head p ++ r) (sym (ended_last comma name_tokens p.from f.0.from)) ∙ sym (append_assoc (from_head p) (separated comma name_tokens p.from) (comma ∷ [])),
+  (record { form = f.0.form; select = f.0.select }, f.1),
+)
+told_step AfterFrom p (key WhereKey) f = (ap (λ atoms. from_head p ++ separated comma name_tokens p.from ++ key WhereKey ∷ ended_by (key AndKey) atom_tokens atoms) f.1, f.0)
+told_step AfterFrom p semicolon f = (ap (λ r. r ++ semicolon ∷ []) (query_told p f.0.form ∙ none_told p f.1), whole_query p f.0)
+told_step AtomLeft p (word w) f = (refl, record { form = f.form; select = f.select; from = f.from; atoms = f.atoms })
+told_step AtomLeft p (number z) f = (refl, record { form = f.form; select = f.select; from = f.from; atoms = f.atoms })
+told_step LeftPoint p point f = (simp append_assoc, f)
+told_step LeftColumn p (word w) f = (simp append_assoc, (record { form = f.form; select = f.select; from = f.from; atoms = f.atoms }, tt))
+told_step ColumnOp p less f = (refl, (record { form = f.0.form; select = f.0.select; from = f.0.from; atoms = f.0.atoms }, f.1))
+told_step ColumnOp p equal f = (refl, (record { form = f.0.form; select = f.0.select; from = f.0.from; atoms = f.0.atoms }, f.1))
+told_step ColumnOp p greater f = (refl, (record { form = f.0.form; select = f.0.select; from = f.0.from; atoms = f.0.atoms }, f.1))
+told_step IntegerOp p less f = (refl, record { form = f.form; select = f.select; from = f.from; atoms = f.atoms })
+told_step IntegerOp p equal f = (refl, record { form = f.form; select = f.select; from = f.from; atoms = f.atoms })
+told_step IntegerOp p greater f = (refl, record { form = f.form; select = f.select; from = f.from; atoms = f.atoms })
+told_step RightAny p (word w) f = (simp append_assoc, record { form = f.0.form; select = f.0.select; from = f.0.from; atoms = f.0.atoms })
+told_step RightAny p (number z) f =
+    let a : AtomAst = record { left = p.left; op = p.op; right = Integer z } in (
+      ap (λ r. from_head p ++ separated comma name_tokens p.from ++ r) (where_more p.atoms a) ∙ simp append_assoc,
+      (record { form = f.0.form; select = f.0.select; from = f.0.from; atoms = all_more HasColumn p.atoms a f.0.atoms (inl f.1) }, more_than_none p.atoms a),
+    )
+told_step RightStream p (word w) f = (simp append_assoc, record { form = f.form; select = f.select; from = f.from; atoms = f.atoms })
+told_step RightPoint p point f = (simp append_assoc, f)
+told_step RightColumn p (word w) f =
+    let a : AtomAst = record { left = p.left; op = p.op; right = Column (record { stream = p.stream; column = w }) } in (
+      ap (λ r. from_head p ++ separated comma name_tokens p.from ++ r) (where_more p.atoms a) ∙ simp append_assoc,
+      (record { form = f.form; select = f.select; from = f.from; atoms = all_more HasColumn p.atoms a f.atoms (inr tt) }, more_than_none p.atoms a),
+    )
+told_step AfterAtom p (key AndKey) f = (ap (λ r. from_head p ++ separated comma name_tokens p.from ++ r) (sym (where_last p.atoms f.1)) ∙ simp append_assoc, f.0)
+told_step AfterAtom p semicolon f = (ap (λ r. r ++ semicolon ∷ []) (query_told p f.0.form), whole_query p f.0)
+told_step ExplainName p (word w) f = (ap (λ m. statement_tokens (built m (record p { name = w }))) f, (let P : Form → Type 0 = λ m. IsWhole (built m (record p { name = w })) in subst P (sym f) tt))
+told_step AfterDrop p (key QueryKey) f = (refl, f)
+told_step DropName p (word w) f = (ap (λ m. statement_tokens (built m (record p { name = w }))) f, (let P : Form → Type 0 = λ m. IsWhole (built m (record p { name = w })) in subst P (sym f) tt))
+told_step Complete p semicolon f = (refl, f)
+told_step _ _ _ _ = tt

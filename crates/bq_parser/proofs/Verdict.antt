@@ -1,0 +1,118 @@
+-- The place after a line's tokens tells whether the line is a statement.
+use Rattle.std.proofs.Common.{◌≡◌, ℕ, true, false, List, [], ◌∷◌, ◌++◌, length, Option, Some, None, Result, Ok, Err, refl, ap, sym, ◌∙◌, append_assoc, subst}
+use Rattle.bq_lexer.specs.declared.token.TokenKind.{TokenKind}
+use Rattle.bq_lexer.specs.declared.token.TokenKind.TheVariants.{Word, Reserved, Integer, Comma, Point, Open, Close, Less, Equal, Greater, Semi}
+use Rattle.bq_lexer.specs.declared.token.Token.{Token}
+use Rattle.bq_parser.specs.declared.places.Place.{Place}
+use Rattle.bq_parser.specs.declared.places.Place.TheVariants.{Start, AfterFrom, AfterAtom, Complete, Ended}
+use Rattle.bq_parser.specs.declared.places.Action.{Action}
+use Rattle.bq_parser.specs.declared.tree.Statement.{Statement}
+use Rattle.bq_parser.specs.Steps.{step}
+use Rattle.bq_parser.specs.Grammar.{Lexeme, Spells, Begins}
+use Rattle.bq_parser.specs.declared.draft.Form.TheVariants as forms
+use Rattle.bq_parser.specs.Reading.{Parts, no_parts, act, kind_at, built, finished, walk, walk_on, may_end}
+use Rattle.bq_parser.specs.Syntax.{lexeme_as, lexeme_of, lexemes, StopsAt, EndsEarly, after_step, place_after}
+use Rattle.bq_parser.proofs.WalkLaws.{walk_told, stopped_always}
+use Rattle.bq_parser.proofs.Begun.{begun}
+use Rattle.bq_parser.proofs.Again.{spelled_read}
+
+pub kind_same : (k : TokenKind) (w : List ℕ) → kind_at (lexeme_as k w) ≡ k
+kind_same Word w = refl
+kind_same (Reserved k) w = refl
+kind_same Integer w = refl
+kind_same Comma w = refl
+kind_same Point w = refl
+kind_same Open w = refl
+kind_same Close w = refl
+kind_same Less w = refl
+kind_same Equal w = refl
+kind_same Greater w = refl
+kind_same Semi w = refl
+
+-- a walk that stops at a token
+pub record StopsIn (line : List ℕ) (place : Place) (p : Parts) (ts : List Token) (at : ℕ) : Type 0 where
+  pub front : List Token
+  pub stop : Token
+  pub after : List Token
+  pub to : Place
+  pub parts : Parts
+  pub whole : ts ≡ front ++ stop ∷ after
+  pub place_is : at ≡ stop.from
+  pub read : walk place p (lexemes line front) ≡ Ok (to, parts)
+  pub none : step to (kind_at (lexeme_of line stop)) ≡ None
+
+stops_on : (line : List ℕ) (place : Place) (p : Parts) (t : Token) (ts : List Token) (at : ℕ) (o : Option (Place × Action)) → step place t.kind ≡ o → ((pl : Place) (r : Parts) → place_after pl ts ≡ Err at → StopsIn line pl r ts at) → after_step o t (λ pl. place_after pl ts) ≡ Err at → StopsIn line place p (t ∷ ts) at
+stops_on line place p t ts at None is ih e = record { front = []; stop = t; after = ts; to = place; parts = p; whole = refl; place_is = cc; read = refl; none = ap (step place) (kind_same t.kind _) ∙ is }
+stops_on line place p t ts at (Some m) is ih e =
+    let l = lexeme_of line t in
+    let s = ih m.0 (act m.1 l p) e in
+    record {
+      front = t ∷ s.front;
+      stop = s.stop;
+      after = s.after;
+      to = s.to;
+      parts = s.parts;
+      whole = ap (λ r. t ∷ r) s.whole;
+      place_is = s.place_is;
+      read = ap (λ o. walk_on o p l (lexemes line s.front) (λ pl r. walk pl r (lexemes line s.front))) (ap (step place) (kind_same t.kind _) ∙ is) ∙ s.read;
+      none = s.none;
+    }
+
+stops : (line : List ℕ) (place : Place) (p : Parts) (ts : List Token) (at : ℕ) → place_after place ts ≡ Err at → StopsIn line place p ts at
+stops line place p [] at e = cc
+stops line place p (t ∷ ts) at e = stops_on line place p t ts at (step place t.kind) refl (λ pl r. stops line pl r ts at) e
+
+-- what is read so far begins a statement
+pub begins_read : (ts : List Lexeme) (to : Place) (q : Parts) → walk Start no_parts ts ≡ Ok (to, q) → Begins ts
+begins_read ts to q e = let t = walk_told Start no_parts ts to q tt e in subst Begins t.0 (begun to q t.1)
+
+stopped_begins : (front : List Lexeme) (stop : Lexeme) (to : Place) (q : Parts) → walk Start no_parts front ≡ Ok (to, q) → step to (kind_at stop) ≡ None → Begins (front ++ stop ∷ []) → ⊥
+stopped_begins front stop to q read none (more, s, spells) =
+    let r = spelled_read ((front ++ stop ∷ []) ++ more) s spells in
+    let stuck = ap (walk Start no_parts) (append_assoc front (stop ∷ []) more) ∙ stopped_always Start no_parts front stop more to q read none in
+    cc (r.read, stuck)
+
+pub stops_at : (line : List ℕ) (ts : List Token) (at : ℕ) → place_after Start ts ≡ Err at → StopsAt line ts at
+stops_at line ts at e =
+    let s = stops line Start no_parts ts at e in
+    record {
+      front = s.front;
+      stop = s.stop;
+      after = s.after;
+      whole = s.whole;
+      place = s.place_is;
+      begins = begins_read (lexemes line s.front) s.to s.parts s.read;
+      no_more = λ b. stopped_begins (lexemes line s.front) (lexeme_of line s.stop) s.to s.parts s.read s.none b;
+    }
+
+-- where no statement may end, nothing is finished, and where one may, one is
+not_finished : (place : Place) (p : Parts) → may_end place ≡ false → finished place p ≡ None
+not_finished AfterFrom p e = cc
+not_finished AfterAtom p e = cc
+not_finished Complete p e = cc
+not_finished Ended p e = cc
+not_finished _ p e = refl
+
+pub is_finished : (place : Place) (p : Parts) → may_end place ≡ true → (s : Statement) × (finished place p ≡ Some s)
+is_finished AfterFrom p e = (built forms.Query p, refl)
+is_finished AfterAtom p e = (built forms.Query p, refl)
+is_finished Complete p e = (built p.form p, refl)
+is_finished Ended p e = (built p.form p, refl)
+is_finished _ p e = cc
+
+same_ok : (a b : Place × Parts) (r : Result (Place × Parts) (List Lexeme)) → r ≡ Ok a → r ≡ Ok b → a ≡ b
+same_ok a b r e f = cc
+
+unfinished : (ts : List Lexeme) (to : Place) (q : Parts) → walk Start no_parts ts ≡ Ok (to, q) → finished to q ≡ None → (s : Statement) → Spells ts s → ⊥
+unfinished ts to q read none s spells =
+    let r = spelled_read ts s spells in
+    let same = same_ok (r.to, r.parts) (to, q) (walk Start no_parts ts) r.read read in
+    let there : finished to q ≡ Some s = ap (λ (m : Place × Parts). finished m.0 m.1) (sym same) ∙ r.finished_there in
+    cc (there, none)
+
+pub ends_early : (line : List ℕ) (ts : List Token) (to : Place) (q : Parts) → walk Start no_parts (lexemes line ts) ≡ Ok (to, q) → may_end to ≡ false → EndsEarly line ts (length line)
+ends_early line ts to q read never = record {
+  place = refl;
+  begins = begins_read (lexemes line ts) to q read;
+  no_statement = λ s spells. unfinished (lexemes line ts) to q read (not_finished to q never) s spells;
+}

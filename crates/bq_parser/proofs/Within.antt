@@ -1,0 +1,321 @@
+-- What is kept of a statement passes the limits that the statement passes, and within them it is the statement.
+use Rattle.std.proofs.Common.{◌≡◌, ℕ, ◌^◌, ◌≤◌, ◌⊎◌, inl, inr, Bool, true, false, cond, ◌||◌, ℤ, pos, negsuc, int_eq, nat_lt, List, [], ◌∷◌, ◌++◌, length, map, take, Option, Some, None, refl, ap, sym, ◌∙◌, arith, subst, append-nil, flat_map, Ok}
+use Rattle.std.specs.List.{list_any, AllByRecursion}
+use Rattle.std.proofs.lemmas.Bool.Decides.{nat_tests}
+use Rattle.std.proofs.lemmas.List.{take_all, length-map, map-append}
+use Rattle.std.proofs.lemmas.List.Concat.{flat_map-append}
+use Rattle.std.proofs.lemmas.List.Folds.{list_any-append}
+use Rattle.bq_text.specs.Value.{fits_i64}
+use Rattle.bq_text.specs.declared.key.Key.TheVariants.{FromKey}
+use Rattle.bq_lexer.specs.declared.token.Token.{Token}
+use Rattle.bq_lexer.specs.Tokens.{tokens}
+use Rattle.bq_lexer.specs.Standing.{StandFrom}
+use Rattle.bq_parser.specs.declared.places.Place.{Place}
+use Rattle.bq_parser.specs.declared.places.Place.TheVariants.{Start, AfterFrom, AfterAtom, Complete, Ended}
+use Rattle.bq_parser.specs.declared.tree.ColumnAst.{ColumnAst}
+use Rattle.bq_parser.specs.declared.tree.OperandAst.{OperandAst}
+use Rattle.bq_parser.specs.declared.tree.OperandAst.TheVariants.{Column, Integer}
+use Rattle.bq_parser.specs.declared.tree.AtomAst.{AtomAst}
+use Rattle.bq_parser.specs.declared.tree.SelectAst.{SelectAst}
+use Rattle.bq_parser.specs.declared.tree.Statement.{Statement}
+use Rattle.bq_parser.specs.declared.tree.Statement.TheVariants.{CreateStream, CreateQuery, Explain, DropQuery}
+use Rattle.bq_parser.specs.declared.draft.Draft.{Draft}
+use Rattle.bq_parser.specs.declared.draft.Form.{Form}
+use Rattle.bq_parser.specs.declared.draft.Form.TheVariants as forms
+use Rattle.bq_parser.specs.declared.parsing.What.{What}
+use Rattle.bq_parser.specs.declared.parsing.What.TheVariants as limits
+use Rattle.bq_parser.specs.DraftSteps.{kept, statement_by, statement_of}
+use Rattle.bq_parser.specs.DraftLimits.{is_long_token, integer_in, integers_in, limit_in_atoms, limit_by, limit_in}
+use Rattle.bq_parser.specs.Grammar.{Lexeme, key, comma, closing, semicolon, separated, name_tokens, column_tokens, operand_tokens, op_token, atom_tokens, where_tokens, distinct_tokens, select_tokens, statement_tokens, Spells}
+use Rattle.bq_parser.specs.Reading.{Parts, no_parts, built, finished, may_end}
+use Rattle.bq_parser.specs.Syntax.{lexemes, IsStatement}
+use Rattle.bq_parser.specs.Keeping.{kept_column, kept_number, kept_operand, kept_atom, kept_parts, IsRead}
+use Rattle.bq_parser.specs.Limits.{word_in, number_in, names_of, integers_of, columns_of, selected_by, streams_of, atoms_of, column_in, columns_in, same_column, number_of_different, is_long, is_far, limit_of}
+use Rattle.bq_parser.proofs.Told.{Fine}
+use Rattle.bq_parser.proofs.WalkLaws.{walk_told, finished_spells}
+use Rattle.bq_parser.proofs.Verdict.{is_finished}
+use Rattle.bq_parser.proofs.Names.{kept_name}
+use Rattle.bq_parser.proofs.Said.{long_names, IsNamed, all_named, without_semicolon, all_left, all_right, all_separated, all_where, numbers_names, numbers_select, select_grouped, cut_at, or_right}
+
+-- names that are kept
+kept_names : (names : List (List ℕ)) → AllByRecursion (λ n. AllByRecursion IsNamed (name_tokens n)) names → map kept names ≡ names
+kept_names [] h = refl
+kept_names (n ∷ ns) h = ap (λ m. m ∷ map kept ns) (kept_name n h.0.0) ∙ ap (λ ms. n ∷ ms) (kept_names ns h.1)
+
+column_kept : (c : ColumnAst) → AllByRecursion IsNamed (column_tokens c) → kept_column c ≡ c
+column_kept c h = ap (λ s. record { stream = s; column = kept c.column }) (kept_name c.stream h.0) ∙ ap (λ m. record { stream = c.stream; column = m }) (kept_name c.column h.1.1.0)
+
+columns_kept : (columns : List ColumnAst) → AllByRecursion (λ c. AllByRecursion IsNamed (column_tokens c)) columns → map kept_column columns ≡ columns
+columns_kept [] h = refl
+columns_kept (c ∷ cs) h = ap (λ m. m ∷ map kept_column cs) (column_kept c h.0) ∙ ap (λ ms. c ∷ ms) (columns_kept cs h.1)
+
+-- an operand whose names are kept, and an integer that is far is the farthest
+abbrev pub nearer : OperandAst → OperandAst
+nearer (Column c) = Column c
+nearer (Integer z) = Integer (kept_number z)
+
+abbrev pub nearer_atom : AtomAst → AtomAst
+nearer_atom a = record { left = nearer a.left; op = a.op; right = nearer a.right }
+
+operand_kept : (o : OperandAst) → AllByRecursion IsNamed (operand_tokens o) → kept_operand o ≡ nearer o
+operand_kept (Column c) h = ap Column (column_kept c h)
+operand_kept (Integer z) h = refl
+
+atom_kept : (a : AtomAst) → AllByRecursion IsNamed (atom_tokens a) → kept_atom a ≡ nearer_atom a
+atom_kept a h =
+    ap (λ o. record { left = o; op = a.op; right = kept_operand a.right }) (operand_kept a.left (all_left IsNamed (operand_tokens a.left) (op_token a.op ∷ operand_tokens a.right) h))
+    ∙ ap (λ o. record { left = nearer a.left; op = a.op; right = o }) (operand_kept a.right (all_right IsNamed (operand_tokens a.left) (op_token a.op ∷ operand_tokens a.right) h).1)
+
+atoms_kept : (atoms : List AtomAst) → AllByRecursion (λ a. AllByRecursion IsNamed (atom_tokens a)) atoms → map kept_atom atoms ≡ map nearer_atom atoms
+atoms_kept [] h = refl
+atoms_kept (a ∷ atoms) h = ap (λ m. m ∷ map kept_atom atoms) (atom_kept a h.0) ∙ ap (λ ms. nearer_atom a ∷ ms) (atoms_kept atoms h.1)
+
+column_nearer : (o : OperandAst) → column_in (nearer o) ≡ column_in o
+column_nearer (Column c) = refl
+column_nearer (Integer z) = refl
+
+columns_nearer : (atoms : List AtomAst) → columns_in (map nearer_atom atoms) ≡ columns_in atoms
+columns_nearer [] = refl
+columns_nearer (a ∷ atoms) =
+    ap (λ cs. (cs ++ column_in (nearer a.right)) ++ columns_in (map nearer_atom atoms)) (column_nearer a.left)
+    ∙ ap (λ cs. (column_in a.left ++ cs) ++ columns_in (map nearer_atom atoms)) (column_nearer a.right)
+    ∙ ap (λ cs. (column_in a.left ++ column_in a.right) ++ cs) (columns_nearer atoms)
+
+integer_nearer : (o : OperandAst) → integer_in (nearer o) ≡ map kept_number (integer_in o)
+integer_nearer (Column c) = refl
+integer_nearer (Integer z) = refl
+
+integers_nearer : (atoms : List AtomAst) → integers_in (map nearer_atom atoms) ≡ map kept_number (integers_in atoms)
+integers_nearer [] = refl
+integers_nearer (a ∷ atoms) =
+    let l = integer_in a.left in
+    let r = integer_in a.right in
+    ap (λ zs. (zs ++ integer_in (nearer a.right)) ++ integers_in (map nearer_atom atoms)) (integer_nearer a.left)
+    ∙ ap (λ zs. (map kept_number l ++ zs) ++ integers_in (map nearer_atom atoms)) (integer_nearer a.right)
+    ∙ ap (λ zs. (map kept_number l ++ map kept_number r) ++ zs) (integers_nearer atoms)
+    ∙ ap (λ zs. zs ++ map kept_number (integers_in atoms)) (sym (map-append kept_number l r))
+    ∙ sym (map-append kept_number (l ++ r) (integers_in atoms))
+
+flag : (b : Bool) → (b ≡ true) ⊎ (b ≡ false)
+flag true = inl refl
+flag false = inr refl
+
+-- an integer that is not far fits
+far_pos : (n : ℕ) → nat_lt n (2 ^ 63) ≡ false → is_far (pos n) ≡ true
+far_pos n h = grind (arith, nat_tests)
+
+far_neg : (n : ℕ) → nat_lt n (2 ^ 63) ≡ false → is_far (negsuc n) ≡ true
+far_neg n h = grind (arith, nat_tests)
+
+unfit_far : (z : ℤ) → fits_i64 z ≡ false → is_far z ≡ true
+unfit_far (pos n) h = far_pos n h
+unfit_far (negsuc n) h = far_neg n h
+
+far_kept : (z : ℤ) → is_far (kept_number z) ≡ is_far z
+far_kept z = elim (flag (fits_i64 z)) [
+  | inl h ↦ ap (λ t. is_far (cond t z (pos 9223372036854775807))) h
+  | inr h ↦ ap (λ t. is_far (cond t z (pos 9223372036854775807))) h ∙ sym (unfit_far z h)
+]
+
+near_kept : (z : ℤ) → is_far z ≡ false → kept_number z ≡ z
+near_kept z h = elim (flag (fits_i64 z)) [
+  | inl e ↦ ap (λ t. cond t z (pos 9223372036854775807)) e
+  | inr e ↦ absurd (let f : true ≡ false = sym (unfit_far z e) ∙ h in cc)
+]
+
+any_far_kept : (zs : List ℤ) → list_any is_far (map kept_number zs) ≡ list_any is_far zs
+any_far_kept [] = refl
+any_far_kept (z ∷ zs) = ap (λ b. b || list_any is_far (map kept_number zs)) (far_kept z) ∙ ap (λ b. is_far z || b) (any_far_kept zs)
+
+or_left : (a b : Bool) → (a || b) ≡ false → a ≡ false
+or_left true b h = cc
+or_left false b h = refl
+
+all_near_kept : (zs : List ℤ) → list_any is_far zs ≡ false → map kept_number zs ≡ zs
+all_near_kept [] h = refl
+all_near_kept (z ∷ zs) h = ap (λ y. y ∷ map kept_number zs) (near_kept z (or_left (is_far z) _ h)) ∙ ap (λ ys. z ∷ ys) (all_near_kept zs (or_right (is_far z) _ h))
+
+-- where two answers are the same unless the test holds
+unless : {X : Type 0} (b : Bool) (x y z : X) → (b ≡ false → y ≡ z) → cond b x y ≡ cond b x z
+unless true x y z h = refl
+unless false x y z h = h refl
+
+few : (m n : ℕ) → nat_lt n m ≡ false → m ≤ n
+few m n h = grind (arith, nat_tests)
+
+abbrev pub limit_at_end : List ColumnAst → List ℤ → Option What
+limit_at_end columns integers =
+    cond (nat_lt 12 (number_of_different same_column columns)) (Some limits.Attrs)
+    (cond (list_any is_far integers) (Some limits.Value) (cond (nat_lt 6 (number_of_different int_eq integers)) (Some limits.Consts) None))
+
+-- the limits of the atoms that are kept
+kept_limit : (atoms : List AtomAst) → length atoms ≤ 16 → AllByRecursion (λ a. AllByRecursion IsNamed (atom_tokens a)) atoms → limit_in_atoms (take 16 (map kept_atom atoms)) ≡ limit_at_end (columns_in atoms) (integers_in atoms)
+kept_limit atoms room named =
+    let zs = integers_in atoms in
+    ap limit_in_atoms (take_all 16 (map kept_atom atoms) (omega (arith, length-map atoms kept_atom)) ∙ atoms_kept atoms named)
+    ∙ ap (λ cs. limit_at_end cs (integers_in (map nearer_atom atoms))) (columns_nearer atoms)
+    ∙ ap (λ ys. limit_at_end (columns_in atoms) ys) (integers_nearer atoms)
+    ∙ unless (nat_lt 12 (number_of_different same_column (columns_in atoms))) (Some limits.Attrs) _ _ (λ attrs.
+    ap (λ b. cond b (Some limits.Value) (cond (nat_lt 6 (number_of_different int_eq (map kept_number zs))) (Some limits.Consts) None)) (any_far_kept zs)
+    ∙ unless (list_any is_far zs) (Some limits.Value) _ _ (λ near. ap (λ ys. cond (nat_lt 6 (number_of_different int_eq ys)) (Some limits.Consts) None) (all_near_kept zs near)))
+
+-- what the tokens of a query say of its names
+pub record NamedSelect (s : SelectAst) : Type 0 where
+  pub select : AllByRecursion (λ c. AllByRecursion IsNamed (column_tokens c)) s.select.items
+  pub from : AllByRecursion (λ n. AllByRecursion IsNamed (name_tokens n)) s.from.items
+  pub atoms : AllByRecursion (λ a. AllByRecursion IsNamed (atom_tokens a)) s.atoms.items
+
+named_select : (s : SelectAst) → AllByRecursion IsNamed (select_tokens s) → NamedSelect s
+named_select s h =
+    let P : List Lexeme → Type 0 = λ ls. AllByRecursion IsNamed ls in
+    let columns = separated comma column_tokens s.select.items in
+    let names = separated comma name_tokens s.from.items in
+    let behind = names ++ where_tokens s.atoms.items in
+    let grouped = subst P (select_grouped s) h in
+    let selected = all_right IsNamed (distinct_tokens s.distinct) (columns ++ (key FromKey ∷ behind)) grouped.1 in
+    let rest = (all_right IsNamed columns (key FromKey ∷ behind) selected).1 in
+    record {
+      select = all_separated IsNamed comma column_tokens s.select.items (all_left IsNamed columns (key FromKey ∷ behind) selected);
+      from = all_separated IsNamed comma name_tokens s.from.items (all_left IsNamed names (where_tokens s.atoms.items) rest);
+      atoms = all_where IsNamed s.atoms.items (all_right IsNamed names (where_tokens s.atoms.items) rest);
+    }
+
+-- the limits that a draft passes, by its form
+stream_limit : (name : List ℕ) (columns : List (List ℕ)) → integers_of (CreateStream name (record { items = columns })) ≡ []
+stream_limit name columns = flat_map-append number_in (separated comma name_tokens columns) (closing ∷ []) ∙ append-nil (flat_map number_in (separated comma name_tokens columns)) ∙ numbers_names columns
+
+-- the limits behind the one on names
+abbrev pub limit_of_lists : Statement → Option What
+limit_of_lists s =
+    cond (nat_lt 8 (length (columns_of s))) (Some limits.Columns)
+    (cond (nat_lt 8 (length (selected_by s))) (Some limits.Select)
+    (cond (nat_lt 4 (length (streams_of s))) (Some limits.From)
+    (cond (nat_lt 16 (length (atoms_of s))) (Some limits.Atoms) (limit_at_end (columns_in (atoms_of s)) (integers_of s)))))
+
+same_limit : (m : Form) (p : Parts) → AllByRecursion IsNamed (statement_tokens (built m p)) → limit_by m (kept_parts p) ≡ limit_of_lists (built m p)
+same_limit forms.Stream p h = ap (λ zs. cond (nat_lt 8 (length p.columns)) (Some limits.Columns) (cond (list_any is_far zs) (Some limits.Value) (cond (nat_lt 6 (number_of_different int_eq zs)) (Some limits.Consts) None))) (sym (stream_limit p.name p.columns))
+same_limit forms.Query p h =
+    let s : SelectAst = record { distinct = p.distinct; select = record { items = p.select }; from = record { items = p.from }; atoms = record { items = p.atoms } } in
+    let n = named_select s h.1.1.1.1 in
+    unless (nat_lt 8 (length p.select)) (Some limits.Select) _ _ (λ selected.
+    unless (nat_lt 4 (length p.from)) (Some limits.From) _ _ (λ streams.
+    unless (nat_lt 16 (length p.atoms)) (Some limits.Atoms) _ _ (λ atoms.
+    kept_limit p.atoms (few (length p.atoms) 16 atoms) n.atoms
+    ∙ ap (λ zs. limit_at_end (columns_in p.atoms) zs) (sym (numbers_select s)))))
+same_limit forms.Explain p h = refl
+same_limit forms.Drop p h = refl
+
+-- no limit is passed, so none of the first ones is
+not_passed : {X : Type 0} (b : Bool) (x : X) (r : Option X) → cond b (Some x) r ≡ None → (b ≡ false) × (r ≡ None)
+not_passed true x r e = cc
+not_passed false x r e = (refl, e)
+
+near_operand : (o : OperandAst) → list_any is_far (integer_in o) ≡ false → nearer o ≡ o
+near_operand (Column c) h = refl
+near_operand (Integer z) h = ap Integer (near_kept z (or_left (is_far z) false h))
+
+near_atoms : (atoms : List AtomAst) → list_any is_far (integers_in atoms) ≡ false → map nearer_atom atoms ≡ atoms
+near_atoms [] h = refl
+near_atoms (a ∷ atoms) h =
+    let both = sym (list_any-append is_far (integer_in a.left ++ integer_in a.right) (integers_in atoms)) ∙ h in
+    let here = sym (list_any-append is_far (integer_in a.left) (integer_in a.right)) ∙ or_left (list_any is_far (integer_in a.left ++ integer_in a.right)) _ both in
+    ap (λ o. (record { left = o; op = a.op; right = nearer a.right }) ∷ map nearer_atom atoms) (near_operand a.left (or_left (list_any is_far (integer_in a.left)) _ here))
+    ∙ ap (λ o. (record { left = a.left; op = a.op; right = o }) ∷ map nearer_atom atoms) (near_operand a.right (or_right (list_any is_far (integer_in a.left)) _ here))
+    ∙ ap (λ bs. a ∷ bs) (near_atoms atoms (or_right (list_any is_far (integer_in a.left ++ integer_in a.right)) _ both))
+
+-- within the limits what is kept is the statement
+kept_list : {X : Type 0} (f : X → X) (n : ℕ) (xs : List X) → nat_lt n (length xs) ≡ false → map f xs ≡ xs → take n (map f xs) ≡ xs
+kept_list f n xs short same = ap (take n) same ∙ take_all n xs (few (length xs) n short)
+
+same_statement : (m : Form) (p : Parts) → p.form ≡ m → AllByRecursion IsNamed (statement_tokens (built m p)) → limit_of_lists (built m p) ≡ None → statement_by m (kept_parts p) ≡ built m p
+same_statement forms.Stream p f h e =
+    let names = h.1.1 in
+    let cs = not_passed (nat_lt 8 (length p.columns)) limits.Columns _ e in
+    ap (λ n. CreateStream n (record { items = take 8 (map kept p.columns) })) (kept_name p.name names.0)
+    ∙ ap (λ xs. CreateStream p.name (record { items = xs })) (kept_list kept 8 p.columns cs.0 (kept_names p.columns (all_separated IsNamed comma name_tokens p.columns (all_left IsNamed (separated comma name_tokens p.columns) (closing ∷ []) names.1.1))))
+same_statement forms.Query p f h e =
+    let s : SelectAst = record { distinct = p.distinct; select = record { items = p.select }; from = record { items = p.from }; atoms = record { items = p.atoms } } in
+    let n = named_select s h.1.1.1.1 in
+    let a = not_passed (nat_lt 8 (length p.select)) limits.Select _ e in
+    let b = not_passed (nat_lt 4 (length p.from)) limits.From _ a.1 in
+    let c = not_passed (nat_lt 16 (length p.atoms)) limits.Atoms _ b.1 in
+    let d = not_passed (nat_lt 12 (number_of_different same_column (columns_in p.atoms))) limits.Attrs _ c.1 in
+    let near = not_passed (list_any is_far (integers_of (CreateQuery p.name s))) limits.Value _ d.1 in
+    ap (λ w. CreateQuery w (record { distinct = p.distinct; select = record { items = take 8 (map kept_column p.select) }; from = record { items = take 4 (map kept p.from) }; atoms = record { items = take 16 (map kept_atom p.atoms) } })) (kept_name p.name h.1.1.0)
+    ∙ ap (λ xs. CreateQuery p.name (record { distinct = p.distinct; select = record { items = xs }; from = record { items = take 4 (map kept p.from) }; atoms = record { items = take 16 (map kept_atom p.atoms) } })) (kept_list kept_column 8 p.select a.0 (columns_kept p.select n.select))
+    ∙ ap (λ xs. CreateQuery p.name (record { distinct = p.distinct; select = record { items = p.select }; from = record { items = xs }; atoms = record { items = take 16 (map kept_atom p.atoms) } })) (kept_list kept 4 p.from b.0 (kept_names p.from n.from))
+    ∙ ap (λ xs. CreateQuery p.name (record { distinct = p.distinct; select = record { items = p.select }; from = record { items = p.from }; atoms = record { items = xs } })) (kept_list kept_atom 16 p.atoms c.0 (atoms_kept p.atoms n.atoms ∙ near_atoms p.atoms (ap (list_any is_far) (sym (numbers_select s)) ∙ near.0)))
+same_statement forms.Explain p f h e = ap Explain (kept_name p.name h.1.0)
+same_statement forms.Drop p f h e = ap DropQuery (kept_name p.name h.1.1.0)
+
+same_some : {X : Type 0} (a b : X) → Some a ≡ Some b → a ≡ b
+same_some a b e = cc
+
+-- the form of a statement that may end
+form_there : (place : Place) (p : Parts) (s : Statement) → Fine place p → finished place p ≡ Some s → s ≡ built p.form p
+form_there AfterFrom p s f e = same_some s (built forms.Query p) (sym e) ∙ ap (λ m. built m p) (sym f.0.form)
+form_there AfterAtom p s f e = same_some s (built forms.Query p) (sym e) ∙ ap (λ m. built m p) (sym f.0.form)
+form_there Complete p s f e = same_some s (built p.form p) (sym e)
+form_there Ended p s f e = same_some s (built p.form p) (sym e)
+form_there _ p s f e = cc
+
+-- what the tokens of a whole line tell
+pub record Judged (line : List ℕ) (ts : List Token) (d : Draft) : Type 0 where
+  pub statement : Statement
+  pub is : IsStatement line statement
+  pub limit : limit_in ts d ≡ limit_of statement
+  pub same : limit_of statement ≡ None → statement_of d ≡ statement
+
+-- the names of a spelled statement are those of its tokens
+names_spelled : (ls : List Lexeme) (s : Statement) → Spells ls s → flat_map word_in ls ≡ names_of s
+names_spelled ls s (w, inl e) = ap (flat_map word_in) e
+names_spelled ls s (w, inr e) = ap (flat_map word_in) e ∙ without_semicolon (statement_tokens s)
+
+named_spelled : (ls : List Lexeme) (s : Statement) → Spells ls s → AllByRecursion IsNamed ls → AllByRecursion IsNamed (statement_tokens s)
+named_spelled ls s (w, inl e) h = let P : List Lexeme → Type 0 = λ r. AllByRecursion IsNamed r in subst P e h
+named_spelled ls s (w, inr e) h = let P : List Lexeme → Type 0 = λ r. AllByRecursion IsNamed r in all_left IsNamed (statement_tokens s) (semicolon ∷ []) (subst P e h)
+
+judged_parts : (line : List ℕ) (ts : List Token) (p : Parts) → IsStatement line (built p.form p) → Spells (lexemes line ts) (built p.form p) → StandFrom line 0 ts → Judged line ts (kept_parts p)
+judged_parts line ts p is spells stand =
+    let s = built p.form p in
+    let cuts = cut_at line 0 ts stand in
+    let long : list_any is_long_token ts ≡ list_any is_long (names_of s) = long_names line ts cuts ∙ ap (list_any is_long) (names_spelled (lexemes line ts) s spells) in
+    let named : list_any is_long (names_of s) ≡ false → AllByRecursion IsNamed (statement_tokens s) = λ short. named_spelled (lexemes line ts) s spells (all_named line ts cuts (sym (long_names line ts cuts) ∙ long ∙ short)) in
+    record {
+      statement = s;
+      is = is;
+      limit = ap (λ b. cond b (Some limits.Name) (limit_by p.form (kept_parts p))) long
+          ∙ unless (list_any is_long (names_of s)) (Some limits.Name) _ _ (λ short. same_limit p.form p (named short));
+      same = λ none.
+          let n = not_passed (list_any is_long (names_of s)) limits.Name (limit_of_lists s) none in
+          same_statement p.form p refl (named n.0) n.1;
+    }
+
+pub judged : (line : List ℕ) (ts : List Token) (place : Place) (d : Draft) → tokens line ≡ Ok ts → StandFrom line 0 ts → IsRead line ts place d → may_end place ≡ true → Judged line ts d
+judged line ts place d lexed stand r ends =
+    let f = is_finished place r.parts ends in
+    let t = walk_told Start no_parts (lexemes line ts) place r.parts tt r.read in
+    let P : List Lexeme → Type 0 = λ ls. Spells ls f.0 in
+    let Q : Statement → Type 0 = λ s. Spells (lexemes line ts) s in
+    let form = form_there place r.parts f.0 t.1 f.1 in
+    let spells = subst Q form (subst P t.0 (finished_spells place r.parts f.0 t.1 f.1)) in
+    let D : Draft → Type 0 = λ x. Judged line ts x in
+    subst D (sym r.keeps) (judged_parts line ts r.parts (record { its_tokens = ts; lexed = lexed; spelled = spells }) spells stand)
+
+-- an integer that is not far fits
+pub near_fits : (z : ℤ) → is_far z ≡ false → fits_i64 z ≡ true
+near_fits z h = elim (flag (fits_i64 z)) [
+  | inl e ↦ e
+  | inr e ↦ absurd (let f : true ≡ false = sym (unfit_far z e) ∙ h in cc)
+]
+
+-- within the limits no integer is far
+pub not_far : (s : Statement) → limit_of s ≡ None → list_any is_far (integers_of s) ≡ false
+not_far s e =
+    let n = not_passed (list_any is_long (names_of s)) limits.Name (limit_of_lists s) e in
+    let a = not_passed (nat_lt 8 (length (columns_of s))) limits.Columns _ n.1 in
+    let b = not_passed (nat_lt 8 (length (selected_by s))) limits.Select _ a.1 in
+    let c = not_passed (nat_lt 4 (length (streams_of s))) limits.From _ b.1 in
+    let d = not_passed (nat_lt 16 (length (atoms_of s))) limits.Atoms _ c.1 in
+    let f = not_passed (nat_lt 12 (number_of_different same_column (columns_in (atoms_of s)))) limits.Attrs _ d.1 in
+    (not_passed (list_any is_far (integers_of s)) limits.Value _ f.1).0

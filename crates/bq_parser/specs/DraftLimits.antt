@@ -1,0 +1,55 @@
+-- The first limit that a draft passes, found by its tokens and its lists.
+use Rattle.std.specs.Prelude.{◌+◌, ℤ, Bool, true, false, ◌&&◌, nat_lt, if◌then◌else◌, List, [], ◌∷◌, ◌++◌, Option, Some, None}
+use Rattle.std.specs.List.{flat_map, list_any}
+use Rattle.std.specs.Ordering.{int_eq}
+use Rattle.bq_lexer.specs.declared.token.TokenKind.{TokenKind}
+use Rattle.bq_lexer.specs.declared.token.TokenKind.TheVariants as kinds
+use Rattle.bq_lexer.specs.declared.token.Token.{Token}
+use Rattle.bq_parser.specs.declared.parsing.What.{What}
+use Rattle.bq_parser.specs.declared.parsing.What.TheVariants as limits
+use Rattle.bq_parser.specs.declared.tree.OperandAst.{OperandAst}
+use Rattle.bq_parser.specs.declared.tree.OperandAst.TheVariants.{Column, Integer}
+use Rattle.bq_parser.specs.declared.tree.AtomAst.{AtomAst}
+use Rattle.bq_parser.specs.declared.draft.Draft.{Draft}
+use Rattle.bq_parser.specs.declared.draft.Form.{Form}
+use Rattle.bq_parser.specs.declared.draft.Form.TheVariants as forms
+use Rattle.bq_parser.specs.Limits.{columns_in, same_column, number_of_different, is_far}
+
+-- whether a token is a word
+abbrev pub is_word_kind : TokenKind → Bool
+is_word_kind kinds.Word = true
+is_word_kind _ = false
+
+-- a word of more bytes than a name may have
+abbrev pub is_long_token : Token → Bool
+is_long_token t = is_word_kind t.kind && nat_lt (t.from + 24) t.to
+
+-- the integer that a side of an atom is
+abbrev pub integer_in : OperandAst → List ℤ
+integer_in (Column c) = []
+integer_in (Integer z) = z ∷ []
+
+-- the integers that atoms name
+abbrev pub integers_in : List AtomAst → List ℤ
+integers_in atoms = flat_map (λ a. integer_in a.left ++ integer_in a.right) atoms
+
+-- the first limit that the atoms pass, where there are not too many
+abbrev pub limit_in_atoms : List AtomAst → Option What
+limit_in_atoms atoms =
+    if nat_lt 12 (number_of_different same_column (columns_in atoms)) then Some limits.Attrs else
+    (if list_any is_far (integers_in atoms) then Some limits.Value else
+    (if nat_lt 6 (number_of_different int_eq (integers_in atoms)) then Some limits.Consts else None))
+
+-- the first limit that the lists of a draft pass, by its form
+abbrev pub limit_by : Form → Draft → Option What
+limit_by forms.Stream d = if d.columns.over then Some limits.Columns else None
+limit_by forms.Query d =
+    if d.select.over then Some limits.Select else
+    (if d.from.over then Some limits.From else
+    (if d.atoms.over then Some limits.Atoms else limit_in_atoms d.atoms.list.items))
+limit_by forms.Explain d = None
+limit_by forms.Drop d = None
+
+-- the first limit that is passed
+abbrev pub limit_in : List Token → Draft → Option What
+limit_in ts d = if list_any is_long_token ts then Some limits.Name else limit_by d.form d

@@ -1,0 +1,106 @@
+-- The grammar of statements: the tokens that each statement is spelled by.
+use Rattle.std.specs.Prelude.{◌≡◌, ℕ, ◌<◌, ◌⊎◌, Bool, true, false, ℤ, List, [], ◌∷◌, ◌++◌, length}
+use Rattle.std.specs.List.{AllByRecursion}
+use Rattle.bq_text.specs.declared.key.Key.{Key}
+use Rattle.bq_text.specs.declared.key.Key.TheVariants.{CreateKey, StreamKey, QueryKey, AsKey, SelectKey, DistinctKey, FromKey, WhereKey, AndKey, ExplainKey, DropKey}
+use Rattle.bq_model.specs.declared.atom.Op.{Op}
+use Rattle.bq_model.specs.declared.atom.Op.TheVariants.{Lt, Eq, Gt}
+use Rattle.bq_parser.specs.declared.tree.ColumnAst.{ColumnAst}
+use Rattle.bq_parser.specs.declared.tree.OperandAst.{OperandAst}
+use Rattle.bq_parser.specs.declared.tree.OperandAst.TheVariants.{Column, Integer}
+use Rattle.bq_parser.specs.declared.tree.AtomAst.{AtomAst}
+use Rattle.bq_parser.specs.declared.tree.SelectAst.{SelectAst}
+use Rattle.bq_parser.specs.declared.tree.Statement.{Statement}
+use Rattle.bq_parser.specs.declared.tree.Statement.TheVariants.{CreateStream, CreateQuery, Explain, DropQuery}
+
+-- a token by what it says: a name, an integer, a reserved word or a sign
+pub data Lexeme : Type 0 where
+  word : List ℕ → Lexeme
+  number : ℤ → Lexeme
+  key : Key → Lexeme
+  comma : Lexeme
+  point : Lexeme
+  opening : Lexeme
+  closing : Lexeme
+  less : Lexeme
+  equal : Lexeme
+  greater : Lexeme
+  semicolon : Lexeme
+
+-- each of xs as its tokens, and a separator between two
+abbrev pub separated : {X : Type 0} → Lexeme → (X → List Lexeme) → List X → List Lexeme
+separated sep f [] = []
+separated sep f (x ∷ []) = f x
+separated sep f (x ∷ y ∷ xs) = f x ++ sep ∷ separated sep f (y ∷ xs)
+
+-- a name is one token
+abbrev pub name_tokens : List ℕ → List Lexeme
+name_tokens n = word n ∷ []
+
+-- column = name "." name
+abbrev pub column_tokens : ColumnAst → List Lexeme
+column_tokens c = word c.stream ∷ point ∷ word c.column ∷ []
+
+-- column | integer
+abbrev pub operand_tokens : OperandAst → List Lexeme
+operand_tokens (Column c) = column_tokens c
+operand_tokens (Integer z) = number z ∷ []
+
+-- op = "<" | "=" | ">"
+abbrev pub op_token : Op → Lexeme
+op_token Lt = less
+op_token Eq = equal
+op_token Gt = greater
+
+-- atom = column op ( column | integer ) | integer op column
+abbrev pub atom_tokens : AtomAst → List Lexeme
+atom_tokens a = operand_tokens a.left ++ op_token a.op ∷ operand_tokens a.right
+
+-- [ WHERE atom { AND atom } ]
+abbrev pub where_tokens : List AtomAst → List Lexeme
+where_tokens [] = []
+where_tokens (a ∷ atoms) = key WhereKey ∷ separated (key AndKey) atom_tokens (a ∷ atoms)
+
+-- [ DISTINCT ]
+abbrev pub distinct_tokens : Bool → List Lexeme
+distinct_tokens true = key DistinctKey ∷ []
+distinct_tokens false = []
+
+-- SELECT [ DISTINCT ] column { "," column } FROM name { "," name } [ WHERE atom { AND atom } ]
+abbrev pub select_tokens : SelectAst → List Lexeme
+select_tokens s =
+    key SelectKey ∷ distinct_tokens s.distinct ++ separated comma column_tokens s.select.items
+    ++ key FromKey ∷ separated comma name_tokens s.from.items ++ where_tokens s.atoms.items
+
+-- The tokens of a statement, without a semicolon:
+-- CREATE STREAM name "(" name { "," name } ")"  |  CREATE QUERY name AS select  |  EXPLAIN name  |  DROP QUERY name
+abbrev pub statement_tokens : Statement → List Lexeme
+statement_tokens (CreateStream name columns) =
+    key CreateKey ∷ key StreamKey ∷ word name ∷ opening ∷ separated comma name_tokens columns.items ++ closing ∷ []
+statement_tokens (CreateQuery name select) = key CreateKey ∷ key QueryKey ∷ word name ∷ key AsKey ∷ select_tokens select
+statement_tokens (Explain name) = key ExplainKey ∷ word name ∷ []
+statement_tokens (DropQuery name) = key DropKey ∷ key QueryKey ∷ word name ∷ []
+
+-- whether a side of an atom is a column
+abbrev pub IsColumn : OperandAst → Type 0
+IsColumn (Column c) = Unit {0}
+IsColumn (Integer z) = ⊥
+
+-- at least one side is a column
+abbrev pub HasColumn : AtomAst → Type 0
+HasColumn a = IsColumn a.left ⊎ IsColumn a.right
+
+-- no list but that of the atoms is empty, and no atom has two integers
+abbrev pub IsWhole : Statement → Type 0
+IsWhole (CreateStream name columns) = 0 < length columns.items
+IsWhole (CreateQuery name select) = (0 < length select.select.items) × (0 < length select.from.items) × AllByRecursion HasColumn select.atoms.items
+IsWhole (Explain name) = Unit {0}
+IsWhole (DropQuery name) = Unit {0}
+
+-- the tokens are the statement's, with or without a semicolon
+abbrev pub Spells : List Lexeme → Statement → Type 0
+Spells ts s = IsWhole s × ((ts ≡ statement_tokens s) ⊎ (ts ≡ statement_tokens s ++ semicolon ∷ []))
+
+-- some statement begins so
+abbrev pub Begins : List Lexeme → Type 0
+Begins ts = (more : List Lexeme) × (s : Statement) × Spells (ts ++ more) s

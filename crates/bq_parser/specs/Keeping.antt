@@ -1,0 +1,80 @@
+-- What is kept of the parts of a statement.
+use Rattle.std.specs.Prelude.{◌≡◌, ◌≤◌, ℕ, ℤ, pos, nat_lt, if◌then◌else◌, List, length, map, take, slice_range, Some, Ok}
+use Rattle.bq_text.specs.Value.{value_of, fits_i64}
+use Rattle.bq_parser.specs.declared.places.Place.{Place}
+use Rattle.bq_parser.specs.declared.places.Place.TheVariants.{Start}
+use Rattle.bq_parser.specs.Syntax.{lexemes}
+use Rattle.bq_lexer.specs.declared.token.Token.{Token}
+use Rattle.bq_lexer.specs.Tokens.{kind_of}
+use Rattle.bq_parser.specs.declared.places.Action.{Action}
+use Rattle.bq_parser.specs.declared.places.Action.TheVariants as actions
+use Rattle.bq_parser.specs.declared.tree.ColumnAst.{ColumnAst}
+use Rattle.bq_parser.specs.declared.tree.OperandAst.{OperandAst}
+use Rattle.bq_parser.specs.declared.tree.OperandAst.TheVariants.{Column, Integer}
+use Rattle.bq_parser.specs.declared.tree.AtomAst.{AtomAst}
+use Rattle.bq_parser.specs.declared.draft.Draft.{Draft}
+use Rattle.bq_parser.specs.declared.draft.Kept.{Kept}
+use Rattle.bq_parser.specs.DraftSteps.{kept, or_far}
+use Rattle.bq_parser.specs.Grammar.{Lexeme}
+use Rattle.bq_parser.specs.Reading.{Parts, text_of, number_of, walk, no_parts}
+
+-- the first n of a list, and whether there are more
+abbrev pub keep : {X T : Type 0} → (X → T) → (n : ℕ) → List X → Kept T n
+keep f n xs = record { list = record { items = take n (map f xs) }; over = nat_lt n (length xs) }
+
+-- a column by the names that are kept
+abbrev pub kept_column : ColumnAst → ColumnAst
+kept_column c = record { stream = kept c.stream; column = kept c.column }
+
+-- an integer of 64 bits, or the greatest one
+abbrev pub kept_number : ℤ → ℤ
+kept_number z = if fits_i64 z then z else pos 9223372036854775807
+
+-- a side of an atom, as it is kept
+abbrev pub kept_operand : OperandAst → OperandAst
+kept_operand (Column c) = Column (kept_column c)
+kept_operand (Integer z) = Integer (kept_number z)
+
+-- an atom, as it is kept
+abbrev pub kept_atom : AtomAst → AtomAst
+kept_atom a = record { left = kept_operand a.left; op = a.op; right = kept_operand a.right }
+
+-- what a draft keeps of the parts
+abbrev pub kept_parts : Parts → Draft
+kept_parts p = record {
+  form = p.form;
+  name = kept p.name;
+  columns = keep kept 8 p.columns;
+  distinct = p.distinct;
+  select = keep kept_column 8 p.select;
+  from = keep kept 4 p.from;
+  atoms = keep kept_atom 16 p.atoms;
+  stream = kept p.stream;
+  left = kept_operand p.left;
+  op = p.op;
+}
+
+-- what the text of a token has to say for an action
+abbrev pub SaysFor : Action → Lexeme → List ℕ → Type 0
+SaysFor actions.LeftInteger l w = or_far (value_of w) ≡ kept_number (number_of l)
+SaysFor actions.AddIntegerAtom l w = or_far (value_of w) ≡ kept_number (number_of l)
+SaysFor actions.Named l w = w ≡ text_of l
+SaysFor actions.AddColumn l w = w ≡ text_of l
+SaysFor actions.StreamIs l w = w ≡ text_of l
+SaysFor actions.AddSelected l w = w ≡ text_of l
+SaysFor actions.AddFrom l w = w ≡ text_of l
+SaysFor actions.LeftColumnIs l w = w ≡ text_of l
+SaysFor actions.AddColumnAtom l w = w ≡ text_of l
+SaysFor _ l w = Unit {0}
+
+-- the token is cut out of the line, and its text is of its kind
+pub record IsCut (line : List ℕ) (t : Token) : Type 0 where
+  pub order : t.from ≤ t.to
+  pub inside : t.to ≤ length line
+  pub kind : kind_of (slice_range line t.from t.to) ≡ Some t.kind
+
+-- the tokens lead to the place, and the draft keeps the parts that they make
+pub record IsRead (line : List ℕ) (ts : List Token) (place : Place) (d : Draft) : Type 0 where
+  pub parts : Parts
+  pub read : walk Start no_parts (lexemes line ts) ≡ Ok (place, parts)
+  pub keeps : d ≡ kept_parts parts

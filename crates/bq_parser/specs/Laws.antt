@@ -1,0 +1,26 @@
+-- The laws of statements and their texts.
+use Rattle.std.specs.Prelude.{true, ◌≡◌, ℕ, List, None, IsTrue, All}
+use Rattle.bq_text.specs.Name.{is_name}
+use Rattle.bq_parser.specs.declared.tree.Statement.{Statement}
+use Rattle.bq_parser.specs.Grammar.{IsWhole}
+use Rattle.bq_parser.specs.Syntax.{IsStatement, IsFault}
+use Rattle.bq_parser.specs.Limits.{names_of, limit_of}
+use Rattle.bq_parser.specs.LineKind.{is_row, IsRowText}
+use Rattle.bq_parser.specs.Printed.{printed_form}
+
+-- a line is spelled as one statement at most
+abbrev pub OneReading : Type 0
+OneReading = (line : List ℕ) → (s : Statement) → (t : Statement) → IsStatement line s → IsStatement line t → s ≡ t
+
+-- a line that leaves the grammar somewhere is no statement
+abbrev pub FaultsAreNone : Type 0
+FaultsAreNone = (line : List ℕ) → (at : ℕ) → (s : Statement) → IsFault line at → IsStatement line s → ⊥
+
+-- The printed form of a statement within the limits says this statement, where its names are names, no list but that of the
+-- atoms is empty, and no atom has two integers.
+abbrev pub PrintsBack : Type 0
+PrintsBack = (s : Statement) → IsWhole s → All (λ n. IsTrue (is_name n)) (names_of s) → limit_of s ≡ None → IsStatement (printed_form s) s
+
+-- the test for a row line finds just the lines of one word, blanks or none, and a comma, with anything behind
+abbrev pub RowsAreRows : Type 0
+RowsAreRows = (bs : List ℕ) → (is_row bs ≡ true → IsRowText bs) × (IsRowText bs → is_row bs ≡ true)

@@ -1,0 +1,13 @@
+pub mod DraftLimits
+pub mod DraftSteps
+pub mod Grammar
+pub mod Keeping
+pub mod Laws
+pub mod Limits
+pub mod LineKind
+pub mod Printed
+pub mod PrintedParts
+pub mod Reading
+pub mod Refusal
+pub mod Steps
+pub mod Syntax

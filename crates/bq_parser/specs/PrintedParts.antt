@@ -1,0 +1,87 @@
+-- The printed form of a statement, part by part.
+use Rattle.std.specs.Prelude.{ℕ, Bool, List, [], ◌∷◌, ◌++◌, codes, if◌then◌else◌}
+use Rattle.std.specs.List.{flat_map}
+use Rattle.std.specs.Fmt.{signed_decimal}
+use Rattle.bq_model.specs.declared.atom.Op.{Op}
+use Rattle.bq_model.specs.declared.atom.Op.TheVariants.{Lt, Eq, Gt}
+use Rattle.bq_parser.specs.declared.tree.ColumnAst.{ColumnAst}
+use Rattle.bq_parser.specs.declared.tree.OperandAst.{OperandAst}
+use Rattle.bq_parser.specs.declared.tree.OperandAst.TheVariants.{Column, Integer}
+use Rattle.bq_parser.specs.declared.tree.AtomAst.{AtomAst}
+use Rattle.bq_parser.specs.declared.tree.SelectAst.{SelectAst}
+
+-- each item behind the same separator
+abbrev pub each_behind : {X : Type 0} → List ℕ → (X → List ℕ) → List X → List ℕ
+each_behind sep text xs = flat_map (λ x. sep ++ text x) xs
+
+-- a list, and what stands before it
+abbrev pub listed : {X : Type 0} → List ℕ → List ℕ → (X → List ℕ) → List X → List ℕ
+listed lead sep text [] = []
+listed lead sep text (x ∷ xs) = (lead ++ text x) ++ each_behind sep text xs
+
+-- a name is its text
+abbrev pub name_text : List ℕ → List ℕ
+name_text n = n
+
+-- a column: its stream, a point and its name
+abbrev pub column_text : ColumnAst → List ℕ
+column_text c = c.stream ++ (46 ∷ c.column)
+
+-- a side of an atom
+abbrev pub operand_text : OperandAst → List ℕ
+operand_text (Column c) = column_text c
+operand_text (Integer z) = signed_decimal z
+
+-- a comparison between two spaces
+abbrev pub op_text : Op → List ℕ
+op_text Lt = codes " < "
+op_text Eq = codes " = "
+op_text Gt = codes " > "
+
+-- an atom
+abbrev pub atom_text : AtomAst → List ℕ
+atom_text a = operand_text a.left ++ (op_text a.op ++ operand_text a.right)
+
+-- names, and what stands before them
+abbrev pub names_text : List ℕ → List (List ℕ) → List ℕ
+names_text lead names = listed lead (codes ", ") name_text names
+
+-- the selected columns
+abbrev pub columns_text : List ColumnAst → List ℕ
+columns_text columns = listed (codes " ") (codes ", ") column_text columns
+
+-- the atoms behind WHERE
+abbrev pub atoms_text : List AtomAst → List ℕ
+atoms_text atoms = listed (codes " WHERE ") (codes " AND ") atom_text atoms
+
+-- DISTINCT behind SELECT
+abbrev pub distinct_text : Bool → List ℕ
+distinct_text distinct = if distinct then codes " DISTINCT" else []
+
+-- the streams and the atoms
+abbrev pub streams_text : SelectAst → List ℕ
+streams_text s = names_text (codes " ") s.from.items ++ atoms_text s.atoms.items
+
+-- what stands from FROM on
+abbrev pub sources_text : SelectAst → List ℕ
+sources_text s = codes " FROM" ++ streams_text s
+
+-- what stands behind SELECT or DISTINCT
+abbrev pub selection_text : SelectAst → List ℕ
+selection_text s = columns_text s.select.items ++ sources_text s
+
+-- what stands before the selected columns
+abbrev pub query_head_text : List ℕ → Bool → List ℕ
+query_head_text name distinct = codes "CREATE QUERY " ++ (name ++ (codes " AS SELECT" ++ distinct_text distinct))
+
+-- CREATE QUERY
+abbrev pub query_text : List ℕ → SelectAst → List ℕ
+query_text name s = query_head_text name s.distinct ++ selection_text s
+
+-- what stands before the columns of a stream
+abbrev pub stream_head_text : List ℕ → List ℕ
+stream_head_text name = codes "CREATE STREAM " ++ (name ++ codes " (")
+
+-- CREATE STREAM
+abbrev pub stream_text : List ℕ → List (List ℕ) → List ℕ
+stream_text name columns = stream_head_text name ++ (names_text [] columns ++ codes ")")

@@ -1,0 +1,122 @@
+-- Reading from left to right: the place, and the parts of the statement so far.
+use Rattle.std.specs.Prelude.{ℕ, Bool, true, false, ℤ, pos, List, [], ◌∷◌, ◌++◌, Option, Some, None, Result, Ok, Err}
+use Rattle.bq_lexer.specs.declared.token.TokenKind.{TokenKind}
+use Rattle.bq_lexer.specs.declared.token.TokenKind.TheVariants as kinds
+use Rattle.bq_parser.specs.declared.places.Place.{Place}
+use Rattle.bq_parser.specs.declared.places.Place.TheVariants as places
+use Rattle.bq_parser.specs.declared.places.Action.{Action}
+use Rattle.bq_parser.specs.declared.places.Action.TheVariants as actions
+use Rattle.bq_model.specs.declared.atom.Op.{Op}
+use Rattle.bq_model.specs.declared.atom.Op.TheVariants.{Lt, Eq, Gt}
+use Rattle.bq_parser.specs.declared.tree.ColumnAst.{ColumnAst}
+use Rattle.bq_parser.specs.declared.tree.OperandAst.{OperandAst}
+use Rattle.bq_parser.specs.declared.tree.OperandAst.TheVariants.{Column, Integer}
+use Rattle.bq_parser.specs.declared.tree.AtomAst.{AtomAst}
+use Rattle.bq_parser.specs.declared.tree.Statement.{Statement}
+use Rattle.bq_parser.specs.declared.tree.Statement.TheVariants.{CreateStream, CreateQuery, Explain, DropQuery}
+use Rattle.bq_parser.specs.declared.draft.Form.{Form}
+use Rattle.bq_parser.specs.declared.draft.Form.TheVariants as forms
+use Rattle.bq_parser.specs.Grammar.{Lexeme, word, number, key, comma, point, opening, closing, less, equal, greater, semicolon}
+use Rattle.bq_parser.specs.Steps.{step}
+
+-- the statement so far
+pub record Parts : Type 0 where
+  pub form : Form
+  pub name : List ℕ
+  pub columns : List (List ℕ)
+  pub distinct : Bool
+  pub select : List ColumnAst
+  pub from : List (List ℕ)
+  pub atoms : List AtomAst
+  pub stream : List ℕ
+  pub left : OperandAst
+  pub op : Op
+
+-- nothing is read
+abbrev pub no_parts : Parts
+no_parts = record { form = forms.Explain; name = []; columns = []; distinct = false; select = []; from = []; atoms = []; stream = []; left = Integer (pos 0); op = Lt }
+
+-- the word that a token is
+abbrev pub text_of : Lexeme → List ℕ
+text_of (word w) = w
+text_of _ = []
+
+-- the integer that a token is
+abbrev pub number_of : Lexeme → ℤ
+number_of (number z) = z
+number_of _ = pos 0
+
+-- the kind of a token
+abbrev pub kind_at : Lexeme → TokenKind
+kind_at (word w) = kinds.Word
+kind_at (number z) = kinds.Integer
+kind_at (key k) = kinds.Reserved k
+kind_at comma = kinds.Comma
+kind_at point = kinds.Point
+kind_at opening = kinds.Open
+kind_at closing = kinds.Close
+kind_at less = kinds.Less
+kind_at equal = kinds.Equal
+kind_at greater = kinds.Greater
+kind_at semicolon = kinds.Semi
+
+-- the column of this name in the stream that was named last
+abbrev pub column_of : Parts → Lexeme → ColumnAst
+column_of p l = record { stream = p.stream; column = text_of l }
+
+-- what an action makes of the parts
+abbrev pub act : Action → Lexeme → Parts → Parts
+act actions.Nothing l p = p
+act actions.BeginExplain l p = record p { form = forms.Explain }
+act actions.BeginDrop l p = record p { form = forms.Drop }
+act actions.BeginStream l p = record p { form = forms.Stream }
+act actions.BeginQuery l p = record p { form = forms.Query }
+act actions.Named l p = record p { name = text_of l }
+act actions.BeginColumns l p = record p { columns = [] }
+act actions.AddColumn l p = record p { columns = p.columns ++ text_of l ∷ [] }
+act actions.BeginSelect l p = record p { distinct = false; select = [] }
+act actions.SetDistinct l p = record p { distinct = true }
+act actions.StreamIs l p = record p { stream = text_of l }
+act actions.AddSelected l p = record p { select = p.select ++ column_of p l ∷ [] }
+act actions.BeginFrom l p = record p { from = []; atoms = [] }
+act actions.AddFrom l p = record p { from = p.from ++ text_of l ∷ [] }
+act actions.LeftInteger l p = record p { left = Integer (number_of l) }
+act actions.LeftColumnIs l p = record p { left = Column (column_of p l) }
+act actions.OpLess l p = record p { op = Lt }
+act actions.OpEqual l p = record p { op = Eq }
+act actions.OpGreater l p = record p { op = Gt }
+act actions.AddIntegerAtom l p = record p { atoms = p.atoms ++ (record { left = p.left; op = p.op; right = Integer (number_of l) }) ∷ [] }
+act actions.AddColumnAtom l p = record p { atoms = p.atoms ++ (record { left = p.left; op = p.op; right = Column (column_of p l) }) ∷ [] }
+
+-- the statement of a form that the parts are
+abbrev pub built : Form → Parts → Statement
+built forms.Stream p = CreateStream p.name (record { items = p.columns })
+built forms.Query p = CreateQuery p.name (record { distinct = p.distinct; select = record { items = p.select }; from = record { items = p.from }; atoms = record { items = p.atoms } })
+built forms.Explain p = Explain p.name
+built forms.Drop p = DropQuery p.name
+
+-- the statement, where one may end there
+abbrev pub finished : Place → Parts → Option Statement
+finished places.AfterFrom p = Some (built forms.Query p)
+finished places.AfterAtom p = Some (built forms.Query p)
+finished places.Complete p = Some (built p.form p)
+finished places.Ended p = Some (built p.form p)
+finished _ p = None
+
+-- one step, and on from there
+abbrev pub walk_on : Option (Place × Action) → Parts → Lexeme → List Lexeme → (Place → Parts → Result (Place × Parts) (List Lexeme)) → Result (Place × Parts) (List Lexeme)
+walk_on None p l ts on = Err (l ∷ ts)
+walk_on (Some m) p l ts on = on m.0 (act m.1 l p)
+
+-- The place and the parts after the tokens; or what is left from the first token on that begins no statement.
+abbrev pub walk : Place → Parts → List Lexeme → Result (Place × Parts) (List Lexeme)
+walk place p [] = Ok (place, p)
+walk place p (l ∷ ts) = walk_on (step place (kind_at l)) p l ts (λ to q. walk to q ts)
+
+-- whether a statement may end at a place
+abbrev pub may_end : Place → Bool
+may_end places.AfterFrom = true
+may_end places.AfterAtom = true
+may_end places.Complete = true
+may_end places.Ended = true
+may_end _ = false

@@ -1,0 +1,58 @@
+-- Where in a statement its next token stands, and what each token there does.
+use Rattle.std.specs.Prelude.{Option, Some, None}
+use Rattle.bq_text.specs.declared.key.Key.TheVariants.{CreateKey, StreamKey, QueryKey, AsKey, SelectKey, DistinctKey, FromKey, WhereKey, AndKey, ExplainKey, DropKey}
+use Rattle.bq_lexer.specs.declared.token.TokenKind.{TokenKind}
+use Rattle.bq_lexer.specs.declared.token.TokenKind.TheVariants.{Word, Reserved, Integer, Comma, Point, Open, Close, Less, Equal, Greater, Semi}
+use Rattle.bq_parser.specs.declared.places.Place.{Place}
+use Rattle.bq_parser.specs.declared.places.Place.TheVariants.{Start, AfterCreate, StreamName, OpenColumns, ColumnName, AfterColumn, QueryName, QueryAs, QuerySelect, FirstSelected, SelectedStream, SelectedPoint, SelectedColumn, AfterSelected, FromName, AfterFrom, AtomLeft, LeftPoint, LeftColumn, ColumnOp, RightAny, IntegerOp, RightStream, RightPoint, RightColumn, AfterAtom, ExplainName, AfterDrop, DropName, Complete, Ended}
+use Rattle.bq_parser.specs.declared.places.Action.{Action}
+use Rattle.bq_parser.specs.declared.places.Action.TheVariants.{Nothing, BeginExplain, BeginDrop, BeginStream, BeginQuery, Named, BeginColumns, AddColumn, BeginSelect, SetDistinct, StreamIs, AddSelected, BeginFrom, AddFrom, LeftInteger, LeftColumnIs, OpLess, OpEqual, OpGreater, AddIntegerAtom, AddColumnAtom}
+
+-- the place behind a token of this kind, and what the token adds; nothing, where no statement goes on so
+abbrev pub step : Place → TokenKind → Option (Place × Action)
+step Start (Reserved CreateKey) = Some (AfterCreate, Nothing)
+step Start (Reserved ExplainKey) = Some (ExplainName, BeginExplain)
+step Start (Reserved DropKey) = Some (AfterDrop, BeginDrop)
+step AfterCreate (Reserved StreamKey) = Some (StreamName, BeginStream)
+step AfterCreate (Reserved QueryKey) = Some (QueryName, BeginQuery)
+step StreamName Word = Some (OpenColumns, Named)
+step OpenColumns Open = Some (ColumnName, BeginColumns)
+step ColumnName Word = Some (AfterColumn, AddColumn)
+step AfterColumn Comma = Some (ColumnName, Nothing)
+step AfterColumn Close = Some (Complete, Nothing)
+step QueryName Word = Some (QueryAs, Named)
+step QueryAs (Reserved AsKey) = Some (QuerySelect, Nothing)
+step QuerySelect (Reserved SelectKey) = Some (FirstSelected, BeginSelect)
+step FirstSelected (Reserved DistinctKey) = Some (SelectedStream, SetDistinct)
+step FirstSelected Word = Some (SelectedPoint, StreamIs)
+step SelectedStream Word = Some (SelectedPoint, StreamIs)
+step SelectedPoint Point = Some (SelectedColumn, Nothing)
+step SelectedColumn Word = Some (AfterSelected, AddSelected)
+step AfterSelected Comma = Some (SelectedStream, Nothing)
+step AfterSelected (Reserved FromKey) = Some (FromName, BeginFrom)
+step FromName Word = Some (AfterFrom, AddFrom)
+step AfterFrom Comma = Some (FromName, Nothing)
+step AfterFrom (Reserved WhereKey) = Some (AtomLeft, Nothing)
+step AfterFrom Semi = Some (Ended, Nothing)
+step AtomLeft Word = Some (LeftPoint, StreamIs)
+step AtomLeft Integer = Some (IntegerOp, LeftInteger)
+step LeftPoint Point = Some (LeftColumn, Nothing)
+step LeftColumn Word = Some (ColumnOp, LeftColumnIs)
+step ColumnOp Less = Some (RightAny, OpLess)
+step ColumnOp Equal = Some (RightAny, OpEqual)
+step ColumnOp Greater = Some (RightAny, OpGreater)
+step RightAny Word = Some (RightPoint, StreamIs)
+step RightAny Integer = Some (AfterAtom, AddIntegerAtom)
+step IntegerOp Less = Some (RightStream, OpLess)
+step IntegerOp Equal = Some (RightStream, OpEqual)
+step IntegerOp Greater = Some (RightStream, OpGreater)
+step RightStream Word = Some (RightPoint, StreamIs)
+step RightPoint Point = Some (RightColumn, Nothing)
+step RightColumn Word = Some (AfterAtom, AddColumnAtom)
+step AfterAtom (Reserved AndKey) = Some (AtomLeft, Nothing)
+step AfterAtom Semi = Some (Ended, Nothing)
+step ExplainName Word = Some (Complete, Named)
+step AfterDrop (Reserved QueryKey) = Some (DropName, Nothing)
+step DropName Word = Some (Complete, Named)
+step Complete Semi = Some (Ended, Nothing)
+step _ _ = None

@@ -1,0 +1,212 @@
+//! A statement so far, within its limits.
+//!
+//! A draft goes on where a limit is passed, since the whole text is read before a limit is answered: a list keeps as many as it may
+//! have, and says whether there were more; a name that is too long is kept as `_`, and an integer of more than 64 bits as the
+//! greatest one.
+ghost use Rattle.std.specs.Prelude.{◌≡◌, ◌∷◌, []};
+ghost use Rattle.bq_text.specs.Value.{value_of};
+ghost use Rattle.bq_parser.specs.Reading.{no_parts};
+ghost use Rattle.bq_parser.specs.Keeping.{kept_parts};
+ghost use Rattle.bq_parser.specs.DraftSteps.{drafted, no_items, put, kept, or_far, statement_of, column_with, atom_with};
+
+use crate::places::Action;
+use crate::tree::{AtomAst, ColumnAst, OperandAst, SelectAst, Statement};
+use arrayvec::ArrayVec;
+use bq_model::Op;
+use bq_text::Name;
+
+/// Which statement is begun.
+#[derive(Clone, Copy, Debug, PartialEq, Eq)]
+pub enum Form {
+    Stream,
+    Query,
+    Explain,
+    Drop,
+}
+
+/// A list so far: as many as it may have, and whether there were more.
+#[derive(Drop)]
+pub struct Kept<T, const N: usize> {
+    pub list: ArrayVec<T, N>,
+    pub over: bool,
+}
+
+/// A statement so far.
+#[derive(Drop)]
+pub struct Draft {
+    pub form: Form,
+    pub name: Name,
+    pub columns: Kept<Name, 8>,
+    pub distinct: bool,
+    pub select: Kept<ColumnAst, 8>,
+    pub from: Kept<Name, 4>,
+    pub atoms: Kept<AtomAst, 16>,
+    pub stream: Name,
+    pub left: OperandAst,
+    pub op: Op,
+}
+
+impl<T: Default + Drop, const N: usize> Kept<T, N> {
+    // An empty list.
+    fn none() -> Self
+        ensures { result ≡ no_items }
+    {
+        Kept {
+            list: ArrayVec::new(),
+            over: false,
+        }
+    }
+
+    // Keeps one more, where there is room.
+    fn put(&mut self, item: T)
+        ensures { self.new ≡ put N item self.old }
+    {
+        if self.list.is_full() {
+            self.over = true;
+        } else {
+            self.list.push(item);
+        }
+    }
+}
+
+// The name `_`.
+#[tactic(auto, unfolding(bq_text::specs::Name::is_name, bq_text::specs::Key::key_of))]
+fn underscore() -> Name
+    ensures { result ≡ 95 ∷ [] }
+{
+    match Name::read(b"_") {
+        Some(name) => name,
+        None => unreachable!(),
+    }
+}
+
+// The name that a word is, or `_` where it is too long for one.
+fn kept_name(text: &[u8]) -> Name
+    ensures { result ≡ kept text.now }
+{
+    match Name::read(text) {
+        Some(name) => name,
+        None => underscore(),
+    }
+}
+
+// The integer that a text is, or the greatest one where it has more than 64 bits.
+fn kept_integer(text: &[u8]) -> i64
+    ensures { result ≡ or_far (value_of text.now) }
+{
+    match bq_text::read_i64(text) {
+        Some(value) => value,
+        None => i64::MAX,
+    }
+}
+
+impl Draft {
+    /// Takes what a token adds.
+    pub fn take(&mut self, action: Action, text: &[u8])
+        ensures { self.new ≡ drafted action text.now self.old }
+    {
+        match action {
+            Action::Nothing => {}
+            Action::BeginExplain => self.form = Form::Explain,
+            Action::BeginDrop => self.form = Form::Drop,
+            Action::BeginStream => self.form = Form::Stream,
+            Action::BeginQuery => self.form = Form::Query,
+            Action::Named => self.name = kept_name(text),
+            Action::BeginColumns => {
+                self.columns = Kept::none();
+            }
+            Action::AddColumn => self.columns.put(kept_name(text)),
+            Action::BeginSelect => {
+                self.distinct = false;
+                self.select = Kept::none();
+            }
+            Action::SetDistinct => self.distinct = true,
+            Action::StreamIs => self.stream = kept_name(text),
+            Action::AddSelected => {
+                let column = self.column(text);
+                self.select.put(column);
+            }
+            Action::BeginFrom => {
+                self.from = Kept::none();
+                self.atoms = Kept::none();
+            }
+            Action::AddFrom => self.from.put(kept_name(text)),
+            Action::LeftInteger => self.left = OperandAst::Integer(kept_integer(text)),
+            Action::LeftColumnIs => self.left = OperandAst::Column(self.column(text)),
+            Action::OpLess => self.op = Op::Lt,
+            Action::OpEqual => self.op = Op::Eq,
+            Action::OpGreater => self.op = Op::Gt,
+            Action::AddIntegerAtom => {
+                let atom = self.atom(OperandAst::Integer(kept_integer(text)));
+                self.atoms.put(atom);
+            }
+            Action::AddColumnAtom => {
+                let atom = self.atom(OperandAst::Column(self.column(text)));
+                self.atoms.put(atom);
+            }
+        }
+    }
+
+    // The column of this name in the stream that was named last.
+    fn column(&self, text: &[u8]) -> ColumnAst
+        ensures { result ≡ column_with self.now text.now }
+    {
+        ColumnAst {
+            stream: self.stream,
+            column: kept_name(text),
+        }
+    }
+
+    // The atom that this side ends.
+    fn atom(&self, right: OperandAst) -> AtomAst
+        ensures { result ≡ atom_with self.now right }
+    {
+        AtomAst {
+            left: self.left,
+            op: self.op,
+            right,
+        }
+    }
+
+    /// The statement, once it is whole and within its limits.
+    pub fn finish(self) -> Statement
+        ensures { result ≡ statement_of self }
+    {
+        match self.form {
+            Form::Stream => Statement::CreateStream {
+                name: self.name,
+                columns: self.columns.list,
+            },
+            Form::Query => Statement::CreateQuery {
+                name: self.name,
+                select: SelectAst {
+                    distinct: self.distinct,
+                    select: self.select.list,
+                    from: self.from.list,
+                    atoms: self.atoms.list,
+                },
+            },
+            Form::Explain => Statement::Explain { name: self.name },
+            Form::Drop => Statement::DropQuery { name: self.name },
+        }
+    }
+}
+
+/// Nothing is read.
+#[tactic(auto, unfolding(bq_text::specs::Name::is_name, bq_text::specs::Key::key_of))]
+pub fn start() -> Draft
+    ensures { result ≡ kept_parts no_parts }
+{
+    Draft {
+        form: Form::Explain,
+        name: underscore(),
+        columns: Kept::none(),
+        distinct: false,
+        select: Kept::none(),
+        from: Kept::none(),
+        atoms: Kept::none(),
+        stream: underscore(),
+        left: OperandAst::Integer(0),
+        op: Op::Lt,
+    }
+}

@@ -1,0 +1,22 @@
+//! Laws of the definitions, as public functions without a body: the clause is the law.
+ghost use Rattle.bq_parser.specs.Laws.{OneReading, FaultsAreNone, PrintsBack, RowsAreRows};
+
+/// No line can be read as two statements.
+pub fn one_reading()
+    ensures { OneReading }
+{}
+
+/// A line that is refused for its syntax is no statement.
+pub fn faults_are_none()
+    ensures { FaultsAreNone }
+{}
+
+/// What is printed for a statement is read as this statement.
+pub fn prints_back()
+    ensures { PrintsBack }
+{}
+
+/// The row lines are those of one word, blanks or none, and a comma, with anything behind.
+pub fn rows_are_rows()
+    ensures { RowsAreRows }
+{}

@@ -1,0 +1,21 @@
+//! Statements: their grammar, read and printed.
+//!
+//! A line is first classified. What is left of a statement line is cut into tokens, and one pass over them walks a table of places
+//! and fills a draft. The grammar itself is a definition from statements to tokens (`specs/Grammar.antt`); the table is a means of
+//! the code, and the proofs show that both say the same.
+#![tactic(auto)]
+
+mod draft;
+pub mod laws;
+mod limits;
+mod line;
+mod parsing;
+mod places;
+mod printing;
+mod reading;
+mod tree;
+
+pub use line::{LineKind, classify};
+pub use parsing::{ParseError, What, parse};
+pub use printing::print;
+pub use tree::{AtomAst, ColumnAst, OperandAst, SelectAst, Statement};

@@ -1,0 +1,211 @@
+//! The limits of a statement, in their order.
+ghost use Rattle.std.specs.Prelude.{◌≡◌, ◌≤◌, ◌<◌, ◌+◌, ◌++◌, length};
+ghost use Rattle.std.specs.List.{list_any};
+ghost use Rattle.std.specs.Ordering.{int_eq};
+ghost use Rattle.bq_parser.specs.Limits as limits;
+ghost use Rattle.bq_parser.specs.Limits.{column_in, columns_in, number_of_different};
+ghost use Rattle.bq_parser.specs.DraftLimits.{is_long_token, integer_in, integers_in, limit_in_atoms, limit_by, limit_in};
+
+use crate::draft::{Draft, Form};
+use crate::parsing::What;
+use crate::tree::{AtomAst, ColumnAst, OperandAst};
+use arrayvec::ArrayVec;
+use bq_lexer::{Token, TokenKind};
+use bq_text::Name;
+
+/// The greatest integer that a statement may name; the least one is its negative.
+const FARTHEST: i64 = 999_999_999_999_999;
+
+/// The most columns that the atoms of a statement may name.
+const MOST_ATTRS: usize = 12;
+
+/// The most integers that the atoms of a statement may name.
+const MOST_CONSTS: usize = 6;
+
+// Whether the token is a word that is too long for a name.
+fn is_long(token: &Token) -> bool
+    ensures { result ≡ is_long_token token.now }
+{
+    match token.kind {
+        TokenKind::Word => usize::from(token.from) + Name::MOST_BYTES < usize::from(token.to),
+        _ => false,
+    }
+}
+
+// Whether a name is too long.
+fn has_long_name(tokens: &[Token]) -> bool
+    ensures { result ≡ list_any is_long_token tokens.now }
+{
+    tokens.iter().any(|token| is_long(token))
+}
+
+// Whether an integer lies outside the range of those that may be written.
+fn is_far(integer: i64) -> bool
+    ensures { result ≡ limits.is_far integer }
+{
+    integer < -FARTHEST || FARTHEST < integer
+}
+
+// Whether an integer is too far.
+fn has_far(integers: &[i64]) -> bool
+    ensures { result ≡ list_any limits.is_far integers.now }
+{
+    integers.iter().any(|integer| is_far(*integer))
+}
+
+// Whether two columns have the same names.
+fn same_column(a: &ColumnAst, b: &ColumnAst) -> bool
+    ensures { result ≡ limits.same_column a.now b.now }
+{
+    a.stream == b.stream && a.column == b.column
+}
+
+// Whether a column stands among others.
+fn is_among(column: &ColumnAst, others: &[ColumnAst]) -> bool
+    ensures { result ≡ list_any (limits.same_column column.now) others.now }
+{
+    others.iter().any(|other| same_column(column, other))
+}
+
+// How many different columns there are.
+fn different_columns(columns: &[ColumnAst]) -> usize
+    ensures { result ≡ number_of_different limits.same_column columns.now }
+{
+    let mut count = 0;
+    let mut rest = columns;
+    'counting: while let [column, others @ ..] = rest {
+        if !is_among(column, others) {
+            count += 1;
+        }
+        rest = others;
+    }
+    count
+}
+
+// Whether an integer stands among others.
+fn holds_integer(integer: i64, others: &[i64]) -> bool
+    ensures { result ≡ list_any (int_eq integer) others.now }
+{
+    others.iter().any(|other| integer == *other)
+}
+
+// How many different integers there are.
+fn different_integers(integers: &[i64]) -> usize
+    ensures { result ≡ number_of_different int_eq integers.now }
+{
+    let mut count = 0;
+    let mut rest = integers;
+    'counting: while let [integer, others @ ..] = rest {
+        if !holds_integer(*integer, others) {
+            count += 1;
+        }
+        rest = others;
+    }
+    count
+}
+
+// Adds the column that a side of an atom is.
+fn put_column(columns: &mut ArrayVec<ColumnAst, 32>, operand: OperandAst)
+    requires { length columns.old.items < 32 }
+    ensures items { columns.new.items ≡ columns.old.items ++ column_in operand }
+    ensures short { length columns.new.items ≤ length columns.old.items + 1 }
+{
+    match operand {
+        OperandAst::Column(column) => columns.push(column),
+        OperandAst::Integer(_) => {}
+    }
+}
+
+// Adds the integer that a side of an atom is.
+fn put_integer(integers: &mut ArrayVec<i64, 32>, operand: OperandAst)
+    requires { length integers.old.items < 32 }
+    ensures items { integers.new.items ≡ integers.old.items ++ integer_in operand }
+    ensures short { length integers.new.items ≤ length integers.old.items + 1 }
+{
+    match operand {
+        OperandAst::Column(_) => {}
+        OperandAst::Integer(integer) => integers.push(integer),
+    }
+}
+
+// The columns that atoms name.
+fn columns_named(atoms: &[AtomAst]) -> ArrayVec<ColumnAst, 32>
+    requires { length atoms.now ≤ 16 }
+    ensures { result.items ≡ columns_in atoms.now }
+{
+    let mut columns = ArrayVec::new();
+    for atom in atoms {
+        put_column(&mut columns, atom.left);
+        put_column(&mut columns, atom.right);
+    }
+    columns
+}
+
+// The integers that atoms name.
+fn integers_named(atoms: &[AtomAst]) -> ArrayVec<i64, 32>
+    requires { length atoms.now ≤ 16 }
+    ensures { result.items ≡ integers_in atoms.now }
+{
+    let mut integers = ArrayVec::new();
+    for atom in atoms {
+        put_integer(&mut integers, atom.left);
+        put_integer(&mut integers, atom.right);
+    }
+    integers
+}
+
+// The first limit that the atoms pass, where there are not too many of them.
+fn atoms_limit(atoms: &[AtomAst]) -> Option<What>
+    requires { length atoms.now ≤ 16 }
+    ensures { result ≡ limit_in_atoms atoms.now }
+{
+    let columns = columns_named(atoms);
+    if MOST_ATTRS < different_columns(columns.as_slice()) {
+        return Some(What::Attrs);
+    }
+    let integers = integers_named(atoms);
+    if has_far(integers.as_slice()) {
+        return Some(What::Value);
+    }
+    if MOST_CONSTS < different_integers(integers.as_slice()) {
+        return Some(What::Consts);
+    }
+    None
+}
+
+// The first limit that the lists of a statement pass.
+fn lists_limit(draft: &Draft) -> Option<What>
+    ensures { result ≡ limit_by draft.now.form draft.now }
+{
+    match draft.form {
+        Form::Stream => {
+            if draft.columns.over {
+                Some(What::Columns)
+            } else {
+                None
+            }
+        }
+        Form::Query => {
+            if draft.select.over {
+                Some(What::Select)
+            } else if draft.from.over {
+                Some(What::From)
+            } else if draft.atoms.over {
+                Some(What::Atoms)
+            } else {
+                atoms_limit(draft.atoms.list.as_slice())
+            }
+        }
+        Form::Explain | Form::Drop => None,
+    }
+}
+
+/// The first limit that a statement passes, by its tokens and what is kept of it.
+pub fn limit_passed(tokens: &[Token], draft: &Draft) -> Option<What>
+    ensures { result ≡ limit_in tokens.now draft.now }
+{
+    if has_long_name(tokens) {
+        return Some(What::Name);
+    }
+    lists_limit(draft)
+}

@@ -1,0 +1,71 @@
+//! Lines, read as statements.
+ghost use Rattle.std.specs.Prelude.{◌≡◌, ◌≤◌, None, length, MatchResult};
+ghost use Rattle.bq_parser.specs.Reading.{may_end};
+ghost use Rattle.bq_parser.specs.Syntax.{IsStatement};
+ghost use Rattle.bq_parser.specs.Limits.{limit_of};
+ghost use Rattle.bq_parser.specs.Refusal.{IsRefusal};
+
+use crate::limits::limit_passed;
+use crate::places::Place;
+use crate::reading::read_parts;
+use crate::tree::Statement;
+use bq_lexer::lex;
+use thiserror::Error;
+
+/// The limits of a statement, in the order in which they are tried.
+#[derive(Clone, Copy, Debug, PartialEq, Eq)]
+pub enum What {
+    Name,
+    Columns,
+    Select,
+    From,
+    Atoms,
+    Attrs,
+    Value,
+    Consts,
+}
+
+/// Why a line is no statement that is taken.
+#[derive(Clone, Copy, Debug, PartialEq, Eq, Error)]
+pub enum ParseError {
+    /// The text is outside the grammar, which it leaves at this byte.
+    #[error("no statement goes on so at byte {at}")]
+    Syntax { at: u16 },
+    /// The text is inside the grammar and passes a limit, and this one first.
+    #[error("the statement passes a limit")]
+    Limit { what: What },
+}
+
+// Whether a statement may end at a place.
+fn is_end(place: Place) -> bool
+    ensures { result ≡ may_end place }
+{
+    matches!(
+        place,
+        Place::AfterFrom | Place::AfterAtom | Place::Complete | Place::Ended
+    )
+}
+
+/// The statement that a line is.
+pub fn parse(line: &[u8]) -> Result<Statement, ParseError>
+    requires { length line.now ≤ 1024 }
+    ensures { MatchResult result (λ s. IsStatement line.now s × (limit_of s ≡ None)) (λ e. IsRefusal line.now e) }
+{
+    let tokens = match lex(line) {
+        Ok(tokens) => tokens,
+        Err(fault) => return Err(ParseError::Syntax { at: fault.at }),
+    };
+    let (place, draft) = match read_parts(line, tokens.as_slice()) {
+        Ok(found) => found,
+        Err(at) => return Err(ParseError::Syntax { at }),
+    };
+    if !is_end(place) {
+        return Err(ParseError::Syntax {
+            at: line.len() as u16,
+        });
+    }
+    match limit_passed(tokens.as_slice(), &draft) {
+        Some(what) => Err(ParseError::Limit { what }),
+        None => Ok(draft.finish()),
+    }
+}

@@ -1,0 +1,221 @@
+//! Where in a statement its next token stands, and what each token there does.
+ghost use Rattle.std.specs.Prelude.{◌≡◌};
+ghost use Rattle.bq_parser.specs.Steps.{step};
+
+use bq_lexer::TokenKind;
+use bq_text::Key;
+
+/// What stands before the next token.
+#[derive(Clone, Copy, Debug, PartialEq, Eq)]
+pub enum Place {
+    Start,
+    AfterCreate,
+    StreamName,
+    OpenColumns,
+    ColumnName,
+    AfterColumn,
+    QueryName,
+    QueryAs,
+    QuerySelect,
+    FirstSelected,
+    SelectedStream,
+    SelectedPoint,
+    SelectedColumn,
+    AfterSelected,
+    FromName,
+    AfterFrom,
+    AtomLeft,
+    LeftPoint,
+    LeftColumn,
+    ColumnOp,
+    RightAny,
+    IntegerOp,
+    RightStream,
+    RightPoint,
+    RightColumn,
+    AfterAtom,
+    ExplainName,
+    AfterDrop,
+    DropName,
+    Complete,
+    Ended,
+}
+
+/// What a token adds to the statement.
+#[derive(Clone, Copy, Debug, PartialEq, Eq)]
+pub enum Action {
+    Nothing,
+    BeginExplain,
+    BeginDrop,
+    BeginStream,
+    BeginQuery,
+    Named,
+    BeginColumns,
+    AddColumn,
+    BeginSelect,
+    SetDistinct,
+    StreamIs,
+    AddSelected,
+    BeginFrom,
+    AddFrom,
+    LeftInteger,
+    LeftColumnIs,
+    OpLess,
+    OpEqual,
+    OpGreater,
+    AddIntegerAtom,
+    AddColumnAtom,
+}
+
+/// What a token of a kind does at a place, or `None` where it begins no statement.
+pub fn next(place: Place, kind: TokenKind) -> Option<(Place, Action)>
+    ensures { result ≡ step place kind }
+{
+    match place {
+        Place::Start => match kind {
+            TokenKind::Reserved(Key::CreateKey) => Some((Place::AfterCreate, Action::Nothing)),
+            TokenKind::Reserved(Key::ExplainKey) => Some((
+                Place::ExplainName,
+                Action::BeginExplain,
+            )),
+            TokenKind::Reserved(Key::DropKey) => Some((Place::AfterDrop, Action::BeginDrop)),
+            _ => None,
+        },
+        Place::AfterCreate => match kind {
+            TokenKind::Reserved(Key::StreamKey) => Some((Place::StreamName, Action::BeginStream)),
+            TokenKind::Reserved(Key::QueryKey) => Some((Place::QueryName, Action::BeginQuery)),
+            _ => None,
+        },
+        Place::StreamName => match kind {
+            TokenKind::Word => Some((Place::OpenColumns, Action::Named)),
+            _ => None,
+        },
+        Place::OpenColumns => match kind {
+            TokenKind::Open => Some((Place::ColumnName, Action::BeginColumns)),
+            _ => None,
+        },
+        Place::ColumnName => match kind {
+            TokenKind::Word => Some((Place::AfterColumn, Action::AddColumn)),
+            _ => None,
+        },
+        Place::AfterColumn => match kind {
+            TokenKind::Comma => Some((Place::ColumnName, Action::Nothing)),
+            TokenKind::Close => Some((Place::Complete, Action::Nothing)),
+            _ => None,
+        },
+        Place::QueryName => match kind {
+            TokenKind::Word => Some((Place::QueryAs, Action::Named)),
+            _ => None,
+        },
+        Place::QueryAs => match kind {
+            TokenKind::Reserved(Key::AsKey) => Some((Place::QuerySelect, Action::Nothing)),
+            _ => None,
+        },
+        Place::QuerySelect => match kind {
+            TokenKind::Reserved(Key::SelectKey) => Some((
+                Place::FirstSelected,
+                Action::BeginSelect,
+            )),
+            _ => None,
+        },
+        Place::FirstSelected => match kind {
+            TokenKind::Reserved(Key::DistinctKey) => Some((
+                Place::SelectedStream,
+                Action::SetDistinct,
+            )),
+            TokenKind::Word => Some((Place::SelectedPoint, Action::StreamIs)),
+            _ => None,
+        },
+        Place::SelectedStream => match kind {
+            TokenKind::Word => Some((Place::SelectedPoint, Action::StreamIs)),
+            _ => None,
+        },
+        Place::SelectedPoint => match kind {
+            TokenKind::Point => Some((Place::SelectedColumn, Action::Nothing)),
+            _ => None,
+        },
+        Place::SelectedColumn => match kind {
+            TokenKind::Word => Some((Place::AfterSelected, Action::AddSelected)),
+            _ => None,
+        },
+        Place::AfterSelected => match kind {
+            TokenKind::Comma => Some((Place::SelectedStream, Action::Nothing)),
+            TokenKind::Reserved(Key::FromKey) => Some((Place::FromName, Action::BeginFrom)),
+            _ => None,
+        },
+        Place::FromName => match kind {
+            TokenKind::Word => Some((Place::AfterFrom, Action::AddFrom)),
+            _ => None,
+        },
+        Place::AfterFrom => match kind {
+            TokenKind::Comma => Some((Place::FromName, Action::Nothing)),
+            TokenKind::Reserved(Key::WhereKey) => Some((Place::AtomLeft, Action::Nothing)),
+            TokenKind::Semi => Some((Place::Ended, Action::Nothing)),
+            _ => None,
+        },
+        Place::AtomLeft => match kind {
+            TokenKind::Word => Some((Place::LeftPoint, Action::StreamIs)),
+            TokenKind::Integer => Some((Place::IntegerOp, Action::LeftInteger)),
+            _ => None,
+        },
+        Place::LeftPoint => match kind {
+            TokenKind::Point => Some((Place::LeftColumn, Action::Nothing)),
+            _ => None,
+        },
+        Place::LeftColumn => match kind {
+            TokenKind::Word => Some((Place::ColumnOp, Action::LeftColumnIs)),
+            _ => None,
+        },
+        Place::ColumnOp => match kind {
+            TokenKind::Less => Some((Place::RightAny, Action::OpLess)),
+            TokenKind::Equal => Some((Place::RightAny, Action::OpEqual)),
+            TokenKind::Greater => Some((Place::RightAny, Action::OpGreater)),
+            _ => None,
+        },
+        Place::RightAny => match kind {
+            TokenKind::Word => Some((Place::RightPoint, Action::StreamIs)),
+            TokenKind::Integer => Some((Place::AfterAtom, Action::AddIntegerAtom)),
+            _ => None,
+        },
+        Place::IntegerOp => match kind {
+            TokenKind::Less => Some((Place::RightStream, Action::OpLess)),
+            TokenKind::Equal => Some((Place::RightStream, Action::OpEqual)),
+            TokenKind::Greater => Some((Place::RightStream, Action::OpGreater)),
+            _ => None,
+        },
+        Place::RightStream => match kind {
+            TokenKind::Word => Some((Place::RightPoint, Action::StreamIs)),
+            _ => None,
+        },
+        Place::RightPoint => match kind {
+            TokenKind::Point => Some((Place::RightColumn, Action::Nothing)),
+            _ => None,
+        },
+        Place::RightColumn => match kind {
+            TokenKind::Word => Some((Place::AfterAtom, Action::AddColumnAtom)),
+            _ => None,
+        },
+        Place::AfterAtom => match kind {
+            TokenKind::Reserved(Key::AndKey) => Some((Place::AtomLeft, Action::Nothing)),
+            TokenKind::Semi => Some((Place::Ended, Action::Nothing)),
+            _ => None,
+        },
+        Place::ExplainName => match kind {
+            TokenKind::Word => Some((Place::Complete, Action::Named)),
+            _ => None,
+        },
+        Place::AfterDrop => match kind {
+            TokenKind::Reserved(Key::QueryKey) => Some((Place::DropName, Action::Nothing)),
+            _ => None,
+        },
+        Place::DropName => match kind {
+            TokenKind::Word => Some((Place::Complete, Action::Named)),
+            _ => None,
+        },
+        Place::Complete => match kind {
+            TokenKind::Semi => Some((Place::Ended, Action::Nothing)),
+            _ => None,
+        },
+        Place::Ended => None,
+    }
+}

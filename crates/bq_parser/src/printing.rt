@@ -1,0 +1,239 @@
+//! Statements as text.
+ghost use Rattle.std.specs.Prelude.{◌≡◌, ◌++◌, [], codes};
+ghost use Rattle.std.specs.Fmt.{signed_decimal};
+ghost use Rattle.bq_io.specs.Sink.{Writes};
+ghost use Rattle.bq_parser.specs.Printed.{printed_form};
+ghost use Rattle.bq_parser.specs.PrintedParts as parts;
+
+use crate::tree::{AtomAst, ColumnAst, OperandAst, SelectAst, Statement};
+use bq_io::{Sink, WriteFault, write_all, write_pieces};
+use bq_model::Op;
+use bq_text::Name;
+use itoa::Buffer;
+
+// A name, and what stands before it.
+fn put_name<O: Sink>(out: &mut O, lead: &[u8], name: &Name) -> Result<(), WriteFault>
+    ensures { Writes result (O.seen out.old) (O.seen out.new) (lead.now ++ name.now) }
+{
+    let pieces: [&[u8]; 2] = [lead, name.bytes()];
+    write_pieces(out, &pieces)
+}
+
+// Each name behind a comma and a space.
+fn put_more_names<O: Sink>(out: &mut O, names: &[Name]) -> Result<(), WriteFault>
+    ensures { Writes result (O.seen out.old) (O.seen out.new) (parts.each_behind (codes ", ") parts.name_text names.now) }
+{
+    for name in names {
+        match put_name(out, b", ", name) {
+            Ok(()) => {}
+            Err(fault) => return Err(fault),
+        }
+    }
+    Ok(())
+}
+
+// The names of a list, and what stands before it.
+fn put_names<O: Sink>(out: &mut O, lead: &[u8], names: &[Name]) -> Result<(), WriteFault>
+    ensures { Writes result (O.seen out.old) (O.seen out.new) (parts.names_text lead.now names.now) }
+{
+    match names {
+        [] => Ok(()),
+        [first, others @ ..] => match put_name(out, lead, first) {
+            Ok(()) => put_more_names(out, others),
+            Err(fault) => Err(fault),
+        },
+    }
+}
+
+// A column, and what stands before it.
+fn put_column<O: Sink>(out: &mut O, lead: &[u8], column: &ColumnAst) -> Result<(), WriteFault>
+    ensures { Writes result (O.seen out.old) (O.seen out.new) (lead.now ++ parts.column_text column.now) }
+{
+    let pieces: [&[u8]; 4] = [lead, column.stream.bytes(), b".", column.column.bytes()];
+    write_pieces(out, &pieces)
+}
+
+// Each column behind a comma and a space.
+fn put_more_columns<O: Sink>(out: &mut O, columns: &[ColumnAst]) -> Result<(), WriteFault>
+    ensures { Writes result (O.seen out.old) (O.seen out.new) (parts.each_behind (codes ", ") parts.column_text columns.now) }
+{
+    for column in columns {
+        match put_column(out, b", ", column) {
+            Ok(()) => {}
+            Err(fault) => return Err(fault),
+        }
+    }
+    Ok(())
+}
+
+// The selected columns.
+fn put_columns<O: Sink>(out: &mut O, columns: &[ColumnAst]) -> Result<(), WriteFault>
+    ensures { Writes result (O.seen out.old) (O.seen out.new) (parts.columns_text columns.now) }
+{
+    match columns {
+        [] => Ok(()),
+        [first, others @ ..] => match put_column(out, b" ", first) {
+            Ok(()) => put_more_columns(out, others),
+            Err(fault) => Err(fault),
+        },
+    }
+}
+
+// An integer, and what stands before it.
+fn put_integer<O: Sink>(out: &mut O, lead: &[u8], integer: i64) -> Result<(), WriteFault>
+    ensures { Writes result (O.seen out.old) (O.seen out.new) (lead.now ++ signed_decimal integer) }
+{
+    let mut buffer = Buffer::new();
+    let pieces: [&[u8]; 2] = [lead, buffer.format(integer).as_bytes()];
+    write_pieces(out, &pieces)
+}
+
+// A side of an atom, and what stands before it.
+fn put_operand<O: Sink>(out: &mut O, lead: &[u8], operand: &OperandAst) -> Result<(), WriteFault>
+    ensures { Writes result (O.seen out.old) (O.seen out.new) (lead.now ++ parts.operand_text operand.now) }
+{
+    match operand {
+        OperandAst::Column(column) => put_column(out, lead, column),
+        OperandAst::Integer(integer) => put_integer(out, lead, *integer),
+    }
+}
+
+// A comparison between two spaces.
+fn op_text(op: Op) -> &'static [u8]
+    ensures { result.now ≡ parts.op_text op }
+{
+    match op {
+        Op::Lt => b" < ",
+        Op::Eq => b" = ",
+        Op::Gt => b" > ",
+    }
+}
+
+// An atom, and what stands before it.
+fn put_atom<O: Sink>(out: &mut O, lead: &[u8], atom: &AtomAst) -> Result<(), WriteFault>
+    ensures { Writes result (O.seen out.old) (O.seen out.new) (lead.now ++ parts.atom_text atom.now) }
+{
+    match put_operand(out, lead, &atom.left) {
+        Ok(()) => put_operand(out, op_text(atom.op), &atom.right),
+        Err(fault) => Err(fault),
+    }
+}
+
+// Each atom behind AND.
+fn put_more_atoms<O: Sink>(out: &mut O, atoms: &[AtomAst]) -> Result<(), WriteFault>
+    ensures { Writes result (O.seen out.old) (O.seen out.new) (parts.each_behind (codes " AND ") parts.atom_text atoms.now) }
+{
+    for atom in atoms {
+        match put_atom(out, b" AND ", atom) {
+            Ok(()) => {}
+            Err(fault) => return Err(fault),
+        }
+    }
+    Ok(())
+}
+
+// The atoms behind WHERE, where there are any.
+fn put_atoms<O: Sink>(out: &mut O, atoms: &[AtomAst]) -> Result<(), WriteFault>
+    ensures { Writes result (O.seen out.old) (O.seen out.new) (parts.atoms_text atoms.now) }
+{
+    match atoms {
+        [] => Ok(()),
+        [first, others @ ..] => match put_atom(out, b" WHERE ", first) {
+            Ok(()) => put_more_atoms(out, others),
+            Err(fault) => Err(fault),
+        },
+    }
+}
+
+// The streams and the atoms.
+fn put_streams<O: Sink>(out: &mut O, select: &SelectAst) -> Result<(), WriteFault>
+    ensures { Writes result (O.seen out.old) (O.seen out.new) (parts.streams_text select.now) }
+{
+    match put_names(out, b" ", select.from.as_slice()) {
+        Ok(()) => put_atoms(out, select.atoms.as_slice()),
+        Err(fault) => Err(fault),
+    }
+}
+
+// What stands from FROM on.
+fn put_sources<O: Sink>(out: &mut O, select: &SelectAst) -> Result<(), WriteFault>
+    ensures { Writes result (O.seen out.old) (O.seen out.new) (parts.sources_text select.now) }
+{
+    match write_all(out, b" FROM") {
+        Ok(()) => put_streams(out, select),
+        Err(fault) => Err(fault),
+    }
+}
+
+// What stands behind SELECT or DISTINCT.
+fn put_selection<O: Sink>(out: &mut O, select: &SelectAst) -> Result<(), WriteFault>
+    ensures { Writes result (O.seen out.old) (O.seen out.new) (parts.selection_text select.now) }
+{
+    match put_columns(out, select.select.as_slice()) {
+        Ok(()) => put_sources(out, select),
+        Err(fault) => Err(fault),
+    }
+}
+
+// What stands before the selected columns.
+fn put_query_head<O: Sink>(out: &mut O, name: &Name, distinct: bool) -> Result<(), WriteFault>
+    ensures { Writes result (O.seen out.old) (O.seen out.new) (parts.query_head_text name.now distinct) }
+{
+    if distinct {
+        let pieces: [&[u8]; 3] = [b"CREATE QUERY ", name.bytes(), b" AS SELECT DISTINCT"];
+        write_pieces(out, &pieces)
+    } else {
+        let pieces: [&[u8]; 3] = [b"CREATE QUERY ", name.bytes(), b" AS SELECT"];
+        write_pieces(out, &pieces)
+    }
+}
+
+// CREATE QUERY.
+fn put_query<O: Sink>(out: &mut O, name: &Name, select: &SelectAst) -> Result<(), WriteFault>
+    ensures { Writes result (O.seen out.old) (O.seen out.new) (parts.query_text name.now select.now) }
+{
+    match put_query_head(out, name, select.distinct) {
+        Ok(()) => put_selection(out, select),
+        Err(fault) => Err(fault),
+    }
+}
+
+// What stands before the columns of a stream.
+fn put_stream_head<O: Sink>(out: &mut O, name: &Name) -> Result<(), WriteFault>
+    ensures { Writes result (O.seen out.old) (O.seen out.new) (parts.stream_head_text name.now) }
+{
+    let pieces: [&[u8]; 3] = [b"CREATE STREAM ", name.bytes(), b" ("];
+    write_pieces(out, &pieces)
+}
+
+// The columns of a stream and the bracket behind them.
+fn put_stream_columns<O: Sink>(out: &mut O, columns: &[Name]) -> Result<(), WriteFault>
+    ensures { Writes result (O.seen out.old) (O.seen out.new) (parts.names_text [] columns.now ++ codes ")") }
+{
+    match put_names(out, b"", columns) {
+        Ok(()) => write_all(out, b")"),
+        Err(fault) => Err(fault),
+    }
+}
+
+// CREATE STREAM.
+fn put_stream<O: Sink>(out: &mut O, name: &Name, columns: &[Name]) -> Result<(), WriteFault>
+    ensures { Writes result (O.seen out.old) (O.seen out.new) (parts.stream_text name.now columns.now) }
+{
+    match put_stream_head(out, name) {
+        Ok(()) => put_stream_columns(out, columns),
+        Err(fault) => Err(fault),
+    }
+}
+
+/// Writes a statement in its printed form. Where the sink fails, a front of it was written.
+pub fn print<O: Sink>(statement: &Statement, out: &mut O) -> Result<(), WriteFault>
+    ensures { Writes result (O.seen out.old) (O.seen out.new) (printed_form statement.now) }
+{
+    match statement {
+        Statement::CreateStream { name, columns } => put_stream(out, name, columns.as_slice()),
+        Statement::CreateQuery { name, select } => put_query(out, name, select),
+        Statement::Explain { name } => put_name(out, b"EXPLAIN ", name),
+        Statement::DropQuery { name } => put_name(out, b"DROP QUERY ", name),
+    }
+}

@@ -1,0 +1,40 @@
+//! The parts of a statement, read from its tokens.
+//!
+//! One pass over the tokens keeps the place that they lead to, and a draft of the statement. Whether a statement may end at that
+//! place, and whether it is within its limits, is asked behind the last token.
+ghost use Rattle.std.specs.Prelude.{◌≡◌, ◌≤◌, Ok, Err, length, slice_range, MatchResult, All};
+ghost use Rattle.bq_parser.specs.Syntax.{place_after};
+ghost use Rattle.bq_parser.specs.Reading.{no_parts};
+ghost use Rattle.bq_parser.specs.Keeping.{kept_parts, IsCut, IsRead};
+ghost use Rattle.bq_parser.specs.declared.places.Place.TheVariants.{Start};
+
+use crate::draft::{Draft, start};
+use crate::places::{Place, next};
+use bq_lexer::Token;
+
+// The bytes of a token.
+fn text_at<'a>(line: &'a [u8], token: &Token) -> &'a [u8]
+    requires { (token.now.from ≤ token.now.to) × (token.now.to ≤ length line.now) }
+    ensures { result.now ≡ slice_range line.now token.now.from token.now.to }
+{
+    &line[token.from as usize..token.to as usize]
+}
+
+/// The place behind the tokens and what is kept of them, or where the first token stands that begins no statement.
+pub fn read_parts(line: &[u8], tokens: &[Token]) -> Result<(Place, Draft), u16>
+    requires { All (IsCut line.now) tokens.now }
+    ensures { MatchResult result (λ found. IsRead line.now tokens.now found.0 found.1) (λ at. place_after Start tokens.now ≡ Err at) }
+{
+    let mut place = Place::Start;
+    let mut draft = start();
+    for token in tokens {
+        match next(place, token.kind) {
+            Some((to, action)) => {
+                draft.take(action, text_at(line, token));
+                place = to;
+            }
+            None => return Err(token.from),
+        }
+    }
+    Ok((place, draft))
+}

@@ -1,0 +1,79 @@
+-- How many slots are live and how many pages they hold, and a pool with none.
+use Rattle.std.proofs.Common.{◌≡◌, ℕ, ◌+◌, ◌-◌, ◌*◌, ◌/◌, ◌<◌, ◌≤◌, Option, None, Some, List, [], ◌∷◌, length, get_or, is_some, cond, suc, refl, sym, ap, ◌∙◌, inl, inr, arith}
+use Rattle.std.specs.List.{sum_by, count_by}
+use Rattle.std.proofs.lemmas.List.Sums.{sum_by-cons}
+use Rattle.bq_pool.specs.declared.pool.Cell.{Cell}
+use Rattle.bq_pool.specs.Places.{held, extent_at, extents, IsUsed, IsSound}
+use Rattle.bq_pool.proofs.Cells.{length-extents, get_or-extents}
+
+-- two lists that have something at the same places
+count_alike : {A B : Type 0} (xs : List (Option A)) (ys : List (Option B))
+    → length xs ≡ length ys
+    → ((i : ℕ) → is_some (get_or xs i None) ≡ is_some (get_or ys i None))
+    → count_by is_some xs ≡ count_by is_some ys
+count_alike {A} {B} [] [] len h = refl
+count_alike {A} {B} [] (y ∷ ys) len h = absurd (omega arith)
+count_alike {A} {B} (x ∷ xs) [] len h = absurd (omega arith)
+count_alike {A} {B} (x ∷ xs) (y ∷ ys) len h =
+    let rest = count_alike xs ys (omega arith) (λ i. h (suc i)) in
+    let head : is_some x ≡ is_some y = h 0 in
+    sum_by-cons (λ (o : Option A). cond (is_some o) 1 0) x xs
+    ∙ rw head (ap (λ (k : ℕ). cond (is_some y) 1 0 + k) rest)
+    ∙ sym (sum_by-cons (λ (o : Option B). cond (is_some o) 1 0) y ys)
+
+pub live_count : (cells : List Cell) (places : List ℕ) (slots : List (Option ℕ))
+    → count_by is_some (extents cells places slots) ≡ count_by is_some slots
+live_count cells places slots =
+    count_alike (extents cells places slots) slots (length-extents cells places slots)
+    (λ i. rw (get_or-extents cells places slots i) (alike cells places i (get_or slots i None)))
+  where
+    alike : (cells : List Cell) (places : List ℕ) (s : ℕ) (o : Option ℕ) → is_some (extent_at cells places s o) ≡ is_some o
+    alike cells places s None = refl
+    alike cells places s (Some n) = refl
+
+pub none_live : (slots : List (Option ℕ)) → ((i : ℕ) → get_or slots i None ≡ None) → count_by is_some slots ≡ 0
+none_live [] h = refl
+none_live (o ∷ slots) h =
+    let rest = none_live slots (λ i. h (suc i)) in let head : o ≡ None = h 0 in
+    sum_by-cons (λ (p : Option ℕ). cond (is_some p) 1 0) o slots ∙ rw head (omega arith)
+
+pub none_held : (slots : List (Option ℕ)) → ((i : ℕ) → get_or slots i None ≡ None) → sum_by held slots ≡ 0
+none_held [] h = refl
+none_held (o ∷ slots) h =
+    let rest = none_held slots (λ i. h (suc i)) in let head : o ≡ None = h 0 in
+    sum_by-cons held o slots ∙ rw head (omega arith)
+
+-- all pages are free, each at its own place
+pub fresh_sound : (cells : List Cell) (places : List ℕ) (slots : List (Option ℕ)) (pages : ℕ)
+    → pages ≤ 16384
+    → length cells ≡ pages * 64
+    → length places ≡ 262144 + pages
+    → length slots ≡ 64
+    → ((k : ℕ) → k < pages → get_or places (262144 + k) 0 ≡ k)
+    → ((i : ℕ) → get_or slots i None ≡ None)
+    → IsSound cells places slots pages pages
+fresh_sound cells places slots pages few all_cells all_places all_slots own none =
+    let nothing = none_held slots none in
+    record {
+      few = few;
+      all_cells = all_cells;
+      all_places = all_places;
+      all_slots = all_slots;
+      counted = omega arith;
+      small = λ s. rw (none s) (omega arith);
+      disjoint = record {
+        inside = λ q h. let e = page q h in let r = free q h in omega arith;
+        apart = λ q r hq hr e. let eq = page q hq in let er = page r hr in let fq = free q hq in let fr = free r hr in omega arith;
+      };
+    }
+  where
+    free : (q : ℕ) → IsUsed slots pages q → (262144 ≤ q) × (q < 262144 + pages)
+    free q (inr h) = h
+    free q (inl h) = absurd (let z : held (get_or slots (q / 4096) None) ≡ 0 = ap held (none (q / 4096)) in omega arith)
+
+    page : (q : ℕ) → IsUsed slots pages q → get_or places q 0 ≡ q - 262144
+    page q h =
+        let f = free q h in
+        let k : q - 262144 < pages = omega arith in
+        let e : 262144 + (q - 262144) ≡ q = omega arith in
+        rw e at (own (q - 262144) k)

@@ -1,0 +1,9 @@
+pub mod Cells
+pub mod Moves
+pub mod Live
+pub mod Writing
+pub mod Taking
+pub mod GivingBack
+pub mod Fresh
+pub mod CallerLemmas
+pub mod Apart

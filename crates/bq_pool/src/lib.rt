@@ -1,0 +1,11 @@
+//! The room for the cells of all live queries, made once: pages of 64 cells, lent out by extents.
+//!
+//! An extent is a run of cells, numbered from 0, whatever pages it has: they need not be adjacent, so an extent can be
+//! taken wherever enough pages are free. Extents share no page. A page table of one number per page finds a cell in two
+//! index operations; taking and giving back copies the numbers of the extent's pages, and taking empties their cells.
+#![tactic(auto)]
+
+mod pages;
+mod pool;
+
+pub use pool::{Cell, Extent, Pool, PoolError};

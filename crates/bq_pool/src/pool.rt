@@ -1,0 +1,200 @@
+//! The page pool: a clause sees how many pages are free and the cells of each live extent.
+ghost use Rattle.std.specs.Prelude.{◌≡◌, ℕ, ◌+◌, ◌*◌, ◌<◌, ◌≤◌, length, slice_index, slice_index_or, slice_set, IfOk, MatchResult};
+ghost use Rattle.bq_pool.specs.Extents.{cells_of, with_cells, IsLive, IsTaken, IsFull, IsGivenBack, live_extents, lent_pages, AreApart, IsFresh};
+
+use crate::pages::{clear_pages, copy_pages, vacant};
+use bq_io::Steps;
+use std::alloc::{AllocError, Global};
+use std::marker::Model;
+use std::sync::ledger::Ledger;
+use thiserror::Error;
+
+/// The cells of a page.
+const CELLS_PER_PAGE: usize = 64;
+
+/// The places of the page table that a slot has: the most pages of an extent.
+const PAGES_PER_SLOT: usize = 4096;
+
+/// The place of the page table where the free pages begin, after those of 64 slots.
+const FIRST_FREE: usize = 262144;
+
+/// What one cell keeps of the rows that it stands for. It takes 16 bytes.
+#[derive(Clone, Copy, Debug, PartialEq, Eq, Default, Drop)]
+pub enum Cell {
+    /// No row.
+    #[default]
+    Empty,
+    /// The number of rows.
+    Count(u64),
+    /// At least one row.
+    Present,
+    /// The least or the greatest value among the rows.
+    Extreme(i64),
+}
+
+/// Why no extent was taken.
+#[derive(Clone, Copy, Debug, PartialEq, Eq, Error)]
+pub enum PoolError {
+    /// Fewer pages are free than are needed.
+    #[error("{needed} pages are needed and {free} are free")]
+    Full { needed: u32, free: u32 },
+}
+
+/// Pages lent out: 64 cells for each page, numbered from 0. It cannot be dropped or copied; `Pool::give_back` spends it.
+pub struct Extent {
+    slot: u8,
+    pages: u16,
+}
+
+/// All pages, free and lent out. The numbers of the pages of slot s stand in `places` from 4096 * s on, the numbers of
+/// the free pages from 262144 on.
+#[derive(Drop)]
+pub struct Pool {
+    cells: Vec<Cell>,
+    places: Vec<u16>,
+    slots: Vec<Option<u16>>,
+    free: u32,
+    pages: u32,
+}
+
+impl Model for Pool {
+    ghost use Rattle.bq_pool.specs.Extents.{PoolValue};
+
+    ghost Value = { PoolValue };
+
+    ghost use Rattle.bq_pool.specs.Places.{lent, extents, IsSound};
+
+    ghost view = { λ pool. record { pages = pool.pages; free = pool.free; lent = lent pool.places.items pool.slots.items; extents = extents pool.cells.items pool.places.items pool.slots.items } };
+
+    ghost invariant = { λ pool. IsSound pool.cells.items pool.places.items pool.slots.items pool.free pool.pages };
+}
+
+impl Pool {
+    /// A pool of at most 16,384 pages, all of them free, with 64 slots for extents. An error says that memory was not
+    /// found; no other call takes any.
+    pub fn new(alloc: Global, pages: u16) -> Result<Pool, AllocError>
+        requires { pages ≤ 16384 }
+        ensures { IfOk result (λ pool. IsFresh pages pool) }
+    {
+        let cells = vec![in alloc; Cell::Empty; usize::from(pages) * CELLS_PER_PAGE]?;
+        let places = free_places(alloc, pages)?;
+        let slots = no_slots(alloc)?;
+        Ok(Pool {
+            cells,
+            places,
+            slots,
+            free: u32::from(pages),
+            pages: u32::from(pages),
+        })
+    }
+
+    /// The number of free pages: all pages but those of the live extents, which have no page in common.
+    pub fn free(&self) -> u32
+        ensures count { result ≡ self.now.free }
+        ensures others { result + lent_pages self.now ≡ self.now.pages }
+        ensures apart { AreApart self.now }
+    {
+        self.free
+    }
+
+    /// Takes an extent of at most 4,096 pages, also of none, with all its cells empty. `PoolError::Full` comes exactly
+    /// where more pages are needed than are free, and then nothing changes.
+    pub fn take(&mut self, pages: u16) -> Result<Extent, PoolError>
+        requires small { pages ≤ 4096 }
+        requires few { live_extents self.old < 64 }
+        ensures { MatchResult result (λ extent. IsTaken self.old pages self.new extent) (λ refused. IsFull self.old pages self.new refused) }
+    {
+        let needed = u32::from(pages);
+        if needed > self.free {
+            return Err(PoolError::Full {
+                needed,
+                free: self.free,
+            });
+        }
+        let rest = self.free - needed;
+        let slot = vacant(&self.slots);
+        let count = usize::from(pages);
+        let first = slot * PAGES_PER_SLOT;
+        copy_pages(&mut self.places, FIRST_FREE + rest as usize, first, count);
+        clear_pages(&mut self.cells, &self.places, first, count);
+        self.slots[slot] = Some(pages);
+        self.free = rest;
+        Ok(Extent {
+            slot: slot as u8,
+            pages,
+        })
+    }
+
+    /// The cell of an extent with that number. This is one step.
+    pub fn read<L: Ledger>(&self, extent: &Extent, index: u32, steps: &mut Steps<L>) -> Cell
+        requires live { IsLive self.now extent.now }
+        requires within { index < 64 * extent.now.pages }
+        ensures cell { (otherwise : Cell) → result ≡ slice_index_or (cells_of self.now extent.now) index otherwise }
+        ensures steps { steps.new ≡ steps.old + 1 }
+    {
+        steps.tick();
+        let i = index as usize;
+        let page = self.places[usize::from(extent.slot) * PAGES_PER_SLOT + i / CELLS_PER_PAGE];
+        self.cells[usize::from(page) * CELLS_PER_PAGE + i % CELLS_PER_PAGE]
+    }
+
+    /// Writes the cell of an extent with that number, and no other cell of any extent. This is one step.
+    pub fn write<L: Ledger>(
+        &mut self,
+        extent: &Extent,
+        index: u32,
+        cell: Cell,
+        steps: &mut Steps<L>,
+    )
+        requires live { IsLive self.old extent.now }
+        requires within { index < 64 * extent.now.pages }
+        ensures cells { self.new ≡ with_cells self.old extent.now (slice_set (cells_of self.old extent.now) index cell) }
+        ensures steps { steps.new ≡ steps.old + 1 }
+    {
+        steps.tick();
+        let i = index as usize;
+        let page = self.places[usize::from(extent.slot) * PAGES_PER_SLOT + i / CELLS_PER_PAGE];
+        self.cells[usize::from(page) * CELLS_PER_PAGE + i % CELLS_PER_PAGE] = cell;
+    }
+
+    /// Makes the pages of an extent free again.
+    pub fn give_back(&mut self, extent: Extent)
+        requires { IsLive self.old extent }
+        ensures { IsGivenBack self.old extent self.new }
+    {
+        let Extent { slot, pages } = extent;
+        let slot = usize::from(slot);
+        copy_pages(
+            &mut self.places,
+            slot * PAGES_PER_SLOT,
+            FIRST_FREE + self.free as usize,
+            usize::from(pages),
+        );
+        self.slots[slot] = None;
+        self.free += u32::from(pages);
+    }
+}
+
+/// The slots of a pool in which no extent is live.
+fn no_slots(alloc: Global) -> Result<Vec<Option<u16>>, AllocError>
+    ensures length { IfOk result (λ slots. length slots.items ≡ 64) }
+    ensures none { IfOk result (λ slots. (s : ℕ) → slice_index_or slots.items s None ≡ None) }
+{
+    let mut slots = Vec::with_capacity(alloc, 64)?;
+    for i in 0..64usize {
+        slots.push(None)?;
+    }
+    Ok(slots)
+}
+
+/// The page table of a pool in which no extent is live: each free page at the place of its number.
+fn free_places(alloc: Global, pages: u16) -> Result<Vec<u16>, AllocError>
+    ensures length { IfOk result (λ places. length places.items ≡ 262144 + pages) }
+    ensures pages { IfOk result (λ places. (k : ℕ) → k < pages → slice_index places.items (262144 + k) ≡ k) }
+{
+    let mut places = vec![in alloc; 0u16; FIRST_FREE + usize::from(pages)]?;
+    for k in 0..pages {
+        places[FIRST_FREE + usize::from(k)] = k;
+    }
+    Ok(places)
+}
