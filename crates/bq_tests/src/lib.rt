@@ -8,6 +8,10 @@ mod faults;
 #[cfg(test)]
 mod oracle;
 #[cfg(test)]
+mod pool;
+#[cfg(test)]
 mod run;
 #[cfg(test)]
 mod runs;
+#[cfg(test)]
+mod table;
