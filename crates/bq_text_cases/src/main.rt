@@ -116,7 +116,7 @@ fn show<O: Sink>(alloc: Global, line: &[u8], out: &mut O) -> Result<(), Fault> {
 
 fn show_all<O: Sink>(alloc: Global, text: &[u8], out: &mut O) -> Result<(), Fault> {
     let mut rest = text;
-    while !rest.is_empty() {
+    'showing: while !rest.is_empty() {
         let (line, others) = first_line(rest);
         show(alloc, line, out)?;
         rest = others;
