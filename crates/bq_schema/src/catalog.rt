@@ -1,0 +1,206 @@
+//! All streams.
+ghost use Rattle.std.specs.Prelude.{◌≡◌, ◌≤◌, ◌<◌, [], length, not, nat_lt, Some, IfOk, IfSome, IsTrue};
+ghost use Rattle.std.specs.List.{list_any};
+ghost use Rattle.std.specs.Result.{result_map_both};
+ghost use Rattle.std.specs.Str.{bytes_eq};
+ghost use Rattle.bq_schema.specs.Streams.{IsCatalog, stream_number, column_place, shape_at, column_at, added, with_stream};
+ghost use Rattle.bq_schema.specs.Rows.{entry, is_row_line, fields_of, row_for, row_of};
+
+use crate::field::{count_fields, first_word, read_values};
+use crate::row_error::RowError;
+use crate::stream::{Stream, all_differ};
+use crate::stream_error::StreamError;
+use bq_model::Row;
+use bq_text::{Name, key_of};
+use std::alloc::{AllocError, Global};
+use std::marker::Model;
+
+/// The streams in the order in which they were added, at most 16. Room for all of them is taken once.
+#[derive(Drop)]
+pub struct Catalog {
+    streams: Vec<Stream>,
+}
+
+impl Model for Catalog {
+    ghost use Rattle.std.specs.Prelude.{List, ◌≤◌, vec_capacity};
+    ghost use Rattle.bq_schema.specs.Streams.{Shape, IsCatalog};
+
+    ghost Value = { List Shape };
+
+    ghost view = { λ c. c.streams.items };
+
+    ghost invariant = { λ c. IsCatalog c.streams.items × (16 ≤ vec_capacity c.streams) };
+}
+
+impl Catalog {
+    /// The most streams.
+    pub const MOST_STREAMS: usize = 16;
+
+    /// A catalog with no streams. An error says that memory was not found; no other call takes any.
+    pub fn new(alloc: Global) -> Result<Catalog, AllocError>
+        ensures { IfOk result (λ c. c ≡ []) }
+    {
+        Ok(Catalog {
+            streams: Vec::with_capacity(alloc, Catalog::MOST_STREAMS)?,
+        })
+    }
+
+    /// The number of streams, at most 16.
+    pub fn len(&self) -> u8
+        ensures len { result ≡ length self.now }
+        ensures catalog { IsCatalog self.now }
+    {
+        self.streams.len() as u8
+    }
+
+    /// Adds a stream with 1 to 8 columns behind the others, and gives its number. An error leaves the catalog as it was.
+    pub fn add_stream(&mut self, name: Name, columns: &[Name]) -> Result<u8, StreamError>
+        requires some { 0 < length columns.now }
+        requires few { length columns.now ≤ 8 }
+        ensures result { result ≡ added self.old (record { name = name; columns = columns.now }) }
+        ensures streams { self.new ≡ with_stream self.old (record { name = name; columns = columns.now }) }
+    {
+        if self.has(&name) || !all_differ(columns) {
+            return Err(StreamError::Duplicate);
+        }
+        if self.is_full() {
+            return Err(StreamError::TooMany);
+        }
+        let number = self.len();
+        let _stored = self.streams.push(Stream::new(&name, columns)).is_ok();
+        Ok(number)
+    }
+
+    /// Whether there are 16 streams.
+    pub fn is_full(&self) -> bool
+        ensures { result ≡ not (nat_lt (length self.now) 16) }
+    {
+        Catalog::MOST_STREAMS <= self.streams.len()
+    }
+
+    // Whether a stream has the name.
+    fn has(&self, name: &Name) -> bool
+        ensures { result ≡ list_any (λ s. bytes_eq s.name name.now) self.now }
+    {
+        self.streams.iter().any(|s| *s.name() == *name)
+    }
+
+    /// The number of the stream of this name.
+    pub fn find(&self, name: &Name) -> Option<u8>
+        ensures number { result ≡ stream_number self.now name.now }
+        ensures inside { IfSome result (λ number. number < length self.now) }
+    {
+        self.find_bytes(name.bytes())
+    }
+
+    // The number of the stream that has these bytes as its name.
+    fn find_bytes(&self, name: &[u8]) -> Option<u8>
+        ensures number { result ≡ stream_number self.now name.now }
+        ensures inside { IfSome result (λ number. number < length self.now) }
+    {
+        let place = place_of_stream(self.streams.as_slice(), name)?;
+        Some(place as u8)
+    }
+
+    /// The place of the column of this name, from 0, in the stream of this number.
+    pub fn column(&self, stream: u8, name: &Name) -> Option<u8>
+        requires { stream < length self.now }
+        ensures place { result ≡ column_place (shape_at self.now stream).columns name.now }
+        ensures inside { IfSome result (λ place. place < length (shape_at self.now stream).columns) }
+    {
+        let place = place_of_column(self.columns(stream), name)?;
+        Some(place as u8)
+    }
+
+    /// How many columns the stream of this number has: 1 to 8.
+    pub fn width(&self, stream: u8) -> u8
+        requires { stream < length self.now }
+        ensures width { result ≡ length (shape_at self.now stream).columns }
+        ensures some { 0 < result }
+        ensures few { result ≤ 8 }
+    {
+        self.columns(stream).len() as u8
+    }
+
+    /// The name of the stream of this number.
+    pub fn stream_name(&self, stream: u8) -> &Name
+        requires { stream < length self.now }
+        ensures { result.now ≡ (shape_at self.now stream).name }
+    {
+        self.streams[usize::from(stream)].name()
+    }
+
+    /// The name of a column of the stream of this number.
+    pub fn column_name(&self, stream: u8, column: u8) -> &Name
+        requires stream { stream < length self.now }
+        requires column { column < length (shape_at self.now stream).columns }
+        ensures { result.now ≡ column_at (shape_at self.now stream).columns column }
+    {
+        let columns = self.columns(stream);
+        &columns[usize::from(column)]
+    }
+
+    /// The row that a row line is, with the number of its stream. The line begins with a word; blanks or none and a comma
+    /// stand behind it. An error is the first of `RowError` that applies.
+    #[tactic(auto, unfolding(crate::specs::Rows::row_of))]
+    pub fn read_row(&self, line: &[u8]) -> Result<(u8, Row), RowError>
+        requires { IsTrue (is_row_line line.now) }
+        ensures row { result_map_both (λ r. entry r.0 r.1.items) (λ error. error) result ≡ row_of self.now line.now }
+        ensures stream { IfOk result (λ r. r.0 < length self.now) }
+        ensures width { IfOk result (λ r. length r.1.items ≡ length (shape_at self.now r.0).columns) }
+    {
+        let word = first_word(line);
+        if key_of(word).is_some() {
+            return Err(RowError::Syntax);
+        }
+        if Name::MOST_BYTES < word.len() {
+            return Err(RowError::Limit);
+        }
+        match self.find_bytes(word) {
+            None => Err(RowError::UnknownStream),
+            Some(stream) => self.read_fields(stream, line),
+        }
+    }
+
+    // The row of this stream that the fields of a line are.
+    fn read_fields(&self, stream: u8, line: &[u8]) -> Result<(u8, Row), RowError>
+        requires { stream < length self.now }
+        ensures row { result_map_both (λ r. entry r.0 r.1.items) (λ error. error) result ≡ row_for self.now (fields_of line.now) (Some stream) }
+        ensures stream { IfOk result (λ r. r.0 < length self.now) }
+        ensures width { IfOk result (λ r. length r.1.items ≡ length (shape_at self.now r.0).columns) }
+    {
+        if count_fields(line) != usize::from(self.width(stream)) {
+            return Err(RowError::Arity);
+        }
+        match read_values(line) {
+            None => Err(RowError::Value),
+            Some(row) => Ok((stream, row)),
+        }
+    }
+
+    // The columns of the stream of this number, 1 to 8.
+    fn columns(&self, stream: u8) -> &[Name]
+        requires { stream < length self.now }
+        ensures columns { result.now ≡ (shape_at self.now stream).columns }
+        ensures some { 0 < length result.now }
+        ensures few { length result.now ≤ 8 }
+    {
+        self.streams[usize::from(stream)].columns()
+    }
+}
+
+// The place of the stream that has these bytes as its name.
+fn place_of_stream(streams: &[Stream], name: &[u8]) -> Option<usize>
+    ensures place { result ≡ stream_number streams.now name.now }
+    ensures inside { IfSome result (λ place. place < length streams.now) }
+{
+    streams.iter().position(|s| *s.name().bytes() == *name)
+}
+
+// The place of the column of this name.
+fn place_of_column(columns: &[Name], name: &Name) -> Option<usize>
+    ensures place { result ≡ column_place columns.now name.now }
+    ensures inside { IfSome result (λ place. place < length columns.now) }
+{
+    columns.iter().position(|c| *c == *name)
+}

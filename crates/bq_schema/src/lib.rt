@@ -1,0 +1,15 @@
+//! The catalog of streams, and the reading of rows.
+//!
+//! At most 16 streams, each with a name and 1 to 8 columns, in the order in which they were added. The place of a stream in
+//! this order, from 0, is its number. A row line is read for the stream that its first word names.
+#![tactic(auto)]
+
+mod catalog;
+mod field;
+mod row_error;
+mod stream;
+mod stream_error;
+
+pub use catalog::Catalog;
+pub use row_error::RowError;
+pub use stream_error::StreamError;
