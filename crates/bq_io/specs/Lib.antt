@@ -1,4 +1,5 @@
 pub mod Counts
+pub mod Gathered
 pub mod Memory
 pub mod Sink
 pub mod Source

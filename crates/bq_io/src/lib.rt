@@ -5,6 +5,7 @@
 //! it, and then the sink failed.
 #![tactic(auto)]
 
+mod gathered;
 mod memory;
 mod sink;
 mod source;
@@ -13,6 +14,7 @@ mod status;
 mod steps;
 mod write;
 
+pub use gathered::Gathered;
 pub use memory::{MemSink, MemSource, SureSource};
 pub use sink::{Sink, WriteAnswer, WriteFault};
 pub use source::{ReadAnswer, Source};

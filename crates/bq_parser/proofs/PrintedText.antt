@@ -1,6 +1,6 @@
 -- The printed form of a statement is its parts.
 use Rattle.std.proofs.Common.{◌≡◌, ℕ, Bool, true, false, cond, ◌||◌, List, [], ◌∷◌, ◌++◌, flat_map, codes, refl, ap, sym, ◌∙◌, append_assoc, append-nil}
-use Rattle.bq_text.specs.declared.key.Key.TheVariants.{CreateKey, QueryKey, AsKey, SelectKey, DistinctKey, FromKey, WhereKey, AndKey}
+use Rattle.bq_text.specs.declared.key.Key.TheVariants.{SelectKey, DistinctKey, FromKey, WhereKey, AndKey}
 use Rattle.bq_model.specs.declared.atom.Op.{Op}
 use Rattle.bq_model.specs.declared.atom.Op.TheVariants.{Lt, Eq, Gt}
 use Rattle.bq_parser.specs.declared.tree.ColumnAst.{ColumnAst}
@@ -9,9 +9,9 @@ use Rattle.bq_parser.specs.declared.tree.OperandAst.TheVariants.{Column, Integer
 use Rattle.bq_parser.specs.declared.tree.AtomAst.{AtomAst}
 use Rattle.bq_parser.specs.declared.tree.SelectAst.{SelectAst}
 use Rattle.bq_parser.specs.declared.tree.Statement.TheVariants.{CreateStream, CreateQuery}
-use Rattle.bq_parser.specs.Grammar.{Lexeme, word, number, key, comma, opening, closing, less, equal, greater, separated, name_tokens, column_tokens, operand_tokens, op_token, atom_tokens, where_tokens, distinct_tokens}
+use Rattle.bq_parser.specs.Grammar.{Lexeme, word, number, key, comma, opening, closing, less, equal, greater, separated, name_tokens, column_tokens, operand_tokens, op_token, atom_tokens, where_tokens, distinct_tokens, select_tokens}
 use Rattle.bq_parser.specs.Printed.{text_for, joins_next, joins_last, gap, printed, printed_form}
-use Rattle.bq_parser.specs.PrintedParts.{each_behind, listed, name_text, column_text, operand_text, op_text, atom_text, names_text, columns_text, atoms_text, distinct_text, sources_text, selection_text, query_text, stream_text}
+use Rattle.bq_parser.specs.PrintedParts.{each_behind, listed, name_text, column_text, operand_text, op_text, atom_text, names_text, columns_text, atoms_text, distinct_text, sources_text, selection_text, select_text, query_text, stream_text}
 use Rattle.bq_parser.proofs.Said.{select_grouped}
 
 -- what is printed behind a token
@@ -147,11 +147,13 @@ select_behind false s =
     printed_first (key SelectKey) ls
     ∙ ap (λ bs. codes "SELECT" ++ bs) (columns_behind (key SelectKey) refl s.select.items s)
 
+pub select_printed : (s : SelectAst) → select_text s ≡ printed (select_tokens s)
+select_printed s = sym (ap printed (select_grouped s) ∙ select_behind s.distinct s)
+
 pub query_printed : (name : List ℕ) (s : SelectAst) → query_text name s ≡ printed_form (CreateQuery name s)
 query_printed name s =
-    sym (ap (λ ls. printed (key CreateKey ∷ key QueryKey ∷ word name ∷ key AsKey ∷ ls)) (select_grouped s)
-    ∙ ap (λ bs. codes "CREATE QUERY " ++ (name ++ (codes " AS " ++ bs))) (select_behind s.distinct s)
-    ∙ ap (λ bs. codes "CREATE QUERY " ++ bs) (sym (append_assoc name (codes " AS SELECT" ++ distinct_text s.distinct) (selection_text s))))
+    sym (ap (λ bs. codes "CREATE QUERY " ++ (name ++ (codes " AS " ++ bs))) (sym (select_printed s))
+    ∙ ap (λ bs. codes "CREATE QUERY " ++ bs) (sym (append_assoc name (codes " AS ") (select_text s))))
 
 stream_behind : (columns : List (List ℕ)) → behind opening (separated comma name_tokens columns ++ closing ∷ []) ≡ names_text [] columns ++ codes ")"
 stream_behind [] = refl

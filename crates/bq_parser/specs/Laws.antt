@@ -1,12 +1,15 @@
 -- The laws of statements and their texts.
-use Rattle.std.specs.Prelude.{true, ◌≡◌, ℕ, List, None, IsTrue, All}
+use Rattle.std.specs.Prelude.{true, ◌≡◌, ℕ, List, ◌++◌, None, Ok, IsTrue, All}
 use Rattle.bq_text.specs.Name.{is_name}
+use Rattle.bq_model.specs.Query.{QueryValue, IsWithinLimits}
+use Rattle.bq_schema.specs.Streams.{Shape, IsCatalog}
 use Rattle.bq_parser.specs.declared.tree.Statement.{Statement}
 use Rattle.bq_parser.specs.Grammar.{IsWhole}
 use Rattle.bq_parser.specs.Syntax.{IsStatement, IsFault}
 use Rattle.bq_parser.specs.Limits.{names_of, limit_of}
 use Rattle.bq_parser.specs.LineKind.{is_row, IsRowText}
 use Rattle.bq_parser.specs.Printed.{printed_form}
+use Rattle.bq_parser.specs.Resolution.{resolved, HasNamed, named_select}
 
 -- a line is spelled as one statement at most
 abbrev pub OneReading : Type 0
@@ -24,3 +27,11 @@ PrintsBack = (s : Statement) → IsWhole s → All (λ n. IsTrue (is_name n)) (n
 -- the test for a row line finds just the lines of one word, blanks or none, and a comma, with anything behind
 abbrev pub RowsAreRows : Type 0
 RowsAreRows = (bs : List ℕ) → (is_row bs ≡ true → IsRowText bs) × (IsRowText bs → is_row bs ≡ true)
+
+-- a query within the limits, whose streams and columns are there, is the one that its names stand for
+abbrev pub ResolvesBack : Type 0
+ResolvesBack = (streams : List Shape) → (q : QueryValue) → IsCatalog streams → IsWithinLimits q → HasNamed streams q → resolved streams (named_select streams q) ≡ Ok q
+
+-- the streams and columns that a query names are there after more streams were added
+abbrev pub StaysNamed : Type 0
+StaysNamed = (streams : List Shape) → (more : List Shape) → (q : QueryValue) → HasNamed streams q → HasNamed (streams ++ more) q

@@ -9,5 +9,6 @@ pub mod Printed
 pub mod PrintedParts
 pub mod Reading
 pub mod Refusal
+pub mod Resolution
 pub mod Steps
 pub mod Syntax

@@ -71,12 +71,20 @@ abbrev pub selection_text : SelectAst → List ℕ
 selection_text s = columns_text s.select.items ++ sources_text s
 
 -- what stands before the selected columns
-abbrev pub query_head_text : List ℕ → Bool → List ℕ
-query_head_text name distinct = codes "CREATE QUERY " ++ (name ++ (codes " AS SELECT" ++ distinct_text distinct))
+abbrev pub select_head_text : Bool → List ℕ
+select_head_text distinct = codes "SELECT" ++ distinct_text distinct
+
+-- what stands from SELECT on
+abbrev pub select_text : SelectAst → List ℕ
+select_text s = select_head_text s.distinct ++ selection_text s
+
+-- what stands before SELECT
+abbrev pub query_head_text : List ℕ → List ℕ
+query_head_text name = codes "CREATE QUERY " ++ (name ++ codes " AS ")
 
 -- CREATE QUERY
 abbrev pub query_text : List ℕ → SelectAst → List ℕ
-query_text name s = query_head_text name s.distinct ++ selection_text s
+query_text name s = query_head_text name ++ select_text s
 
 -- what stands before the columns of a stream
 abbrev pub stream_head_text : List ℕ → List ℕ

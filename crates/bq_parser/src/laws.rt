@@ -1,5 +1,5 @@
 //! Laws of the definitions, as public functions without a body: the clause is the law.
-ghost use Rattle.bq_parser.specs.Laws.{OneReading, FaultsAreNone, PrintsBack, RowsAreRows};
+ghost use Rattle.bq_parser.specs.Laws.{OneReading, FaultsAreNone, PrintsBack, RowsAreRows, ResolvesBack, StaysNamed};
 
 /// No line can be read as two statements.
 pub fn one_reading()
@@ -19,4 +19,14 @@ pub fn prints_back()
 /// The row lines are those of one word, blanks or none, and a comma, with anything behind.
 pub fn rows_are_rows()
     ensures { RowsAreRows }
+{}
+
+/// A query that is named with the names of a catalog is the query that these names stand for.
+pub fn resolves_back()
+    ensures { ResolvesBack }
+{}
+
+/// The streams and columns that a query names are still there after more streams were added.
+pub fn stays_named()
+    ensures { StaysNamed }
 {}

@@ -9,13 +9,17 @@ mod draft;
 pub mod laws;
 mod limits;
 mod line;
+mod naming;
 mod parsing;
 mod places;
 mod printing;
 mod reading;
+mod resolution;
 mod tree;
 
 pub use line::{LineKind, classify};
+pub use naming::print_query;
 pub use parsing::{ParseError, What, parse};
 pub use printing::print;
+pub use resolution::{ResolveError, resolve};
 pub use tree::{AtomAst, ColumnAst, OperandAst, SelectAst, Statement};

@@ -128,8 +128,8 @@ fn put_integer(integers: &mut ArrayVec<i64, 32>, operand: OperandAst)
     }
 }
 
-// The columns that atoms name.
-fn columns_named(atoms: &[AtomAst]) -> ArrayVec<ColumnAst, 32>
+/// The columns that atoms name.
+pub fn columns_named(atoms: &[AtomAst]) -> ArrayVec<ColumnAst, 32>
     requires { length atoms.now ≤ 16 }
     ensures { result.items ≡ columns_in atoms.now }
 {

@@ -176,24 +176,40 @@ fn put_selection<O: Sink>(out: &mut O, select: &SelectAst) -> Result<(), WriteFa
 }
 
 // What stands before the selected columns.
-fn put_query_head<O: Sink>(out: &mut O, name: &Name, distinct: bool) -> Result<(), WriteFault>
-    ensures { Writes result (O.seen out.old) (O.seen out.new) (parts.query_head_text name.now distinct) }
+fn put_select_head<O: Sink>(out: &mut O, distinct: bool) -> Result<(), WriteFault>
+    ensures { Writes result (O.seen out.old) (O.seen out.new) (parts.select_head_text distinct) }
 {
     if distinct {
-        let pieces: [&[u8]; 3] = [b"CREATE QUERY ", name.bytes(), b" AS SELECT DISTINCT"];
-        write_pieces(out, &pieces)
+        write_all(out, b"SELECT DISTINCT")
     } else {
-        let pieces: [&[u8]; 3] = [b"CREATE QUERY ", name.bytes(), b" AS SELECT"];
-        write_pieces(out, &pieces)
+        write_all(out, b"SELECT")
     }
+}
+
+/// Writes what stands from SELECT on.
+pub fn put_select<O: Sink>(out: &mut O, select: &SelectAst) -> Result<(), WriteFault>
+    ensures { Writes result (O.seen out.old) (O.seen out.new) (parts.select_text select.now) }
+{
+    match put_select_head(out, select.distinct) {
+        Ok(()) => put_selection(out, select),
+        Err(fault) => Err(fault),
+    }
+}
+
+// What stands before SELECT.
+fn put_query_head<O: Sink>(out: &mut O, name: &Name) -> Result<(), WriteFault>
+    ensures { Writes result (O.seen out.old) (O.seen out.new) (parts.query_head_text name.now) }
+{
+    let pieces: [&[u8]; 3] = [b"CREATE QUERY ", name.bytes(), b" AS "];
+    write_pieces(out, &pieces)
 }
 
 // CREATE QUERY.
 fn put_query<O: Sink>(out: &mut O, name: &Name, select: &SelectAst) -> Result<(), WriteFault>
     ensures { Writes result (O.seen out.old) (O.seen out.new) (parts.query_text name.now select.now) }
 {
-    match put_query_head(out, name, select.distinct) {
-        Ok(()) => put_selection(out, select),
+    match put_query_head(out, name) {
+        Ok(()) => put_select(out, select),
         Err(fault) => Err(fault),
     }
 }

@@ -1,4 +1,5 @@
-pub mod ColumnLists
 pub mod LineRuns
-pub mod NameLists
+pub mod OneAnswer
+pub mod Refused
 pub mod RowReply
+pub mod Standing

@@ -1,8 +1,7 @@
-pub mod Asked
-pub mod Decision
-pub mod Forms
+pub mod Answer
+pub mod Answers
+pub mod Decided
 pub mod Laws
 pub mod Replies
 pub mod Session
 pub mod State
-pub mod Streams

@@ -36,9 +36,19 @@ fn word_text(word: Word) -> &'static [u8]
     ensures { result.now ≡ word_text word }
 {
     match word {
-        Word::Unbuilt => b"Unbuilt",
+        Word::LineTooLong => b"LineTooLong",
+        Word::Syntax => b"Syntax",
+        Word::Limit => b"Limit",
+        Word::Duplicate => b"Duplicate",
+        Word::TooMany => b"TooMany",
+        Word::UnknownStream => b"UnknownStream",
+        Word::UnknownColumn => b"UnknownColumn",
+        Word::SelfJoin => b"SelfJoin",
+        Word::UnknownQuery => b"UnknownQuery",
         Word::Arity => b"Arity",
         Word::Value => b"Value",
+        Word::RowLimit => b"RowLimit",
+        Word::Unbuilt => b"Unbuilt",
     }
 }
 

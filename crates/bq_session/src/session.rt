@@ -1,22 +1,34 @@
 //! The session.
-ghost use Rattle.std.specs.Prelude.{◌≡◌, ℕ, ◌+◌, ◌<◌, ◌^◌, List, IfOk};
-ghost use Rattle.bq_session.specs.State.{State, empty};
+ghost use Rattle.std.specs.Prelude.{◌≡◌, ℕ, ◌+◌, ◌<◌, ◌≤◌, ◌^◌, List, None, IfOk, IsTrue, length, nat_lt};
+ghost use Rattle.bq_parser.specs.Grammar.{IsWhole};
+ghost use Rattle.bq_parser.specs.Limits.{limit_of};
+ghost use Rattle.bq_schema.specs.Rows.{is_row_line};
+ghost use Rattle.bq_schema.specs.Streams.{added};
+ghost use Rattle.bq_parser.specs.Resolution.{IsTaken};
+ghost use Rattle.bq_session.specs.State.{State, empty, one_line_more};
+ghost use Rattle.bq_session.specs.Answer.{refused};
+ghost use Rattle.bq_session.specs.Answers.{row_answer, stream_answer, query_answer, statement_answer};
 ghost use Rattle.bq_session.specs.Session.{outcome_of};
 
-use crate::answer::Answer;
-use crate::decision::decide;
 use crate::live::Live;
 use crate::outcome::LineOutcome;
 use crate::reply::{write_created, write_refused, write_registered, write_row};
-use crate::stream::Stream;
-use bq_io::{Sink, WriteFault};
+use crate::row::decide_row;
+use crate::statement::{decide_query, live_word, parse_word, stream_word};
+use crate::word::Word;
+use bq_io::{Sink, Steps, WriteFault};
+use bq_parser::{LineKind, SelectAst, Statement, classify, parse};
+use bq_schema::Catalog;
+use bq_text::Name;
 use std::alloc::{AllocError, Global};
 use std::marker::Model;
+use std::sync::ledger::Ledger;
 
 /// A session: its streams, its live query, and how many rows and lines it has read. No row is kept.
 #[derive(Drop)]
 pub struct Session {
-    streams: Vec<Stream>,
+    limit: u64,
+    catalog: Catalog,
     live: Option<Live>,
     taken: u64,
     lines: u64,
@@ -29,51 +41,154 @@ impl Model for Session {
 
     ghost use Rattle.bq_session.specs.Session.{IsSound};
 
-    ghost view = { λ s. record { streams = s.streams.items; live = s.live; taken = s.taken; lines = s.lines } };
+    ghost view = { λ s. record { limit = s.limit; streams = s.catalog; live = s.live; taken = s.taken; lines = s.lines } };
 
-    ghost invariant = { λ s. IsSound (record { streams = s.streams.items; live = s.live; taken = s.taken; lines = s.lines }) };
+    ghost invariant = { λ s. IsSound (record { limit = s.limit; streams = s.catalog; live = s.live; taken = s.taken; lines = s.lines }) };
 }
 
 impl Session {
-    ghost use Rattle.bq_session.specs.Session.{StandsFor, Answered};
+    ghost use Rattle.bq_session.specs.Session.{StandsFor, Does, StatementDoes, Answered, names_of};
 
-    /// A session with no streams, no queries and no rows.
-    pub fn new(alloc: Global) -> Result<Session, AllocError>
-        ensures { IfOk result (λ session. StandsFor session empty) }
+    /// The most rows of a session.
+    pub const MOST_ROWS: u64 = 1 << 40;
+
+    /// A session with no streams, no queries and no rows, which may take so many rows.
+    pub fn new(alloc: Global, row_limit: u64) -> Result<Session, AllocError>
+        requires some { 0 < row_limit }
+        requires few { row_limit ≤ 2 ^ 40 }
+        ensures { IfOk result (λ session. StandsFor session (empty row_limit)) }
     {
         Ok(Session {
-            streams: Vec::with_capacity(alloc, 4)?,
+            limit: row_limit,
+            catalog: Catalog::new(alloc)?,
             live: None,
             taken: 0,
             lines: 0,
         })
     }
 
-    /// Answers a line: writes the reply and takes the next state, for every state that the session stands for.
-    pub fn line<O: Sink>(&mut self, line: &[u8], out: &mut O) -> LineOutcome
-        requires { self.old.lines + 1 < 2 ^ 64 }
-        ensures { (s : State) → StandsFor self.old s → Answered result s line.now self.new (O.seen out.old) (O.seen out.new) }
+    /// Answers a line of at most 1,024 bytes: writes the reply and takes the next state, for every state that the session
+    /// stands for. A row, and a line that is refused, take no memory. No step is taken while all live queries are filters.
+    pub fn line<O: Sink, L: Ledger>(
+        &mut self,
+        line: &[u8],
+        out: &mut O,
+        steps: &mut Steps<L>,
+    ) -> LineOutcome
+        requires short { length line.now ≤ 1024 }
+        requires lines { self.old.lines + 1 < 2 ^ 64 }
+        ensures reply { (s : State) → StandsFor self.old s → Answered result s line.now self.new (O.seen out.old) (O.seen out.new) }
+        ensures steps { steps.new ≡ steps.old }
     {
-        let answer = decide(&self.streams, self.live.is_some(), line);
+        let (kind, text) = classify(line);
         self.lines += 1;
-        match answer {
-            Answer::Silent => LineOutcome::Done,
-            Answer::Created(stream) => {
-                let name = *stream.name();
-                if self.streams.push(stream).is_err() {
-                    return LineOutcome::Memory;
-                }
-                outcome_of(write_created(out, &name))
+        match kind {
+            LineKind::Nothing => LineOutcome::Done,
+            LineKind::RowLine => self.answer_row(text, out),
+            LineKind::StatementLine => self.answer_text(text, out),
+        }
+    }
+
+    /// Answers a line of more than 1,024 bytes, whatever it is.
+    pub fn long_line<O: Sink>(&mut self, out: &mut O) -> LineOutcome
+        requires lines { self.old.lines + 1 < 2 ^ 64 }
+        ensures reply { (s : State) → (line : List ℕ) → 1024 < length line → StandsFor self.old s
+            → Answered result s line self.new (O.seen out.old) (O.seen out.new) }
+    {
+        self.lines += 1;
+        self.refuse(Word::LineTooLong, out)
+    }
+
+    /// Ends the session.
+    pub fn close(self) {}
+
+    // Whether one more row may be taken.
+    fn has_room(&self) -> bool
+        ensures { result ≡ nat_lt self.now.taken self.now.limit }
+    {
+        self.taken < self.limit
+    }
+
+    // Refuses the line that was counted last.
+    fn refuse<O: Sink>(&self, word: Word, out: &mut O) -> LineOutcome
+        ensures { (s : State) → StandsFor self.now (one_line_more s) → Does result s (refused word) self.now (O.seen out.old) (O.seen out.new) }
+    {
+        outcome_of(write_refused(out, self.lines, word))
+    }
+
+    // Answers a row line that was counted.
+    fn answer_row<O: Sink>(&mut self, text: &[u8], out: &mut O) -> LineOutcome
+        requires row { IsTrue (is_row_line text.now) }
+        requires counted { self.old.taken < self.old.lines }
+        ensures { (s : State) → StandsFor self.old (one_line_more s)
+            → Does result s (row_answer self.old.streams (nat_lt self.old.taken self.old.limit) text.now) self.new (O.seen out.old) (O.seen out.new) }
+    {
+        match decide_row(&self.catalog, self.has_room(), text) {
+            Err(word) => self.refuse(word, out),
+            Ok(row) => {
+                let (stream, values) = row;
+                self.taken += 1;
+                outcome_of(write_row(out, &self.live, stream, &values))
             }
-            Answer::Registered(name, query) => {
+        }
+    }
+
+    // Answers a text that is read as a statement, in a line that was counted.
+    fn answer_text<O: Sink>(&mut self, text: &[u8], out: &mut O) -> LineOutcome
+        requires { length text.now ≤ 1024 }
+        ensures { (s : State) → StandsFor self.old (one_line_more s)
+            → StatementDoes result s self.old text.now self.new (O.seen out.old) (O.seen out.new) }
+    {
+        match parse(text) {
+            Err(error) => self.refuse(parse_word(error), out),
+            Ok(statement) => self.answer_statement(statement, out),
+        }
+    }
+
+    // Answers a statement, in a line that was counted.
+    fn answer_statement<O: Sink>(&mut self, statement: Statement, out: &mut O) -> LineOutcome
+        requires whole { IsWhole statement }
+        requires limits { limit_of statement ≡ None }
+        ensures { (s : State) → StandsFor self.old (one_line_more s)
+            → Does result s (statement_answer self.old.streams (names_of self.old.live) statement) self.new (O.seen out.old) (O.seen out.new) }
+    {
+        match statement {
+            Statement::CreateStream { name, columns } => self.create_stream(
+                name,
+                columns.as_slice(),
+                out,
+            ),
+            Statement::CreateQuery { name, select } => self.create_query(name, &select, out),
+            Statement::Explain { name } => self.refuse(live_word(&self.live, &name), out),
+            Statement::DropQuery { name } => self.refuse(live_word(&self.live, &name), out),
+        }
+    }
+
+    // Creates a stream, in a line that was counted.
+    fn create_stream<O: Sink>(&mut self, name: Name, columns: &[Name], out: &mut O) -> LineOutcome
+        requires some { 0 < length columns.now }
+        requires few { length columns.now ≤ 8 }
+        ensures { (s : State) → StandsFor self.old (one_line_more s)
+            → Does result s (stream_answer name columns.now (added self.old.streams (record { name = name; columns = columns.now }))) self.new (O.seen out.old) (O.seen out.new) }
+    {
+        match self.catalog.add_stream(name, columns) {
+            Ok(_) => outcome_of(write_created(out, &name)),
+            Err(error) => self.refuse(stream_word(error), out),
+        }
+    }
+
+    // Registers a query, in a line that was counted.
+    fn create_query<O: Sink>(&mut self, name: Name, select: &SelectAst, out: &mut O) -> LineOutcome
+        requires { IsTaken select.now }
+        ensures { (s : State) → StandsFor self.old (one_line_more s)
+            → Does result s (query_answer self.old.streams (names_of self.old.live) name select.now) self.new (O.seen out.old) (O.seen out.new) }
+    {
+        match decide_query(&self.catalog, &self.live, &name, select) {
+            Ok(query) => {
                 self.live = Some(Live { name, query });
                 outcome_of(write_registered(out, &name))
             }
-            Answer::Taken(stream, row) => {
-                self.taken += 1;
-                outcome_of(write_row(out, &self.live, stream, &row))
-            }
-            Answer::Refused(word) => outcome_of(write_refused(out, self.lines, word)),
+            Err(word) => self.refuse(word, out),
         }
     }
 }

@@ -1,5 +1,5 @@
 //! Reads and writes that fail, each in turn.
-use crate::run::{Edges, REPLIES, SCRIPT, run_over};
+use crate::run::{Edges, REPLIED, REPLIES, SCRIPT, run_over};
 use bq_io::Status;
 use std::test::Fail;
 
@@ -9,7 +9,7 @@ fn each_write_fails_in_turn(rt: HostRuntime) -> Result<(), Fail> {
     for call in 1..=REPLIES.len() {
         let fails = [call as u64];
         let edges = Edges {
-            piece: 4096,
+            piece: 7,
             read_fails: &[],
             most: 1,
             write_fails: &fails,
@@ -23,21 +23,25 @@ fn each_write_fails_in_turn(rt: HostRuntime) -> Result<(), Fail> {
     Ok(())
 }
 
-// With one byte a call, a source is asked once for each byte and once for the end.
+// In pieces of 7 bytes, the call k of a source fails behind 7 * (k - 1) bytes: the lines that ended in them were answered.
 #[test]
 fn each_read_fails_in_turn(rt: HostRuntime) -> Result<(), Fail> {
-    for call in 1..=SCRIPT.len() + 1 {
+    for call in 1..=SCRIPT.len() / 7 + 2 {
         let fails = [call as u64];
         let edges = Edges {
-            piece: 1,
+            piece: 7,
             read_fails: &fails,
             most: 4096,
             write_fails: &[],
         };
         let (status, output) = run_over(rt.alloc(), SCRIPT, edges)?;
+        let ended = SCRIPT[..SCRIPT.len().min(7 * (call - 1))]
+            .iter()
+            .filter(|b| **b == b'\n')
+            .count();
         assert_eq!(rt; status, Status::ReadFault, "call {call}");
         assert_eq!(rt; status.number(), 4);
-        assert_eq!(rt; output.bytes(), b"".as_slice(), "call {call}");
+        assert_eq!(rt; output.bytes(), &REPLIES[..REPLIED[ended]], "call {call}");
     }
     Ok(())
 }

@@ -33,16 +33,58 @@ fn replies_are_the_same_however_the_bytes_come(rt: HostRuntime) -> Result<(), Fa
     Ok(())
 }
 
+// The script comes in one read, and the second write of the sink would fail.
 #[test]
-fn an_input_is_at_most_1048576_bytes(rt: HostRuntime) -> Result<(), Fail> {
-    for (bytes, ended) in [(1_048_576, Status::Done), (1_048_577, Status::Invalid)] {
-        let mut script = Vec::new(rt.alloc());
-        for _ in 0..bytes {
-            script.push(b'\n')?;
+fn replies_to_one_read_go_out_in_one_write(rt: HostRuntime) -> Result<(), Fail> {
+    let edges = Edges {
+        write_fails: &[2],
+        ..SURE
+    };
+    let (status, output) = run_over(rt.alloc(), SCRIPT, edges)?;
+    assert_eq!(rt; status, Status::Done);
+    assert_eq!(rt; output.bytes(), REPLIES);
+    Ok(())
+}
+
+// 2,000,000 comment lines, and then the script.
+#[test]
+fn comments_are_answered_with_nothing(rt: HostRuntime) -> Result<(), Fail> {
+    let mut text = Vec::with_capacity(rt.alloc(), 6_000_200)?;
+    for _ in 0..2_000_000 {
+        text.extend_from_slice(b"--\n")?;
+    }
+    text.extend_from_slice(b"CREATE STREAM S (a)\nS,x")?;
+    let words = words(rt.alloc(), "run")?;
+    let mut input = SureSource::new(rt.alloc(), &text)?;
+    let mut output = MemSink::new(rt.alloc(), 4096, &[])?;
+    let status = bq_top::run(rt.alloc(), &words, &mut input, &mut output);
+    assert_eq!(rt; status, Status::Done);
+    assert_eq!(rt; output.bytes(), b"ok stream S\nerror 2000002 Value\n".as_slice());
+    Ok(())
+}
+
+// A comment of 1,024 bytes and one of 1,025, behind each number of bytes up to a buffer's length.
+#[test]
+fn a_line_of_1025_bytes_is_too_long_wherever_it_lies(rt: HostRuntime) -> Result<(), Fail> {
+    for before in 0..4096 {
+        let mut text = Vec::with_capacity(rt.alloc(), 8192)?;
+        for _ in 0..before {
+            text.push(b'\n')?;
         }
-        let (status, output) = run_over(rt.alloc(), &script, SURE)?;
-        assert_eq!(rt; status, ended);
-        assert_eq!(rt; output.bytes(), b"".as_slice());
+        for most in [1024, 1025] {
+            for _ in 0..most {
+                text.push(b'-')?;
+            }
+            text.push(b'\n')?;
+        }
+        let (status, output) = run_over(rt.alloc(), &text, SURE)?;
+        assert_eq!(rt; status, Status::Done);
+        let mut number = itoa::Buffer::new();
+        let mut wanted = Vec::new(rt.alloc());
+        wanted.extend_from_slice(b"error ")?;
+        wanted.extend_from_slice(number.format(before + 2).as_bytes())?;
+        wanted.extend_from_slice(b" LineTooLong\n")?;
+        assert_eq!(rt; output.bytes(), wanted.as_slice());
     }
     Ok(())
 }

@@ -1,1 +1,9 @@
-pub mod RunOfLines
+pub mod Endings
+pub mod Exits
+pub mod GivenLines
+pub mod Passing
+pub mod Progress
+pub mod Stops
+pub mod TextLines
+pub mod Told
+pub mod WordForms

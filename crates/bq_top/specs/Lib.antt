@@ -1,2 +1,4 @@
-pub mod Reading
+pub mod Fetched
 pub mod Run
+pub mod Texts
+pub mod Words

@@ -1,56 +1,129 @@
--- What a run does.
-use Rattle.std.specs.Prelude.{◌≡◌, ℕ, List, [], ◌∷◌, ◌++◌, map, codes, String, IsTrue}
-use Rattle.std.specs.String.{string_bytes}
+-- What a run over the lines of a source comes to.
+use Rattle.std.specs.Prelude.{◌≡◌, ℕ, ◌-◌, ◌^◌, ◌<◌, ◌≤◌, ◌⊎◌, ⊤, List, String, [], ◌∷◌, ◌++◌, length, IfSome, IsTrue}
+use Rattle.std.specs.Io.KnownBytes.{Consumes, Appends, Keeps}
 use Rattle.std.specs.declared.alloc.Global.{Global}
 use Rattle.bq_io.specs.Counts.{Rose}
+use Rattle.bq_io.specs.declared.status.Status.{Status}
+use Rattle.bq_io.specs.declared.status.Status.TheVariants as status
 use Rattle.bq_io.specs.Source.{SourceState}
-use Rattle.bq_io.specs.Sink.{SinkState, Wrote}
+use Rattle.bq_io.specs.Sink.{SinkState}
+use Rattle.bq_feed.specs.Reading.{TakesAll}
 use Rattle.bq_text.specs.Lines.{lines}
-use Rattle.bq_session.specs.declared.outcome.LineOutcome.{LineOutcome}
-use Rattle.bq_session.specs.declared.outcome.LineOutcome.TheVariants.{Done, WriteFault, Memory}
-use Rattle.bq_session.specs.State.{empty, answer_of}
-use Rattle.bq_session.specs.Replies.{reply, replies, after, session_text}
-use Rattle.bq_session.specs.Session.{creates}
-use Rattle.bq_top.specs.Reading.{TookAll}
+use Rattle.bq_session.specs.Answer.{Answer}
+use Rattle.bq_session.specs.State.{State, empty, after}
+use Rattle.bq_session.specs.Answers.{IsAnswer}
+use Rattle.bq_session.specs.Replies.{reply_to, replies, AreAnswers, AreReplies}
+use Rattle.bq_session.specs.Session.{Kept, StandsFor, creates}
+use Rattle.bq_top.specs.declared.ending.Ending.{Ending}
+use Rattle.bq_top.specs.declared.ending.Ending.TheVariants.{Done, ReadFault, WriteFault, Memory, ByteLimit}
+use Rattle.bq_top.specs.Texts.{ended_part, IsNear}
+use Rattle.bq_top.specs.Words.{RunsSession, AreOther}
 
--- the words after the program's name are the one word `run`
-abbrev pub AreRun : List (String Global) → Type 0
-AreRun words = map string_bytes words ≡ codes "run" ∷ []
+-- the session stands for some state
+pub record HasState (kept : Kept) : Type 0 where
+  pub state : State
+  pub stands : StandsFor kept state
 
--- The replies to the lines before one line were written, and a front of the reply to that line; then the sink failed.
-pub record StopsAtLine (text : List ℕ) (before now : SinkState) : Type 0 where
+-- The bytes of a text were taken from the source, and this holds of the text.
+pub record Took (source now : SourceState) (P : List ℕ → Type 0) : Type 0 where
+  pub text : List ℕ
+  pub taken : Consumes source.left now.left text
+  pub holds : P text
+
+-- The source was read to its end, and this holds of all its bytes, which are fewer than can be counted.
+pub record TookAll (source now : SourceState) (P : List ℕ → Type 0) : Type 0 where
+  pub text : List ℕ
+  pub all : TakesAll source now text
+  pub few : length text < 2 ^ 64 - 1
+  pub holds : P text
+
+-- The replies to all lines of a text were written. From the empty state on, they are its session text.
+pub record WroteText (s : State) (text : List ℕ) (before now : SinkState) : Type 0 where
+  pub replied : List ℕ
+  pub is_text : AreReplies s text replied
+  pub written : Appends before.written now.written replied
+
+-- One line of a text, what it comes to, and what the lines before it came to. At most 4,096 bytes of the text lie beyond it.
+pub record AtLine (s : State) (text : List ℕ) : Type 0 where
   pub answered : List (List ℕ)
   pub line : List ℕ
   pub others : List (List ℕ)
   pub whole : lines text ≡ answered ++ line ∷ others
+  pub near : IsNear text (answered ++ line ∷ [])
+  pub answers : List Answer
+  pub are : AreAnswers s answered answers
+  pub answer : Answer
+  pub comes : IsAnswer (after s answers) line answer
+
+-- The replies to the lines before one line were written, and a front of the reply to that line.
+pub record StopsAtLine (s : State) (text : List ℕ) (before now : SinkState) : Type 0 where
+  pub at_line : AtLine s text
   pub front : List ℕ
   pub rest : List ℕ
-  pub part : reply (after empty answered) line ≡ front ++ rest
-  pub wrote : Wrote before now (replies empty answered ++ front)
-  pub rose : Rose before.faults now.faults
+  pub part : reply_to (after s at_line.answers) at_line.answer ≡ front ++ rest
+  pub written : Appends before.written now.written (replies s at_line.answers ++ front)
 
--- The replies to the lines before one line were written, and nothing else; that line creates a stream or a query, and no
--- memory was found for it.
-pub record StopsAtCreate (text : List ℕ) (before now : SinkState) : Type 0 where
-  pub answered : List (List ℕ)
-  pub line : List ℕ
-  pub others : List (List ℕ)
-  pub whole : lines text ≡ answered ++ line ∷ others
-  pub creates : IsTrue (creates (answer_of (after empty answered) line))
-  pub wrote : Wrote before now (replies empty answered)
+-- The replies to the lines before one line were written, and nothing else. That line creates a stream or a query, and no word
+-- refuses it; no memory was found for it.
+pub record StopsAtCreate (s : State) (text : List ℕ) (before now : SinkState) : Type 0 where
+  pub at_line : AtLine s text
+  pub creates : IsTrue (creates at_line.answer)
+  pub written : Appends before.written now.written (replies s at_line.answers)
 
--- what was written for a text
-abbrev pub Answers : LineOutcome → List ℕ → SinkState → SinkState → Type 0
-Answers Done text before now = Wrote before now (session_text text)
-Answers WriteFault text before now = StopsAtLine text before now
-Answers Memory text before now = StopsAtCreate text before now
+-- How a run from a state on ends, by the bytes that were taken and those that were written. A sink that does not tell its
+-- bytes does not show at which line it failed.
+abbrev pub Streams : Ending → State → SourceState → SourceState → SinkState → SinkState → Type 0
+Streams Done s source source' sink sink' = TookAll source source' (λ text. WroteText s text sink sink')
+Streams ReadFault s source source' sink sink' = Rose source.faults source'.faults × Took source source' (λ text. WroteText s (ended_part text) sink sink')
+Streams WriteFault s source source' sink sink' = Rose sink.faults sink'.faults × Took source source' (λ text. IfSome sink.written (λ _. StopsAtLine s text sink sink'))
+Streams Memory s source source' sink sink' = Took source source' (λ text. StopsAtCreate s text sink sink')
+Streams ByteLimit s source source' sink sink' = Took source source' (λ text. (length text ≡ 2 ^ 64 - 1) × WroteText s (ended_part text) sink sink')
 
--- the input was read to its end, and this happened for all its bytes
-pub record RunsTo (outcome : LineOutcome) (source source' : SourceState) (sink sink' : SinkState) : Type 0 where
-  pub text : List ℕ
-  pub took : TookAll source source' text
-  pub answers : Answers outcome text sink sink'
+-- a run ends so, and the counts of faults did not fall
+pub record Streamed (ending : Ending) (s : State) (source source' : SourceState) (sink sink' : SinkState) : Type 0 where
+  pub ends : Streams ending s source source' sink sink'
+  pub input_later : source.faults ≤ source'.faults
+  pub output_later : sink.faults ≤ sink'.faults
 
--- nothing was written
-abbrev pub WroteNothing : SinkState → SinkState → Type 0
-WroteNothing sink sink' = Wrote sink sink' []
+-- nothing was read or written
+abbrev pub DidNothing : SourceState → SourceState → SinkState → SinkState → Type 0
+DidNothing source source' sink sink' = Keeps source.left source'.left × Keeps sink.written sink'.written
+
+-- the status that an ending leads to
+abbrev pub status_of : Ending → Status
+status_of Done = status.Done
+status_of ReadFault = status.ReadFault
+status_of WriteFault = status.WriteFault
+status_of Memory = status.Memory
+status_of ByteLimit = status.ByteLimit
+
+-- How a session ends that may take so many rows, by the status. Want of memory may come while it is opened, too.
+abbrev pub SessionEnds : Status → ℕ → SourceState → SourceState → SinkState → SinkState → Type 0
+SessionEnds status.Done limit source source' sink sink' = Streams Done (empty limit) source source' sink sink'
+SessionEnds status.Invalid limit source source' sink sink' = ⊥
+SessionEnds status.Usage limit source source' sink sink' = ⊥
+SessionEnds status.ReadFault limit source source' sink sink' = Streams ReadFault (empty limit) source source' sink sink'
+SessionEnds status.WriteFault limit source source' sink sink' = Streams WriteFault (empty limit) source source' sink sink'
+SessionEnds status.Memory limit source source' sink sink' = DidNothing source source' sink sink' ⊎ Streams Memory (empty limit) source source' sink sink'
+SessionEnds status.ByteLimit limit source source' sink sink' = Streams ByteLimit (empty limit) source source' sink sink'
+
+-- How the program ends, by the status. Usage: the words are none of the forms, and nothing was read or written. Each other status:
+-- the words run a session that may take so many rows, and it ended so.
+abbrev pub Ends : Status → List (String Global) → SourceState → SourceState → SinkState → SinkState → Type 0
+Ends status.Done words source source' sink sink' = RunsSession words (λ limit. SessionEnds status.Done limit source source' sink sink')
+Ends status.Invalid words source source' sink sink' = ⊥
+Ends status.Usage words source source' sink sink' = AreOther words × DidNothing source source' sink sink'
+Ends status.ReadFault words source source' sink sink' = RunsSession words (λ limit. SessionEnds status.ReadFault limit source source' sink sink')
+Ends status.WriteFault words source source' sink sink' = RunsSession words (λ limit. SessionEnds status.WriteFault limit source source' sink sink')
+Ends status.Memory words source source' sink sink' = RunsSession words (λ limit. SessionEnds status.Memory limit source source' sink sink')
+Ends status.ByteLimit words source source' sink sink' = RunsSession words (λ limit. SessionEnds status.ByteLimit limit source source' sink sink')
+
+-- the status is one that comes without a fault of the source or the sink
+abbrev pub IsNoFault : Status → Type 0
+IsNoFault status.Done = ⊤
+IsNoFault status.Invalid = ⊥
+IsNoFault status.Usage = ⊤
+IsNoFault status.ReadFault = ⊥
+IsNoFault status.WriteFault = ⊥
+IsNoFault status.Memory = ⊤
+IsNoFault status.ByteLimit = ⊤

@@ -4,9 +4,11 @@
 //! status what was read and written, and why it came.
 #![tactic(auto)]
 
-mod answering;
+mod ending;
+mod fetch;
 mod program;
-mod reading;
+mod stream;
+mod words;
 
 pub use bq_io::Status;
 pub use program::run;

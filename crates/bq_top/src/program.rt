@@ -1,71 +1,119 @@
 //! The program over its words, its input and its output.
-ghost use Rattle.std.specs.Prelude.{◌≡◌, ◌≤◌, ◌↔◌, ◌⊎◌, IsTrue};
-ghost use Rattle.std.specs.Io.KnownBytes.{Keeps};
+ghost use Rattle.std.specs.Prelude.{◌≡◌, ◌<◌, ◌≤◌, ◌^◌};
 ghost use Rattle.bq_io.specs.Counts.{Rose};
-ghost use Rattle.bq_io.specs.Status.{OnDone, OnInvalid, OnUsage, OnReadFault, OnWriteFault, OnMemory, OnByteLimit};
-ghost use Rattle.bq_top.specs.Reading.{TookTooMany};
-ghost use Rattle.bq_top.specs.Run.{AreRun, RunsTo, WroteNothing};
+ghost use Rattle.bq_feed.specs.Reading.{fresh};
+ghost use Rattle.bq_session.specs.State.{State, empty};
+ghost use Rattle.bq_session.specs.Session.{StandsFor};
+ghost use Rattle.bq_top.specs.Run.{HasState, Streamed, SessionEnds, Ends, IsNoFault, status_of};
 
-use crate::answering::answer_all;
-use crate::reading::{ReadError, read_all};
-use bq_io::{Sink, Source, Status};
-use bq_session::{LineOutcome, Session};
+use crate::ending::Ending;
+use crate::stream::stream;
+use crate::words::row_limit;
+use bq_feed::LineReader;
+use bq_io::{Gathered, Sink, Source, Status, Steps};
+use bq_session::Session;
 use std::alloc::Global;
+use std::marker::Brand;
+use std::sync::ledger::{Blank, Ledger};
 
-fn are_run(words: &[String]) -> bool
-    ensures { IsTrue result ↔ AreRun words.now }
+// Answers the lines of a source, and gathers the replies before they go to the output.
+fn gather<I: Source, O: Sink, L: Ledger>(
+    reader: &mut LineReader,
+    session: &mut Session,
+    input: &mut I,
+    output: &mut O,
+    blank: Blank,
+) -> Ending
+    requires reader { reader.old ≡ fresh }
+    requires stands { HasState session.old }
+    requires lines { session.old.lines ≡ 0 }
+    requires name { blank.name ≡ L.name }
+    requires parts { blank.parts ≡ L.parts }
+    requires some { 0 < L.parts }
+    ensures { (s : State) → StandsFor session.old s → Streamed result s (I.seen input.old) (I.seen input.new) (O.seen output.old) (O.seen output.new) }
 {
-    match words {
-        [word] => word.as_str() == "run",
-        _ => false,
+    let mut steps = Steps::<L>::new(blank);
+    let mut gathered = Gathered::new(output);
+    let ending = stream(reader, session, input, &mut gathered, &mut steps);
+    let Gathered { sink, held: _held } = gathered;
+    // No effect at run time. The proof reads what the output holds from this use.
+    let _ = &*sink;
+    ending
+}
+
+// Answers the lines of a source in a fresh session, and counts no steps.
+fn answer_all<I: Source, O: Sink>(
+    reader: &mut LineReader,
+    session: &mut Session,
+    input: &mut I,
+    output: &mut O,
+) -> Ending
+    requires reader { reader.old ≡ fresh }
+    requires stands { HasState session.old }
+    requires lines { session.old.lines ≡ 0 }
+    ensures { (s : State) → StandsFor session.old s → Streamed result s (I.seen input.old) (I.seen input.new) (O.seen output.old) (O.seen output.new) }
+{
+    gather::<I, O, Brand>(reader, session, input, output, Blank::new(1))
+}
+
+// The status that an ending leads to.
+fn status_of(ending: Ending) -> Status
+    ensures { result ≡ status_of ending }
+{
+    match ending {
+        Ending::Done => Status::Done,
+        Ending::ReadFault => Status::ReadFault,
+        Ending::WriteFault => Status::WriteFault,
+        Ending::Memory => Status::Memory,
+        Ending::ByteLimit => Status::ByteLimit,
     }
 }
 
-/// All that the program does over the words after its name: it reads the whole input, and answers it line by line.
+// Opens a session that may take so many rows, and answers the lines of a source in it.
+fn run_session<I: Source, O: Sink>(
+    alloc: Global,
+    limit: u64,
+    input: &mut I,
+    output: &mut O,
+) -> Status
+    requires some { 0 < limit }
+    requires few { limit ≤ 2 ^ 40 }
+    ensures ends { SessionEnds result limit (I.seen input.old) (I.seen input.new) (O.seen output.old) (O.seen output.new) }
+    ensures input_later { (I.seen input.old).faults ≤ (I.seen input.new).faults }
+    ensures output_later { (O.seen output.old).faults ≤ (O.seen output.new).faults }
+{
+    let Ok(mut reader) = LineReader::new(alloc) else {
+        return Status::Memory;
+    };
+    let Ok(mut session) = Session::new(alloc, limit) else {
+        return Status::Memory;
+    };
+    status_of(answer_all(&mut reader, &mut session, input, output))
+}
+
+/// All that the program does over the words after its name. It answers each line of the input before it reads on, without end,
+/// in buffers of fixed size. Replies are gathered, and written before each read, at the end and where 4,096 bytes are held.
+///
+/// `Ends` says of each status what was read and written: for `Done` the whole input, and its session text; for `ReadFault` and
+/// `ByteLimit` the session text of the lines that ended before; for `WriteFault` the replies to the lines before one line and a
+/// front of the reply to it; for `Memory` nothing, or the replies to the lines before a line that creates a stream or a query.
+/// `Usage` comes exactly where the words are neither `run` nor `run --rows N`. `ReadFault` and `WriteFault` come only where the
+/// count of faults of that object rose in this call.
 pub fn run<I: Source, O: Sink>(
     alloc: Global,
     words: &[String],
     input: &mut I,
     output: &mut O,
 ) -> Status
-    // Usage comes exactly where the words are not the one word `run`, and then nothing is read or written.
-    ensures usage { OnUsage result (Keeps (I.seen input.old).left (I.seen input.new).left × WroteNothing (O.seen output.old) (O.seen output.new)) }
-    ensures usage_exactly { (result ≡ Status.Usage) ↔ (¬ (AreRun words.now)) }
+    ensures ends { Ends result words.now (I.seen input.old) (I.seen input.new) (O.seen output.old) (O.seen output.new) }
 
-    // The input was read to its end, and its session text was written.
-    ensures done { OnDone result (RunsTo LineOutcome.Done (I.seen input.old) (I.seen input.new) (O.seen output.old) (O.seen output.new)) }
-
-    // The input has more bytes than it may have, and nothing was written.
-    ensures invalid { OnInvalid result (TookTooMany (I.seen input.old) (I.seen input.new) × WroteNothing (O.seen output.old) (O.seen output.new)) }
-
-    // The source failed in this call, and nothing was written.
-    ensures read_fault { OnReadFault result (Rose (I.seen input.old).faults (I.seen input.new).faults × WroteNothing (O.seen output.old) (O.seen output.new)) }
-
-    // The sink failed in this call, in the reply to some line.
-    ensures write_fault { OnWriteFault result (RunsTo LineOutcome.WriteFault (I.seen input.old) (I.seen input.new) (O.seen output.old) (O.seen output.new)) }
-
-    // No memory was found: while opening or reading, or on a line that creates a stream or a query.
-    ensures memory { OnMemory result (WroteNothing (O.seen output.old) (O.seen output.new)
-        ⊎ RunsTo LineOutcome.Memory (I.seen input.old) (I.seen input.new) (O.seen output.old) (O.seen output.new)) }
-
-    ensures byte_limit { OnByteLimit result ⊥ }
+    // Where neither the source nor the sink fails, the status is Done, Memory, ByteLimit or Usage.
+    ensures complete { ¬ (Rose (I.seen input.old).faults (I.seen input.new).faults) → ¬ (Rose (O.seen output.old).faults (O.seen output.new).faults) → IsNoFault result }
     ensures input_later { (I.seen input.old).faults ≤ (I.seen input.new).faults }
+    ensures output_later { (O.seen output.old).faults ≤ (O.seen output.new).faults }
 {
-    if !are_run(words) {
-        return Status::Usage;
-    }
-    let Ok(mut session) = Session::new(alloc) else {
-        return Status::Memory;
-    };
-    let text = match read_all(alloc, input) {
-        Ok(text) => text,
-        Err(ReadError::TooLong) => return Status::Invalid,
-        Err(ReadError::Failed) => return Status::ReadFault,
-        Err(ReadError::Memory) => return Status::Memory,
-    };
-    match answer_all(&mut session, &text, output) {
-        LineOutcome::Done => Status::Done,
-        LineOutcome::WriteFault => Status::WriteFault,
-        LineOutcome::Memory => Status::Memory,
+    match row_limit(words) {
+        Some(limit) => run_session(alloc, limit, input, output),
+        None => Status::Usage,
     }
 }

@@ -1,0 +1,107 @@
+-- What a reader of lines keeps, and what its calls do.
+use Rattle.std.specs.Prelude.{◌≡◌, ℕ, ◌+◌, ◌-◌, ◌^◌, ◌<◌, ◌≤◌, ◌≢◌, ◌⊎◌, ⊤, Bool, true, false, List, [], ◌∷◌, ◌++◌, length, IfSome}
+use Rattle.std.specs.List.{All}
+use Rattle.std.specs.Io.KnownBytes.{Consumes}
+use Rattle.bq_io.specs.Counts.{Rose}
+use Rattle.bq_io.specs.Source.{SourceState}
+use Rattle.bq_text.specs.Lines.{lines}
+use Rattle.bq_feed.specs.declared.reader.LineAnswer.{LineAnswer}
+use Rattle.bq_feed.specs.declared.reader.LineAnswer.TheVariants.{Line, TooLong, End, ReadFault, ByteLimit}
+
+-- what a reader of lines keeps
+pub record Reading : Type 0 where
+  -- the bytes that were taken and are of no line yet
+  pub ahead : List ℕ
+  -- the last line that was given
+  pub line : List ℕ
+  -- how many bytes were taken from the source
+  pub taken : ℕ
+  -- how many lines were given or called too long
+  pub lines : ℕ
+  -- whether the source has said that it is at its end
+  pub ended : Bool
+
+-- a reader that has taken nothing
+abbrev pub fresh : Reading
+fresh = record { ahead = []; line = []; taken = 0; lines = 0; ended = false }
+
+-- no byte is LF
+abbrev pub IsPlain : List ℕ → Type 0
+IsPlain bytes = All (λ b. b ≢ 10) bytes
+
+-- the bytes of a line: the line and its LF, or the last line without one, behind which the source has ended
+pub data IsLine (given line : List ℕ) (ended : Bool) : Type 0 where
+  fed : given ≡ line ++ 10 ∷ [] → ended ≡ false → IsLine given line ended
+  last : given ≡ line → 0 < length line → ended ≡ true → IsLine given line ended
+
+-- A line that lies whole in what was read: it is given, and nothing is taken.
+pub record IsBuffered (old new : Reading) : Type 0 where
+  pub whole : old.ahead ≡ new.line ++ 10 ∷ new.ahead
+  pub plain : IsPlain new.line
+  pub short : length new.line ≤ 1024
+  pub taken : new.taken ≡ old.taken
+  pub lines : new.lines ≡ old.lines + 1
+  pub counted : (new.lines ≤ new.taken) × (new.taken < 2 ^ 64)
+  pub ended : (old.ended ≡ false) × (new.ended ≡ false)
+
+-- A line is given that lies whole in what was read, or nothing is changed.
+abbrev pub GivesBuffered : Bool → Reading → Reading → Type 0
+GivesBuffered true old new = IsBuffered old new
+GivesBuffered false old new = new ≡ old
+
+-- What an answer says of the bytes that are given up with it. Line and TooLong: they are a line, of at most 1,024 bytes, or of
+-- more. End: there are none. ReadFault and ByteLimit: they are of a line that has no LF yet.
+abbrev pub Tells : LineAnswer → List ℕ → Reading → Reading → SourceState → SourceState → Type 0
+Tells Line given old new before after = IsLine given new.line new.ended × IsPlain new.line × (length new.line ≤ 1024) × (old.ended ≡ false) × (new.lines ≡ old.lines + 1)
+Tells TooLong given old new before after = (line : List ℕ) × IsLine given line new.ended × IsPlain line × (1024 < length line) × (old.ended ≡ false) × (new.lines ≡ old.lines + 1)
+Tells End given old new before after = (given ≡ []) × (new.ended ≡ true) × (new.lines ≡ old.lines)
+Tells ReadFault given old new before after = IsPlain given × (new.ahead ≡ []) × (old.ended ≡ false) × (new.taken < 2 ^ 64 - 1) × Rose before.faults after.faults
+Tells ByteLimit given old new before after = IsPlain given × (new.ahead ≡ []) × (old.ended ≡ false) × (new.taken ≡ 2 ^ 64 - 1)
+
+-- these bytes were taken, and they are all that were left, where the source tells them
+pub record TakesAll (before after : SourceState) (bytes : List ℕ) : Type 0 where
+  pub taken : Consumes before.left after.left bytes
+  pub whole : IfSome before.left (λ left. left ≡ bytes)
+
+-- What a call for the next line takes from the source, and which bytes it gives up: the first of those that were ahead and
+-- those that were got. At most 4,096 bytes are ahead after it, and there are no more lines than bytes.
+pub record NextLine (answer : LineAnswer) (old new : Reading) (before after : SourceState) : Type 0 where
+  pub got : List ℕ
+  pub given : List ℕ
+  pub whole : old.ahead ++ got ≡ given ++ new.ahead
+  pub taken : Consumes before.left after.left got
+  pub count : new.taken ≡ old.taken + length got
+  pub near : length new.ahead ≤ 4096
+  pub counted : (new.lines ≤ new.taken) × (new.taken < 2 ^ 64)
+  pub tells : Tells answer given old new before after
+  -- at the end nothing is ahead, the limit was not reached, and the source said so now or before
+  pub over : new.ended ≡ true → (new.ahead ≡ []) × (new.taken < 2 ^ 64 - 1) × ((old.ended ≡ true) ⊎ TakesAll before after got)
+  pub later : before.faults ≤ after.faults
+
+-- the text of which lines are still to be given: what is ahead, and what the source has left, where it tells it
+abbrev pub IfToCome : Reading → SourceState → (List ℕ → Type 0) → Type 0
+IfToCome reading source P = IfSome source.left (λ left. P (reading.ahead ++ left))
+
+-- What an answer says of the lines that are still to be given. Line gives the first of them, and TooLong skips it; the others
+-- are still to be given then. At the end there are none.
+abbrev pub GivesLine : LineAnswer → Reading → Reading → SourceState → SourceState → Type 0
+GivesLine Line old new before after = IfToCome old before (λ text. IfToCome new after (λ rest. lines text ≡ new.line ∷ lines rest))
+GivesLine TooLong old new before after = IfToCome old before (λ text. IfToCome new after (λ rest. (line : List ℕ) × (1024 < length line) × (lines text ≡ line ∷ lines rest)))
+GivesLine End old new before after = old.ended ≡ false → IfToCome old before (λ text. lines text ≡ [])
+GivesLine ReadFault old new before after = ⊤
+GivesLine ByteLimit old new before after = ⊤
+
+-- what is held of a line that was begun, and whether it is too long to be held
+abbrev pub IsBegun : Bool → List ℕ → List ℕ → Type 0
+IsBegun true held line = 1024 < length line
+IsBegun false held line = held ≡ line
+
+-- whether nothing of a line was begun
+abbrev pub IsNothing : Bool → List ℕ → Type 0
+IsNothing true line = line ≡ []
+IsNothing false line = 0 < length line
+
+-- what is answered to a line, by whether it is too long
+abbrev pub answer_to : Bool → LineAnswer
+answer_to true = TooLong
+answer_to false = Line

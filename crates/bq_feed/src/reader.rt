@@ -1,0 +1,226 @@
+//! The reader of lines.
+ghost use Rattle.std.specs.Prelude.{◌≡◌, ℕ, ◌≤◌, ◌-◌, ◌^◌, ◌++◌, ◌<◌, min, take, List, length, false, IfOk};
+ghost use Rattle.bq_io.specs.Source.{ReadsSome};
+ghost use Rattle.bq_feed.specs.Reading.{fresh, GivesBuffered, IsBegun, IsNothing, NextLine, GivesLine, answer_to};
+
+use crate::place::feed_place;
+use arrayvec::ArrayVec;
+use bq_io::{ReadAnswer, Source};
+use std::alloc::{AllocError, Global};
+use std::marker::Model;
+
+/// What a reader answers to a call for the next line.
+#[derive(Clone, Copy, Debug, PartialEq, Eq)]
+pub enum LineAnswer {
+    /// There is a line of at most 1,024 bytes, and `line` gives it.
+    Line,
+    /// The next line has more than 1,024 bytes. It was skipped whole, and counts as given.
+    TooLong,
+    /// All lines were given, and the source is at its end.
+    End,
+    /// The source failed. All lines that ended before were given, and the line that was begun is lost.
+    ReadFault,
+    /// 2^64 - 1 bytes were taken, and all lines that ended in them were given. More bytes cannot be counted.
+    ByteLimit,
+}
+
+/// How many bytes are read at a time, at most.
+const CHUNK: usize = 4096;
+
+/// The most bytes of a line.
+const LONGEST: usize = 1024;
+
+/// A reader of lines from a source that gives its bytes in pieces. A line ends at LF, or at the end of the source where it is
+/// not empty. It has at most 1,024 bytes, the LF not counted.
+///
+/// The reader takes at most 4,096 bytes beyond a line. It works in two fixed buffers and takes no memory once it is made. It
+/// is meant to be called with one source until it answers `End`, `ReadFault` or `ByteLimit`.
+#[derive(Drop)]
+pub struct LineReader {
+    // What was read last; of it, `at..filled` is ahead, and `from..to` is of the last line.
+    chunk: Vec<u8>,
+    at: usize,
+    filled: usize,
+    from: usize,
+    to: usize,
+    // What was read before of the last line, or of the line that was begun.
+    begun: ArrayVec<u8, 1024>,
+    taken: u64,
+    lines: u64,
+    ended: bool,
+}
+
+impl Model for LineReader {
+    ghost use Rattle.bq_feed.specs.Reading.{Reading};
+    ghost use Rattle.std.specs.Prelude.{◌++◌, slice_range};
+
+    ghost Value = { Reading };
+
+    ghost view = { λ r. record {
+      ahead = slice_range r.chunk.items r.at r.filled;
+      line = r.begun.items ++ slice_range r.chunk.items r.from r.to;
+      taken = r.taken;
+      lines = r.lines;
+      ended = r.ended;
+    } };
+
+    ghost use Rattle.bq_feed.specs.Buffers.{IsSound};
+    ghost use Rattle.std.specs.Prelude.{vec_len, length};
+
+    ghost invariant = { λ r. IsSound (vec_len r.chunk) r.at r.filled (length r.begun.items) r.from r.to r.taken r.lines r.ended };
+}
+
+// Adds a piece to the line that was begun, and says whether that is too long now.
+fn gather(begun: &mut ArrayVec<u8, 1024>, long: bool, piece: &[u8]) -> bool
+    requires { length begun.old.items ≤ 1024 }
+    ensures line { (line : List ℕ) → IsBegun long begun.old.items line → IsBegun result begun.new.items (line ++ piece.now) }
+    ensures short { length begun.new.items ≤ 1024 }
+{
+    if long {
+        return true;
+    }
+    begun.try_extend_from_slice(piece).is_err()
+}
+
+// Whether nothing of a line was begun.
+fn is_nothing(begun: &ArrayVec<u8, 1024>, long: bool) -> bool
+    ensures { (line : List ℕ) → IsBegun long begun.now.items line → IsNothing result line }
+{
+    !long && begun.is_empty()
+}
+
+// What is answered to a line.
+fn answer_to(long: bool) -> LineAnswer
+    ensures { result ≡ answer_to long }
+{
+    if long {
+        LineAnswer::TooLong
+    } else {
+        LineAnswer::Line
+    }
+}
+
+// How many bytes may be read at once, where so many were taken.
+fn room(taken: u64) -> usize
+    ensures { result ≡ min (2 ^ 64 - 1 - taken) 4096 }
+{
+    (u64::MAX - taken).min(4096) as usize
+}
+
+// Reads at most so many bytes into the front of the buffer.
+fn read_front<I: Source>(input: &mut I, buffer: &mut [u8], most: usize) -> ReadAnswer
+    requires some { 0 < most }
+    requires fits { most ≤ length buffer.old }
+    ensures { ReadsSome result (take most buffer.new) (I.seen input.old) (I.seen input.new) }
+{
+    input.read(&mut buffer[..most])
+}
+
+impl LineReader {
+    /// A reader that has taken nothing. Its two buffers are all the memory that it ever takes.
+    pub fn new(alloc: Global) -> Result<LineReader, AllocError>
+        ensures { IfOk result (λ reader. reader ≡ fresh) }
+    {
+        Ok(LineReader {
+            chunk: vec![in alloc; 0; CHUNK]?,
+            at: 0,
+            filled: 0,
+            from: 0,
+            to: 0,
+            begun: ArrayVec::new(),
+            taken: 0,
+            lines: 0,
+            ended: false,
+        })
+    }
+
+    /// The bytes of the last line that was given, without its LF.
+    pub fn line(&self) -> &[u8]
+        ensures { result.now ≡ self.now.line }
+    {
+        if self.begun.is_empty() {
+            &self.chunk[self.from..self.to]
+        } else {
+            &self.begun
+        }
+    }
+
+    /// Gives the next line if it lies whole in what was read and is not too long. It takes nothing from the source. Where the
+    /// answer is `false`, nothing is changed.
+    pub fn buffered_line(&mut self) -> bool
+        ensures { GivesBuffered result self.old self.new }
+    {
+        match feed_place(&self.chunk[self.at..self.filled]) {
+            Some(n) => {
+                if n > LONGEST {
+                    return false;
+                }
+                self.begun.clear();
+                self.from = self.at;
+                self.to = self.at + n;
+                self.at += n + 1;
+                self.lines += 1;
+                true
+            }
+            None => false,
+        }
+    }
+
+    /// Gives the next line, and takes from the source what it needs for it.
+    pub fn next_line<I: Source>(&mut self, input: &mut I) -> LineAnswer
+        // What is taken from the source, and which bytes are given up.
+        ensures next { NextLine result self.old self.new (I.seen input.old) (I.seen input.new) }
+
+        // The lines of all that is ahead or left, in their order, however the reads cut them.
+        ensures lines { GivesLine result self.old self.new (I.seen input.old) (I.seen input.new) }
+    {
+        if self.ended {
+            return LineAnswer::End;
+        }
+        self.read_line(input)
+    }
+
+    // Reads on until a line is there, or there is none.
+    fn read_line<I: Source>(&mut self, input: &mut I) -> LineAnswer
+        requires { self.old.ended ≡ false }
+        ensures { NextLine result self.old self.new (I.seen input.old) (I.seen input.new) }
+    {
+        self.begun.clear();
+        self.from = 0;
+        self.to = 0;
+        let mut long = false;
+        'reading: loop {
+            match feed_place(&self.chunk[self.at..self.filled]) {
+                Some(n) => {
+                    long = gather(&mut self.begun, long, &self.chunk[self.at..self.at + n]);
+                    self.at += n + 1;
+                    self.lines += 1;
+                    return answer_to(long);
+                }
+                None => {}
+            }
+            long = gather(&mut self.begun, long, &self.chunk[self.at..self.filled]);
+            self.at = 0;
+            self.filled = 0;
+            let most = room(self.taken);
+            if most == 0 {
+                return LineAnswer::ByteLimit;
+            }
+            match read_front(input, &mut self.chunk, most) {
+                ReadAnswer::Got(n) => {
+                    self.filled = n;
+                    self.taken += n as u64;
+                }
+                ReadAnswer::End => {
+                    self.ended = true;
+                    if is_nothing(&self.begun, long) {
+                        return LineAnswer::End;
+                    }
+                    self.lines += 1;
+                    return answer_to(long);
+                }
+                ReadAnswer::Failed => return LineAnswer::ReadFault,
+            }
+        }
+    }
+}

@@ -1,0 +1,61 @@
+-- A line comes to one answer.
+use Rattle.std.proofs.Common.{◌≡◌, ℕ, List, [], ◌∷◌, refl, sym, ap, ◌∙◌, Some, None, arith, subst}
+use Rattle.bq_text.specs.Lines.{lines}
+use Rattle.bq_schema.specs.Streams.{Shape}
+use Rattle.bq_parser.specs.declared.line.LineKind.{LineKind}
+use Rattle.bq_parser.specs.declared.line.LineKind.TheVariants as kinds
+use Rattle.bq_parser.specs.declared.parsing.What.{What}
+use Rattle.bq_parser.specs.declared.tree.Statement.{Statement}
+use Rattle.bq_parser.specs.LineKind.{stripped, kind_of_line}
+use Rattle.bq_parser.specs.Limits.{limit_of}
+use Rattle.bq_parser.proofs.ReadBack.{one_statement}
+use Rattle.bq_session.specs.Answer.{Answer}
+use Rattle.bq_session.specs.Answers.{statement_answer, IsStatementAnswer, outside, limited, stated, IsTextAnswer, IsAnswer, too_long, fits}
+use Rattle.bq_session.specs.State.{State, empty, next_of}
+use Rattle.bq_session.specs.Replies.{replies, AreAnswers}
+use Rattle.bq_session.specs.Laws.{HasOneText}
+
+-- a limit is passed or none is
+limits-differ : (s t : Statement) (what : What) → s ≡ t → limit_of s ≡ Some what → limit_of t ≡ None → ⊥
+limits-differ s t what e p q =
+    let same : limit_of s ≡ limit_of t = ap limit_of e in
+    let bad : Some what ≡ None = cc in
+    cc
+
+one_of_statement : (streams : List Shape) (live : List (List ℕ)) (text : List ℕ) (a b : Answer) → IsStatementAnswer streams live text a → IsStatementAnswer streams live text b → a ≡ b
+one_of_statement streams live text a b (outside n p) (outside m q) = p ∙ sym q
+one_of_statement streams live text a b (outside n p) (limited t w i l q) = absurd (n t i)
+one_of_statement streams live text a b (outside n p) (stated t i l q) = absurd (n t i)
+one_of_statement streams live text a b (limited s v h k p) (outside m q) = absurd (m s h)
+one_of_statement streams live text a b (limited s v h k p) (limited t w i l q) = p ∙ sym q
+one_of_statement streams live text a b (limited s v h k p) (stated t i l q) = absurd (limits-differ s t v (one_statement text s t h i) k l)
+one_of_statement streams live text a b (stated s h k p) (outside m q) = absurd (m s h)
+one_of_statement streams live text a b (stated s h k p) (limited t w i l q) = absurd (limits-differ t s w (one_statement text t s i h) l k)
+one_of_statement streams live text a b (stated s h k p) (stated t i l q) = p ∙ ap (statement_answer streams live) (one_statement text s t h i) ∙ sym q
+
+one_of_text : (s : State) (kind : LineKind) (text : List ℕ) (a b : Answer) → IsTextAnswer s kind text a → IsTextAnswer s kind text b → a ≡ b
+one_of_text s kinds.Nothing text a b p q = p ∙ sym q
+one_of_text s kinds.RowLine text a b p q = p ∙ sym q
+one_of_text s kinds.StatementLine text a b p q = one_of_statement _ _ text a b p q
+
+pub one_answer : (s : State) (line : List ℕ) (a b : Answer) → IsAnswer s line a → IsAnswer s line b → a ≡ b
+one_answer s line a b (too_long m p) (too_long n q) = p ∙ sym q
+one_answer s line a b (too_long m p) (fits n q) = absurd (omega arith)
+one_answer s line a b (fits m p) (too_long n q) = absurd (omega arith)
+one_answer s line a b (fits m p) (fits n q) = one_of_text s (kind_of_line (stripped line)) (stripped line) a b p q
+
+pub one_list : (s : State) (lines : List (List ℕ)) (xs ys : List Answer) → AreAnswers s lines xs → AreAnswers s lines ys → xs ≡ ys
+one_list s [] [] [] p q = refl
+one_list s [] [] (b ∷ ys) p q = absurd q
+one_list s [] (a ∷ xs) ys p q = absurd p
+one_list s (l ∷ lines) [] ys p q = absurd p
+one_list s (l ∷ lines) (a ∷ xs) [] p q = absurd q
+one_list s (l ∷ lines) (a ∷ xs) (b ∷ ys) p q =
+    let same : a ≡ b = one_answer s l a b p.0 q.0 in
+    let rest : AreAnswers (next_of s a) lines ys = subst (λ x. AreAnswers (next_of s x) lines ys) (sym same) q.1 in
+    let tail : xs ≡ ys = one_list (next_of s a) lines xs ys p.1 rest in
+    ap (λ x. x ∷ xs) same ∙ ap (λ l. b ∷ l) tail
+
+pub one_text : HasOneText
+one_text limit text written other p q =
+    p.replied ∙ ap (replies (empty limit)) (one_list (empty limit) (lines text) p.answers q.answers p.answered q.answered) ∙ sym q.replied

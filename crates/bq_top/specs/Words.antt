@@ -1,0 +1,29 @@
+-- The words after the program's name.
+use Rattle.std.specs.Prelude.{◌≡◌, ℕ, ◌<◌, ◌≤◌, ◌^◌, List, [], ◌∷◌, map, codes, decimal, String}
+use Rattle.std.specs.String.{string_bytes}
+use Rattle.std.specs.declared.alloc.Global.{Global}
+
+-- a number of rows that a session may take, in its shortest form
+pub record IsRowLimit (text : List ℕ) (limit : ℕ) : Type 0 where
+  pub digits : text ≡ decimal limit
+  pub some : 0 < limit
+  pub few : limit ≤ 2 ^ 40
+
+-- `run` alone lets a session take 2^40 rows; `run --rows N` lets it take N
+pub data AreRunTexts (texts : List (List ℕ)) (limit : ℕ) : Type 0 where
+  alone : texts ≡ codes "run" ∷ [] → limit ≡ 2 ^ 40 → AreRunTexts texts limit
+  limited : (number : List ℕ) → texts ≡ codes "run" ∷ codes "--rows" ∷ number ∷ [] → IsRowLimit number limit → AreRunTexts texts limit
+
+-- The words run a session that may take so many rows.
+abbrev pub AreRun : List (String Global) → ℕ → Type 0
+AreRun words limit = AreRunTexts (map string_bytes words) limit
+
+-- the words run a session that may take so many rows, and this holds of the number
+pub record RunsSession (words : List (String Global)) (P : ℕ → Type 0) : Type 0 where
+  pub limit : ℕ
+  pub run : AreRun words limit
+  pub holds : P limit
+
+-- no words of the forms
+abbrev pub AreOther : List (String Global) → Type 0
+AreOther words = (limit : ℕ) → AreRun words limit → ⊥

@@ -1,0 +1,84 @@
+//! The words after the program's name.
+ghost use Rattle.std.specs.Prelude.{◌≡◌, ℕ, ◌<◌, ◌≤◌, ◌^◌, IfSome, MatchOption, decimal};
+ghost use Rattle.std.specs.Str.{bytes_eq};
+ghost use Rattle.std.specs.String.{string_bytes};
+ghost use Rattle.bq_top.specs.Words.{IsRowLimit, AreRun, RunsSession};
+
+use bq_session::Session;
+use itoa::Buffer;
+
+/// The most rows that a session may take.
+const MOST_ROWS: u64 = Session::MOST_ROWS;
+
+// The number that a text is in its shortest form.
+fn read_number(text: &str) -> Option<u64>
+    ensures { MatchOption result ((n : ℕ) → n < 2 ^ 64 → text.now ≡ decimal n → ⊥) (λ n. text.now ≡ decimal n) }
+{
+    match text.parse::<u64>() {
+        Err(_) => None,
+        Ok(number) => {
+            let mut buffer = Buffer::new();
+            if buffer.format(number).as_bytes() == text.as_bytes() {
+                Some(number)
+            } else {
+                None
+            }
+        }
+    }
+}
+
+// The number of rows that a text is.
+fn read_row_limit(text: &str) -> Option<u64>
+    ensures { MatchOption result ((n : ℕ) → IsRowLimit text.now n → ⊥) (λ n. IsRowLimit text.now n) }
+{
+    match read_number(text) {
+        None => None,
+        Some(number) => {
+            if number == 0 {
+                None
+            } else if MOST_ROWS < number {
+                None
+            } else {
+                Some(number)
+            }
+        }
+    }
+}
+
+// Whether the word is this text.
+fn is_word(word: &String, text: &str) -> bool
+    ensures { result ≡ bytes_eq (string_bytes word.now) text.now }
+{
+    word.as_str() == text
+}
+
+/// How many rows a session may take, where the words are `run` or `run --rows N`; nothing for all other words.
+pub fn row_limit(words: &[String]) -> Option<u64>
+    ensures limit { MatchOption result ((n : ℕ) → AreRun words.now n → ⊥) (λ n. AreRun words.now n) }
+    ensures within { IfSome result (λ n. (0 < n) × (n ≤ 2 ^ 40)) }
+{
+    limit_of(words)
+}
+
+// The number of rows that the words ask for.
+fn limit_of(words: &[String]) -> Option<u64>
+    ensures { MatchOption result ((n : ℕ) → AreRun words.now n → ⊥) (λ n. AreRun words.now n) }
+{
+    match words {
+        [run] => {
+            if is_word(run, "run") {
+                Some(MOST_ROWS)
+            } else {
+                None
+            }
+        }
+        [run, rows, number] => {
+            if is_word(run, "run") && is_word(rows, "--rows") {
+                read_row_limit(number.as_str())
+            } else {
+                None
+            }
+        }
+        _ => None,
+    }
+}
