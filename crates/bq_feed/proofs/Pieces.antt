@@ -1,6 +1,6 @@
 -- Parts of a buffer.
-use Rattle.std.proofs.Common.{◌≡◌, ℕ, ◌+◌, ◌-◌, ◌<◌, ◌≤◌, ◌≢◌, get_or, List, [], ◌∷◌, ◌++◌, length, take, drop, refl, sym, ap, ◌∙◌, arith, append_assoc, length-drop, append-nil, zero, suc, Bool, true, false}
-use Rattle.std.proofs.lemmas.List.{take-append-drop, drop-take, drop-drop, drop_more, length-take, take-append-le}
+use Rattle.std.proofs.Common.{◌≡◌, ℕ, ◌+◌, ◌-◌, ◌<◌, ◌≤◌, ◌≢◌, get_or, List, [], ◌∷◌, ◌++◌, length, take, drop, refl, sym, ap, ◌∙◌, subst, arith, append_assoc, length-drop, length-append, append-nil, zero, suc, Bool, true, false}
+use Rattle.std.proofs.lemmas.List.{take-append-drop, drop-take, drop-drop, drop_more, length-take, take-append-le, take_all}
 use Rattle.std.proofs.lemmas.List.Elements.{All-append}
 use Rattle.std.specs.List.{slice_range}
 use Rattle.bq_feed.specs.Reading.{IsPlain}
@@ -74,3 +74,27 @@ not-true false h = refl
 pub empty-list : (xs : List ℕ) → length xs ≡ 0 → xs ≡ []
 empty-list [] e = refl
 empty-list (x ∷ xs) e = absurd (omega arith)
+
+later-plain : (b : ℕ) (bytes : List ℕ) → IsPlain (b ∷ bytes) → IsPlain bytes
+later-plain b bytes plain = λ k d lt. plain (suc k) d (omega arith)
+
+-- an LF does not stand in a front that has none
+pub plain-front : (n : ℕ) (line rest : List ℕ) → IsPlain (take n (line ++ 10 ∷ rest)) → n ≤ length line
+plain-front zero line rest plain = omega arith
+plain-front (suc n) [] rest plain = absurd (plain 0 0 (omega arith) refl)
+plain-front (suc n) (b ∷ line) rest plain =
+    let shorter = plain-front n line rest (later-plain b (take n (line ++ 10 ∷ rest)) plain) in
+    omega arith
+
+-- where a long front has no LF, a line that lies whole is longer
+pub long-line : (bytes line rest : List ℕ) (n : ℕ) → IsPlain (take n bytes) → 1024 < n → bytes ≡ line ++ 10 ∷ rest → 1024 < length line
+long-line bytes line rest n plain lt e =
+    let longer : n ≤ length line = plain-front n line rest (subst (λ l. IsPlain (take n l)) e plain) in
+    omega arith
+
+-- where there is no LF, no line lies whole
+pub no-whole-line : (bytes line rest : List ℕ) → IsPlain bytes → bytes ≡ line ++ 10 ∷ rest → 1024 < length line
+no-whole-line bytes line rest plain e =
+    let all : IsPlain (take (length bytes) bytes) = subst IsPlain (sym (take_all (length bytes) bytes (omega arith))) plain in
+    let longer : length bytes ≤ length line = plain-front (length bytes) line rest (subst (λ l. IsPlain (take (length bytes) l)) e all) in
+    absurd (omega (arith, longer, ap length e, length-append line (10 ∷ rest)))

@@ -44,10 +44,15 @@ pub record IsBuffered (old new : Reading) : Type 0 where
   pub counted : (new.lines ≤ new.taken) × (new.taken < 2 ^ 64)
   pub ended : (old.ended ≡ false) × (new.ended ≡ false)
 
--- A line is given that lies whole in what was read, or nothing is changed.
+-- Nothing is changed: what begins ahead and lies whole in what was read, if anything does, is too long.
+pub record NoneBuffered (old new : Reading) : Type 0 where
+  pub same : new ≡ old
+  pub long : (line rest : List ℕ) → IsPlain line → old.ahead ≡ line ++ 10 ∷ rest → 1024 < length line
+
+-- The next line is given exactly where it lies whole in what was read and is not too long.
 abbrev pub GivesBuffered : Bool → Reading → Reading → Type 0
 GivesBuffered true old new = IsBuffered old new
-GivesBuffered false old new = new ≡ old
+GivesBuffered false old new = NoneBuffered old new
 
 -- What an answer says of the bytes that are given up with it. Line and TooLong: they are a line, of at most 1,024 bytes, or of
 -- more. End: there are none. ReadFault and ByteLimit: they are of a line that has no LF yet.

@@ -145,8 +145,8 @@ impl LineReader {
         }
     }
 
-    /// Gives the next line if it lies whole in what was read and is not too long. It takes nothing from the source. Where the
-    /// answer is `false`, nothing is changed.
+    /// Gives the next line exactly where it lies whole in what was read and is not too long. It takes nothing from the source.
+    /// Where the answer is `false`, nothing is changed.
     pub fn buffered_line(&mut self) -> bool
         ensures { GivesBuffered result self.old self.new }
     {

@@ -1,5 +1,6 @@
 -- The tokens of a line: at each place the longest text that is a token.
-use Rattle.std.specs.Prelude.{ℕ, zero, suc, ◌+◌, ◌-◌, Bool, ◌||◌, ◌==◌, if◌then◌else◌, List, [], ◌∷◌, length, take, Option, Some, None, Result, Ok, Err}
+pub use Rattle.bq_text.specs.Blank.{is_blank}
+use Rattle.std.specs.Prelude.{ℕ, zero, suc, ◌+◌, ◌-◌, ◌==◌, if◌then◌else◌, List, [], ◌∷◌, length, take, Option, Some, None, Result, Ok, Err}
 use Rattle.bq_text.specs.Word.{is_word}
 use Rattle.bq_text.specs.Key.{key_of}
 use Rattle.bq_text.specs.Value.{is_integer}
@@ -7,10 +8,6 @@ use Rattle.bq_text.specs.declared.key.Key.{Key}
 use Rattle.bq_lexer.specs.declared.token.TokenKind.{TokenKind}
 use Rattle.bq_lexer.specs.declared.token.TokenKind.TheVariants.{Word, Reserved, Integer, Comma, Point, Open, Close, Less, Equal, Greater, Semi}
 use Rattle.bq_lexer.specs.declared.token.Token.{Token}
-
--- a space or a tab
-abbrev pub is_blank : ℕ → Bool
-is_blank b = b == 32 || b == 9
 
 -- the symbol that a byte is
 abbrev pub symbol_of : ℕ → Option TokenKind

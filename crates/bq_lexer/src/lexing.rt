@@ -2,19 +2,13 @@
 ghost use Rattle.std.specs.Prelude.{◌≡◌, ◌≤◌, ◌<◌, ◌↔◌, ◌⊎◌, Option, Result, Ok, Err, Some, length, MatchResult, IfOk, IsTrue, IfSome};
 ghost use Rattle.std.specs.List.{prefix_len};
 ghost use Rattle.bq_text.specs.Word.{is_word_byte, is_digit};
-ghost use Rattle.bq_lexer.specs.Tokens.{is_blank, longest, tokens, symbol_of, word_kind};
+ghost use Rattle.bq_lexer.specs.Tokens.{longest, tokens, symbol_of, word_kind};
 ghost use Rattle.bq_lexer.specs.Standing.{StandFrom};
 ghost use Rattle.bq_text.specs.Key.{key_of};
 
 use crate::token::{LexError, Token, TokenKind, Tokens};
 use arrayvec::ArrayVec;
-
-/// Whether the byte is a space or a tab.
-pub fn is_blank_byte(byte: u8) -> bool
-    ensures { result ≡ is_blank byte }
-{
-    byte == b' ' || byte == b'\t'
-}
+use bq_text::is_blank;
 
 // The symbol that a byte is.
 fn symbol(byte: u8) -> Option<TokenKind>
@@ -104,7 +98,7 @@ pub fn lex(line: &[u8]) -> Result<Tokens, LexError>
     let mut tokens = ArrayVec::new();
     let mut at = 0;
     while at < line.len() {
-        if is_blank_byte(line[at]) {
+        if is_blank(line[at]) {
             at += 1;
         } else {
             match first_token(line.split_at(at).1) {

@@ -8,5 +8,5 @@ mod lexing;
 mod token;
 
 pub use bq_text::Key;
-pub use lexing::{is_blank_byte, lex};
+pub use lexing::lex;
 pub use token::{LexError, Token, TokenKind, Tokens};

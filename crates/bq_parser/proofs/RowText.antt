@@ -4,10 +4,11 @@ use Rattle.std.specs.List.{list_all, prefix_len}
 use Rattle.std.proofs.lemmas.Bool.Decides.{nat_tests}
 use Rattle.std.proofs.lemmas.List.{take-append-drop, drop_at}
 use Rattle.std.proofs.lemmas.List.Sums.{prefix_len-le-length}
-use Rattle.bq_text.specs.Word.{is_letter, is_digit, is_word, is_word_byte}
-use Rattle.bq_lexer.specs.Tokens.{is_blank}
+use Rattle.bq_text.specs.Blank.{is_blank, without_blanks_before}
+use Rattle.bq_text.specs.Word.{is_letter, is_digit, is_word, is_word_byte, behind_word}
 use Rattle.bq_lexer.proofs.Longest.{all_take}
-use Rattle.bq_parser.specs.LineKind.{begins_with, behind_word, without_blanks_before, is_row, IsRowText}
+use Rattle.bq_schema.specs.Rows.{begins_comma, IsRowText}
+use Rattle.bq_parser.specs.LineKind.{is_row}
 use Rattle.bq_parser.specs.Laws.{RowsAreRows}
 use Rattle.bq_parser.proofs.Spaced.{StopsFor, prefix_stops, and_left, and_right}
 
@@ -29,7 +30,7 @@ word_front b bs h =
 eq_from : (b c : ℕ) → (c == b) ≡ true → c ≡ b
 eq_from b c h = grind (arith, nat_tests)
 
-comma_first : (bs : List ℕ) → begins_with 44 bs ≡ true → bs ≡ 44 ∷ drop 1 bs
+comma_first : (bs : List ℕ) → begins_comma bs ≡ true → bs ≡ 44 ∷ drop 1 bs
 comma_first [] h = cc
 comma_first (c ∷ bs) h = ap (λ x. x ∷ bs) (eq_from 44 c h)
 
@@ -41,12 +42,12 @@ row_text (b ∷ bs) h =
     let last = without_blanks_before rest in
     let n = prefix_len is_word_byte all in
     let m = prefix_len is_blank rest in
-    let comma = comma_first last (and_right (is_letter b) (begins_with 44 last) h) in (
+    let comma = comma_first last (and_right (is_letter b) (begins_comma last) h) in (
       take n all,
       take m rest,
       drop 1 last,
       sym (take-append-drop n all) ∙ ap (λ r. take n all ++ r) (sym (take-append-drop m rest) ∙ ap (λ r. take m rest ++ r) comma),
-      word_front b bs (and_left (is_letter b) (begins_with 44 last) h),
+      word_front b bs (and_left (is_letter b) (begins_comma last) h),
       front_passes is_blank rest,
     )
 
@@ -68,9 +69,9 @@ row_by (b ∷ bs) blanks rest w h =
     let m : prefix_len is_blank behind ≡ length blanks = prefix_stops is_blank blanks (44 ∷ rest) h refl in
     let after : behind_word (word ++ behind) ≡ behind = ap (λ k. drop k (word ++ behind)) n ∙ drop_at word behind (length word) refl in
     let last : without_blanks_before behind ≡ 44 ∷ rest = ap (λ k. drop k behind) m ∙ drop_at blanks (44 ∷ rest) (length blanks) refl in
-    ap (λ t. t && begins_with 44 (without_blanks_before (behind_word (word ++ behind)))) letter
-    ∙ ap (λ r. begins_with 44 (without_blanks_before r)) after
-    ∙ ap (begins_with 44) last
+    ap (λ t. t && begins_comma (without_blanks_before (behind_word (word ++ behind)))) letter
+    ∙ ap (λ r. begins_comma (without_blanks_before r)) after
+    ∙ ap begins_comma last
 
 row_again : (bs : List ℕ) → IsRowText bs → is_row bs ≡ true
 row_again bs (word, blanks, rest, e, w, h) = ap is_row e ∙ row_by word blanks rest w h

@@ -1,9 +1,7 @@
 //! The names of a query, looked up in a catalog.
 ghost use Rattle.std.specs.Prelude.{◌≡◌, ◌≤◌, ◌<◌, ◌+◌, ◌++◌, length, map, is_some, IfOk, IfSome};
-ghost use Rattle.std.specs.List.{list_any, list_all};
-ghost use Rattle.std.specs.Str.{bytes_eq};
+ghost use Rattle.std.specs.List.{list_all};
 ghost use Rattle.bq_model.specs.Query.{IsWithinLimits};
-ghost use Rattle.bq_schema.specs.Streams as streams;
 ghost use Rattle.bq_schema.specs.Streams.{stream_number};
 ghost use Rattle.bq_parser.specs.Resolution as names;
 ghost use Rattle.bq_parser.specs.Resolution.{IsTaken, HasNamed, resolved};
@@ -12,7 +10,7 @@ use crate::limits::columns_named;
 use crate::tree::{AtomAst, ColumnAst, OperandAst, SelectAst};
 use arrayvec::ArrayVec;
 use bq_model::{Atom, Attr, Element, Query};
-use bq_schema::Catalog;
+use bq_schema::{Catalog, all_differ};
 use bq_text::Name;
 use thiserror::Error;
 
@@ -107,23 +105,6 @@ fn has_columns(select: &SelectAst, catalog: &Catalog) -> bool
     ensures { result ≡ names.has_columns catalog.now select.now }
 {
     are_columns(named_columns(select).as_slice(), catalog)
-}
-
-// Whether the name is among these.
-fn is_among(name: &Name, others: &[Name]) -> bool
-    ensures { result ≡ list_any (bytes_eq name.now) others.now }
-{
-    others.iter().any(|other| *name == *other)
-}
-
-// Whether all names differ.
-fn all_differ(names: &[Name]) -> bool
-    ensures { result ≡ streams.all_differ names.now }
-{
-    match names {
-        [] => true,
-        [first, others @ ..] => !is_among(first, others) && all_differ(others),
-    }
 }
 
 // The number of the stream of this name, 0 where there is none.

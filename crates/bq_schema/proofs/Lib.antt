@@ -1,2 +1,4 @@
 pub mod Catalogs
 pub mod Fields
+pub mod NamedShapes
+pub mod RowRefusals

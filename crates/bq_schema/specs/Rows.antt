@@ -1,46 +1,22 @@
 -- The rows of streams, as lines.
-use Rattle.std.specs.Prelude.{ℕ, ◌-◌, ℤ, Bool, false, ◌&&◌, ◌||◌, ◌==◌, if◌then◌else◌, List, [], ◌∷◌, length, take, drop, take_while, nat_lt, is_some}
-use Rattle.std.specs.List.{slice_split, prefix_len, suffix_len}
+use Rattle.std.specs.Prelude.{◌≡◌, ℕ, ℤ, Bool, true, false, ◌&&◌, ◌==◌, if◌then◌else◌, List, [], ◌∷◌, ◌++◌, length, drop, nat_lt, is_some}
+use Rattle.std.specs.List.{list_all, slice_split}
 use Rattle.std.specs.Option.{option_and_then, option_map}
 use Rattle.std.specs.declared.option.Option.{Option}
 use Rattle.std.specs.declared.option.Option.TheVariants.{None, Some}
 use Rattle.std.specs.declared.result.Result.{Result}
 use Rattle.std.specs.declared.result.Result.TheVariants.{Ok, Err}
-use Rattle.bq_text.specs.Word.{is_letter, is_word_byte}
+use Rattle.bq_text.specs.Blank.{is_blank, without_blanks_before, trimmed}
+use Rattle.bq_text.specs.Word.{is_word, begins_word, word_of, behind_word}
 use Rattle.bq_text.specs.Key.{key_of}
 use Rattle.bq_text.specs.Value.{value_of}
 use Rattle.bq_schema.specs.Streams.{Shape, stream_number, shape_at}
 use Rattle.bq_schema.specs.declared.row_error.RowError.{RowError}
 use Rattle.bq_schema.specs.declared.row_error.RowError.TheVariants.{Syntax, Limit, UnknownStream, Arity, Value}
 
--- a space or a tab
-abbrev pub is_blank : ℕ → Bool
-is_blank b = b == 32 || b == 9
-
 -- a comma
 abbrev pub is_comma : ℕ → Bool
 is_comma b = b == 44
-
--- the text without blanks at its front
-abbrev pub without_blanks_before : List ℕ → List ℕ
-without_blanks_before text = drop (prefix_len is_blank text) text
-
--- the text without blanks at its end
-abbrev pub without_blanks_behind : List ℕ → List ℕ
-without_blanks_behind text = take (length text - suffix_len is_blank text) text
-
--- the text without blanks at both ends
-unfoldable pub trimmed : List ℕ → List ℕ
-trimmed text = without_blanks_behind (without_blanks_before text)
-
--- the word at the front of a line
-abbrev pub word_of : List ℕ → List ℕ
-word_of line = take_while is_word_byte line
-
--- whether a word begins here
-abbrev pub begins_word : List ℕ → Bool
-begins_word [] = false
-begins_word (b ∷ bs) = is_letter b
 
 -- whether a comma stands here
 abbrev pub begins_comma : List ℕ → Bool
@@ -49,7 +25,11 @@ begins_comma (b ∷ bs) = is_comma b
 
 -- one word, blanks or none, and then a comma
 abbrev pub is_row_line : List ℕ → Bool
-is_row_line line = begins_word line && begins_comma (without_blanks_before (drop (length (word_of line)) line))
+is_row_line line = begins_word line && begins_comma (without_blanks_before (behind_word line))
+
+-- the same, said by the parts of the line
+abbrev pub IsRowText : List ℕ → Type 0
+IsRowText line = (word : List ℕ) × (blanks : List ℕ) × (rest : List ℕ) × (line ≡ word ++ (blanks ++ 44 ∷ rest)) × (is_word word ≡ true) × (list_all is_blank blanks ≡ true)
 
 -- the fields of a row: the parts between its commas, but for the first part, which has its stream's name
 abbrev pub fields_of : List ℕ → List (List ℕ)
@@ -74,10 +54,14 @@ abbrev pub entry_of : ℕ → Option (List ℤ) → Result Entry RowError
 entry_of stream None = Err Value
 entry_of stream (Some values) = Ok (entry stream values)
 
--- the row of the stream that was found: it has a field for each column
+-- the row of this stream that the fields are, one for each of so many columns; a wrong number of fields is told before a field that is no value
+abbrev pub row_with : ℕ → ℕ → List (List ℕ) → Result Entry RowError
+row_with stream width fields = if length fields == width then entry_of stream (values_of fields) else Err Arity
+
+-- the row of the stream that was found
 abbrev pub row_for : List Shape → List (List ℕ) → Option ℕ → Result Entry RowError
 row_for streams fields None = Err UnknownStream
-row_for streams fields (Some stream) = if length fields == length (shape_at streams stream).columns then entry_of stream (values_of fields) else Err Arity
+row_for streams fields (Some stream) = row_with stream (length (shape_at streams stream).columns) fields
 
 -- the row that a line is, or the first reason to refuse it
 unfoldable pub row_of : List Shape → List ℕ → Result Entry RowError

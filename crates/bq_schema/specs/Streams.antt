@@ -11,6 +11,10 @@ pub record Shape : Type 0 where
   pub name : List ℕ
   pub columns : List (List ℕ)
 
+-- the streams that entries of a name and columns are
+abbrev pub shapes_of : List (List ℕ × List (List ℕ)) → List Shape
+shapes_of entries = map (λ e. record { name = e.0; columns = e.1 }) entries
+
 -- the text is a name
 abbrev pub IsName : List ℕ → Type 0
 IsName text = IsTrue (is_name text)

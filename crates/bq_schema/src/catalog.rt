@@ -1,35 +1,41 @@
 //! All streams.
-ghost use Rattle.std.specs.Prelude.{◌≡◌, ◌≤◌, ◌<◌, [], length, not, nat_lt, Some, IfOk, IfSome, IsTrue};
+ghost use Rattle.std.specs.Prelude.{◌≡◌, ◌≤◌, ◌<◌, [], length, not, nat_lt, is_some, if◌then◌else◌, IfOk, IfSome, IsTrue};
 ghost use Rattle.std.specs.List.{list_any};
 ghost use Rattle.std.specs.Result.{result_map_both};
 ghost use Rattle.std.specs.Str.{bytes_eq};
-ghost use Rattle.bq_schema.specs.Streams.{IsCatalog, stream_number, column_place, shape_at, column_at, added, with_stream};
-ghost use Rattle.bq_schema.specs.Rows.{entry, is_row_line, fields_of, row_for, row_of};
+ghost use Rattle.bq_schema.specs.Streams.{IsCatalog, IsName, stream_number, column_place, shape_at, column_at, added, with_stream};
+ghost use Rattle.bq_schema.specs.Rows.{entry, is_row_line, row_of};
+ghost use Rattle.bq_schema.specs.declared.row_error.RowError.TheVariants as errors;
+ghost use Rattle.bq_text.specs.Key as reserved;
 
-use crate::field::{count_fields, first_word, read_values};
+use crate::columns::{Columns, all_differ, checked, place_of_column};
+use crate::entries::{add_entry, columns_at, has_name, name_at, place_of_bytes, place_of_name};
+use crate::field::read_fields;
 use crate::row_error::RowError;
-use crate::stream::{Stream, all_differ};
+use crate::row_line::split_fields;
 use crate::stream_error::StreamError;
 use bq_model::Row;
 use bq_text::{Name, key_of};
+use indexmap::IndexMap;
 use std::alloc::{AllocError, Global};
 use std::marker::Model;
 
 /// The streams in the order in which they were added, at most 16. Room for all of them is taken once.
 #[derive(Drop)]
 pub struct Catalog {
-    streams: Vec<Stream>,
+    streams: IndexMap<Name, Columns>,
 }
 
 impl Model for Catalog {
-    ghost use Rattle.std.specs.Prelude.{List, ◌≤◌, vec_capacity};
-    ghost use Rattle.bq_schema.specs.Streams.{Shape, IsCatalog};
+    ghost use Rattle.std.specs.Prelude.{List, ◌≤◌, ◌+◌};
+    ghost use Rattle.bq_schema.specs.Streams.{Shape, IsCatalog, shapes_of};
+    ghost use Rattle.indexmap.specs.IndexMap.{index_map_len, spare};
 
     ghost Value = { List Shape };
 
-    ghost view = { λ c. c.streams.items };
+    ghost view = { λ c. shapes_of c.streams.entries };
 
-    ghost invariant = { λ c. IsCatalog c.streams.items × (16 ≤ vec_capacity c.streams) };
+    ghost invariant = { λ c. IsCatalog (shapes_of c.streams.entries) × (16 ≤ index_map_len c.streams + spare c.streams) };
 }
 
 impl Catalog {
@@ -41,7 +47,7 @@ impl Catalog {
         ensures { IfOk result (λ c. c ≡ []) }
     {
         Ok(Catalog {
-            streams: Vec::with_capacity(alloc, Catalog::MOST_STREAMS)?,
+            streams: IndexMap::with_capacity(alloc, Catalog::MOST_STREAMS)?,
         })
     }
 
@@ -67,7 +73,7 @@ impl Catalog {
             return Err(StreamError::TooMany);
         }
         let number = self.len();
-        let _stored = self.streams.push(Stream::new(&name, columns)).is_ok();
+        add_entry(&mut self.streams, checked(&name), Columns::new(columns));
         Ok(number)
     }
 
@@ -82,7 +88,7 @@ impl Catalog {
     fn has(&self, name: &Name) -> bool
         ensures { result ≡ list_any (λ s. bytes_eq s.name name.now) self.now }
     {
-        self.streams.iter().any(|s| *s.name() == *name)
+        has_name(&self.streams, name)
     }
 
     /// The number of the stream of this name.
@@ -90,15 +96,17 @@ impl Catalog {
         ensures number { result ≡ stream_number self.now name.now }
         ensures inside { IfSome result (λ number. number < length self.now) }
     {
-        self.find_bytes(name.bytes())
+        let place = place_of_name(&self.streams, name)?;
+        Some(place as u8)
     }
 
     // The number of the stream that has these bytes as its name.
     fn find_bytes(&self, name: &[u8]) -> Option<u8>
         ensures number { result ≡ stream_number self.now name.now }
         ensures inside { IfSome result (λ number. number < length self.now) }
+        ensures name { IfSome result (λ number. IsName name.now) }
     {
-        let place = place_of_stream(self.streams.as_slice(), name)?;
+        let place = place_of_bytes(&self.streams, name)?;
         Some(place as u8)
     }
 
@@ -127,7 +135,7 @@ impl Catalog {
         requires { stream < length self.now }
         ensures { result.now ≡ (shape_at self.now stream).name }
     {
-        self.streams[usize::from(stream)].name()
+        name_at(&self.streams, usize::from(stream))
     }
 
     /// The name of a column of the stream of this number.
@@ -149,32 +157,14 @@ impl Catalog {
         ensures stream { IfOk result (λ r. r.0 < length self.now) }
         ensures width { IfOk result (λ r. length r.1.items ≡ length (shape_at self.now r.0).columns) }
     {
-        let word = first_word(line);
-        if key_of(word).is_some() {
-            return Err(RowError::Syntax);
-        }
-        if Name::MOST_BYTES < word.len() {
-            return Err(RowError::Limit);
-        }
-        match self.find_bytes(word) {
-            None => Err(RowError::UnknownStream),
-            Some(stream) => self.read_fields(stream, line),
-        }
-    }
-
-    // The row of this stream that the fields of a line are.
-    fn read_fields(&self, stream: u8, line: &[u8]) -> Result<(u8, Row), RowError>
-        requires { stream < length self.now }
-        ensures row { result_map_both (λ r. entry r.0 r.1.items) (λ error. error) result ≡ row_for self.now (fields_of line.now) (Some stream) }
-        ensures stream { IfOk result (λ r. r.0 < length self.now) }
-        ensures width { IfOk result (λ r. length r.1.items ≡ length (shape_at self.now r.0).columns) }
-    {
-        if count_fields(line) != usize::from(self.width(stream)) {
-            return Err(RowError::Arity);
-        }
-        match read_values(line) {
-            None => Err(RowError::Value),
-            Some(row) => Ok((stream, row)),
+        let (word, fields) = split_fields(line);
+        let Some(stream) = self.find_bytes(word) else {
+            return Err(refusal_of(word));
+        };
+        let mut row = Row::new();
+        match read_fields(&mut row, usize::from(self.width(stream)), fields) {
+            Ok(()) => Ok((stream, row)),
+            Err(error) => Err(error),
         }
     }
 
@@ -185,22 +175,19 @@ impl Catalog {
         ensures some { 0 < length result.now }
         ensures few { length result.now ≤ 8 }
     {
-        self.streams[usize::from(stream)].columns()
+        columns_at(&self.streams, usize::from(stream))
     }
 }
 
-// The place of the stream that has these bytes as its name.
-fn place_of_stream(streams: &[Stream], name: &[u8]) -> Option<usize>
-    ensures place { result ≡ stream_number streams.now name.now }
-    ensures inside { IfSome result (λ place. place < length streams.now) }
+// Why a row is refused whose first word is the name of no stream.
+fn refusal_of(word: &[u8]) -> RowError
+    ensures { result ≡ (if is_some (reserved.key_of word.now) then errors.Syntax else (if nat_lt 24 (length word.now) then errors.Limit else errors.UnknownStream)) }
 {
-    streams.iter().position(|s| *s.name().bytes() == *name)
-}
-
-// The place of the column of this name.
-fn place_of_column(columns: &[Name], name: &Name) -> Option<usize>
-    ensures place { result ≡ column_place columns.now name.now }
-    ensures inside { IfSome result (λ place. place < length columns.now) }
-{
-    columns.iter().position(|c| *c == *name)
+    if key_of(word).is_some() {
+        RowError::Syntax
+    } else if Name::MOST_BYTES < word.len() {
+        RowError::Limit
+    } else {
+        RowError::UnknownStream
+    }
 }

@@ -1,84 +1,55 @@
-//! The parts of a row line.
-ghost use Rattle.std.specs.Prelude.{◌≡◌, ◌≤◌, length, count_by, IfSome};
-ghost use Rattle.std.specs.List.{prefix_len, suffix_len};
-ghost use Rattle.std.specs.Option.{option_map};
-ghost use Rattle.bq_schema.specs.Rows as rows;
-ghost use Rattle.bq_schema.specs.Rows.{is_comma, trimmed, word_of, fields_of, values_of};
+//! The fields of a row line.
+ghost use Rattle.std.specs.Prelude.{◌≡◌, ℕ, [], ◌∷◌, ◌≤◌, ◌<◌, length, IfOk, IfSome};
+ghost use Rattle.std.specs.List.{slice_split, before_first};
+ghost use Rattle.std.specs.Result.{result_map_both};
+ghost use Rattle.bq_text.specs.Blank.{trimmed};
+ghost use Rattle.bq_text.specs.Lines.{parts_behind};
+ghost use Rattle.bq_text.specs.Value.{value_of};
+ghost use Rattle.bq_schema.specs.Rows.{is_comma, entry, row_with};
 
-use arrayvec::ArrayVec;
+use crate::row_error::RowError;
 use bq_model::Row;
-use bq_text::{cut, is_word_byte, read_i64};
+use bq_text::{cut, leading_i64, trim_start};
 
-// Whether the byte is a space or a tab.
-fn is_blank(byte: u8) -> bool
-    ensures { result ≡ rows.is_blank byte }
+// The value that the first field of a text is without the blanks at its ends, and the text behind the comma that ends it.
+fn read_field(text: &[u8]) -> (Option<i64>, Option<&[u8]>)
+    ensures value { result.0 ≡ value_of (trimmed (before_first is_comma text.now)) }
+    ensures parts { slice_split is_comma text.now ≡ before_first is_comma text.now ∷ parts_behind 44 result.1 }
+    ensures shorter { IfSome result.1 (λ rest. length rest.now < length text.now) }
 {
-    byte == b' ' || byte == b'\t'
-}
-
-// How many blanks stand at the front.
-fn blanks_before(text: &[u8]) -> usize
-    ensures { result ≡ prefix_len rows.is_blank text.now }
-{
-    text.iter().take_while(|b| is_blank(**b)).count()
-}
-
-// How many blanks stand at the end.
-fn blanks_behind(text: &[u8]) -> usize
-    ensures { result ≡ suffix_len rows.is_blank text.now }
-{
-    text.iter().rev().take_while(|b| is_blank(**b)).count()
-}
-
-// The text without blanks at both ends.
-#[tactic(auto, unfolding(crate::specs::Rows::trimmed))]
-fn trim(text: &[u8]) -> &[u8]
-    ensures { result.now ≡ trimmed text.now }
-{
-    let rest = text.split_at(blanks_before(text)).1;
-    rest.split_at(rest.len() - blanks_behind(rest)).0
-}
-
-// How many bytes the word at the front of a line has.
-fn word_len(line: &[u8]) -> usize
-    ensures { result ≡ length (word_of line.now) }
-{
-    line.iter().take_while(|b| is_word_byte(**b)).count()
-}
-
-/// The word at the front of a line.
-pub fn first_word(line: &[u8]) -> &[u8]
-    ensures { result.now ≡ word_of line.now }
-{
-    &line[..word_len(line)]
-}
-
-// How many commas a line has.
-fn count_commas(line: &[u8]) -> usize
-    ensures { result ≡ count_by is_comma line.now }
-{
-    line.iter().filter(|b| **b == b',').count()
-}
-
-/// How many fields a row has.
-pub fn count_fields(line: &[u8]) -> usize
-    ensures { result ≡ length (fields_of line.now) }
-{
-    count_commas(line)
-}
-
-/// The values of all fields, at most 8, where each field is one without the blanks at its ends.
-pub fn read_values(line: &[u8]) -> Option<Row>
-    requires { length (fields_of line.now) ≤ 8 }
-    ensures values { option_map (λ v. v.items) result ≡ values_of (fields_of line.now) }
-    ensures width { IfSome result (λ v. length v.items ≡ length (fields_of line.now)) }
-{
-    let mut values = ArrayVec::new();
-    let (_, mut rest) = cut(line, b',');
-    while let Some(text) = rest {
-        let (field, others) = cut(text, b',');
-        rest = others;
-        values.push(read_i64(trim(field))?);
+    let (value, behind) = leading_i64(trim_start(text));
+    let (left, others) = cut(trim_start(behind), b',');
+    if left.is_empty() {
+        (value, others)
+    } else {
+        (None, others)
     }
-    Some(values)
+}
+
+/// Puts the values of the fields of a text into an empty row, one for each of at most 8 columns. Each field is read once. Where the
+/// fields are no row, the row is left with any values.
+pub fn read_fields(row: &mut Row, width: usize, fields: Option<&[u8]>) -> Result<(), RowError>
+    requires empty { row.old.items ≡ [] }
+    requires width { width ≤ 8 }
+    ensures row { (stream : ℕ) → result_map_both (λ done. entry stream row.new.items) (λ error. error) result ≡ row_with stream width (parts_behind 44 fields.entry) }
+    ensures width { IfOk result (λ done. length row.new.items ≡ width) }
+{
+    let mut all_values = true;
+    let mut rest = fields;
+    while let Some(text) = rest {
+        if row.len() == width {
+            return Err(RowError::Arity);
+        }
+        let (value, others) = read_field(text);
+        all_values = all_values && value.is_some();
+        row.push(value.unwrap_or(0));
+        rest = others;
+    }
+    if row.len() != width {
+        return Err(RowError::Arity);
+    }
+    if !all_values {
+        return Err(RowError::Value);
+    }
+    Ok(())
 }

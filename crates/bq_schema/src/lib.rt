@@ -5,11 +5,15 @@
 #![tactic(auto)]
 
 mod catalog;
+mod columns;
+mod entries;
 mod field;
 mod row_error;
-mod stream;
+mod row_line;
 mod stream_error;
 
 pub use catalog::Catalog;
+pub use columns::all_differ;
 pub use row_error::RowError;
+pub use row_line::is_row_line;
 pub use stream_error::StreamError;

@@ -3,3 +3,4 @@ pub mod OneAnswer
 pub mod Refused
 pub mod RowReply
 pub mod Standing
+pub mod Stripped

@@ -1,6 +1,7 @@
 //! Whole runs over memory. Scripts of every kind with their replies are data: the folder `conformance` at the top.
 use crate::run::{Edges, REPLIES, SCRIPT, run_over, words};
 use bq_io::{MemSink, Status, SureSource};
+use std::alloc::{AllocError, Global};
 use std::test::Fail;
 
 const SURE: Edges<'static> = Edges {
@@ -33,11 +34,11 @@ fn replies_are_the_same_however_the_bytes_come(rt: HostRuntime) -> Result<(), Fa
     Ok(())
 }
 
-// The script comes in one read, and the second write of the sink would fail.
+// The script comes in one read, and its last line with the end of the input: two writes, and a third would fail.
 #[test]
 fn replies_to_one_read_go_out_in_one_write(rt: HostRuntime) -> Result<(), Fail> {
     let edges = Edges {
-        write_fails: &[2],
+        write_fails: &[3],
         ..SURE
     };
     let (status, output) = run_over(rt.alloc(), SCRIPT, edges)?;
@@ -59,31 +60,42 @@ fn comments_are_answered_with_nothing(rt: HostRuntime) -> Result<(), Fail> {
     let mut output = MemSink::new(rt.alloc(), 4096, &[])?;
     let status = bq_top::run(rt.alloc(), &words, &mut input, &mut output);
     assert_eq!(rt; status, Status::Done);
-    assert_eq!(rt; output.bytes(), b"ok stream S\nerror 2000002 Value\n".as_slice());
+    assert_eq!(rt;
+        output.bytes(),
+        b"ok stream S\nerror 2000002 Value\n".as_slice()
+    );
     Ok(())
 }
 
-// A comment of 1,024 bytes and one of 1,025, behind each number of bytes up to a buffer's length.
+// Blank lines of 64 bytes, with LF, up to a buffer's length; then a comment of 1,024 bytes and one of 1,025.
+fn long_lines(alloc: Global) -> Result<Vec<u8>, AllocError> {
+    let mut text = Vec::with_capacity(alloc, 8192)?;
+    for _ in 0..64 {
+        for _ in 1..64 {
+            text.push(b' ')?;
+        }
+        text.push(b'\n')?;
+    }
+    for most in [1024, 1025] {
+        for _ in 0..most {
+            text.push(b'-')?;
+        }
+        text.push(b'\n')?;
+    }
+    Ok(text)
+}
+
 #[test]
 fn a_line_of_1025_bytes_is_too_long_wherever_it_lies(rt: HostRuntime) -> Result<(), Fail> {
+    let text = long_lines(rt.alloc())?;
     for before in 0..4096 {
-        let mut text = Vec::with_capacity(rt.alloc(), 8192)?;
-        for _ in 0..before {
-            text.push(b'\n')?;
-        }
-        for most in [1024, 1025] {
-            for _ in 0..most {
-                text.push(b'-')?;
-            }
-            text.push(b'\n')?;
-        }
-        let (status, output) = run_over(rt.alloc(), &text, SURE)?;
-        assert_eq!(rt; status, Status::Done);
+        let (status, output) = run_over(rt.alloc(), &text[4096 - before..], SURE)?;
         let mut number = itoa::Buffer::new();
         let mut wanted = Vec::new(rt.alloc());
         wanted.extend_from_slice(b"error ")?;
-        wanted.extend_from_slice(number.format(before + 2).as_bytes())?;
+        wanted.extend_from_slice(number.format(before.div_ceil(64) + 2).as_bytes())?;
         wanted.extend_from_slice(b" LineTooLong\n")?;
+        assert_eq!(rt; status, Status::Done);
         assert_eq!(rt; output.bytes(), wanted.as_slice());
     }
     Ok(())

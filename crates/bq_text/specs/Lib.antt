@@ -1,3 +1,4 @@
+pub mod Blank
 pub mod Key
 pub mod Laws
 pub mod Lines

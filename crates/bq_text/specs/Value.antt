@@ -1,6 +1,6 @@
 -- Integers: a sign or none, and one or more digits.
-use Rattle.std.specs.Prelude.{ℕ, ◌+◌, ◌*◌, ◌-◌, ◌^◌, Bool, false, ◌&&◌, ◌==◌, nat_lt, if◌then◌else◌, List, [], ◌∷◌, length, Option, Some, None, ℤ, pos, negsuc, neg_ℤ}
-use Rattle.std.specs.List.{list_all}
+use Rattle.std.specs.Prelude.{◌≡◌, ℕ, ◌+◌, ◌*◌, ◌-◌, ◌^◌, ◌<◌, ◌≤◌, Bool, false, ◌&&◌, ◌||◌, ◌==◌, nat_lt, if◌then◌else◌, List, [], ◌∷◌, length, drop, Option, Some, None, ℤ, pos, negsuc, neg_ℤ}
+use Rattle.std.specs.List.{list_all, prefix_len}
 use Rattle.bq_text.specs.Word.{is_digit}
 
 -- one digit or more
@@ -33,3 +33,30 @@ fits_i64 (negsuc n) = nat_lt n (2 ^ 63)
 -- the value of a field: that of an integer that fills it and fits
 unfoldable pub value_of : List ℕ → Option ℤ
 value_of field = if is_integer field && fits_i64 (integer field) then Some (integer field) else None
+
+-- whether a minus begins the text
+abbrev pub is_negative : List ℕ → Bool
+is_negative [] = false
+is_negative (b ∷ bs) = b == 45
+
+-- whether a plus begins the text
+abbrev pub has_plus : List ℕ → Bool
+has_plus [] = false
+has_plus (b ∷ bs) = b == 43
+
+-- how many bytes the sign at the front of a text has, where one is there
+abbrev pub sign_len : List ℕ → ℕ
+sign_len text = if is_negative text || has_plus text then 1 else 0
+
+-- how many bytes the longest front of a text has that is a sign or none and then digits or none
+abbrev pub integer_len : List ℕ → ℕ
+integer_len text = sign_len text + prefix_len is_digit (drop (sign_len text) text)
+
+-- the integer of an amount, negative or not, where it fits
+abbrev pub signed : Bool → ℕ → Option ℤ
+signed negative n = if fits_i64 (if negative then neg_ℤ (pos n) else pos n) then Some (if negative then neg_ℤ (pos n) else pos n) else None
+
+-- an amount that an integer of 64 bits can have is kept, and any larger one is kept as a larger one
+pub record IsKept (kept n : ℕ) : Type 0 where
+  pub exact : n ≤ 2 ^ 63 → kept ≡ n
+  pub large : 2 ^ 63 < n → 2 ^ 63 < kept

@@ -4,6 +4,7 @@
 //! with an optional sign; a text is cut into lines at each LF.
 #![tactic(auto)]
 
+mod blank;
 mod key;
 pub mod laws;
 mod line;
@@ -12,9 +13,10 @@ mod put;
 mod value;
 mod word;
 
+pub use blank::{is_blank, trim, trim_end, trim_start};
 pub use key::{Key, key_of};
 pub use line::{cut, first_line};
 pub use name::Name;
 pub use put::{put_i64, put_name, put_u64};
-pub use value::read_i64;
-pub use word::{is_letter, is_word, is_word_byte};
+pub use value::{leading_i64, read_i64};
+pub use word::{begins_word, is_letter, is_word, is_word_byte, split_word};

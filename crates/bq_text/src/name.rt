@@ -4,6 +4,7 @@ ghost use Rattle.bq_text.specs.Name.{is_name};
 
 use crate::key::key_of;
 use crate::word::is_word;
+use std::hash::{Hash, Hasher};
 use std::marker::Model;
 
 /// The name of a stream, a column or a query: a word of at most 24 bytes that is not reserved. A clause sees its bytes.
@@ -80,6 +81,21 @@ impl Eq for Name {
     ghost use Rattle.std.proofs.lemmas.Cmp.{nat_list_eq_equiv};
 
     ghost laws = { nat_list_eq_equiv };
+}
+
+/// The hash of a name is that of its bytes.
+impl Hash for Name {
+    ghost use Rattle.std.specs.Hash as fed;
+    ghost use Rattle.std.proofs.Common.{ap};
+    ghost use Rattle.std.proofs.lemmas.Slice.Eq.{bytes_eq-Decides};
+
+    ghost hash_input = { fed.slice fed.u8 };
+
+    ghost respects_eq = { λ x y same. ap (fed.slice fed.u8) ((bytes_eq-Decides x y).0 same) };
+
+    fn hash<H: Hasher>(&self, state: &mut H) {
+        self.bytes().hash(state);
+    }
 }
 
 /// The name `_`, which fills places of an array that no clause speaks of.

@@ -1,6 +1,6 @@
 //! Words: a letter or `_`, and letters, digits and `_` behind it, all ASCII.
 ghost use Rattle.std.specs.Prelude.{◌≡◌};
-ghost use Rattle.std.specs.List.{list_all};
+ghost use Rattle.std.specs.List.{list_all, prefix_len};
 ghost use Rattle.bq_text.specs.Word as words;
 
 /// Whether a word may begin with the byte.
@@ -32,4 +32,29 @@ pub fn is_word(text: &[u8]) -> bool
         [] => false,
         [first, others @ ..] => is_letter(*first) && are_word_bytes(others),
     }
+}
+
+/// Whether a word begins the text.
+pub fn begins_word(text: &[u8]) -> bool
+    ensures { result ≡ words.begins_word text.now }
+{
+    match text {
+        [] => false,
+        [first, ..] => is_letter(*first),
+    }
+}
+
+// How many bytes at the front may belong to a word.
+fn word_len(text: &[u8]) -> usize
+    ensures { result ≡ prefix_len words.is_word_byte text.now }
+{
+    text.iter().take_while(|b| is_word_byte(**b)).count()
+}
+
+/// The longest front of bytes that a word may go on with, and what stands behind it. The front is a word where `begins_word`.
+pub fn split_word(text: &[u8]) -> (&[u8], &[u8])
+    ensures word { result.0.now ≡ words.word_of text.now }
+    ensures behind { result.1.now ≡ words.behind_word text.now }
+{
+    text.split_at(word_len(text))
 }

@@ -10,7 +10,7 @@ pub returns-in-None-clause-tokens : goal.returns-in-None-clause-tokens
 returns-in-None-clause-tokens c =
     let none : longest (drop c.loop-at.at c.args.line.now) ≡ None = ap longest (sym c.split_at.ensures.back) ∙ sym c.in-None.ensures.longest in
     c.loop-at.invariant.told
-    ∙ ap (after c.loop-at.tokens.items) (no_token_step c.args.line.now c.loop-at.at c.loop-at-test.true (sym c.if-is_blank_byte.ensures) none)
+    ∙ ap (after c.loop-at.tokens.items) (no_token_step c.args.line.now c.loop-at.at c.loop-at-test.true (sym c.if-is_blank.ensures) none)
     ∙ after_err c.loop-at.tokens.items c.loop-at.at
 
 pub loop-at-preserved : goal.loop-at-preserved
@@ -18,7 +18,7 @@ loop-at-preserved c =
     let found : longest (drop c.loop-at.at c.args.line.now) ≡ Some (c.in-Some.kind, c.in-Some.len) = ap longest (sym c.split_at.ensures.back) ∙ sym c.in-Some.ensures.longest in
     record {
       told = c.loop-at.invariant.told
-          ∙ ap (after c.loop-at.tokens.items) (token_step c.args.line.now c.loop-at.at c.in-Some.len c.in-Some.kind c.loop-at-test.true (sym c.if-is_blank_byte.ensures) found c.in-Some.ensures.fits.0)
+          ∙ ap (after c.loop-at.tokens.items) (token_step c.args.line.now c.loop-at.at c.in-Some.len c.in-Some.kind c.loop-at-test.true (sym c.if-is_blank.ensures) found c.in-Some.ensures.fits.0)
           ∙ sym (after_one c.loop-at.tokens.items _ _)
           ∙ ap (λ (ts : List Token). after ts (tokens_from 0 (c.loop-at.at + c.in-Some.len) (drop (c.loop-at.at + c.in-Some.len) c.args.line.now))) (sym c.push.ensures.items);
       room = omega (arith, ap length c.push.ensures.items, c.push.ensures.len, c.in-Some.ensures.fits.0, c.loop-at.invariant.room);

@@ -1,10 +1,12 @@
-use Rattle.std.proofs.Common.{◌∙◌, ap, sym}
-use Rattle.bq_text.specs.Value.{value_of}
-use Rattle.bq_text.proofs.ParsedValue.{parse_value, no_text_no_value}
+use Rattle.std.proofs.Common.{◌≡◌, ◌<◌, ◌==◌, ℕ, false, length, arith, ap, sym, ◌∙◌}
+use Rattle.std.proofs.lemmas.Bool.Decides.{nat_tests}
+use Rattle.bq_text.proofs.LeadingValue.{more_no_value}
 use Rattle.bq_text.proofs.value.read_i64.Goals as goal
 
-pub returns-in-Ok : goal.returns-in-Ok
-returns-in-Ok c = c.ok.ensures.value ∙ parse_value c.in-Ok.text.now c.parse.result c.parse.ensures.value.0 ∙ ap value_of c.in-Ok.ensures.cases.0
+some_left : (n : ℕ) → (n == 0) ≡ false → 0 < n
+some_left n h = grind (arith, nat_tests)
 
-pub returns-in-Err : goal.returns-in-Err
-returns-in-Err c = sym (no_text_no_value c.args.text.now c.in-Err.ensures.cases.0)
+pub returns-else-is_empty : goal.returns-else-is_empty
+returns-else-is_empty c =
+    let more : 0 < length c.leading_i64-value.result.1.now = some_left _ (sym c.is_empty.ensures ∙ c.if-is_empty.false) in
+    sym (more_no_value c.args.text.now (omega (arith, more, ap length c.leading_i64-value.ensures.behind)))

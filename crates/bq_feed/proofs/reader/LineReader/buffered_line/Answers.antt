@@ -1,8 +1,8 @@
 use Rattle.std.proofs.Common.{◌≡◌, ◌+◌, ◌-◌, ◌<◌, false, ◌∷◌, ◌++◌, refl, sym, ap, ◌∙◌, subst, arith, length, drop}
 use Rattle.std.specs.List.{slice_range}
 use Rattle.std.proofs.lemmas.List.{length-take}
-use Rattle.bq_feed.specs.Reading.{IsPlain}
-use Rattle.bq_feed.proofs.Pieces.{range-front, range-later, cut-at, short-range, not-true}
+use Rattle.bq_feed.specs.Reading.{Reading, IsPlain}
+use Rattle.bq_feed.proofs.Pieces.{range-front, range-later, cut-at, short-range, not-true, long-line, no-whole-line}
 use Rattle.bq_feed.proofs.reader.LineReader.buffered_line.Goals as goal
 
 pub returns-else-n-gt-LONGEST : goal.returns-else-n-gt-LONGEST
@@ -23,4 +23,24 @@ returns-else-n-gt-LONGEST c =
       lines = refl;
       counted = (omega (arith, inside, c.self.invariant.counted), omega (arith, c.self.ranges));
       ended = (unended, unended);
+    }
+
+pub returns-then-n-gt-LONGEST : goal.returns-then-n-gt-LONGEST
+returns-then-n-gt-LONGEST c =
+    let s = c.self.inside in
+    let told = rw c.deref.ensures.value at c.in-Some.ensures in
+    let ahead = ap (λ (r : Reading). r.ahead) c.self.view_is in
+    record {
+      same = refl;
+      long = λ line rest plain e. long-line (slice_range s.chunk.items s.at s.filled) line rest c.in-Some.n told.2 c.if-n-gt-LONGEST.true (ahead ∙ e);
+    }
+
+pub returns-in-None : goal.returns-in-None
+returns-in-None c =
+    let s = c.self.inside in
+    let plain = rw c.deref.ensures.value at c.in-None.ensures in
+    let ahead = ap (λ (r : Reading). r.ahead) c.self.view_is in
+    record {
+      same = refl;
+      long = λ line rest _ e. no-whole-line (slice_range s.chunk.items s.at s.filled) line rest plain (ahead ∙ e);
     }

@@ -1,6 +1,7 @@
 use Rattle.std.proofs.Common.{◌+◌, sym, ◌∙◌, ap, subst}
 use Rattle.bq_session.specs.Session.{Kept, StandsFor}
 use Rattle.bq_session.proofs.Standing.{of_kind, statement-kept}
+use Rattle.bq_session.proofs.Stripped.{stripped-short}
 use Rattle.bq_session.proofs.session.Session.line.Goals as goal
 
 pub returns-in-StatementLine-clause-reply : goal.returns-in-StatementLine-clause-reply
@@ -19,3 +20,6 @@ returns-in-StatementLine-clause-reply g c = λ s stands.
           (statement-kept _ s _ done.answer old done.comes);
       does = done.does;
     }
+
+pub answer_text-requires : goal.answer_text-requires
+answer_text-requires g c = stripped-short c.args.line.now c.classify-kind.result.1.now c.classify-kind.ensures.stripped c.requires.short

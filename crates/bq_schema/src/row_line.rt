@@ -1,0 +1,34 @@
+//! Row lines.
+ghost use Rattle.std.specs.Prelude.{◌≡◌};
+ghost use Rattle.bq_text.specs.Lines.{parts_behind};
+ghost use Rattle.bq_text.specs.Word.{word_of};
+ghost use Rattle.bq_schema.specs.Rows as rows;
+
+use bq_text::{begins_word, cut, split_word, trim_start};
+
+// Whether a comma stands here.
+fn begins_comma(text: &[u8]) -> bool
+    ensures { result ≡ rows.begins_comma text.now }
+{
+    match text {
+        [] => false,
+        [first, ..] => *first == b',',
+    }
+}
+
+/// Whether a text is a row line: one word, blanks or none, and then a comma. `Catalog::read_row` reads such lines.
+pub fn is_row_line(text: &[u8]) -> bool
+    ensures { result ≡ rows.is_row_line text.now }
+{
+    let (_, rest) = split_word(text);
+    begins_word(text) && begins_comma(trim_start(rest))
+}
+
+/// The word at the front of a line, and the text of the fields behind it, which is cut at commas.
+pub fn split_fields(line: &[u8]) -> (&[u8], Option<&[u8]>)
+    ensures word { result.0.now ≡ word_of line.now }
+    ensures fields { rows.fields_of line.now ≡ parts_behind 44 result.1 }
+{
+    let (word, behind) = split_word(line);
+    (word, cut(behind, b',').1)
+}
