@@ -9,7 +9,6 @@ pub mod laws;
 mod live;
 mod outcome;
 mod reply;
-mod row;
 mod session;
 mod statement;
 mod word;

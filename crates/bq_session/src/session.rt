@@ -13,9 +13,8 @@ ghost use Rattle.bq_session.specs.Session.{outcome_of};
 use crate::live::Live;
 use crate::outcome::LineOutcome;
 use crate::reply::{write_created, write_refused, write_registered, write_row};
-use crate::row::decide_row;
-use crate::statement::{decide_query, live_word, parse_word, stream_word};
-use crate::word::Word;
+use crate::statement::{decide_query, live_word};
+use crate::word::{Word, parse_word, row_word, stream_word};
 use bq_io::{Sink, Steps, WriteFault};
 use bq_parser::{LineKind, SelectAst, Statement, classify, parse};
 use bq_schema::Catalog;
@@ -123,9 +122,12 @@ impl Session {
         ensures { (s : State) → StandsFor self.old (one_line_more s)
             → Does result s (row_answer self.old.streams (nat_lt self.old.taken self.old.limit) text.now) self.new (O.seen out.old) (O.seen out.new) }
     {
-        match decide_row(&self.catalog, self.has_room(), text) {
-            Err(word) => self.refuse(word, out),
+        match self.catalog.read_row(text) {
+            Err(error) => self.refuse(row_word(error), out),
             Ok(row) => {
+                if !self.has_room() {
+                    return self.refuse(Word::RowLimit, out);
+                }
                 let (stream, values) = row;
                 self.taken += 1;
                 outcome_of(write_row(out, &self.live, stream, &values))

@@ -5,47 +5,15 @@ ghost use Rattle.bq_parser.specs.Resolution.{IsTaken};
 ghost use Rattle.bq_session.specs.Answer.{refused};
 ghost use Rattle.bq_session.specs.Answers as answers;
 ghost use Rattle.bq_session.specs.Answers.{query_answer, live_answer};
-ghost use Rattle.bq_session.specs.Decided as decided;
 ghost use Rattle.bq_session.specs.Decided.{query_decided};
 ghost use Rattle.bq_session.specs.Session.{names_of};
 
 use crate::live::Live;
-use crate::word::Word;
+use crate::word::{Word, resolve_word};
 use bq_model::Query;
-use bq_parser::{ParseError, ResolveError, SelectAst, resolve};
-use bq_schema::{Catalog, StreamError};
+use bq_parser::{SelectAst, resolve};
+use bq_schema::Catalog;
 use bq_text::Name;
-
-/// The word for a text that is no statement within the limits.
-pub fn parse_word(error: ParseError) -> Word
-    ensures { result ≡ decided.parse_word error }
-{
-    match error {
-        ParseError::Syntax { .. } => Word::Syntax,
-        ParseError::Limit { .. } => Word::Limit,
-    }
-}
-
-/// The word for a refused stream.
-pub fn stream_word(error: StreamError) -> Word
-    ensures { result ≡ answers.stream_word error }
-{
-    match error {
-        StreamError::Duplicate => Word::Duplicate,
-        StreamError::TooMany => Word::TooMany,
-    }
-}
-
-// The word for a query whose names stand for none.
-fn resolve_word(error: ResolveError) -> Word
-    ensures { result ≡ answers.resolve_word error }
-{
-    match error {
-        ResolveError::UnknownStream => Word::UnknownStream,
-        ResolveError::UnknownColumn => Word::UnknownColumn,
-        ResolveError::SelfJoin => Word::SelfJoin,
-    }
-}
 
 // Whether a live query has the name.
 fn is_live(live: &Option<Live>, name: &Name) -> bool

@@ -1,4 +1,10 @@
 //! Why a line is refused.
+ghost use Rattle.std.specs.Prelude.{◌≡◌};
+ghost use Rattle.bq_session.specs.Answers as answers;
+ghost use Rattle.bq_session.specs.Decided as decided;
+
+use bq_parser::{ParseError, ResolveError};
+use bq_schema::{RowError, StreamError};
 
 /// Why a line is refused. Where several apply, it is the first of these.
 #[derive(Clone, Copy, Debug, PartialEq, Eq)]
@@ -29,4 +35,48 @@ pub enum Word {
     RowLimit,
     /// The line asks for what is not built so far.
     Unbuilt,
+}
+
+/// The word for a refused row.
+pub fn row_word(error: RowError) -> Word
+    ensures { result ≡ answers.row_word error }
+{
+    match error {
+        RowError::Syntax => Word::Syntax,
+        RowError::Limit => Word::Limit,
+        RowError::UnknownStream => Word::UnknownStream,
+        RowError::Arity => Word::Arity,
+        RowError::Value => Word::Value,
+    }
+}
+
+/// The word for a text that is no statement within the limits.
+pub fn parse_word(error: ParseError) -> Word
+    ensures { result ≡ decided.parse_word error }
+{
+    match error {
+        ParseError::Syntax { .. } => Word::Syntax,
+        ParseError::Limit { .. } => Word::Limit,
+    }
+}
+
+/// The word for a refused stream.
+pub fn stream_word(error: StreamError) -> Word
+    ensures { result ≡ answers.stream_word error }
+{
+    match error {
+        StreamError::Duplicate => Word::Duplicate,
+        StreamError::TooMany => Word::TooMany,
+    }
+}
+
+/// The word for a query whose names stand for none.
+pub fn resolve_word(error: ResolveError) -> Word
+    ensures { result ≡ answers.resolve_word error }
+{
+    match error {
+        ResolveError::UnknownStream => Word::UnknownStream,
+        ResolveError::UnknownColumn => Word::UnknownColumn,
+        ResolveError::SelfJoin => Word::SelfJoin,
+    }
 }
