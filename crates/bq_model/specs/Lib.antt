@@ -7,5 +7,17 @@ pub mod Parts
 pub mod Order
 pub mod Links
 pub mod Violation
+pub mod Boxes
+pub mod Plan
+pub mod Admission
+pub mod Cells
+pub mod Combinations
+pub mod Ranges
+pub mod Numbers
+pub mod Probing
+pub mod Verdict
+pub mod Future
+pub mod Merge
+pub mod Reordering
 pub mod Laws
 pub mod Cases

@@ -4,8 +4,8 @@ use Rattle.std.proofs.lemmas.List.{get_or_past, get_or_default}
 use Rattle.std.proofs.lemmas.List.Sums.{get_or-le-sum_by}
 use Rattle.std.proofs.lemmas.Bool.{cases_lt}
 use Rattle.std.proofs.lemmas.Option.{same_Some, none-some}
-use Rattle.bq_pool.specs.declared.pool.Cell.{Cell}
-use Rattle.bq_pool.specs.declared.pool.Cell.TheVariants.{Empty}
+use Rattle.bq_model.specs.declared.cell.Cell.{Cell}
+use Rattle.bq_model.specs.declared.cell.Cell.TheVariants.{Empty}
 use Rattle.bq_pool.specs.declared.pool.Extent.{Extent}
 use Rattle.bq_pool.specs.Places.{held, lent, cell_place, slot_cells, extent_at, extents, IsSound}
 use Rattle.bq_pool.specs.Extents.{cells_of, IsLive}

@@ -8,4 +8,5 @@
 mod pages;
 mod pool;
 
-pub use pool::{Cell, Extent, Pool, PoolError};
+pub use bq_model::Cell;
+pub use pool::{Extent, Pool, PoolError};

@@ -4,6 +4,7 @@ ghost use Rattle.bq_pool.specs.Extents.{cells_of, with_cells, IsLive, IsTaken, I
 
 use crate::pages::{clear_pages, copy_pages, vacant};
 use bq_io::Steps;
+use bq_model::Cell;
 use std::alloc::{AllocError, Global};
 use std::marker::Model;
 use std::sync::ledger::Ledger;
@@ -17,20 +18,6 @@ const PAGES_PER_SLOT: usize = 4096;
 
 /// The place of the page table where the free pages begin, after those of 64 slots.
 const FIRST_FREE: usize = 262144;
-
-/// What one cell keeps of the rows that it stands for. It takes 16 bytes.
-#[derive(Clone, Copy, Debug, PartialEq, Eq, Default, Drop)]
-pub enum Cell {
-    /// No row.
-    #[default]
-    Empty,
-    /// The number of rows.
-    Count(u64),
-    /// At least one row.
-    Present,
-    /// The least or the greatest value among the rows.
-    Extreme(i64),
-}
 
 /// Why no extent was taken.
 #[derive(Clone, Copy, Debug, PartialEq, Eq, Error)]

@@ -1,0 +1,54 @@
+-- Chains of constraints: what they say of a solution, their pieces, and that a chain without a node twice is short.
+use Rattle.std.proofs.Common.{◌≡◌, ℕ, zero, suc, ℤ, pos, neg_ℤ, ◌+ℤ◌, ◌≤ℤ◌, refl, ap, subst, arith, Some, List, [], ◌∷◌, ◌++◌, length, Contains, slice_get}
+use Rattle.std.proofs.lemmas.Int.{ints}
+use Rattle.bq_closure.specs.declared.constraint.Constraint.{Constraint}
+use Rattle.bq_closure.specs.Solutions.{Solves}
+use Rattle.bq_closure.specs.Closure.{Chain, stop, step, Modest}
+use Rattle.std.proofs.lemmas.Option.{slice_get_within, get_or_from_slice_get}
+
+pub chain_sum_is : {cs : List Constraint} {es xs : List ℕ} {i j : ℕ} (s r : ℤ) → s ≡ r → Chain cs es i j xs s → Chain cs es i j xs r
+chain_sum_is {cs} {es} {xs} {i} {j} s r e h = subst (λ z. Chain cs es i j xs z) e h
+
+pub contains_at : (cs : List Constraint) (e : ℕ) (c : Constraint) → slice_get cs e ≡ Some c → Contains cs c
+contains_at cs e c h = (e, slice_get_within cs e c h, get_or_from_slice_get cs e c c h)
+
+-- a solution keeps within the sum of a chain
+pub chain_sound : {cs : List Constraint} {es xs : List ℕ} {i j : ℕ} {s : ℤ} (x : ℕ → ℤ) → Solves x cs → Chain cs es i j xs s → x i ≤ℤ (s +ℤ x j)
+chain_sound x v stop = omega (arith, ints)
+chain_sound {cs} {s = s} x v (step {e} {i} {k} {j} {es} {xs} {b} {s = r} c at l m n rest) =
+    let a : x c.left ≤ℤ (c.bound +ℤ x c.right) = v.each c (contains_at cs e c at) in
+    let h : x k ≤ℤ (r +ℤ x j) = chain_sound x v rest in
+    let f : x c.left ≡ x i = ap x l in
+    let g : x c.right ≡ x k = ap x m in
+    omega (arith, ints)
+
+pub slice_get-append : {A : Type 0} (xs ys : List A) (e : ℕ) (x : A) → slice_get xs e ≡ Some x → slice_get (xs ++ ys) e ≡ Some x
+slice_get-append [] ys zero x h = cc
+slice_get-append [] ys (suc e) x h = cc
+slice_get-append (y ∷ xs) ys zero x h = h
+slice_get-append (y ∷ xs) ys (suc e) x h = slice_get-append xs ys e x h
+
+-- a chain stays one when constraints are added
+pub chain_grows : {cs : List Constraint} {es xs : List ℕ} {i j : ℕ} {s : ℤ} (ds : List Constraint) → Chain cs es i j xs s → Chain (cs ++ ds) es i j xs s
+chain_grows ds stop = stop
+chain_grows {cs} ds (step {e} c at l m n rest) = step c (slice_get-append cs ds e c at) l m n (chain_grows ds rest)
+
+-- a chain has one node more than it has constraints
+pub length-nodes : {cs : List Constraint} {es xs : List ℕ} {i j : ℕ} {s : ℤ} → Chain cs es i j xs s → length xs ≡ suc (length es)
+length-nodes stop = refl
+length-nodes (step c at l m n rest) = ap suc (length-nodes rest)
+
+-- k times w
+abbrev pub times : ℕ → ℤ → ℤ
+times zero w = pos 0
+times (suc k) w = w +ℤ times k w
+
+pub chain_modest : {cs : List Constraint} {es xs : List ℕ} {i j : ℕ} {s : ℤ} (w : ℤ) → Modest cs w → Chain cs es i j xs s → (neg_ℤ (times (length es) w) ≤ℤ s) × (s ≤ℤ times (length es) w)
+chain_modest w m stop = (omega (arith, ints), omega (arith, ints))
+chain_modest {cs} w m (step {e} {es = es} {s = r} c at l k n rest) =
+    let h : (neg_ℤ (times (length es) w) ≤ℤ r) × (r ≤ℤ times (length es) w) = chain_modest w m rest in
+    let lo : neg_ℤ (times (length es) w) ≤ℤ r = h.0 in
+    let hi : r ≤ℤ times (length es) w = h.1 in
+    let a : neg_ℤ w ≤ℤ c.bound = m.low c (contains_at cs e c at) in
+    let b : c.bound ≤ℤ w = m.high c (contains_at cs e c at) in
+    (omega (arith, ints), omega (arith, ints))

@@ -1,0 +1,7 @@
+use Rattle.std.proofs.Common.{◌≡◌}
+use Rattle.bq_closure.specs.Closure.{bound_at}
+use Rattle.bq_closure.specs.Reach.{reach, pinned}
+use Rattle.bq_closure.proofs.solution.value_of.Given as goal
+
+abbrev pub invariant-loop-m : goal.invariant-loop-m
+invariant-loop-m l = l.least ≡ reach (bound_at l.ways) (pinned l.i l.value l.large) l.m l.k

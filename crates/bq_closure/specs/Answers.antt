@@ -1,0 +1,95 @@
+-- What the questions about difference bounds are answered.
+use Rattle.std.specs.Prelude.{◌≡◌, ℕ, zero, suc, ℤ, pos, neg_ℤ, ◌+ℤ◌, ◌≤ℤ◌, ◌<ℤ◌, List, [], ◌∷◌, length, Option, Some, None, nat_abs, All}
+use Rattle.arrayvec.specs.ArrayVec.{ArrayVec as Items}
+use Rattle.bq_model.specs.declared.atom.Attr.{Attr}
+use Rattle.bq_model.specs.declared.atom.Element.{Element}
+use Rattle.bq_model.specs.Query.{QueryValue, attrs_of}
+use Rattle.bq_closure.specs.declared.constraint.Constraint.{Constraint}
+use Rattle.bq_closure.specs.Nodes.{element_at}
+use Rattle.bq_closure.specs.Solutions.{Solves, IsSatisfiable, IsUpper, HasNoUpper, IsLeast, HasNoLeast, IsGreatest, HasNoGreatest, IsChain, IsNegativeCycle}
+
+-- the least bound of i - j, or none where there is none
+abbrev pub IsUpperAnswer : List Constraint → ℕ → ℕ → Option ℤ → Type 0
+IsUpperAnswer cs i j None = HasNoUpper cs i j
+IsUpperAnswer cs i j (Some u) = IsUpper cs i j u
+
+-- the least value of node i, or none where there is none
+abbrev pub IsLowAnswer : List Constraint → ℕ → Option ℤ → Type 0
+IsLowAnswer cs i None = HasNoLeast cs i
+IsLowAnswer cs i (Some low) = IsLeast cs i low
+
+-- the greatest value of node i, or none where there is none
+abbrev pub IsHighAnswer : List Constraint → ℕ → Option ℤ → Type 0
+IsHighAnswer cs i None = HasNoGreatest cs i
+IsHighAnswer cs i (Some high) = IsGreatest cs i high
+
+-- within 10^17 either way
+abbrev pub IsSmall : Option ℤ → Type 0
+IsSmall None = Unit {0}
+IsSmall (Some u) = (neg_ℤ (pos 100000000000000000) ≤ℤ u) × (u ≤ℤ pos 100000000000000000)
+
+-- the list of an answer
+abbrev pub list_of : {A : Type 0} → Option (Items A) → Option (List A)
+list_of None = None
+list_of (Some es) = Some es.items
+
+-- a chain from i to j whose sum is the least bound of i - j, or none where there is none
+abbrev pub IsPathAnswer : List Constraint → ℕ → ℕ → Option (List ℕ) → Type 0
+IsPathAnswer cs i j None = HasNoUpper cs i j
+IsPathAnswer cs i j (Some es) = (u : ℤ) × IsUpper cs i j u × IsChain cs es i j u
+
+-- a chain that closes with a negative sum, or none where the constraints are satisfiable
+abbrev pub IsCycleAnswer : List Constraint → Option (List ℕ) → Type 0
+IsCycleAnswer cs None = IsSatisfiable cs
+IsCycleAnswer cs (Some es) = IsNegativeCycle cs es × (¬ IsSatisfiable cs)
+
+-- x is less than y in all solutions
+pub record IsAlwaysLess (q : QueryValue) (cs : List Constraint) (x y : Element) : Type 0 where
+  pub less : (z : ℕ → ℤ) → Solves z cs → element_at (attrs_of q.atoms) z x <ℤ element_at (attrs_of q.atoms) z y
+
+-- x is equal to y in all solutions
+pub record IsAlwaysEqual (q : QueryValue) (cs : List Constraint) (x y : Element) : Type 0 where
+  pub equal : (z : ℕ → ℤ) → Solves z cs → element_at (attrs_of q.atoms) z x ≡ element_at (attrs_of q.atoms) z y
+
+-- x is at most so much above y in all solutions
+pub record IsAlwaysAbove (xs : List Attr) (cs : List Constraint) (x y : Element) (by : ℤ) : Type 0 where
+  pub above : (z : ℕ → ℤ) → Solves z cs → element_at xs z x ≤ℤ (by +ℤ element_at xs z y)
+
+-- 0 at node 0, and the integers of the list at the nodes after it
+abbrev pub at_nodes : List ℤ → ℕ → ℤ
+at_nodes xs zero = pos 0
+at_nodes [] (suc n) = pos 0
+at_nodes (x ∷ xs) (suc zero) = x
+at_nodes (x ∷ xs) (suc (suc n)) = at_nodes xs (suc n)
+
+-- within 10^17 and the size of the value, either way
+pub record IsNear (value x : ℤ) : Type 0 where
+  pub low : neg_ℤ (pos 100000000000000000 +ℤ pos (nat_abs value)) ≤ℤ x
+  pub high : x ≤ℤ (pos 100000000000000000 +ℤ pos (nat_abs value))
+
+-- an integer for each attribute, which together meet all constraints and have the value at node i
+pub record IsSolvedAt (attrs : ℕ) (cs : List Constraint) (i : ℕ) (value : ℤ) (xs : List ℤ) : Type 0 where
+  pub long : length xs ≡ attrs
+  pub solves : Solves (at_nodes xs) cs
+  pub here : at_nodes xs i ≡ value
+  pub near : All (IsNear value) xs
+
+-- the value is below the least
+abbrev pub IsBelow : ℤ → Option ℤ → Type 0
+IsBelow value None = ⊥
+IsBelow value (Some low) = value <ℤ low
+
+-- the value is above the greatest
+abbrev pub IsAbove : ℤ → Option ℤ → Type 0
+IsAbove value None = ⊥
+IsAbove value (Some high) = high <ℤ value
+
+-- the value is below the least or above the greatest of node i
+pub data IsOutside (cs : List Constraint) (i : ℕ) (value : ℤ) : Type 0 where
+  below : (low : ℤ) → IsLeast cs i low → value <ℤ low → IsOutside cs i value
+  above : (high : ℤ) → IsGreatest cs i high → high <ℤ value → IsOutside cs i value
+
+-- a solution with the value at node i, or none where the value is outside
+abbrev pub IsSolveAnswer : ℕ → List Constraint → ℕ → ℤ → Option (List ℤ) → Type 0
+IsSolveAnswer attrs cs i value None = IsOutside cs i value
+IsSolveAnswer attrs cs i value (Some xs) = IsSolvedAt attrs cs i value xs

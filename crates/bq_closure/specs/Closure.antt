@@ -1,0 +1,108 @@
+-- What a table of bounds keeps: it is closed, and each bound is the sum of a chain of constraints.
+use Rattle.std.specs.Prelude.{◌≡◌, ◌≢◌, ℕ, suc, ◌+◌, ◌*◌, ◌<◌, ◌≤◌, ℤ, pos, neg_ℤ, ◌+ℤ◌, ◌≤ℤ◌, ◌<ℤ◌, List, [], ◌∷◌, length, Option, Some, None, Contains, slice_get, slice_index_or}
+use Rattle.bq_model.proofs.Has.{Has}
+use Rattle.bq_closure.specs.declared.constraint.Constraint.{Constraint}
+use Rattle.bq_closure.specs.declared.way.Way.{Way}
+use Rattle.bq_closure.specs.declared.closure.Cycle.{Cycle}
+use Rattle.bq_closure.specs.declared.closure.Closure.{Closure}
+use Rattle.bq_closure.specs.Table.{Table}
+use Rattle.bq_closure.specs.Ways.{way_bound, path_items}
+
+-- some bound at i and j is at most u
+pub record AtMost (t : Table) (i j : ℕ) (u : ℤ) : Type 0 where
+  pub bound : ℤ
+  pub is : t i j ≡ Some bound
+  pub small : bound ≤ℤ u
+
+-- each node is 0 above itself, and no two bounds sum to less than the bound of their ends
+pub record IsClosed (n : ℕ) (t : Table) : Type 0 where
+  pub self : (i : ℕ) → i < n → t i i ≡ Some (pos 0)
+  pub closed : (i j k : ℕ) → i < n → j < n → k < n → (p q : ℤ) → t i j ≡ Some p → t j k ≡ Some q → AtMost t i k (p +ℤ q)
+
+-- the table is as tight as each constraint
+pub record Covers (n : ℕ) (t : Table) (cs : List Constraint) : Type 0 where
+  pub left : (c : Constraint) → Contains cs c → c.left < n
+  pub right : (c : Constraint) → Contains cs c → c.right < n
+  pub tight : (c : Constraint) → Contains cs c → AtMost t c.left c.right c.bound
+
+-- the constraints with the numbers es, from 1, lead from i to j over the nodes xs, both ends among them, with the sum s
+pub data Chain (cs : List Constraint) : List ℕ → ℕ → ℕ → List ℕ → ℤ → Type 0 where
+  stop : {i : ℕ} → Chain cs [] i i (i ∷ []) (pos 0)
+  step : {e i k j : ℕ} {es xs : List ℕ} {b s : ℤ} → (c : Constraint) → slice_get cs e ≡ Some c → c.left ≡ i → c.right ≡ k → c.bound ≡ b → Chain cs es k j xs s → Chain cs (suc e ∷ es) i j (i ∷ xs) (b +ℤ s)
+
+-- each bound lies within w either way
+pub record Modest (cs : List Constraint) (w : ℤ) : Type 0 where
+  pub low : (c : Constraint) → Contains cs c → neg_ℤ w ≤ℤ c.bound
+  pub high : (c : Constraint) → Contains cs c → c.bound ≤ℤ w
+
+-- no element stands twice
+pub data IsSimple {A : Type 0} : List A → Type 0 where
+  none : IsSimple []
+  more : {x : A} {xs : List A} → ¬ Has xs x → IsSimple xs → IsSimple (x ∷ xs)
+
+-- a chain of constraints that meets no node twice
+pub record HasChain (cs : List Constraint) (es : List ℕ) (i j : ℕ) (s : ℤ) : Type 0 where
+  pub nodes : List ℕ
+  pub chain : Chain cs es i j nodes s
+  pub simple : IsSimple nodes
+
+-- the way between two nodes, in a table with 13 to a row
+abbrev pub way_at : List (Option Way) → ℕ → ℕ → Option Way
+way_at ws i j = slice_index_or ws (13 * i + j) None
+
+-- the bounds of the ways
+abbrev pub bound_at : List (Option Way) → Table
+bound_at ws i j = way_bound (way_at ws i j)
+
+-- the way begins with a constraint from i, and goes on as the way of the next node
+pub record Next (cs : List Constraint) (ws : List (Option Way)) (i j : ℕ) (w : Way) : Type 0 where
+  pub index : ℕ
+  pub number : w.number ≡ suc index
+  pub edge : Constraint
+  pub at : slice_get cs index ≡ Some edge
+  pub left : edge.left ≡ i
+  pub right : edge.right ≡ w.next
+  pub rest : Way
+  pub rest_is : way_at ws w.next j ≡ Some rest
+  pub sum : w.bound ≡ edge.bound +ℤ rest.bound
+  pub long : w.length ≡ suc rest.length
+
+-- the ways among the first n nodes are the closure of the constraints
+pub record AreTight (n : ℕ) (cs : List Constraint) (ws : List (Option Way)) : Type 0 where
+  pub closed : IsClosed n (bound_at ws)
+  pub covers : Covers n (bound_at ws) cs
+  pub still : (i : ℕ) → i < n → (w : Way) → way_at ws i i ≡ Some w → w.length ≡ 0
+  pub next : (i j : ℕ) → i < n → j < n → i ≢ j → (w : Way) → way_at ws i j ≡ Some w → Next cs ws i j w
+
+-- the numbers of the cycle, of which there is at least one
+abbrev pub cycle_items : Cycle → List ℕ
+cycle_items y = y.first ∷ path_items y.rest
+
+-- the numbers of the cycle close a chain with a negative sum
+pub record IsNegative (cs : List Constraint) (y : Cycle) : Type 0 where
+  pub node : ℕ
+  pub nodes : List ℕ
+  pub sum : ℤ
+  pub chain : Chain cs (cycle_items y) node node nodes sum
+  pub negative : sum <ℤ pos 0
+
+-- a closed table, or a cycle that shows that there is none
+abbrev pub IsSettled : ℕ → List Constraint → List (Option Way) → Option Cycle → Type 0
+IsSettled n cs ws None = AreTight n cs ws
+IsSettled n cs ws (Some y) = IsNegative cs y
+
+-- the closure of these constraints between n attributes
+pub record IsClosureOf (k : Closure) (n : ℕ) (cs : List Constraint) : Type 0 where
+  pub attrs : k.attrs ≡ n
+  pub few : n < 13
+  pub count : k.count ≡ length cs
+  pub left : (c : Constraint) → Contains cs c → c.left < suc n
+  pub right : (c : Constraint) → Contains cs c → c.right < suc n
+  pub modest : Modest cs (pos 1000000000000000)
+  pub settled : IsSettled (suc n) cs k.ways k.cycle
+
+-- the closure of some constraints, to which so many more may be added
+pub record HasRoom (k : Closure) (more : ℕ) : Type 0 where
+  pub constraints : List Constraint
+  pub closure : IsClosureOf k k.attrs constraints
+  pub room : length constraints + more ≤ 268

@@ -1,0 +1,10 @@
+pub mod Solutions
+pub mod Nodes
+pub mod PartConstraints
+pub mod Answers
+pub mod Table
+pub mod Ways
+pub mod Closure
+pub mod Cycles
+pub mod Reach
+pub mod BoundsValue

@@ -1,0 +1,84 @@
+-- A bound with the start of the chain that gives it.
+use Rattle.std.specs.Prelude.{◌≡◌, ◌≢◌, ℕ, zero, suc, ◌+◌, ◌<◌, ◌≤◌, ℤ, pos, neg_ℤ, ◌+ℤ◌, ◌≤ℤ◌, ◌<ℤ◌, List, [], ◌∷◌, take, Option, Some, None, ◌*◌, ◌/◌, ◌%◌, slice_index_or, Bool, cond, nat_eq}
+use Rattle.bq_closure.specs.declared.path.Path.{Path}
+use Rattle.bq_closure.specs.declared.way.Way.{Way}
+use Rattle.bq_closure.specs.declared.constraint.Constraint.{Constraint}
+
+-- the numbers of a path
+abbrev pub path_items : Path → List ℕ
+path_items p = take p.len p.steps
+
+-- the bound of a way
+abbrev pub way_bound : Option Way → Option ℤ
+way_bound None = None
+way_bound (Some w) = Some w.bound
+
+-- 10^17 either way, and at most 12 constraints
+pub record AreModest (w : Way) : Type 0 where
+  pub low : neg_ℤ (pos 100000000000000000) ≤ℤ w.bound
+  pub high : w.bound ≤ℤ pos 100000000000000000
+  pub short : w.length ≤ 12
+
+-- a way that is there is modest
+abbrev pub IsModest : Option Way → Type 0
+IsModest None = Unit {0}
+IsModest (Some w) = AreModest w
+
+-- s is below what is there
+abbrev pub Improves : Option Way → ℤ → Type 0
+Improves None s = Unit {0}
+Improves (Some w) s = s <ℤ w.bound
+
+-- what is there is at most the sum, or the way by the head takes its place
+pub data IsBetter (now : Option Way) (head after : Way) (result : Option Way) : Type 0 where
+  kept : (w : Way) → now ≡ Some w → result ≡ Some w → w.bound ≤ℤ (head.bound +ℤ after.bound) → IsBetter now head after result
+  replaced : (w : Way) → result ≡ Some w → w.bound ≡ head.bound +ℤ after.bound → w.number ≡ head.number → w.next ≡ head.next → w.length ≡ head.length + after.length → Improves now (head.bound +ℤ after.bound) → IsBetter now head after result
+
+-- the way over the constraint, where before leads to its left node
+abbrev pub head_of : Way → Bool → Constraint → ℕ → Way
+head_of w here c number = record { bound = w.bound +ℤ c.bound; number = cond here number w.number; next = cond here c.right w.next; length = w.length + 1 }
+
+-- the same, where a way leads to the new constraint and on from it
+abbrev pub IsShorter : Option Way → Option Way → Bool → Constraint → ℕ → Option Way → Option Way → Type 0
+IsShorter now None here c number after result = result ≡ now
+IsShorter now (Some p) here c number None result = result ≡ now
+IsShorter now (Some p) here c number (Some q) result = IsBetter now (head_of p here c number) q result
+
+-- the same at a place of a table of 13 rows
+abbrev pub IsShorterAt : List (Option Way) → Constraint → ℕ → List (Option Way) → ℕ → Type 0
+IsShorterAt ws c number vs k = IsShorter (slice_index_or ws k None) (slice_index_or ws (13 * (k / 13) + c.left) None) (nat_eq (k / 13) c.left) c number (slice_index_or ws (13 * c.right + k % 13) None) (slice_index_or vs k None)
+
+-- the same by a head, where a way leads on from it
+abbrev pub IsLed : Option Way → Way → Option Way → Option Way → Type 0
+IsLed now head None result = result ≡ now
+IsLed now head (Some q) result = IsBetter now head q result
+
+-- the places from start to below stop are led by the head, and the others are as before
+pub record Writes (ws : List (Option Way)) (start stop : ℕ) (head : Way) (after : List (Option Way)) (vs : List (Option Way)) : Type 0 where
+  pub here : (k : ℕ) → k < 13 → start + k < stop → IsLed (slice_index_or ws (start + k) None) head (slice_index_or after k None) (slice_index_or vs (start + k) None)
+  pub before : (k : ℕ) → k < start → slice_index_or vs k None ≡ slice_index_or ws k None
+  pub later : (k : ℕ) → stop ≤ k → slice_index_or vs k None ≡ slice_index_or ws k None
+
+-- a node reaches itself at 0 by no constraint, and no other node
+pub data IsUnlinked (i j : ℕ) (o : Option Way) : Type 0 where
+  self : (w : Way) → i ≡ j → o ≡ Some w → w.bound ≡ pos 0 → w.length ≡ 0 → IsUnlinked i j o
+  other : i ≢ j → o ≡ None → IsUnlinked i j o
+
+-- the same at a place of a table with 13 to a row
+abbrev pub IsUnlinkedAt : List (Option Way) → ℕ → Type 0
+IsUnlinkedAt ws k = IsUnlinked (k / 13) (k % 13) (slice_index_or ws k None)
+
+-- the first constraint of a way
+abbrev pub number_of : Option Way → ℕ
+number_of None = 0
+number_of (Some w) = w.number
+
+-- the node that it leads to
+abbrev pub next_of : Option Way → ℕ
+next_of None = 0
+next_of (Some w) = w.next
+
+-- the first n constraints of the chain from i to j
+abbrev pub walked : List (Option Way) → ℕ → ℕ → ℕ → List ℕ
+walked ws zero i j = []
+walked ws (suc n) i j = number_of (slice_index_or ws (13 * i + j) None) ∷ walked ws n (next_of (slice_index_or ws (13 * i + j) None)) j

@@ -1,0 +1,257 @@
+//! Difference bounds that are kept closed.
+ghost use Rattle.std.specs.Prelude.{◌≡◌, ℕ, ◌+◌, ◌<◌, ◌≤◌, [], ◌∷◌, ◌++◌, List, length, map, pos, neg_ℤ, ◌≤ℤ◌, ◌<ℤ◌, ◌+ℤ◌, ◌-ℤ◌, ℤ, ◌^◌, IsTrue, IsFalse, ◌↔◌, MatchOption, Some, None, take};
+ghost use Rattle.bq_model.specs.Query.{attrs_of};
+ghost use Rattle.bq_model.specs.Order.{IsElement};
+ghost use Rattle.bq_closure.specs.Solutions.{IsWithin, IsSatisfiable};
+ghost use Rattle.bq_closure.specs.Nodes.{node_of, IsWithinLimit};
+ghost use Rattle.bq_closure.specs.Closure.{cycle_items};
+ghost use Rattle.bq_closure.specs.Answers.{IsBelow, IsAbove};
+
+use crate::closure::{Closure, Cycle};
+use crate::constraint::Constraint;
+use crate::nodes::{node, offset};
+use crate::path::Path;
+use crate::solution::solution;
+use crate::way::way_between;
+use arrayvec::ArrayVec;
+use bq_model::{Attr, Element, Query};
+use std::marker::Model;
+
+/// At most 268 constraints between the number 0 and at most 12 attributes, with what they imply. A clause sees how many
+/// attributes there are, and the constraints in the order in which they were added.
+#[derive(Drop)]
+pub struct Bounds {
+    constraints: ArrayVec<Constraint, 268>,
+    closure: Closure,
+}
+
+impl Model for Bounds {
+    ghost use Rattle.bq_closure.specs.BoundsValue.{BoundsValue, AreBounds};
+
+    ghost Value = { BoundsValue };
+
+    ghost view = { λ b. record { attrs = b.closure.attrs; constraints = b.constraints.items } };
+
+    ghost invariant = { λ b. AreBounds b.closure b.constraints.items };
+}
+
+impl Bounds {
+    ghost use Rattle.bq_closure.specs.Answers.{IsUpperAnswer, IsLowAnswer, IsHighAnswer, IsSmall, IsPathAnswer, IsCycleAnswer, IsSolveAnswer, list_of, IsAlwaysLess, IsAlwaysEqual, IsAlwaysAbove};
+
+    /// No constraint, for at most 12 attributes.
+    pub fn new(attrs: u8) -> Bounds
+        requires { attrs < 13 }
+        ensures attrs { result.attrs ≡ attrs }
+        ensures constraints { result.constraints ≡ [] }
+    {
+        Bounds {
+            constraints: ArrayVec::new(),
+            closure: Closure::new(attrs),
+        }
+    }
+
+    /// The same bounds.
+    pub fn copy(&self) -> Bounds
+        ensures attrs { result.attrs ≡ self.now.attrs }
+        ensures constraints { result.constraints ≡ self.now.constraints }
+    {
+        let mut constraints = ArrayVec::new();
+        for c in self.constraints.as_slice() {
+            constraints.push(*c);
+        }
+        Bounds {
+            constraints,
+            closure: self.closure,
+        }
+    }
+
+    /// Whether some integers for the nodes, node 0 being 0, meet all constraints.
+    pub fn satisfiable(&self) -> bool
+        ensures { IsTrue result ↔ IsSatisfiable self.now.constraints }
+    {
+        self.closure.satisfiable()
+    }
+
+    /// Adds a constraint between nodes that exist, with a bound within 10^15 either way.
+    pub fn add(&mut self, c: Constraint)
+        requires within { IsWithin self.old.attrs c }
+        requires few { length self.old.constraints < 268 }
+        ensures attrs { self.new.attrs ≡ self.old.attrs }
+        ensures constraints { self.new.constraints ≡ self.old.constraints ++ c ∷ [] }
+    {
+        self.closure.add(c);
+        self.constraints.push(c);
+    }
+
+    /// The least bound of `i - j` over all solutions, within 10^17 either way. None where there is no bound.
+    pub fn upper(&self, i: u8, j: u8) -> Option<i128>
+        requires left { i ≤ self.now.attrs }
+        requires right { j ≤ self.now.attrs }
+        requires satisfiable { IsSatisfiable self.now.constraints }
+        ensures answer { IsUpperAnswer self.now.constraints i j result }
+        ensures small { IsSmall result }
+    {
+        match way_between(&self.closure.ways, i, j) {
+            Some(way) => Some(i128::from(way.bound)),
+            None => None,
+        }
+    }
+
+    /// The greatest value of a node over all solutions, within 10^17 either way. None where there is none.
+    pub fn hi(&self, i: u8) -> Option<i128>
+        requires node { i ≤ self.now.attrs }
+        requires satisfiable { IsSatisfiable self.now.constraints }
+        ensures answer { IsHighAnswer self.now.constraints i result }
+        ensures small { IsSmall result }
+    {
+        self.upper(i, 0)
+    }
+
+    /// The least value of a node over all solutions, within 10^17 either way. None where there is none.
+    pub fn lo(&self, i: u8) -> Option<i128>
+        requires node { i ≤ self.now.attrs }
+        requires satisfiable { IsSatisfiable self.now.constraints }
+        ensures answer { IsLowAnswer self.now.constraints i result }
+        ensures small { IsSmall result }
+    {
+        match self.upper(0, i) {
+            Some(bound) => Some(-bound),
+            None => None,
+        }
+    }
+
+    /// The numbers, from 1, of at most 12 constraints that lead from `i` to `j` and sum to the least bound of `i - j`. None
+    /// where there is no bound.
+    pub fn path(&self, i: u8, j: u8) -> Option<ArrayVec<u16, 12>>
+        requires left { i ≤ self.now.attrs }
+        requires right { j ≤ self.now.attrs }
+        requires satisfiable { IsSatisfiable self.now.constraints }
+        ensures { IsPathAnswer self.now.constraints i j (list_of result) }
+    {
+        match way_between(&self.closure.ways, i, j) {
+            Some(way) => Some(Path::walk(&self.closure.ways, i, j, way.length).list()),
+            None => None,
+        }
+    }
+
+    /// The numbers, from 1, of at most 13 constraints that close a chain with a negative sum. None where the constraints
+    /// are satisfiable.
+    pub fn cycle(&self) -> Option<ArrayVec<u16, 13>>
+        ensures { IsCycleAnswer self.now.constraints (list_of result) }
+    {
+        match self.closure.cycle {
+            Some(cycle) => Some(numbers(cycle)),
+            None => None,
+        }
+    }
+
+    // Whether x is at most `by` above y in all solutions.
+    fn keeps(&self, attrs: &[Attr], x: Element, y: Element, by: i64) -> bool
+        requires few { length attrs.now ≤ 12 }
+        requires left { node_of attrs.now x ≤ self.now.attrs }
+        requires right { node_of attrs.now y ≤ self.now.attrs }
+        requires left_limit { IsWithinLimit x }
+        requires right_limit { IsWithinLimit y }
+        requires satisfiable { IsSatisfiable self.now.constraints }
+        requires low { neg_ℤ (pos 1) ≤ℤ by }
+        requires high { by ≤ℤ pos 0 }
+        ensures { IsTrue result ↔ IsAlwaysAbove attrs.now self.now.constraints x y by }
+    {
+        match self.upper(node(attrs, x), node(attrs, y)) {
+            Some(bound) => bound <= limit(offset(x), offset(y), by),
+            None => false,
+        }
+    }
+
+    /// Whether x is less than y in all solutions. Both are elements of a query with as many attributes.
+    pub fn lt(&self, x: Element, y: Element, q: &Query) -> bool
+        requires attrs { self.now.attrs ≡ length (attrs_of q.now.atoms) }
+        requires left { IsElement q.now x }
+        requires right { IsElement q.now y }
+        requires satisfiable { IsSatisfiable self.now.constraints }
+        ensures { IsTrue result ↔ IsAlwaysLess q.now self.now.constraints x y }
+    {
+        self.keeps(q.attrs(), x, y, -1)
+    }
+
+    /// Whether x is equal to y in all solutions. Both are elements of a query with as many attributes.
+    pub fn eq(&self, x: Element, y: Element, q: &Query) -> bool
+        requires attrs { self.now.attrs ≡ length (attrs_of q.now.atoms) }
+        requires left { IsElement q.now x }
+        requires right { IsElement q.now y }
+        requires satisfiable { IsSatisfiable self.now.constraints }
+        ensures { IsTrue result ↔ IsAlwaysEqual q.now self.now.constraints x y }
+    {
+        let attrs = q.attrs();
+        if self.keeps(attrs, x, y, 0) {
+            self.keeps(attrs, y, x, 0)
+        } else {
+            false
+        }
+    }
+
+    /// A value for each attribute, which together meet all constraints and give node `i` the value. Each lies within
+    /// 10^17 plus the size of the value, which is within 10^30 either way. None where the value is below the least or above
+    /// the greatest of the node.
+    pub fn solve_at(&self, i: u8, value: i128) -> Option<ArrayVec<i128, 12>>
+        requires node { i ≤ self.now.attrs }
+        requires satisfiable { IsSatisfiable self.now.constraints }
+        requires low { neg_ℤ (pos (10 ^ 30)) ≤ℤ value }
+        requires high { value ≤ℤ pos (10 ^ 30) }
+        ensures { IsSolveAnswer self.now.attrs self.now.constraints i value (list_of result) }
+    {
+        if is_below(value, self.lo(i)) {
+            return None;
+        }
+        if is_above(value, self.hi(i)) {
+            return None;
+        }
+        Some(solution(&self.closure.ways, self.closure.attrs, i, value))
+    }
+}
+
+// Whether the value is below the least, where there is one.
+fn is_below(value: i128, least: Option<i128>) -> bool
+    ensures { IsTrue result ↔ IsBelow value least }
+{
+    match least {
+        Some(low) => value < low,
+        None => false,
+    }
+}
+
+// Whether the value is above the greatest, where there is one.
+fn is_above(value: i128, greatest: Option<i128>) -> bool
+    ensures { IsTrue result ↔ IsAbove value greatest }
+{
+    match greatest {
+        Some(high) => high < value,
+        None => false,
+    }
+}
+
+// The bound between the nodes of two elements that keeps the first at most `by` above the second.
+fn limit(left: i64, right: i64, by: i64) -> i128
+    requires left_low { neg_ℤ (pos 999999999999999) ≤ℤ left }
+    requires left_high { left ≤ℤ pos 999999999999999 }
+    requires right_low { neg_ℤ (pos 999999999999999) ≤ℤ right }
+    requires right_high { right ≤ℤ pos 999999999999999 }
+    requires low { neg_ℤ (pos 1) ≤ℤ by }
+    requires high { by ≤ℤ pos 0 }
+    ensures { result ≡ right -ℤ left +ℤ by }
+{
+    i128::from(right - left + by)
+}
+
+// The numbers of a cycle.
+fn numbers(cycle: Cycle) -> ArrayVec<u16, 13>
+    ensures { result.items ≡ cycle_items cycle }
+{
+    let mut list = ArrayVec::new();
+    list.push(cycle.first);
+    let rest = cycle.rest.list();
+    for step in rest.as_slice() {
+        list.push(*step);
+    }
+    list
+}

@@ -1,0 +1,22 @@
+//! What difference bounds imply over the integers.
+//!
+//! A constraint says that one node is at most so much above another. Node 0 is the number 0, and node i is the i-th
+//! attribute of a query, from 1. `Bounds` keeps constraints and answers what they imply, with witnesses: whether some
+//! integers meet all, the least bound of a difference, the order of two elements, the least and the greatest value of a
+//! node, a solution with a given value, a chain of constraints that gives a bound, and a negative cycle. `Closure` is
+//! what these answers are read from, without the constraints themselves: a table of bounds between at most 13 nodes,
+//! kept closed. Adding a constraint takes a number of steps that is quadratic in the nodes; nothing allocates.
+#![tactic(auto)]
+
+mod bounds;
+mod closure;
+mod constraint;
+mod nodes;
+mod path;
+mod solution;
+mod way;
+
+pub use bounds::Bounds;
+pub use closure::Closure;
+pub use constraint::Constraint;
+pub use nodes::constraints;

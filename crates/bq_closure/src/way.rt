@@ -1,0 +1,173 @@
+//! Ways from node to node, and the table of them, with 13 to a row.
+
+ghost use Rattle.std.specs.Prelude.{◌≡◌, ◌≢◌, ℕ, ◌+◌, ◌<◌, ◌≤◌, ◌^◌, ◌∷◌, [], ◌++◌, ◌+ℤ◌, ◌≤ℤ◌, ◌<ℤ◌, IsTrue, ◌↔◌, pos, neg_ℤ, length, ◌*◌, ◌/◌, ◌%◌, slice_index_or, Option, cond, nat_eq};
+ghost use Rattle.bq_closure.specs.Ways.{Improves, IsBetter, IsModest, AreModest, IsUnlinked, IsUnlinkedAt, Writes, IsShorterAt, head_of};
+
+use crate::constraint::Constraint;
+
+/// A bound of the difference of two nodes, with the chain of constraints that it is the sum of: the number of the first,
+/// the node that it leads to, and how many there are.
+#[derive(Clone, Copy)]
+pub struct Way {
+    pub bound: i64,
+    pub number: u16,
+    pub next: u8,
+    pub length: u8,
+}
+
+/// The way from one node to another.
+pub fn way_between(ways: &[Option<Way>; 169], left: u8, right: u8) -> Option<Way>
+    ensures { result ≡ slice_index_or ways.now (13 * left + right) None }
+{
+    match ways.get(13 * usize::from(left) + usize::from(right)) {
+        Some(way) => *way,
+        None => None,
+    }
+}
+
+/// The sum of two bounds.
+pub fn total(before: i64, after: i64) -> i64
+    requires low { neg_ℤ (pos 200000000000000000) ≤ℤ before }
+    requires high { before ≤ℤ pos 200000000000000000 }
+    requires after_low { neg_ℤ (pos 100000000000000000) ≤ℤ after }
+    requires after_high { after ≤ℤ pos 100000000000000000 }
+    ensures { result ≡ before +ℤ after }
+{
+    before + after
+}
+
+// Whether the sum is strictly below what is there.
+fn is_lower(sum: i64, now: Option<Way>) -> bool
+    ensures { IsTrue result ↔ Improves now sum }
+{
+    match now {
+        Some(old) => sum < old.bound,
+        None => true,
+    }
+}
+
+// What is there, or the way by the head where that is strictly lower.
+fn better(now: Option<Way>, head: Way, after: Way) -> Option<Way>
+    requires head_low { neg_ℤ (pos 200000000000000000) ≤ℤ head.bound }
+    requires head_high { head.bound ≤ℤ pos 200000000000000000 }
+    requires head_short { head.length ≤ 13 }
+    requires after { AreModest after }
+    ensures { IsBetter now head after result }
+{
+    let sum = total(head.bound, after.bound);
+    if !is_lower(sum, now) {
+        return now;
+    }
+    Some(Way {
+        bound: sum,
+        number: head.number,
+        next: head.next,
+        length: head.length + after.length,
+    })
+}
+
+// The way over a constraint, from a node with a way to its left node.
+fn head(before: Way, here: bool, c: Constraint, number: u16) -> Way
+    requires modest { AreModest before }
+    requires low { neg_ℤ (pos 1000000000000000) ≤ℤ c.bound }
+    requires high { c.bound ≤ℤ pos 1000000000000000 }
+    ensures { result ≡ head_of before here c number }
+{
+    Way {
+        bound: total(before.bound, c.bound),
+        number: if here { number } else { before.number },
+        next: if here { c.right } else { before.next },
+        length: before.length + 1,
+    }
+}
+
+/// Whether the way back and the constraint close a chain with a negative sum.
+pub fn closes(back: Way, c: Constraint) -> bool
+    requires modest { AreModest back }
+    requires low { neg_ℤ (pos 1000000000000000) ≤ℤ c.bound }
+    requires high { c.bound ≤ℤ pos 1000000000000000 }
+    ensures { IsTrue result ↔ ((back.bound +ℤ c.bound) <ℤ pos 0) }
+{
+    total(back.bound, c.bound) < 0
+}
+
+// The ways that begin at a node.
+fn row(ways: &[Option<Way>; 169], node: usize) -> [Option<Way>; 13]
+    requires { node < 13 }
+    ensures { (j : ℕ) → j < 13 → slice_index_or result j None ≡ slice_index_or ways.now (13 * node + j) None }
+{
+    let mut copy: [Option<Way>; 13] = [None; 13];
+    for j in 0..13 {
+        copy[j] = ways[13 * node + j];
+    }
+    copy
+}
+
+// Leads the ways of the row at `start` by the head, where they get lower.
+fn lead(
+    ways: &mut [Option<Way>; 169],
+    start: usize,
+    nodes: usize,
+    head: Way,
+    after: &[Option<Way>; 13],
+)
+    requires start { start ≤ 156 }
+    requires nodes { nodes ≤ 13 }
+    requires head_low { neg_ℤ (pos 200000000000000000) ≤ℤ head.bound }
+    requires head_high { head.bound ≤ℤ pos 200000000000000000 }
+    requires head_short { head.length ≤ 13 }
+    requires modest { (j : ℕ) → j < nodes → IsModest (slice_index_or after.now j None) }
+    ensures { Writes ways.old start (start + nodes) head after.now ways.new }
+{
+    for j in 0..nodes {
+        if let Some(way) = after[j] {
+            ways[start + j] = better(ways[start + j], head, way);
+        }
+    }
+}
+
+// The way of a place of the table with no constraint.
+fn unlinked_at(k: usize) -> Option<Way>
+    ensures { IsUnlinked (k / 13) (k % 13) result }
+{
+    if k / 13 == k % 13 {
+        Some(Way {
+            bound: 0,
+            number: 0,
+            next: 0,
+            length: 0,
+        })
+    } else {
+        None
+    }
+}
+
+/// The ways with no constraint: each node reaches itself.
+pub fn unlinked() -> [Option<Way>; 169]
+    ensures { (k : ℕ) → k < 169 → IsUnlinkedAt result k }
+{
+    let mut ways: [Option<Way>; 169] = [None; 169];
+    for k in 0..169 {
+        ways[k] = unlinked_at(k);
+    }
+    ways
+}
+
+/// The ways with one constraint more.
+pub fn tighten(ways: &mut [Option<Way>; 169], nodes: usize, c: Constraint, number: u16)
+    requires nodes { nodes ≤ 13 }
+    requires left { c.left < nodes }
+    requires right { c.right < nodes }
+    requires low { neg_ℤ (pos 1000000000000000) ≤ℤ c.bound }
+    requires high { c.bound ≤ℤ pos 1000000000000000 }
+    requires modest { (i j : ℕ) → i < nodes → j < nodes → IsModest (slice_index_or ways.old (13 * i + j) None) }
+    ensures { (i j : ℕ) → i < nodes → j < nodes → IsShorterAt ways.old c number ways.new (13 * i + j) }
+{
+    let after = row(ways, usize::from(c.right));
+    for i in 0..nodes {
+        if let Some(before) = ways[13 * i + usize::from(c.left)] {
+            let head = head(before, i == usize::from(c.left), c, number);
+            lead(ways, 13 * i, nodes, head, &after);
+        }
+    }
+}

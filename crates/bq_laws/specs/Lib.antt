@@ -1,0 +1,9 @@
+pub mod Admitting
+pub mod Places
+pub mod Plans
+pub mod Probing
+pub mod Sufficiency
+pub mod Growth
+pub mod Rooms
+pub mod Cases
+pub mod HotRooms

@@ -1,0 +1,44 @@
+-- What a walk over the combinations of a part needs of the plan.
+use Rattle.std.specs.Prelude.{◌≡◌, ℕ, ◌+◌, ◌<◌, ◌≤◌, ◌==◌, false, List, [], if◌then◌else◌, length, Contains, All, AllPairs}
+use Rattle.std.specs.List.{flat_map, slice_index_or}
+use Rattle.bq_model.specs.declared.plan.PartPlan.{PartPlan}
+use Rattle.bq_model.specs.Query.{QueryValue, IsWithinLimits}
+use Rattle.bq_model.specs.Meaning.{Arrival, by_column}
+use Rattle.bq_model.specs.Boxes.{AreFull, box_size, box, place_of}
+use Rattle.bq_model.specs.Plan.{IsPartPlan, IsPlan, stream_at, dims_at}
+use Rattle.bq_model.specs.Admission.{admits}
+use Rattle.bq_model.specs.Combinations.{tied, Reading, choice_of, choices_at, found_in}
+use Rattle.bq_model.specs.Numbers.{cell_count, share, work}
+use Rattle.bq_model.specs.Probing.{tried_share, found_beside}
+
+-- no dim of the place is empty, each is of its stream, none is in the class of an earlier one, and the box lies within the cells
+pub record IsWalkable (q : QueryValue) (part : PartPlan) (cells place : ℕ) : Type 0 where
+  pub full : AreFull (dims_at part place)
+  pub streams : All (λ d. d.attr.stream ≡ place) (dims_at part place)
+  pub names : AllPairs (λ d e. tied q part.signs.items d.attr e.attr ≡ false) (dims_at part place)
+  pub room : (stream_at part place).base + (stream_at part place).size ≤ cells
+
+-- each part of a plan can be walked at each place, and a walk tries no more than the share of the part, which is part of the work
+abbrev pub PlansAreWalkable : Type 0
+PlansAreWalkable =
+    (q : QueryValue) (plan : List PartPlan) → IsPlan q plan
+    → (part : PartPlan) → Contains plan part
+    → ((place : ℕ) → place < length q.from → IsWalkable q part (cell_count plan) place)
+    × ((arriving : ℕ) → arriving < length q.from → tried_share part arriving ≤ share part)
+    × (share part ≤ work plan)
+
+-- the cells to choose from, listed by the values of the dims in place of the places in the box
+abbrev pub ChoicesGoByValues : Type 0
+ChoicesGoByValues =
+    (q : QueryValue) (part : PartPlan) (read : Reading) (r : Arrival) (place stream : ℕ)
+    → (r.stream == stream) ≡ false → (stream_at part place).size ≡ box_size (dims_at part place)
+    → choices_at q part read r place stream
+    ≡ flat_map (λ xs. choice_of q part place xs (read part place (place_of (dims_at part place) xs))) (box (dims_at part place))
+
+-- for a row that arrives at a place of FROM, the cells of a part answer what a walk finds, where the part admits the row, and else nothing
+abbrev pub WalksFindAll : Type 0
+WalksFindAll =
+    (q : QueryValue) (part : PartPlan) → IsWithinLimits q → IsPartPlan q part
+    → (read : Reading) (r : Arrival) (arriving : ℕ) → arriving < length q.from → slice_index_or q.from arriving 0 ≡ r.stream
+    → found_in q part read r
+    ≡ (if admits q part arriving (by_column r.values) then found_beside q part read arriving (by_column r.values) else [])

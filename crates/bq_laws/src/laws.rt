@@ -1,0 +1,195 @@
+//! The laws, as public functions without a body.
+ghost use Rattle.bq_laws.specs.Admitting.{AdmissionIsExact};
+ghost use Rattle.bq_laws.specs.Places.{PlacesAreInverse, AdmittedRowsHavePlaces, BoxesAreApart, SynopsisHasCells, CellsAreRead};
+ghost use Rattle.bq_laws.specs.Plans.{HasOnePlan, HasOneVerdict, RangesAreExact, FreeDimsAreExact, SharesAreGreatest};
+ghost use Rattle.bq_laws.specs.Probing.{PlansAreWalkable, ChoicesGoByValues, WalksFindAll};
+ghost use Rattle.bq_laws.specs.Cases.{PremisesAreMet, ExtremesDecide, CountsMultiply, OneTableForAllParts, NumbersAreThese};
+ghost use Rattle.bq_laws.specs.HotRooms.{HotRooms};
+ghost use Rattle.bq_laws.specs.Sufficiency.{ReadingsSuffice, SynopsisIsRead, SynopsisSuffices, FutureIsDetermined, ExtremesAreExact, ExtremesAreAttained};
+ghost use Rattle.bq_laws.specs.Growth.{InsertsRow, SynopsesMerge, RowsMerge, PrintedGrows, AnyInterleaving};
+ghost use Rattle.bq_laws.specs.Rooms.{TableHasRoom, WaitingFits, CountsFit, WaitingCountsFit, CellsFit, AnswersAreCounted};
+
+/// A combination is in a part exactly where the part admits each of its rows and the links hold.
+pub fn admission_is_exact()
+    ensures { AdmissionIsExact }
+{}
+
+/// Places in a box and combinations of dim values are one to one.
+pub fn places_are_inverse()
+    ensures { PlacesAreInverse }
+{}
+
+/// The dim values of a row that a part admits lie in its box.
+pub fn admitted_rows_have_places()
+    ensures { AdmittedRowsHavePlaces }
+{}
+
+/// Two boxes have no cell in common, and all lie within the cells of the plan.
+pub fn boxes_are_apart()
+    ensures { BoxesAreApart }
+{}
+
+/// A synopsis has as many cells as are announced.
+pub fn synopsis_has_cells()
+    ensures { SynopsisHasCells }
+{}
+
+/// As many cells as are announced are fixed by what stands at each place of each box.
+pub fn cells_are_read()
+    ensures { CellsAreRead }
+{}
+
+/// The cells of a history, however they are laid out, and the printed tuples tell the answers to every next row.
+pub fn readings_suffice()
+    ensures { ReadingsSuffice }
+{}
+
+/// The synopsis, read by the bases of the plan, gives the cells of the history.
+pub fn synopsis_is_read()
+    ensures { SynopsisIsRead }
+{}
+
+/// The synopsis and the printed tuples of a history tell the answers to every next row.
+pub fn synopsis_suffices()
+    ensures { SynopsisSuffices }
+{}
+
+/// Equal synopses and equal printed tuples are answered alike for good.
+pub fn future_is_determined()
+    ensures { FutureIsDetermined }
+{}
+
+/// The extreme that a cell keeps is the least, or the greatest, value of its rows.
+pub fn extremes_are_exact()
+    ensures { ExtremesAreExact }
+{}
+
+/// Some row of a cell has all the values that the cell gives it.
+pub fn extremes_are_attained()
+    ensures { ExtremesAreAttained }
+{}
+
+/// A row changes one cell of its box, and no other.
+pub fn inserts_row()
+    ensures { InsertsRow }
+{}
+
+/// The synopsis of one history after another is the merge of their synopses.
+pub fn synopses_merge()
+    ensures { SynopsesMerge }
+{}
+
+/// Merging one row into any cells changes one cell of each box that the row lies in, and no other.
+pub fn rows_merge()
+    ensures { RowsMerge }
+{}
+
+/// The printed tuples grow by the new answers.
+pub fn printed_grows()
+    ensures { PrintedGrows }
+{}
+
+/// Over a whole history the answers are those of the nested product, whatever the order between streams.
+pub fn any_interleaving()
+    ensures { AnyInterleaving }
+{}
+
+/// A table of as many entries as are announced has room for every answer.
+pub fn table_has_room()
+    ensures { TableHasRoom }
+{}
+
+/// The announced answers are the number of the tuples in the ranges of the parts.
+pub fn answers_are_counted()
+    ensures { AnswersAreCounted }
+{}
+
+/// Whatever the cells hold, what waits has room in the table.
+pub fn waiting_fits()
+    ensures { WaitingFits }
+{}
+
+/// A count of one answer fits 128 bits.
+pub fn counts_fit()
+    ensures { CountsFit }
+{}
+
+/// Without DISTINCT what waits for one tuple fits 128 bits.
+pub fn waiting_counts_fit()
+    ensures { WaitingCountsFit }
+{}
+
+/// A query of which no condition is violated has one plan.
+pub fn one_plan()
+    ensures { HasOnePlan }
+{}
+
+/// There is one verdict on a query.
+pub fn one_verdict()
+    ensures { HasOneVerdict }
+{}
+
+/// The range of a selected column goes from its least to its greatest value in the part.
+pub fn ranges_are_exact()
+    ensures { RangesAreExact }
+{}
+
+/// The links of a part tell which dims are fixed.
+pub fn free_dims_are_exact()
+    ensures { FreeDimsAreExact }
+{}
+
+/// The share of a part is the greatest over the arriving stream.
+pub fn shares_are_greatest()
+    ensures { SharesAreGreatest }
+{}
+
+/// Each part of a plan can be walked, within its share of the work.
+pub fn plans_are_walkable()
+    ensures { PlansAreWalkable }
+{}
+
+/// The cells to choose from can be listed by the values of the dims.
+pub fn choices_go_by_values()
+    ensures { ChoicesGoByValues }
+{}
+
+/// A walk by places of FROM finds what the cells answer, where the part admits the row, and else they answer nothing.
+pub fn walks_find_all()
+    ensures { WalksFindAll }
+{}
+
+/// Each cell is of its kind, with a count of at most 2^40.
+pub fn cells_fit()
+    ensures { CellsFit }
+{}
+
+/// A worked query and its plan meet all that the laws ask.
+pub fn premises_are_met()
+    ensures { PremisesAreMet }
+{}
+
+/// A worked query whose answers the extremes decide.
+pub fn extremes_decide()
+    ensures { ExtremesDecide }
+{}
+
+/// A worked query over three streams, whose counts multiply.
+pub fn counts_multiply()
+    ensures { CountsMultiply }
+{}
+
+/// A worked query with a tuple that two parts give: it is answered once.
+pub fn one_table_for_all_parts()
+    ensures { OneTableForAllParts }
+{}
+
+/// Two worked queries, one with an equality and one without, and their numbers.
+pub fn numbers_are_these()
+    ensures { NumbersAreThese }
+{}
+
+/// A worked query of 25 parts: its numbers, and the answers to four rows.
+pub fn hot_rooms()
+    ensures { HotRooms }
+{}

@@ -1,0 +1,179 @@
+-- What one more sign means for the closure of a node.
+use Rattle.std.proofs.Common.{◌≡◌, ℕ, zero, suc, ◌<◌, ◌≤◌, ◌+◌, ◌*◌, ℤ, List, [], ◌∷◌, ◌++◌, length, length-append, append_assoc, append-nil, All, slice_get, slice_index_or, Some, refl, sym, ◌∙◌, ap, subst, arith}
+use Rattle.std.proofs.lemmas.List.Elements.{Contains-get_or}
+use Rattle.bq_model.proofs.Has.{Has, Has-from_contains}
+use Rattle.bq_model.proofs.Elements.{element_from_has}
+use Rattle.bq_model.proofs.Local.{PairIn, pair_in}
+use Rattle.bq_model.proofs.Split.{IsFeasible}
+use Rattle.bq_model.specs.declared.atom.Attr.{Attr}
+use Rattle.bq_model.specs.declared.atom.Atom.{Atom}
+use Rattle.bq_model.specs.declared.part.Pair.{Pair}
+use Rattle.bq_model.specs.declared.part.Sign.{Sign}
+use Rattle.bq_model.specs.declared.atom.Element.TheVariants as element
+use Rattle.bq_model.specs.Query.{QueryValue, attrs_of, consts_of, IsWithinLimits}
+use Rattle.bq_model.specs.Parts.{pairs}
+use Rattle.bq_model.specs.Order.{IsElement}
+use Rattle.bq_closure.specs.declared.constraint.Constraint.{Constraint}
+use Rattle.bq_closure.specs.declared.closure.Closure.{Closure}
+use Rattle.bq_closure.specs.Closure.{IsClosureOf, HasRoom}
+use Rattle.bq_closure.specs.Nodes.{constraints_of}
+use Rattle.bq_closure.specs.PartConstraints.{sign_of, of_atoms, of_signs, of_prefix}
+use Rattle.bq_closure.specs.Solutions.{IsWithin, Solves, IsSatisfiable}
+use Rattle.bq_closure.proofs.NodeFacts.{length-constraints}
+use Rattle.bq_closure.proofs.Joined.{solves_left, solves_right, solves_both}
+use Rattle.bq_closure.proofs.Link.{of_signs_more, of_no_signs}
+use Rattle.bq_closure.proofs.Feasible.{feasible_if, satisfiable_if}
+use Rattle.bq_lto_split.specs.Tree.{Before, AddsSign}
+
+-- ---- the pair of the next sign
+
+pub pair_at : (ps : List Pair) (i : ℕ) (d : Pair) → i < length ps → slice_get ps i ≡ Some (slice_index_or ps i d)
+pair_at [] i d l = absurd (omega arith)
+pair_at (p ∷ ps) zero d l = refl
+pair_at (p ∷ ps) (suc i) d l = pair_at ps i d (omega arith)
+
+-- both sides of a pair are elements of the query
+pub pair_elements : (q : QueryValue) (ps : List Pair) (i : ℕ) (d : Pair) → ps ≡ pairs q → i < length ps → IsElement q (element.Attr (slice_index_or ps i d).left) × IsElement q (slice_index_or ps i d).right
+unfolding pairs
+pair_elements q ps i d e l =
+    let h : Has (pairs q) (slice_index_or ps i d) = subst (λ z. Has z (slice_index_or ps i d)) e (Has-from_contains ps _ (Contains-get_or ps i d l)) in
+    let s : PairIn (attrs_of q.atoms) (consts_of q.atoms) (slice_index_or ps i d) = pair_in _ _ _ h in
+    (element_from_has q (element.Attr (slice_index_or ps i d).left) s.left, element_from_has q (slice_index_or ps i d).right s.right)
+
+prefix_more : (q : QueryValue) (pre : List Sign) (p : Pair) (s : Sign) → slice_get (pairs q) (length pre) ≡ Some p → of_prefix q (pre ++ s ∷ []) ≡ of_prefix q pre ++ constraints_of (attrs_of q.atoms) (element.Attr p.left) s p.right
+prefix_more q pre p s h =
+    ap (λ z. of_atoms (attrs_of q.atoms) q.atoms ++ z) (of_signs_more (attrs_of q.atoms) (pairs q) pre p s h)
+    ∙ sym (append_assoc (of_atoms (attrs_of q.atoms) q.atoms) (of_signs (attrs_of q.atoms) (pairs q) pre) (constraints_of (attrs_of q.atoms) (element.Attr p.left) s p.right))
+
+pub adds_sign : (q : QueryValue) (ps : List Pair) (pre : List Sign) (s : Sign) (d : Pair) (i : ℕ) (cs : List Constraint) → ps ≡ pairs q → i ≡ length pre → i < length ps
+    → cs ≡ constraints_of (attrs_of q.atoms) (element.Attr (slice_index_or ps i d).left) s (slice_index_or ps i d).right → All (IsWithin (length (attrs_of q.atoms))) cs → AddsSign q pre s cs
+adds_sign q ps pre s d i cs e at l c w =
+    let p : Pair = slice_index_or ps i d in
+    let is : slice_get (pairs q) (length pre) ≡ Some (slice_index_or ps i d) = subst (λ (z : List Pair). slice_get z (length pre) ≡ Some (slice_index_or ps i d)) e (subst (λ (n : ℕ). slice_get ps n ≡ Some (slice_index_or ps i d)) at (pair_at ps i d l)) in
+    record {
+      more = prefix_more q pre (slice_index_or ps i d) s is ∙ ap (λ z. of_prefix q pre ++ z) (sym c);
+      within = w;
+      few = subst (λ (z : List Constraint). length z ≤ 2) (sym c) (length-constraints (attrs_of q.atoms) (element.Attr (slice_index_or ps i d).left) s (slice_index_or ps i d).right);
+    }
+
+-- there is a pair for one more sign
+pub room_next : (q : QueryValue) (ps : List Pair) (k : Closure) (pre : List Sign) (s : Sign) → Before q ps k pre → length pre < length ps → length (pre ++ s ∷ []) ≤ length (pairs q)
+room_next q ps k pre s b l =
+    let n : length (pre ++ s ∷ []) ≡ length pre + 1 = length-append pre (s ∷ []) in
+    let m : length ps ≡ length (pairs q) = ap length b.pairs in
+    omega (arith, n, m, l)
+
+-- ---- the closure with the sign
+
+module _ (q : QueryValue) (ps : List Pair) (k : Closure) (pre : List Sign) (s : Sign) (cs : List Constraint) (b : Before q ps k pre) (a : AddsSign q pre s cs) where
+  solves_more : (x : ℕ → ℤ) → Solves x (b.closure.constraints ++ cs) → Solves x (of_prefix q (pre ++ s ∷ []))
+  solves_more x v = subst (Solves x) (sym a.more) (solves_both x (of_prefix q pre) cs (b.closure.into x (solves_left x b.closure.constraints cs v)) (solves_right x b.closure.constraints cs v))
+
+  solves_back : (x : ℕ → ℤ) → Solves x (of_prefix q (pre ++ s ∷ [])) → Solves x (b.closure.constraints ++ cs)
+  solves_back x v =
+      let w : Solves x (of_prefix q pre ++ cs) = subst (Solves x) a.more v in
+      solves_both x b.closure.constraints cs (b.closure.from x (solves_left x (of_prefix q pre) cs w)) (solves_right x (of_prefix q pre) cs w)
+
+  -- no assignment has the sign where no integers meet its constraints
+  pub not_feasible : ¬ IsSatisfiable (b.closure.constraints ++ cs) → IsFeasible q (pre ++ s ∷ []) → ⊥
+  not_feasible n f =
+      let t : IsSatisfiable (of_prefix q (pre ++ s ∷ [])) = satisfiable_if q (pre ++ s ∷ []) f in
+      n (record { at = t.at; solves = solves_back t.at t.solves })
+
+  feasible : length pre < length ps → IsSatisfiable (b.closure.constraints ++ cs) → IsFeasible q (pre ++ s ∷ [])
+  feasible l t =
+      let n : length (pre ++ s ∷ []) ≡ length pre + 1 = length-append pre (s ∷ []) in
+      let m : length ps ≡ length (pairs q) = ap length b.pairs in
+      feasible_if q (pre ++ s ∷ []) (omega (arith, n, m, l)) (record { at = t.at; solves = solves_more t.at t.solves })
+
+  -- where the sign says nothing new the closure stays
+  pub before_same : length pre < length ps → ((x : ℕ → ℤ) → Solves x b.closure.constraints → Solves x (b.closure.constraints ++ cs)) → Before q ps k (pre ++ s ∷ [])
+  before_same l f =
+      let n : length (pre ++ s ∷ []) ≡ length pre + 1 = length-append pre (s ∷ []) in
+      let t : IsSatisfiable (of_prefix q pre) = satisfiable_if q pre b.feasible in
+      record {
+        limits = b.limits;
+        pairs = b.pairs;
+        room = omega (arith, n, l);
+        few = b.few;
+        closure = record {
+          constraints = b.closure.constraints;
+          closure = b.closure.closure;
+          into = λ x v. solves_more x (f x v);
+          from = λ x v. solves_left x b.closure.constraints cs (solves_back x v);
+          few = omega (arith, n, b.closure.few);
+        };
+        feasible = feasible l (record { at = t.at; solves = f t.at (b.closure.from t.at t.solves) });
+      }
+
+  -- else its constraints are added
+  pub before_added : length pre < length ps → (r : Closure) → IsClosureOf r (length (attrs_of q.atoms)) (b.closure.constraints ++ cs) → IsSatisfiable (b.closure.constraints ++ cs) → Before q ps r (pre ++ s ∷ [])
+  before_added l r h t =
+      let n : length (pre ++ s ∷ []) ≡ length pre + 1 = length-append pre (s ∷ []) in
+      let m : length (b.closure.constraints ++ cs) ≡ length b.closure.constraints + length cs = length-append b.closure.constraints cs in
+      record {
+        limits = b.limits;
+        pairs = b.pairs;
+        room = omega (arith, n, l);
+        few = b.few;
+        closure = record {
+          constraints = b.closure.constraints ++ cs;
+          closure = h;
+          into = solves_more;
+          from = solves_back;
+          few = omega (arith, n, m, b.closure.few, a.few);
+        };
+        feasible = feasible l t;
+      }
+
+  pub room_more : length pre < length ps → HasRoom k (length cs)
+  room_more l = record {
+    constraints = b.closure.constraints;
+    closure = subst (λ m. IsClosureOf k m b.closure.constraints) (sym b.closure.closure.attrs) b.closure.closure;
+    room = omega (arith, b.closure.few, a.few, b.limits.comparisons, b.few, l);
+  }
+
+  pub room_here : length pre < length ps → HasRoom k 0
+  room_here l = record {
+    constraints = b.closure.constraints;
+    closure = subst (λ m. IsClosureOf k m b.closure.constraints) (sym b.closure.closure.attrs) b.closure.closure;
+    room = omega (arith, b.closure.few, b.limits.comparisons, b.few, l);
+  }
+
+  pub within_here : All (IsWithin k.attrs) cs
+  within_here = subst (λ m. All (IsWithin m) cs) (sym b.closure.closure.attrs) a.within
+
+-- ---- the root
+
+pub of_atoms-append : (xs : List Attr) (ts us : List Atom) → of_atoms xs (ts ++ us) ≡ of_atoms xs ts ++ of_atoms xs us
+of_atoms-append xs [] us = refl
+of_atoms-append xs (t ∷ ts) us = ap (λ z. constraints_of xs t.left (sign_of t.op) t.right ++ z) (of_atoms-append xs ts us) ∙ sym (append_assoc (constraints_of xs t.left (sign_of t.op) t.right) (of_atoms xs ts) (of_atoms xs us))
+
+pub length-of_atoms : (xs : List Attr) (ts : List Atom) → length (of_atoms xs ts) ≤ 2 * length ts
+length-of_atoms xs [] = omega arith
+length-of_atoms xs (t ∷ ts) =
+    let a = length-constraints xs t.left (sign_of t.op) t.right in
+    let b = length-of_atoms xs ts in
+    omega (arith, a, b, length-append (constraints_of xs t.left (sign_of t.op) t.right) (of_atoms xs ts))
+
+pub of_no_prefix : (q : QueryValue) → of_prefix q [] ≡ of_atoms (attrs_of q.atoms) q.atoms
+of_no_prefix q = ap (λ z. of_atoms (attrs_of q.atoms) q.atoms ++ z) (of_no_signs (attrs_of q.atoms) (pairs q)) ∙ append-nil (of_atoms (attrs_of q.atoms) q.atoms)
+
+pub before_root : (q : QueryValue) (ps : List Pair) (k : Closure) → IsWithinLimits q → ps ≡ pairs q → length ps ≤ 106 → IsClosureOf k (length (attrs_of q.atoms)) (of_atoms (attrs_of q.atoms) q.atoms) → IsSatisfiable (of_atoms (attrs_of q.atoms) q.atoms) → Before q ps k []
+before_root q ps k l e few h t = record {
+  limits = l;
+  pairs = e;
+  room = omega arith;
+  few = few;
+  closure = record {
+    constraints = of_atoms (attrs_of q.atoms) q.atoms;
+    closure = h;
+    into = λ x v. subst (Solves x) (sym (of_no_prefix q)) v;
+    from = λ x v. subst (Solves x) (of_no_prefix q) v;
+    few = omega (arith, length-of_atoms (attrs_of q.atoms) q.atoms);
+  };
+  feasible = feasible_if q [] (omega arith) (subst IsSatisfiable (sym (of_no_prefix q)) t);
+}
+
+pub not_feasible_root : (q : QueryValue) → ¬ IsSatisfiable (of_atoms (attrs_of q.atoms) q.atoms) → IsFeasible q [] → ⊥
+not_feasible_root q n f = n (subst IsSatisfiable (of_no_prefix q) (satisfiable_if q [] f))

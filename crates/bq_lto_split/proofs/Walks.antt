@@ -1,0 +1,150 @@
+-- What the walk adds.
+use Rattle.std.proofs.Common.{◌≡◌, ℕ, ◌≤◌, ◌+◌, List, [], ◌∷◌, ◌++◌, length, length-append, append_assoc, append-nil, Result, Ok, Err, refl, sym, ◌∙◌, ap, subst, arith, inl, inr, IsTrue}
+use Rattle.std.proofs.lemmas.List.{map-append, length-map}
+use Rattle.std.proofs.lemmas.List.Elements.{Contains-get_or}
+use Rattle.bq_model.proofs.Has.{Has, Has-append_cases, Has-from_contains}
+use Rattle.bq_model.proofs.Split.{StartsWith, IsFeasible, ArePartsUnder, none_under, one_under, three_under, parts_from_root, ascends_joined, below_starts, shorten, pairs_from}
+use Rattle.bq_model.specs.declared.part.Sign.{Sign}
+use Rattle.bq_model.specs.declared.part.Pair.{Pair}
+use Rattle.bq_model.specs.declared.part.Part.{Part}
+use Rattle.bq_model.specs.Query.{QueryValue}
+use Rattle.bq_model.specs.Parts.{pairs, signs_lt, sign_lt, AreParts, HasMoreParts}
+use Rattle.bq_closure.specs.declared.closure.Closure.{Closure}
+use Rattle.bq_lto_split.specs.Split.{sign_lists, OnTooMany}
+use Rattle.bq_lto_split.specs.Tree.{Before, Walked, IsOver, Walks, WalkedTwo, WalksTwo, Adds}
+use Rattle.bq_lto_split.specs.declared.error.SplitError.{SplitError}
+use Rattle.bq_lto_split.specs.declared.error.SplitError.TheVariants as why
+
+-- nothing under a sign that no assignment has
+pub nothing : (q : QueryValue) (signs list : List Sign) (parts : List Part) → length signs ≤ length (pairs q) → length parts ≤ 4096 → ¬ IsFeasible q signs → Walked q signs list list parts parts
+nothing q signs list parts m l n = record { room = m; more = []; are = none_under q signs n; added = sym (append-nil (sign_lists parts)); few = l; same = refl }
+
+length-lists : (ps : List Part) → length (sign_lists ps) ≡ length ps
+length-lists ps = simp length-map
+
+-- ---- a leaf
+
+pub leaf : (r : Result (Unit {0}) SplitError) (q : QueryValue) (ps : List Pair) (k : Closure) (pre : List Sign) (p : Part) (before after : List Part) → Before q ps k pre → length pre ≡ length ps → p.signs.items ≡ pre → Adds r p before after → Walks r q pre pre pre before after
+leaf (Ok u) q ps k pre p before after b l e h = record {
+  room = (let lp : length ps ≡ length (pairs q) = ap length b.pairs in omega (arith, l, lp));
+  more = pre ∷ [];
+  are = one_under q pre (let lp : length ps ≡ length (pairs q) = ap length b.pairs in omega (arith, l, lp)) b.feasible;
+  added = ap sign_lists h.added ∙ map-append (λ (p : Part). p.signs.items) before (p ∷ []) ∙ ap (λ z. sign_lists before ++ z ∷ []) e;
+  few = h.few;
+  same = refl;
+}
+leaf (Err why.TooManyParts) q ps k pre p before after b l e h =
+    let u : ArePartsUnder q pre (pre ∷ []) = one_under q pre (let lp : length ps ≡ length (pairs q) = ap length b.pairs in omega (arith, l, lp)) b.feasible in
+    record { some = pre ∷ []; are = record { ascends = u.ascends; parts = u.parts; under = u.under }; over = omega (arith, h) }
+leaf (Err why.Memory) q ps k pre p before after b l e h = tt
+
+-- ---- too many parts
+
+-- more under one sign
+over_child : (q : QueryValue) (pre : List Sign) (s : Sign) (n : ℕ) → IsOver q (pre ++ s ∷ []) n → IsOver q pre n
+over_child q pre s n o = record { some = o.some; are = record { ascends = o.are.ascends; parts = o.are.parts; under = λ t h. shorten pre s t (o.are.under t h) }; over = o.over }
+
+-- all parts under an earlier sign before them
+over_after : (q : QueryValue) (pre : List Sign) (c : Sign) (old new : List Sign) (before after : List Part) → Walked q (pre ++ c ∷ []) old new before after → (o : IsOver q pre (length after))
+    → ((s : List Sign) → Has o.some s → (e : Sign) × (IsTrue (sign_lt c e)) × StartsWith (pre ++ e ∷ []) s) → IsOver q pre (length before)
+over_after q pre c old new before after w o later_signs = record {
+  some = w.more ++ o.some;
+  are = record {
+    ascends = ascends_joined w.more o.some w.are.ascends o.are.ascends (λ x y h i. let e = later_signs y i in below_starts pre c e.0 x y e.1 (w.are.under x h) e.2);
+    parts = λ s h. elim (Has-append_cases w.more o.some s h) [ inl i ↦ w.are.parts s i | inr i ↦ o.are.parts s i ];
+    under = λ s h. elim (Has-append_cases w.more o.some s h) [ inl i ↦ shorten pre c s (w.are.under s i) | inr i ↦ o.are.under s i ];
+  };
+  over =
+      let a : length after ≡ length before + length w.more = sym (length-lists after) ∙ ap length w.added ∙ length-append (sign_lists before) w.more ∙ ap (λ z. z + length w.more) (length-lists before) in
+      omega (arith, a, o.over, length-append w.more o.some);
+}
+
+over_two : (q : QueryValue) (pre old new : List Sign) (a b : List Part) → Walked q (pre ++ Sign.Lt ∷ []) old new a b → IsOver q (pre ++ Sign.Eq ∷ []) (length b) → IsOver q pre (length a)
+unfolding over_child
+over_two q pre old new a b w o = over_after q pre Sign.Lt old new a b w (over_child q pre Sign.Eq (length b) o) (λ s h. (Sign.Eq, refl, o.are.under s h))
+
+-- ---- a node: its three branches one after the other
+
+-- where the first breaks off
+pub broke_first : (w : SplitError) (q : QueryValue) (pre old new new2 : List Sign) (a b c : List Part) → Walks (Err w) q (pre ++ Sign.Lt ∷ []) old new a b → WalksTwo (Err w) q pre new2 a c
+broke_first why.TooManyParts q pre old new new2 a b c h = over_child q pre Sign.Lt (length a) h
+broke_first why.Memory q pre old new new2 a b c h = tt
+
+-- the second, however it ends
+pub second : (r : Result (Unit {0}) SplitError) (q : QueryValue) (pre one two : List Sign) (a b c : List Part) → Walked q (pre ++ Sign.Lt ∷ []) pre one a b → Walks r q (one ++ Sign.Eq ∷ []) one two b c → WalksTwo r q pre two a c
+second (Ok u) q pre one two a b c x y =
+    let z : Walked q (pre ++ Sign.Eq ∷ []) one two b c = subst (λ (z : List Sign). Walked q (z ++ Sign.Eq ∷ []) one two b c) x.same y in
+    record { less = x.more; equal = z.more; are_less = x.are; are_equal = z.are; added = z.added ∙ ap (λ u. u ++ z.more) x.added; few = z.few; same = y.same ∙ x.same }
+second (Err why.TooManyParts) q pre one two a b c x y = over_two q pre pre one a b x (subst (λ (z : List Sign). IsOver q (z ++ Sign.Eq ∷ []) (length b)) x.same y)
+second (Err why.Memory) q pre one two a b c x y = tt
+
+-- where one of these breaks off
+pub broke_before : (w : SplitError) (q : QueryValue) (pre two three : List Sign) (a b c : List Part) → WalksTwo (Err w) q pre two a b → Walks (Err w) q pre pre three a c
+broke_before why.TooManyParts q pre two three a b c h = h
+broke_before why.Memory q pre two three a b c h = tt
+
+over_last : (q : QueryValue) (pre two : List Sign) (a c : List Part) → WalkedTwo q pre two a c → IsOver q (pre ++ Sign.Gt ∷ []) (length c) → IsOver q pre (length a)
+over_last q pre two a c w o = record {
+  some = w.less ++ (w.equal ++ o.some);
+  are = record {
+    ascends = ascends_joined w.less (w.equal ++ o.some) w.are_less.ascends
+        (ascends_joined w.equal o.some w.are_equal.ascends o.are.ascends (λ x y h i. below_starts pre Sign.Eq Sign.Gt x y refl (w.are_equal.under x h) (o.are.under y i)))
+        (λ x y h i. elim (Has-append_cases w.equal o.some y i) [
+          | inl j ↦ below_starts pre Sign.Lt Sign.Eq x y refl (w.are_less.under x h) (w.are_equal.under y j)
+          | inr j ↦ below_starts pre Sign.Lt Sign.Gt x y refl (w.are_less.under x h) (o.are.under y j)
+        ]);
+    parts = λ s h. elim (Has-append_cases w.less (w.equal ++ o.some) s h) [
+      | inl i ↦ w.are_less.parts s i
+      | inr i ↦ elim (Has-append_cases w.equal o.some s i) [ inl j ↦ w.are_equal.parts s j | inr j ↦ o.are.parts s j ]
+    ];
+    under = λ s h. elim (Has-append_cases w.less (w.equal ++ o.some) s h) [
+      | inl i ↦ shorten pre Sign.Lt s (w.are_less.under s i)
+      | inr i ↦ elim (Has-append_cases w.equal o.some s i) [ inl j ↦ shorten pre Sign.Eq s (w.are_equal.under s j) | inr j ↦ shorten pre Sign.Gt s (o.are.under s j) ]
+    ];
+  };
+  over =
+      let n : length c ≡ length a + length w.less + length w.equal = sym (length-lists c) ∙ ap length w.added ∙ length-append (sign_lists a ++ w.less) w.equal ∙ ap (λ z. z + length w.equal) (length-append (sign_lists a) w.less ∙ ap (λ z. z + length w.less) (length-lists a)) in
+      omega (arith, n, o.over, length-append w.less (w.equal ++ o.some), length-append w.equal o.some);
+}
+
+-- and the third, however it ends
+pub last : (r : Result (Unit {0}) SplitError) (q : QueryValue) (pre two three : List Sign) (a c d : List Part) → WalkedTwo q pre two a c → Walks r q (two ++ Sign.Gt ∷ []) two three c d → Walks r q pre pre three a d
+last (Ok u) q pre two three a c d x z =
+    let z2 : Walked q (pre ++ Sign.Gt ∷ []) two three c d = subst (λ (z : List Sign). Walked q (z ++ Sign.Gt ∷ []) two three c d) x.same z in
+    let n : length (pre ++ Sign.Gt ∷ []) ≡ length pre + 1 = length-append pre (Sign.Gt ∷ []) in
+    record {
+      room = omega (arith, z2.room, n);
+      more = x.less ++ (x.equal ++ z2.more);
+      are = three_under q pre x.less x.equal z2.more (omega (arith, z2.room, n)) x.are_less x.are_equal z2.are;
+      added = z2.added ∙ ap (λ u. u ++ z2.more) x.added ∙ simp append_assoc;
+      few = z2.few;
+      same = z2.same ∙ x.same;
+    }
+last (Err why.TooManyParts) q pre two three a c d x z = over_last q pre two a c x (subst (λ (z : List Sign). IsOver q (z ++ Sign.Gt ∷ []) (length c)) x.same z)
+last (Err why.Memory) q pre two three a c d x z = tt
+
+-- ---- one level deeper
+
+pub deeper_ok : (q : QueryValue) (signs before pushed walked popped : List Sign) (a b : List Part) → pushed ≡ signs → Walked q pushed pushed walked a b → popped ≡ before → Walked q signs before popped a b
+deeper_ok q signs before pushed walked popped a b e w p =
+    let v : Walked q signs pushed walked a b = subst (λ (z : List Sign). Walked q z pushed walked a b) e w in
+    record { room = v.room; more = v.more; are = v.are; added = v.added; few = v.few; same = p }
+
+pub deeper_err : (w : SplitError) (q : QueryValue) (signs old new pushed walked : List Sign) (a b c : List Part) → pushed ≡ signs → Walks (Err w) q pushed pushed walked a b → Walks (Err w) q signs old new a c
+deeper_err why.TooManyParts q signs old new pushed walked a b c e h = subst (λ (z : List Sign). IsOver q z (length a)) e h
+deeper_err why.Memory q signs old new pushed walked a b c e h = tt
+
+-- ---- the root
+
+pub many_from : (q : QueryValue) → IsOver q [] 0 → HasMoreParts q 4096
+many_from q o = record { some = o.some; ascending = pairs_from signs_lt o.some o.are.ascends; each = λ k d l. o.are.parts _ (Has-from_contains o.some _ (Contains-get_or o.some k d l)); more = omega (arith, o.over) }
+
+pub parts_from : (q : QueryValue) (old new : List Sign) (parts : List Part) → Walked q [] old new [] parts → AreParts q (sign_lists parts)
+parts_from q old new parts w = rw w.added (parts_from_root q w.more w.are)
+
+pub no_parts : (q : QueryValue) → ¬ IsFeasible q [] → AreParts q []
+no_parts q n = parts_from_root q [] (none_under q [] n)
+
+pub too_many : (w : SplitError) (A : Type 0) (q : QueryValue) (old new : List Sign) (parts : List Part) → Walks (Err w) q [] old new [] parts → OnTooMany {A = A} (Err w) (HasMoreParts q 4096)
+too_many why.TooManyParts A q old new parts h = many_from q h
+too_many why.Memory A q old new parts h = tt

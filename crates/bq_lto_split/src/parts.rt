@@ -1,0 +1,57 @@
+//! The parts of a query.
+ghost use Rattle.std.specs.Prelude.{◌≡◌, ◌≤◌, length, IfOk};
+ghost use Rattle.bq_model.specs.Query.{attrs_of, IsWithinLimits};
+ghost use Rattle.bq_model.specs.Parts.{AreParts, HasMoreParts};
+ghost use Rattle.bq_closure.specs.Closure.{IsClosureOf};
+ghost use Rattle.bq_closure.specs.PartConstraints.{sign_of, of_atoms};
+ghost use Rattle.bq_lto_split.specs.Split.{sign_lists, OnTooMany};
+
+use crate::error::SplitError;
+use crate::tree::walk;
+use bq_closure::{Closure, constraints};
+use bq_model::{Op, Part, Query, Sign, Signs};
+use std::alloc::Global;
+
+// How the sides of a comparison stand to each other where it holds.
+fn sign_of(op: Op) -> Sign
+    ensures { result ≡ sign_of op }
+{
+    match op {
+        Op::Lt => Sign::Lt,
+        Op::Eq => Sign::Eq,
+        Op::Gt => Sign::Gt,
+    }
+}
+
+// What the query's comparisons imply.
+fn start(q: &Query) -> Closure
+    ensures closure { IsClosureOf result (length (attrs_of q.now.atoms)) (of_atoms (attrs_of q.now.atoms) q.now.atoms) }
+    ensures limits { IsWithinLimits q.now }
+{
+    let mut closure = Closure::new(q.attrs().len() as u8);
+    for atom in q.atoms() {
+        let added = constraints(atom.left, sign_of(atom.op), atom.right, q);
+        closure.add_all(added.as_slice());
+    }
+    closure
+}
+
+/// The parts of the query, ascending: at most 4,096. `TooManyParts` where there are more; `Memory` where the list finds
+/// none.
+pub fn split(alloc: Global, q: &Query) -> Result<Vec<Part>, SplitError>
+    ensures parts { IfOk result (λ parts. AreParts q.now (sign_lists parts.items)) }
+    ensures few { IfOk result (λ parts. length parts.items ≤ 4096) }
+    ensures over { OnTooMany result (HasMoreParts q.now 4096) }
+{
+    let mut parts = Vec::new(alloc);
+    let closure = start(q);
+    if !closure.satisfiable() {
+        return Ok(parts);
+    }
+    let pairs = q.pairs();
+    let mut signs = Signs::new();
+    match walk(q, pairs.as_slice(), &closure, &mut signs, &mut parts) {
+        Ok(()) => Ok(parts),
+        Err(why) => Err(why),
+    }
+}
