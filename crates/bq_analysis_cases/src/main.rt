@@ -1,0 +1,61 @@
+//! What the analysis says of the lines of its input, for the worked cases beside it: one line of output for each.
+//!
+//! A line is a letter, a space and a text. `c` creates the stream of a statement, `p` asks for the number of ordered parts of the
+//! query of a statement, and `b` for what difference bounds imply: the text has the number of nodes, and then left node, right
+//! node and bound of each constraint, all behind one another with commas between.
+#![tactic(auto)]
+
+mod bounds;
+mod fault;
+mod parts;
+
+use crate::bounds::show_bounds;
+use crate::fault::Fault;
+use crate::parts::{show_parts, show_stream};
+use bq_io::{Sink, StdSink, write_all};
+use bq_schema::Catalog;
+use bq_text::first_line;
+use std::alloc::Global;
+use std::io::Read;
+use std::process::ExitCode;
+
+fn show<O: Sink>(
+    alloc: Global,
+    catalog: &mut Catalog,
+    line: &[u8],
+    out: &mut O,
+) -> Result<(), Fault> {
+    match line {
+        [b'c', b' ', text @ ..] => show_stream(alloc, catalog, text, out)?,
+        [b'p', b' ', text @ ..] => show_parts(alloc, catalog, text, out)?,
+        [b'b', b' ', text @ ..] => show_bounds(alloc, text, out)?,
+        _ => return Err(Fault::Line),
+    }
+    write_all(out, b"\n")?;
+    Ok(())
+}
+
+fn show_all<O: Sink>(alloc: Global, text: &[u8], out: &mut O) -> Result<(), Fault> {
+    let mut catalog = Catalog::new(alloc)?;
+    let mut rest = text;
+    'showing: while !rest.is_empty() {
+        let (line, others) = first_line(rest);
+        show(alloc, &mut catalog, line, out)?;
+        rest = others;
+    }
+    Ok(())
+}
+
+fn main(rt: HostRuntime) -> ExitCode {
+    let mut text = Vec::new(rt.alloc());
+    if rt.stdin().read_to_end(&mut text).is_err() {
+        return ExitCode::from(4);
+    }
+    let mut out = StdSink::new(rt.stdout());
+    match show_all(rt.alloc(), &text, &mut out) {
+        Ok(()) => ExitCode::from(0),
+        Err(Fault::Line) => ExitCode::from(2),
+        Err(Fault::Write) => ExitCode::from(5),
+        Err(Fault::Memory) => ExitCode::from(6),
+    }
+}

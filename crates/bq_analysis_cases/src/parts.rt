@@ -1,0 +1,123 @@
+//! Streams, and the ordered parts of queries over them.
+ghost use Rattle.std.specs.Prelude.{◌≡◌, ◌≤◌, ◌<◌, None, length};
+ghost use Rattle.bq_parser.specs.Grammar.{IsWhole};
+ghost use Rattle.bq_parser.specs.Limits.{limit_of};
+ghost use Rattle.bq_parser.specs.Resolution.{IsTaken};
+
+use crate::fault::Fault;
+use bq_io::{Sink, write_all};
+use bq_lto_split::{SplitError, split};
+use bq_parser::{SelectAst, Statement, parse, resolve};
+use bq_schema::Catalog;
+use bq_text::Name;
+use std::alloc::Global;
+
+// The number of a stream that is added.
+fn show_added<O: Sink>(
+    alloc: Global,
+    catalog: &mut Catalog,
+    name: Name,
+    columns: &[Name],
+    out: &mut O,
+) -> Result<(), Fault>
+    requires some { 0 < length columns.now }
+    requires few { length columns.now ≤ 8 }
+{
+    match catalog.add_stream(name, columns) {
+        Ok(number) => {
+            let text = format!(in alloc; "stream {number}")?;
+            write_all(out, text.as_bytes())?;
+            Ok(())
+        }
+        Err(_) => Err(Fault::Line),
+    }
+}
+
+// The stream that a statement creates.
+fn show_created<O: Sink>(
+    alloc: Global,
+    catalog: &mut Catalog,
+    statement: Statement,
+    out: &mut O,
+) -> Result<(), Fault>
+    requires whole { IsWhole statement }
+    requires limits { limit_of statement ≡ None }
+{
+    match statement {
+        Statement::CreateStream { name, columns } => {
+            show_added(alloc, catalog, name, columns.as_slice(), out)
+        }
+        _ => Err(Fault::Line),
+    }
+}
+
+/// Creates the stream of a statement: its number.
+pub fn show_stream<O: Sink>(
+    alloc: Global,
+    catalog: &mut Catalog,
+    text: &[u8],
+    out: &mut O,
+) -> Result<(), Fault> {
+    if text.len() > 1024 {
+        return Err(Fault::Line);
+    }
+    match parse(text) {
+        Ok(statement) => show_created(alloc, catalog, statement, out),
+        Err(_) => Err(Fault::Line),
+    }
+}
+
+// How many parts a query has.
+fn show_split<O: Sink>(
+    alloc: Global,
+    catalog: &Catalog,
+    select: &SelectAst,
+    out: &mut O,
+) -> Result<(), Fault>
+    requires { IsTaken select.now }
+{
+    let Ok(query) = resolve(select, catalog) else {
+        return Err(Fault::Line);
+    };
+    match split(alloc, &query) {
+        Ok(parts) => {
+            let text = format!(in alloc; "{} parts", parts.len())?;
+            write_all(out, text.as_bytes())?;
+        }
+        Err(SplitError::TooManyParts) => write_all(out, b"too many parts")?,
+        Err(SplitError::Memory) => return Err(Fault::Memory),
+    }
+    Ok(())
+}
+
+// How many parts the query of a statement has.
+fn show_asked<O: Sink>(
+    alloc: Global,
+    catalog: &Catalog,
+    statement: Statement,
+    out: &mut O,
+) -> Result<(), Fault>
+    requires whole { IsWhole statement }
+    requires limits { limit_of statement ≡ None }
+{
+    match statement {
+        Statement::CreateQuery { name: _, select } => show_split(alloc, catalog, &select, out),
+        _ => Err(Fault::Line),
+    }
+}
+
+/// How many parts the query of a CREATE QUERY statement has.
+pub fn show_parts<O: Sink>(
+    alloc: Global,
+    catalog: &Catalog,
+    text: &[u8],
+    out: &mut O,
+) -> Result<(), Fault> {
+    if text.len() > 1024 {
+        return Err(Fault::Line);
+    }
+    match parse(text) {
+        Ok(statement) => show_asked(alloc, catalog, statement, out),
+        Err(_) => Err(Fault::Line),
+    }
+}
