@@ -39,9 +39,10 @@ fn each_read_fails_in_turn(rt: HostRuntime) -> Result<(), Fail> {
             .iter()
             .filter(|b| **b == b'\n')
             .count();
+        let replied = REPLIED[ended.min(9)].min(REPLIES.len());
         assert_eq!(rt; status, Status::ReadFault, "call {call}");
         assert_eq!(rt; status.number(), 4);
-        assert_eq!(rt; output.bytes(), &REPLIES[..REPLIED[ended]], "call {call}");
+        assert_eq!(rt; output.bytes(), &REPLIES[..replied], "call {call}");
     }
     Ok(())
 }

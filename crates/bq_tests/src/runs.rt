@@ -89,7 +89,8 @@ fn long_lines(alloc: Global) -> Result<Vec<u8>, AllocError> {
 fn a_line_of_1025_bytes_is_too_long_wherever_it_lies(rt: HostRuntime) -> Result<(), Fail> {
     let text = long_lines(rt.alloc())?;
     for before in 0..4096 {
-        let (status, output) = run_over(rt.alloc(), &text[4096 - before..], SURE)?;
+        let from = text.len().min(4096 - before);
+        let (status, output) = run_over(rt.alloc(), &text[from..], SURE)?;
         let mut number = itoa::Buffer::new();
         let mut wanted = Vec::new(rt.alloc());
         wanted.extend_from_slice(b"error ")?;
