@@ -1,0 +1,107 @@
+-- The range of an attribute is told by the least and the greatest value of its node.
+use Rattle.std.proofs.Common.{◌≡◌, ℕ, zero, suc, ◌+◌, ◌<◌, ◌≤◌, ℤ, ◌≤ℤ◌, ◌<ℤ◌, true, cond, ◌&&◌, nat_eq, Option, None, Some, List, [], ◌∷◌, ◌++◌, length, take, get_or, slice_index_or, Contains, refl, sym, ◌∙◌, ap, subst, arith}
+use Rattle.std.specs.List.{AllZip}
+use Rattle.std.proofs.lemmas.Int.{ints}
+use Rattle.std.proofs.lemmas.List.{take_more, take_all}
+use Rattle.std.proofs.lemmas.List.Elements.{Contains-get_or}
+use Rattle.std.proofs.lemmas.Bool.Decides.{nat_tests}
+use Rattle.bq_model.proofs.Has.{Has-from_contains}
+use Rattle.bq_model.proofs.Unique.{Ascends, more}
+use Rattle.bq_model.proofs.Ascending.{Ascends-attrs_of}
+use Rattle.bq_model.specs.declared.atom.Attr.{Attr}
+use Rattle.bq_model.specs.declared.atom.Element.TheVariants as element
+use Rattle.bq_model.specs.declared.part.Sign.{Sign}
+use Rattle.bq_model.specs.Query.{QueryValue, attrs_of, attr_lt}
+use Rattle.bq_model.specs.Parts.{pairs}
+use Rattle.bq_model.specs.Order.{IsElement, IsBounded}
+use Rattle.bq_closure.specs.declared.constraint.Constraint.{Constraint}
+use Rattle.bq_closure.specs.BoundsValue.{BoundsValue}
+use Rattle.bq_closure.specs.Answers.{IsLowAnswer, IsHighAnswer}
+use Rattle.bq_closure.specs.Nodes.{place_of, node_of, assignment_of}
+use Rattle.bq_closure.specs.PartConstraints.{of_prefix}
+use Rattle.bq_closure.specs.Solutions.{Solves, HasNoLeast, HasNoGreatest}
+use Rattle.bq_closure.proofs.InPart.{in_part_from_solves, least_in_part, greatest_in_part}
+use Rattle.bq_refs.specs.declared.range.Range.{Range}
+use Rattle.bq_refs.specs.Known.{IsKnown}
+use Rattle.bq_refs.specs.Refs.{IsRange, IsRangeAt, between_of}
+use Rattle.bq_refs.proofs.Adding.{long}
+
+same_place : (x : Attr) (n : ℕ) → cond (nat_eq x.stream x.stream && nat_eq x.column x.column) 0 n ≡ 0
+same_place x n = grind (arith, nat_tests)
+
+other_place : (x z : Attr) (n : ℕ) → attr_lt x z ≡ true → cond (nat_eq x.stream z.stream && nat_eq x.column z.column) 0 n ≡ n
+other_place x z n h = grind (arith, nat_tests)
+
+-- the place of the element at a place
+pub place_is : (xs : List Attr) → Ascends attr_lt xs → (i : ℕ) (d : Attr) → i < length xs → place_of xs (slice_index_or xs i d) ≡ i
+place_is [] a i d l = absurd (omega arith)
+place_is (x ∷ xs) a zero d l = same_place x (suc (place_of xs x))
+place_is (x ∷ xs) (more f a) (suc i) d l =
+    let z : Attr = slice_index_or xs i d in
+    let e : place_of xs (slice_index_or xs i d) ≡ i = place_is xs a i d (omega arith) in
+    let g : attr_lt x (slice_index_or xs i d) ≡ true = f _ (Has-from_contains xs _ (Contains-get_or xs i d (omega arith))) in
+    other_place x (slice_index_or xs i d) (suc (place_of xs (slice_index_or xs i d))) g ∙ ap suc e
+
+module _ (q : QueryValue) (s : List Sign) (l : length s ≡ length (pairs q)) (a : Attr) (ha : IsElement q (element.Attr a)) where
+  not_bounded_below : HasNoLeast (of_prefix q s) (node_of (attrs_of q.atoms) (element.Attr a)) → IsBounded q s a → ⊥
+  not_bounded_below h b =
+      let p : (x : ℕ → ℤ) × Solves x (of_prefix q s) × (x (node_of (attrs_of q.atoms) (element.Attr a)) <ℤ b.low) = h.passed b.low in
+      let m : b.low ≤ℤ p.0 (node_of (attrs_of q.atoms) (element.Attr a)) = b.above (assignment_of (attrs_of q.atoms) p.0) (in_part_from_solves q s l p.0 p.1) in
+      omega (arith, ints, m, p.2)
+
+  not_bounded_above : HasNoGreatest (of_prefix q s) (node_of (attrs_of q.atoms) (element.Attr a)) → IsBounded q s a → ⊥
+  not_bounded_above h b =
+      let p : (x : ℕ → ℤ) × Solves x (of_prefix q s) × (b.high <ℤ x (node_of (attrs_of q.atoms) (element.Attr a))) = h.passed b.high in
+      let m : p.0 (node_of (attrs_of q.atoms) (element.Attr a)) ≤ℤ b.high = b.below (assignment_of (attrs_of q.atoms) p.0) (in_part_from_solves q s l p.0 p.1) in
+      omega (arith, ints, m, p.2)
+
+  range_from : (low high : Option ℤ) → IsLowAnswer (of_prefix q s) (node_of (attrs_of q.atoms) (element.Attr a)) low → IsHighAnswer (of_prefix q s) (node_of (attrs_of q.atoms) (element.Attr a)) high → IsRange q s a (between_of low high)
+  range_from None high h g = not_bounded_below h
+  range_from (Some low) None h g = not_bounded_above g
+  range_from (Some low) (Some high) h g = (least_in_part q s l a ha low h, greatest_in_part q s l a ha high g)
+
+pub range_told : (q : QueryValue) (s : List Sign) (b : BoundsValue) (i node : ℕ) (low high : Option ℤ) (r : Option Range) → IsKnown q s b → i < length (attrs_of q.atoms) → node ≡ i + 1 → IsLowAnswer b.constraints node low → IsHighAnswer b.constraints node high → r ≡ between_of low high → IsRangeAt q s i r
+range_told q s b i node low high r k l e h g is = λ d.
+    let xs : List Attr = attrs_of q.atoms in
+    let a : Attr = slice_index_or (attrs_of q.atoms) i d in
+    let ha : Contains (attrs_of q.atoms) (slice_index_or (attrs_of q.atoms) i d) = Contains-get_or (attrs_of q.atoms) i d l in
+    let p : place_of (attrs_of q.atoms) (slice_index_or (attrs_of q.atoms) i d) ≡ i = place_is (attrs_of q.atoms) (Ascends-attrs_of q.atoms) i d l in
+    let n : node ≡ node_of (attrs_of q.atoms) (element.Attr (slice_index_or (attrs_of q.atoms) i d)) = omega (arith, e, p) in
+    let h1 : IsLowAnswer (of_prefix q s) node low = subst (λ (cs : List Constraint). IsLowAnswer cs node low) k.constraints h in
+    let g1 : IsHighAnswer (of_prefix q s) node high = subst (λ (cs : List Constraint). IsHighAnswer cs node high) k.constraints g in
+    let h2 = subst (λ (m : ℕ). IsLowAnswer (of_prefix q s) m low) n h1 in
+    let g2 = subst (λ (m : ℕ). IsHighAnswer (of_prefix q s) m high) n g1 in
+    subst (IsRange q s (slice_index_or (attrs_of q.atoms) i d)) (sym is) (range_from q s (long q s k.part) (slice_index_or (attrs_of q.atoms) i d) ha low high h2 g2)
+
+-- ---- lists with something for each element
+
+zip_push : {A B : Type 0} (R : A → B → Type 0) (xs : List A) (ys : List B) (x : A) (y : B) → AllZip R xs ys → R x y → AllZip R (xs ++ x ∷ []) (ys ++ y ∷ [])
+zip_push R [] [] x y h r = (r, tt)
+zip_push R [] (z ∷ ys) x y h r = absurd h
+zip_push R (w ∷ xs) [] x y h r = absurd h
+zip_push R (w ∷ xs) (z ∷ ys) x y h r = (h.0, zip_push R xs ys x y h.1 r)
+
+pub zip_more : {A B : Type 0} (R : A → B → Type 0) (xs : List A) (ys : List B) (i : ℕ) (d : A) (y : B) → i < length xs → AllZip R (take i xs) ys → R (slice_index_or xs i d) y → AllZip R (take (i + 1) xs) (ys ++ y ∷ [])
+zip_more {A} {B} R xs ys i d y l h r = subst (λ (z : List A). AllZip R z (ys ++ y ∷ [])) (sym (take_more xs i d l)) (zip_push R (take i xs) ys (get_or xs i d) y h r)
+
+pub zip_end : {A B : Type 0} (R : A → B → Type 0) (xs : List A) (ys : List B) (i : ℕ) → length xs ≤ i → AllZip R (take i xs) ys → AllZip R xs ys
+zip_end {A} R xs ys i l h = subst (λ (z : List A). AllZip R z ys) (take_all i xs l) h
+
+pub zip_length : {A B : Type 0} (R : A → B → Type 0) (xs : List A) (ys : List B) → AllZip R xs ys → length ys ≡ length xs
+zip_length R [] [] h = refl
+zip_length R [] (y ∷ ys) h = absurd h
+zip_length R (x ∷ xs) [] h = absurd h
+zip_length R (x ∷ xs) (y ∷ ys) h = ap suc (zip_length R xs ys h.1)
+
+pub zip_at : {A B : Type 0} (R : A → B → Type 0) (xs : List A) (ys : List B) (i : ℕ) (d : A) (e : B) → AllZip R xs ys → i < length xs → R (slice_index_or xs i d) (slice_index_or ys i e)
+zip_at R [] ys i d e h l = absurd (omega arith)
+zip_at R (x ∷ xs) [] i d e h l = absurd h
+zip_at R (x ∷ xs) (y ∷ ys) zero d e h l = h.0
+zip_at R (x ∷ xs) (y ∷ ys) (suc i) d e h l = zip_at R xs ys i d e h.1 (omega arith)
+
+-- the same of a list that is known by an equation
+pub zip_more_at : {A B : Type 0} (R : A → B → Type 0) (xs ls : List A) (ys zs : List B) (i : ℕ) (d : A) (y : B) → ls ≡ xs → i < length ls → AllZip R (take i xs) ys → R (slice_index_or ls i d) y → zs ≡ ys ++ y ∷ [] → AllZip R (take (i + 1) xs) zs
+zip_more_at {A} {B} R xs ls ys zs i d y e l h r z =
+    let m : i < length xs = subst (λ (w : List A). i < length w) e l in
+    let p : R (slice_index_or xs i d) y = subst (λ (w : List A). R (slice_index_or w i d) y) e r in
+    subst (λ (w : List B). AllZip R (take (i + 1) xs) w) (sym z) (zip_more R xs ys i d y m h p)

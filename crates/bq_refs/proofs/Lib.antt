@@ -1,0 +1,10 @@
+pub mod Sifted
+pub mod Pigeonhole
+pub mod AllLinks
+pub mod Room
+pub mod Adding
+pub mod InPartFacts
+pub mod Extent
+pub mod Searching
+pub mod Naming
+pub mod Gathered

@@ -1,0 +1,17 @@
+use Rattle.std.proofs.Common.{◌≡◌, length, take, ap, arith}
+use Rattle.std.proofs.lemmas.List.{length-take-le}
+use Rattle.bq_model.specs.Query.{attrs_of}
+use Rattle.bq_refs.specs.Refs.{IsClassPlace}
+use Rattle.bq_refs.proofs.Extent.{zip_length, zip_more_at}
+use Rattle.bq_refs.proofs.classes.classes.Goals as goal
+
+pub push-requires : goal.push-requires
+push-requires c =
+    let xs = attrs_of c.args.q.now.atoms in
+    let e : length c.attrs-attrs.result.now ≡ length (attrs_of c.args.q.now.atoms) = ap length c.attrs-attrs.ensures.value in
+    let a : length c.loop-i.list.items ≡ length (take c.loop-i.i (attrs_of c.args.q.now.atoms)) = zip_length (IsClassPlace c.args.q.now c.args.p.now.signs.items) _ _ c.loop-i.invariant in
+    let b : length (take c.loop-i.i (attrs_of c.args.q.now.atoms)) ≡ c.loop-i.i = length-take-le c.loop-i.i (attrs_of c.args.q.now.atoms) (omega (arith, e)) in
+    (omega arith, omega (arith, a, b, e, c.requires.few))
+
+pub loop-i-preserved : goal.loop-i-preserved
+loop-i-preserved c = zip_more_at (IsClassPlace c.args.q.now c.args.p.now.signs.items) (attrs_of c.args.q.now.atoms) _ _ _ c.loop-i.i _ _ c.attrs-attrs.ensures.value c.loop-i-test.true c.loop-i.invariant c.class_of.ensures c.push.ensures.items

@@ -1,0 +1,42 @@
+use Rattle.std.proofs.Common.{◌<◌, length, ap, arith, ◌∙◌}
+use Rattle.arrayvec.specs.ArrayVec.{ArrayVec as Items}
+use Rattle.bq_model.specs.declared.plan.Link.{Link}
+use Rattle.bq_model.specs.Query.{attrs_of}
+use Rattle.bq_refs.specs.Sifting.{done, links_among, IsOrderedEquality}
+use Rattle.bq_refs.proofs.Gathered.{kept_at, dropped_at, end_at, sides_among, room_for_equality, not_from}
+use Rattle.bq_refs.proofs.links.equalities.Goals.{then-is_equality, else-is_equality}
+use Rattle.bq_refs.proofs.links.equalities.Goals as goal
+
+pub loop-i-init : goal.loop-i-init
+loop-i-init c = rw c.new-list.ensures done
+
+pub is_equality-requires-clause-left : goal.is_equality-requires-clause-left
+is_equality-requires-clause-left c =
+    let e = rw c.attrs.ensures.value at (c.as_slice-links.ensures.value ∙ c.all_links-links.ensures) in
+    (sides_among c.args.q.now c.args.p.now.signs.items c.as_slice-links.result.now c.loop-i.i _ e c.loop-i-test.true).0
+
+pub is_equality-requires-clause-right : goal.is_equality-requires-clause-right
+is_equality-requires-clause-right c =
+    let e = rw c.attrs.ensures.value at (c.as_slice-links.ensures.value ∙ c.all_links-links.ensures) in
+    (sides_among c.args.q.now c.args.p.now.signs.items c.as_slice-links.result.now c.loop-i.i _ e c.loop-i-test.true).1
+
+pub push-requires : goal.push-requires
+push-requires c =
+    let e = rw c.attrs.ensures.value at (c.as_slice-links.ensures.value ∙ c.all_links-links.ensures) in
+    let n : length c.loop-i.list.items < 66 = room_for_equality c.args.q.now c.args.p.now.signs.items c.as_slice-links.result.now c.loop-i.list.items c.loop-i.i _ c.requires.few e c.loop-i-test.true (c.is_equality.ensures.0 c.if-is_equality.true) c.loop-i.invariant in
+    (omega arith, n)
+
+pub loop-i-preserved : goal.loop-i-preserved
+loop-i-preserved c =
+    let e = rw c.attrs.ensures.value at (c.as_slice-links.ensures.value ∙ c.all_links-links.ensures) in
+    elim c.if-is_equality.branch [
+      | then-is_equality w ↦
+          kept_at (IsOrderedEquality c.args.q.now c.args.p.now.signs.items) (links_among (attrs_of c.args.q.now.atoms) (attrs_of c.args.q.now.atoms)) c.as_slice-links.result.now c.loop-i.list.items _ c.loop-i.i _ e c.loop-i-test.true (c.is_equality.ensures.0 w.if-is_equality.true) c.loop-i.invariant (ap (λ (v : Items Link). v.items) w.list-is ∙ w.push.ensures.items)
+      | else-is_equality w ↦
+          dropped_at (IsOrderedEquality c.args.q.now c.args.p.now.signs.items) (links_among (attrs_of c.args.q.now.atoms) (attrs_of c.args.q.now.atoms)) c.as_slice-links.result.now c.loop-i.list.items _ c.loop-i.i _ e c.loop-i-test.true (not_from _ c.is_equality.ensures.1 w.if-is_equality.false) c.loop-i.invariant (ap (λ (v : Items Link). v.items) w.list-is)
+    ]
+
+pub returns : goal.returns
+returns c =
+    let e = rw c.attrs.ensures.value at (c.as_slice-links.ensures.value ∙ c.all_links-links.ensures) in
+    end_at (IsOrderedEquality c.args.q.now c.args.p.now.signs.items) (links_among (attrs_of c.args.q.now.atoms) (attrs_of c.args.q.now.atoms)) _ c.loop-i.list.items c.loop-i.i e c.loop-i-test.false c.loop-i.invariant

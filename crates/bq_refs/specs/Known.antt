@@ -1,0 +1,22 @@
+-- The difference bounds of a part.
+use Rattle.std.specs.Prelude.{◌≡◌, ℕ, ◌+◌, ◌≤◌, List, ◌++◌, length, take, All}
+use Rattle.bq_model.specs.declared.part.Sign.{Sign}
+use Rattle.bq_model.specs.Query.{QueryValue, attrs_of}
+use Rattle.bq_model.specs.Parts.{IsPart}
+use Rattle.bq_closure.specs.declared.constraint.Constraint.{Constraint}
+use Rattle.bq_closure.specs.BoundsValue.{BoundsValue}
+use Rattle.bq_closure.specs.PartConstraints.{of_prefix}
+use Rattle.bq_closure.specs.Solutions.{IsWithin}
+
+-- the bounds are those of a part of the query
+pub record IsKnown (q : QueryValue) (s : List Sign) (b : BoundsValue) : Type 0 where
+  pub part : IsPart q s
+  pub few : length (attrs_of q.atoms) ≤ 12
+  pub attrs : b.attrs ≡ length (attrs_of q.atoms)
+  pub constraints : b.constraints ≡ of_prefix q s
+
+-- the constraints of one more sign than the first i
+pub record AddsSign (q : QueryValue) (s : List Sign) (i : ℕ) (cs : List Constraint) : Type 0 where
+  pub more : of_prefix q (take (i + 1) s) ≡ of_prefix q (take i s) ++ cs
+  pub within : All (IsWithin (length (attrs_of q.atoms))) cs
+  pub few : length cs ≤ 2

@@ -1,0 +1,4 @@
+pub mod Known
+pub mod Redundant
+pub mod Sifting
+pub mod Refs

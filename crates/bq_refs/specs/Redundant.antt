@@ -1,0 +1,24 @@
+-- How an element parts two others.
+use Rattle.std.specs.Prelude.{List}
+use Rattle.bq_model.specs.declared.atom.Element.{Element}
+use Rattle.bq_model.specs.declared.part.Sign.{Sign}
+use Rattle.bq_model.specs.Query.{QueryValue}
+use Rattle.bq_model.specs.Order.{IsLess, IsEqual}
+
+-- e lies between x and y
+abbrev pub LiesBetween : QueryValue → List Sign → Element → Element → Element → Type 0
+LiesBetween q s x y e = IsLess q s x e × IsLess q s e y
+
+-- e equals x and is less than y
+abbrev pub EqualsLeft : QueryValue → List Sign → Element → Element → Element → Type 0
+EqualsLeft q s x y e = IsEqual q s x e × IsLess q s e y
+
+-- x is less than e, and e equals y
+abbrev pub EqualsRight : QueryValue → List Sign → Element → Element → Element → Type 0
+EqualsRight q s x y e = IsLess q s x e × IsEqual q s e y
+
+-- e lies between x and y, or equals one and parts it from the other
+pub data Parts (q : QueryValue) (s : List Sign) (x y e : Element) : Type 0 where
+  middle : LiesBetween q s x y e → Parts q s x y e
+  left : EqualsLeft q s x y e → Parts q s x y e
+  right : EqualsRight q s x y e → Parts q s x y e

@@ -1,0 +1,19 @@
+//! What holds in a part of a query, as a plan needs it: the least and the greatest value of each bounded attribute, the
+//! classes of attributes that are equal, the links between streams, and the references.
+//!
+//! All is read from the difference bounds of the part. A link stands for what the signs of the part do not say by
+//! themselves: an equality between streams, or an inequality between streams that no other element implies.
+#![tactic(auto)]
+
+mod classes;
+mod known;
+mod links;
+mod order;
+mod range;
+mod reading;
+mod redundant;
+mod told;
+
+pub use range::Range;
+pub use reading::refs;
+pub use told::Refs;

@@ -1,0 +1,111 @@
+//! The links of a part, which are its equalities and nonredundant inequalities between streams.
+ghost use Rattle.std.specs.Prelude.{◌≡◌, ◌↔◌, ◌+◌, ◌≤◌, ◌++◌, IsTrue, Contains, length, map};
+ghost use Rattle.bq_model.specs.Query.{attrs_of, attr_lt};
+ghost use Rattle.bq_model.specs.Links.{IsInequality};
+ghost use Rattle.bq_model.specs.Plan.{link};
+ghost use Rattle.bq_refs.specs.Known.{IsKnown};
+ghost use Rattle.bq_refs.specs.Sifting.{Sifts, links_among, IsOrderedEquality, IsOrderedInequality, IsLessAcross};
+
+use crate::order::{is_equal, is_less};
+use crate::redundant::is_redundant;
+use arrayvec::ArrayVec;
+use bq_closure::Bounds;
+use bq_model::{Attr, Element, Link, Part, Query};
+
+// Whether a column stands before another.
+fn is_before(a: Attr, b: Attr) -> bool
+    ensures { result ≡ attr_lt a b }
+{
+    a.stream < b.stream || (a.stream == b.stream && a.column < b.column)
+}
+
+// Adds a column with each of some.
+fn push_row(list: &mut ArrayVec<Link, 144>, left: Attr, attrs: &[Attr])
+    requires { length list.old.items + length attrs.now ≤ 144 }
+    ensures { list.new.items ≡ list.old.items ++ map (link left) attrs.now }
+{
+    for right in attrs {
+        list.push(Link {
+            left,
+            right: *right,
+        });
+    }
+}
+
+// Each column with each.
+fn all_links(attrs: &[Attr]) -> ArrayVec<Link, 144>
+    requires { length attrs.now ≤ 12 }
+    ensures { result.items ≡ links_among attrs.now attrs.now }
+{
+    let mut list = ArrayVec::new();
+    for i in 0..attrs.len() {
+        push_row(&mut list, attrs[i], attrs);
+    }
+    list
+}
+
+// Whether the link is an equality between streams, with the earlier attribute on the left.
+fn is_equality(q: &Query, p: &Part, bounds: &Bounds, l: Link) -> bool
+    requires known { IsKnown q.now p.now.signs.items bounds.now }
+    requires left { Contains (attrs_of q.now.atoms) l.left }
+    requires right { Contains (attrs_of q.now.atoms) l.right }
+    ensures { IsTrue result ↔ IsOrderedEquality q.now p.now.signs.items l }
+{
+    is_before(l.left, l.right)
+        && l.left.stream != l.right.stream
+        && is_equal(q, p, bounds, Element::Attr(l.left), Element::Attr(l.right))
+}
+
+// Whether the sides are of different streams, and the left one is less than the right one.
+fn is_less_across(q: &Query, p: &Part, bounds: &Bounds, l: Link) -> bool
+    requires known { IsKnown q.now p.now.signs.items bounds.now }
+    requires left { Contains (attrs_of q.now.atoms) l.left }
+    requires right { Contains (attrs_of q.now.atoms) l.right }
+    ensures { IsTrue result ↔ IsLessAcross q.now p.now.signs.items l }
+{
+    l.left.stream != l.right.stream
+        && is_less(q, p, bounds, Element::Attr(l.left), Element::Attr(l.right))
+}
+
+// Whether the link is a nonredundant inequality between streams.
+fn is_inequality(q: &Query, p: &Part, bounds: &Bounds, l: Link) -> bool
+    requires known { IsKnown q.now p.now.signs.items bounds.now }
+    requires left { Contains (attrs_of q.now.atoms) l.left }
+    requires right { Contains (attrs_of q.now.atoms) l.right }
+    ensures { IsTrue result ↔ IsInequality q.now p.now.signs.items l.left l.right }
+{
+    is_less_across(q, p, bounds, l)
+        && !is_redundant(q, p, bounds, Element::Attr(l.left), Element::Attr(l.right))
+}
+
+/// The equalities between streams, each once and with the earlier attribute on the left.
+pub fn equalities(q: &Query, p: &Part, bounds: &Bounds) -> ArrayVec<Link, 66>
+    requires { IsKnown q.now p.now.signs.items bounds.now }
+    ensures { Sifts (IsOrderedEquality q.now p.now.signs.items) (links_among (attrs_of q.now.atoms) (attrs_of q.now.atoms)) result.items }
+{
+    let links = all_links(q.attrs());
+    let links = links.as_slice();
+    let mut list = ArrayVec::new();
+    for i in 0..links.len() {
+        if is_equality(q, p, bounds, links[i]) {
+            list.push(links[i]);
+        }
+    }
+    list
+}
+
+/// The nonredundant inequalities between streams.
+pub fn inequalities(q: &Query, p: &Part, bounds: &Bounds) -> ArrayVec<Link, 66>
+    requires { IsKnown q.now p.now.signs.items bounds.now }
+    ensures { Sifts (IsOrderedInequality q.now p.now.signs.items) (links_among (attrs_of q.now.atoms) (attrs_of q.now.atoms)) result.items }
+{
+    let links = all_links(q.attrs());
+    let links = links.as_slice();
+    let mut list = ArrayVec::new();
+    for i in 0..links.len() {
+        if is_inequality(q, p, bounds, links[i]) {
+            list.push(links[i]);
+        }
+    }
+    list
+}

@@ -1,0 +1,53 @@
+//! The least and the greatest value of an attribute.
+ghost use Rattle.std.specs.Prelude.{◌≡◌, ◌<◌, ◌+◌, ◌≤◌, ◌≤ℤ◌, Some, length, get_or, slice_index_or};
+ghost use Rattle.bq_model.specs.declared.atom.Attr.{Attr};
+ghost use Rattle.bq_model.specs.Query.{attrs_of};
+ghost use Rattle.bq_closure.specs.Answers.{IsLowAnswer, IsHighAnswer, IsSmall};
+ghost use Rattle.bq_refs.specs.Known.{IsKnown};
+ghost use Rattle.bq_refs.specs.Refs.{IsRangeAt, between_of};
+
+use bq_closure::Bounds;
+use bq_model::{Part, Query};
+
+/// The least and the greatest value of an attribute in a part.
+#[derive(Clone, Copy, Debug, Default, PartialEq, Eq)]
+pub struct Range {
+    pub lo: i64,
+    pub hi: i64,
+}
+
+// The range between two bounds within 10^17 either way, where both are there.
+fn range_between(low: Option<i128>, high: Option<i128>) -> Option<Range>
+    requires low { IsSmall low }
+    requires high { IsSmall high }
+    ensures { result ≡ between_of low high }
+{
+    match low {
+        Some(lo) => match high {
+            Some(hi) => Some(Range {
+                lo: lo as i64,
+                hi: hi as i64,
+            }),
+            None => None,
+        },
+        None => None,
+    }
+}
+
+// The node of the attribute at a place.
+fn node_at(i: usize) -> u8
+    requires { i < 12 }
+    ensures { result ≡ i + 1 }
+{
+    i as u8 + 1
+}
+
+/// The range of the attribute at a place, or none where it is not bounded.
+pub fn range_at(q: &Query, p: &Part, bounds: &Bounds, i: usize) -> Option<Range>
+    requires known { IsKnown q.now p.now.signs.items bounds.now }
+    requires place { i < length (attrs_of q.now.atoms) }
+    ensures { IsRangeAt q.now p.now.signs.items i result }
+{
+    let node = node_at(i);
+    range_between(bounds.lo(node), bounds.hi(node))
+}

@@ -1,0 +1,101 @@
+//! Which inequalities other elements imply.
+ghost use Rattle.std.specs.Prelude.{◌↔◌, IsTrue, Contains};
+ghost use Rattle.std.specs.List.{Any};
+ghost use Rattle.bq_model.specs.declared.atom.Element.TheVariants as element;
+ghost use Rattle.bq_model.specs.Query.{attrs_of, consts_of};
+ghost use Rattle.bq_model.specs.Order.{IsElement};
+ghost use Rattle.bq_model.specs.Links.{IsRedundant};
+ghost use Rattle.bq_refs.specs.Known.{IsKnown};
+ghost use Rattle.bq_refs.specs.Redundant.{LiesBetween, EqualsLeft, EqualsRight, Parts};
+
+use crate::order::{is_equal, is_less};
+use bq_closure::Bounds;
+use bq_model::{Element, Part, Query};
+
+// Whether e lies between x and y.
+fn lies_between(q: &Query, p: &Part, bounds: &Bounds, x: Element, y: Element, e: Element) -> bool
+    requires known { IsKnown q.now p.now.signs.items bounds.now }
+    requires left { IsElement q.now x }
+    requires right { IsElement q.now y }
+    requires middle { IsElement q.now e }
+    ensures { IsTrue result ↔ LiesBetween q.now p.now.signs.items x y e }
+{
+    is_less(q, p, bounds, x, e) && is_less(q, p, bounds, e, y)
+}
+
+// Whether e equals x and is less than y.
+fn equals_left(q: &Query, p: &Part, bounds: &Bounds, x: Element, y: Element, e: Element) -> bool
+    requires known { IsKnown q.now p.now.signs.items bounds.now }
+    requires left { IsElement q.now x }
+    requires right { IsElement q.now y }
+    requires middle { IsElement q.now e }
+    ensures { IsTrue result ↔ EqualsLeft q.now p.now.signs.items x y e }
+{
+    is_equal(q, p, bounds, x, e) && is_less(q, p, bounds, e, y)
+}
+
+// Whether x is less than e, and e equals y.
+fn equals_right(q: &Query, p: &Part, bounds: &Bounds, x: Element, y: Element, e: Element) -> bool
+    requires known { IsKnown q.now p.now.signs.items bounds.now }
+    requires left { IsElement q.now x }
+    requires right { IsElement q.now y }
+    requires middle { IsElement q.now e }
+    ensures { IsTrue result ↔ EqualsRight q.now p.now.signs.items x y e }
+{
+    is_less(q, p, bounds, x, e) && is_equal(q, p, bounds, e, y)
+}
+
+// Whether a constant lies between x and y, or equals one and parts it from the other.
+fn parts(q: &Query, p: &Part, bounds: &Bounds, x: Element, y: Element, e: Element) -> bool
+    requires known { IsKnown q.now p.now.signs.items bounds.now }
+    requires left { IsElement q.now x }
+    requires right { IsElement q.now y }
+    requires middle { IsElement q.now e }
+    ensures { IsTrue result ↔ Parts q.now p.now.signs.items x y e }
+{
+    lies_between(q, p, bounds, x, y, e)
+        || equals_left(q, p, bounds, x, y, e)
+        || equals_right(q, p, bounds, x, y, e)
+}
+
+// Whether an attribute lies between x and y.
+fn some_attr_between(q: &Query, p: &Part, bounds: &Bounds, x: Element, y: Element) -> bool
+    requires known { IsKnown q.now p.now.signs.items bounds.now }
+    requires left { IsElement q.now x }
+    requires right { IsElement q.now y }
+    ensures { IsTrue result ↔ Any (λ a. LiesBetween q.now p.now.signs.items x y (element.Attr a)) (attrs_of q.now.atoms) }
+{
+    let attrs = q.attrs();
+    for i in 0..attrs.len() {
+        if lies_between(q, p, bounds, x, y, Element::Attr(attrs[i])) {
+            return true;
+        }
+    }
+    false
+}
+
+// Whether a constant parts x from y.
+fn some_const_parts(q: &Query, p: &Part, bounds: &Bounds, x: Element, y: Element) -> bool
+    requires known { IsKnown q.now p.now.signs.items bounds.now }
+    requires left { IsElement q.now x }
+    requires right { IsElement q.now y }
+    ensures { IsTrue result ↔ Any (λ k. Parts q.now p.now.signs.items x y (element.Const k)) (consts_of q.now.atoms) }
+{
+    let consts = q.consts();
+    for i in 0..consts.len() {
+        if parts(q, p, bounds, x, y, Element::Const(consts[i])) {
+            return true;
+        }
+    }
+    false
+}
+
+/// Whether x < y is redundant in the part.
+pub fn is_redundant(q: &Query, p: &Part, bounds: &Bounds, x: Element, y: Element) -> bool
+    requires known { IsKnown q.now p.now.signs.items bounds.now }
+    requires left { IsElement q.now x }
+    requires right { IsElement q.now y }
+    ensures { IsTrue result ↔ IsRedundant q.now p.now.signs.items x y }
+{
+    some_attr_between(q, p, bounds, x, y) || some_const_parts(q, p, bounds, x, y)
+}

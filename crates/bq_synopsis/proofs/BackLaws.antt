@@ -1,0 +1,29 @@
+-- The ends of two lists of one length.
+use Rattle.std.proofs.Common.{◌≡◌, ◌-◌, List, [], ◌∷◌, ◌++◌, length, take, ap, arith, length-append}
+use Rattle.std.specs.Prelude.{Option, Some, None, option_to_list}
+use Rattle.std.proofs.lemmas.List.{length-take, nil_from_length}
+
+pub last-there : {X Y : Type 0} (cs ds : List X) (ns ms : List Y) (o : Option X) (n : Y) → length cs ≡ length ns → ns ≡ ms ++ n ∷ [] → cs ≡ ds ++ option_to_list o → ds ≡ take (length cs - 1) cs → (c : X) × (cs ≡ ds ++ c ∷ [])
+last-there cs ds ns ms (Some c) n l e f g = (c, f)
+last-there cs ds ns ms None n l e f g =
+    let a = ap length e in
+    let b = length-append ms (n ∷ []) in
+    let h = ap length f in
+    let i = length-append ds [] in
+    let j = ap length g in
+    let k = length-take (length cs - 1) cs in
+    absurd (omega (arith, a, b, h, i, j, k, l))
+
+pub none-left : {X : Type 0} (ns ms : List X) → ns ≡ ms ++ [] → ms ≡ take (length ns - 1) ns → ns ≡ []
+none-left ns ms e f =
+    let h = ap length e in
+    let i = length-append ms [] in
+    let j = ap length f in
+    let k = length-take (length ns - 1) ns in
+    nil_from_length ns (omega (arith, h, i, j, k))
+
+pub none-more : {X : Type 0} (cs ds : List X) → length cs ≡ 0 → ds ≡ take (length cs - 1) cs → ds ≡ []
+none-more cs ds e f =
+    let j = ap length f in
+    let k = length-take (length cs - 1) cs in
+    nil_from_length ds (omega (arith, e, j, k))

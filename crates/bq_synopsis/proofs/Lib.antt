@@ -1,0 +1,14 @@
+pub mod SignLaws
+pub mod ValueLaws
+pub mod PlanLaws
+pub mod WalkLaws
+pub mod CostLaws
+pub mod NarrowLaws
+pub mod BackLaws
+pub mod ExactLaws
+pub mod BreakLaws
+pub mod ModelLaws
+pub mod StepLaws
+pub mod StartLaws
+pub mod CallerLemmas
+pub mod OneEach

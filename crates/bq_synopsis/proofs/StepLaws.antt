@@ -1,0 +1,319 @@
+-- What one turn of a probe keeps.
+use Rattle.std.proofs.Common.{◌≡◌, ◌≢◌, ℕ, zero, suc, ◌+◌, ◌*◌, ◌<◌, ◌≤◌, ◌^◌, ◌==◌, Bool, true, false, not, cond, get_or, List, [], ◌∷◌, ◌++◌, map, filter, length, drop, take, lit≤, refl, sym, ap, ◌∙◌, subst, arith, length-append, ℤ, pos, if◌then◌else◌, ◌&&◌, ◌||◌}
+use Rattle.std.specs.Prelude.{Option, Some, None, int_le, MatchOption}
+use Rattle.std.specs.List.{list_any}
+use Rattle.std.proofs.lemmas.Bool.Decides.{nat_tests}
+use Rattle.std.proofs.Math.Nat.{mul-le-mul}
+use Rattle.std.proofs.lemmas.List.{length-take, take_more}
+use Rattle.bq_model.specs.Boxes.{box, place_of, dim_size, box_size, values_at, AreNumbered, AreFull, AreInside}
+use Rattle.bq_model.specs.declared.atom.Attr.{Attr}
+use Rattle.bq_model.specs.declared.part.Pair.{Pair}
+use Rattle.bq_model.specs.declared.plan.Dim.{Dim}
+use Rattle.bq_model.specs.declared.plan.Link.{Link}
+use Rattle.bq_model.specs.declared.plan.Kind.{Kind}
+use Rattle.bq_model.specs.declared.plan.PartPlan.{PartPlan}
+use Rattle.bq_model.specs.Query.{attr_eq}
+use Rattle.bq_model.specs.Plan.{stream_at, dims_at}
+use Rattle.bq_model.specs.Cells.{FitsKind}
+use Rattle.bq_model.specs.Combinations.{Reading}
+use Rattle.bq_model.specs.Numbers.{equals_some}
+use Rattle.bq_model.specs.Probing.{is_known}
+use Rattle.bq_model.proofs.BoxLaws.{sound-full, length-box, box-from, place-below}
+use Rattle.bq_model.specs.declared.cell.Cell.{Cell}
+use Rattle.bq_model.specs.declared.cell.Cell.TheVariants.{Empty, Count, Present, Extreme}
+use Rattle.bq_synopsis.specs.declared.chosen.Chosen.{Chosen}
+use Rattle.bq_synopsis.specs.declared.probe.Probe.{Probe}
+use Rattle.bq_synopsis.specs.Values.{value_in, rows_in}
+use Rattle.bq_synopsis.specs.Choosing.{setting, product_of, meets_links, tuple_of, found, dims_in, cell_in}
+use Rattle.bq_synopsis.specs.Walk.{left, walk, outer, narrowed_dims, narrow, narrowed_by, witness}
+use Rattle.bq_synopsis.specs.Costs.{Rates, cost_left, tried_size}
+use Rattle.bq_synopsis.specs.Premises.{IsLaidOut, AreFitting}
+use Rattle.bq_synopsis.specs.Remaining.{left_of, IsUnderway, WentBack, ended, popped, AreLight, limit, as_found}
+use Rattle.bq_synopsis.proofs.WalkLaws.{left-back, left-past, left-whole, outer-none}
+use Rattle.bq_synopsis.proofs.CostLaws.{cost-back, cost-end, cost-next, cost-enter}
+use Rattle.bq_synopsis.proofs.NarrowLaws.{narrower, map-sound, map-inside, one-value}
+
+pub record AreWhole (ds : List Dim) : Type 0 where
+  pub full : AreFull ds
+  pub sound : AreNumbered ds
+
+pub dims-whole : (part : PartPlan) (arriving cells place : ℕ) → (place ≢ arriving → IsLaidOut (stream_at part place) cells) → AreWhole (dims_in part arriving place)
+unfolding dims_in
+dims-whole part arriving cells place r = by (place == arriving) refl
+  where
+    by : (t : Bool) → (place == arriving) ≡ t → AreWhole (if t then [] else (dims_at part place))
+    by true e = record { full = tt; sound = tt }
+    by false e =
+        let other : place ≢ arriving = grind (arith, nat_tests) in
+        let out = r other in
+        record { full = out.full; sound = sound-full _ out.full (omega (arith, out.size, out.few)) }
+
+module _ (ps : List Pair) (part : PartPlan) (arriving : ℕ) (row : List ℤ) (cells : ℕ) (known : List Chosen) (r : length known ≢ arriving → IsLaidOut (stream_at part (length known)) cells) where
+  pub sound-narrowed : AreNumbered (narrowed_dims ps part arriving row known)
+  unfolding narrowed_dims
+  sound-narrowed = let d = dims-whole part arriving cells (length known) r in map-sound _ (narrower arriving (length known) part.equal.items (value_in ps part arriving row known)) _ d.full d.sound
+
+  pub inside-narrowed : (vs : List ℤ) → AreInside (narrowed_dims ps part arriving row known) vs → AreInside (dims_in part arriving (length known)) vs
+  unfolding narrowed_dims
+  inside-narrowed vs i = let d = dims-whole part arriving cells (length known) r in map-inside _ (narrower arriving (length known) part.equal.items (value_in ps part arriving row known)) _ vs d.full i
+
+-- a dim counts with all its values where no known column fixes it, and else with one
+abbrev free_dim : Dim → Option Attr → ℕ
+free_dim d None = dim_size d
+free_dim d (Some a) = 1
+
+abbrev free_product : ℕ → ℕ → List Link → List Dim → ℕ
+free_product arriving place links [] = 1
+free_product arriving place links (d ∷ ds) = free_dim d (witness arriving place d.attr links) * free_product arriving place links ds
+
+-- the links tell of a known column
+abbrev is_told : ℕ → ℕ → List Link → Dim → Bool
+is_told arriving place links d =
+    list_any (λ l. (attr_eq l.left d.attr && is_known arriving place l.right) || (attr_eq l.right d.attr && is_known arriving place l.left)) links
+
+free-told : (arriving place : ℕ) (links : List Link) (d : Dim) → free_dim d (witness arriving place d.attr links) ≡ cond (is_told arriving place links d) 1 (dim_size d)
+free-told arriving place [] d = refl
+free-told arriving place (l ∷ ls) d =
+    by (attr_eq l.left d.attr && is_known arriving place l.right) (attr_eq l.right d.attr && is_known arriving place l.left) (free-told arriving place ls d)
+  where
+    by : (s t : Bool) → free_dim d (witness arriving place d.attr ls) ≡ cond (is_told arriving place ls d) 1 (dim_size d)
+        → free_dim d (if s then Some l.right else (if t then Some l.left else witness arriving place d.attr ls)) ≡ cond ((s || t) || is_told arriving place ls d) 1 (dim_size d)
+    by true t h = refl
+    by false true h = refl
+    by false false h = h
+
+free-filter : (arriving place : ℕ) (links : List Link) (ds : List Dim) → free_product arriving place links ds ≡ box_size (filter (λ d. not (is_told arriving place links d)) ds)
+free-filter arriving place links [] = refl
+free-filter arriving place links (d ∷ ds) =
+    (λ k. free-told arriving place links d k * free-filter arriving place links ds k) ∙ by (is_told arriving place links d)
+  where
+    by : (t : Bool) → cond t 1 (dim_size d) * box_size (filter (λ e. not (is_told arriving place links e)) ds) ≡ box_size (cond (not t) (d ∷ filter (λ e. not (is_told arriving place links e)) ds) (filter (λ e. not (is_told arriving place links e)) ds))
+    by true = omega arith
+    by false = refl
+
+free-tried : (part : PartPlan) (arriving place : ℕ) → free_product arriving place part.equal.items (dims_in part arriving place) ≡ tried_size part arriving place
+unfolding dims_in tried_size
+free-tried part arriving place = by (place == arriving)
+  where
+    by : (t : Bool) → free_product arriving place part.equal.items (if t then [] else dims_at part place) ≡ box_size (if t then [] else filter (λ d. not (equals_some part d.attr (is_known arriving place))) (dims_at part place))
+    by true = refl
+    by false = free-filter arriving place part.equal.items (dims_at part place)
+
+one-at-most : (d : Dim) (v : ℤ) (t : Bool) → dim_size (if t then record { attr = d.attr; lo = v; hi = v } else record { attr = d.attr; lo = pos 1; hi = pos 0 }) ≤ 1
+one-at-most d v true = omega (arith, one-value v)
+one-at-most d v false = omega arith
+
+free-by : (d : Dim) (values : Attr → ℤ) (a : Option Attr) → dim_size (narrowed_by d values a) ≤ free_dim d a
+free-by d values None = omega arith
+free-by d values (Some a) = one-at-most d (values a) (int_le d.lo (values a) && int_le (values a) d.hi)
+
+free-map : (arriving place : ℕ) (links : List Link) (values : Attr → ℤ) (ds : List Dim) → box_size (map (narrow arriving place links values) ds) ≤ free_product arriving place links ds
+unfolding narrow
+free-map arriving place links values [] = omega arith
+free-map arriving place links values (d ∷ ds) = mul-le-mul (free-by d values (witness arriving place d.attr links)) (free-map arriving place links values ds)
+
+pub few-candidates : (ps : List Pair) (part : PartPlan) (arriving : ℕ) (row : List ℤ) (known : List Chosen) → box_size (narrowed_dims ps part arriving row known) ≤ tried_size part arriving (length known)
+unfolding narrowed_dims
+few-candidates ps part arriving row known =
+    let a = free-map arriving (length known) part.equal.items (value_in ps part arriving row known) (dims_in part arriving (length known)) in
+    let b = free-tried part arriving (length known) in
+    omega (arith, a, b)
+
+pub cost-of-back : (rates : ℕ → Rates) (streams : ℕ) (p r : Probe) → WentBack p r → p.over ≡ false → length p.numbers.items ≤ streams →
+    cost_left (rates r.arriving) streams r.numbers.items r.next r.over + (rates p.arriving).level ≤ cost_left (rates p.arriving) streams p.numbers.items p.next p.over
+cost-of-back rates streams p r (ended a b c d e f g h) o l =
+    let x : cost_left (rates r.arriving) streams r.numbers.items r.next r.over ≡ cost_left (rates p.arriving) streams r.numbers.items r.next true = λ k. cost_left (rates (f k)) streams r.numbers.items r.next (e k) in
+    let y : cost_left (rates p.arriving) streams p.numbers.items p.next p.over ≡ cost_left (rates p.arriving) streams [] p.next false = λ k. cost_left (rates p.arriving) streams (b k) p.next (o k) in
+    omega (arith, x, y, cost-end (rates p.arriving) streams p.next r.numbers.items r.next)
+cost-of-back rates streams p r (popped c n a b e v f g j) o l =
+    let z = ap length b in
+    let h = length-append r.numbers.items (n ∷ []) in
+    let x : cost_left (rates r.arriving) streams r.numbers.items r.next r.over ≡ cost_left (rates p.arriving) streams r.numbers.items n false = λ k. cost_left (rates (f k)) streams r.numbers.items (e k) ((v ∙ o) k) in
+    let y : cost_left (rates p.arriving) streams p.numbers.items p.next p.over ≡ cost_left (rates p.arriving) streams (r.numbers.items ++ n ∷ []) p.next false = λ k. cost_left (rates p.arriving) streams (b k) p.next (o k) in
+    omega (arith, x, y, cost-back (rates p.arriving) streams r.numbers.items n p.next (omega (arith, z, h, l)))
+
+-- what is outside the level is what is left after going back
+pub outer-of-back : (sel : List Attr) (part : PartPlan) (read : Reading) (p r : Probe) → WentBack p r → p.over ≡ false → IsUnderway part p →
+    left_of sel part read r ≡ outer (setting p.pairs.items sel part p.arriving p.row.items read) (length part.streams.items) [] p.chosen.items p.numbers.items
+unfolding left
+outer-of-back sel part read p r (ended a b c d e f g h) o u =
+    (λ k. left (setting r.pairs.items sel part r.arriving r.row.items read) r.chosen.items r.numbers.items r.next (e k))
+    ∙ sym ((λ k. outer (setting p.pairs.items sel part p.arriving p.row.items read) (length part.streams.items) [] (a k) p.numbers.items) ∙ outer-none (setting p.pairs.items sel part p.arriving p.row.items read) (length part.streams.items) [] p.numbers.items)
+outer-of-back sel part read p r (popped c n a b e v f g j) o u =
+    let w = setting p.pairs.items sel part p.arriving p.row.items read in
+    let x = ap length a in
+    let y = ap length b in
+    let s = length-append r.chosen.items (c ∷ []) in
+    let t = length-append r.numbers.items (n ∷ []) in
+    let m : length r.chosen.items ≡ length r.numbers.items = omega (arith, x, y, s, t, u.same) in
+    let few : length r.chosen.items < length part.streams.items = omega (arith, x, s, u.few) in
+    (λ k. left (setting (j k).items sel part (f k) (g k).items read) r.chosen.items r.numbers.items (e k) ((v ∙ o) k))
+    ∙ sym (left-back w r.chosen.items r.numbers.items c n m few)
+    ∙ (λ k. outer w (length part.streams.items) [] (sym a k) (sym b k))
+
+light-front : (a i : ℕ) (cs : List Chosen) (c : Chosen) → AreLight a i (cs ++ c ∷ []) → AreLight a i cs
+light-front a i [] c h = tt
+light-front a i (x ∷ cs) c h = (h.0, light-front a (i + 1) cs c h.1)
+
+light-more : (a i : ℕ) (cs : List Chosen) (c : Chosen) → AreLight a i cs → rows_in c.cell ≤ limit a (i + length cs) → AreLight a i (cs ++ c ∷ [])
+light-more a i [] c h l = (subst (λ n. rows_in c.cell ≤ limit a n) (let e : i + 0 ≡ i = omega arith in e) l, tt)
+light-more a i (x ∷ cs) c h l = (h.0, light-more a (i + 1) cs c h.1 (subst (λ n. rows_in c.cell ≤ limit a n) (let e : i + suc (length cs) ≡ i + 1 + length cs = omega arith in e) l))
+
+pub underway-back : (part : PartPlan) (p r : Probe) → WentBack p r → IsUnderway part p → IsUnderway part r
+underway-back part p r (ended a b c d e f g h) u = record { here = subst (λ m. m < length part.streams.items) (sym f) u.here; same = ap length c ∙ sym (ap length d); few = let z = ap length c in omega (arith, z); light = subst (λ cs. AreLight r.arriving 0 cs) (sym c) tt }
+underway-back part p r (popped c n a b e v f g j) u =
+    let x = ap length a in
+    let y = ap length b in
+    let s = length-append r.chosen.items (c ∷ []) in
+    let t = length-append r.numbers.items (n ∷ []) in
+    record { here = subst (λ m. m < length part.streams.items) (sym f) u.here; same = omega (arith, x, y, s, t, u.same); few = omega (arith, x, s, u.few); light = subst (λ m. AreLight m 0 r.chosen.items) (sym f) (light-front p.arriving 0 r.chosen.items c (subst (λ cs. AreLight p.arriving 0 cs) a u.light)) }
+
+pub left-of-back : (sel : List Attr) (part : PartPlan) (read : Reading) (p r : Probe) → WentBack p r → p.over ≡ false → IsUnderway part p → length p.chosen.items < length part.streams.items →
+    box_size (narrowed_dims p.pairs.items part p.arriving p.row.items p.chosen.items) ≤ p.next → left_of sel part read r ≡ left_of sel part read p
+left-of-back sel part read p r back o u l past =
+    let w = setting p.pairs.items sel part p.arriving p.row.items read in
+    outer-of-back sel part read p r back o u
+    ∙ sym (left-past w p.chosen.items p.numbers.items p.next l (omega (arith, past, length-box (narrowed_dims p.pairs.items part p.arriving p.row.items p.chosen.items))))
+    ∙ (λ k. left w p.chosen.items p.numbers.items p.next (sym o k))
+
+-- the candidate that is next
+pub candidate : (part : PartPlan) (p : Probe) (values : List ℤ) → p.next < box_size (narrowed_dims p.pairs.items part p.arriving p.row.items p.chosen.items) →
+    values ≡ values_at (narrowed_dims p.pairs.items part p.arriving p.row.items p.chosen.items) p.next →
+    drop p.next (box (narrowed_dims p.pairs.items part p.arriving p.row.items p.chosen.items)) ≡ values ∷ drop (p.next + 1) (box (narrowed_dims p.pairs.items part p.arriving p.row.items p.chosen.items))
+candidate part p values l e = box-from _ _ l ∙ ap (λ vs. vs ∷ drop (p.next + 1) (box (narrowed_dims p.pairs.items part p.arriving p.row.items p.chosen.items))) (sym e)
+
+pub paid-exactly : (s t x y e f : ℕ) → t ≡ s + e → e ≡ f → x + f ≡ y → t + x ≤ s + y
+paid-exactly s t x y e f a b c = omega (arith, a, b, c)
+
+pub paid-enough : (s t x y e f : ℕ) → t ≡ s + e → e ≡ f → x + f ≤ y → t + x ≤ s + y
+paid-enough s t x y e f a b c = omega (arith, a, b, c)
+
+-- the cost of a level more, and of the next candidate, in the probe's terms
+module _ (rates : Rates) (streams : ℕ) (p : Probe) (l : length p.numbers.items < streams) (h : p.next < rates.size (length p.numbers.items)) (o : p.over ≡ false) where
+  pub cost-of-enter : (ns : List ℕ) → ns ≡ p.numbers.items ++ (p.next + 1) ∷ [] → cost_left rates streams ns 0 p.over + rates.each (length p.numbers.items) ≡ cost_left rates streams p.numbers.items p.next p.over
+  cost-of-enter ns e = (λ k. cost_left rates streams (e k) 0 (o k) + rates.each (length p.numbers.items)) ∙ cost-enter rates streams p.numbers.items p.next l h ∙ (λ k. cost_left rates streams p.numbers.items p.next (sym o k))
+
+  pub cost-of-next : cost_left rates streams p.numbers.items (p.next + 1) p.over + rates.each (length p.numbers.items) ≤ cost_left rates streams p.numbers.items p.next p.over
+  cost-of-next = let g = cost-next rates streams p.numbers.items p.next l h in subst (λ b. cost_left rates streams p.numbers.items (p.next + 1) b + rates.each (length p.numbers.items) ≤ cost_left rates streams p.numbers.items p.next b) (sym o) g
+
+modest-weight : (kind : Kind) (c : Cell) → FitsKind kind c → rows_in c ≤ 2 ^ 40
+modest-weight kind Empty h = omega arith
+modest-weight Kind.Count (Count n) h = h.1
+modest-weight Kind.Present (Count n) h = absurd h
+modest-weight (Kind.Least a) (Count n) h = absurd h
+modest-weight (Kind.Greatest a) (Count n) h = absurd h
+modest-weight kind Present h = omega arith
+modest-weight kind (Extreme v) h = omega arith
+
+pub light-cell : (part : PartPlan) (arriving : ℕ) (read : Reading) (place : ℕ) (vs : List ℤ) → AreFitting part read → place < length part.streams.items
+    → (cells : ℕ) → (place ≢ arriving → IsLaidOut (stream_at part place) cells) → AreInside (dims_in part arriving place) vs → rows_in (cell_in part read arriving place vs) ≤ limit arriving place
+unfolding cell_in dims_in
+light-cell part arriving read place vs fits l cells out = by (place == arriving) refl
+  where
+    by : (t : Bool) → (place == arriving) ≡ t → AreInside (if t then [] else dims_at part place) vs → rows_in (if t then Present else read part place (place_of (dims_at part place) vs)) ≤ (if t then 1 else 2 ^ 40)
+    by true e i = omega arith
+    by false e i =
+        let other : place ≢ arriving = grind (arith, nat_tests) in
+        let s = (out other).size in
+        let b = place-below (dims_at part place) vs i in
+        modest-weight (stream_at part place).kind _ (fits place (place_of (dims_at part place) vs) l (omega (arith, s, b)))
+
+pub underway-enter : (part : PartPlan) (p r : Probe) (c : Chosen) (n : ℕ) → IsUnderway part p → r.arriving ≡ p.arriving → r.chosen.items ≡ p.chosen.items ++ c ∷ [] → r.numbers.items ≡ p.numbers.items ++ n ∷ [] → length p.chosen.items < length part.streams.items → rows_in c.cell ≤ limit p.arriving (length p.chosen.items) → IsUnderway part r
+underway-enter part p r c n u f a b l h =
+    let x = ap length a in
+    let y = ap length b in
+    let s = length-append p.chosen.items (c ∷ []) in
+    let t = length-append p.numbers.items (n ∷ []) in
+    let z : length p.chosen.items ≡ 0 + length p.chosen.items = omega arith in
+    record {
+      here = subst (λ m. m < length part.streams.items) (sym f) u.here;
+      same = omega (arith, x, y, s, t, u.same);
+      few = omega (arith, x, s, l);
+      light = subst (λ m. AreLight m 0 r.chosen.items) (sym f) (subst (λ cs. AreLight p.arriving 0 cs) (sym a) (light-more p.arriving 0 p.chosen.items c u.light (subst (λ m. rows_in c.cell ≤ limit p.arriving m) z h)));
+    }
+
+pub limits : ℕ → ℕ → ℕ → ℕ
+limits a i zero = 1
+limits a i (suc n) = limit a i * limits a (i + 1) n
+
+within-limits : (a i : ℕ) (cs : List Chosen) → AreLight a i cs → product_of cs ≤ limits a i (length cs)
+unfolding limits
+within-limits a i [] h = omega arith
+within-limits a i (c ∷ cs) h = mul-le-mul h.0 (within-limits a (i + 1) cs h.1)
+
+three-counts : (a n : ℕ) → a < 4 → n ≤ 4 → limits a 0 n ≤ 2 ^ 120
+unfolding limits
+three-counts zero zero l m = lit≤ tt
+three-counts zero (suc zero) l m = lit≤ tt
+three-counts zero (suc (suc zero)) l m = lit≤ tt
+three-counts zero (suc (suc (suc zero))) l m = lit≤ tt
+three-counts zero (suc (suc (suc (suc zero)))) l m = lit≤ tt
+three-counts zero (suc (suc (suc (suc (suc n))))) l m = absurd (omega (arith, m))
+three-counts (suc zero) zero l m = lit≤ tt
+three-counts (suc zero) (suc zero) l m = lit≤ tt
+three-counts (suc zero) (suc (suc zero)) l m = lit≤ tt
+three-counts (suc zero) (suc (suc (suc zero))) l m = lit≤ tt
+three-counts (suc zero) (suc (suc (suc (suc zero)))) l m = lit≤ tt
+three-counts (suc zero) (suc (suc (suc (suc (suc n))))) l m = absurd (omega (arith, m))
+three-counts (suc (suc zero)) zero l m = lit≤ tt
+three-counts (suc (suc zero)) (suc zero) l m = lit≤ tt
+three-counts (suc (suc zero)) (suc (suc zero)) l m = lit≤ tt
+three-counts (suc (suc zero)) (suc (suc (suc zero))) l m = lit≤ tt
+three-counts (suc (suc zero)) (suc (suc (suc (suc zero)))) l m = lit≤ tt
+three-counts (suc (suc zero)) (suc (suc (suc (suc (suc n))))) l m = absurd (omega (arith, m))
+three-counts (suc (suc (suc zero))) zero l m = lit≤ tt
+three-counts (suc (suc (suc zero))) (suc zero) l m = lit≤ tt
+three-counts (suc (suc (suc zero))) (suc (suc zero)) l m = lit≤ tt
+three-counts (suc (suc (suc zero))) (suc (suc (suc zero))) l m = lit≤ tt
+three-counts (suc (suc (suc zero))) (suc (suc (suc (suc zero)))) l m = lit≤ tt
+three-counts (suc (suc (suc zero))) (suc (suc (suc (suc (suc n))))) l m = absurd (omega (arith, m))
+three-counts (suc (suc (suc (suc a)))) n l m = absurd (omega (arith, l))
+
+light-take : (a i k : ℕ) (cs : List Chosen) → AreLight a i cs → AreLight a i (take k cs)
+light-take a i zero cs h = tt
+light-take a i (suc k) [] h = tt
+light-take a i (suc k) (c ∷ cs) h = (h.0, light-take a (i + 1) k cs h.1)
+
+-- no product of counts passes 120 bits
+pub light-product : (a k : ℕ) (cs : List Chosen) → a < 4 → length cs ≤ 4 → AreLight a 0 cs → product_of (take k cs) ≤ 2 ^ 120
+light-product a k cs l m h =
+    let s = length-take k cs in
+    let x = within-limits a 0 (take k cs) (light-take a 0 k cs h) in
+    let y = three-counts a (length (take k cs)) l (omega (arith, s, m)) in
+    omega (arith, x, y)
+
+pub product-more : (cs : List Chosen) (i : ℕ) (c : Chosen) → i < length cs → product_of (take (i + 1) cs) ≡ product_of (take i cs) * rows_in (get_or cs i c).cell
+product-more cs i c l = ap product_of (take_more cs i c l) ∙ product-end (take i cs) (get_or cs i c)
+  where
+    product-end : (xs : List Chosen) (y : Chosen) → product_of (xs ++ y ∷ []) ≡ product_of xs * rows_in y.cell
+    product-end [] y = omega arith
+    product-end (x ∷ xs) y = omega (arith, ap (λ n. rows_in x.cell * n) (product-end xs y))
+
+pub product-next : (cs : List Chosen) (i : ℕ) (x : Chosen) (product w v : ℕ) → i < length cs → product ≡ product_of (take i cs) → x ≡ get_or cs i x → w ≡ rows_in x.cell → v ≡ w → product * v ≡ product_of (take (i + 1) cs)
+product-next cs i x product w v l e f g h = (λ k. e k * (h ∙ g ∙ ap (λ (y : Chosen). rows_in y.cell) f) k) ∙ sym (product-more cs i x l)
+
+-- all streams are chosen: the combination, if it meets the links, and then the rest
+module _ (sel : List Attr) (part : PartPlan) (p r : Probe) (back : WentBack p r) (o : p.over ≡ false) (u : IsUnderway part p) (whole : length p.chosen.items ≡ length part.streams.items) where
+  whole-left : (read : Reading) → left_of sel part read p ≡ walk (setting p.pairs.items sel part p.arriving p.row.items read) 0 p.chosen.items ++ left_of sel part read r
+  whole-left read =
+      (λ k. left (setting p.pairs.items sel part p.arriving p.row.items read) p.chosen.items p.numbers.items p.next (o k))
+      ∙ left-whole (setting p.pairs.items sel part p.arriving p.row.items read) p.chosen.items p.numbers.items p.next whole
+      ∙ ap (λ fs. walk (setting p.pairs.items sel part p.arriving p.row.items read) 0 p.chosen.items ++ fs) (sym (outer-of-back sel part read p r back o u))
+
+  pub finish-none : meets_links p.pairs.items part p.arriving p.row.items p.chosen.items ≡ false → (read : Reading) → left_of sel part read p ≡ left_of sel part read r
+  unfolding walk
+  finish-none e read = whole-left read ∙ ap (λ b. (if b then found (setting p.pairs.items sel part p.arriving p.row.items read) p.chosen.items ∷ [] else []) ++ left_of sel part read r) e
+
+  pub finish-some : (vs : List ℤ) (n : ℕ) → meets_links p.pairs.items part p.arriving p.row.items p.chosen.items ≡ true → vs ≡ tuple_of p.pairs.items sel part p.arriving p.row.items p.chosen.items → n ≡ product_of p.chosen.items → (read : Reading) → left_of sel part read p ≡ as_found vs n ∷ left_of sel part read r
+  unfolding walk
+  finish-some vs n e f g read =
+      whole-left read ∙ ap (λ b. (if b then found (setting p.pairs.items sel part p.arriving p.row.items read) p.chosen.items ∷ [] else []) ++ left_of sel part read r) e
+      ∙ (λ k. as_found (sym f k) (sym g k) ∷ left_of sel part read r)
+
+pub option_weaker : {T : Type 0} (o : Option T) (A B : Type 0) (P R : T → Type 0) → (A → B) → ((t : T) → P t → R t) → MatchOption o A P → MatchOption o B R
+option_weaker None A B P R f g h = f h
+option_weaker (Some t) A B P R f g h = g t h
+
+pub left-over : (sel : List Attr) (part : PartPlan) (read : Reading) (p : Probe) → p.over ≡ true → left_of sel part read p ≡ []
+unfolding left
+left-over sel part read p o = λ k. left (setting p.pairs.items sel part p.arriving p.row.items read) p.chosen.items p.numbers.items p.next (o k)

@@ -1,0 +1,20 @@
+use Rattle.std.proofs.Common.{sym, subst, ◌*◌, arith}
+use Rattle.bq_model.specs.Boxes.{AreInside}
+use Rattle.bq_model.specs.Meaning.{by_column}
+use Rattle.bq_model.specs.Plan.{dims_at}
+use Rattle.bq_model.specs.Cells.{dim_values}
+use Rattle.bq_laws.proofs.Inverse.{admitted-rows-have-places}
+use Rattle.bq_synopsis.proofs.PlanLaws.{laid-from}
+use Rattle.bq_synopsis.proofs.cells.insert.Goals as goal
+
+pub row_cell-index-requires-clause-inside : goal.row_cell-index-requires-clause-inside
+row_cell-index-requires-clause-inside g c =
+    subst (λ row. AreInside (dims_at c.args.part.now c.args.pos) (dim_values (dims_at c.args.part.now c.args.pos) (by_column row))) (sym c.as_slice.ensures.value)
+    (admitted-rows-have-places c.args.q.now c.args.part.now c.args.pos (by_column c.args.row.now.items) c.requires.admitted)
+
+pub row_cell-index-requires-clause-laid : goal.row_cell-index-requires-clause-laid
+row_cell-index-requires-clause-laid g c =
+    laid-from c.args.q.now c.args.part.now c.requires.held.walked (64 * c.args.e.now.pages) c.requires.held.within c.requires.several c.args.pos c.requires.here
+
+pub row_cell-index-requires-clause-here : goal.row_cell-index-requires-clause-here
+row_cell-index-requires-clause-here g c = omega (arith, c.requires.here, c.requires.held.walked.plan.count)

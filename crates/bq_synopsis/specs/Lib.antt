@@ -1,0 +1,6 @@
+pub mod Values
+pub mod Choosing
+pub mod Walk
+pub mod Costs
+pub mod Premises
+pub mod Remaining

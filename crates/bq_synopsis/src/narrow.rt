@@ -1,0 +1,90 @@
+//! The values that the equalities leave for the next stream.
+ghost use Rattle.std.specs.Prelude.{◌≡◌, ◌<◌, length};
+ghost use Rattle.bq_model.specs.Probing.{is_known};
+ghost use Rattle.bq_synopsis.specs.Values.{value_in};
+ghost use Rattle.bq_synopsis.specs.Walk.{witness, narrowed_to, narrow, narrowed_dims};
+
+use crate::chosen::Chosen;
+use crate::values::{is_same, value_in};
+use arrayvec::ArrayVec;
+use bq_model::{Attr, Dim, Link, Pair, PartPlan};
+
+// Whether a walk that has chosen at so many places knows the column.
+fn is_known(arriving: u8, place: usize, a: Attr) -> bool
+    ensures { result ≡ is_known arriving place a }
+{
+    a.stream == arriving || usize::from(a.stream) < place
+}
+
+// A known column that a link says is equal.
+fn witness(arriving: u8, place: usize, a: Attr, links: &[Link]) -> Option<Attr>
+    ensures { result ≡ witness arriving place a links.now }
+{
+    'links: for link in links {
+        if is_same(link.left, a) && is_known(arriving, place, link.right) {
+            return Some(link.right);
+        }
+        if is_same(link.right, a) && is_known(arriving, place, link.left) {
+            return Some(link.left);
+        }
+    }
+    None
+}
+
+// The dim with one value alone, or with none where the value is outside its range.
+fn narrowed_to(dim: Dim, value: i64) -> Dim
+    ensures { result ≡ narrowed_to dim value }
+{
+    if dim.lo <= value && value <= dim.hi {
+        Dim {
+            attr: dim.attr,
+            lo: value,
+            hi: value,
+        }
+    } else {
+        Dim {
+            attr: dim.attr,
+            lo: 1,
+            hi: 0,
+        }
+    }
+}
+
+// The dim with the values that the links leave.
+#[tactic(auto, unfolding(crate::specs::Walk::narrow))]
+fn narrow(
+    pairs: &[Pair],
+    part: &PartPlan,
+    arriving: u8,
+    row: &[i64],
+    known: &[Chosen],
+    dim: Dim,
+) -> Dim
+    ensures { result ≡ narrow arriving (length known.now) part.now.equal.items (value_in pairs.now part.now arriving row.now known.now) dim }
+{
+    match witness(arriving, known.len(), dim.attr, part.equal.as_slice()) {
+        Some(a) => narrowed_to(dim, value_in(pairs, part, arriving, row, known, a)),
+        None => dim,
+    }
+}
+
+/// The dims of the next stream, each with the values that the equalities leave.
+#[tactic(auto, unfolding(crate::specs::Walk::narrowed_dims, crate::specs::Choosing::dims_in))]
+pub fn narrowed_dims(
+    pairs: &[Pair],
+    part: &PartPlan,
+    arriving: u8,
+    row: &[i64],
+    known: &[Chosen],
+) -> ArrayVec<Dim, 8>
+    requires { length known.now < length part.now.streams.items }
+    ensures { result.items ≡ narrowed_dims pairs.now part.now arriving row.now known.now }
+{
+    let mut dims: ArrayVec<Dim, 8> = ArrayVec::new();
+    if known.len() != arriving as usize {
+        'dims: for d in part.streams.as_slice()[known.len()].dims.as_slice() {
+            dims.push(narrow(pairs, part, arriving, row, known, *d));
+        }
+    }
+    dims
+}
