@@ -1,0 +1,6 @@
+pub mod Firsts
+pub mod Unnamed
+pub mod Numbered
+pub mod Told
+pub mod Two
+pub mod Named

@@ -1,0 +1,17 @@
+use Rattle.std.proofs.Common.{subst, List, Contains}
+use Rattle.bq_model.specs.declared.atom.Attr.{Attr}
+use Rattle.bq_decide.proofs.Told.{range_room, bounded_told}
+use Rattle.bq_decide.proofs.Unnamed.{unnamed_is_unbounded}
+use Rattle.bq_decide.proofs.bounded.is_bounded.Goals as goal
+
+pub has_range-requires : goal.has_range-requires
+has_range-requires c = range_room c.args.q.now c.args.p.now.signs.items c.args.refs.now c.attrs.result.now c.in-Some.i c.requires.refs c.attrs.ensures.value c.in-Some.ensures.0
+
+pub returns-in-Some : goal.returns-in-Some
+returns-in-Some c = bounded_told c.args.q.now c.args.p.now.signs.items c.args.refs.now c.attrs.result.now c.in-Some.i c.args.attr _ c.requires.refs c.attrs.ensures.value c.in-Some.ensures.0 c.in-Some.ensures.1 c.has_range.ensures.0 c.has_range.ensures.1
+
+pub returns-in-None : goal.returns-in-None
+returns-in-None c = (
+  (λ h. cc),
+  (λ b. absurd (unnamed_is_unbounded c.args.q.now c.args.p.now.signs.items c.requires.part c.args.attr (subst (λ (z : List Attr). ¬ Contains z c.args.attr) c.attrs.ensures.value c.in-None.ensures) b)),
+)
