@@ -16,7 +16,7 @@ use Rattle.bq_model.specs.Cells.{synopsis, printed}
 use Rattle.bq_model.specs.Combinations.{read_from}
 use Rattle.bq_model.specs.Numbers.{numbers_of}
 use Rattle.bq_model.specs.Future.{future}
-use Rattle.bq_laws.specs.Cases.{col, atom, row}
+use Rattle.bq_laws.specs.Cases.{col, atom, arrival}
 
 -- SELECT DISTINCT R.room FROM R, L WHERE R.room = L.room AND R.room > 0 AND R.room < 4 AND R.temp > L.lim
 abbrev pub hot_rooms : QueryValue
@@ -159,16 +159,16 @@ hot_rooms_plan =
 
 -- temperatures and limits as they come
 abbrev pub first_row : Arrival
-first_row = row 0 (pos 2 ∷ pos 30 ∷ [])
+first_row = arrival 0 (pos 2 ∷ pos 30 ∷ [])
 
 abbrev pub second_row : Arrival
-second_row = row 1 (pos 2 ∷ pos 25 ∷ [])
+second_row = arrival 1 (pos 2 ∷ pos 25 ∷ [])
 
 abbrev pub third_row : Arrival
-third_row = row 1 (pos 2 ∷ pos 10 ∷ [])
+third_row = arrival 1 (pos 2 ∷ pos 10 ∷ [])
 
 abbrev pub fourth_row : Arrival
-fourth_row = row 1 (pos 3 ∷ pos 0 ∷ [])
+fourth_row = arrival 1 (pos 3 ∷ pos 0 ∷ [])
 
 -- what cells and table tell after a history
 abbrev pub told : List Arrival → Arrival → List (List ℤ)
