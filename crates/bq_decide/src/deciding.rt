@@ -1,19 +1,11 @@
 //! The decision on a query.
 ghost use Rattle.std.specs.Prelude.{◌≡◌, ◌<◌, ◌^◌, length};
-ghost use Rattle.bq_model.specs.Query.{is_filter};
 ghost use Rattle.bq_model.specs.Parts.{AreParts};
 ghost use Rattle.bq_model.specs.Verdict.{IsDecision};
 ghost use Rattle.bq_lto_split.specs.Split.{sign_lists};
 
 use crate::breaking::violation_of;
 use bq_model::{Decision, Part, Query};
-
-// Whether the query is over one stream and without DISTINCT.
-fn is_filter(q: &Query) -> bool
-    ensures { result ≡ is_filter q.now }
-{
-    !q.distinct() && q.from().len() == 1
-}
 
 /// What the parts of a query say: all conditions are met, or the first part that breaks one, in it the first condition,
 /// and for it the first column. A filter meets all.
@@ -22,7 +14,7 @@ pub fn decide(q: &Query, parts: &[Part]) -> Decision
     requires few { length parts.now < 2 ^ 32 }
     ensures { IsDecision q.now result }
 {
-    if is_filter(q) {
+    if q.is_filter() {
         return Decision::Bounded;
     }
     for i in 0..parts.len() {

@@ -41,3 +41,4 @@ pub mod WaitingCounts
 pub mod ByPlace
 pub mod ExactExtremes
 pub mod HotRooms
+pub mod CountedParts

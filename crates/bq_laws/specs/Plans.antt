@@ -2,9 +2,11 @@
 use Rattle.std.specs.Prelude.{◌≡◌, ℕ, ◌<◌, ◌≤◌, ◌↔◌, List, IsTrue, IsFalse, Contains, length}
 use Rattle.std.specs.declared.option.Option.TheVariants.{None}
 use Rattle.bq_model.specs.declared.atom.Attr.{Attr}
+use Rattle.bq_model.specs.declared.part.Sign.{Sign}
 use Rattle.bq_model.specs.declared.plan.Dim.{Dim}
 use Rattle.bq_model.specs.declared.plan.PartPlan.{PartPlan}
 use Rattle.bq_model.specs.Query.{QueryValue, IsWithinLimits, is_filter}
+use Rattle.bq_model.specs.Parts.{AreParts, HasMoreParts}
 use Rattle.bq_model.specs.Order.{IsLeast, IsGreatest}
 use Rattle.bq_model.specs.Links.{IsEquality}
 use Rattle.bq_model.specs.Violation.{IsViolation}
@@ -12,6 +14,10 @@ use Rattle.bq_model.specs.Plan.{IsPartPlan, IsPlan, dims_at}
 use Rattle.bq_model.specs.Ranges.{range_of}
 use Rattle.bq_model.specs.Numbers.{is_fixed, share_of, share}
 use Rattle.bq_model.specs.Verdict.{Verdict, IsVerdict}
+
+-- a query has more than n parts exactly where the list of its parts is longer
+abbrev pub PartsAreCounted : Type 0
+PartsAreCounted = (q : QueryValue) (parts : List (List Sign)) (n : ℕ) → AreParts q parts → HasMoreParts q n ↔ (n < length parts)
 
 -- a query of which no condition is violated has at most one plan
 abbrev pub HasOnePlan : Type 0

@@ -1,7 +1,7 @@
 //! The laws, as public functions without a body.
 ghost use Rattle.bq_laws.specs.Admitting.{AdmissionIsExact};
 ghost use Rattle.bq_laws.specs.Places.{PlacesAreInverse, AdmittedRowsHavePlaces, BoxesAreApart, SynopsisHasCells, CellsAreRead};
-ghost use Rattle.bq_laws.specs.Plans.{HasOnePlan, HasOneVerdict, RangesAreExact, FreeDimsAreExact, SharesAreGreatest};
+ghost use Rattle.bq_laws.specs.Plans.{PartsAreCounted, HasOnePlan, HasOneVerdict, RangesAreExact, FreeDimsAreExact, SharesAreGreatest};
 ghost use Rattle.bq_laws.specs.Probing.{PlansAreWalkable, ChoicesGoByValues, WalksFindAll};
 ghost use Rattle.bq_laws.specs.Cases.{PremisesAreMet, ExtremesDecide, CountsMultiply, OneTableForAllParts, NumbersAreThese};
 ghost use Rattle.bq_laws.specs.HotRooms.{HotRooms};
@@ -117,6 +117,11 @@ pub fn counts_fit()
 /// Without DISTINCT what waits for one tuple fits 128 bits.
 pub fn waiting_counts_fit()
     ensures { WaitingCountsFit }
+{}
+
+/// A query has more than n parts exactly where the list of its parts is longer.
+pub fn parts_are_counted()
+    ensures { PartsAreCounted }
 {}
 
 /// A query of which no condition is violated has one plan.

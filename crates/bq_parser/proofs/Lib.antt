@@ -17,3 +17,4 @@ pub mod Told
 pub mod Verdict
 pub mod Within
 pub mod WritesBehind
+pub mod NamedAttrs

@@ -1,7 +1,8 @@
 -- The laws of statements and their texts.
-use Rattle.std.specs.Prelude.{true, ◌≡◌, ℕ, List, ◌++◌, None, Ok, IsTrue, All}
+use Rattle.std.specs.Prelude.{true, ◌≡◌, ℕ, List, ◌++◌, None, Ok, IsTrue, All, Contains}
 use Rattle.bq_text.specs.Name.{is_name}
-use Rattle.bq_model.specs.Query.{QueryValue, IsWithinLimits}
+use Rattle.bq_model.specs.Query.{QueryValue, IsWithinLimits, attrs_of}
+use Rattle.bq_model.specs.declared.atom.Attr.{Attr}
 use Rattle.bq_schema.specs.Streams.{Shape, IsCatalog}
 use Rattle.bq_parser.specs.declared.tree.Statement.{Statement}
 use Rattle.bq_parser.specs.Grammar.{IsWhole}
@@ -9,7 +10,7 @@ use Rattle.bq_parser.specs.Syntax.{IsStatement, IsFault}
 use Rattle.bq_parser.specs.Limits.{names_of, limit_of}
 use Rattle.bq_parser.specs.LineKind.{is_row, IsRowText}
 use Rattle.bq_parser.specs.Printed.{printed_form}
-use Rattle.bq_parser.specs.Resolution.{resolved, HasNamed, named_select}
+use Rattle.bq_parser.specs.Resolution.{resolved, HasNamed, named_select, IsColumnOf}
 
 -- a line is spelled as one statement at most
 abbrev pub OneReading : Type 0
@@ -35,3 +36,7 @@ ResolvesBack = (streams : List Shape) → (q : QueryValue) → IsCatalog streams
 -- the streams and columns that a query names are there after more streams were added
 abbrev pub StaysNamed : Type 0
 StaysNamed = (streams : List Shape) → (more : List Shape) → (q : QueryValue) → HasNamed streams q → HasNamed (streams ++ more) q
+
+-- the columns that the atoms of a query name are there, where the query is named
+abbrev pub AttributesAreNamed : Type 0
+AttributesAreNamed = (streams : List Shape) → (q : QueryValue) → HasNamed streams q → (a : Attr) → Contains (attrs_of q.atoms) a → IsColumnOf streams q.from a

@@ -1,5 +1,5 @@
 //! Laws of the definitions, as public functions without a body: the clause is the law.
-ghost use Rattle.bq_parser.specs.Laws.{OneReading, FaultsAreNone, PrintsBack, RowsAreRows, ResolvesBack, StaysNamed};
+ghost use Rattle.bq_parser.specs.Laws.{OneReading, FaultsAreNone, PrintsBack, RowsAreRows, ResolvesBack, StaysNamed, AttributesAreNamed};
 
 /// No line can be read as two statements.
 pub fn one_reading()
@@ -29,4 +29,9 @@ pub fn resolves_back()
 /// The streams and columns that a query names are still there after more streams were added.
 pub fn stays_named()
     ensures { StaysNamed }
+{}
+
+/// The columns that the atoms of a query name are there, where the query is named by a catalog.
+pub fn attributes_are_named()
+    ensures { AttributesAreNamed }
 {}

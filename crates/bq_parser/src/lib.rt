@@ -18,7 +18,7 @@ mod resolution;
 mod tree;
 
 pub use line::{LineKind, classify};
-pub use naming::print_query;
+pub use naming::{column_named, print_query};
 pub use parsing::{ParseError, What, parse};
 pub use printing::print;
 pub use resolution::{ResolveError, resolve};

@@ -1,6 +1,8 @@
+pub mod Deciding
 pub mod LineRuns
 pub mod OneAnswer
 pub mod Refused
-pub mod RowReply
+pub mod Given
+pub mod Named
 pub mod Standing
 pub mod Stripped

@@ -1,13 +1,11 @@
--- What a line can come to.
-use Rattle.std.specs.Prelude.{ℕ, ℤ, List}
+-- What a line comes to.
+use Rattle.std.specs.Prelude.{ℕ, List}
 use Rattle.bq_model.specs.Query.{QueryValue}
-use Rattle.bq_session.specs.declared.word.Word.{Word}
+use Rattle.bq_model.specs.Verdict.{Verdict}
+use Rattle.bq_session.specs.Request.{Request}
 
--- What a line comes to: nothing; a stream of this name is created, with these columns; a filter is registered under a name; a row
--- of the stream of this number is taken; the line is refused. Reply and next state follow from this and the state before.
+-- What a line comes to: what it asks for, where no verdict is due; or this verdict on the query of this name. Reply and next state
+-- follow from this and the state before.
 pub data Answer : Type 0 where
-  silent : Answer
-  created : List ℕ → List (List ℕ) → Answer
-  registered : List ℕ → QueryValue → Answer
-  taken : ℕ → List ℤ → Answer
-  refused : Word → Answer
+  plain : Request → Answer
+  decided : List ℕ → QueryValue → Verdict → Answer

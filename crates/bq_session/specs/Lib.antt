@@ -3,5 +3,7 @@ pub mod Answers
 pub mod Decided
 pub mod Laws
 pub mod Replies
+pub mod Request
+pub mod Requests
 pub mod Session
 pub mod State

@@ -1,13 +1,26 @@
 -- What is printed: the reply to a line, and the text of a session.
-use Rattle.std.specs.Prelude.{◌≡◌, ℕ, ◌+◌, List, [], ◌∷◌, ◌++◌, codes, decimal, ℤ, ⊤}
+use Rattle.std.specs.Prelude.{◌≡◌, ℕ, ◌+◌, List, [], ◌∷◌, ◌++◌, codes, decimal, ⊤}
 use Rattle.std.specs.List.{flat_map}
-use Rattle.std.specs.Fmt.{signed_decimal}
 use Rattle.bq_text.specs.Lines.{lines}
+use Rattle.bq_text.specs.Tuple.{tuple_line}
+use Rattle.bq_schema.specs.Streams.{Shape}
+use Rattle.bq_parser.specs.declared.tree.ColumnAst.{ColumnAst}
+use Rattle.bq_parser.specs.Resolution.{column_named}
+use Rattle.bq_model.specs.declared.condition.Condition.{Condition}
+use Rattle.bq_model.specs.declared.condition.Condition.TheVariants.{C1, C2, C3}
+use Rattle.bq_model.specs.declared.decision.Which.{Which}
+use Rattle.bq_model.specs.declared.decision.Which.TheVariants.{Parts, Cells, Answers, Work}
+use Rattle.bq_model.specs.declared.plan.Numbers.{Numbers}
+use Rattle.bq_model.specs.Query.{QueryValue}
+use Rattle.bq_model.specs.Verdict.{Verdict}
+use Rattle.bq_model.specs.Verdict as verdicts
 use Rattle.bq_model.specs.Meaning.{Arrival, new_answers}
-use Rattle.bq_session.specs.Answer.{Answer, silent, created, registered, taken, refused}
+use Rattle.bq_registry.specs.Live.{LiveQuery}
+use Rattle.bq_session.specs.Request.{Request, silent, created, asked, taken, refused}
+use Rattle.bq_session.specs.Answer.{Answer, plain, decided}
 use Rattle.bq_session.specs.declared.word.Word.{Word}
 use Rattle.bq_session.specs.declared.word.Word.TheVariants.{LineTooLong, Syntax, Limit, Duplicate, TooMany, UnknownStream, UnknownColumn, SelfJoin, UnknownQuery, Arity, Value, RowLimit, Unbuilt}
-use Rattle.bq_session.specs.State.{State, LiveQuery, empty, next_of}
+use Rattle.bq_session.specs.State.{State, empty, next_of}
 use Rattle.bq_session.specs.Answers.{IsAnswer}
 
 abbrev pub word_text : Word → List ℕ
@@ -25,25 +38,51 @@ word_text Value = codes "Value"
 word_text RowLimit = codes "RowLimit"
 word_text Unbuilt = codes "Unbuilt"
 
--- the values of a tuple, each behind a comma
-abbrev pub tuple_text : List ℤ → List ℕ
-tuple_text values = flat_map (λ v. 44 ∷ signed_decimal v) values
-
--- a tuple that a query answers
-abbrev pub tuple_line : List ℕ → List ℤ → List ℕ
-tuple_line name values = name ++ tuple_text values ++ 10 ∷ []
-
 -- what a live query answers to a row
 abbrev pub answers_to : Arrival → LiveQuery → List ℕ
 answers_to r live = flat_map (tuple_line live.name) (new_answers live.query live.history r)
 
+abbrev pub condition_text : Condition → List ℕ
+condition_text C1 = codes "C1"
+condition_text C2 = codes "C2"
+condition_text C3 = codes "C3"
+
+-- a number that has a limit
+abbrev pub which_text : Which → List ℕ
+which_text Parts = codes "parts"
+which_text Cells = codes "cells"
+which_text Answers = codes "answers"
+which_text Work = codes "work"
+
+-- a column, by its names
+abbrev pub column_text : ColumnAst → List ℕ
+column_text c = c.stream ++ 46 ∷ c.column
+
+-- the numbers that are announced
+abbrev pub numbers_text : Numbers → List ℕ
+numbers_text n = codes " parts " ++ decimal n.parts ++ codes " cells " ++ decimal n.cells ++ codes " answers " ++ decimal n.answers ++ codes " work " ++ decimal n.work
+
+-- the reply with the verdict on a query, over these streams
+abbrev pub verdict_text : List Shape → List ℕ → QueryValue → Verdict → List ℕ
+verdict_text streams name q verdicts.filter = codes "ok query " ++ name ++ codes " filter" ++ 10 ∷ []
+verdict_text streams name q (verdicts.violation f) =
+    codes "refused " ++ name ++ codes " part " ++ decimal f.part ++ 32 ∷ condition_text f.condition ++ 32 ∷ column_text (column_named streams q.from f.attr) ++ 10 ∷ []
+verdict_text streams name q (verdicts.limit which) = codes "refused " ++ name ++ codes " limit " ++ which_text which ++ 10 ∷ []
+verdict_text streams name q verdicts.pool = codes "refused " ++ name ++ codes " limit pool" ++ 10 ∷ []
+verdict_text streams name q (verdicts.accepted numbers) = codes "ok query " ++ name ++ numbers_text numbers ++ 10 ∷ []
+
+-- the reply to a line that asks for this, where no verdict is due
+abbrev pub reply_by : State → Request → List ℕ
+reply_by s silent = []
+reply_by s (created name columns) = codes "ok stream " ++ name ++ 10 ∷ []
+reply_by s (asked name query) = []
+reply_by s (taken stream values) = flat_map (answers_to (record { stream = stream; values = values })) s.queries
+reply_by s (refused word) = codes "error " ++ decimal (s.lines + 1) ++ 32 ∷ word_text word ++ 10 ∷ []
+
 -- the reply to a line that comes to this
 abbrev pub reply_to : State → Answer → List ℕ
-reply_to s silent = []
-reply_to s (created name columns) = codes "ok stream " ++ name ++ 10 ∷ []
-reply_to s (registered name query) = codes "ok query " ++ name ++ codes " filter" ++ 10 ∷ []
-reply_to s (taken stream values) = flat_map (answers_to (record { stream = stream; values = values })) s.queries
-reply_to s (refused word) = codes "error " ++ decimal (s.lines + 1) ++ 32 ∷ word_text word ++ 10 ∷ []
+reply_to s (plain request) = reply_by s request
+reply_to s (decided name query verdict) = verdict_text s.streams name query verdict
 
 -- the replies to lines that come to these, each asked of the state after those before it
 unfoldable pub replies : State → List Answer → List ℕ

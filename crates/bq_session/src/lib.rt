@@ -1,12 +1,11 @@
 //! A session: one line after another to its reply.
 //!
 //! A session stands for a state: the streams, the live queries with all rows since they were created, and the numbers of
-//! rows and lines. What a line comes to, its answer, follows from state and line; the reply and the next state are functions
-//! of state and answer. The session keeps no row.
+//! rows and lines. What a line asks for follows from state and line; a query that is asked for comes to a verdict. The reply and
+//! the next state are functions of state and answer. The session keeps no row.
 #![tactic(auto)]
 
 pub mod laws;
-mod live;
 mod outcome;
 mod reply;
 mod session;

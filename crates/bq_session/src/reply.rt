@@ -1,18 +1,12 @@
 //! What is printed. Each line is one call that writes a list of pieces.
-ghost use Rattle.std.specs.Prelude.{◌≡◌, ◌≤◌, ◌+◌, ◌++◌, ◌∷◌, [], length, codes, decimal};
-ghost use Rattle.std.specs.List.{flat_map};
-ghost use Rattle.std.specs.Fmt.{signed_decimal};
-ghost use Rattle.std.specs.Option.{option_to_list};
+ghost use Rattle.std.specs.Prelude.{◌≡◌, ◌++◌, ◌∷◌, [], codes, decimal};
 ghost use Rattle.bq_io.specs.Sink.{Writes};
-ghost use Rattle.bq_model.specs.Filter.{filter_tuple};
-ghost use Rattle.bq_session.specs.Replies.{word_text, tuple_text, tuple_line};
-ghost use Rattle.bq_session.specs.Session.{live_text};
+ghost use Rattle.bq_session.specs.Replies.{word_text, which_text, condition_text, column_text};
 
-use crate::live::Live;
 use crate::word::Word;
-use arrayvec::ArrayVec;
 use bq_io::{Sink, WriteFault, write_pieces};
-use bq_model::Row;
+use bq_model::{Condition, Which};
+use bq_parser::ColumnAst;
 use bq_text::Name;
 use itoa::Buffer;
 
@@ -25,11 +19,104 @@ pub fn write_created<O: Sink>(out: &mut O, name: &Name) -> Result<(), WriteFault
 }
 
 /// `ok query q filter`
-pub fn write_registered<O: Sink>(out: &mut O, name: &Name) -> Result<(), WriteFault>
+pub fn write_filter<O: Sink>(out: &mut O, name: &Name) -> Result<(), WriteFault>
     ensures { Writes result (O.seen out.old) (O.seen out.new) (codes "ok query " ++ name.now ++ codes " filter" ++ 10 ∷ []) }
 {
     let pieces: [&[u8]; 3] = [b"ok query ", name.bytes(), b" filter\n"];
     write_pieces(out, &pieces)
+}
+
+fn which_text(which: Which) -> &'static [u8]
+    ensures { result.now ≡ which_text which }
+{
+    match which {
+        Which::Parts => b"parts",
+        Which::Cells => b"cells",
+        Which::Answers => b"answers",
+        Which::Work => b"work",
+    }
+}
+
+// `refused q limit` and the number's name.
+fn write_limit_text<'a, O: Sink>(
+    out: &mut O,
+    name: &'a [u8],
+    which: &'a [u8],
+) -> Result<(), WriteFault>
+    ensures { Writes result (O.seen out.old) (O.seen out.new) (codes "refused " ++ name.now ++ codes " limit " ++ which.now ++ 10 ∷ []) }
+{
+    let pieces: [&[u8]; 5] = [b"refused ", name, b" limit ", which, b"\n"];
+    write_pieces(out, &pieces)
+}
+
+/// `refused q limit parts`
+pub fn write_limit<O: Sink>(out: &mut O, name: &Name, which: Which) -> Result<(), WriteFault>
+    ensures { Writes result (O.seen out.old) (O.seen out.new) (codes "refused " ++ name.now ++ codes " limit " ++ which_text which ++ 10 ∷ []) }
+{
+    let which = which_text(which);
+    write_limit_text(out, name.bytes(), which)
+}
+
+fn condition_text(condition: Condition) -> &'static [u8]
+    ensures { result.now ≡ condition_text condition }
+{
+    match condition {
+        Condition::C1 => b"C1",
+        Condition::C2 => b"C2",
+        Condition::C3 => b"C3",
+    }
+}
+
+// `refused q part N C2 S.b`, by its parts.
+fn write_violation_text<'a, O: Sink>(
+    out: &mut O,
+    name: &'a [u8],
+    part: &'a [u8],
+    condition: &'a [u8],
+    stream: &'a [u8],
+    column: &'a [u8],
+) -> Result<(), WriteFault>
+    ensures { Writes result (O.seen out.old) (O.seen out.new)
+        (codes "refused " ++ name.now ++ codes " part " ++ part.now ++ 32 ∷ condition.now ++ 32 ∷ (stream.now ++ 46 ∷ column.now) ++ 10 ∷ []) }
+{
+    let pieces: [&[u8]; 11] = [
+        b"refused ",
+        name,
+        b" part ",
+        part,
+        b" ",
+        condition,
+        b" ",
+        stream,
+        b".",
+        column,
+        b"\n",
+    ];
+    write_pieces(out, &pieces)
+}
+
+/// `refused q part N C2 S.b`
+pub fn write_violation<O: Sink>(
+    out: &mut O,
+    name: &Name,
+    part: u32,
+    condition: Condition,
+    column: &ColumnAst,
+) -> Result<(), WriteFault>
+    ensures { Writes result (O.seen out.old) (O.seen out.new)
+        (codes "refused " ++ name.now ++ codes " part " ++ decimal part ++ 32 ∷ condition_text condition ++ 32 ∷ column_text column.now ++ 10 ∷ []) }
+{
+    let mut buffer = Buffer::new();
+    let number = buffer.format(part).as_bytes();
+    let condition = condition_text(condition);
+    write_violation_text(
+        out,
+        name.bytes(),
+        number,
+        condition,
+        column.stream.bytes(),
+        column.column.bytes(),
+    )
 }
 
 fn word_text(word: Word) -> &'static [u8]
@@ -60,66 +147,4 @@ pub fn write_refused<O: Sink>(out: &mut O, line: u64, word: Word) -> Result<(), 
     let number = buffer.format(line).as_bytes();
     let pieces: [&[u8]; 5] = [b"error ", number, b" ", word_text(word), b"\n"];
     write_pieces(out, &pieces)
-}
-
-// Adds a value behind a comma.
-fn push_value(text: &mut ArrayVec<u8, 168>, value: i64)
-    requires { length text.old.items + 21 ≤ 168 }
-    ensures bytes { text.new.items ≡ text.old.items ++ 44 ∷ signed_decimal value }
-    ensures short { length text.new.items ≤ length text.old.items + 21 }
-{
-    text.push(b',');
-    let mut buffer = Buffer::new();
-    match text.try_extend_from_slice(buffer.format(value).as_bytes()) {
-        Ok(()) => {}
-        Err(_) => unreachable!(),
-    }
-}
-
-// The values of a tuple, each behind a comma.
-fn tuple_text(values: &[i64]) -> ArrayVec<u8, 168>
-    requires { length values.now ≤ 8 }
-    ensures { result.items ≡ tuple_text values.now }
-{
-    let mut text = ArrayVec::new();
-    for value in values {
-        push_value(&mut text, *value);
-    }
-    text
-}
-
-// The line of a tuple.
-fn write_tuple<O: Sink>(out: &mut O, name: &Name, values: &[i64]) -> Result<(), WriteFault>
-    requires { length values.now ≤ 8 }
-    ensures { Writes result (O.seen out.old) (O.seen out.new) (tuple_line name.now values.now) }
-{
-    let text = tuple_text(values);
-    let pieces: [&[u8]; 3] = [name.bytes(), text.as_slice(), b"\n"];
-    write_pieces(out, &pieces)
-}
-
-// What a live query answers to a row of this stream.
-fn write_answers<O: Sink>(out: &mut O, live: &Live, stream: u8, row: &Row) -> Result<(), WriteFault>
-    ensures { Writes result (O.seen out.old) (O.seen out.new)
-        (flat_map (tuple_line live.now.name) (option_to_list (filter_tuple live.now.query (record { stream = stream; values = row.now.items })))) }
-{
-    match live.query.filter(stream, row) {
-        Some(tuple) => write_tuple(out, &live.name, tuple.as_slice()),
-        None => Ok(()),
-    }
-}
-
-/// What is answered to a row of this stream, where a query is live.
-pub fn write_row<O: Sink>(
-    out: &mut O,
-    live: &Option<Live>,
-    stream: u8,
-    row: &Row,
-) -> Result<(), WriteFault>
-    ensures { Writes result (O.seen out.old) (O.seen out.new) (live_text live.now (record { stream = stream; values = row.now.items })) }
-{
-    match live {
-        Some(live) => write_answers(out, live, stream, row),
-        None => Ok(()),
-    }
 }

@@ -2,33 +2,35 @@
 ghost use Rattle.std.specs.Prelude.{◌≡◌, ℕ, ◌+◌, ◌<◌, ◌≤◌, ◌^◌, List, None, IfOk, IsTrue, length, nat_lt};
 ghost use Rattle.bq_parser.specs.Grammar.{IsWhole};
 ghost use Rattle.bq_parser.specs.Limits.{limit_of};
+ghost use Rattle.bq_parser.specs.Resolution.{IsTaken, HasNamed};
 ghost use Rattle.bq_schema.specs.Rows.{is_row_line};
 ghost use Rattle.bq_schema.specs.Streams.{added};
-ghost use Rattle.bq_parser.specs.Resolution.{IsTaken};
 ghost use Rattle.bq_session.specs.State.{State, empty, one_line_more};
-ghost use Rattle.bq_session.specs.Answer.{refused};
-ghost use Rattle.bq_session.specs.Answers.{row_answer, stream_answer, query_answer, statement_answer};
+ghost use Rattle.bq_session.specs.Request.{asked, refused};
+ghost use Rattle.bq_session.specs.Requests.{row_request, stream_request, query_request, statement_request};
 ghost use Rattle.bq_session.specs.Session.{outcome_of};
 
-use crate::live::Live;
 use crate::outcome::LineOutcome;
-use crate::reply::{write_created, write_refused, write_registered, write_row};
-use crate::statement::{decide_query, live_word};
+use crate::reply::{write_created, write_filter, write_limit, write_refused, write_violation};
+use crate::statement::{find_query, live_word};
 use crate::word::{Word, parse_word, row_word, stream_word};
+use arrayvec::ArrayVec;
 use bq_io::{Sink, Steps, WriteFault};
-use bq_parser::{LineKind, SelectAst, Statement, classify, parse};
+use bq_model::Query;
+use bq_parser::{LineKind, SelectAst, Statement, classify, column_named, parse};
+use bq_registry::{CreateError, Registry, Verdict};
 use bq_schema::Catalog;
 use bq_text::Name;
 use std::alloc::{AllocError, Global};
 use std::marker::Model;
 use std::sync::ledger::Ledger;
 
-/// A session: its streams, its live query, and how many rows and lines it has read. No row is kept.
+/// A session: its streams, its live queries, and how many rows and lines it has read. No row is kept.
 #[derive(Drop)]
 pub struct Session {
     limit: u64,
     catalog: Catalog,
-    live: Option<Live>,
+    registry: Registry,
     taken: u64,
     lines: u64,
 }
@@ -40,13 +42,13 @@ impl Model for Session {
 
     ghost use Rattle.bq_session.specs.Session.{IsSound};
 
-    ghost view = { λ s. record { limit = s.limit; streams = s.catalog; live = s.live; taken = s.taken; lines = s.lines } };
+    ghost view = { λ s. record { limit = s.limit; streams = s.catalog; registry = s.registry; taken = s.taken; lines = s.lines } };
 
-    ghost invariant = { λ s. IsSound (record { limit = s.limit; streams = s.catalog; live = s.live; taken = s.taken; lines = s.lines }) };
+    ghost invariant = { λ s. IsSound (record { limit = s.limit; streams = s.catalog; registry = s.registry; taken = s.taken; lines = s.lines }) };
 }
 
 impl Session {
-    ghost use Rattle.bq_session.specs.Session.{StandsFor, Does, StatementDoes, Answered, names_of};
+    ghost use Rattle.bq_session.specs.Session.{StandsFor, Does, StatementDoes, Answered, names_in};
 
     /// The most rows of a session.
     pub const MOST_ROWS: u64 = 1 << 40;
@@ -60,14 +62,14 @@ impl Session {
         Ok(Session {
             limit: row_limit,
             catalog: Catalog::new(alloc)?,
-            live: None,
+            registry: Registry::new(alloc)?,
             taken: 0,
             lines: 0,
         })
     }
 
     /// Answers a line of at most 1,024 bytes: writes the reply and takes the next state, for every state that the session
-    /// stands for. A row, and a line that is refused, take no memory. No step is taken while all live queries are filters.
+    /// stands for. A row, and a line that a word refuses, take no memory. No step is taken while all live queries are filters.
     pub fn line<O: Sink, L: Ledger>(
         &mut self,
         line: &[u8],
@@ -83,7 +85,7 @@ impl Session {
         self.lines += 1;
         match kind {
             LineKind::Nothing => LineOutcome::Done,
-            LineKind::RowLine => self.answer_row(text, out),
+            LineKind::RowLine => self.answer_row(text, out, steps),
             LineKind::StatementLine => self.answer_text(text, out),
         }
     }
@@ -116,11 +118,17 @@ impl Session {
     }
 
     // Answers a row line that was counted.
-    fn answer_row<O: Sink>(&mut self, text: &[u8], out: &mut O) -> LineOutcome
+    fn answer_row<O: Sink, L: Ledger>(
+        &mut self,
+        text: &[u8],
+        out: &mut O,
+        steps: &mut Steps<L>,
+    ) -> LineOutcome
         requires row { IsTrue (is_row_line text.now) }
         requires counted { self.old.taken < self.old.lines }
-        ensures { (s : State) → StandsFor self.old (one_line_more s)
-            → Does result s (row_answer self.old.streams (nat_lt self.old.taken self.old.limit) text.now) self.new (O.seen out.old) (O.seen out.new) }
+        ensures reply { (s : State) → StandsFor self.old (one_line_more s)
+            → Does result s (row_request self.old.streams (nat_lt self.old.taken self.old.limit) text.now) self.new (O.seen out.old) (O.seen out.new) }
+        ensures steps { steps.new ≡ steps.old }
     {
         match self.catalog.read_row(text) {
             Err(error) => self.refuse(row_word(error), out),
@@ -130,7 +138,8 @@ impl Session {
                 }
                 let (stream, values) = row;
                 self.taken += 1;
-                outcome_of(write_row(out, &self.live, stream, &values))
+                self.registry.row(stream, &values, steps);
+                outcome_of(self.registry.emit(out))
             }
         }
     }
@@ -152,7 +161,7 @@ impl Session {
         requires whole { IsWhole statement }
         requires limits { limit_of statement ≡ None }
         ensures { (s : State) → StandsFor self.old (one_line_more s)
-            → Does result s (statement_answer self.old.streams (names_of self.old.live) statement) self.new (O.seen out.old) (O.seen out.new) }
+            → Does result s (statement_request self.old.streams (names_in self.old.registry) statement) self.new (O.seen out.old) (O.seen out.new) }
     {
         match statement {
             Statement::CreateStream { name, columns } => self.create_stream(
@@ -161,8 +170,8 @@ impl Session {
                 out,
             ),
             Statement::CreateQuery { name, select } => self.create_query(name, &select, out),
-            Statement::Explain { name } => self.refuse(live_word(&self.live, &name), out),
-            Statement::DropQuery { name } => self.refuse(live_word(&self.live, &name), out),
+            Statement::Explain { name } => self.refuse(live_word(&self.registry, &name), out),
+            Statement::DropQuery { name } => self.refuse(live_word(&self.registry, &name), out),
         }
     }
 
@@ -171,7 +180,7 @@ impl Session {
         requires some { 0 < length columns.now }
         requires few { length columns.now ≤ 8 }
         ensures { (s : State) → StandsFor self.old (one_line_more s)
-            → Does result s (stream_answer name columns.now (added self.old.streams (record { name = name; columns = columns.now }))) self.new (O.seen out.old) (O.seen out.new) }
+            → Does result s (stream_request name columns.now (added self.old.streams (record { name = name; columns = columns.now }))) self.new (O.seen out.old) (O.seen out.new) }
     {
         match self.catalog.add_stream(name, columns) {
             Ok(_) => outcome_of(write_created(out, &name)),
@@ -179,20 +188,52 @@ impl Session {
         }
     }
 
-    // Registers a query, in a line that was counted.
+    // Decides on a query, in a line that was counted.
     fn create_query<O: Sink>(&mut self, name: Name, select: &SelectAst, out: &mut O) -> LineOutcome
         requires { IsTaken select.now }
         ensures { (s : State) → StandsFor self.old (one_line_more s)
-            → Does result s (query_answer self.old.streams (names_of self.old.live) name select.now) self.new (O.seen out.old) (O.seen out.new) }
+            → Does result s (query_request self.old.streams (names_in self.old.registry) name select.now) self.new (O.seen out.old) (O.seen out.new) }
     {
-        match decide_query(&self.catalog, &self.live, &name, select) {
-            Ok(query) => {
-                self.live = Some(Live { name, query });
-                outcome_of(write_registered(out, &name))
-            }
+        match find_query(&self.catalog, &self.registry, &name, select) {
+            Ok(query) => self.decide(name, query, out),
             Err(word) => self.refuse(word, out),
         }
     }
+
+    // Decides on a query that no word refuses, in a line that was counted.
+    fn decide<O: Sink>(&mut self, name: Name, query: Query, out: &mut O) -> LineOutcome
+        requires named { HasNamed self.old.streams query }
+        requires room { length self.old.registry.live < 1 }
+        ensures { (s : State) → StandsFor self.old (one_line_more s)
+            → Does result s (asked name query) self.new (O.seen out.old) (O.seen out.new) }
+    {
+        let from = streams_of(&query);
+        match self.registry.create(name, query) {
+            Ok(Verdict::Filter) => outcome_of(write_filter(out, &name)),
+            Err(CreateError::Memory) => LineOutcome::Memory,
+            Err(CreateError::Unbuilt) => self.refuse(Word::Unbuilt, out),
+            Err(CreateError::Limit { which, .. }) => outcome_of(write_limit(out, &name, which)),
+            Err(
+                CreateError::Violation {
+                    part,
+                    condition,
+                    attr,
+                },
+            ) => {
+                let column = column_named(attr, from.as_slice(), &self.catalog);
+                outcome_of(write_violation(out, &name, part, condition, &column))
+            }
+        }
+    }
+}
+
+// The streams of a query, by their numbers.
+fn streams_of(query: &Query) -> ArrayVec<u8, 4>
+    ensures { result.items ≡ query.now.from }
+{
+    let mut from = ArrayVec::new();
+    let _whole = from.try_extend_from_slice(query.from()).is_ok();
+    from
 }
 
 fn outcome_of(written: Result<(), WriteFault>) -> LineOutcome

@@ -1,56 +1,52 @@
-//! What a statement comes to.
-ghost use Rattle.std.specs.Prelude.{◌≡◌, IsTrue, IfOk, None};
-ghost use Rattle.bq_model.specs.Query.{is_filter};
-ghost use Rattle.bq_parser.specs.Resolution.{IsTaken};
-ghost use Rattle.bq_session.specs.Answer.{refused};
-ghost use Rattle.bq_session.specs.Answers as answers;
-ghost use Rattle.bq_session.specs.Answers.{query_answer, live_answer};
-ghost use Rattle.bq_session.specs.Decided.{query_decided};
-ghost use Rattle.bq_session.specs.Session.{names_of};
+//! What a statement asks for.
+ghost use Rattle.std.specs.Prelude.{◌≡◌, ◌<◌, IfOk, length, nat_eq};
+ghost use Rattle.bq_parser.specs.Resolution.{IsTaken, HasNamed};
+ghost use Rattle.bq_session.specs.Request.{refused};
+ghost use Rattle.bq_session.specs.Requests as requests;
+ghost use Rattle.bq_session.specs.Requests.{query_request, live_request};
+ghost use Rattle.bq_session.specs.Decided.{query_found};
+ghost use Rattle.bq_session.specs.Session.{names_in};
 
-use crate::live::Live;
 use crate::word::{Word, resolve_word};
 use bq_model::Query;
 use bq_parser::{SelectAst, resolve};
+use bq_registry::Registry;
 use bq_schema::Catalog;
 use bq_text::Name;
 
 // Whether a live query has the name.
-fn is_live(live: &Option<Live>, name: &Name) -> bool
-    ensures { result ≡ answers.is_live (names_of live.now) name.now }
+fn is_live(registry: &Registry, name: &Name) -> bool
+    ensures { result ≡ requests.is_live (names_in registry.now) name.now }
 {
-    match live {
-        Some(live) => live.name == *name,
-        None => false,
-    }
+    registry.find(name).is_some()
 }
 
-// Whether the query is one over one stream that counts each answer.
-fn is_filter(query: &Query) -> bool
-    ensures { result ≡ is_filter query.now }
+// Whether no query is live.
+fn is_vacant(registry: &Registry) -> bool
+    ensures { result ≡ nat_eq (length (names_in registry.now)) 0 }
 {
-    !query.distinct() && query.from().len() == 1
+    registry.len() == 0
 }
 
-/// The query that CREATE QUERY registers, or why it is refused.
-pub fn decide_query(
+/// The query that CREATE QUERY asks for, or why the line is refused.
+pub fn find_query(
     catalog: &Catalog,
-    live: &Option<Live>,
+    registry: &Registry,
     name: &Name,
     select: &SelectAst,
 ) -> Result<Query, Word>
     requires { IsTaken select.now }
-    ensures answer { query_answer catalog.now (names_of live.now) name.now select.now ≡ query_decided name.now result }
-    ensures filter { IfOk result (λ query. IsTrue (is_filter query)) }
-    ensures first { IfOk result (λ _. live.now ≡ None) }
+    ensures request { query_request catalog.now (names_in registry.now) name.now select.now ≡ query_found name.now result }
+    ensures named { IfOk result (λ query. HasNamed catalog.now query) }
+    ensures room { IfOk result (λ _. length registry.now.live < 1) }
 {
-    if is_live(live, name) {
+    if is_live(registry, name) {
         return Err(Word::Duplicate);
     }
     match resolve(select, catalog) {
         Err(error) => Err(resolve_word(error)),
         Ok(query) => {
-            if is_filter(&query) && live.is_none() {
+            if is_vacant(registry) {
                 Ok(query)
             } else {
                 Err(Word::Unbuilt)
@@ -60,10 +56,10 @@ pub fn decide_query(
 }
 
 /// Why a line is refused that asks something of a live query of this name.
-pub fn live_word(live: &Option<Live>, name: &Name) -> Word
-    ensures { live_answer (names_of live.now) name.now ≡ refused result }
+pub fn live_word(registry: &Registry, name: &Name) -> Word
+    ensures { live_request (names_in registry.now) name.now ≡ refused result }
 {
-    if is_live(live, name) {
+    if is_live(registry, name) {
         Word::Unbuilt
     } else {
         Word::UnknownQuery

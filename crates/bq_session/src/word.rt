@@ -1,6 +1,6 @@
 //! Why a line is refused.
 ghost use Rattle.std.specs.Prelude.{◌≡◌};
-ghost use Rattle.bq_session.specs.Answers as answers;
+ghost use Rattle.bq_session.specs.Requests as requests;
 ghost use Rattle.bq_session.specs.Decided as decided;
 
 use bq_parser::{ParseError, ResolveError};
@@ -39,7 +39,7 @@ pub enum Word {
 
 /// The word for a refused row.
 pub fn row_word(error: RowError) -> Word
-    ensures { result ≡ answers.row_word error }
+    ensures { result ≡ requests.row_word error }
 {
     match error {
         RowError::Syntax => Word::Syntax,
@@ -62,7 +62,7 @@ pub fn parse_word(error: ParseError) -> Word
 
 /// The word for a refused stream.
 pub fn stream_word(error: StreamError) -> Word
-    ensures { result ≡ answers.stream_word error }
+    ensures { result ≡ requests.stream_word error }
 {
     match error {
         StreamError::Duplicate => Word::Duplicate,
@@ -72,7 +72,7 @@ pub fn stream_word(error: StreamError) -> Word
 
 /// The word for a query whose names stand for none.
 pub fn resolve_word(error: ResolveError) -> Word
-    ensures { result ≡ answers.resolve_word error }
+    ensures { result ≡ requests.resolve_word error }
 {
     match error {
         ResolveError::UnknownStream => Word::UnknownStream,

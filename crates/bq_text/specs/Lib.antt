@@ -4,5 +4,6 @@ pub mod Laws
 pub mod Lines
 pub mod Name
 pub mod Stored
+pub mod Tuple
 pub mod Value
 pub mod Word

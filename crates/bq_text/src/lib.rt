@@ -1,7 +1,7 @@
 //! Names, integers and lines, as bytes.
 //!
 //! A text is a list of bytes. A name is a word that is not reserved, of at most 24 bytes; a value is an integer of 64 bits
-//! with an optional sign; a text is cut into lines at each LF.
+//! with an optional sign; a text is cut into lines at each LF; an answer is a line with a name and values.
 #![tactic(auto)]
 
 mod blank;
@@ -10,6 +10,7 @@ pub mod laws;
 mod line;
 mod name;
 mod put;
+mod tuple;
 mod value;
 mod word;
 
@@ -18,5 +19,6 @@ pub use key::{Key, key_of};
 pub use line::{cut, first_line};
 pub use name::Name;
 pub use put::{put_i64, put_name, put_u64};
+pub use tuple::put_tuple;
 pub use value::{leading_i64, read_i64};
 pub use word::{begins_word, is_letter, is_word, is_word_byte, split_word};

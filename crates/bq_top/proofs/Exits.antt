@@ -150,9 +150,9 @@ pub ends-write_fault : (s : State) (source now : SourceState) (reader : Reading)
     → Streamed ending.WriteFault s source now before below'
 ends-write_fault s source now reader session session' before below below' held held' line name name' p told =
     let g = p.given in
-    let broke = told.does.1 in
+    let broke = told.does.reply in
     let all = p.answered ++ p.pending in
-    let t : Told = record { line = line; answer = told.answer } in
+    let t : Told = record { line = line; answer = told.does.answer } in
     let pushed = p.pending ++ t ∷ [] in
     let regrouped : all ++ t ∷ [] ≡ p.answered ++ pushed = append_assoc p.answered p.pending (t ∷ []) in
     let listed : lines_of all ++ line ∷ [] ≡ lines_of (p.answered ++ pushed) = sym (lines_of-append all (t ∷ [])) ∙ ap lines_of regrouped in
@@ -170,7 +170,7 @@ ends-write_fault s source now reader session session' before below below' held h
               (λ _ q. stops-held s text p.answered pushed (lines reader.ahead) before below' (held' ++ broke.rest)
               (text-lines source now reader p.front (lines_of all ++ line ∷ []) g ∙ ap (λ l. l ++ lines reader.ahead) listed)
               (λ first others e. p.near first others (sym (lines_of-append p.pending (t ∷ [])) ∙ e))
-              (subst (AreTold s) regrouped (AreTold-push s all t p.are told.comes))
+              (subst (AreTold s) regrouped (AreTold-push s all t p.are (record { request = told.request; asks = told.asks; settles = told.does.settles })))
               (omega (arith, length-append p.pending (t ∷ [])))
               (record { passed = q.passed; written = q.written; whole = sym (append_assoc q.passed held' broke.rest) ∙ ap (λ l. l ++ broke.rest) q.whole ∙ sym begun }))
               more;
@@ -189,7 +189,7 @@ ends-memory s source now reader session session' before below below' below'' hel
     let g = p.given in
     let all = p.answered ++ p.pending in
     let pending-text = replied (at s p.answered) p.pending in
-    let more = passed-more before.written below.written below'.written (replied s p.answered) pending-text held held' [] p.sunk told.does.1.bytes told.does.1.later.passed in
+    let more = passed-more before.written below.written below'.written (replied s p.answered) pending-text held held' [] p.sunk told.does.2.bytes told.does.2.later.passed in
     let below-all = passed-all before.written below'.written below''.written (replied s p.answered) (pending-text ++ []) held' more wrote.bytes in
     let same : replied s p.answered ++ (pending-text ++ []) ≡ replied s all = ap (λ l. replied s p.answered ++ l) (append-nil pending-text) ∙ sym (replied-append s p.answered p.pending) in
     record {
@@ -205,15 +205,15 @@ ends-memory s source now reader session session' before below below' below'' hel
             near = near-last source now reader p.front (lines_of all ++ line ∷ []) g;
             answers = answers_of all;
             are = are-answers s all p.are;
-            answer = told.answer;
-            comes = told.comes;
           };
-          creates = told.does.2;
+          request = told.request;
+          asks = told.asks;
+          creates = told.does.0;
           written = subst (Appends before.written below''.written) same below-all;
         };
       };
       input_later = g.later;
-      output_later = omega (arith, p.later, told.does.1.later.faults, wrote.later.faults);
+      output_later = omega (arith, p.later, told.does.2.later.faults, wrote.later.faults);
     }
 
 -- no memory was found for the waiting line, and the sink failed in an earlier reply that was held
@@ -226,9 +226,9 @@ ends-memory_fault s source now reader session session' before below below' below
     let all = lines_of (p.answered ++ p.pending) in
     let text = p.front ++ reader.ahead in
     let pending-text = replied (at s p.answered) p.pending in
-    let more = passed-more before.written below.written below'.written (replied s p.answered) pending-text held held' [] p.sunk told.does.1.bytes told.does.1.later.passed in
+    let more = passed-more before.written below.written below'.written (replied s p.answered) pending-text held held' [] p.sunk told.does.2.bytes told.does.2.later.passed in
     let passed = passed-flush before.written below'.written below''.written (replied s p.answered) (pending-text ++ []) held' stays.front kept more stays.whole stays.wrote.bytes in
-    let earlier : before.faults ≤ below'.faults = omega (arith, p.later, told.does.1.later.faults) in
+    let earlier : before.faults ≤ below'.faults = omega (arith, p.later, told.does.2.later.faults) in
     record {
       ends = (
         Rose-earlier _ _ _ earlier stays.rose,

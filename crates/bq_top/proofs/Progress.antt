@@ -176,19 +176,19 @@ pub progress-done : (s : State) (source now : SourceState) (reader : Reading) (s
     → Progress s source now reader session' before below' held' []
 progress-done s source now reader session session' before below below' held held' line name name' p told =
     let all = p.answered ++ p.pending in
-    let t : Told = record { line = line; answer = told.answer } in
+    let t : Told = record { line = line; answer = told.does.answer } in
     let pushed : all ++ t ∷ [] ≡ p.answered ++ (p.pending ++ t ∷ []) = append_assoc p.answered p.pending (t ∷ []) in
     let listed : lines_of all ++ line ∷ [] ≡ lines_of (p.answered ++ (p.pending ++ t ∷ [])) = sym (lines_of-append all (t ∷ [])) ∙ ap lines_of pushed in
-    let more = passed-more before.written below.written below'.written (replied s p.answered) (replied (at s p.answered) p.pending) held held' (reply_to (at s all) told.answer) p.sunk told.does.1.bytes told.does.1.later.passed in
+    let more = passed-more before.written below.written below'.written (replied s p.answered) (replied (at s p.answered) p.pending) held held' (reply_to (at s all) told.does.answer) p.sunk told.does.reply.bytes told.does.reply.later.passed in
     record {
       answered = p.answered;
       pending = p.pending ++ t ∷ [];
       front = p.front;
       given = subst (GivenLines source now reader p.front) (listed ∙ sym (append-nil (lines_of (p.answered ++ (p.pending ++ t ∷ []))))) p.given;
       near = λ first others e. p.near first others (sym (lines_of-append p.pending (t ∷ [])) ∙ sym (append-nil (lines_of (p.pending ++ t ∷ []))) ∙ e);
-      are = subst (AreTold s) pushed (AreTold-push s all t p.are told.comes);
-      stands = subst (λ u. StandsFor session' u) (sym (at-push s all t) ∙ ap (at s) pushed) told.does.0;
-      numbers = omega (arith, p.numbers, told.does.0.lines, next_of-lines (at s all) told.answer, p.stands.lines);
+      are = subst (AreTold s) pushed (AreTold-push s all t p.are (record { request = told.request; asks = told.asks; settles = told.does.settles }));
+      stands = subst (λ u. StandsFor session' u) (sym (at-push s all t) ∙ ap (at s) pushed) told.does.stands;
+      numbers = omega (arith, p.numbers, told.does.stands.lines, next_of-lines (at s all) told.does.answer, p.stands.lines);
       sunk = subst (λ u. IfSome before.written (λ _. Passed before.written below'.written (replied s p.answered) u held')) (sym (replied-push s p.answered p.pending t)) more;
-      later = omega (arith, p.later, told.does.1.later.faults);
+      later = omega (arith, p.later, told.does.reply.later.faults);
     }

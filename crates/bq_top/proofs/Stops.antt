@@ -109,9 +109,9 @@ stops s text answered first others more before now rest whole near are p =
         near = nearby;
         answers = answers_of front;
         are = are-answers s front told.0;
-        answer = found.here.answer;
-        comes = told.1;
       };
+      answer = found.here.answer;
+      comes = told.1;
       front = found.part;
       rest = found.rest;
       part = ap (λ u. reply_to u found.here.answer) (sym (at-append s answered found.answered)) ∙ found.begun;

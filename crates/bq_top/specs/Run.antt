@@ -9,6 +9,8 @@ use Rattle.bq_io.specs.Source.{SourceState}
 use Rattle.bq_io.specs.Sink.{SinkState}
 use Rattle.bq_feed.specs.Reading.{TakesAll}
 use Rattle.bq_text.specs.Lines.{lines}
+use Rattle.bq_session.specs.Request.{Request}
+use Rattle.bq_session.specs.Requests.{IsRequest}
 use Rattle.bq_session.specs.Answer.{Answer}
 use Rattle.bq_session.specs.State.{State, empty, after}
 use Rattle.bq_session.specs.Answers.{IsAnswer}
@@ -43,7 +45,7 @@ pub record WroteText (s : State) (text : List ℕ) (before now : SinkState) : Ty
   pub is_text : AreReplies s text replied
   pub written : Appends before.written now.written replied
 
--- One line of a text, what it comes to, and what the lines before it came to. At most 4,096 bytes of the text lie beyond it.
+-- One line of a text, and what the lines before it came to. At most 4,096 bytes of the text lie beyond it.
 pub record AtLine (s : State) (text : List ℕ) : Type 0 where
   pub answered : List (List ℕ)
   pub line : List ℕ
@@ -52,22 +54,24 @@ pub record AtLine (s : State) (text : List ℕ) : Type 0 where
   pub near : IsNear text (answered ++ line ∷ [])
   pub answers : List Answer
   pub are : AreAnswers s answered answers
-  pub answer : Answer
-  pub comes : IsAnswer (after s answers) line answer
 
 -- The replies to the lines before one line were written, and a front of the reply to that line.
 pub record StopsAtLine (s : State) (text : List ℕ) (before now : SinkState) : Type 0 where
   pub at_line : AtLine s text
+  pub answer : Answer
+  pub comes : IsAnswer (after s at_line.answers) at_line.line answer
   pub front : List ℕ
   pub rest : List ℕ
-  pub part : reply_to (after s at_line.answers) at_line.answer ≡ front ++ rest
+  pub part : reply_to (after s at_line.answers) answer ≡ front ++ rest
   pub written : Appends before.written now.written (replies s at_line.answers ++ front)
 
--- The replies to the lines before one line were written, and nothing else. That line creates a stream or a query, and no word
+-- The replies to the lines before one line were written, and nothing else. That line asks for a stream or a query, and no word
 -- refuses it; no memory was found for it.
 pub record StopsAtCreate (s : State) (text : List ℕ) (before now : SinkState) : Type 0 where
   pub at_line : AtLine s text
-  pub creates : IsTrue (creates at_line.answer)
+  pub request : Request
+  pub asks : IsRequest (after s at_line.answers) at_line.line request
+  pub creates : IsTrue (creates request)
   pub written : Appends before.written now.written (replies s at_line.answers)
 
 -- How a run from a state on ends, by the bytes that were taken and those that were written. A sink that does not tell its

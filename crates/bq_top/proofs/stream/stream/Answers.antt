@@ -22,7 +22,7 @@ answering-preserved g c =
           let w = waits c.in-Given.long known.state _ _ _ _ _ _ _ _ _ _ _ (c.answering.invariant.progress known.state known.stands) c.in-Given.ensures.comes in
           let p = w.progress in
           let told = c.in-Done.ensures (at known.state (p.answered ++ p.pending)) w.line w.begun p.stands in
-          let kept : c.answer.new.output.sink.ghost_name ≡ c.fetch.new.output.sink.ghost_name = told.does.1.later.below in
+          let kept : c.answer.new.output.sink.ghost_name ≡ c.fetch.new.output.sink.ghost_name = told.does.reply.later.below in
           kept ∙ c.in-Given.ensures.same_reference ∙ c.answering.invariant.same;
     }
 
@@ -38,7 +38,7 @@ returns-in-WriteFault-clause-same_reference g c =
     let w = waits c.in-Given.long known.state _ _ _ _ _ _ _ _ _ _ _ (c.answering.invariant.progress known.state known.stands) c.in-Given.ensures.comes in
     let p = w.progress in
     let told = c.in-WriteFault.ensures (at known.state (p.answered ++ p.pending)) w.line w.begun p.stands in
-    let kept : c.answer.new.output.sink.ghost_name ≡ c.fetch.new.output.sink.ghost_name = told.does.1.wrote.later.below in
+    let kept : c.answer.new.output.sink.ghost_name ≡ c.fetch.new.output.sink.ghost_name = told.does.reply.wrote.later.below in
     kept ∙ c.in-Given.ensures.same_reference ∙ c.answering.invariant.same
 
 pub returns-in-Ok-clause-streams : goal.returns-in-Ok-clause-streams
@@ -53,7 +53,7 @@ returns-in-Ok-clause-same_reference g c =
     let w = waits c.in-Given.long known.state _ _ _ _ _ _ _ _ _ _ _ (c.answering.invariant.progress known.state known.stands) c.in-Given.ensures.comes in
     let p = w.progress in
     let told = c.in-Memory.ensures (at known.state (p.answered ++ p.pending)) w.line w.begun p.stands in
-    let kept : c.answer.new.output.sink.ghost_name ≡ c.fetch.new.output.sink.ghost_name = told.does.1.later.below in
+    let kept : c.answer.new.output.sink.ghost_name ≡ c.fetch.new.output.sink.ghost_name = told.does.2.later.below in
     c.in-Ok.ensures.same_reference ∙ kept ∙ c.in-Given.ensures.same_reference ∙ c.answering.invariant.same
 
 pub returns-in-Err-clause-streams : goal.returns-in-Err-clause-streams
@@ -68,7 +68,7 @@ returns-in-Err-clause-same_reference g c =
     let w = waits c.in-Given.long known.state _ _ _ _ _ _ _ _ _ _ _ (c.answering.invariant.progress known.state known.stands) c.in-Given.ensures.comes in
     let p = w.progress in
     let told = c.in-Memory.ensures (at known.state (p.answered ++ p.pending)) w.line w.begun p.stands in
-    let kept : c.answer.new.output.sink.ghost_name ≡ c.fetch.new.output.sink.ghost_name = told.does.1.later.below in
+    let kept : c.answer.new.output.sink.ghost_name ≡ c.fetch.new.output.sink.ghost_name = told.does.2.later.below in
     c.in-Err.ensures.same_reference ∙ kept ∙ c.in-Given.ensures.same_reference ∙ c.answering.invariant.same
 
 pub returns-in-Ended-clause-streams : goal.returns-in-Ended-clause-streams

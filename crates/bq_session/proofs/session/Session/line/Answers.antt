@@ -11,13 +11,14 @@ returns-in-StatementLine-clause-reply g c = λ s stands.
       limit = old.limit;
       streams = old.streams;
       queries = old.queries;
+      quiet = old.quiet;
       taken = old.taken;
       lines = ap (λ n. n + 1) old.lines;
     }) in
     record {
-      answer = done.answer;
-      comes = of_kind s _ c.args.line.now _ done.answer c.requires.short (sym c.classify-kind.ensures.kind ∙ c.in-StatementLine.is) (sym c.classify-kind.ensures.stripped)
-          (statement-kept _ s _ done.answer old done.comes);
+      request = done.request;
+      asks = of_kind s _ c.args.line.now _ done.request c.requires.short (sym c.classify-kind.ensures.kind ∙ c.in-StatementLine.is) (sym c.classify-kind.ensures.stripped)
+          (statement-kept _ s _ done.request old done.asks);
       does = done.does;
     }
 

@@ -1,0 +1,2 @@
+pub mod FewParts
+pub mod RowTaken
