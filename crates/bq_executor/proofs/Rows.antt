@@ -1,0 +1,227 @@
+-- What holds of an executor after it took a row.
+use Rattle.std.proofs.Common.{◌≡◌, ℕ, min, ◌+◌, ◌*◌, ◌<◌, ◌≤◌, ◌^◌, ◌==◌, cond, Bool, true, false, ℤ, List, [], ◌∷◌, ◌++◌, length, sym, ap, ◌∙◌, subst, arith, All, Contains, length-append, inl, inr, ◌⊎◌}
+use Rattle.std.specs.List.{list_any}
+use Rattle.std.specs.Option.{option_to_list}
+use Rattle.std.proofs.lemmas.List.Elements.{All-contains}
+use Rattle.bq_model.specs.declared.cell.Cell.{Cell}
+use Rattle.bq_model.specs.declared.plan.PartPlan.{PartPlan}
+use Rattle.bq_model.specs.declared.plan.Plan.{Plan}
+use Rattle.bq_model.specs.declared.plan.Plan.TheVariants as plan
+use Rattle.bq_model.specs.Query.{QueryValue, is_filter}
+use Rattle.bq_model.specs.Tuples.{ascending, fresh}
+use Rattle.bq_model.specs.Meaning.{Arrival, new_answers}
+use Rattle.bq_model.specs.Filter.{filter_tuple}
+use Rattle.bq_model.specs.Plan.{IsPartPlan, stream_at, Follow}
+use Rattle.bq_model.specs.Cells.{synopsis, printed, FitsKind}
+use Rattle.bq_model.specs.Combinations.{Reading, Found, read_from}
+use Rattle.bq_model.specs.Future.{waiting, future}
+use Rattle.bq_model.specs.Merge.{merge, merged_table}
+use Rattle.bq_model.specs.Numbers.{IsPlanOf, parts_of, pages_of, cell_count}
+use Rattle.bq_model.proofs.Has.{Has, Contains-from_has}
+use Rattle.bq_laws.specs.Growth.{occurs}
+use Rattle.bq_laws.proofs.Tests.{true_or_false}
+use Rattle.bq_laws.proofs.Counts.{times}
+use Rattle.bq_laws.proofs.Order.{Rises}
+use Rattle.bq_laws.proofs.Interleaving.{occurs-is, counts-fit}
+use Rattle.bq_laws.proofs.Merge.{synopses-merge, printed-grows}
+use Rattle.bq_laws.proofs.Sufficiency.{synopsis-suffices}
+use Rattle.bq_pool.specs.Extents.{PoolValue, cells_of}
+use Rattle.bq_synopsis.specs.Premises.{AreFitting, HasRoom}
+use Rattle.bq_answers.specs.Entries.{Entry, TableValue, with_entries, Ascends, waiting_of, tuples_of}
+use Rattle.bq_executor.specs.Executor.{ExecutorValue, cells_in, tuples_in, waiting_in, IsSound, with_given, cleared}
+use Rattle.bq_executor.specs.Standing.{StandsFor, CountsUpto, AreKept, IsReady, future_in, pool_with, TookRow}
+use Rattle.bq_executor.specs.Taking.{with_all, HaveRoom}
+use Rattle.bq_executor.specs.Arriving.{answered_by, HasTaken, IsPlanReady, CanCount}
+use Rattle.bq_executor.proofs.Founds.{Agree}
+use Rattle.bq_executor.proofs.Spelled.{spelled_is}
+use Rattle.bq_executor.proofs.Answered.{future-rises}
+use Rattle.bq_executor.proofs.RowAnswers.{answered_ones, waits_row, tuples_row, ascends_row, room_row, lie_row}
+use Rattle.bq_executor.proofs.RowCells.{read_cut, box_of, read_after, merged_is, pool_is, room_kept, kept_by}
+use Rattle.bq_executor.proofs.PlanFacts.{follow_of, planned_of, cells_of_plan, plan_ready, answered-same}
+
+-- without DISTINCT the future answers do not look at the table
+future-table : (q : QueryValue) (plan : List PartPlan) (read : Reading) (t u : List (List ℤ)) (r : Arrival) → q.distinct ≡ false
+    → future q plan read t r ≡ future q plan read u r
+unfolding future
+future-table q plan read t u r d =
+    λ j. cond (is_filter q) (option_to_list (filter_tuple q r)) (cond (list_any (λ stream. r.stream == stream) q.from) (same j) [])
+  where
+    kept : List (List ℤ) → Bool → List (List ℤ)
+    kept table b = cond b (ascending (fresh table (waiting q plan read r))) (ascending (waiting q plan read r))
+
+    same : kept t q.distinct ≡ kept u q.distinct
+    same = ap (kept t) d ∙ sym (ap (kept u) d)
+
+module _ (e : ExecutorValue) (sound : IsSound e) (pool : PoolValue) (ready : IsReady e pool) (r : Arrival) (a : Ascends e.table.entries) where
+  abbrev q : QueryValue
+  q = e.query
+
+  abbrev parts : List PartPlan
+  parts = parts_of e.plan
+
+  abbrev all_cells : List Cell
+  all_cells = cells_of pool e.extent
+
+  abbrev found : List Found
+  found = answered_by q e.plan (read_from all_cells) r
+
+  abbrev now : List Entry
+  now = with_all q.distinct found (cleared q.distinct e.table.entries)
+
+  abbrev later : ExecutorValue
+  later = with_given e (e.given + 1) now
+
+  follow : Follow 0 parts
+  follow = follow_of q e.plan sound.accepted.plan
+
+  plan_cells : (cell_count parts ≤ 64 * pages_of e.plan) × (cell_count parts < 2 ^ 32)
+  plan_cells = cells_of_plan q e.plan sound.accepted.plan sound.accepted.within
+
+  whole : cell_count parts ≤ length all_cells
+  whole = let c = plan_cells.0 in let l = ready.kept.live.pages in let p = sound.pages in omega (arith, c, l, p)
+
+  -- the cells of the plan are read alike among all cells
+  cut : (part : PartPlan) → Contains parts part → (place i : ℕ) → place < length part.streams.items → i < (stream_at part place).size
+      → read_from (cells_in e pool) part place i ≡ read_from all_cells part place i
+  cut part c place i l s = read_cut parts follow all_cells c.0 part place i (box_of parts follow part c place i l s)
+
+  fitting : (part : PartPlan) → Contains parts part → AreFitting part (read_from all_cells)
+  fitting part c place i l s = subst (FitsKind (stream_at part place).kind) (cut part c place i l s) (ready.kept.fitting part c place i l s)
+
+  room_cells : (part : PartPlan) → Contains parts part → CanCount part (read_from all_cells)
+  room_cells part c place i l s = subst HasRoom (cut part c place i l s) (room_kept e.given _ ready.few (ready.kept.counts part c place i l s))
+
+  pub ready_row : IsPlanReady q e.plan pool e.extent
+  ready_row =
+      plan_ready q e.plan sound.limits sound.accepted.plan sound.accepted.within pool e.extent sound.pages ready.kept.live fitting room_cells
+
+  pub room : HaveRoom q.distinct found (with_entries e.table (cleared q.distinct e.table.entries))
+  room =
+      room_row q sound.limits sound.accepted.violation (read_from all_cells) r e.table sound.width a e.plan sound.accepted.plan sound.capacity sound.tuples
+      (λ part k. fitting part (Contains-from_has parts part k))
+
+  -- the table after what waited was given up and all that is answered was taken up
+  pub table_later : (d : Bool) → d ≡ q.distinct → (clear more : TableValue) → clear ≡ with_entries e.table (cleared d e.table.entries)
+      → more ≡ with_entries clear (with_all q.distinct found clear.entries) → more ≡ with_entries e.table now
+  table_later d same clear more is next =
+      next
+      ∙ ap (λ (t : TableValue). with_entries t (with_all q.distinct found t.entries)) (is ∙ ap (λ b. with_entries e.table (cleared b e.table.entries)) same)
+
+  pub room_clear : (d : Bool) → d ≡ q.distinct → (clear : TableValue) → clear ≡ with_entries e.table (cleared d e.table.entries) → HaveRoom q.distinct found clear
+  room_clear d same clear is = subst (HaveRoom q.distinct found) (sym (is ∙ ap (λ b. with_entries e.table (cleared b e.table.entries)) same)) room
+
+  -- what is true of each executor is true of it
+  pub sound_later : IsSound later
+  sound_later = record {
+    limits = sound.limits;
+    accepted = sound.accepted;
+    pages = sound.pages;
+    width = sound.width;
+    capacity = sound.capacity;
+    tuples =
+        lie_row q sound.limits sound.accepted.violation (read_from all_cells) r e.table sound.width a e.plan sound.accepted.plan sound.tuples
+        (λ part k. fitting part (Contains-from_has parts part k));
+  }
+
+  agree : (part : PartPlan) → Has parts part → Agree part (length q.from) (read_from all_cells) (read_from (cells_in e pool))
+  agree part k place i l s = sym (cut part (Contains-from_has parts part k) place i (there e.plan sound.accepted.plan k l) s)
+    where
+      there : (p : Plan) → IsPlanOf q p → Has (parts_of p) part → place < length q.from → place < length part.streams.items
+      there plan.Filter is k l = elim k [ ]
+      there (plan.Parts list numbers) is k l =
+          let c = (All-contains (IsPartPlan q) list part is.1.plans (Contains-from_has list part k)).count in omega (arith, c, l)
+
+  -- what is answered is what the cells of the plan answer
+  same_found : found ≡ answered_by q e.plan (read_from (cells_in e pool)) r
+  same_found = answered-same q e.plan (read_from all_cells) (read_from (cells_in e pool)) r agree
+
+  ones : q.distinct ≡ true → All (λ (f : Found). f.count ≡ 1) found
+  ones d =
+      answered_ones q sound.limits d (read_from all_cells) r e.plan sound.accepted.plan plan_cells.1
+      (λ part k. fitting part (Contains-from_has parts part k))
+
+  -- how often each tuple waits
+  pub waits : (z : List ℤ) → waiting_of z now ≡ min (occurs z (future_in e pool r)) (2 ^ 127)
+  waits z =
+      ap (λ fs. waiting_of z (with_all q.distinct fs (cleared q.distinct e.table.entries))) same_found
+      ∙ waits_row q e.plan sound.accepted.plan (read_from (cells_in e pool)) r e.table.entries a
+      (λ d. subst (All (λ (f : Found). f.count ≡ 1)) same_found (ones d)) z
+
+  -- the tuples with DISTINCT
+  pub tuples : q.distinct ≡ true → tuples_of now ≡ merged_table (tuples_in e) (future_in e pool r)
+  tuples d =
+      ap (λ fs. tuples_of (with_all q.distinct fs (cleared q.distinct e.table.entries))) same_found
+      ∙ tuples_row q e.plan sound.accepted.plan (read_from (cells_in e pool)) r e.table.entries a (subst (All (λ (f : Found). f.count ≡ 1)) same_found (ones d)) d
+
+  ascends : Ascends now
+  ascends = ascends_row q e.plan sound.accepted.plan (read_from all_cells) r e.table.entries a
+
+  module _ (after : PoolValue) (taken : HasTaken q parts e.extent r (length parts) pool after) where
+    -- the pool
+    pub cells : after ≡ pool_with e pool r
+    cells = pool_is parts follow q e.extent r pool after whole taken
+
+    -- the cells of the plan
+    cells_later : cells_in later after ≡ merge parts (cells_in e pool) (synopsis q parts (r ∷ []))
+    cells_later = merged_is parts follow q r all_cells (cells_of after e.extent) whole taken.inserted
+
+    -- each cell is of its kind, and counts at most one row more
+    kept_at : (part : PartPlan) → Contains parts part → (place i : ℕ) → place < length part.streams.items → i < (stream_at part place).size
+        → FitsKind (stream_at part place).kind (read_from (cells_in later after) part place i) × CountsUpto (e.given + 1) (read_from (cells_in later after) part place i)
+    kept_at part c place i l s =
+        let kind = (stream_at part place).kind in
+        subst (λ x. FitsKind kind x × CountsUpto (e.given + 1) x) (sym (read_after parts follow q r all_cells (cells_of after e.extent) whole taken.inserted c.0 part place i (box_of parts follow part c place i l s)))
+        (kept_by _ e.given kind (read_from (cells_in e pool) part place i) r.values ready.few (ready.kept.fitting part c place i l s) (ready.kept.counts part c place i l s))
+
+    pub kept : AreKept later after
+    kept = record {
+      live = taken.live;
+      fitting = λ part c place i l s. (kept_at part c place i l s).0;
+      counts = λ part c place i l s. (kept_at part c place i l s).1;
+    }
+
+    -- over a history
+    module _ (history : List Arrival) (stands : StandsFor e pool history) where
+      table : List (List ℤ)
+      table = tuples_in e
+
+      future_is : future_in e pool r ≡ new_answers q history r
+      future_is =
+          ap (λ cs. future q parts (read_from cs) (tuples_in e) r) stands.cells
+          ∙ by (true_or_false q.distinct)
+          ∙ synopsis-suffices q parts sound.limits (planned_of q e.plan sound.accepted.plan) sound.accepted.violation history r
+        where
+          by : (q.distinct ≡ true) ⊎ (q.distinct ≡ false)
+              → future q parts (read_from (synopsis q parts history)) (tuples_in e) r ≡ future q parts (read_from (synopsis q parts history)) (printed q history) r
+          by (inl d) = ap (λ ts. future q parts (read_from (synopsis q parts history)) ts r) (stands.tuples d)
+          by (inr d) = future-table q parts (read_from (synopsis q parts history)) (tuples_in e) (printed q history) r d
+
+      few : length history ≤ 2 ^ 40
+      few = let f = ready.few in let g = stands.given in omega (arith, f, g)
+
+      waits_times : (z : List ℤ) → waiting_of z now ≡ times z (new_answers q history r)
+      waits_times z =
+          let bound = counts-fit q sound.limits history r z few in
+          waits z ∙ ap (λ ts. min (occurs z ts) (2 ^ 127)) future_is
+          ∙ (let small : min (occurs z (new_answers q history r)) (2 ^ 127) ≡ occurs z (new_answers q history r) = omega (arith, bound) in small)
+          ∙ occurs-is z (new_answers q history r)
+
+      waiting_is : waiting_in later ≡ new_answers q history r
+      waiting_is =
+          spelled_is now (new_answers q history r) ascends
+          (subst Rises future_is (future-rises q (read_from (cells_in e pool)) (tuples_in e) r e.plan sound.accepted.plan)) waits_times
+
+      stands_later : StandsFor later after (history ++ r ∷ [])
+      stands_later = record {
+        live = taken.live;
+        cells =
+            cells_later ∙ ap (λ cs. merge parts cs (synopsis q parts (r ∷ []))) stands.cells
+            ∙ sym (synopses-merge q parts history (r ∷ []));
+        rest = taken.inserted.rest ∙ stands.rest;
+        given = (let g = stands.given in let n : length (history ++ r ∷ []) ≡ length history + 1 = length-append history (r ∷ []) in omega (arith, g, n));
+        tuples =
+            λ d. tuples d ∙ (λ j. merged_table (stands.tuples d j) (future_is j)) ∙ sym (printed-grows q history r sound.limits d);
+      }
+
+    pub history : TookRow e pool r later after
+    history h stands = (waiting_is h stands, stands_later h stands)

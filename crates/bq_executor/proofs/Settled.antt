@@ -1,0 +1,116 @@
+-- An executor whose answers were written, and one to which no row was given.
+use Rattle.std.proofs.Common.{◌≡◌, ℕ, ◌+◌, ◌*◌, ◌<◌, cond, Bool, true, false, List, [], ◌∷◌, map, filter, length, take, drop, replicate, refl, sym, ap, ◌∙◌, subst, arith, All, Contains}
+use Rattle.std.proofs.lemmas.List.{take-replicate, drop-replicate, get_or-replicate, length-replicate}
+use Rattle.std.proofs.lemmas.List.Elements.{All-contains}
+use Rattle.bq_model.specs.declared.cell.Cell.{Cell}
+use Rattle.bq_model.specs.declared.plan.Kind.{Kind}
+use Rattle.bq_model.specs.declared.plan.PartPlan.{PartPlan}
+use Rattle.bq_model.specs.declared.plan.Plan.{Plan}
+use Rattle.bq_model.specs.declared.plan.Plan.TheVariants as plan
+use Rattle.bq_model.specs.Query.{QueryValue, IsWithinLimits}
+use Rattle.bq_model.specs.Tuples.{ascending, once}
+use Rattle.bq_model.specs.Assignment.{holds, projected}
+use Rattle.bq_model.specs.Meaning.{Arrival, rows, product, answers, assignment_of}
+use Rattle.bq_model.specs.Plan.{IsPartPlan, stream_at}
+use Rattle.bq_model.specs.Cells.{content, synopsis, printed}
+use Rattle.bq_model.specs.Ranges.{all_tuples}
+use Rattle.bq_model.specs.Numbers.{IsPlanOf, parts_of, cell_count}
+use Rattle.bq_model.proofs.Has.{Contains-from_has}
+use Rattle.bq_laws.proofs.Numbering.{boxes-are-apart, cells-are-read, synopsis-has-cells}
+use Rattle.bq_laws.proofs.Sufficiency.{synopsis-is-read}
+use Rattle.bq_pool.specs.Extents.{PoolValue, cells_of, IsLive}
+use Rattle.bq_answers.specs.Entries.{Entry, settled, tuples_of}
+use Rattle.bq_executor.specs.Executor.{ExecutorValue, parts_in, spelled, IsSound, with_given}
+use Rattle.bq_executor.specs.Standing.{StandsFor}
+use Rattle.bq_executor.proofs.Answered.{settled-tuples}
+use Rattle.bq_executor.proofs.Inserting.{get_has}
+use Rattle.bq_executor.proofs.PlanFacts.{cells_of_plan}
+
+-- nothing waits
+pub settled-spelled : (es : List Entry) → spelled (settled es) ≡ []
+settled-spelled [] = refl
+settled-spelled (e ∷ es) = settled-spelled es
+
+-- the executor whose answers were written
+abbrev pub written : ExecutorValue → ExecutorValue
+written e = with_given e e.given (settled e.table.entries)
+
+pub written-sound : (e : ExecutorValue) → IsSound e → IsSound (written e)
+written-sound e s = record {
+  limits = s.limits;
+  accepted = s.accepted;
+  pages = s.pages;
+  width = s.width;
+  capacity = s.capacity;
+  tuples = λ d. subst (All (Contains (all_tuples e.query (parts_in e)))) (sym (settled-tuples e.table.entries)) (s.tuples d);
+}
+
+-- stands for what it stood for
+pub written-stands : (e : ExecutorValue) (pool : PoolValue) (h : List Arrival) → StandsFor e pool h → StandsFor (written e) pool h
+written-stands e pool h s = record {
+  live = s.live;
+  cells = s.cells;
+  rest = s.rest;
+  given = s.given;
+  tuples = λ d. settled-tuples e.table.entries ∙ s.tuples d;
+}
+
+content-none : (k : Kind) → content k [] ≡ Cell.Empty
+content-none Kind.Count = refl
+content-none Kind.Present = refl
+content-none (Kind.Least a) = refl
+content-none (Kind.Greatest a) = refl
+
+-- the synopsis of no rows
+synopsis-none : (q : QueryValue) (p : Plan) → IsPlanOf q p → replicate (cell_count (parts_of p)) Cell.Empty ≡ synopsis q (parts_of p) []
+unfolding synopsis
+synopsis-none q plan.Filter is = refl
+synopsis-none q (plan.Parts list numbers) is =
+    cells-are-read list is.1.bases (replicate (cell_count list) Cell.Empty) (synopsis q list []) (length-replicate (cell_count list) Cell.Empty) (synopsis-has-cells q list [])
+    (λ n part place i b.
+    let s = (boxes-are-apart list is.1.bases).0 n part place b.at b.there in
+    let k = b.inside in
+    let c : Contains list part = Contains-from_has list part (get_has list n part b.at) in
+    let own = All-contains (IsPartPlan q) list part is.1.plans c in
+    let l : place < length q.from = (let n = own.count in let t = b.there in omega (arith, n, t)) in
+    get_or-replicate (cell_count list) ((stream_at part place).base + i) Cell.Empty Cell.Empty (omega (arith, s, k))
+    ∙ sym (content-none (stream_at part place).kind)
+    ∙ sym (synopsis-is-read q list is.1 [] part c place i l k))
+
+-- a query has no answers before the first row
+answers-none : (q : QueryValue) → IsWithinLimits q → answers q [] ≡ []
+answers-none q within = by q.from within.streams.0
+  where
+    by : (from : List ℕ) → 0 < length from
+        → map (λ c. projected q (assignment_of c)) (filter (λ c. holds q (assignment_of c)) (product (map (rows []) from))) ≡ []
+    by [] l = absurd (omega (arith, l))
+    by (s ∷ from) l = refl
+
+printed-none : (q : QueryValue) → IsWithinLimits q → [] ≡ printed q []
+printed-none q within = by q.distinct
+  where
+    by : (d : Bool) → [] ≡ cond d (ascending (once (answers q []))) []
+    by true = ap (λ ts. ascending (once ts)) (sym (answers-none q within))
+    by false = refl
+
+-- an executor to which no row was given stands for no rows
+pub begins : (e : ExecutorValue) → IsSound e → e.given ≡ 0 → e.table.entries ≡ [] → (pool : PoolValue) → IsLive pool e.extent
+    → cells_of pool e.extent ≡ replicate (64 * e.extent.pages) Cell.Empty → StandsFor e pool []
+begins e s given none pool live empty =
+    let c = cells_of_plan e.query e.plan s.accepted.plan s.accepted.within in
+    record {
+      live = live;
+      cells =
+          ap (take (cell_count (parts_in e))) empty
+          ∙ take-replicate (cell_count (parts_in e)) (64 * e.extent.pages) Cell.Empty (let w = c.0 in let p = s.pages in omega (arith, w, p))
+          ∙ synopsis-none e.query e.plan s.accepted.plan;
+      rest = ap (drop (cell_count (parts_in e))) empty ∙ drop-replicate (cell_count (parts_in e)) (64 * e.extent.pages) Cell.Empty;
+      given = given;
+      tuples = λ d. ap tuples_of none ∙ printed-none e.query s.limits;
+    }
+
+-- a table without entries lies in the ranges of the parts
+pub none_within : (q : QueryValue) (plan : List PartPlan) (entries : List Entry) → entries ≡ []
+    → All (Contains (all_tuples q plan)) (tuples_of entries)
+none_within q plan entries e =
+    subst (λ es. All (Contains (all_tuples q plan)) (tuples_of es)) (sym e) (λ k d l. absurd (omega (arith, l)))

@@ -1,0 +1,79 @@
+-- An executor that stands for a history is ready for one row more.
+use Rattle.std.proofs.Common.{◌≡◌, ℕ, suc, ◌<◌, ◌≤◌, ◌^◌, ◌==◌, cond, Bool, true, false, ℤ, List, [], ◌∷◌, filter, length, sym, ap, ◌∙◌, subst, arith, slice_index_or, Contains}
+use Rattle.std.proofs.lemmas.List.{length-map}
+use Rattle.std.proofs.lemmas.List.Elements.{All-contains}
+use Rattle.bq_model.specs.declared.plan.Kind.{Kind}
+use Rattle.bq_model.specs.declared.plan.PartPlan.{PartPlan}
+use Rattle.bq_model.specs.declared.plan.Plan.{Plan}
+use Rattle.bq_model.specs.declared.plan.Plan.TheVariants as plan
+use Rattle.bq_model.specs.Query.{QueryValue}
+use Rattle.bq_model.specs.Meaning.{Arrival, rows}
+use Rattle.bq_model.specs.Plan.{IsPartPlan, stream_at}
+use Rattle.bq_model.specs.Cells.{content, cell_of, rows_of_cell, synopsis, FitsKind}
+use Rattle.bq_model.specs.Combinations.{read_from}
+use Rattle.bq_model.specs.Numbers.{IsPlanOf, parts_of}
+use Rattle.bq_model.proofs.Has.{Has-from_contains}
+use Rattle.bq_laws.proofs.Fitting.{cells-fit}
+use Rattle.bq_laws.proofs.Sufficiency.{synopsis-is-read}
+use Rattle.bq_pool.specs.Extents.{PoolValue}
+use Rattle.bq_executor.specs.Executor.{ExecutorValue, parts_in, cells_in, IsSound}
+use Rattle.bq_executor.specs.Standing.{StandsFor, CountsUpto, AreKept}
+use Rattle.bq_executor.specs.Runs.{StandingIsReady}
+
+fewer : {X : Type 0} (t : X → Bool) (xs : List X) → length (filter t xs) ≤ length xs
+fewer t [] = omega arith
+fewer t (x ∷ xs) = by (t x) (fewer t xs)
+  where
+    by : (b : Bool) → length (filter t xs) ≤ length xs → length (cond b (x ∷ filter t xs) (filter t xs)) ≤ suc (length xs)
+    by true h = omega (arith, h)
+    by false h = omega (arith, h)
+
+content-counts : (kind : Kind) (xs : List (List ℤ)) (n : ℕ) → length xs ≤ n → CountsUpto n (content kind xs)
+content-counts Kind.Count [] n l = tt
+content-counts Kind.Count (x ∷ xs) n l = l
+content-counts Kind.Present [] n l = tt
+content-counts Kind.Present (x ∷ xs) n l = tt
+content-counts (Kind.Least a) [] n l = tt
+content-counts (Kind.Least a) (x ∷ xs) n l = tt
+content-counts (Kind.Greatest a) [] n l = tt
+content-counts (Kind.Greatest a) (x ∷ xs) n l = tt
+
+-- a cell counts at most the rows of the history
+cell-counts : (q : QueryValue) (part : PartPlan) (history : List Arrival) (place i : ℕ) → CountsUpto (length history) (cell_of q history part place i)
+cell-counts q part history place i =
+    let stream : ℕ = slice_index_or q.from place 0 in
+    let some : List Arrival = filter (λ r. r.stream == stream) history in
+    let a : length some ≤ length history = fewer (λ r. r.stream == stream) history in
+    let b : length (rows history stream) ≡ length some = length-map some (λ r. r.values) in
+    let c : length (rows_of_cell q part place i (rows history stream)) ≤ length (rows history stream) = fewer _ (rows history stream) in
+    content-counts (stream_at part place).kind (rows_of_cell q part place i (rows history stream)) (length history) (omega (arith, a, b, c))
+
+module _ (e : ExecutorValue) (pool : PoolValue) (history : List Arrival) (sound : IsSound e) (stands : StandsFor e pool history) where
+  -- what stands in a box
+  cell_is : (part : PartPlan) → Contains (parts_in e) part → (place i : ℕ) → place < length part.streams.items → i < (stream_at part place).size
+      → read_from (cells_in e pool) part place i ≡ cell_of e.query history part place i
+  cell_is part c place i l s = ap (λ cs. read_from cs part place i) stands.cells ∙ by e.plan sound.accepted.plan c
+    where
+      by : (p : Plan) → IsPlanOf e.query p → Contains (parts_of p) part → read_from (synopsis e.query (parts_of p) history) part place i ≡ cell_of e.query history part place i
+      by plan.Filter is c = elim (Has-from_contains [] part c) [ ]
+      by (plan.Parts list numbers) is c =
+          let own = All-contains (IsPartPlan e.query) list part is.1.plans c in
+          synopsis-is-read e.query list is.1 history part c place i (let n = own.count in omega (arith, n, l)) s
+
+  kept : length history < 2 ^ 40 → AreKept e pool
+  kept few = record {
+    live = stands.live;
+    fitting =
+        λ part c place i l s.
+        subst (FitsKind (stream_at part place).kind) (sym (cell_is part c place i l s)) (cells-fit e.query part history place i (omega (arith, few)));
+    counts =
+        λ part c place i l s.
+        subst (CountsUpto e.given) (sym (cell_is part c place i l s))
+        (subst (λ (n : ℕ). CountsUpto n (cell_of e.query history part place i)) (sym stands.given) (cell-counts e.query part history place i));
+  }
+
+pub standing-is-ready : StandingIsReady
+standing-is-ready e pool history sound stands few = record {
+  kept = kept e pool history sound stands few;
+  few = (let g = stands.given in omega (arith, g, few));
+}

@@ -1,0 +1,182 @@
+-- The pool while the parts take a row, one after the other.
+use Rattle.std.proofs.Common.{◌≡◌, ℕ, suc, ◌+◌, ◌<◌, ◌≤◌, ◌&&◌, nat_lt, cond, Bool, true, false, ℤ, List, [], ◌∷◌, ◌++◌, length, take, drop, set, get_or, refl, sym, ap, ◌∙◌, subst, arith, slice_get, Option, Some, None, inl, inr, length-set, Contains}
+use Rattle.std.proofs.lemmas.Bool.Decides.{nat_tests}
+use Rattle.std.proofs.lemmas.List.{set-get_or, take_more, take-append-drop}
+use Rattle.std.proofs.lemmas.List.Sums.{sum_by_more}
+use Rattle.std.proofs.lemmas.Option.{slice_get_within, get_or_from_slice_get}
+use Rattle.std.proofs.Math.Seq.{drop-cons}
+use Rattle.bq_model.specs.declared.cell.Cell.{Cell}
+use Rattle.bq_model.specs.declared.plan.PartPlan.{PartPlan}
+use Rattle.bq_model.specs.Query.{QueryValue}
+use Rattle.bq_model.specs.Meaning.{Arrival, by_column}
+use Rattle.bq_model.specs.Plan.{stream_at}
+use Rattle.bq_model.specs.Admission.{admits}
+use Rattle.bq_model.specs.Cells.{content, FitsKind}
+use Rattle.bq_model.specs.Merge.{merged}
+use Rattle.bq_model.specs.Numbers.{cell_count, share, work}
+use Rattle.bq_model.specs.Combinations.{read_from, Reading, Found, found_in}
+use Rattle.bq_model.proofs.Has.{Contains-from_has}
+use Rattle.bq_laws.proofs.Walking.{plans-are-walkable}
+use Rattle.bq_laws.proofs.Tests.{and-left, and-right, true_or_false}
+use Rattle.bq_pool.specs.declared.pool.Extent.{Extent}
+use Rattle.bq_pool.specs.Extents.{PoolValue, cells_of, with_cells, IsLive}
+use Rattle.bq_pool.proofs.CallerLemmas.{cells_of_with, live_with, written_again}
+use Rattle.bq_synopsis.specs.Premises.{HasRoom, IsReady, row_cell}
+use Rattle.bq_executor.specs.Arriving.{arrives, all_found, with_row, lies, IsInserted, HasTaken, CanCount, AreReady}
+use Rattle.bq_executor.proofs.Founds.{found-same, all_found-append}
+use Rattle.bq_answers.specs.Entries.{TableValue, with_entries}
+use Rattle.bq_executor.specs.Taking.{with_all, HaveRoom}
+use Rattle.bq_executor.proofs.Taking.{with_all-append, room_first, room_then}
+use Rattle.bq_executor.proofs.Inserting.{inserted_start, inserted_nothing, inserted_row, part_plan, get_has}
+
+-- the pool with the cells that it has
+pub with_own : (p : PoolValue) (e : Extent) → IsLive p e → p ≡ with_cells p e (cells_of p e)
+with_own p e live =
+    let same : p.extents ≡ set p.extents e.slot (Some (cells_of p e))
+    = sym (set-get_or p.extents e.slot None) ∙ ap (set p.extents e.slot) live.live in
+    ap (λ (xs : List (Option (List Cell))). let o : PoolValue = record { pages = p.pages; free = p.free; lent = p.lent; extents = xs } in o) same
+
+-- before the first part
+pub taken_start : (q : QueryValue) (plan : List PartPlan) (e : Extent) (r : Arrival) (p : PoolValue) → IsLive p e → HasTaken q plan e r 0 p p
+taken_start q plan e r p live = record {
+  live = live;
+  only = with_own p e live;
+  inserted = inserted_start q plan r (cells_of p e);
+}
+
+module _ (q : QueryValue) (plan : List PartPlan) (e : Extent) (pos : ℕ) (here : pos < length q.from) (values : List ℤ) (before : PoolValue) (ready : AreReady q plan before e) where
+  abbrev r : Arrival
+  r = arrives q pos values
+
+  module _ (n : ℕ) (part : PartPlan) (at_n : slice_get plan n ≡ Some part) (now : PoolValue) (taken : HasTaken q plan e r n before now) where
+    -- the cells of the part are as before
+    pub same_cells : (place i : ℕ) → place < length q.from → i < (stream_at part place).size
+        → read_from (cells_of now e) part place i ≡ read_from (cells_of before e) part place i
+    same_cells place i l k =
+        let c = (part_plan q plan ready.limits ready.plan n part at_n).count in
+        let lt : nat_lt n n ≡ false = grind (arith, nat_tests) in
+        let there : place < length part.streams.items = omega (arith, c, l) in
+        taken.inserted.at n part place i record { at = at_n; there = there; inside = k }
+        ∙ ap (λ t. cond (t && lies q r part place i) (merged (stream_at part place).kind (read_from (cells_of before e) part place i) (content (stream_at part place).kind (values ∷ []))) (read_from (cells_of before e) part place i)) lt
+
+    whole : cell_count plan ≤ length (cells_of now e)
+    whole = let s = taken.live.pages in let w = ready.within in omega (arith, s, w)
+
+    -- the next part
+    pub taken_step : (after : PoolValue) → after ≡ with_row q part pos values e now → HasTaken q plan e r (n + 1) before after
+    taken_step after is = elim (true_or_false (admits q part pos (by_column values) && nat_lt 1 (length q.from))) [
+      | inl t ↦ one t (is ∙ ap (λ b. cond b (with_cells now e xs) now) t)
+      | inr f ↦ none f (is ∙ ap (λ b. cond b (with_cells now e xs) now) f)
+    ]
+      where
+        cell : Cell
+        cell =
+            merged (stream_at part pos).kind (get_or (cells_of now e) (row_cell part pos values) Cell.Empty) (content (stream_at part pos).kind (values ∷ []))
+
+        xs : List Cell
+        xs = set (cells_of now e) (row_cell part pos values) cell
+
+        none : (admits q part pos (by_column values) && nat_lt 1 (length q.from)) ≡ false → after ≡ now → HasTaken q plan e r (n + 1) before after
+        none f same =
+            subst (λ p. HasTaken q plan e r (n + 1) before p) (sym same) record {
+              live = taken.live;
+              only = taken.only;
+              inserted =
+                  inserted_nothing q plan ready.limits ready.plan pos here values n part at_n (cells_of before e) (cells_of now e) taken.inserted f;
+            }
+
+        one : (admits q part pos (by_column values) && nat_lt 1 (length q.from)) ≡ true → after ≡ with_cells now e xs → HasTaken q plan e r (n + 1) before after
+        one t same =
+            let several : 1 < length q.from = (let k : nat_lt 1 (length q.from) ≡ true = and-right (admits q part pos (by_column values)) (nat_lt 1 (length q.from)) t in grind (arith, nat_tests)) in
+            let cells : cells_of after e ≡ xs = ap (λ p. cells_of p e) same ∙ cells_of_with now e xs taken.live in
+            record {
+              live = subst (λ p. IsLive p e) (sym same) (live_with now e xs taken.live (length-set (cells_of now e) (row_cell part pos values) cell));
+              only =
+                  written_again before now after e (cells_of now e) (row_cell part pos values) cell ready.live taken.only same ∙ ap (with_cells before e) (sym cells);
+              inserted =
+                  subst (λ ys. IsInserted q plan r (n + 1) (cells_of before e) ys) (sym cells)
+                  (inserted_row q plan ready.limits ready.plan pos here values n part at_n (cells_of before e) (cells_of now e) taken.inserted (and-left (admits q part pos (by_column values)) (nat_lt 1 (length q.from)) t) several whole);
+            }
+
+    contained : Contains plan part
+    contained = Contains-from_has plan part (get_has plan n part at_n)
+
+    -- the part's cells are those of its kinds, and can count one row more
+    pub ready_part : IsReady q part now e
+    ready_part =
+        let law = plans-are-walkable q plan ready.plan part contained in
+        let own = part_plan q plan ready.limits ready.plan n part at_n in
+        record {
+          held =
+              record {
+                live = taken.live;
+                walked = record { cells = cell_count plan; few = ready.few; plan = own; places = law.0; tried = law.1 };
+                within = ready.within;
+              };
+          fitting =
+              λ place i l k.
+              subst (FitsKind (stream_at part place).kind) (sym (same_cells place i (let c = own.count in omega (arith, c, l)) k)) (ready.fitting part contained place i l k);
+        }
+
+    pub room_part : CanCount part (read_from (cells_of now e))
+    room_part =
+        λ place i l k.
+        let c = (part_plan q plan ready.limits ready.plan n part at_n).count in
+        subst HasRoom (sym (same_cells place i (omega (arith, c, l)) k)) (ready.room part contained place i l k)
+
+    abbrev first_read : Reading
+    first_read = read_from (cells_of before e)
+
+    -- what the part finds is what it finds in the cells before the row
+    found_now : found_in q part (read_from (cells_of now e)) r ≡ found_in q part first_read r
+    found_now = found-same q part (read_from (cells_of now e)) first_read r same_cells
+
+    split : plan ≡ take n plan ++ part ∷ drop (suc n) plan
+    split =
+        let l : n < length plan = slice_get_within plan n part at_n in
+        sym (take-append-drop n plan)
+        ∙ ap (λ xs. take n plan ++ xs) (drop-cons plan n part l ∙ ap (λ (p : PartPlan). p ∷ drop (suc n) plan) (get_or_from_slice_get plan n part part at_n))
+
+    taken_more : take (n + 1) plan ≡ take n plan ++ part ∷ []
+    taken_more =
+        let l : n < length plan = slice_get_within plan n part at_n in
+        take_more plan n part l ∙ ap (λ (p : PartPlan). take n plan ++ p ∷ []) (get_or_from_slice_get plan n part part at_n)
+
+    -- there is room for it
+    pub room_now : (d : Bool) (start table : TableValue)
+        → HaveRoom d (all_found q plan first_read r) start
+        → table ≡ with_entries start (with_all d (all_found q (take n plan) first_read r) start.entries)
+        → HaveRoom d (found_in q part (read_from (cells_of now e)) r) table
+    room_now d start table h is =
+        let e1 : all_found q plan first_read r ≡ all_found q (take n plan) first_read r ++ (found_in q part first_read r ++ all_found q (drop (suc n) plan) first_read r)
+        = ap (λ ps. all_found q ps first_read r) split ∙ all_found-append q first_read r (take n plan) (part ∷ drop (suc n) plan) in
+        let k = room_then d (all_found q (take n plan) first_read r) (found_in q part first_read r ++ all_found q (drop (suc n) plan) first_read r) start (subst (λ fs. HaveRoom d fs start) e1 h) in
+        let o = room_first d (found_in q part first_read r) (all_found q (drop (suc n) plan) first_read r) _ k in
+        subst (λ fs. HaveRoom d fs table) (sym found_now) (subst (λ (t : TableValue). HaveRoom d (found_in q part first_read r) t) (sym is) o)
+
+    -- the table with it
+    pub table_more : (d : Bool) (start table more : TableValue)
+        → table ≡ with_entries start (with_all d (all_found q (take n plan) first_read r) start.entries)
+        → more ≡ with_entries table (with_all d (found_in q part (read_from (cells_of now e)) r) table.entries)
+        → more ≡ with_entries start (with_all d (all_found q (take (n + 1) plan) first_read r) start.entries)
+    table_more d start table more is next =
+        next
+        ∙ ap (λ (t : TableValue). with_entries t (with_all d (found_in q part (read_from (cells_of now e)) r) t.entries)) is
+        ∙ ap (λ fs. with_entries start (with_all d fs (with_all d (all_found q (take n plan) first_read r) start.entries))) found_now
+        ∙ ap (with_entries start) (sym (with_all-append d (all_found q (take n plan) first_read r) (found_in q part first_read r) start.entries))
+        ∙ ap (λ fs. with_entries start (with_all d fs start.entries)) (sym more_found)
+      where
+        no_more : (fs : List Found) → fs ++ [] ≡ fs
+        no_more [] = refl
+        no_more (f ∷ fs) = ap (λ gs. f ∷ gs) (no_more fs)
+
+        more_found : all_found q (take (n + 1) plan) first_read r ≡ all_found q (take n plan) first_read r ++ found_in q part first_read r
+        more_found =
+            ap (λ ps. all_found q ps first_read r) taken_more ∙ all_found-append q first_read r (take n plan) (part ∷ [])
+            ∙ ap (λ fs. all_found q (take n plan) first_read r ++ fs) (no_more (found_in q part first_read r))
+
+    -- the work of the parts so far
+    pub work_more : work (take (n + 1) plan) ≡ work (take n plan) + share part
+    work_more =
+        let l : n < length plan = slice_get_within plan n part at_n in
+        sum_by_more share plan n part l ∙ ap (λ (p : PartPlan). work (take n plan) + share p) (get_or_from_slice_get plan n part part at_n)

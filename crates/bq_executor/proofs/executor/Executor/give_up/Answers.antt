@@ -1,0 +1,29 @@
+use Rattle.std.proofs.Common.{◌∙◌, List, ap, sym, subst}
+use Rattle.bq_pool.specs.Extents.{PoolValue}
+use Rattle.bq_model.specs.Meaning.{Arrival}
+use Rattle.bq_answers.specs.Entries.{TableValue}
+use Rattle.bq_executor.specs.Executor.{ExecutorValue, IsSound, tuples_in, waiting_in}
+use Rattle.bq_executor.specs.Standing.{StandsFor}
+use Rattle.bq_executor.proofs.Answered.{settled-tuples}
+use Rattle.bq_executor.proofs.Settled.{settled-spelled, written-sound, written-stands}
+use Rattle.bq_executor.proofs.executor.Executor.give_up.Goals as goal
+
+pub invariant_of-self : goal.invariant_of-self
+invariant_of-self c =
+    let e : ExecutorValue = record { query = c.self.inside.query; plan = c.self.inside.plan; extent = c.self.inside.extent; given = c.self.inside.given; table = c.self.inside.table } in
+    subst (λ (t : TableValue). IsSound (let o : ExecutorValue = record { query = c.self.inside.query; plan = c.self.inside.plan; extent = c.self.inside.extent; given = c.self.inside.given; table = t } in o)) (sym c.settle.ensures) (written-sound e c.self.invariant)
+
+pub returns-clause-none : goal.returns-clause-none
+returns-clause-none c =
+    ap (λ (t : TableValue). waiting_in (let o : ExecutorValue = record { query = c.self.inside.query; plan = c.self.inside.plan; extent = c.self.inside.extent; given = c.self.inside.given; table = t } in o)) c.settle.ensures ∙ settled-spelled c.self.inside.table.entries
+
+pub returns-clause-tuples : goal.returns-clause-tuples
+returns-clause-tuples c =
+    ap (λ (t : TableValue). tuples_in (let o : ExecutorValue = record { query = c.self.inside.query; plan = c.self.inside.plan; extent = c.self.inside.extent; given = c.self.inside.given; table = t } in o)) c.settle.ensures ∙ settled-tuples c.self.inside.table.entries
+    ∙ ap tuples_in c.self.view_is
+
+pub returns-clause-history : goal.returns-clause-history
+returns-clause-history c =
+    let e : ExecutorValue = record { query = c.self.inside.query; plan = c.self.inside.plan; extent = c.self.inside.extent; given = c.self.inside.given; table = c.self.inside.table } in
+    subst (λ (x : ExecutorValue). (pool : PoolValue) (history : List Arrival) → StandsFor x pool history → StandsFor (let o : ExecutorValue = record { query = c.self.inside.query; plan = c.self.inside.plan; extent = c.self.inside.extent; given = c.self.inside.given; table = c.settle.new.self } in o) pool history) c.self.view_is
+    (λ pool history h. subst (λ (t : TableValue). StandsFor (let o : ExecutorValue = record { query = c.self.inside.query; plan = c.self.inside.plan; extent = c.self.inside.extent; given = c.self.inside.given; table = t } in o) pool history) (sym c.settle.ensures) (written-stands e pool history h))

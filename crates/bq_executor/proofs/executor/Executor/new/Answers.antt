@@ -1,0 +1,24 @@
+use Rattle.std.proofs.Common.{ap, refl, ◌∙◌, length}
+use Rattle.bq_answers.specs.Entries.{TableValue}
+use Rattle.bq_model.specs.Numbers.{parts_of}
+use Rattle.bq_executor.proofs.Settled.{begins, none_within}
+use Rattle.bq_executor.specs.Executor.{ExecutorValue}
+use Rattle.bq_executor.proofs.executor.Executor.new.Goals as goal
+
+pub invariant_of-result : goal.invariant_of-result
+invariant_of-result c =
+    let is = c.in-Ok.ensures in
+    record {
+      limits = c.select.ensures.limits;
+      accepted = c.requires.accepted;
+      pages = c.requires.pages;
+      width = ap (λ (t : TableValue). t.width) is ∙ ap length c.select.ensures.value;
+      capacity = ap (λ (t : TableValue). t.capacity) is ∙ c.most_answers-capacity.ensures;
+      tuples = λ d. none_within c.args.query (parts_of c.args.plan) c.in-Ok.table.entries (ap (λ (t : TableValue). t.entries) is);
+    }
+
+pub returns-in-Ok-clause-history : goal.returns-in-Ok-clause-history
+returns-in-Ok-clause-history c =
+    let e : ExecutorValue = record { query = c.args.query; plan = c.args.plan; extent = c.args.extent; given = 0; table = c.in-Ok.table } in
+    let is = c.in-Ok.ensures in
+    begins e (invariant_of-result c) refl (ap (λ (t : TableValue). t.entries) is)

@@ -1,0 +1,85 @@
+-- What an arriving row does to the cells of the parts, one part after the other.
+use Rattle.std.specs.Prelude.{◌≡◌, ℕ, ◌*◌, ◌<◌, ◌≤◌, ◌^◌, ◌&&◌, ◌==◌, nat_eq, nat_lt, Bool, ℤ, List, [], ◌∷◌, length, drop, map, Contains, if◌then◌else◌, slice_index_or, slice_set}
+use Rattle.std.specs.List.{flat_map, list_any}
+use Rattle.std.specs.Option.{option_to_list}
+use Rattle.bq_model.specs.declared.cell.Cell.{Cell}
+use Rattle.bq_model.specs.declared.plan.PartPlan.{PartPlan}
+use Rattle.bq_model.specs.declared.plan.Plan.{Plan}
+use Rattle.bq_model.specs.declared.plan.Plan.TheVariants as plan
+use Rattle.bq_model.specs.Query.{QueryValue, IsWithinLimits}
+use Rattle.bq_model.specs.Meaning.{Arrival, by_column}
+use Rattle.bq_model.specs.Plan.{stream_at, dims_at, IsPlan}
+use Rattle.bq_model.specs.Filter.{filter_tuple}
+use Rattle.bq_model.specs.Admission.{admits}
+use Rattle.bq_model.specs.Cells.{row_place, content}
+use Rattle.bq_model.specs.Merge.{merged}
+use Rattle.bq_model.specs.Numbers.{cell_count}
+use Rattle.bq_model.specs.Combinations.{Reading, Found, found_in, read_from}
+use Rattle.bq_laws.specs.Places.{IsBox}
+use Rattle.bq_pool.specs.declared.pool.Extent.{Extent}
+use Rattle.bq_pool.specs.Extents.{PoolValue, cells_of, with_cells, IsLive}
+use Rattle.bq_synopsis.specs.Premises.{AreFitting, HasRoom, row_cell}
+
+-- a row of the stream at a place of FROM
+abbrev pub arrives : QueryValue → ℕ → List ℤ → Arrival
+arrives q pos values = record { stream = slice_index_or q.from pos 0; values = values }
+
+-- what the cells of all parts answer to a row
+abbrev pub all_found : QueryValue → List PartPlan → Reading → Arrival → List Found
+all_found q plan read r = flat_map (λ part. found_in q part read r) plan
+
+-- the pool after one part took a row: where the part admits the row and the query has several streams, its own cell takes it
+abbrev pub with_row : QueryValue → PartPlan → ℕ → List ℤ → Extent → PoolValue → PoolValue
+with_row q part pos values extent pool =
+    if admits q part pos (by_column values) && nat_lt 1 (length q.from)
+    then with_cells pool extent (slice_set (cells_of pool extent) (row_cell part pos values) (merged (stream_at part pos).kind (slice_index_or (cells_of pool extent) (row_cell part pos values) Cell.Empty) (content (stream_at part pos).kind (values ∷ []))))
+    else pool
+
+-- whether a row lies at place i of the box of a part at a place of FROM
+abbrev pub lies : QueryValue → Arrival → PartPlan → ℕ → ℕ → Bool
+lies q r part place i =
+    (r.stream == slice_index_or q.from place 0) && (admits q part place (by_column r.values) && nat_eq (row_place (dims_at part place) (by_column r.values)) i)
+
+-- the row was taken into the boxes of the first n parts, and all else is as before
+pub record IsInserted (q : QueryValue) (plan : List PartPlan) (r : Arrival) (n : ℕ) (cells others : List Cell) : Type 0 where
+  pub size : length others ≡ length cells
+  pub at : (m : ℕ) (part : PartPlan) (place i : ℕ) → IsBox plan m part place i
+      → read_from others part place i
+      ≡ (if nat_lt m n && lies q r part place i
+      then merged (stream_at part place).kind (read_from cells part place i) (content (stream_at part place).kind (r.values ∷ []))
+      else read_from cells part place i)
+  pub rest : drop (cell_count plan) others ≡ drop (cell_count plan) cells
+
+-- the first n parts took the row, and no other extent changed
+pub record HasTaken (q : QueryValue) (plan : List PartPlan) (extent : Extent) (r : Arrival) (n : ℕ) (before after : PoolValue) : Type 0 where
+  pub live : IsLive after extent
+  pub only : after ≡ with_cells before extent (cells_of after extent)
+  pub inserted : IsInserted q plan r n (cells_of before extent) (cells_of after extent)
+
+-- the cells of the part can count one row more
+abbrev pub CanCount : PartPlan → Reading → Type 0
+CanCount part read = (place i : ℕ) → place < length part.streams.items → i < (stream_at part place).size → HasRoom (read part place i)
+
+-- the plan is that of the query, its cells stand in the extent, and each is of its kind and can count one row more
+pub record AreReady (q : QueryValue) (parts : List PartPlan) (pool : PoolValue) (extent : Extent) : Type 0 where
+  pub limits : IsWithinLimits q
+  pub plan : IsPlan q parts
+  pub few : cell_count parts < 2 ^ 32
+  pub live : IsLive pool extent
+  pub within : cell_count parts ≤ 64 * extent.pages
+  pub fitting : (part : PartPlan) → Contains parts part → AreFitting part (read_from (cells_of pool extent))
+  pub room : (part : PartPlan) → Contains parts part → CanCount part (read_from (cells_of pool extent))
+
+-- what a filter answers to a row by that row alone
+abbrev pub own_found : QueryValue → Arrival → List Found
+own_found q r = map (λ t. record { tuple = t; count = 1 }) (option_to_list (filter_tuple q r))
+
+-- what the plan of a query answers to a row: nothing to a row of a stream outside FROM
+abbrev pub answered_by : QueryValue → Plan → Reading → Arrival → List Found
+answered_by q plan.Filter read r = own_found q r
+answered_by q (plan.Parts parts numbers) read r = if list_any (λ stream. r.stream == stream) q.from then all_found q parts read r else []
+
+-- the cells of a plan are ready for a row; a filter has none
+abbrev pub IsPlanReady : QueryValue → Plan → PoolValue → Extent → Type 0
+IsPlanReady q plan.Filter pool extent = IsLive pool extent
+IsPlanReady q (plan.Parts parts numbers) pool extent = AreReady q parts pool extent

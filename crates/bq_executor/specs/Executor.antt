@@ -1,0 +1,86 @@
+-- What contracts see of an executor, and what is true of each.
+use Rattle.std.specs.Prelude.{◌≡◌, ℕ, Bool, true, if◌then◌else◌, ℤ, List, [], take, drop, replicate, length, Contains, All}
+use Rattle.std.specs.List.{flat_map}
+use Rattle.std.specs.declared.option.Option.TheVariants.{None}
+use Rattle.bq_answers.specs.Entries.{Entry, TableValue, with_entries, settled, tuples_of}
+use Rattle.bq_model.specs.declared.cell.Cell.{Cell}
+use Rattle.bq_model.specs.declared.plan.PartPlan.{PartPlan}
+use Rattle.bq_model.specs.declared.plan.Plan.{Plan}
+use Rattle.bq_model.specs.declared.plan.Plan.TheVariants as plan
+use Rattle.bq_model.specs.Query.{QueryValue, IsWithinLimits}
+use Rattle.bq_model.specs.Meaning.{Arrival}
+use Rattle.bq_model.specs.Violation.{IsViolation}
+use Rattle.bq_model.specs.Verdict.{first_above}
+use Rattle.bq_model.specs.Numbers.{IsPlanOf, parts_of, pages_of, cell_count}
+use Rattle.bq_model.specs.Ranges.{all_tuples}
+use Rattle.bq_pool.specs.declared.pool.Extent.{Extent}
+use Rattle.bq_pool.specs.Extents.{PoolValue, cells_of}
+
+-- the query, its plan, the extent of its cells, how many rows were given, and the answer table
+pub record ExecutorValue : Type 0 where
+  pub query : QueryValue
+  pub plan : Plan
+  pub extent : Extent
+  pub given : ℕ
+  pub table : TableValue
+
+-- the parts of the plan
+abbrev pub parts_in : ExecutorValue → List PartPlan
+parts_in e = parts_of e.plan
+
+-- the cells of the plan in the pool
+abbrev pub cells_in : ExecutorValue → PoolValue → List Cell
+cells_in e pool = take (cell_count (parts_in e)) (cells_of pool e.extent)
+
+-- the cells behind them, up to the end of the last page
+abbrev pub rest_in : ExecutorValue → PoolValue → List Cell
+rest_in e pool = drop (cell_count (parts_in e)) (cells_of pool e.extent)
+
+-- the tuples of the table, ascending
+abbrev pub tuples_in : ExecutorValue → List (List ℤ)
+tuples_in e = tuples_of e.table.entries
+
+-- each tuple of some entries as often as it waits, in their order
+abbrev pub spelled : List Entry → List (List ℤ)
+spelled entries = flat_map (λ entry. replicate entry.waiting entry.tuple) entries
+
+-- the answers that wait to be written
+abbrev pub waiting_in : ExecutorValue → List (List ℤ)
+waiting_in e = spelled e.table.entries
+
+-- no number of the plan is above its limit
+abbrev pub IsWithin : Plan → Type 0
+IsWithin plan.Filter = Unit {0}
+IsWithin (plan.Parts parts numbers) = first_above numbers ≡ None
+
+-- for how many answers there is room: a filter has one at a time
+abbrev pub most_answers : Plan → ℕ
+most_answers plan.Filter = 1
+most_answers (plan.Parts parts numbers) = numbers.answers
+
+-- the plan is that of the query, of which no condition is violated and no number is above its limit
+pub record IsAccepted (q : QueryValue) (p : Plan) : Type 0 where
+  pub plan : IsPlanOf q p
+  pub violation : IsViolation q None
+  pub within : IsWithin p
+
+-- what is true of each executor: with DISTINCT each tuple of the table lies in the ranges of some part
+pub record IsSound (e : ExecutorValue) : Type 0 where
+  pub limits : IsWithinLimits e.query
+  pub accepted : IsAccepted e.query e.plan
+  pub pages : e.extent.pages ≡ pages_of e.plan
+  pub width : e.table.width ≡ length e.query.select
+  pub capacity : e.table.capacity ≡ most_answers e.plan
+  pub tuples : e.query.distinct ≡ true → All (Contains (all_tuples e.query (parts_in e))) (tuples_in e)
+
+-- a row of a stream, as it arrives
+abbrev pub arrival : ℕ → List ℤ → Arrival
+arrival stream values = record { stream = stream; values = values }
+
+-- the executor after so many rows were given, with other entries in its table
+abbrev pub with_given : ExecutorValue → ℕ → List Entry → ExecutorValue
+with_given e given entries = record { query = e.query; plan = e.plan; extent = e.extent; given = given; table = with_entries e.table entries }
+
+-- the entries before a row is taken: with DISTINCT the tuples stay
+abbrev pub cleared : Bool → List Entry → List Entry
+cleared distinct entries = if distinct then settled entries else []

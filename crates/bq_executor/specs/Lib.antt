@@ -1,0 +1,6 @@
+pub mod Executor
+pub mod Standing
+pub mod Runs
+pub mod Written
+pub mod Taking
+pub mod Arriving

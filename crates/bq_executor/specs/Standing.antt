@@ -1,0 +1,56 @@
+-- What an executor stands for, and what it needs of its cells to take a row.
+use Rattle.std.specs.Prelude.{◌≡◌, ℕ, ◌-◌, ◌*◌, ◌<◌, ◌≤◌, ◌^◌, true, ℤ, List, [], ◌∷◌, ◌++◌, length, replicate, Contains}
+use Rattle.bq_model.specs.declared.cell.Cell.{Cell}
+use Rattle.bq_model.specs.declared.plan.PartPlan.{PartPlan}
+use Rattle.bq_model.specs.Meaning.{Arrival, new_answers}
+use Rattle.bq_model.specs.Plan.{stream_at}
+use Rattle.bq_model.specs.Cells.{synopsis, printed}
+use Rattle.bq_model.specs.Combinations.{read_from}
+use Rattle.bq_model.specs.Future.{future}
+use Rattle.bq_model.specs.Merge.{merge}
+use Rattle.bq_model.specs.Numbers.{cell_count}
+use Rattle.bq_pool.specs.Extents.{PoolValue, with_cells, IsLive}
+use Rattle.bq_synopsis.specs.Premises.{AreFitting}
+use Rattle.bq_executor.specs.Executor.{ExecutorValue, parts_in, cells_in, rest_in, tuples_in, waiting_in}
+
+-- the executor stands for a history of its query: the cells are its synopsis, and with DISTINCT the tuples those printed
+pub record StandsFor (e : ExecutorValue) (pool : PoolValue) (history : List Arrival) : Type 0 where
+  pub live : IsLive pool e.extent
+  pub cells : cells_in e pool ≡ synopsis e.query (parts_in e) history
+  pub rest : rest_in e pool ≡ replicate (64 * e.extent.pages - cell_count (parts_in e)) Cell.Empty
+  pub given : e.given ≡ length history
+  pub tuples : e.query.distinct ≡ true → tuples_in e ≡ printed e.query history
+
+-- a cell counts at most so many rows
+abbrev pub CountsUpto : ℕ → Cell → Type 0
+CountsUpto most Cell.Empty = Unit {0}
+CountsUpto most (Cell.Count n) = n ≤ most
+CountsUpto most Cell.Present = Unit {0}
+CountsUpto most (Cell.Extreme z) = Unit {0}
+
+-- the extent is live, and each cell is of its kind and counts at most the rows that were given
+pub record AreKept (e : ExecutorValue) (pool : PoolValue) : Type 0 where
+  pub live : IsLive pool e.extent
+  pub fitting : (part : PartPlan) → Contains (parts_in e) part → AreFitting part (read_from (cells_in e pool))
+  pub counts : (part : PartPlan) → Contains (parts_in e) part → (place i : ℕ) → place < length part.streams.items → i < (stream_at part place).size
+      → CountsUpto e.given (read_from (cells_in e pool) part place i)
+
+-- the executor can take one row more, also where its cells are not those of any history
+pub record IsReady (e : ExecutorValue) (pool : PoolValue) : Type 0 where
+  pub kept : AreKept e pool
+  pub few : e.given < 2 ^ 40
+
+-- the answers to a row that cells and table tell
+abbrev pub future_in : ExecutorValue → PoolValue → Arrival → List (List ℤ)
+future_in e pool r = future e.query (parts_in e) (read_from (cells_in e pool)) (tuples_in e) r
+
+-- the pool after the cells took a row: no cell of another extent changes, nor one behind the cells of the plan
+abbrev pub pool_with : ExecutorValue → PoolValue → Arrival → PoolValue
+pool_with e pool r =
+    with_cells pool e.extent (merge (parts_in e) (cells_in e pool) (synopsis e.query (parts_in e) (r ∷ [])) ++ rest_in e pool)
+
+-- whatever history it stood for, the new answers to the row wait, and it stands for the history with the row
+abbrev pub TookRow : ExecutorValue → PoolValue → Arrival → ExecutorValue → PoolValue → Type 0
+TookRow before pool r after later =
+    (history : List Arrival) → StandsFor before pool history
+    → (waiting_in after ≡ new_answers before.query history r) × StandsFor after later (history ++ r ∷ [])

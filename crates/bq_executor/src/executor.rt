@@ -1,0 +1,183 @@
+//! A live query: a clause sees the query, its plan, the extent of its cells, how many rows were given, and the answer table.
+ghost use Rattle.std.specs.Prelude.{◌≡◌, ℕ, ℤ, List, [], ◌+◌, ◌*◌, ◌≤◌, ◌^◌, ◌==◌, min, true, false, IsTrue, MatchResult, IfOk, length, replicate};
+ghost use Rattle.std.specs.List.{list_any};
+ghost use Rattle.bq_model.specs.declared.cell.Cell.TheVariants as cell;
+ghost use Rattle.bq_model.specs.Query.{is_filter};
+ghost use Rattle.bq_model.specs.Meaning.{Arrival};
+ghost use Rattle.bq_model.specs.Merge.{merged_table};
+ghost use Rattle.bq_model.specs.Numbers.{pages_of, work};
+ghost use Rattle.bq_laws.specs.Growth.{occurs};
+ghost use Rattle.bq_io.specs.Sink.{Writes};
+ghost use Rattle.bq_pool.specs.Extents.{PoolValue, cells_of, IsLive, IsGivenBack};
+ghost use Rattle.bq_answers.specs.Entries.{with_entries, waiting_of, settled};
+ghost use Rattle.bq_executor.specs.Executor.{IsAccepted, IsSound, arrival, cleared, most_answers, parts_in, tuples_in, waiting_in, with_given};
+ghost use Rattle.bq_executor.specs.Standing.{StandsFor, AreKept, IsReady, TookRow, future_in, pool_with};
+ghost use Rattle.bq_executor.specs.Written.{answer_lines};
+
+use crate::arrive::arrive;
+use crate::written::put_waiting;
+use bq_answers::Answers;
+use bq_io::{Sink, Steps, WriteFault};
+use bq_model::{Plan, Query, Row};
+use bq_pool::{Extent, Pool};
+use bq_text::Name;
+use std::alloc::{AllocError, Global};
+use std::marker::Model;
+use std::sync::ledger::Ledger;
+
+/// A live query. Like its extent it cannot be dropped: `close` spends it.
+pub struct Executor {
+    query: Query,
+    plan: Plan,
+    extent: Extent,
+    given: u64,
+    table: Answers,
+}
+
+impl Model for Executor {
+    ghost use Rattle.bq_executor.specs.Executor.{ExecutorValue, IsSound};
+
+    ghost Value = { ExecutorValue };
+
+    ghost view = { λ e. record { query = e.query; plan = e.plan; extent = e.extent; given = e.given; table = e.table } };
+
+    ghost invariant = { λ e. IsSound (record { query = e.query; plan = e.plan; extent = e.extent; given = e.given; table = e.table }) };
+}
+
+// For how many answers a query with this plan has room.
+fn most_answers(plan: &Plan) -> u32
+    ensures { result ≡ most_answers plan.now }
+{
+    match plan {
+        Plan::Filter => 1,
+        Plan::Parts { numbers, .. } => numbers.answers,
+    }
+}
+
+// Leaves nothing that waits; with DISTINCT the tuples stay.
+fn clear(distinct: bool, table: &mut Answers)
+    ensures { table.new ≡ with_entries table.old (cleared distinct table.old.entries) }
+{
+    if distinct {
+        table.settle();
+    } else {
+        table.clear();
+    }
+}
+
+impl Executor {
+    /// The executor of an accepted query, to which no row was given. An error says that memory was not found, and gives
+    /// the extent back; no other call takes any.
+    pub fn new(
+        alloc: Global,
+        query: Query,
+        plan: Plan,
+        extent: Extent,
+    ) -> Result<Executor, (Extent, AllocError)>
+        requires accepted { IsAccepted query plan }
+        requires pages { extent.pages ≡ pages_of plan }
+        ensures value { MatchResult result (λ e. e ≡ record { query = query; plan = plan; extent = extent; given = 0; table = record { width = length query.select; capacity = most_answers plan; entries = [] } }) (λ refused. refused.0 ≡ extent) }
+        ensures history { IfOk result (λ e. (pool : PoolValue) → IsLive pool extent → cells_of pool extent ≡ replicate (64 * extent.pages) cell.Empty → StandsFor e pool []) }
+    {
+        let capacity = most_answers(&plan);
+        let width = query.select().len() as u8;
+        match Answers::new(alloc, capacity, width) {
+            Ok(table) => Ok(Executor {
+                query,
+                plan,
+                extent,
+                given: 0,
+                table,
+            }),
+            Err(error) => Err((extent, error)),
+        }
+    }
+
+    /// Takes a row of any stream of at most 2^40 rows in all. What waited before is given up. The answers that cells and
+    /// table tell come to wait, each at most 2^127 times; the cells become their merge with the row's own; with DISTINCT
+    /// the tuples grow by the answers. Where the executor stood for a history, the new answers wait, and it then stands for
+    /// the history with the row. A filter, and a query that does not name the stream, take no step.
+    pub fn row<L: Ledger>(&mut self, pool: &mut Pool, stream: u8, row: &Row, steps: &mut Steps<L>)
+        requires ready { IsReady self.old pool.old }
+        ensures waits { (t : List ℤ) → waiting_of t self.new.table.entries ≡ min (occurs t (future_in self.old pool.old (arrival stream row.now.items))) (2 ^ 127) }
+        ensures cells { pool.new ≡ pool_with self.old pool.old (arrival stream row.now.items) }
+        ensures tuples { self.old.query.distinct ≡ true → tuples_in self.new ≡ merged_table (tuples_in self.old) (future_in self.old pool.old (arrival stream row.now.items)) }
+        ensures same { self.new ≡ with_given self.old (self.old.given + 1) self.new.table.entries }
+        ensures kept { AreKept self.new pool.new }
+        ensures steps { steps.new ≤ steps.old + 3 * work (parts_in self.old) + 2 * length (parts_in self.old) }
+        ensures alone { IsTrue (is_filter self.old.query) → steps.new ≡ steps.old }
+        ensures outside { list_any (λ s. stream == s) self.old.query.from ≡ false → steps.new ≡ steps.old }
+        ensures history { TookRow self.old pool.old (arrival stream row.now.items) self.new pool.new }
+    {
+        let _ascends = self.table.len();
+        self.given += 1;
+        clear(self.query.distinct(), &mut self.table);
+        arrive(
+            pool,
+            &self.extent,
+            &self.query,
+            &self.plan,
+            stream,
+            row,
+            &mut self.table,
+            steps,
+        );
+    }
+
+    /// Writes a line for each answer that waits, in ascending order. Then nothing waits, also after a fault; all else is as
+    /// before, with DISTINCT the tuples too, so that the executor stands for the history that it stood for.
+    pub fn emit<O: Sink>(&mut self, name: &Name, out: &mut O) -> Result<(), WriteFault>
+        ensures writes { Writes result (O.seen out.old) (O.seen out.new) (answer_lines name.now (waiting_in self.old)) }
+        ensures none { waiting_in self.new ≡ [] }
+        ensures same { self.new ≡ with_given self.old self.old.given (settled self.old.table.entries) }
+        ensures tuples { tuples_in self.new ≡ tuples_in self.old }
+        ensures kept { (pool : PoolValue) → AreKept self.old pool → AreKept self.new pool }
+        ensures history { (pool : PoolValue) (history : List Arrival) → StandsFor self.old pool history → StandsFor self.new pool history }
+    {
+        let written = put_waiting(&self.table, name, out);
+        self.give_up();
+        written
+    }
+
+    /// Gives up what waits: nothing waits then, and all else is as before, with DISTINCT the tuples too.
+    pub fn give_up(&mut self)
+        ensures none { waiting_in self.new ≡ [] }
+        ensures same { self.new ≡ with_given self.old self.old.given (settled self.old.table.entries) }
+        ensures tuples { tuples_in self.new ≡ tuples_in self.old }
+        ensures kept { (pool : PoolValue) → AreKept self.old pool → AreKept self.new pool }
+        ensures history { (pool : PoolValue) (history : List Arrival) → StandsFor self.old pool history → StandsFor self.new pool history }
+    {
+        self.table.settle();
+    }
+
+    /// The query.
+    pub fn query(&self) -> &Query
+        ensures value { result.now ≡ self.now.query }
+        ensures sound { IsSound self.now }
+    {
+        &self.query
+    }
+
+    /// Its plan.
+    pub fn plan(&self) -> &Plan
+        ensures value { result.now ≡ self.now.plan }
+        ensures sound { IsSound self.now }
+    {
+        &self.plan
+    }
+
+    /// Gives the pages of the cells back.
+    pub fn close(self, pool: &mut Pool)
+        requires { IsLive pool.old self.extent }
+        ensures { IsGivenBack pool.old self.extent pool.new }
+    {
+        let Executor {
+            query: _query,
+            plan: _plan,
+            extent,
+            given: _,
+            table: _table,
+        } = self;
+        pool.give_back(extent);
+    }
+}

@@ -1,0 +1,89 @@
+//! What a row does in one part: what the cells answer to it waits in the table, and its own cell takes it.
+ghost use Rattle.std.specs.Prelude.{◌≡◌, ◌<◌, ◌≤◌, ◌+◌, ◌*◌, length};
+ghost use Rattle.bq_model.specs.Meaning.{by_column};
+ghost use Rattle.bq_model.specs.Combinations.{read_from, found_in};
+ghost use Rattle.bq_model.specs.Probing.{found_beside};
+ghost use Rattle.bq_model.specs.Numbers.{share};
+ghost use Rattle.bq_pool.specs.Extents.{cells_of};
+ghost use Rattle.bq_synopsis.specs.Premises.{IsReady};
+ghost use Rattle.bq_synopsis.specs.Remaining.{as_found};
+ghost use Rattle.bq_answers.specs.Entries.{with_entries, Fits};
+ghost use Rattle.bq_executor.specs.Taking.{with_found, with_all, HaveRoom};
+ghost use Rattle.bq_executor.specs.Arriving.{arrives, with_row, CanCount};
+
+use bq_answers::Answers;
+use bq_io::Steps;
+use bq_model::{PartPlan, Query, Row, Tuple};
+use bq_pool::{Extent, Pool};
+use bq_synopsis::{Probe, admits, insert};
+use std::sync::ledger::Ledger;
+
+/// The most times that one answer waits.
+const MOST_TIMES: u128 = 1 << 127;
+
+/// Takes up a tuple that was found: with DISTINCT it waits once, and that only where it has no entry.
+pub fn take_up(distinct: bool, tuple: &Tuple, count: u128, table: &mut Answers)
+    requires width { length tuple.now.items ≡ table.old.width }
+    requires room { Fits tuple.now.items table.old }
+    ensures { table.new ≡ with_entries table.old (with_found distinct (as_found tuple.now.items count) table.old.entries) }
+{
+    if distinct {
+        table.add_new(tuple);
+    } else {
+        table.add_upto(tuple, count, MOST_TIMES);
+    }
+}
+
+// Takes up all that the cells of a part answer to a row that it admits.
+fn answer<L: Ledger>(
+    pool: &Pool,
+    e: &Extent,
+    q: &Query,
+    part: &PartPlan,
+    pos: u8,
+    row: &Row,
+    table: &mut Answers,
+    steps: &mut Steps<L>,
+)
+    requires here { pos < length q.now.from }
+    requires ready { IsReady q.now part.now pool.now e.now }
+    requires room { HaveRoom q.now.distinct (found_beside q.now part.now (read_from (cells_of pool.now e.now)) pos (by_column row.now.items)) table.old }
+    ensures table { table.new ≡ with_entries table.old (with_all q.now.distinct (found_beside q.now part.now (read_from (cells_of pool.now e.now)) pos (by_column row.now.items)) table.old.entries) }
+    ensures steps { steps.new ≤ steps.old + 3 * share part.now }
+{
+    let mut probe = Probe::new(q, part, pos, row);
+    'walk: while let Some(found) = probe.next(pool, e, q, part, steps) {
+        let (tuple, count) = found;
+        take_up(q.distinct(), &tuple, count, table);
+    }
+}
+
+/// Takes a row into one part: all that its cells answer to the row waits in the table; and where the query has several
+/// streams, the row's own cell takes it. A part that does not admit the row does nothing.
+pub fn take_row<L: Ledger>(
+    pool: &mut Pool,
+    e: &Extent,
+    q: &Query,
+    part: &PartPlan,
+    pos: u8,
+    row: &Row,
+    table: &mut Answers,
+    steps: &mut Steps<L>,
+)
+    requires here { pos < length q.now.from }
+    requires ready { IsReady q.now part.now pool.old e.now }
+    requires counts { CanCount part.now (read_from (cells_of pool.old e.now)) }
+    requires room { HaveRoom q.now.distinct (found_in q.now part.now (read_from (cells_of pool.old e.now)) (arrives q.now pos row.now.items)) table.old }
+    ensures table { table.new ≡ with_entries table.old (with_all q.now.distinct (found_in q.now part.now (read_from (cells_of pool.old e.now)) (arrives q.now pos row.now.items)) table.old.entries) }
+    ensures pool { pool.new ≡ with_row q.now part.now pos row.now.items e.now pool.old }
+    ensures steps { steps.new ≤ steps.old + 3 * share part.now + 2 }
+{
+    let streams = q.from().len();
+    if !admits(q, part, pos, row) {
+        return;
+    }
+    answer(pool, e, q, part, pos, row, table, steps);
+    if 1 < streams {
+        insert(pool, e, q, part, pos, row, steps);
+    }
+}

@@ -1,0 +1,16 @@
+pub mod Capping
+pub mod Products
+pub mod Same
+pub mod Once
+pub mod Sharing
+pub mod Unnamed
+pub mod Ranging
+pub mod Naming
+pub mod Tested
+pub mod Wanting
+pub mod Dimming
+pub mod Referring
+pub mod Setting
+pub mod DraftLaws
+pub mod Adding
+pub mod Planning

@@ -1,0 +1,17 @@
+use Rattle.std.proofs.Common.{◌<◌, length, arith}
+use Rattle.bq_model.specs.Query.{attrs_of}
+use Rattle.bq_refs.proofs.Searching.{no_more}
+use Rattle.bq_refs.proofs.Gathered.{not_from}
+use Rattle.bq_layout.specs.Looking.{attr_at}
+use Rattle.bq_layout.specs.Classes.{IsWantedMember}
+use Rattle.bq_layout.proofs.Tested.{no_told}
+use Rattle.bq_layout.proofs.Wanting.{has_told}
+use Rattle.bq_layout.proofs.dims.has_wanted.Goals as goal
+
+pub loop-j-preserved : goal.loop-j-preserved
+loop-j-preserved c =
+    let l : c.loop-j.j < length (attrs_of c.args.q.now.atoms) = omega arith in
+    no_more (IsWantedMember c.args.q.now c.args.p.now.signs.items (attr_at c.args.q.now c.args.i)) (attrs_of c.args.q.now.atoms) c.loop-j.j _ l c.loop-j.invariant (not_from _ c.is_wanted_member.ensures.1 c.if-is_wanted_member.false)
+
+pub returns : goal.returns
+returns c = no_told (has_told c.args.q.now c.args.p.now.signs.items (attr_at c.args.q.now c.args.i) c.attr_count-j-end.result c.loop-j.j c.attr_count-j-end.ensures.value c.loop-j-test.false c.loop-j.invariant)

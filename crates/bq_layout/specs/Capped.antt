@@ -1,0 +1,6 @@
+-- Numbers as 64 bits keep them.
+use Rattle.std.specs.Prelude.{ℕ, ◌-◌, ◌^◌, min}
+
+-- the number, or the greatest of 64 bits where it is above that
+abbrev pub capped : ℕ → ℕ
+capped n = min n (2 ^ 64 - 1)

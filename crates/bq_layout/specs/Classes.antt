@@ -1,0 +1,44 @@
+-- The classes of a stream, by their names: those that are dims, and those of references.
+use Rattle.std.specs.Prelude.{◌≡◌, ℕ, List, [], ◌∷◌, Contains, Option, None, Some}
+use Rattle.bq_model.specs.declared.atom.Attr.{Attr}
+use Rattle.bq_model.specs.declared.part.Sign.{Sign}
+use Rattle.bq_model.specs.declared.plan.Dim.{Dim}
+use Rattle.bq_model.specs.Query.{QueryValue}
+use Rattle.bq_model.specs.Plan.{AreOneClass, NamesClass, IsWanted, IsDim}
+
+-- the second attribute is of the class of the first, and answers read it
+abbrev pub IsWantedMember : QueryValue → List Sign → Attr → Attr → Type 0
+IsWantedMember q s a member = AreOneClass q s a member × IsWanted q s member
+
+-- answers read a member of the class of the attribute
+pub record HasWanted (q : QueryValue) (s : List Sign) (a : Attr) : Type 0 where
+  pub member : Attr
+  pub wanted : IsWantedMember q s a member
+
+-- the attribute names a class of the stream at a place of FROM
+abbrev pub NamesOf : QueryValue → List Sign → ℕ → Attr → Type 0
+NamesOf q s place a = (a.stream ≡ place) × NamesClass q s a
+
+-- the attribute names a class of the stream, and answers read a member of that class
+abbrev pub NamesWanted : QueryValue → List Sign → ℕ → Attr → Type 0
+NamesWanted q s place a = NamesOf q s place a × HasWanted q s a
+
+-- the dim of the stream that the attribute names, or none where it names none
+abbrev pub IsDimAt : QueryValue → List Sign → ℕ → Attr → Option Dim → Type 0
+IsDimAt q s place a None = (d : Dim) → d.attr ≡ a → ¬ IsDim q s place d
+IsDimAt q s place a (Some d) = (d.attr ≡ a) × IsDim q s place d
+
+-- the second list has, for each attribute of the first that names a dim of the stream, that dim, in their order
+pub data AreDimsOf (q : QueryValue) (s : List Sign) (place : ℕ) : List Attr → List Dim → Type 0 where
+  done : AreDimsOf q s place [] []
+  named : {a : Attr} {d : Dim} {attrs : List Attr} {dims : List Dim} → IsDimAt q s place a (Some d) → AreDimsOf q s place attrs dims → AreDimsOf q s place (a ∷ attrs) (d ∷ dims)
+  unnamed : {a : Attr} {attrs : List Attr} {dims : List Dim} → IsDimAt q s place a None → AreDimsOf q s place attrs dims → AreDimsOf q s place (a ∷ attrs) dims
+
+-- the attribute is one of these columns, and names a class of the stream at a place of FROM
+abbrev pub IsNameAmong : QueryValue → List Sign → List Attr → ℕ → Attr → Type 0
+IsNameAmong q s columns place a = NamesOf q s place a × Contains columns a
+
+-- such an attribute, or none where there is none
+abbrev pub IsSomeName : QueryValue → List Sign → List Attr → ℕ → Option Attr → Type 0
+IsSomeName q s columns place None = (a : Attr) → ¬ IsNameAmong q s columns place a
+IsSomeName q s columns place (Some a) = IsNameAmong q s columns place a

@@ -1,0 +1,40 @@
+-- What a layout answers.
+use Rattle.std.specs.Prelude.{◌≡◌, ℕ, IsFalse, List, Result, Ok, Err}
+use Rattle.std.specs.declared.option.Option.TheVariants.{None, Some}
+use Rattle.bq_model.specs.declared.decision.Which.{Which}
+use Rattle.bq_model.specs.declared.plan.Numbers.{Numbers}
+use Rattle.bq_model.specs.declared.plan.PartPlan.{PartPlan}
+use Rattle.bq_model.specs.declared.plan.Plan.{Plan}
+use Rattle.bq_model.specs.declared.plan.Plan.TheVariants as plan
+use Rattle.bq_model.specs.Query.{QueryValue, is_filter}
+use Rattle.bq_model.specs.Plan.{IsPlan}
+use Rattle.bq_model.specs.Numbers.{numbers_of, IsPlanOf}
+use Rattle.bq_model.specs.Verdict.{number_of, first_above}
+use Rattle.bq_layout.specs.declared.error.LayoutError.{LayoutError}
+use Rattle.bq_layout.specs.declared.error.LayoutError.TheVariants as why
+use Rattle.bq_layout.specs.Capped.{capped}
+
+-- no number of the plan is above its limit
+abbrev pub IsWithin : Plan → Type 0
+IsWithin plan.Filter = Unit {0}
+IsWithin (plan.Parts parts numbers) = first_above numbers ≡ None
+
+-- the first number of the query's plan that is above its limit, and that number as 64 bits keep it: a filter has none
+pub record IsOver (q : QueryValue) (which : Which) (value : ℕ) : Type 0 where
+  pub plain : IsFalse (is_filter q)
+  pub parts : List PartPlan
+  pub plan : IsPlan q parts
+  pub first : first_above (numbers_of q parts) ≡ Some which
+  pub kept : value ≡ capped (number_of (numbers_of q parts) which)
+
+-- the plan of the query, where its numbers are within their limits, or the first that is not; a filter has its plan always
+abbrev pub IsLayout : QueryValue → Result Plan LayoutError → Type 0
+IsLayout q (Ok plan) = IsPlanOf q plan × IsWithin plan
+IsLayout q (Err (why.Limit which value)) = IsOver q which value
+IsLayout q (Err why.Memory) = IsFalse (is_filter q)
+
+-- these numbers, where none is above its limit, or the first that is
+abbrev pub IsLimited : Numbers → Result Numbers LayoutError → Type 0
+IsLimited all (Ok numbers) = (numbers ≡ all) × (first_above all ≡ None)
+IsLimited all (Err (why.Limit which value)) = (first_above all ≡ Some which) × (value ≡ number_of all which)
+IsLimited all (Err why.Memory) = ⊥

@@ -1,0 +1,34 @@
+-- The numbers of a part, and of the parts so far, as 64 bits keep them.
+use Rattle.std.specs.Prelude.{◌≡◌, ℕ, ◌<◌, ◌^◌, ℤ, List, map, All}
+use Rattle.std.specs.List.{sum_by}
+use Rattle.bq_model.specs.declared.atom.Attr.{Attr}
+use Rattle.bq_model.specs.declared.part.Sign.{Sign}
+use Rattle.bq_model.specs.declared.plan.Dim.{Dim}
+use Rattle.bq_model.specs.Query.{QueryValue}
+use Rattle.bq_model.specs.Order.{IsLeast, IsGreatest}
+use Rattle.bq_model.specs.Boxes.{range_size, box_size}
+use Rattle.bq_model.specs.Numbers.{answer_bound, work}
+use Rattle.bq_layout.specs.declared.drafting.Draft.{Draft}
+use Rattle.bq_layout.specs.Capped.{capped}
+use Rattle.bq_layout.specs.Boxed.{cells_for, boxed}
+use Rattle.bq_layout.specs.Drafts.{IsDraft}
+
+-- how many values a column has in a part, if it has a least and a greatest
+pub record IsSizeOf (q : QueryValue) (s : List Sign) (a : Attr) (size : ℕ) : Type 0 where
+  pub of : (lo hi : ℤ) → IsLeast q s a lo → IsGreatest q s a hi → size ≡ capped (range_size lo hi)
+
+-- the least and the greatest value of a column in a part
+abbrev pub IsRangeOf : QueryValue → List Sign → (Attr → Dim) → Attr → Type 0
+IsRangeOf q s range a = IsLeast q s a (range a).lo × IsGreatest q s a (range a).hi
+
+-- how many tuples lie in the ranges of the columns
+pub record AreSizesOf (q : QueryValue) (s : List Sign) (columns : List Attr) (size : ℕ) : Type 0 where
+  pub of : (range : Attr → Dim) → All (IsRangeOf q s range) columns → size ≡ capped (box_size (map range columns))
+
+-- drafts of plans, with the numbers that they come to; where the cells are few enough, the boxes are set from number 0 on
+pub record AreDrafted (q : QueryValue) (draft : Draft) : Type 0 where
+  pub drafts : All (IsDraft q) draft.parts.items
+  pub cells : draft.cells ≡ capped (sum_by (cells_for q) draft.parts.items)
+  pub boxes : draft.cells < 2 ^ 32 → boxed q 0 draft.parts.items ≡ draft.parts.items
+  pub answers : draft.answers ≡ capped (answer_bound q draft.parts.items)
+  pub work : draft.work ≡ capped (work draft.parts.items)

@@ -1,0 +1,22 @@
+//! The plan that an accepted query is given, with its numbers.
+//!
+//! For each part, `refs` tells the ranges, the classes, the links and the references. From these come the dims and the
+//! kind of each stream, its number of cells, and what the part adds to the answers and to the work. The numbers are kept
+//! as far as 64 bits go, so that each is known to the end even where it is far above its limit.
+#![tactic(auto)]
+
+mod classes;
+mod dims;
+mod drafting;
+mod error;
+mod kinds;
+mod laying;
+mod limits;
+mod looking;
+mod ranges;
+mod selecting;
+mod shares;
+mod sizes;
+
+pub use error::LayoutError;
+pub use laying::layout;
