@@ -1,18 +1,20 @@
 //! What the analysis says of the lines of its input, for the worked cases beside it: one line of output for each.
 //!
 //! A line is a letter, a space and a text. `c` creates the stream of a statement, `p` asks for the number of ordered parts of the
-//! query of a statement, `r` for what is told of each of them, and `b` for what difference bounds imply: the text has the number of
+//! query of a statement, `r` for what is told of each of them, `n` for the numbers of its plan, and `b` for what difference bounds imply: the text has the number of
 //! nodes, and then left node, right node and bound of each constraint, all behind one another with commas between.
 #![tactic(auto)]
 
 mod bounds;
 mod fault;
 mod links;
+mod numbers;
 mod parts;
 
 use crate::bounds::show_bounds;
 use crate::fault::Fault;
 use crate::links::show_refs;
+use crate::numbers::show_planned;
 use crate::parts::{show_parts, show_stream};
 use bq_io::{Sink, StdSink, write_all};
 use bq_schema::Catalog;
@@ -31,6 +33,7 @@ fn show<O: Sink>(
         [b'c', b' ', text @ ..] => show_stream(alloc, catalog, text, out)?,
         [b'p', b' ', text @ ..] => show_parts(alloc, catalog, text, out)?,
         [b'r', b' ', text @ ..] => show_refs(alloc, catalog, text, out)?,
+        [b'n', b' ', text @ ..] => show_planned(alloc, catalog, text, out)?,
         [b'b', b' ', text @ ..] => show_bounds(alloc, text, out)?,
         _ => return Err(Fault::Line),
     }

@@ -1,0 +1,141 @@
+//! The numbers of the plans of queries.
+ghost use Rattle.std.specs.Prelude.{◌≡◌, ◌≤◌, None, length};
+ghost use Rattle.bq_model.specs.Parts.{AreParts};
+ghost use Rattle.bq_model.specs.Violation.{IsViolation};
+ghost use Rattle.bq_parser.specs.Grammar.{IsWhole};
+ghost use Rattle.bq_parser.specs.Limits.{limit_of};
+ghost use Rattle.bq_parser.specs.Resolution.{IsTaken};
+ghost use Rattle.bq_lto_split.specs.Split.{sign_lists};
+
+use crate::fault::Fault;
+use bq_decide::decide;
+use bq_io::{Sink, write_all};
+use bq_layout::{LayoutError, layout};
+use bq_lto_split::{SplitError, split};
+use bq_model::{Decision, Numbers, Part, Plan, Query, Which};
+use bq_parser::{SelectAst, Statement, parse, resolve};
+use bq_schema::Catalog;
+use std::alloc::Global;
+
+fn show_numbers<O: Sink>(alloc: Global, numbers: Numbers, out: &mut O) -> Result<(), Fault> {
+    let Numbers {
+        parts,
+        cells,
+        answers,
+        work,
+    } = numbers;
+    let text = format!(in alloc; "parts {parts} cells {cells} answers {answers} work {work}")?;
+    write_all(out, text.as_bytes())?;
+    Ok(())
+}
+
+// The number that is above its limit.
+fn show_limit<O: Sink>(alloc: Global, which: Which, value: u64, out: &mut O) -> Result<(), Fault> {
+    let name = match which {
+        Which::Parts => "parts",
+        Which::Cells => "cells",
+        Which::Answers => "answers",
+        Which::Work => "work",
+    };
+    let text = format!(in alloc; "too many {name}: {value}")?;
+    write_all(out, text.as_bytes())?;
+    Ok(())
+}
+
+// The plan of a query that meets all conditions.
+fn show_layout<O: Sink>(
+    alloc: Global,
+    query: &Query,
+    parts: &[Part],
+    out: &mut O,
+) -> Result<(), Fault>
+    requires parts { AreParts query.now (sign_lists parts.now) }
+    requires few { length parts.now ≤ 4096 }
+    requires bounded { IsViolation query.now None }
+{
+    match layout(alloc, query, parts) {
+        Ok(Plan::Filter) => write_all(out, b"filter")?,
+        Ok(
+            Plan::Parts {
+                parts: _plans,
+                numbers,
+            },
+        ) => show_numbers(alloc, numbers, out)?,
+        Err(LayoutError::Limit { which, value }) => show_limit(alloc, which, value, out)?,
+        Err(LayoutError::Memory) => return Err(Fault::Memory),
+    }
+    Ok(())
+}
+
+// The plan of a query, where it meets all conditions.
+fn show_decided<O: Sink>(
+    alloc: Global,
+    query: &Query,
+    parts: &[Part],
+    out: &mut O,
+) -> Result<(), Fault>
+    requires parts { AreParts query.now (sign_lists parts.now) }
+    requires few { length parts.now ≤ 4096 }
+{
+    match decide(query, parts) {
+        Decision::Bounded => show_layout(alloc, query, parts, out),
+        Decision::Violation { .. } => {
+            write_all(out, b"violation")?;
+            Ok(())
+        }
+    }
+}
+
+// The plan of a query, where it has few enough parts.
+fn show_plan<O: Sink>(
+    alloc: Global,
+    catalog: &Catalog,
+    select: &SelectAst,
+    out: &mut O,
+) -> Result<(), Fault>
+    requires { IsTaken select.now }
+{
+    let Ok(query) = resolve(select, catalog) else {
+        return Err(Fault::Line);
+    };
+    match split(alloc, &query) {
+        Ok(parts) => show_decided(alloc, &query, &parts, out),
+        Err(SplitError::TooManyParts) => {
+            write_all(out, b"too many parts")?;
+            Ok(())
+        }
+        Err(SplitError::Memory) => Err(Fault::Memory),
+    }
+}
+
+// The plan of the query of a statement.
+fn show_asked<O: Sink>(
+    alloc: Global,
+    catalog: &Catalog,
+    statement: Statement,
+    out: &mut O,
+) -> Result<(), Fault>
+    requires whole { IsWhole statement }
+    requires limits { limit_of statement ≡ None }
+{
+    match statement {
+        Statement::CreateQuery { name: _, select } => show_plan(alloc, catalog, &select, out),
+        _ => Err(Fault::Line),
+    }
+}
+
+/// The numbers of the plan of the query of a CREATE QUERY statement, or the first that is above its limit.
+pub fn show_planned<O: Sink>(
+    alloc: Global,
+    catalog: &Catalog,
+    text: &[u8],
+    out: &mut O,
+) -> Result<(), Fault> {
+    if text.len() > 1024 {
+        return Err(Fault::Line);
+    }
+    match parse(text) {
+        Ok(statement) => show_asked(alloc, catalog, statement, out),
+        Err(_) => Err(Fault::Line),
+    }
+}
