@@ -1,2 +1,9 @@
+pub mod Beside
+pub mod InTurn
+pub mod InWriting
 pub mod FewParts
-pub mod RowTaken
+pub mod Verdicts
+pub mod Admitting
+pub mod Whole
+pub mod Telling
+pub mod Creating

@@ -1,32 +1,84 @@
 -- What CREATE QUERY comes to.
-use Rattle.std.specs.Prelude.{◌≡◌, ℕ, List, [], ◌∷◌, ◌++◌, IsTrue, IsFalse, ⊤}
+use Rattle.std.specs.Prelude.{◌≡◌, ℕ, ◌+◌, ◌<◌, List, [], ◌∷◌, ◌++◌, length, IsFalse, IfSome, ⊤}
+use Rattle.std.specs.declared.option.Option.{Option}
 use Rattle.std.specs.declared.option.Option.TheVariants.{None, Some}
 use Rattle.std.specs.declared.result.Result.{Result}
 use Rattle.std.specs.declared.result.Result.TheVariants.{Ok, Err}
+use Rattle.bq_model.specs.declared.decision.Which.{Which}
 use Rattle.bq_model.specs.declared.decision.Which.TheVariants.{Parts}
+use Rattle.bq_model.specs.declared.plan.Plan.{Plan}
+use Rattle.bq_model.specs.declared.plan.Plan.TheVariants as plans
 use Rattle.bq_model.specs.Query.{QueryValue, is_filter}
 use Rattle.bq_model.specs.Parts.{HasMoreParts}
 use Rattle.bq_model.specs.Violation.{IsViolation}
-use Rattle.bq_model.specs.Verdict.{most}
+use Rattle.bq_model.specs.Verdict as model
+use Rattle.bq_model.specs.Verdict.{most, IsVerdict}
+use Rattle.bq_layout.specs.Layout.{IsOver}
+use Rattle.bq_executor.specs.Executor.{IsAccepted}
 use Rattle.bq_registry.specs.declared.refusal.CreateError.{CreateError}
 use Rattle.bq_registry.specs.declared.refusal.CreateError.TheVariants as refusals
 use Rattle.bq_registry.specs.declared.verdict.Verdict.{Verdict}
 use Rattle.bq_registry.specs.declared.verdict.Verdict.TheVariants as verdicts
 use Rattle.bq_registry.specs.Live.{LiveQuery, newly}
-use Rattle.bq_registry.specs.Registry.{RegistryValue, StandsFor, IsQuiet}
+use Rattle.bq_registry.specs.Registry.{RegistryValue, StandsFor, IsQuiet, GivenUpto}
 
--- The verdict on a query, by the first that applies: it is a filter; it has too many parts; it violates a condition. What meets
--- all conditions is not built so far. Want of memory is free.
-abbrev pub IsJudged : QueryValue → Result Verdict CreateError → Type 0
-IsJudged q (Ok verdicts.Filter) = IsTrue (is_filter q)
-IsJudged q (Err (refusals.Limit which value limit)) =
-    IsFalse (is_filter q) × HasMoreParts q (most Parts) × (which ≡ Parts) × (value ≡ 4097) × (limit ≡ 4096)
+-- a number of the query that is above its limit: there are too many parts, or else it is the first that its plan has
+pub data IsTooLarge (q : QueryValue) (which : Which) (value : ℕ) : Type 0 where
+  many : IsFalse (is_filter q) → HasMoreParts q (most Parts) → which ≡ Parts → value ≡ 4097 → IsTooLarge q which value
+  large : ¬ HasMoreParts q (most Parts) → IsViolation q None → IsOver q which value → IsTooLarge q which value
+
+-- the plan of a query that is accepted if its pages are free; or why it is refused, whatever pages are free
+abbrev pub IsJudged : QueryValue → Result Plan CreateError → Type 0
+IsJudged q (Ok plan) = IsAccepted q plan × (IsFalse (is_filter q) → ¬ HasMoreParts q (most Parts))
+IsJudged q (Err (refusals.Limit which value limit)) = IsTooLarge q which value × (limit ≡ most which)
 IsJudged q (Err (refusals.Violation part condition attr)) =
     IsFalse (is_filter q) × (¬ HasMoreParts q (most Parts)) × IsViolation q (Some record { part = part; condition = condition; attr = attr })
-IsJudged q (Err refusals.Unbuilt) = IsFalse (is_filter q) × (¬ HasMoreParts q (most Parts)) × IsViolation q None
+IsJudged q (Err (refusals.Pool needed free)) = ⊥
 IsJudged q (Err refusals.Memory) = ⊤
 
--- What `create` does. A query that is accepted is the last of the live ones, with no history; else all is as before.
+-- how a query with this plan runs
+abbrev pub verdict_of : Plan → Verdict
+verdict_of plans.Filter = verdicts.Filter
+verdict_of (plans.Parts parts numbers) = verdicts.Accepted numbers
+
+-- the verdict that an answer tells; want of memory tells none
+abbrev pub told : Result Verdict CreateError → Option model.Verdict
+told (Ok verdicts.Filter) = Some model.filter
+told (Ok (verdicts.Accepted numbers)) = Some (model.accepted numbers)
+told (Err (refusals.Violation part condition attr)) = Some (model.violation record { part = part; condition = condition; attr = attr })
+told (Err (refusals.Limit which value limit)) = Some (model.limit which)
+told (Err (refusals.Pool needed free)) = Some model.pool
+told (Err refusals.Memory) = None
+
+-- what an answer tells is the verdict
+abbrev pub TellsVerdict : QueryValue → ℕ → Result Verdict CreateError → Type 0
+TellsVerdict q free result = IfSome (told result) (IsVerdict q free)
+
+-- what a refusal carries: the violation; the number that is too large and its limit; how many pages are needed and how many are free
+abbrev pub CarriesWhy : QueryValue → ℕ → Result Verdict CreateError → Type 0
+CarriesWhy q available (Ok verdict) = ⊤
+CarriesWhy q available (Err (refusals.Violation part condition attr)) = IsViolation q (Some record { part = part; condition = condition; attr = attr })
+CarriesWhy q available (Err (refusals.Limit which value limit)) = IsTooLarge q which value × (limit ≡ most which)
+CarriesWhy q available (Err (refusals.Pool needed free)) = (available < needed) × (free ≡ available)
+CarriesWhy q available (Err refusals.Memory) = ⊤
+
+-- the query is live, the last in order of creation, with its plan and no history; the other live queries are as before
+pub record Registered (old : RegistryValue) (name : List ℕ) (q : QueryValue) (verdict : Verdict) (new : RegistryValue) : Type 0 where
+  pub plan : Plan
+  pub accepted : IsAccepted q plan
+  pub told : verdict ≡ verdict_of plan
+  pub stands : (queries : List LiveQuery) → StandsFor old queries → StandsFor new (queries ++ newly name q plan ∷ [])
+  pub quiet : IsQuiet old → IsQuiet new
+  pub given : (n : ℕ) → GivenUpto n old → GivenUpto n new
+  pub size : length new.live ≡ length old.live + 1
+
+-- the registry stands for what it stood for, and as many pages are free
+pub record IsUnchanged (old new : RegistryValue) : Type 0 where
+  pub live : new.live ≡ old.live
+  pub free : new.pool.free ≡ old.pool.free
+  pub stands : (queries : List LiveQuery) → StandsFor old queries → StandsFor new queries
+
+-- What `create` does: a query that is accepted is live, and on a refusal all is as before.
 abbrev pub Creates : RegistryValue → List ℕ → QueryValue → Result Verdict CreateError → RegistryValue → Type 0
-Creates old name q (Ok verdict) new = (queries : List LiveQuery) → StandsFor old queries → IsQuiet old → StandsFor new (queries ++ newly name q ∷ []) × IsQuiet new
-Creates old name q (Err refusal) new = new ≡ old
+Creates old name q (Ok verdict) new = Registered old name q verdict new
+Creates old name q (Err refusal) new = IsUnchanged old new

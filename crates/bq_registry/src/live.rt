@@ -1,10 +1,9 @@
 //! A live query.
-use bq_model::Query;
+use bq_executor::Executor;
 use bq_text::Name;
 
-/// A live query and its name.
-#[derive(Drop)]
+/// A live query: its name, and what runs it. Its pages have to be given back, so it cannot be dropped.
 pub struct Live {
     pub name: Name,
-    pub query: Query,
+    pub executor: Executor,
 }

@@ -1,136 +1,199 @@
 //! The registry.
-ghost use Rattle.std.specs.Prelude.{◌≡◌, List, [], ◌<◌, length, map, option_map, is_some, IfOk};
+ghost use Rattle.std.specs.Prelude.{◌≡◌, ◌<◌, ◌≤◌, ◌+◌, ◌^◌, List, ℕ, [], All, length, map, is_some, IfOk, IsTrue, slice_index_or};
 ghost use Rattle.std.specs.List.{flat_map, position, list_any};
 ghost use Rattle.std.specs.Str.{bytes_eq};
 ghost use Rattle.bq_io.specs.Sink.{Writes};
-ghost use Rattle.bq_registry.specs.Registry.{waiting_text, answer_of};
+ghost use Rattle.bq_executor.specs.Executor.{arrival};
+ghost use Rattle.bq_registry.specs.Live.{LiveQuery, with_row, without, free_pages};
+ghost use Rattle.bq_registry.specs.Registry.{IsSound, waiting_text, most_steps};
 
+use crate::admission::{admit, drop_at};
 use crate::live::Live;
 use crate::refusal::CreateError;
+use crate::taking::take_all;
 use crate::verdict::{Verdict, judge};
+use crate::writing::write_all;
 use bq_io::{Sink, Steps, WriteFault};
-use bq_model::{Query, Row, Tuple};
-use bq_text::{Name, put_tuple};
+use bq_model::{Plan, Query, Row};
+use bq_pool::Pool;
+use bq_text::Name;
 use std::alloc::{AllocError, Global};
 use std::marker::Model;
 use std::sync::ledger::Ledger;
 
-/// The live queries, of which there is at most one so far, and the answers that wait to be written.
-#[derive(Drop)]
+/// The pages of the pool.
+const PAGES: u16 = 16_384;
+
+/// The live queries in order of creation, at most 64, and the pool of all their cells. It cannot be dropped; `close` ends it.
 pub struct Registry {
     alloc: Global,
-    live: Option<Live>,
-    waiting: Option<Tuple>,
+    pool: Pool,
+    live: Vec<Live>,
 }
 
 impl Model for Registry {
-    ghost use Rattle.std.specs.Prelude.{option_map};
-    ghost use Rattle.std.specs.Option.{option_to_list};
-    ghost use Rattle.bq_registry.specs.Registry.{RegistryValue, AreFilters, kept_of};
+    ghost use Rattle.bq_registry.specs.Registry.{RegistryValue, IsSound};
 
     ghost Value = { RegistryValue };
 
-    ghost view = { λ r. kept_of r.live (option_map (λ t. t.items) r.waiting) };
+    ghost view = { λ r. record { pool = r.pool; live = r.live.items } };
 
-    ghost invariant = { λ r. AreFilters (option_to_list r.live) };
+    ghost invariant = { λ r. IsSound r.pool r.live.items };
+}
+
+// Gives back the pages of all live queries.
+fn close_all(pool: Pool, live: Vec<Live>)
+    requires { IsSound pool live.items }
+{
+    let mut pool = pool;
+    let mut live = live;
+    'closing: while !live.is_empty() {
+        drop_at(&mut pool, &mut live, 0);
+    }
+    live.destroy_empty();
+}
+
+// The place of the live query of a name.
+fn place_of(live: &[Live], name: &Name) -> Option<usize>
+    ensures place { result ≡ position (λ l. bytes_eq l.name name.now) live.now }
+{
+    live.iter().position(|l| l.name == *name)
+}
+
+// Whether a live query has a name.
+fn has_name(live: &[Live], name: &Name) -> bool
+    ensures { result ≡ list_any (λ l. bytes_eq l.name name.now) live.now }
+{
+    live.iter().any(|l| l.name == *name)
 }
 
 impl Registry {
-    ghost use Rattle.bq_registry.specs.Live.{LiveQuery, with_row};
-    ghost use Rattle.bq_registry.specs.Registry.{StandsFor, IsQuiet, waiting_for};
-    ghost use Rattle.bq_registry.specs.Judged.{IsJudged, Creates};
+    ghost use Rattle.bq_registry.specs.Registry.{StandsFor, IsQuiet, GivenUpto, Wait};
+    ghost use Rattle.bq_registry.specs.Judged.{TellsVerdict, CarriesWhy, Creates};
 
     /// The most live queries.
-    pub const MOST_QUERIES: usize = 1;
+    pub const MOST_QUERIES: usize = 64;
 
-    /// A registry with no live query.
+    /// A registry with no live query and a pool of 16,384 pages, all of them free.
     pub fn new(alloc: Global) -> Result<Registry, AllocError>
-        ensures { IfOk result (λ r. StandsFor r [] × IsQuiet r) }
+        ensures stands { IfOk result (λ r. StandsFor r []) }
+        ensures none { IfOk result (λ r. r.live ≡ []) }
+        ensures free { IfOk result (λ r. r.pool.free ≡ 16384) }
     {
-        Ok(Registry {
-            alloc,
-            live: None,
-            waiting: None,
-        })
+        let pool = Pool::new(alloc, PAGES)?;
+        let live = Vec::with_capacity(alloc, Registry::MOST_QUERIES)?;
+        Ok(Registry { alloc, pool, live })
     }
 
     /// The number of live queries.
     pub fn len(&self) -> usize
-        ensures { result ≡ length self.now.live }
+        ensures value { result ≡ length self.now.live }
+        ensures few { result ≤ 64 }
     {
-        match &self.live {
-            Some(_) => 1,
-            None => 0,
-        }
+        self.live.len()
+    }
+
+    /// The number of free pages: all but those of the live queries.
+    pub fn free(&self) -> u32
+        ensures free { result ≡ self.now.pool.free }
+    {
+        self.pool.free()
     }
 
     /// The place of the live query of this name, in order of creation from 0.
     pub fn find(&self, name: &Name) -> Option<usize>
         ensures place { result ≡ position (λ l. bytes_eq l.name name.now) self.now.live }
-        ensures known { is_some result ≡ list_any (λ l. bytes_eq l.name name.now) self.now.live }
     {
-        match &self.live {
-            Some(live) => { if live.name == *name { Some(0) } else { None } }
-            None => None,
-        }
+        place_of(&self.live, name)
     }
 
-    /// Registers a query under a name, or says why it is refused: the first of filter, too many parts and a violated
-    /// condition that applies. On a refusal all is as before.
+    /// Whether a live query has this name.
+    pub fn has(&self, name: &Name) -> bool
+        ensures { result ≡ list_any (λ l. bytes_eq l.name name.now) self.now.live }
+    {
+        has_name(&self.live, name)
+    }
+
+    /// The live query at a place.
+    pub fn query(&self, place: usize) -> &Query
+        requires { place < length self.now.live }
+        ensures { (d : Live) → result.now ≡ (slice_index_or self.now.live place d).executor.query }
+    {
+        self.live[place].executor.query()
+    }
+
+    /// The plan of the live query at a place.
+    pub fn plan(&self, place: usize) -> &Plan
+        requires { place < length self.now.live }
+        ensures { (d : Live) → result.now ≡ (slice_index_or self.now.live place d).executor.plan }
+    {
+        self.live[place].executor.plan()
+    }
+
+    /// Takes a query among the live ones, or says why it is refused: the verdict with the pages that are free. On a refusal,
+    /// and for want of memory, all is as before.
     pub fn create(&mut self, name: Name, query: Query) -> Result<Verdict, CreateError>
-        requires { length self.old.live < 1 }
-        ensures judged { IsJudged query result }
+        requires { length self.old.live < 64 }
+        ensures verdict { (queries : List LiveQuery) → StandsFor self.old queries → TellsVerdict query (free_pages queries) result }
+        ensures why { CarriesWhy query self.old.pool.free result }
         ensures creates { Creates self.old name query result self.new }
     {
         match judge(self.alloc, &query) {
-            Ok(verdict) => {
-                self.live = Some(Live { name, query });
-                self.waiting = None;
-                Ok(verdict)
-            }
-            Err(refusal) => Err(refusal),
+            Ok(plan) => admit(
+                self.alloc,
+                &mut self.pool,
+                &mut self.live,
+                name,
+                query,
+                plan,
+            ),
+            Err(why) => Err(why),
         }
     }
 
-    /// Takes a row of a stream: each live query has then its new answers waiting, and what waited before is given up. This
-    /// takes no memory and no step.
+    /// Takes a row of a stream: of each live query the new answers by its own history wait then, and what waited before is
+    /// given up. This takes no memory.
     pub fn row<L: Ledger>(&mut self, stream: u8, row: &Row, steps: &mut Steps<L>)
-        ensures stands { (queries : List LiveQuery) → StandsFor self.old queries
-            → StandsFor self.new (map (with_row (record { stream = stream; values = row.now.items })) queries) }
-        ensures waits { (queries : List LiveQuery) → StandsFor self.old queries
-            → self.new.waiting ≡ map (waiting_for (record { stream = stream; values = row.now.items })) queries }
-        ensures steps { steps.new ≡ steps.old }
+        requires { All (λ l. l.executor.given < 2 ^ 40) self.old.live }
+        ensures stands { (queries : List LiveQuery) → StandsFor self.old queries → StandsFor self.new (map (with_row (arrival stream row.now.items)) queries) }
+        ensures waits { (queries : List LiveQuery) → StandsFor self.old queries → Wait self.new.live queries (arrival stream row.now.items) }
+        ensures given { (n : ℕ) → GivenUpto n self.old → GivenUpto (n + 1) self.new }
+        ensures steps { steps.new ≤ steps.old + most_steps self.old.live }
     {
-        let _steps = &*steps;
-        self.waiting = answer_of(&self.live, stream, row);
+        take_all(&mut self.pool, &mut self.live, stream, row, steps);
     }
 
-    /// Writes what waits, query by query in order of creation. Afterwards nothing waits, on a fault too.
+    /// Writes what waits, query by query in order of creation. Afterwards nothing waits, on a fault too, and the registry stands
+    /// for what it stood for.
     pub fn emit<O: Sink>(&mut self, out: &mut O) -> Result<(), WriteFault>
-        ensures written { Writes result (O.seen out.old) (O.seen out.new) (flat_map waiting_text self.old.waiting) }
+        ensures written { Writes result (O.seen out.old) (O.seen out.new) (flat_map waiting_text self.old.live) }
         ensures quiet { IsQuiet self.new }
-        ensures live { self.new.live ≡ self.old.live }
+        ensures stands { (queries : List LiveQuery) → StandsFor self.old queries → StandsFor self.new queries }
+        ensures given { (n : ℕ) → GivenUpto n self.old → GivenUpto n self.new }
     {
-        let waiting = self.waiting.take();
-        match &self.live {
-            Some(live) => match waiting {
-                Some(tuple) => put_tuple(out, &live.name, tuple.as_slice()),
-                None => Ok(()),
-            },
-            None => Ok(()),
+        write_all(&mut self.live, out)
+    }
+
+    /// Takes the live query of a name out of the live ones. Its pages are free, and the others are as before.
+    pub fn drop_query(&mut self, name: &Name)
+        requires { IsTrue (list_any (λ l. bytes_eq l.name name.now) self.old.live) }
+        ensures stands { (queries : List LiveQuery) → StandsFor self.old queries → StandsFor self.new (without name.now queries) }
+        ensures quiet { IsQuiet self.old → IsQuiet self.new }
+        ensures given { (n : ℕ) → GivenUpto n self.old → GivenUpto n self.new }
+    {
+        match place_of(&self.live, name) {
+            Some(place) => drop_at(&mut self.pool, &mut self.live, place),
+            None => {}
         }
     }
 
-    /// Ends the registry.
-    pub fn close(self) {}
-}
-
-// What the live query answers to a row, where there is one.
-fn answer_of(live: &Option<Live>, stream: u8, row: &Row) -> Option<Tuple>
-    ensures { option_map (λ t. t.items) result ≡ answer_of live.now (record { stream = stream; values = row.now.items }) }
-{
-    match live {
-        Some(live) => live.query.filter(stream, row),
-        None => None,
+    /// Gives all pages back and ends the registry.
+    pub fn close(self) {
+        let Registry {
+            alloc: _,
+            pool,
+            live,
+        } = self;
+        close_all(pool, live);
     }
 }

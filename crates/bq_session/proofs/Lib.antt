@@ -1,4 +1,5 @@
 pub mod Deciding
+pub mod Grouped
 pub mod LineRuns
 pub mod OneAnswer
 pub mod Refused

@@ -2,9 +2,8 @@
 use Rattle.std.proofs.Common.{◌≡◌, ℕ, ◌+◌, List, [], ◌∷◌, ◌++◌, refl, sym, ap, ◌∙◌, append_assoc, append-nil}
 use Rattle.bq_text.specs.Lines.{lines}
 use Rattle.bq_text.proofs.LinesInPieces.{cuts_at_line_end}
-use Rattle.bq_model.specs.Verdict as verdicts
-use Rattle.bq_session.specs.Request.{silent, created, asked, taken, refused}
-use Rattle.bq_session.specs.Answer.{Answer, plain, decided}
+use Rattle.bq_session.specs.Request.{silent, created, asked, dropped, taken, refused}
+use Rattle.bq_session.specs.Answer.{Answer, plain, registered, decided}
 use Rattle.bq_session.specs.State.{State, empty, next_of, after}
 use Rattle.bq_session.specs.Answers.{IsAnswer}
 use Rattle.bq_session.specs.Replies.{reply_to, replies, AreAnswers}
@@ -46,13 +45,11 @@ pub next_of-lines : (s : State) (a : Answer) → (next_of s a).lines ≡ s.lines
 next_of-lines s (plain silent) = refl
 next_of-lines s (plain (created name columns)) = refl
 next_of-lines s (plain (asked name query)) = refl
+next_of-lines s (plain (dropped name)) = refl
 next_of-lines s (plain (taken stream row)) = refl
 next_of-lines s (plain (refused word)) = refl
-next_of-lines s (decided name query verdicts.filter) = refl
-next_of-lines s (decided name query (verdicts.violation f)) = refl
-next_of-lines s (decided name query (verdicts.limit which)) = refl
-next_of-lines s (decided name query verdicts.pool) = refl
-next_of-lines s (decided name query (verdicts.accepted numbers)) = refl
+next_of-lines s (registered name query plan) = refl
+next_of-lines s (decided name query verdict) = refl
 
 pub answers_piece_by_piece : AnswersPieceByPiece
 answers_piece_by_piece limit front rest answers others p q = record {

@@ -1,5 +1,5 @@
 -- A line asks for one thing, and comes to one answer.
-use Rattle.std.proofs.Common.{◌≡◌, ℕ, Bool, List, [], ◌∷◌, refl, sym, ap, ◌∙◌, Some, None, IsTrue, IsFalse, arith, subst}
+use Rattle.std.proofs.Common.{◌≡◌, ℕ, Bool, false, List, [], ◌∷◌, refl, sym, ap, ◌∙◌, Some, None, IsTrue, IsFalse, arith, subst}
 use Rattle.bq_text.specs.Lines.{lines}
 use Rattle.bq_schema.specs.Streams.{Shape}
 use Rattle.bq_parser.specs.declared.line.LineKind.{LineKind}
@@ -12,11 +12,19 @@ use Rattle.bq_parser.proofs.ReadBack.{one_statement}
 use Rattle.bq_model.specs.Query.{QueryValue}
 use Rattle.bq_model.specs.Violation.{Failure, IsViolation}
 use Rattle.bq_model.specs.Verdict as verdicts
-use Rattle.bq_model.proofs.Violation.{one_violation}
-use Rattle.bq_session.specs.Request.{Request, silent, created, asked, taken, refused}
+use Rattle.bq_model.specs.declared.decision.Which.TheVariants.{Parts}
+use Rattle.bq_model.specs.declared.plan.Numbers.{Numbers}
+use Rattle.bq_model.specs.declared.plan.Plan.{Plan}
+use Rattle.bq_model.specs.declared.plan.Plan.TheVariants as plans
+use Rattle.bq_model.specs.Numbers.{IsPlanOf, numbers_of}
+use Rattle.bq_model.specs.Verdict.{Verdict, IsVerdict, of_filter, of_many_parts, of_violation, of_plan}
+use Rattle.bq_laws.proofs.OnePlan.{one-plan}
+use Rattle.bq_laws.proofs.Verdicts.{has-one-verdict}
+use Rattle.bq_registry.specs.Live.{free_pages}
+use Rattle.bq_session.specs.Request.{Request, silent, created, asked, dropped, taken, refused}
 use Rattle.bq_session.specs.Requests.{statement_request, IsStatementRequest, outside, limited, stated, IsTextRequest, IsRequest, too_long, fits}
-use Rattle.bq_session.specs.Answer.{Answer, decided}
-use Rattle.bq_session.specs.Answers.{IsDecided, of_filter, of_many_parts, of_violation, unbuilt, Settles, IsAnswer}
+use Rattle.bq_session.specs.Answer.{Answer, registered, decided}
+use Rattle.bq_session.specs.Answers.{IsDecided, accepted, rejected, acceptance, is_refusal, Settles, IsAnswer}
 use Rattle.bq_session.specs.State.{State, empty, next_of}
 use Rattle.bq_session.specs.Replies.{replies, AreAnswers}
 use Rattle.bq_session.specs.Laws.{HasOneText}
@@ -54,43 +62,58 @@ one_request s line a b (fits m p) (fits n q) = one_of_text s (kind_of_line (stri
 both : {b : Bool} → IsTrue b → IsFalse b → ⊥
 both {b} t f = cc
 
--- two violations are one
-same_failure : (q : QueryValue) (f g : Failure) → IsViolation q (Some f) → IsViolation q (Some g) → f ≡ g
-same_failure q f g v w = let e : Some f ≡ Some g = one_violation q (Some f) (Some g) v w in cc
+no_refusal : (v w : Verdict) → v ≡ w → is_refusal v ≡ false → IsTrue (is_refusal w) → ⊥
+no_refusal v w e f t = cc
 
--- there is a violation or none
-some_or_none : (q : QueryValue) (f : Failure) → IsViolation q (Some f) → IsViolation q None → ⊥
-some_or_none q f v w = let e : Some f ≡ None = one_violation q (Some f) None v w in cc
+not_filter : (n : Numbers) → verdicts.accepted n ≡ verdicts.filter → ⊥
+not_filter n e = cc
+
+not_limit : (n : Numbers) → verdicts.accepted n ≡ verdicts.limit Parts → ⊥
+not_limit n e = cc
+
+not_violation : (n : Numbers) (w : Failure) → verdicts.accepted n ≡ verdicts.violation w → ⊥
+not_violation n w e = cc
+
+-- an accepted query is not refused
+accepts : (plan : Plan) (verdict : Verdict) → acceptance plan ≡ verdict → IsTrue (is_refusal verdict) → ⊥
+accepts plans.Filter verdict e t = absurd (no_refusal verdicts.filter verdict e refl t)
+accepts (plans.Parts ps numbers) verdict e t = absurd (no_refusal (verdicts.accepted numbers) verdict e refl t)
+
+-- a verdict of a query with cells comes from its plan
+from_plan : (q : QueryValue) (free : ℕ) (numbers : Numbers) → IsVerdict q free (verdicts.accepted numbers) → IsViolation q None
+from_plan q free numbers (of_filter f e) = absurd (not_filter numbers e)
+from_plan q free numbers (of_many_parts f m e) = absurd (not_limit numbers e)
+from_plan q free numbers (of_violation f m w v e) = absurd (not_violation numbers w e)
+from_plan q free numbers (of_plan f m v ps p e) = v
+
+-- a query is accepted with one plan
+same_plan : (q : QueryValue) (free : ℕ) (p o : Plan) → IsPlanOf q p → IsPlanOf q o → IsVerdict q free (acceptance p) → IsVerdict q free (acceptance o) → p ≡ o
+same_plan q free plans.Filter plans.Filter a b v w = refl
+same_plan q free plans.Filter (plans.Parts ps m) a b v w = absurd (both a b.0)
+same_plan q free (plans.Parts ps n) plans.Filter a b v w = absurd (both b a.0)
+same_plan q free (plans.Parts ps n) (plans.Parts os m) a b v w =
+    let e : ps ≡ os = one-plan q ps os a.0 (from_plan q free n v) a.1 b.1 in
+    let f : n ≡ m = a.2 ∙ ap (numbers_of q) e ∙ sym b.2 in
+    ap (λ x. plans.Parts x n) e ∙ ap (λ x. plans.Parts os x) f
 
 -- there is one verdict on a query
-one_decided : (name : List ℕ) (q : QueryValue) (a b : Answer) → IsDecided name q a → IsDecided name q b → a ≡ b
-one_decided name q a b (of_filter i p) (of_filter j r) = p ∙ sym r
-one_decided name q a b (of_filter i p) (of_many_parts j m r) = absurd (both i j)
-one_decided name q a b (of_filter i p) (of_violation j n g w r) = absurd (both i j)
-one_decided name q a b (of_filter i p) (unbuilt j n w r) = absurd (both i j)
-one_decided name q a b (of_many_parts i m p) (of_filter j r) = absurd (both j i)
-one_decided name q a b (of_many_parts i m p) (of_many_parts j n r) = p ∙ sym r
-one_decided name q a b (of_many_parts i m p) (of_violation j n g w r) = absurd (n m)
-one_decided name q a b (of_many_parts i m p) (unbuilt j n w r) = absurd (n m)
-one_decided name q a b (of_violation i n f v p) (of_filter j r) = absurd (both j i)
-one_decided name q a b (of_violation i n f v p) (of_many_parts j m r) = absurd (n m)
-one_decided name q a b (of_violation i n f v p) (of_violation j m g w r) = p ∙ ap (λ f. decided name q (verdicts.violation f)) (same_failure q f g v w) ∙ sym r
-one_decided name q a b (of_violation i n f v p) (unbuilt j m w r) = absurd (some_or_none q f v w)
-one_decided name q a b (unbuilt i n v p) (of_filter j r) = absurd (both j i)
-one_decided name q a b (unbuilt i n v p) (of_many_parts j m r) = absurd (n m)
-one_decided name q a b (unbuilt i n v p) (of_violation j m g w r) = absurd (some_or_none q g w v)
-one_decided name q a b (unbuilt i n v p) (unbuilt j m w r) = p ∙ sym r
+one_decided : (name : List ℕ) (q : QueryValue) (free : ℕ) (a b : Answer) → IsDecided name q free a → IsDecided name q free b → a ≡ b
+one_decided name q free a b (accepted p i v e) (accepted o j w f) = e ∙ ap (registered name q) (same_plan q free p o i j v w) ∙ sym f
+one_decided name q free a b (accepted p i v e) (rejected d w t f) = absurd (accepts p d (has-one-verdict q free (acceptance p) d v w) t)
+one_decided name q free a b (rejected d w t e) (accepted p i v f) = absurd (accepts p d (has-one-verdict q free (acceptance p) d v w) t)
+one_decided name q free a b (rejected d w t e) (rejected c v u f) = e ∙ ap (decided name q) (has-one-verdict q free d c w v) ∙ sym f
 
-one_settled : (request : Request) (a b : Answer) → Settles request a → Settles request b → a ≡ b
-one_settled silent a b p q = p ∙ sym q
-one_settled (created name columns) a b p q = p ∙ sym q
-one_settled (asked name query) a b p q = one_decided name query a b p q
-one_settled (taken stream values) a b p q = p ∙ sym q
-one_settled (refused word) a b p q = p ∙ sym q
+one_settled : (s : State) (request : Request) (a b : Answer) → Settles s request a → Settles s request b → a ≡ b
+one_settled s silent a b p q = p ∙ sym q
+one_settled s (created name columns) a b p q = p ∙ sym q
+one_settled s (asked name query) a b p q = one_decided name query (free_pages s.queries) a b p q
+one_settled s (dropped name) a b p q = p ∙ sym q
+one_settled s (taken stream values) a b p q = p ∙ sym q
+one_settled s (refused word) a b p q = p ∙ sym q
 
 pub one_answer : (s : State) (line : List ℕ) (a b : Answer) → IsAnswer s line a → IsAnswer s line b → a ≡ b
 one_answer s line a b p q =
-    one_settled p.request a b p.settles (subst (λ r. Settles r b) (sym (one_request s line p.request q.request p.asks q.asks)) q.settles)
+    one_settled s p.request a b p.settles (subst (λ r. Settles s r b) (sym (one_request s line p.request q.request p.asks q.asks)) q.settles)
 
 pub one_list : (s : State) (lines : List (List ℕ)) (xs ys : List Answer) → AreAnswers s lines xs → AreAnswers s lines ys → xs ≡ ys
 one_list s [] [] [] p q = refl

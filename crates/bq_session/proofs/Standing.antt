@@ -1,22 +1,16 @@
 -- What a session keeps, and the states that it stands for.
-use Rattle.std.proofs.Common.{◌≡◌, ℕ, ◌≤◌, List, [], ◌∷◌, map, length, refl, sym, ap, ◌∙◌, subst, nat_lt}
+use Rattle.std.proofs.Common.{◌≡◌, ℕ, ◌≤◌, List, length, sym, ap, ◌∙◌, subst, nat_lt}
 use Rattle.bq_parser.specs.declared.line.LineKind.{LineKind}
 use Rattle.bq_parser.specs.LineKind.{stripped, kind_of_line}
-use Rattle.bq_registry.specs.declared.live.Live.{Live}
-use Rattle.bq_registry.specs.Live.{LiveQuery}
-use Rattle.bq_registry.specs.Registry.{forgotten}
+use Rattle.bq_registry.proofs.Whole.{same_names}
 use Rattle.bq_session.specs.Request.{Request}
 use Rattle.bq_session.specs.Requests.{row_request, IsStatementRequest, IsTextRequest, IsRequest, fits}
 use Rattle.bq_session.specs.State.{State, live_names, has_room}
 use Rattle.bq_session.specs.Session.{Kept, StandsFor, names_in}
 
-names-forgotten : (queries : List LiveQuery) → map (λ (l : Live). l.name) (map forgotten queries) ≡ map (λ (q : LiveQuery). q.name) queries
-names-forgotten [] = refl
-names-forgotten (q ∷ others) = ap (λ l. q.name ∷ l) (names-forgotten others)
-
 -- the names that are kept are those of the live queries
 names-kept : (k : Kept) (s : State) → StandsFor k s → names_in k.registry ≡ live_names s
-names-kept k s h = ap (map (λ (l : Live). l.name)) (sym h.queries) ∙ names-forgotten s.queries
+names-kept k s h = same_names k.registry.pool k.registry.live s.queries h.queries
 
 -- a line of a kind asks for what its text does
 pub of_kind : (s : State) (kind : LineKind) (line text : List ℕ) (request : Request) → length line ≤ 1024 → kind_of_line (stripped line) ≡ kind → stripped line ≡ text → IsTextRequest s kind text request → IsRequest s line request

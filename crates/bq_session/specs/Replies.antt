@@ -11,13 +11,15 @@ use Rattle.bq_model.specs.declared.condition.Condition.TheVariants.{C1, C2, C3}
 use Rattle.bq_model.specs.declared.decision.Which.{Which}
 use Rattle.bq_model.specs.declared.decision.Which.TheVariants.{Parts, Cells, Answers, Work}
 use Rattle.bq_model.specs.declared.plan.Numbers.{Numbers}
+use Rattle.bq_model.specs.declared.plan.Plan.{Plan}
+use Rattle.bq_model.specs.declared.plan.Plan.TheVariants as plans
 use Rattle.bq_model.specs.Query.{QueryValue}
 use Rattle.bq_model.specs.Verdict.{Verdict}
 use Rattle.bq_model.specs.Verdict as verdicts
 use Rattle.bq_model.specs.Meaning.{Arrival, new_answers}
 use Rattle.bq_registry.specs.Live.{LiveQuery}
-use Rattle.bq_session.specs.Request.{Request, silent, created, asked, taken, refused}
-use Rattle.bq_session.specs.Answer.{Answer, plain, decided}
+use Rattle.bq_session.specs.Request.{Request, silent, created, asked, dropped, taken, refused}
+use Rattle.bq_session.specs.Answer.{Answer, plain, registered, decided}
 use Rattle.bq_session.specs.declared.word.Word.{Word}
 use Rattle.bq_session.specs.declared.word.Word.TheVariants.{LineTooLong, Syntax, Limit, Duplicate, TooMany, UnknownStream, UnknownColumn, SelfJoin, UnknownQuery, Arity, Value, RowLimit, Unbuilt}
 use Rattle.bq_session.specs.State.{State, empty, next_of}
@@ -58,30 +60,38 @@ which_text Work = codes "work"
 abbrev pub column_text : ColumnAst → List ℕ
 column_text c = c.stream ++ 46 ∷ c.column
 
--- the numbers that are announced
-abbrev pub numbers_text : Numbers → List ℕ
-numbers_text n = codes " parts " ++ decimal n.parts ++ codes " cells " ++ decimal n.cells ++ codes " answers " ++ decimal n.answers ++ codes " work " ++ decimal n.work
+-- the reply with the numbers that are announced
+abbrev pub numbers_text : List ℕ → Numbers → List ℕ
+numbers_text name n =
+    codes "ok query " ++ name ++ codes " parts " ++ decimal n.parts ++ codes " cells " ++ decimal n.cells ++ codes " answers " ++ decimal n.answers ++ codes " work " ++ decimal n.work ++ 10 ∷ []
 
--- the reply with the verdict on a query, over these streams
+-- the reply to a query that is accepted with this plan
+abbrev pub plan_text : List ℕ → Plan → List ℕ
+plan_text name plans.Filter = codes "ok query " ++ name ++ codes " filter" ++ 10 ∷ []
+plan_text name (plans.Parts ps numbers) = numbers_text name numbers
+
+-- the reply with the verdict on a query that is refused, over these streams
 abbrev pub verdict_text : List Shape → List ℕ → QueryValue → Verdict → List ℕ
-verdict_text streams name q verdicts.filter = codes "ok query " ++ name ++ codes " filter" ++ 10 ∷ []
+verdict_text streams name q verdicts.filter = []
 verdict_text streams name q (verdicts.violation f) =
     codes "refused " ++ name ++ codes " part " ++ decimal f.part ++ 32 ∷ condition_text f.condition ++ 32 ∷ column_text (column_named streams q.from f.attr) ++ 10 ∷ []
 verdict_text streams name q (verdicts.limit which) = codes "refused " ++ name ++ codes " limit " ++ which_text which ++ 10 ∷ []
 verdict_text streams name q verdicts.pool = codes "refused " ++ name ++ codes " limit pool" ++ 10 ∷ []
-verdict_text streams name q (verdicts.accepted numbers) = codes "ok query " ++ name ++ numbers_text numbers ++ 10 ∷ []
+verdict_text streams name q (verdicts.accepted numbers) = []
 
 -- the reply to a line that asks for this, where no verdict is due
 abbrev pub reply_by : State → Request → List ℕ
 reply_by s silent = []
 reply_by s (created name columns) = codes "ok stream " ++ name ++ 10 ∷ []
 reply_by s (asked name query) = []
+reply_by s (dropped name) = codes "ok drop " ++ name ++ 10 ∷ []
 reply_by s (taken stream values) = flat_map (answers_to (record { stream = stream; values = values })) s.queries
 reply_by s (refused word) = codes "error " ++ decimal (s.lines + 1) ++ 32 ∷ word_text word ++ 10 ∷ []
 
 -- the reply to a line that comes to this
 abbrev pub reply_to : State → Answer → List ℕ
 reply_to s (plain request) = reply_by s request
+reply_to s (registered name query plan) = plan_text name plan
 reply_to s (decided name query verdict) = verdict_text s.streams name query verdict
 
 -- the replies to lines that come to these, each asked of the state after those before it

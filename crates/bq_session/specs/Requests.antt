@@ -1,5 +1,5 @@
 -- What a line asks for: the first that applies.
-use Rattle.std.specs.Prelude.{◌≡◌, ℕ, ◌<◌, ◌≤◌, Bool, List, length, if◌then◌else◌, nat_eq, Some, None}
+use Rattle.std.specs.Prelude.{◌≡◌, ℕ, ◌<◌, ◌≤◌, Bool, List, length, if◌then◌else◌, nat_le, Some, None}
 use Rattle.std.specs.List.{list_any}
 use Rattle.std.specs.Str.{bytes_eq}
 use Rattle.std.specs.declared.result.Result.{Result}
@@ -23,7 +23,7 @@ use Rattle.bq_parser.specs.LineKind.{stripped, kind_of_line}
 use Rattle.bq_parser.specs.Syntax.{IsStatement}
 use Rattle.bq_parser.specs.Limits.{limit_of}
 use Rattle.bq_parser.specs.Resolution.{resolved}
-use Rattle.bq_session.specs.Request.{Request, silent, created, asked, taken, refused}
+use Rattle.bq_session.specs.Request.{Request, silent, created, asked, dropped, taken, refused}
 use Rattle.bq_session.specs.declared.word.Word.{Word}
 use Rattle.bq_session.specs.declared.word.Word.TheVariants.{LineTooLong, Syntax, Limit, Duplicate, TooMany, UnknownStream, UnknownColumn, SelfJoin, UnknownQuery, Arity, Value, RowLimit, Unbuilt}
 use Rattle.bq_session.specs.State.{State, live_names, has_room}
@@ -61,10 +61,10 @@ abbrev pub stream_request : List ℕ → List (List ℕ) → Result ℕ StreamEr
 stream_request name columns (Err error) = refused (stream_word error)
 stream_request name columns (Ok number) = created name columns
 
--- a query is to be decided on where its names stand for one, and while no other is live
-abbrev pub resolved_request : List (List ℕ) → List ℕ → Result QueryValue ResolveError → Request
-resolved_request live name (Err error) = refused (resolve_word error)
-resolved_request live name (Ok query) = if nat_eq (length live) 0 then asked name query else refused Unbuilt
+-- a query is to be decided on where its names stand for one
+abbrev pub resolved_request : List ℕ → Result QueryValue ResolveError → Request
+resolved_request name (Err error) = refused (resolve_word error)
+resolved_request name (Ok query) = asked name query
 
 -- whether a live query has the name
 abbrev pub is_live : List (List ℕ) → List ℕ → Bool
@@ -72,18 +72,24 @@ is_live live name = list_any (λ other. bytes_eq other name) live
 
 -- what CREATE QUERY asks for
 abbrev pub query_request : List Shape → List (List ℕ) → List ℕ → SelectAst → Request
-query_request streams live name select = if is_live live name then refused Duplicate else resolved_request live name (resolved streams select)
+query_request streams live name select =
+    if is_live live name then refused Duplicate
+    else (if nat_le 64 (length live) then refused TooMany else resolved_request name (resolved streams select))
 
--- what is asked of a live query
-abbrev pub live_request : List (List ℕ) → List ℕ → Request
-live_request live name = if is_live live name then refused Unbuilt else refused UnknownQuery
+-- what EXPLAIN asks for
+abbrev pub explain_request : List (List ℕ) → List ℕ → Request
+explain_request live name = if is_live live name then refused Unbuilt else refused UnknownQuery
+
+-- what DROP QUERY asks for
+abbrev pub drop_request : List (List ℕ) → List ℕ → Request
+drop_request live name = if is_live live name then dropped name else refused UnknownQuery
 
 -- what a statement asks for, over these streams and names of live queries
 abbrev pub statement_request : List Shape → List (List ℕ) → Statement → Request
 statement_request streams live (statements.CreateStream name columns) = stream_request name columns.items (added streams (record { name = name; columns = columns.items }))
 statement_request streams live (statements.CreateQuery name select) = query_request streams live name select
-statement_request streams live (statements.Explain name) = live_request live name
-statement_request streams live (statements.DropQuery name) = live_request live name
+statement_request streams live (statements.Explain name) = explain_request live name
+statement_request streams live (statements.DropQuery name) = drop_request live name
 
 -- What a text asks for that is read as a statement: it is none, or one that passes a limit, or what the statement asks for.
 pub data IsStatementRequest (streams : List Shape) (live : List (List ℕ)) (text : List ℕ) (request : Request) : Type 0 where

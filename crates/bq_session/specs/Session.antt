@@ -5,11 +5,11 @@ use Rattle.std.specs.declared.result.Result.TheVariants.{Ok, Err}
 use Rattle.bq_io.specs.Sink.{SinkState, Wrote, BrokeOff}
 use Rattle.bq_schema.specs.Streams.{Shape}
 use Rattle.bq_registry.specs.declared.live.Live.{Live}
-use Rattle.bq_registry.specs.Registry.{RegistryValue, IsQuiet}
+use Rattle.bq_registry.specs.Registry.{RegistryValue, IsQuiet, GivenUpto}
 use Rattle.bq_registry.specs.Registry as registry
 use Rattle.bq_session.specs.declared.outcome.LineOutcome.{LineOutcome}
 use Rattle.bq_session.specs.declared.outcome.LineOutcome.TheVariants.{Done, WriteFault, Memory}
-use Rattle.bq_session.specs.Request.{Request, silent, created, asked, taken, refused}
+use Rattle.bq_session.specs.Request.{Request, silent, created, asked, dropped, taken, refused}
 use Rattle.bq_session.specs.Requests.{IsRequest, IsStatementRequest}
 use Rattle.bq_session.specs.Answer.{Answer}
 use Rattle.bq_session.specs.Answers.{Settles}
@@ -24,11 +24,12 @@ pub record Kept : Type 0 where
   pub taken : ℕ
   pub lines : ℕ
 
--- what holds of all that a session keeps: each row is a line, and no more rows were taken than may be
+-- what holds of all that a session keeps: each row is a line, no more rows were taken than may be, and no live query was given more
 pub record IsSound (k : Kept) : Type 0 where
   pub rows : k.taken ≤ k.lines
   pub within : k.taken ≤ k.limit
   pub limit : k.limit ≤ 2 ^ 40
+  pub given : GivenUpto k.taken k.registry
 
 -- the names of the live queries
 abbrev pub names_in : RegistryValue → List (List ℕ)
@@ -54,13 +55,14 @@ abbrev pub creates : Request → Bool
 creates (created name columns) = true
 creates (asked name query) = true
 creates silent = false
+creates (dropped name) = false
 creates (taken stream values) = false
 creates (refused word) = false
 
 -- the request comes to an answer, the session stands for the next state, and P holds of the reply
 pub record Gives (s : State) (request : Request) (new : Kept) (P : List ℕ → Type 0) : Type 0 where
   pub answer : Answer
-  pub settles : Settles request answer
+  pub settles : Settles s request answer
   pub stands : StandsFor new (next_of s answer)
   pub reply : P (reply_to s answer)
 

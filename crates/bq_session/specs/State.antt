@@ -1,11 +1,9 @@
 -- The state of a session, and the state after a line.
-use Rattle.std.specs.Prelude.{ℕ, ◌+◌, Bool, true, false, List, [], ◌∷◌, ◌++◌, map, nat_lt, if◌then◌else◌}
-use Rattle.bq_model.specs.Verdict.{Verdict}
-use Rattle.bq_model.specs.Verdict as verdicts
+use Rattle.std.specs.Prelude.{ℕ, ◌+◌, Bool, List, [], ◌∷◌, ◌++◌, map, nat_lt}
 use Rattle.bq_schema.specs.Streams.{Shape}
-use Rattle.bq_registry.specs.Live.{LiveQuery, newly, with_row, names}
-use Rattle.bq_session.specs.Request.{Request, silent, created, asked, taken, refused}
-use Rattle.bq_session.specs.Answer.{Answer, plain, decided}
+use Rattle.bq_registry.specs.Live.{LiveQuery, newly, with_row, without, names}
+use Rattle.bq_session.specs.Request.{Request, silent, created, asked, dropped, taken, refused}
+use Rattle.bq_session.specs.Answer.{Answer, plain, registered, decided}
 
 -- how many rows may be taken, the streams, the live queries in order of creation, and how many rows were taken and lines read
 pub record State : Type 0 where
@@ -35,22 +33,15 @@ abbrev pub next_by : State → Request → State
 next_by s silent = one_line_more s
 next_by s (created name columns) = record s { streams = s.streams ++ record { name = name; columns = columns } ∷ []; lines = s.lines + 1 }
 next_by s (asked name query) = one_line_more s
+next_by s (dropped name) = record s { queries = without name s.queries; lines = s.lines + 1 }
 next_by s (taken stream values) = record s { queries = map (with_row (record { stream = stream; values = values })) s.queries; taken = s.taken + 1; lines = s.lines + 1 }
 next_by s (refused word) = one_line_more s
-
--- whether a query with this verdict becomes live
-abbrev pub registers : Verdict → Bool
-registers verdicts.filter = true
-registers (verdicts.violation f) = false
-registers (verdicts.limit which) = false
-registers verdicts.pool = false
-registers (verdicts.accepted numbers) = true
 
 -- The state after a line that comes to this. A refused line, and a refused query, change nothing but the number of lines.
 abbrev pub next_of : State → Answer → State
 next_of s (plain request) = next_by s request
-next_of s (decided name query verdict) =
-    if registers verdict then record s { queries = s.queries ++ newly name query ∷ []; lines = s.lines + 1 } else one_line_more s
+next_of s (registered name query plan) = record s { queries = s.queries ++ newly name query plan ∷ []; lines = s.lines + 1 }
+next_of s (decided name query verdict) = one_line_more s
 
 -- the state after lines that come to these, one after another
 unfoldable pub after : State → List Answer → State

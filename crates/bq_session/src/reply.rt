@@ -1,11 +1,11 @@
 //! What is printed. Each line is one call that writes a list of pieces.
 ghost use Rattle.std.specs.Prelude.{◌≡◌, ◌++◌, ◌∷◌, [], codes, decimal};
 ghost use Rattle.bq_io.specs.Sink.{Writes};
-ghost use Rattle.bq_session.specs.Replies.{word_text, which_text, condition_text, column_text};
+ghost use Rattle.bq_session.specs.Replies.{word_text, which_text, condition_text, column_text, numbers_text};
 
 use crate::word::Word;
 use bq_io::{Sink, WriteFault, write_pieces};
-use bq_model::{Condition, Which};
+use bq_model::{Condition, Numbers, Which};
 use bq_parser::ColumnAst;
 use bq_text::Name;
 use itoa::Buffer;
@@ -16,6 +16,68 @@ pub fn write_created<O: Sink>(out: &mut O, name: &Name) -> Result<(), WriteFault
 {
     let pieces: [&[u8]; 3] = [b"ok stream ", name.bytes(), b"\n"];
     write_pieces(out, &pieces)
+}
+
+/// `ok drop q`
+pub fn write_dropped<O: Sink>(out: &mut O, name: &Name) -> Result<(), WriteFault>
+    ensures { Writes result (O.seen out.old) (O.seen out.new) (codes "ok drop " ++ name.now ++ 10 ∷ []) }
+{
+    let pieces: [&[u8]; 3] = [b"ok drop ", name.bytes(), b"\n"];
+    write_pieces(out, &pieces)
+}
+
+/// `refused q limit pool`
+pub fn write_no_pages<O: Sink>(out: &mut O, name: &Name) -> Result<(), WriteFault>
+    ensures { Writes result (O.seen out.old) (O.seen out.new) (codes "refused " ++ name.now ++ codes " limit pool" ++ 10 ∷ []) }
+{
+    let pieces: [&[u8]; 4] = [b"refused ", name.bytes(), b" limit pool", b"\n"];
+    write_pieces(out, &pieces)
+}
+
+// `ok query q parts P cells C answers A work W`, by its parts.
+fn write_numbers_text<'a, O: Sink>(
+    out: &mut O,
+    name: &'a [u8],
+    parts: &'a [u8],
+    cells: &'a [u8],
+    answers: &'a [u8],
+    work: &'a [u8],
+) -> Result<(), WriteFault>
+    ensures { Writes result (O.seen out.old) (O.seen out.new)
+        (codes "ok query " ++ name.now ++ codes " parts " ++ parts.now ++ codes " cells " ++ cells.now ++ codes " answers " ++ answers.now ++ codes " work " ++ work.now ++ 10 ∷ []) }
+{
+    let pieces: [&[u8]; 11] = [
+        b"ok query ",
+        name,
+        b" parts ",
+        parts,
+        b" cells ",
+        cells,
+        b" answers ",
+        answers,
+        b" work ",
+        work,
+        b"\n",
+    ];
+    write_pieces(out, &pieces)
+}
+
+/// `ok query q parts P cells C answers A work W`
+pub fn write_numbers<O: Sink>(out: &mut O, name: &Name, numbers: Numbers) -> Result<(), WriteFault>
+    ensures { Writes result (O.seen out.old) (O.seen out.new) (numbers_text name.now numbers) }
+{
+    let mut parts = Buffer::new();
+    let mut cells = Buffer::new();
+    let mut answers = Buffer::new();
+    let mut work = Buffer::new();
+    write_numbers_text(
+        out,
+        name.bytes(),
+        parts.format(numbers.parts).as_bytes(),
+        cells.format(numbers.cells).as_bytes(),
+        answers.format(numbers.answers).as_bytes(),
+        work.format(numbers.work).as_bytes(),
+    )
 }
 
 /// `ok query q filter`

@@ -5,14 +5,18 @@ ghost use Rattle.bq_parser.specs.Limits.{limit_of};
 ghost use Rattle.bq_parser.specs.Resolution.{IsTaken, HasNamed};
 ghost use Rattle.bq_schema.specs.Rows.{is_row_line};
 ghost use Rattle.bq_schema.specs.Streams.{added};
+ghost use Rattle.bq_registry.specs.Registry.{most_steps};
 ghost use Rattle.bq_session.specs.State.{State, empty, one_line_more};
 ghost use Rattle.bq_session.specs.Request.{asked, refused};
-ghost use Rattle.bq_session.specs.Requests.{row_request, stream_request, query_request, statement_request};
+ghost use Rattle.bq_session.specs.Requests.{row_request, stream_request, query_request, drop_request, statement_request};
 ghost use Rattle.bq_session.specs.Session.{outcome_of};
 
 use crate::outcome::LineOutcome;
-use crate::reply::{write_created, write_filter, write_limit, write_refused, write_violation};
-use crate::statement::{find_query, live_word};
+use crate::reply::{
+    write_created, write_dropped, write_filter, write_limit, write_no_pages, write_numbers,
+    write_refused, write_violation,
+};
+use crate::statement::{explain_word, find_query, is_live};
 use crate::word::{Word, parse_word, row_word, stream_word};
 use arrayvec::ArrayVec;
 use bq_io::{Sink, Steps, WriteFault};
@@ -26,7 +30,6 @@ use std::marker::Model;
 use std::sync::ledger::Ledger;
 
 /// A session: its streams, its live queries, and how many rows and lines it has read. No row is kept.
-#[derive(Drop)]
 pub struct Session {
     limit: u64,
     catalog: Catalog,
@@ -69,7 +72,8 @@ impl Session {
     }
 
     /// Answers a line of at most 1,024 bytes: writes the reply and takes the next state, for every state that the session
-    /// stands for. A row, and a line that a word refuses, take no memory. No step is taken while all live queries are filters.
+    /// stands for. A row, and a line that a word refuses, take no memory. The cells that a row reads and writes are at most those
+    /// that the numbers of the live queries announce.
     pub fn line<O: Sink, L: Ledger>(
         &mut self,
         line: &[u8],
@@ -79,7 +83,7 @@ impl Session {
         requires short { length line.now ≤ 1024 }
         requires lines { self.old.lines + 1 < 2 ^ 64 }
         ensures reply { (s : State) → StandsFor self.old s → Answered result s line.now self.new (O.seen out.old) (O.seen out.new) }
-        ensures steps { steps.new ≡ steps.old }
+        ensures steps { steps.new ≤ steps.old + most_steps self.old.registry.live }
     {
         let (kind, text) = classify(line);
         self.lines += 1;
@@ -101,7 +105,16 @@ impl Session {
     }
 
     /// Ends the session.
-    pub fn close(self) {}
+    pub fn close(self) {
+        let Session {
+            limit: _,
+            catalog: _catalog,
+            registry,
+            taken: _,
+            lines: _,
+        } = self;
+        registry.close();
+    }
 
     // Whether one more row may be taken.
     fn has_room(&self) -> bool
@@ -128,7 +141,7 @@ impl Session {
         requires counted { self.old.taken < self.old.lines }
         ensures reply { (s : State) → StandsFor self.old (one_line_more s)
             → Does result s (row_request self.old.streams (nat_lt self.old.taken self.old.limit) text.now) self.new (O.seen out.old) (O.seen out.new) }
-        ensures steps { steps.new ≡ steps.old }
+        ensures steps { steps.new ≤ steps.old + most_steps self.old.registry.live }
     {
         match self.catalog.read_row(text) {
             Err(error) => self.refuse(row_word(error), out),
@@ -170,8 +183,8 @@ impl Session {
                 out,
             ),
             Statement::CreateQuery { name, select } => self.create_query(name, &select, out),
-            Statement::Explain { name } => self.refuse(live_word(&self.registry, &name), out),
-            Statement::DropQuery { name } => self.refuse(live_word(&self.registry, &name), out),
+            Statement::Explain { name } => self.refuse(explain_word(&self.registry, &name), out),
+            Statement::DropQuery { name } => self.drop_query(&name, out),
         }
     }
 
@@ -200,18 +213,31 @@ impl Session {
         }
     }
 
+    // Drops the live query of a name, in a line that was counted.
+    fn drop_query<O: Sink>(&mut self, name: &Name, out: &mut O) -> LineOutcome
+        ensures { (s : State) → StandsFor self.old (one_line_more s)
+            → Does result s (drop_request (names_in self.old.registry) name.now) self.new (O.seen out.old) (O.seen out.new) }
+    {
+        if !is_live(&self.registry, name) {
+            return self.refuse(Word::UnknownQuery, out);
+        }
+        self.registry.drop_query(name);
+        outcome_of(write_dropped(out, name))
+    }
+
     // Decides on a query that no word refuses, in a line that was counted.
     fn decide<O: Sink>(&mut self, name: Name, query: Query, out: &mut O) -> LineOutcome
         requires named { HasNamed self.old.streams query }
-        requires room { length self.old.registry.live < 1 }
+        requires room { length self.old.registry.live < 64 }
         ensures { (s : State) → StandsFor self.old (one_line_more s)
             → Does result s (asked name query) self.new (O.seen out.old) (O.seen out.new) }
     {
         let from = streams_of(&query);
         match self.registry.create(name, query) {
             Ok(Verdict::Filter) => outcome_of(write_filter(out, &name)),
+            Ok(Verdict::Accepted(numbers)) => outcome_of(write_numbers(out, &name, numbers)),
             Err(CreateError::Memory) => LineOutcome::Memory,
-            Err(CreateError::Unbuilt) => self.refuse(Word::Unbuilt, out),
+            Err(CreateError::Pool { .. }) => outcome_of(write_no_pages(out, &name)),
             Err(CreateError::Limit { which, .. }) => outcome_of(write_limit(out, &name, which)),
             Err(
                 CreateError::Violation {

@@ -88,7 +88,9 @@ fn run_session<I: Source, O: Sink>(
     let Ok(mut session) = Session::new(alloc, limit) else {
         return Status::Memory;
     };
-    status_of(answer_all(&mut reader, &mut session, input, output))
+    let ending = answer_all(&mut reader, &mut session, input, output);
+    session.close();
+    status_of(ending)
 }
 
 /// All that the program does over the words after its name. It answers each line of the input before it reads on, without end,

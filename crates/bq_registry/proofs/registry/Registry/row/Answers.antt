@@ -1,13 +1,15 @@
-use Rattle.std.proofs.Common.{ℤ, List, sym, ap, ◌∙◌}
-use Rattle.std.specs.declared.option.Option.{Option}
-use Rattle.bq_registry.specs.Registry.{RegistryValue, kept_of}
-use Rattle.bq_registry.proofs.RowTaken.{forgotten-with_row, all_wait}
+use Rattle.std.proofs.Common.{subst, sym}
+use Rattle.bq_executor.specs.Executor.{arrival}
+use Rattle.bq_registry.specs.Registry.{RegistryValue, StandsFor}
+use Rattle.bq_registry.proofs.Whole.{rows_stand, rows_wait}
 use Rattle.bq_registry.proofs.registry.Registry.row.Goals as goal
 
 pub returns-clause-stands : goal.returns-clause-stands
-returns-clause-stands g c = λ queries e. forgotten-with_row _ queries ∙ e ∙ sym (ap (λ (v : RegistryValue). v.live) c.self.view_is)
+returns-clause-stands g c = λ queries all.
+    rows_stand (arrival c.args.stream c.args.row.now.items) c.self.inside.pool c.take_all.new.pool c.self.inside.live.items c.take_all.new.live.items queries c.take_all.ensures.taken
+    (subst (λ (v : RegistryValue). StandsFor v queries) (sym c.self.view_is) all)
 
 pub returns-clause-waits : goal.returns-clause-waits
-returns-clause-waits g c = λ queries e.
-    ap (λ (t : Option (List ℤ)). (kept_of c.self.inside.live t).waiting) c.answer_of-self-inside.ensures
-    ∙ all_wait c.self.inside.live _ queries (e ∙ sym (ap (λ (v : RegistryValue). v.live) c.self.view_is)) c.self.invariant
+returns-clause-waits g c = λ queries all.
+    rows_wait (arrival c.args.stream c.args.row.now.items) c.self.inside.pool c.take_all.new.pool c.self.inside.live.items c.take_all.new.live.items queries c.take_all.ensures.taken
+    (subst (λ (v : RegistryValue). StandsFor v queries) (sym c.self.view_is) all)

@@ -1,43 +1,67 @@
-use Rattle.std.proofs.Common.{sym, ap, ◌∙◌, subst, ℕ, List, Err}
+use Rattle.std.proofs.Common.{refl, sym, ap, ◌∙◌, subst, ℕ, List, Ok, Err, [], ◌∷◌, ◌++◌, codes, decimal}
+use Rattle.bq_io.specs.Sink.{SinkState, Writes, Wrote}
+use Rattle.bq_io.proofs.Writing.{Wrote-nil}
+use Rattle.bq_model.specs.declared.plan.Numbers.{Numbers}
 use Rattle.bq_parser.specs.Resolution.{IsColumnOf, HasNamed, column_named}
-use Rattle.bq_registry.specs.Judged.{IsJudged, Creates}
+use Rattle.bq_registry.specs.declared.refusal.CreateError.{CreateError}
+use Rattle.bq_registry.specs.declared.verdict.Verdict.{Verdict}
+use Rattle.bq_registry.specs.Live.{free_pages}
+use Rattle.bq_registry.specs.Judged.{TellsVerdict, CarriesWhy, Registered}
+use Rattle.bq_registry.specs.declared.verdict.Verdict.TheVariants as kinds
+use Rattle.bq_registry.specs.Registry.{RegistryValue}
+use Rattle.bq_session.specs.Request.{asked}
+use Rattle.bq_session.specs.Replies.{which_text, condition_text, column_text}
 use Rattle.bq_session.specs.State.{one_line_more}
-use Rattle.bq_session.specs.Session.{Kept, StandsFor}
+use Rattle.bq_session.specs.Session.{Kept, StandsFor, Does}
 use Rattle.bq_session.proofs.Named.{violation_is_named}
-use Rattle.bq_session.proofs.Given.{as_unbuilt}
-use Rattle.bq_session.proofs.Deciding.{accepted, too_large, violated, unchanged}
+use Rattle.bq_session.proofs.Deciding.{takes, too_large, no_room, violated, unchanged, with_registry, acceptance_text}
 use Rattle.bq_session.proofs.session.Session.decide.Goals as goal
+use Rattle.bq_session.proofs.session.Session.decide.Goals.{in-Ok-Filter, in-Ok-Accepted, in-Err-Memory, in-Err-Pool, in-Err-Limit, in-Err-Violation}
 
 pub column_named-column-requires-clause-column : goal.column_named-column-requires-clause-column
 column_named-column-requires-clause-column g c =
     let named = subst (λ (k : Kept). HasNamed k.streams c.args.query) (sym c.self.view_is) c.requires.named in
     let from = c.as_slice.ensures.value ∙ c.streams_of-from.ensures in
-    subst (λ f. IsColumnOf c.self.inside.catalog f c.in-Err-Violation.attr) (sym from) (violation_is_named c.self.inside.catalog c.args.query _ named (subst (λ e. IsJudged c.args.query (Err e)) c.in-Err-Violation.field-0-is c.in-Err-Violation.ensures.judged).2)
+    let why = subst (λ (e : CreateError). CarriesWhy c.args.query c.self.inside.registry.pool.free (Err e)) c.in-Err-Violation.field-0-is c.in-Err-Violation.ensures.why in
+    subst (λ f. IsColumnOf c.self.inside.catalog f c.in-Err-Violation.attr) (sym from) (violation_is_named c.self.inside.catalog c.args.query _ named why)
 
-pub returns-in-Ok-Filter : goal.returns-in-Ok-Filter
-returns-in-Ok-Filter g c = λ s stands.
-    let old = subst (λ (k : Kept). StandsFor k (one_line_more s)) (sym c.self.view_is) stands in
-    accepted c.write_filter.result c.outcome_of.result s c.args.name c.args.query _ c.create.new.self c.in-Ok-Filter.field-0 _ _ c.outcome_of.ensures old
-    (subst (IsJudged c.args.query) c.in-Ok-Filter.is c.create.ensures.judged)
-    (subst (λ r. Creates c.self.inside.registry c.args.name c.args.query r c.create.new.self) c.in-Ok-Filter.is c.create.ensures.creates)
-    c.write_filter.ensures
-
-pub returns-in-Err-Unbuilt : goal.returns-in-Err-Unbuilt
-returns-in-Err-Unbuilt g c = λ s stands.
-    let old = subst (λ (k : Kept). StandsFor k (one_line_more s)) (sym c.self.view_is) stands in
-    let j = subst (λ e. IsJudged c.args.query (Err e)) c.in-Err-Unbuilt.field-0-is c.in-Err-Unbuilt.ensures.judged in
-    as_unbuilt c.refuse.result s c.args.name c.args.query _ _ _ j.0 j.1 j.2 (c.refuse.ensures s (unchanged _ c.create.new.self (one_line_more s) c.in-Err-Unbuilt.ensures.creates old))
-
-pub returns-in-Err-Limit : goal.returns-in-Err-Limit
-returns-in-Err-Limit g c = λ s stands.
-    let old = subst (λ (k : Kept). StandsFor k (one_line_more s)) (sym c.self.view_is) stands in
-    too_large c.write_limit.result c.outcome_of-in-Err-Limit.result s c.args.name c.args.query _ c.create.new.self c.in-Err-Limit.which _ _ _ _ c.outcome_of-in-Err-Limit.ensures old
-    (subst (λ e. IsJudged c.args.query (Err e)) c.in-Err-Limit.field-0-is c.in-Err-Limit.ensures.judged) c.in-Err-Limit.ensures.creates c.write_limit.ensures
-
-pub returns-in-Err-Violation : goal.returns-in-Err-Violation
-returns-in-Err-Violation g c = λ s stands.
-    let old = subst (λ (k : Kept). StandsFor k (one_line_more s)) (sym c.self.view_is) stands in
-    violated c.write_violation.result c.outcome_of-in-Err-Violation.result s c.args.name c.args.query _ c.create.new.self _ _ _ c.column_named-column.result _ _ c.outcome_of-in-Err-Violation.ensures old
-    (subst (λ e. IsJudged c.args.query (Err e)) c.in-Err-Violation.field-0-is c.in-Err-Violation.ensures.judged) c.in-Err-Violation.ensures.creates
-    (c.column_named-column.ensures ∙ ap (λ (f : List ℕ). column_named c.self.inside.catalog f c.in-Err-Violation.attr) (c.as_slice.ensures.value ∙ c.streams_of-from.ensures))
-    c.write_violation.ensures
+pub returns : goal.returns
+returns g c = λ s stands.
+    let k : Kept = record { limit = c.self.inside.limit; streams = c.self.inside.catalog; registry = c.self.inside.registry; taken = c.self.inside.taken; lines = c.self.inside.lines } in
+    let r : RegistryValue = c.create.new.self in
+    let old : StandsFor k (one_line_more s) = subst (λ (x : Kept). StandsFor x (one_line_more s)) (sym c.self.view_is) stands in
+    let before : SinkState = g.O.Sink.seen c.args.out.now in
+    let after : SinkState = g.O.Sink.seen c.match-create.out in
+    elim c.match-create.branch [
+      | in-Ok-Filter w ↦
+          takes w.write_filter.result c.match-create.result s c.args.name c.args.query k r kinds.Filter before after (w.result-is ∙ w.outcome_of.ensures) old
+          (subst (λ (v : Verdict). TellsVerdict c.args.query (free_pages s.queries) (Ok v)) w.in-Ok-Filter.field-0-is (w.in-Ok-Filter.ensures.verdict s.queries old.queries))
+          (subst (λ (v : Verdict). Registered k.registry c.args.name c.args.query v r) w.in-Ok-Filter.field-0-is w.in-Ok-Filter.ensures.creates)
+          (subst (λ o. Writes w.write_filter.result before (g.O.Sink.seen o) (acceptance_text c.args.name kinds.Filter)) (sym w.out-is) w.write_filter.ensures)
+      | in-Ok-Accepted w ↦
+          takes w.write_numbers.result c.match-create.result s c.args.name c.args.query k r (kinds.Accepted w.in-Ok-Accepted.numbers) before after (w.result-is ∙ w.outcome_of-in-Ok-Accepted.ensures) old
+          (subst (λ (v : Verdict). TellsVerdict c.args.query (free_pages s.queries) (Ok v)) w.in-Ok-Accepted.field-0-is (w.in-Ok-Accepted.ensures.verdict s.queries old.queries))
+          (subst (λ (v : Verdict). Registered k.registry c.args.name c.args.query v r) w.in-Ok-Accepted.field-0-is w.in-Ok-Accepted.ensures.creates)
+          (subst (λ o. Writes w.write_numbers.result before (g.O.Sink.seen o) (acceptance_text c.args.name (kinds.Accepted w.in-Ok-Accepted.numbers))) (sym w.out-is)
+          (subst (λ (n : Numbers). Writes w.write_numbers.result before (g.O.Sink.seen w.write_numbers.new.out) (acceptance_text c.args.name (kinds.Accepted n))) w.in-Ok-Accepted.numbers-is w.write_numbers.ensures))
+      | in-Err-Memory w ↦
+          subst (λ o. Does o s (asked c.args.name c.args.query) (with_registry k r) before after) (sym w.result-is)
+          (refl, unchanged k r (one_line_more s) w.in-Err-Memory.ensures.creates old, subst (λ o. Wrote before (g.O.Sink.seen o) []) (sym w.out-is) (Wrote-nil before))
+      | in-Err-Pool w ↦
+          no_room w.write_no_pages.result c.match-create.result s c.args.name c.args.query k r before after (w.result-is ∙ w.outcome_of-in-Err-Pool.ensures) old
+          (subst (λ (e : CreateError). TellsVerdict c.args.query (free_pages s.queries) (Err e)) w.in-Err-Pool.field-0-is (w.in-Err-Pool.ensures.verdict s.queries old.queries))
+          w.in-Err-Pool.ensures.creates
+          (subst (λ o. Writes w.write_no_pages.result before (g.O.Sink.seen o) (codes "refused " ++ c.args.name ++ codes " limit pool" ++ 10 ∷ [])) (sym w.out-is) w.write_no_pages.ensures)
+      | in-Err-Limit w ↦
+          too_large w.write_limit.result c.match-create.result s c.args.name c.args.query k r w.in-Err-Limit.which before after (w.result-is ∙ w.outcome_of-in-Err-Limit.ensures) old
+          (subst (λ (e : CreateError). TellsVerdict c.args.query (free_pages s.queries) (Err e)) w.in-Err-Limit.field-0-is (w.in-Err-Limit.ensures.verdict s.queries old.queries))
+          w.in-Err-Limit.ensures.creates
+          (subst (λ o. Writes w.write_limit.result before (g.O.Sink.seen o) (codes "refused " ++ c.args.name ++ codes " limit " ++ which_text w.in-Err-Limit.which ++ 10 ∷ [])) (sym w.out-is) w.write_limit.ensures)
+      | in-Err-Violation w ↦
+          violated w.write_violation.result c.match-create.result s c.args.name c.args.query k r _ _ _ w.column_named-column.result before after (w.result-is ∙ w.outcome_of-in-Err-Violation.ensures) old
+          (subst (λ (e : CreateError). TellsVerdict c.args.query (free_pages s.queries) (Err e)) w.in-Err-Violation.field-0-is (w.in-Err-Violation.ensures.verdict s.queries old.queries))
+          w.in-Err-Violation.ensures.creates
+          (w.column_named-column.ensures ∙ ap (λ (f : List ℕ). column_named c.self.inside.catalog f w.in-Err-Violation.attr) (w.as_slice.ensures.value ∙ c.streams_of-from.ensures))
+          (subst (λ o. Writes w.write_violation.result before (g.O.Sink.seen o)
+          (codes "refused " ++ c.args.name ++ codes " part " ++ decimal w.in-Err-Violation.part ++ 32 ∷ condition_text w.in-Err-Violation.condition ++ 32 ∷ column_text w.column_named-column.result ++ 10 ∷ [])) (sym w.out-is) w.write_violation.ensures)
+    ]

@@ -1,0 +1,94 @@
+-- The columns of the plan of a query are columns of its streams.
+use Rattle.std.proofs.Common.{◌≡◌, ℕ, ◌<◌, List, [], ◌∷◌, length, map, filter, get_or, ℤ, sym, ap, ◌∙◌, subst, arith, All, Contains}
+use Rattle.std.proofs.lemmas.List.{length-map, get_or-map, get_or_default}
+use Rattle.std.proofs.lemmas.List.Elements.{All-nil, All-head, All-tail, All-append, All-map, All-filter, All-weaker}
+use Rattle.bq_model.specs.declared.atom.Attr.{Attr}
+use Rattle.bq_model.specs.declared.atom.Element.TheVariants as element
+use Rattle.bq_model.specs.declared.part.Pair.{Pair}
+use Rattle.bq_model.specs.declared.part.Sign.{Sign}
+use Rattle.bq_model.specs.declared.plan.Kind.{Kind}
+use Rattle.bq_model.specs.declared.plan.Link.{Link}
+use Rattle.bq_model.specs.declared.plan.PartPlan.{PartPlan}
+use Rattle.bq_model.specs.declared.plan.StreamPlan.{StreamPlan}
+use Rattle.bq_model.specs.Query.{QueryValue, attrs_of, consts_of}
+use Rattle.bq_model.specs.Parts.{same_stream, pairs_among, pairs, sign_at, IsPart}
+use Rattle.bq_model.specs.Links.{AreAcross}
+use Rattle.bq_model.specs.Plan.{IsDim, IsKind, IsPartPlan, IsStreamPlan, IsPlan, stream_at}
+use Rattle.bq_schema.specs.Streams.{Shape}
+use Rattle.bq_parser.specs.Resolution.{IsColumnOf, HasNamed}
+use Rattle.bq_parser.proofs.NamedAttrs.{attributes_are_named}
+use Rattle.bq_explain.specs.Named.{HasPair, HasDim, HasKind, HasStream, HasPart}
+
+-- an item is in its list
+inside : {X : Type 0} (xs : List X) (k : ℕ) (d : X) → k < length xs → Contains xs (get_or xs k d)
+inside xs k d lt = (k, lt, get_or_default xs k _ d lt)
+
+-- all attributes are there
+attrs_named : (streams : List Shape) (q : QueryValue) → HasNamed streams q → All (IsColumnOf streams q.from) (attrs_of q.atoms)
+attrs_named streams q h k d lt = attributes_are_named streams q h (get_or (attrs_of q.atoms) k d) (inside (attrs_of q.atoms) k d lt)
+
+-- what holds of the attributes holds of the sides of their pairs
+pairs_among_named : (streams : List Shape) (from : List ℕ) (attrs : List Attr) (consts : List ℤ) → All (IsColumnOf streams from) attrs → All (HasPair streams from) (pairs_among attrs consts)
+pairs_among_named streams from [] consts h = All-nil (HasPair streams from)
+pairs_among_named streams from (a ∷ others) consts h =
+    let head : IsColumnOf streams from a = All-head (IsColumnOf streams from) a others h in
+    let tail : All (IsColumnOf streams from) others = All-tail (IsColumnOf streams from) a others h in
+    let column : Attr → Pair = λ b. record { left = a; right = element.Attr b } in
+    let constant : ℤ → Pair = λ k. record { left = a; right = element.Const k } in
+    let columns : All (HasPair streams from) (map column (filter (same_stream a) others)) =
+    All-map (HasPair streams from) column (filter (same_stream a) others) (All-weaker (IsColumnOf streams from) (λ b. HasPair streams from (column b)) (λ b i. (head, i)) _ (All-filter (same_stream a) (IsColumnOf streams from) others tail)) in
+    let constants : All (HasPair streams from) (map constant consts) = All-map (HasPair streams from) constant consts (λ k d lt. (head, tt)) in
+    All-append (HasPair streams from) _ _ (All-append (HasPair streams from) _ _ constants columns) (pairs_among_named streams from others consts tail)
+
+-- the sides of all pairs are there
+pub pairs_named : (streams : List Shape) (q : QueryValue) → HasNamed streams q → All (HasPair streams q.from) (pairs q)
+unfolding pairs
+pairs_named streams q h = pairs_among_named streams q.from (attrs_of q.atoms) (consts_of q.atoms) (attrs_named streams q h)
+
+-- a part has a sign for each pair
+signs_fit : (q : QueryValue) (s : List Sign) → IsPart q s → length (pairs q) ≡ length s
+signs_fit q s p = sym (length-map (pairs q) (sign_at p.one)) ∙ ap length p.inside.signs
+
+-- the column of which a cell keeps an extreme value is there
+kind_named : (streams : List Shape) (q : QueryValue) (s : List Sign) (place : ℕ) (kind : Kind) → HasNamed streams q → IsKind q s place kind → HasKind streams q.from kind
+kind_named streams q s place Kind.Count h k = tt
+kind_named streams q s place Kind.Present h k = tt
+kind_named streams q s place (Kind.Least a) h k = attributes_are_named streams q h a k.2.named
+kind_named streams q s place (Kind.Greatest a) h k = attributes_are_named streams q h a k.2.named
+
+-- the columns of what is kept of a stream are there
+stream_named : (streams : List Shape) (q : QueryValue) (s : List Sign) (place : ℕ) (kept : StreamPlan) → HasNamed streams q → IsStreamPlan q s place kept → HasStream streams q.from kept
+stream_named streams q s place kept h p = record {
+  dims = All-weaker (IsDim q s place) (HasDim streams q.from) (λ d i. attributes_are_named streams q h d.attr i.name.named) kept.dims.items p.dims.each;
+  kind = kind_named streams q s place kept.kind h p.kind;
+}
+
+-- the sides of a link between streams are there
+across_named : (streams : List Shape) (q : QueryValue) (x y : Attr) → HasNamed streams q → AreAcross q x y → IsColumnOf streams q.from x × IsColumnOf streams q.from y
+across_named streams q x y h a = (attributes_are_named streams q h x a.left, attributes_are_named streams q h y a.right)
+
+-- the columns of a part are there
+part_named : (streams : List Shape) (q : QueryValue) (part : PartPlan) → HasNamed streams q → IsPart q part.signs.items → IsPartPlan q part → HasPart streams q part
+part_named streams q part h is p = record {
+  signs = signs_fit q part.signs.items is;
+  equal = λ k d lt.
+      let l : Link = get_or part.equal.items k d in
+      across_named streams q l.left l.right h ((p.equal l.left l.right).0 (inside part.equal.items k d lt)).1.across;
+  less = λ k d lt.
+      let l : Link = get_or part.less.items k d in
+      across_named streams q l.left l.right h ((p.less l.left l.right).0 (inside part.less.items k d lt)).across;
+  kept = λ k d lt.
+      let P : StreamPlan → Type 0 = λ s. HasStream streams q.from s in
+      subst P (get_or_default part.streams.items k _ d lt) (stream_named streams q part.signs.items k (stream_at part k) h (p.streams k (omega (arith, p.count))));
+}
+
+-- what holds of the images of all items
+All-of_map : {X Y : Type 0} (P : Y → Type 0) (f : X → Y) (xs : List X) → All P (map f xs) → All (λ x. P (f x)) xs
+All-of_map P f xs h k d lt = subst P (get_or-map f xs k d (f d) lt) (h k (f d) (rw length-map lt))
+
+-- the columns of all parts of a plan are there
+pub plan_named : (streams : List Shape) (q : QueryValue) (parts : List PartPlan) → HasNamed streams q → IsPlan q parts → All (HasPart streams q) parts
+plan_named streams q parts h p = λ k d lt.
+    let signs : PartPlan → List Sign = λ part. part.signs.items in
+    let is : All (λ part. IsPart q (signs part)) parts = All-of_map (IsPart q) signs parts p.parts.each in
+    part_named streams q (get_or parts k d) h (is k d lt) (p.plans k d lt)

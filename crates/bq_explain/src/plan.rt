@@ -1,0 +1,64 @@
+//! The text of a plan, between the name of its query and this name again.
+ghost use Rattle.std.specs.Prelude.{◌≡◌};
+ghost use Rattle.bq_io.specs.Sink.{Writes};
+ghost use Rattle.bq_model.specs.Numbers.{IsPlanOf};
+ghost use Rattle.bq_parser.specs.Resolution.{HasNamed};
+ghost use Rattle.bq_explain.specs.Text.{query_line, plan_text, explain_text};
+
+use crate::lines::write_name_line;
+use crate::parts::write_parts;
+use bq_io::{Sink, WriteFault, write_all};
+use bq_model::{Plan, Query};
+use bq_parser::print_query;
+use bq_schema::Catalog;
+use bq_text::Name;
+
+// The query in its printed form, from SELECT on.
+#[tactic(auto, using(crate::proofs::Writers::writes_after))]
+fn write_query_line<O: Sink>(
+    out: &mut O,
+    query: &Query,
+    catalog: &Catalog,
+) -> Result<(), WriteFault>
+    requires { HasNamed catalog.now query.now }
+    ensures { Writes result (O.seen out.old) (O.seen out.new) (query_line catalog.now query.now) }
+{
+    print_query(query, catalog, out)?;
+    write_all(out, b"\n")
+}
+
+// `filter`, or the parts.
+fn write_plan<O: Sink>(
+    out: &mut O,
+    query: &Query,
+    plan: &Plan,
+    catalog: &Catalog,
+) -> Result<(), WriteFault>
+    requires named { HasNamed catalog.now query.now }
+    requires plan { IsPlanOf query.now plan.now }
+    ensures { Writes result (O.seen out.old) (O.seen out.new) (plan_text catalog.now query.now plan.now) }
+{
+    match plan {
+        Plan::Filter => write_all(out, b"filter\n"),
+        Plan::Parts { parts, .. } => write_parts(out, query, parts, catalog),
+    }
+}
+
+/// Writes the text of the plan of a query, one line after another, each ended by LF. The names of its streams and columns are
+/// those of a catalog that has them. Where the sink fails, a front of the text was written.
+pub fn explain<O: Sink>(
+    name: &Name,
+    query: &Query,
+    plan: &Plan,
+    catalog: &Catalog,
+    out: &mut O,
+) -> Result<(), WriteFault>
+    requires named { HasNamed catalog.now query.now }
+    requires plan { IsPlanOf query.now plan.now }
+    ensures { Writes result (O.seen out.old) (O.seen out.new) (explain_text catalog.now name.now query.now plan.now) }
+{
+    write_name_line(out, b"explain ", name.bytes())?;
+    write_query_line(out, query, catalog)?;
+    write_plan(out, query, plan, catalog)?;
+    write_name_line(out, b"end ", name.bytes())
+}

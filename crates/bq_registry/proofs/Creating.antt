@@ -1,0 +1,61 @@
+-- What CREATE QUERY does.
+use Rattle.std.proofs.Common.{◌≡◌, ℕ, ◌≤◌, List, [], ◌∷◌, ◌++◌, length, sym, ap, ◌∙◌, subst, arith, IsFalse, Ok, Err, All, length-append}
+use Rattle.std.specs.declared.result.Result.{Result}
+use Rattle.bq_model.specs.declared.plan.Plan.{Plan}
+use Rattle.bq_model.specs.declared.decision.Which.TheVariants.{Parts}
+use Rattle.bq_model.specs.Query.{QueryValue, is_filter}
+use Rattle.bq_model.specs.Parts.{HasMoreParts}
+use Rattle.bq_model.specs.Verdict.{most}
+use Rattle.bq_pool.specs.Extents.{PoolValue}
+use Rattle.bq_executor.specs.Executor.{IsAccepted, waiting_in}
+use Rattle.bq_registry.specs.declared.live.Live.{Live}
+use Rattle.bq_registry.specs.declared.refusal.CreateError.{CreateError}
+use Rattle.bq_registry.specs.declared.refusal.CreateError.TheVariants as refusals
+use Rattle.bq_registry.specs.declared.verdict.Verdict.{Verdict}
+use Rattle.bq_registry.specs.Live.{newly}
+use Rattle.bq_registry.specs.Registry.{RegistryValue, AreLiveFor}
+use Rattle.bq_registry.specs.Judged.{TellsVerdict, CarriesWhy, Creates}
+use Rattle.bq_registry.specs.Admitted.{Admits}
+use Rattle.bq_registry.proofs.Telling.{tells_accepted, tells_pool}
+use Rattle.bq_registry.proofs.Whole.{beside_stands, added_stands, added_all}
+
+abbrev pub registry_of : PoolValue → List Live → RegistryValue
+registry_of pool live = record { pool = pool; live = live }
+
+pub tells : (result : Result Verdict CreateError) (name : List ℕ) (q : QueryValue) (plan : Plan) (pool : PoolValue) (live : List Live) (later : PoolValue) (after : List Live)
+    → IsAccepted q plan → (IsFalse (is_filter q) → ¬ HasMoreParts q (most Parts)) → Admits result name q plan pool live later after
+    → TellsVerdict q pool.free result × CarriesWhy q pool.free result
+tells (Ok verdict) name q plan pool live later after a few m = (subst (λ (v : Verdict). TellsVerdict q pool.free (Ok v)) (sym m.0) (tells_accepted q plan pool.free a few m.1), tt)
+tells (Err (refusals.Violation p c t)) name q plan pool live later after a few m = absurd m
+tells (Err (refusals.Limit which value l)) name q plan pool live later after a few m = absurd m
+tells (Err (refusals.Pool needed free)) name q plan pool live later after a few m = (tells_pool q plan pool.free needed a few m.0 m.2, (m.2, m.1))
+tells (Err refusals.Memory) name q plan pool live later after a few m = (tt, tt)
+
+pub creates : (result : Result Verdict CreateError) (name : List ℕ) (q : QueryValue) (plan : Plan) (pool : PoolValue) (live : List Live) (later : PoolValue) (after : List Live)
+    → IsAccepted q plan → Admits result name q plan pool live later after
+    → Creates (registry_of pool live) name q result (registry_of later after)
+creates (Ok verdict) name q plan pool live later after a m =
+    let last = m.4.1 in
+    let l : Live = last.live in
+    record {
+      plan = plan;
+      accepted = a;
+      told = m.0;
+      stands = λ queries all. subst (λ (x : List Live). AreLiveFor later x (queries ++ newly name q plan ∷ [])) (sym last.last)
+          (added_stands pool later live queries name q plan m.4.0 l m.3 all last.new);
+      quiet = λ quiet. subst (λ (x : List Live). All (λ (y : Live). waiting_in y.executor ≡ []) x) (sym last.last) (added_all (λ (y : Live). waiting_in y.executor ≡ []) live l quiet last.new.none);
+      given = λ n given. subst (λ (x : List Live). All (λ (y : Live). y.executor.given ≤ n) x) (sym last.last) (added_all (λ (y : Live). y.executor.given ≤ n) live l given (omega (arith, last.new.given)));
+      size = ap length last.last ∙ length-append live (l ∷ []);
+    }
+creates (Err (refusals.Violation p c t)) name q plan pool live later after a m = absurd m
+creates (Err (refusals.Limit which value l)) name q plan pool live later after a m = absurd m
+creates (Err (refusals.Pool needed free)) name q plan pool live later after a m = record {
+  live = m.4;
+  free = ap (λ (p : PoolValue). p.free) m.3;
+  stands = λ queries all. subst (λ (p : PoolValue). AreLiveFor p after queries) (sym m.3) (subst (λ (x : List Live). AreLiveFor pool x queries) (sym m.4) all);
+}
+creates (Err refusals.Memory) name q plan pool live later after a m = record {
+  live = m.3;
+  free = m.2;
+  stands = λ queries all. subst (λ (x : List Live). AreLiveFor later x queries) (sym m.3) (beside_stands pool later live queries m.1 all);
+}

@@ -1,0 +1,85 @@
+//! Taking a query among the live ones, and out of them.
+ghost use Rattle.std.specs.Prelude.{◌≡◌, ◌<◌, ◌*◌, length, replicate};
+ghost use Rattle.bq_model.specs.declared.cell.Cell.TheVariants as cell;
+ghost use Rattle.bq_model.specs.Numbers.{pages_of};
+ghost use Rattle.bq_pool.specs.Extents.{cells_of, IsLive};
+ghost use Rattle.bq_executor.specs.Executor.{IsAccepted};
+ghost use Rattle.bq_registry.specs.Registry.{IsSound};
+ghost use Rattle.bq_registry.specs.Admitted.{SettlesIn, Admits, IsDropped};
+
+use crate::live::Live;
+use crate::refusal::CreateError;
+use crate::verdict::{Verdict, pages_of, verdict_of};
+use bq_executor::Executor;
+use bq_model::{Plan, Query};
+use bq_pool::{Extent, Pool, PoolError};
+use bq_text::Name;
+use std::alloc::{AllocError, AllocFailed, Global};
+
+// Takes a query among the live ones whose pages were taken. For want of memory its pages are given back.
+fn settle_in(
+    alloc: Global,
+    pool: &mut Pool,
+    live: &mut Vec<Live>,
+    name: Name,
+    query: Query,
+    plan: Plan,
+    extent: Extent,
+) -> Result<(), AllocError>
+    requires accepted { IsAccepted query plan }
+    requires pages { extent.pages ≡ pages_of plan }
+    requires there { IsLive pool.old extent }
+    requires empty { cells_of pool.old extent ≡ replicate (64 * extent.pages) cell.Empty }
+    ensures { SettlesIn result name query plan extent pool.old live.old.items pool.new live.new.items }
+{
+    let executor = match Executor::new(alloc, query, plan, extent) {
+        Ok(executor) => executor,
+        Err((extent, error)) => {
+            pool.give_back(extent);
+            return Err(error);
+        }
+    };
+    let _sound = executor.plan();
+    match live.push(Live { name, executor }) {
+        Ok(()) => Ok(()),
+        Err(AllocFailed { value }) => {
+            let Live { name: _, executor } = value;
+            executor.close(pool);
+            Err(AllocError)
+        }
+    }
+}
+
+/// Takes a query that is accepted among the live ones, the last of them, if its pages are free.
+pub fn admit(
+    alloc: Global,
+    pool: &mut Pool,
+    live: &mut Vec<Live>,
+    name: Name,
+    query: Query,
+    plan: Plan,
+) -> Result<Verdict, CreateError>
+    requires accepted { IsAccepted query plan }
+    requires sound { IsSound pool.old live.old.items }
+    requires room { length live.old.items < 64 }
+    ensures { Admits result name query plan pool.old live.old.items pool.new live.new.items }
+{
+    let verdict = verdict_of(&plan);
+    match pool.take(pages_of(&plan)) {
+        Err(PoolError::Full { needed, free }) => Err(CreateError::Pool { needed, free }),
+        Ok(extent) => match settle_in(alloc, pool, live, name, query, plan, extent) {
+            Ok(()) => Ok(verdict),
+            Err(_) => Err(CreateError::Memory),
+        },
+    }
+}
+
+/// Takes the live query at a place out of the live ones; its pages are free again.
+pub fn drop_at(pool: &mut Pool, live: &mut Vec<Live>, place: usize)
+    requires sound { IsSound pool.old live.old.items }
+    requires there { place < length live.old.items }
+    ensures { IsDropped place pool.old live.old.items pool.new live.new.items }
+{
+    let Live { name: _, executor } = live.remove(place);
+    executor.close(pool);
+}
