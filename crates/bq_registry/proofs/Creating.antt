@@ -45,7 +45,9 @@ creates (Ok verdict) name q plan pool live later after a m =
           (added_stands pool later live queries name q plan m.4.0 l m.3 all last.new);
       quiet = λ quiet. subst (λ (x : List Live). All (λ (y : Live). waiting_in y.executor ≡ []) x) (sym last.last) (added_all (λ (y : Live). waiting_in y.executor ≡ []) live l quiet last.new.none);
       given = λ n given. subst (λ (x : List Live). All (λ (y : Live). y.executor.given ≤ n) x) (sym last.last) (added_all (λ (y : Live). y.executor.given ≤ n) live l given (omega (arith, last.new.given)));
-      size = ap length last.last ∙ length-append live (l ∷ []);
+      last = l;
+      list = last.last;
+      asked = last.new.asked;
     }
 creates (Err (refusals.Violation p c t)) name q plan pool live later after a m = absurd m
 creates (Err (refusals.Limit which value l)) name q plan pool live later after a m = absurd m

@@ -28,6 +28,7 @@ took_none r pool live sound = record {
   given = λ i l a. omega arith;
   ready = λ i l a b. refl;
   plans = λ i l a. refl;
+  asked = λ i l a. refl;
   done = λ queries all i l q a b. absurd (omega arith);
   others = λ queries all i l q a b. all.each i l q b;
 }
@@ -129,6 +130,11 @@ took_more r n pool mid later before now l' d t within one =
           (λ e. ap (λ (x : ExecutorValue). x.plan) one.same ∙ ap (λ (x : Live). x.executor.plan) (t.ready n d (omega arith) within)
           ∙ ap (λ (x : Live). x.executor.plan) (other_default before n d c within ∙ ap (λ j. slice_index_or before j c) (sym e)))
           (λ ne. t.plans k c a);
+      asked = λ k c a.
+          put (λ (x : Live). x.executor.query ≡ (slice_index_or before k c).executor.query) now n k c l' here
+          (λ e. ap (λ (x : ExecutorValue). x.query) one.same ∙ ap (λ (x : Live). x.executor.query) (t.ready n d (omega arith) within)
+          ∙ ap (λ (x : Live). x.executor.query) (other_default before n d c within ∙ ap (λ j. slice_index_or before j c) (sym e)))
+          (λ ne. t.asked k c a);
       done = λ queries all k c q a b.
           put (λ (x : Live). IsLiveFor later x (with_row r (slice_index_or queries k q)) × (waiting_in x.executor ≡ new_answers (slice_index_or queries k q).query (slice_index_or queries k q).history r)) now n k c l' here
           (λ e. took_here r mid later l l' (slice_index_or queries k q) one

@@ -18,7 +18,7 @@ use Rattle.bq_pool.specs.Extents.{PoolValue}
 use Rattle.bq_executor.specs.Executor.{ExecutorValue}
 use Rattle.bq_registry.specs.declared.live.Live.{Live}
 use Rattle.bq_registry.specs.Live.{LiveQuery, newly, with_row, without, free_pages}
-use Rattle.bq_registry.specs.Registry.{IsSound, IsLiveFor, AreLiveFor, Wait}
+use Rattle.bq_registry.specs.Registry.{IsSound, IsLiveFor, AreLiveFor, Wait, KeepQueries}
 use Rattle.bq_registry.specs.Taken.{TookFirst}
 use Rattle.bq_registry.specs.Written.{WroteOne, WroteFirst}
 use Rattle.bq_registry.specs.Admitted.{AreBeside, IsNew, IsDropped}
@@ -250,3 +250,21 @@ lent_pages pool (l ∷ live) (q ∷ queries) p all =
 -- the free pages are those beside the pages of the live queries
 pub free_beside : (pool : PoolValue) (live : List Live) (queries : List LiveQuery) → IsSound pool live → AreLiveFor pool live queries → pool.free ≡ free_pages queries
 free_beside pool live queries s all = (let e = lent_pages pool live queries s.pages all in omega (arith, e, s.free))
+
+-- a row and writing keep what is asked, and a query that is dropped leaves the others
+pub rows_keep : (r : Arrival) (pool later : PoolValue) (before after : List Live) → TookFirst r (length before) pool later before after → KeepQueries before after
+rows_keep r pool later before after t i l a = (i, omega (arith, a, t.size), t.asked i l (omega (arith, a, t.size)))
+
+pub written_keep : (before after : List Live) → WroteFirst (length before) before after → KeepQueries before after
+written_keep before after w i l a =
+    let here : i < length before = omega (arith, a, w.size) in
+    (i, here, ap (λ (e : ExecutorValue). e.query) (w.done i l here here).same)
+
+pub dropped_keep : (place : ℕ) (pool later : PoolValue) (live after : List Live) → place < length live → IsDropped place pool live later after → KeepQueries live after
+dropped_keep place pool later live after within d =
+    subst (KeepQueries live) (sym d.left) (λ i l a.
+    (let size : length (remove live place) + 1 ≡ length live = length-remove live place within in
+    elim (cases_lt i place) [
+      | inl less ↦ (i, omega (arith, less, within), ap (λ (x : Live). x.executor.query) (get_or-remove_below live place l i less within))
+      | inr past ↦ (i + 1, omega (arith, a, size), ap (λ (x : Live). x.executor.query) (get_or-remove_above live place l i past within))
+    ]))

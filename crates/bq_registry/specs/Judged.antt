@@ -1,5 +1,5 @@
 -- What CREATE QUERY comes to.
-use Rattle.std.specs.Prelude.{◌≡◌, ℕ, ◌+◌, ◌<◌, List, [], ◌∷◌, ◌++◌, length, IsFalse, IfSome, ⊤}
+use Rattle.std.specs.Prelude.{◌≡◌, ℕ, ◌<◌, List, [], ◌∷◌, ◌++◌, length, IsFalse, IfSome, ⊤}
 use Rattle.std.specs.declared.option.Option.{Option}
 use Rattle.std.specs.declared.option.Option.TheVariants.{None, Some}
 use Rattle.std.specs.declared.result.Result.{Result}
@@ -19,6 +19,7 @@ use Rattle.bq_registry.specs.declared.refusal.CreateError.{CreateError}
 use Rattle.bq_registry.specs.declared.refusal.CreateError.TheVariants as refusals
 use Rattle.bq_registry.specs.declared.verdict.Verdict.{Verdict}
 use Rattle.bq_registry.specs.declared.verdict.Verdict.TheVariants as verdicts
+use Rattle.bq_registry.specs.declared.live.Live.{Live}
 use Rattle.bq_registry.specs.Live.{LiveQuery, newly}
 use Rattle.bq_registry.specs.Registry.{RegistryValue, StandsFor, IsQuiet, GivenUpto}
 
@@ -70,7 +71,9 @@ pub record Registered (old : RegistryValue) (name : List ℕ) (q : QueryValue) (
   pub stands : (queries : List LiveQuery) → StandsFor old queries → StandsFor new (queries ++ newly name q plan ∷ [])
   pub quiet : IsQuiet old → IsQuiet new
   pub given : (n : ℕ) → GivenUpto n old → GivenUpto n new
-  pub size : length new.live ≡ length old.live + 1
+  pub last : Live
+  pub list : new.live ≡ old.live ++ last ∷ []
+  pub asked : last.executor.query ≡ q
 
 -- the registry stands for what it stood for, and as many pages are free
 pub record IsUnchanged (old new : RegistryValue) : Type 0 where

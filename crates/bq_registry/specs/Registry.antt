@@ -46,6 +46,10 @@ StandsFor r queries = AreLiveFor r.pool r.live queries
 abbrev pub IsQuiet : RegistryValue → Type 0
 IsQuiet r = All (λ l. waiting_in l.executor ≡ []) r.live
 
+-- each live query asks what one did before
+abbrev pub KeepQueries : List Live → List Live → Type 0
+KeepQueries old new = (i : ℕ) (l : Live) → i < length new → (j : ℕ) × (j < length old) × ((slice_index_or new i l).executor.query ≡ (slice_index_or old j l).executor.query)
+
 -- to no live query were more rows given
 abbrev pub GivenUpto : ℕ → RegistryValue → Type 0
 GivenUpto n r = All (λ l. l.executor.given ≤ n) r.live

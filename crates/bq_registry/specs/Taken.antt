@@ -23,6 +23,7 @@ pub record TookFirst (r : Arrival) (n : ℕ) (pool later : PoolValue) (before af
   pub given : (i : ℕ) (l : Live) → i < length before → (slice_index_or after i l).executor.given ≤ (slice_index_or before i l).executor.given + 1
   pub ready : (i : ℕ) (l : Live) → n ≤ i → i < length before → slice_index_or after i l ≡ slice_index_or before i l
   pub plans : (i : ℕ) (l : Live) → i < length before → (slice_index_or after i l).executor.plan ≡ (slice_index_or before i l).executor.plan
+  pub asked : (i : ℕ) (l : Live) → i < length before → (slice_index_or after i l).executor.query ≡ (slice_index_or before i l).executor.query
   pub done : (queries : List LiveQuery) → AreLiveFor pool before queries → (i : ℕ) (l : Live) (q : LiveQuery) → i < n → i < length before
       → IsLiveFor later (slice_index_or after i l) (with_row r (slice_index_or queries i q))
       × (waiting_in (slice_index_or after i l).executor ≡ new_answers (slice_index_or queries i q).query (slice_index_or queries i q).history r)

@@ -3,9 +3,10 @@ ghost use Rattle.std.specs.Prelude.{◌≡◌, ◌<◌, ◌≤◌, ◌+◌, ◌^
 ghost use Rattle.std.specs.List.{flat_map, position, list_any};
 ghost use Rattle.std.specs.Str.{bytes_eq};
 ghost use Rattle.bq_io.specs.Sink.{Writes};
+ghost use Rattle.bq_model.specs.Numbers.{IsPlanOf};
 ghost use Rattle.bq_executor.specs.Executor.{arrival};
 ghost use Rattle.bq_registry.specs.Live.{LiveQuery, with_row, without, free_pages};
-ghost use Rattle.bq_registry.specs.Registry.{IsSound, waiting_text, most_steps};
+ghost use Rattle.bq_registry.specs.Registry.{IsSound, KeepQueries, waiting_text, most_steps};
 
 use crate::admission::{admit, drop_at};
 use crate::live::Live;
@@ -125,7 +126,8 @@ impl Registry {
     /// The plan of the live query at a place.
     pub fn plan(&self, place: usize) -> &Plan
         requires { place < length self.now.live }
-        ensures { (d : Live) → result.now ≡ (slice_index_or self.now.live place d).executor.plan }
+        ensures value { (d : Live) → result.now ≡ (slice_index_or self.now.live place d).executor.plan }
+        ensures plan { (d : Live) → IsPlanOf (slice_index_or self.now.live place d).executor.query result.now }
     {
         self.live[place].executor.plan()
     }
@@ -158,6 +160,7 @@ impl Registry {
         ensures stands { (queries : List LiveQuery) → StandsFor self.old queries → StandsFor self.new (map (with_row (arrival stream row.now.items)) queries) }
         ensures waits { (queries : List LiveQuery) → StandsFor self.old queries → Wait self.new.live queries (arrival stream row.now.items) }
         ensures given { (n : ℕ) → GivenUpto n self.old → GivenUpto (n + 1) self.new }
+        ensures queries { KeepQueries self.old.live self.new.live }
         ensures steps { steps.new ≤ steps.old + most_steps self.old.live }
     {
         take_all(&mut self.pool, &mut self.live, stream, row, steps);
@@ -170,6 +173,7 @@ impl Registry {
         ensures quiet { IsQuiet self.new }
         ensures stands { (queries : List LiveQuery) → StandsFor self.old queries → StandsFor self.new queries }
         ensures given { (n : ℕ) → GivenUpto n self.old → GivenUpto n self.new }
+        ensures queries { KeepQueries self.old.live self.new.live }
     {
         write_all(&mut self.live, out)
     }
@@ -180,6 +184,7 @@ impl Registry {
         ensures stands { (queries : List LiveQuery) → StandsFor self.old queries → StandsFor self.new (without name.now queries) }
         ensures quiet { IsQuiet self.old → IsQuiet self.new }
         ensures given { (n : ℕ) → GivenUpto n self.old → GivenUpto n self.new }
+        ensures queries { KeepQueries self.old.live self.new.live }
     {
         match place_of(&self.live, name) {
             Some(place) => drop_at(&mut self.pool, &mut self.live, place),

@@ -1,3 +1,4 @@
+pub mod Explaining
 pub mod Deciding
 pub mod Grouped
 pub mod LineRuns

@@ -1,5 +1,5 @@
 -- What is printed: the reply to a line, and the text of a session.
-use Rattle.std.specs.Prelude.{◌≡◌, ℕ, ◌+◌, List, [], ◌∷◌, ◌++◌, codes, decimal, ⊤}
+use Rattle.std.specs.Prelude.{◌≡◌, ℕ, ◌+◌, List, [], ◌∷◌, ◌++◌, codes, decimal, ⊤, if◌then◌else◌}
 use Rattle.std.specs.List.{flat_map}
 use Rattle.bq_text.specs.Lines.{lines}
 use Rattle.bq_text.specs.Tuple.{tuple_line}
@@ -17,11 +17,13 @@ use Rattle.bq_model.specs.Query.{QueryValue}
 use Rattle.bq_model.specs.Verdict.{Verdict}
 use Rattle.bq_model.specs.Verdict as verdicts
 use Rattle.bq_model.specs.Meaning.{Arrival, new_answers}
+use Rattle.std.specs.Str.{bytes_eq}
+use Rattle.bq_explain.specs.Text.{explain_text}
 use Rattle.bq_registry.specs.Live.{LiveQuery}
-use Rattle.bq_session.specs.Request.{Request, silent, created, asked, dropped, taken, refused}
+use Rattle.bq_session.specs.Request.{Request, silent, created, asked, explained, dropped, taken, refused}
 use Rattle.bq_session.specs.Answer.{Answer, plain, registered, decided}
 use Rattle.bq_session.specs.declared.word.Word.{Word}
-use Rattle.bq_session.specs.declared.word.Word.TheVariants.{LineTooLong, Syntax, Limit, Duplicate, TooMany, UnknownStream, UnknownColumn, SelfJoin, UnknownQuery, Arity, Value, RowLimit, Unbuilt}
+use Rattle.bq_session.specs.declared.word.Word.TheVariants.{LineTooLong, Syntax, Limit, Duplicate, TooMany, UnknownStream, UnknownColumn, SelfJoin, UnknownQuery, Arity, Value, RowLimit}
 use Rattle.bq_session.specs.State.{State, empty, next_of}
 use Rattle.bq_session.specs.Answers.{IsAnswer}
 
@@ -38,7 +40,6 @@ word_text UnknownQuery = codes "UnknownQuery"
 word_text Arity = codes "Arity"
 word_text Value = codes "Value"
 word_text RowLimit = codes "RowLimit"
-word_text Unbuilt = codes "Unbuilt"
 
 -- what a live query answers to a row
 abbrev pub answers_to : Arrival → LiveQuery → List ℕ
@@ -79,11 +80,17 @@ verdict_text streams name q (verdicts.limit which) = codes "refused " ++ name ++
 verdict_text streams name q verdicts.pool = codes "refused " ++ name ++ codes " limit pool" ++ 10 ∷ []
 verdict_text streams name q (verdicts.accepted numbers) = []
 
+-- how the first live query of this name runs
+abbrev pub explained_text : List Shape → List ℕ → List LiveQuery → List ℕ
+explained_text streams name [] = []
+explained_text streams name (q ∷ queries) = if bytes_eq q.name name then explain_text streams name q.query q.plan else explained_text streams name queries
+
 -- the reply to a line that asks for this, where no verdict is due
 abbrev pub reply_by : State → Request → List ℕ
 reply_by s silent = []
 reply_by s (created name columns) = codes "ok stream " ++ name ++ 10 ∷ []
 reply_by s (asked name query) = []
+reply_by s (explained name) = explained_text s.streams name s.queries
 reply_by s (dropped name) = codes "ok drop " ++ name ++ 10 ∷ []
 reply_by s (taken stream values) = flat_map (answers_to (record { stream = stream; values = values })) s.queries
 reply_by s (refused word) = codes "error " ++ decimal (s.lines + 1) ++ 32 ∷ word_text word ++ 10 ∷ []

@@ -1,15 +1,16 @@
 -- What a session stands for, and what a line does to it.
-use Rattle.std.specs.Prelude.{◌≡◌, ℕ, ◌≤◌, ◌^◌, Bool, true, false, List, [], map, IsTrue}
+use Rattle.std.specs.Prelude.{◌≡◌, ℕ, ◌≤◌, ◌^◌, Bool, true, false, List, [], map, IsTrue, All}
 use Rattle.std.specs.declared.result.Result.{Result}
 use Rattle.std.specs.declared.result.Result.TheVariants.{Ok, Err}
 use Rattle.bq_io.specs.Sink.{SinkState, Wrote, BrokeOff}
 use Rattle.bq_schema.specs.Streams.{Shape}
+use Rattle.bq_parser.specs.Resolution.{HasNamed}
 use Rattle.bq_registry.specs.declared.live.Live.{Live}
 use Rattle.bq_registry.specs.Registry.{RegistryValue, IsQuiet, GivenUpto}
 use Rattle.bq_registry.specs.Registry as registry
 use Rattle.bq_session.specs.declared.outcome.LineOutcome.{LineOutcome}
 use Rattle.bq_session.specs.declared.outcome.LineOutcome.TheVariants.{Done, WriteFault, Memory}
-use Rattle.bq_session.specs.Request.{Request, silent, created, asked, dropped, taken, refused}
+use Rattle.bq_session.specs.Request.{Request, silent, created, asked, explained, dropped, taken, refused}
 use Rattle.bq_session.specs.Requests.{IsRequest, IsStatementRequest}
 use Rattle.bq_session.specs.Answer.{Answer}
 use Rattle.bq_session.specs.Answers.{Settles}
@@ -24,12 +25,14 @@ pub record Kept : Type 0 where
   pub taken : ℕ
   pub lines : ℕ
 
--- what holds of all that a session keeps: each row is a line, no more rows were taken than may be, and no live query was given more
+-- what holds of all that a session keeps: each row is a line, no more rows were taken than may be, no live query was given more, and
+-- the streams and columns that the live queries name are there
 pub record IsSound (k : Kept) : Type 0 where
   pub rows : k.taken ≤ k.lines
   pub within : k.taken ≤ k.limit
   pub limit : k.limit ≤ 2 ^ 40
   pub given : GivenUpto k.taken k.registry
+  pub named : All (λ (l : Live). HasNamed k.streams l.executor.query) k.registry.live
 
 -- the names of the live queries
 abbrev pub names_in : RegistryValue → List (List ℕ)
@@ -55,6 +58,7 @@ abbrev pub creates : Request → Bool
 creates (created name columns) = true
 creates (asked name query) = true
 creates silent = false
+creates (explained name) = false
 creates (dropped name) = false
 creates (taken stream values) = false
 creates (refused word) = false

@@ -197,7 +197,6 @@ fn word_text(word: Word) -> &'static [u8]
         Word::Arity => b"Arity",
         Word::Value => b"Value",
         Word::RowLimit => b"RowLimit",
-        Word::Unbuilt => b"Unbuilt",
     }
 }
 

@@ -1,5 +1,7 @@
 //! The session.
-ghost use Rattle.std.specs.Prelude.{◌≡◌, ℕ, ◌+◌, ◌<◌, ◌≤◌, ◌^◌, List, None, IfOk, IsTrue, length, nat_lt};
+ghost use Rattle.std.specs.Prelude.{◌≡◌, ℕ, ◌+◌, ◌<◌, ◌≤◌, ◌^◌, List, None, Some, IfOk, IsTrue, length, nat_lt};
+ghost use Rattle.std.specs.List.{position};
+ghost use Rattle.std.specs.Str.{bytes_eq};
 ghost use Rattle.bq_parser.specs.Grammar.{IsWhole};
 ghost use Rattle.bq_parser.specs.Limits.{limit_of};
 ghost use Rattle.bq_parser.specs.Resolution.{IsTaken, HasNamed};
@@ -7,8 +9,8 @@ ghost use Rattle.bq_schema.specs.Rows.{is_row_line};
 ghost use Rattle.bq_schema.specs.Streams.{added};
 ghost use Rattle.bq_registry.specs.Registry.{most_steps};
 ghost use Rattle.bq_session.specs.State.{State, empty, one_line_more};
-ghost use Rattle.bq_session.specs.Request.{asked, refused};
-ghost use Rattle.bq_session.specs.Requests.{row_request, stream_request, query_request, drop_request, statement_request};
+ghost use Rattle.bq_session.specs.Request.{asked, explained, refused};
+ghost use Rattle.bq_session.specs.Requests.{row_request, stream_request, query_request, explain_request, drop_request, statement_request};
 ghost use Rattle.bq_session.specs.Session.{outcome_of};
 
 use crate::outcome::LineOutcome;
@@ -16,9 +18,10 @@ use crate::reply::{
     write_created, write_dropped, write_filter, write_limit, write_no_pages, write_numbers,
     write_refused, write_violation,
 };
-use crate::statement::{explain_word, find_query, is_live};
+use crate::statement::{find_query, is_live};
 use crate::word::{Word, parse_word, row_word, stream_word};
 use arrayvec::ArrayVec;
+use bq_explain::explain;
 use bq_io::{Sink, Steps, WriteFault};
 use bq_model::Query;
 use bq_parser::{LineKind, SelectAst, Statement, classify, column_named, parse};
@@ -183,7 +186,7 @@ impl Session {
                 out,
             ),
             Statement::CreateQuery { name, select } => self.create_query(name, &select, out),
-            Statement::Explain { name } => self.refuse(explain_word(&self.registry, &name), out),
+            Statement::Explain { name } => self.explain(&name, out),
             Statement::DropQuery { name } => self.drop_query(&name, out),
         }
     }
@@ -211,6 +214,32 @@ impl Session {
             Ok(query) => self.decide(name, query, out),
             Err(word) => self.refuse(word, out),
         }
+    }
+
+    // Explains the live query of a name, in a line that was counted.
+    fn explain<O: Sink>(&self, name: &Name, out: &mut O) -> LineOutcome
+        ensures { (s : State) → StandsFor self.now (one_line_more s)
+            → Does result s (explain_request (names_in self.now.registry) name.now) self.now (O.seen out.old) (O.seen out.new) }
+    {
+        if !is_live(&self.registry, name) {
+            return self.refuse(Word::UnknownQuery, out);
+        }
+        match self.registry.find(name) {
+            Some(place) => self.explain_at(place, name, out),
+            None => self.refuse(Word::UnknownQuery, out),
+        }
+    }
+
+    // Explains the live query at a place, which has this name.
+    fn explain_at<O: Sink>(&self, place: usize, name: &Name, out: &mut O) -> LineOutcome
+        requires found { position (λ l. bytes_eq l.name name.now) self.now.registry.live ≡ Some place }
+        requires there { place < length self.now.registry.live }
+        ensures { (s : State) → StandsFor self.now (one_line_more s)
+            → Does result s (explained name.now) self.now (O.seen out.old) (O.seen out.new) }
+    {
+        let query = self.registry.query(place);
+        let plan = self.registry.plan(place);
+        outcome_of(explain(name, query, plan, &self.catalog, out))
     }
 
     // Drops the live query of a name, in a line that was counted.

@@ -3,9 +3,8 @@ ghost use Rattle.std.specs.Prelude.{◌≡◌, ◌<◌, IfOk, length, nat_le};
 ghost use Rattle.std.specs.List.{list_any};
 ghost use Rattle.std.specs.Str.{bytes_eq};
 ghost use Rattle.bq_parser.specs.Resolution.{IsTaken, HasNamed};
-ghost use Rattle.bq_session.specs.Request.{refused};
 ghost use Rattle.bq_session.specs.Requests as requests;
-ghost use Rattle.bq_session.specs.Requests.{query_request, explain_request};
+ghost use Rattle.bq_session.specs.Requests.{query_request};
 ghost use Rattle.bq_session.specs.Decided.{query_found};
 ghost use Rattle.bq_session.specs.Session.{names_in};
 
@@ -53,16 +52,5 @@ pub fn find_query(
     match resolve(select, catalog) {
         Err(error) => Err(resolve_word(error)),
         Ok(query) => Ok(query),
-    }
-}
-
-/// Why a line is refused that asks how the live query of this name runs.
-pub fn explain_word(registry: &Registry, name: &Name) -> Word
-    ensures { explain_request (names_in registry.now) name.now ≡ refused result }
-{
-    if is_live(registry, name) {
-        Word::Unbuilt
-    } else {
-        Word::UnknownQuery
     }
 }

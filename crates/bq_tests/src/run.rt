@@ -6,14 +6,14 @@ use std::alloc::{AllocError, Global};
 
 /// A script with a reply of each kind of this stage. Line 9 has no LF.
 pub const SCRIPT: &[u8] =
-    b"CREATE STREAM S (a, b)\nCREATE QUERY q AS SELECT S.a FROM S WHERE S.a > 10\nS,10,0\nS,11,0\nS,11\nX,1\nDROP QUERY q\nS,1,x\nS,12,-5";
+    b"CREATE STREAM S (a, b)\nCREATE QUERY q AS SELECT S.a FROM S WHERE S.a > 10\nS,10,0\nS,11,0\nS,11\nX,1\nDROP QUERY p\nS,1,x\nS,12,-5";
 
 /// What the script is answered with.
 pub const REPLIES: &[u8] =
-    b"ok stream S\nok query q filter\nq,11\nerror 5 Arity\nerror 6 UnknownStream\nerror 7 Unbuilt\nerror 8 Value\nq,12\n";
+    b"ok stream S\nok query q filter\nq,11\nerror 5 Arity\nerror 6 UnknownStream\nerror 7 UnknownQuery\nerror 8 Value\nq,12\n";
 
 /// How many bytes the replies to so many lines of the script have: to none, to one, and so on.
-pub const REPLIED: [usize; 10] = [0, 12, 30, 30, 35, 49, 71, 87, 101, 106];
+pub const REPLIED: [usize; 10] = [0, 12, 30, 30, 35, 49, 71, 92, 106, 111];
 
 /// How a source and a sink in memory behave: how many bytes a call moves at most, and which calls fail.
 #[derive(Clone, Copy)]

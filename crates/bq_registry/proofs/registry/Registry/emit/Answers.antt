@@ -1,6 +1,6 @@
 use Rattle.std.proofs.Common.{subst, sym}
-use Rattle.bq_registry.specs.Registry.{RegistryValue, StandsFor}
-use Rattle.bq_registry.proofs.Whole.{written_sound, written_stands}
+use Rattle.bq_registry.specs.Registry.{KeepQueries, RegistryValue, StandsFor}
+use Rattle.bq_registry.proofs.Whole.{written_sound, written_stands, written_keep}
 use Rattle.bq_registry.proofs.registry.Registry.emit.Goals as goal
 
 pub invariant_of-self : goal.invariant_of-self
@@ -10,3 +10,8 @@ pub returns-clause-stands : goal.returns-clause-stands
 returns-clause-stands g c = λ queries all.
     written_stands c.self.inside.pool c.self.inside.live.items c.write_all.new.live.items queries c.write_all.ensures.wrote
     (subst (λ (v : RegistryValue). StandsFor v queries) (sym c.self.view_is) all)
+
+pub returns-clause-queries : goal.returns-clause-queries
+returns-clause-queries g c =
+    subst (λ (v : RegistryValue). KeepQueries v.live c.write_all.new.live.items) c.self.view_is
+    (written_keep c.self.inside.live.items c.write_all.new.live.items c.write_all.ensures.wrote)

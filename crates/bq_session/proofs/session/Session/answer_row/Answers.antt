@@ -8,6 +8,7 @@ use Rattle.bq_session.specs.Answer.{plain}
 use Rattle.bq_session.specs.Answers.{Settles}
 use Rattle.bq_session.specs.State.{one_line_more}
 use Rattle.bq_session.specs.Session.{Kept, StandsFor}
+use Rattle.bq_session.proofs.Explaining.{named_kept}
 use Rattle.bq_session.proofs.Given.{given, row_reply}
 use Rattle.bq_session.proofs.session.Session.answer_row.Goals as goal
 
@@ -22,6 +23,8 @@ invariant_of-self g c =
       within = less c.self.inside.taken c.self.inside.limit (ap (λ (k : Kept). nat_lt k.taken k.limit) c.self.view_is ∙ sym c.has_room.ensures ∙ c.if-not-has_room.false);
       limit = c.self.invariant.limit;
       given = c.emit.ensures.given (c.self.inside.taken + 1) (c.row.ensures.given c.self.inside.taken c.self.invariant.given);
+      named = named_kept c.self.inside.catalog c.row.new.self.live c.emit.new.self.live
+          (named_kept c.self.inside.catalog c.self.inside.registry.live c.row.new.self.live c.self.invariant.named c.row.ensures.queries) c.emit.ensures.queries;
     }
 
 pub returns-else-not-has_room-clause-reply : goal.returns-else-not-has_room-clause-reply

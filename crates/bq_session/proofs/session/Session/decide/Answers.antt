@@ -13,6 +13,7 @@ use Rattle.bq_session.specs.Request.{asked}
 use Rattle.bq_session.specs.Replies.{which_text, condition_text, column_text}
 use Rattle.bq_session.specs.State.{one_line_more}
 use Rattle.bq_session.specs.Session.{Kept, StandsFor, Does}
+use Rattle.bq_session.proofs.Explaining.{named_decided, given_decided}
 use Rattle.bq_session.proofs.Named.{violation_is_named}
 use Rattle.bq_session.proofs.Deciding.{takes, too_large, no_room, violated, unchanged, with_registry, acceptance_text}
 use Rattle.bq_session.proofs.session.Session.decide.Goals as goal
@@ -24,6 +25,17 @@ column_named-column-requires-clause-column g c =
     let from = c.as_slice.ensures.value ∙ c.streams_of-from.ensures in
     let why = subst (λ (e : CreateError). CarriesWhy c.args.query c.self.inside.registry.pool.free (Err e)) c.in-Err-Violation.field-0-is c.in-Err-Violation.ensures.why in
     subst (λ f. IsColumnOf c.self.inside.catalog f c.in-Err-Violation.attr) (sym from) (violation_is_named c.self.inside.catalog c.args.query _ named why)
+
+pub invariant_of-self : goal.invariant_of-self
+invariant_of-self g c =
+    let named = subst (λ (k : Kept). HasNamed k.streams c.args.query) (sym c.self.view_is) c.requires.named in
+    record {
+      rows = c.self.invariant.rows;
+      within = c.self.invariant.within;
+      limit = c.self.invariant.limit;
+      given = given_decided c.self.inside.taken c.args.name c.args.query c.create.result c.self.inside.registry c.create.new.self c.self.invariant.given c.create.ensures.creates;
+      named = named_decided c.self.inside.catalog c.args.name c.args.query c.create.result c.self.inside.registry c.create.new.self named c.self.invariant.named c.create.ensures.creates;
+    }
 
 pub returns : goal.returns
 returns g c = λ s stands.
