@@ -12,3 +12,4 @@ pub mod StepLaws
 pub mod StartLaws
 pub mod CallerLemmas
 pub mod OneEach
+pub mod Inserting

@@ -4,3 +4,4 @@ pub mod Walk
 pub mod Costs
 pub mod Premises
 pub mod Remaining
+pub mod Inserting

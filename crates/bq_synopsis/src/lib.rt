@@ -8,6 +8,7 @@
 mod admission;
 mod cells;
 mod chosen;
+pub mod laws;
 mod links;
 mod narrow;
 mod probe;

@@ -1,2 +1,6 @@
 pub mod PoolCalls
 pub mod TableCalls
+pub mod PlanCases
+pub mod TwoStreams
+pub mod EqualChain
+pub mod CellCalls

@@ -14,4 +14,6 @@ mod run;
 #[cfg(test)]
 mod runs;
 #[cfg(test)]
+mod synopsis;
+#[cfg(test)]
 mod table;

@@ -1,0 +1,13 @@
+use Rattle.std.proofs.Common.{◌≤◌, ◌+◌, ◌*◌}
+use Rattle.bq_pool.specs.Extents.{cells_of}
+use Rattle.bq_synopsis.specs.Premises.{IsHeld}
+use Rattle.bq_tests.proofs.CellCalls.{AreCounts, AreUpto}
+use Rattle.bq_tests.proofs.synopsis.take_rows.Given as goal
+
+abbrev pub invariant-rows : goal.invariant-rows
+invariant-rows g l = record {
+  held : IsHeld l.q l.part l.pool l.e;
+  counts : AreCounts (cells_of l.pool l.e);
+  upto : AreUpto l.given-index (cells_of l.pool l.e);
+  steps : l.steps ≤ l.fn.steps + 2 * l.given-index;
+}

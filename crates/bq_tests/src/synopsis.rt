@@ -1,0 +1,364 @@
+//! Cells and the probe: rows go into cells, and all that a walk over them gives is compared with a list written by hand.
+ghost use Rattle.std.specs.Prelude.{◌≡◌, ℕ, ◌+◌, ◌*◌, ◌<◌, ◌≤◌, ◌^◌, false, length, replicate, slice_index_or};
+ghost use Rattle.bq_model.specs.Cells.{FitsKind};
+ghost use Rattle.bq_model.specs.Numbers.{share};
+ghost use Rattle.bq_model.specs.declared.atom.Element.TheVariants as element;
+ghost use Rattle.bq_model.specs.declared.cell.Cell.TheVariants.{Empty};
+ghost use Rattle.bq_model.specs.declared.plan.Kind.TheVariants as kinds;
+ghost use Rattle.bq_pool.specs.Extents.{cells_of};
+ghost use Rattle.bq_synopsis.specs.Premises.{IsHeld, IsReady, IsWalked};
+ghost use Rattle.bq_synopsis.specs.Values.{rows_in};
+
+use arrayvec::ArrayVec;
+use bq_io::Steps;
+use bq_model::{Atom, Attr, Dim, Element, Kind, Link, Op, PartPlan, Query, Row, Sign, StreamPlan};
+use bq_pool::{Extent, Pool};
+use bq_synopsis::{Probe, admits, insert};
+use std::alloc::{AllocError, Global};
+use std::marker::Brand;
+use std::sync::ledger::{Blank, Ledger};
+use std::test::Fail;
+
+fn row_of(values: &[i64]) -> Row {
+    let mut row = ArrayVec::new();
+    for value in values {
+        if row.try_push(*value).is_err() {
+            return row;
+        }
+    }
+    row
+}
+
+// Takes a row into its cell, where the part admits it.
+fn take_row<L: Ledger>(
+    pool: &mut Pool,
+    e: &Extent,
+    q: &Query,
+    part: &PartPlan,
+    pos: u8,
+    row: &Row,
+    steps: &mut Steps<L>,
+)
+    requires several { 1 < length q.now.from }
+    requires plain { q.now.distinct ≡ false }
+    requires held { IsHeld q.now part.now pool.old e.now }
+    requires counts { (i : ℕ) → FitsKind kinds.Count (slice_index_or (cells_of pool.old e.now) i Empty) }
+    requires few { (i : ℕ) → rows_in (slice_index_or (cells_of pool.old e.now) i Empty) < 2 ^ 40 }
+    ensures held { IsHeld q.now part.now pool.new e.now }
+    ensures counts { (i : ℕ) → FitsKind kinds.Count (slice_index_or (cells_of pool.new e.now) i Empty) }
+    ensures steps { steps.new ≤ steps.old + 2 }
+    ensures upto { (n : ℕ) → ((i : ℕ) → rows_in (slice_index_or (cells_of pool.old e.now) i Empty) ≤ n) → (i : ℕ) → rows_in (slice_index_or (cells_of pool.new e.now) i Empty) ≤ n + 1 }
+{
+    if usize::from(pos) >= q.from().len() {
+        return;
+    }
+    if !admits(q, part, pos, row) {
+        return;
+    }
+    insert(pool, e, q, part, pos, row, steps);
+}
+
+// Takes rows into empty cells: each costs at most one read and one write.
+fn take_rows<L: Ledger>(
+    pool: &mut Pool,
+    e: &Extent,
+    q: &Query,
+    part: &PartPlan,
+    rows: &[(u8, &[i64])],
+    steps: &mut Steps<L>,
+)
+    requires several { 1 < length q.now.from }
+    requires plain { q.now.distinct ≡ false }
+    requires held { IsHeld q.now part.now pool.old e.now }
+    requires fresh { cells_of pool.old e.now ≡ replicate (64 * e.now.pages) Empty }
+    requires few { length rows.now < 1000 }
+    ensures ready { IsReady q.now part.now pool.new e.now }
+    ensures steps { steps.new ≤ steps.old + 2 * length rows.now }
+{
+    'rows: for given in rows {
+        take_row(pool, e, q, part, given.0, &row_of(given.1), steps);
+    }
+}
+
+// All that the cells answer to a row: of each combination the tuple and then the count.
+fn walk<L: Ledger>(
+    alloc: Global,
+    pool: &Pool,
+    e: &Extent,
+    q: &Query,
+    part: &PartPlan,
+    pos: u8,
+    row: &Row,
+    steps: &mut Steps<L>,
+) -> Result<Vec<i64>, AllocError>
+    requires here { pos < length q.now.from }
+    requires ready { IsReady q.now part.now pool.now e.now }
+    ensures steps { steps.new ≤ steps.old + 3 * share part.now }
+{
+    let mut told = Vec::new(alloc);
+    let mut probe = Probe::new(q, part, pos, row);
+    'walk: while let Some(found) = probe.next(pool, e, q, part, steps) {
+        let (tuple, count) = found;
+        told.extend_from_slice(tuple.as_slice())?;
+        told.push(count.min(99) as i64)?;
+    }
+    Ok(told)
+}
+
+// Takes rows into an extent of five pages, and tells what its cells then answer to a row.
+fn answers<L: Ledger>(
+    alloc: Global,
+    q: &Query,
+    part: &PartPlan,
+    rows: &[(u8, &[i64])],
+    pos: u8,
+    values: &[i64],
+    steps: &mut Steps<L>,
+) -> Result<Vec<i64>, AllocError>
+    requires several { 1 < length q.now.from }
+    requires plain { q.now.distinct ≡ false }
+    requires walked { (w : IsWalked q.now part.now) × (w.cells ≤ 320) }
+    requires few { length rows.now < 1000 }
+    ensures steps { steps.new ≤ steps.old + 2 * length rows.now + 3 * share part.now }
+{
+    let mut pool = Pool::new(alloc, 5)?;
+    if usize::from(pos) >= q.from().len() {
+        return Ok(Vec::new(alloc));
+    }
+    let Ok(e) = pool.take(5) else {
+        return Ok(Vec::new(alloc));
+    };
+    take_rows(&mut pool, &e, q, part, rows, steps);
+    let told = walk(alloc, &pool, &e, q, part, pos, &row_of(values), steps);
+    pool.give_back(e);
+    told
+}
+
+fn listed<T: Copy + Default, const N: usize>(items: &[T]) -> ArrayVec<T, N>
+    requires { length items.now ≤ N }
+    ensures { result.items ≡ items.now }
+{
+    match ArrayVec::try_from(items) {
+        Ok(list) => list,
+        Err(_) => unreachable!(),
+    }
+}
+
+// What is kept of a stream whose rows are counted.
+fn counted(dims: &[Dim], base: u32, size: u32) -> StreamPlan
+    requires { length dims.now ≤ 8 }
+    ensures { result ≡ record { dims = record { items = dims.now }; kind = kinds.Count; base = base; size = size } }
+{
+    StreamPlan {
+        dims: listed(dims),
+        kind: Kind::Count,
+        base,
+        size,
+    }
+}
+
+const R_A: Attr = Attr {
+    stream: 0,
+    column: 0,
+};
+
+const R_C: Attr = Attr {
+    stream: 0,
+    column: 1,
+};
+
+const S_A: Attr = Attr {
+    stream: 1,
+    column: 0,
+};
+
+const S_B: Attr = Attr {
+    stream: 1,
+    column: 1,
+};
+
+const T_A: Attr = Attr {
+    stream: 2,
+    column: 0,
+};
+
+fn compared(left: Attr, op: Op, right: Element) -> Atom
+    ensures { result ≡ record { left = element.Attr left; op = op; right = right } }
+{
+    Atom {
+        left: Element::Attr(left),
+        op,
+        right,
+    }
+}
+
+fn range(attr: Attr, lo: i64, hi: i64) -> Dim
+    ensures { result ≡ record { attr = attr; lo = lo; hi = hi } }
+{
+    Dim { attr, lo, hi }
+}
+
+fn link(left: Attr, right: Attr) -> Link
+    ensures { result ≡ record { left = left; right = right } }
+{
+    Link { left, right }
+}
+
+// SELECT R.a, S.b FROM R, S WHERE R.a = S.a AND S.b < R.c AND R.a > 0 AND R.c < 6, in its part with R.a < S.b < R.c.
+fn of_two_streams<L: Ledger>(
+    alloc: Global,
+    blank: Blank,
+    rows: &[(u8, &[i64])],
+    pos: u8,
+    values: &[i64],
+) -> Result<Vec<i64>, AllocError>
+    requires name { blank.name ≡ L.name }
+    requires parts { blank.parts ≡ L.parts }
+    requires some { 0 < L.parts }
+    requires few { length rows.now < 1000 }
+{
+    let atoms = [
+        compared(R_A, Op::Eq, Element::Attr(S_A)),
+        compared(S_B, Op::Lt, Element::Attr(R_C)),
+        compared(R_A, Op::Gt, Element::Const(0)),
+        compared(R_C, Op::Lt, Element::Const(6)),
+    ];
+    let q = Query::new(false, &[0, 1], &[R_A, S_B], &atoms);
+    let mut streams = ArrayVec::new();
+    streams.push(counted(&[range(R_A, 1, 3), range(R_C, 3, 5)], 0, 9));
+    streams.push(counted(&[range(S_A, 1, 3), range(S_B, 2, 4)], 9, 9));
+    let part = PartPlan {
+        signs: listed(&[
+            Sign::Gt,
+            Sign::Lt,
+            Sign::Lt,
+            Sign::Gt,
+            Sign::Lt,
+            Sign::Gt,
+            Sign::Lt,
+            Sign::Lt,
+            Sign::Gt,
+            Sign::Lt,
+        ]),
+        streams,
+        equal: listed(&[link(R_A, S_A)]),
+        less: listed(&[link(R_A, S_B), link(S_B, R_C)]),
+    };
+    let mut steps = Steps::<L>::new(blank);
+    answers(alloc, &q, &part, rows, pos, values, &mut steps)
+}
+
+// The part does not admit R(3, 3), R(1, 2) and S(2, 2).
+#[test]
+fn an_equality_and_an_inequality(rt: HostRuntime) -> Result<(), Fail> {
+    let rows: [(u8, &[i64]); 12] = [
+        (0, &[1, 5]),
+        (0, &[1, 5]),
+        (0, &[1, 3]),
+        (0, &[2, 4]),
+        (0, &[3, 3]),
+        (0, &[1, 2]),
+        (1, &[1, 2]),
+        (1, &[1, 2]),
+        (1, &[1, 3]),
+        (1, &[1, 4]),
+        (1, &[2, 2]),
+        (1, &[2, 3]),
+    ];
+    let cases: [(u8, &[i64], &[i64]); 9] = [
+        (1, &[1, 3], &[1, 3, 2]),
+        (1, &[1, 2], &[1, 2, 1, 1, 2, 2]),
+        (1, &[3, 4], &[]),
+        (1, &[2, 3], &[2, 3, 1]),
+        (0, &[1, 3], &[1, 2, 2]),
+        (0, &[1, 5], &[1, 2, 2, 1, 3, 1, 1, 4, 1]),
+        (0, &[2, 5], &[2, 3, 1]),
+        (0, &[3, 5], &[]),
+        (0, &[4, 5], &[]),
+    ];
+    for (pos, values, wanted) in cases {
+        let told = of_two_streams::<Brand>(rt.alloc(), Blank::new(1), &rows, pos, values)?;
+        assert_eq!(rt; told.as_slice(), wanted, "{values:?} at {pos}");
+    }
+    Ok(())
+}
+
+// SELECT R.a FROM R, S, T WHERE R.a = S.a AND S.a = T.a AND R.a > 0 AND R.a < 101. A walk reads three cells at most.
+fn of_a_chain<L: Ledger>(
+    alloc: Global,
+    rows: &[(u8, &[i64])],
+    pos: u8,
+    values: &[i64],
+    steps: &mut Steps<L>,
+) -> Result<Vec<i64>, AllocError>
+    requires few { length rows.now < 1000 }
+    ensures steps { steps.new ≤ steps.old + 2 * length rows.now + 3 }
+{
+    let atoms = [
+        compared(R_A, Op::Eq, Element::Attr(S_A)),
+        compared(S_A, Op::Eq, Element::Attr(T_A)),
+        compared(R_A, Op::Gt, Element::Const(0)),
+        compared(R_A, Op::Lt, Element::Const(101)),
+    ];
+    let q = Query::new(false, &[0, 1, 2], &[R_A], &atoms);
+    let mut streams = ArrayVec::new();
+    streams.push(counted(&[range(R_A, 1, 100)], 0, 100));
+    streams.push(counted(&[range(S_A, 1, 100)], 100, 100));
+    streams.push(counted(&[range(T_A, 1, 100)], 200, 100));
+    let part = PartPlan {
+        signs: listed(&[Sign::Gt, Sign::Lt, Sign::Gt, Sign::Lt, Sign::Gt, Sign::Lt]),
+        streams,
+        equal: listed(&[link(R_A, S_A), link(R_A, T_A), link(S_A, T_A)]),
+        less: listed(&[]),
+    };
+    answers(alloc, &q, &part, rows, pos, values, steps)
+}
+
+fn told_of_a_chain<L: Ledger>(
+    alloc: Global,
+    blank: Blank,
+    rows: &[(u8, &[i64])],
+    pos: u8,
+    values: &[i64],
+) -> Result<Vec<i64>, AllocError>
+    requires name { blank.name ≡ L.name }
+    requires parts { blank.parts ≡ L.parts }
+    requires some { 0 < L.parts }
+    requires few { length rows.now < 1000 }
+{
+    let mut steps = Steps::<L>::new(blank);
+    of_a_chain(alloc, rows, pos, values, &mut steps)
+}
+
+// The part does not admit T(101).
+#[test]
+fn a_chain_of_equalities(rt: HostRuntime) -> Result<(), Fail> {
+    let rows: [(u8, &[i64]); 12] = [
+        (0, &[7]),
+        (0, &[7]),
+        (0, &[7]),
+        (0, &[100]),
+        (1, &[7]),
+        (1, &[7]),
+        (1, &[8]),
+        (1, &[100]),
+        (2, &[7]),
+        (2, &[100]),
+        (2, &[100]),
+        (2, &[101]),
+    ];
+    let cases: [(u8, &[i64], &[i64]); 7] = [
+        (0, &[7], &[7, 2]),
+        (0, &[8], &[]),
+        (0, &[100], &[100, 2]),
+        (1, &[7], &[7, 3]),
+        (2, &[7], &[7, 6]),
+        (2, &[100], &[100, 1]),
+        (2, &[1], &[]),
+    ];
+    for (pos, values, wanted) in cases {
+        let told = told_of_a_chain::<Brand>(rt.alloc(), Blank::new(1), &rows, pos, values)?;
+        assert_eq!(rt; told.as_slice(), wanted, "{values:?} at {pos}");
+    }
+    Ok(())
+}
