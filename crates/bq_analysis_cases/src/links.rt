@@ -11,7 +11,7 @@ use bq_io::{Sink, write_all};
 use bq_lto_split::{SplitError, split};
 use bq_model::{Attr, Link, Part, Query};
 use bq_parser::{SelectAst, Statement, parse, resolve};
-use bq_refs::{Refs, refs};
+use bq_refs::{Basis, Refs, refs};
 use bq_schema::Catalog;
 use std::alloc::Global;
 
@@ -98,8 +98,11 @@ fn show_each<O: Sink>(
 ) -> Result<(), Fault>
     requires { All (IsPart query.now) (sign_lists parts.now) }
 {
+    let basis = Basis::new(query);
+    let mut bounds = basis.room();
     for part in parts {
-        show_told(alloc, query.attrs(), &refs(query, part), out)?;
+        let told = refs(query, part, &basis, &mut bounds);
+        show_told(alloc, query.attrs(), &told, out)?;
     }
     Ok(())
 }

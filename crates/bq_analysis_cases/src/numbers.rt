@@ -1,7 +1,6 @@
 //! The numbers of the plans of queries.
-ghost use Rattle.std.specs.Prelude.{◌≡◌, ◌≤◌, None, length};
+ghost use Rattle.std.specs.Prelude.{◌≡◌, ◌≤◌, length};
 ghost use Rattle.bq_model.specs.Parts.{AreParts};
-ghost use Rattle.bq_model.specs.Violation.{IsViolation};
 ghost use Rattle.bq_parser.specs.Grammar.{IsWhole};
 ghost use Rattle.bq_parser.specs.Limits.{limit_of};
 ghost use Rattle.bq_parser.specs.Resolution.{IsTaken};
@@ -51,7 +50,6 @@ fn show_layout<O: Sink>(
 ) -> Result<(), Fault>
     requires parts { AreParts query.now (sign_lists parts.now) }
     requires few { length parts.now ≤ 4096 }
-    requires bounded { IsViolation query.now None }
 {
     match layout(alloc, query, parts) {
         Ok(Plan::Filter) => write_all(out, b"filter")?,
@@ -61,6 +59,7 @@ fn show_layout<O: Sink>(
                 numbers,
             },
         ) => show_numbers(alloc, numbers, out)?,
+        Err(LayoutError::Violation { .. }) => write_all(out, b"violation")?,
         Err(LayoutError::Limit { which, value }) => show_limit(alloc, which, value, out)?,
         Err(LayoutError::Memory) => return Err(Fault::Memory),
     }

@@ -19,3 +19,5 @@ pub mod InPart
 pub mod Pin
 pub mod Allowed
 pub mod Each
+pub mod Zips
+pub mod Pairs

@@ -8,3 +8,4 @@ pub mod Closure
 pub mod Cycles
 pub mod Reach
 pub mod BoundsValue
+pub mod Choices

@@ -65,6 +65,15 @@ impl Bounds {
         }
     }
 
+    /// Makes these bounds the same as others, in place.
+    pub fn set(&mut self, other: &Bounds)
+        ensures attrs { self.new.attrs ≡ other.now.attrs }
+        ensures constraints { self.new.constraints ≡ other.now.constraints }
+    {
+        self.closure = other.closure;
+        replace(&mut self.constraints, other.constraints.as_slice());
+    }
+
     /// Whether some integers for the nodes, node 0 being 0, meet all constraints.
     pub fn satisfiable(&self) -> bool
         ensures { IsTrue result ↔ IsSatisfiable self.now.constraints }
@@ -207,6 +216,17 @@ impl Bounds {
             return None;
         }
         Some(solution(&self.closure.ways, self.closure.attrs, i, value))
+    }
+}
+
+// Puts these constraints in the place of those of a list.
+fn replace(list: &mut ArrayVec<Constraint, 268>, cs: &[Constraint])
+    requires { length cs.now ≤ 268 }
+    ensures { list.new.items ≡ cs.now }
+{
+    list.clear();
+    for c in cs {
+        list.push(*c);
     }
 }
 

@@ -80,9 +80,9 @@ impl Closure {
         requires within { IsWithin self.old.attrs c }
         ensures { (n : ℕ) (cs : List Constraint) → IsClosureOf self.old n cs → IsClosureOf self.new n (cs ++ c ∷ []) }
     {
-        if self.cycle.is_none() {
+        if self.cycle.is_none() && !self.has_bound(c) {
             let closed = self.closed_by(c);
-            if closed.is_none() && !self.has_bound(c) {
+            if closed.is_none() {
                 tighten(
                     &mut self.ways,
                     usize::from(self.attrs) + 1,

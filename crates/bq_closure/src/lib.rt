@@ -5,10 +5,12 @@
 //! integers meet all, the least bound of a difference, the order of two elements, the least and the greatest value of a
 //! node, a solution with a given value, a chain of constraints that gives a bound, and a negative cycle. `Closure` is
 //! what these answers are read from, without the constraints themselves: a table of bounds between at most 13 nodes,
-//! kept closed. Adding a constraint takes a number of steps that is quadratic in the nodes; nothing allocates.
+//! kept closed. Adding a constraint takes a number of steps that is quadratic in the nodes, and none where it says
+//! nothing new; nothing allocates. `choices` are the constraints of each sign of each pair of a query, worked out once.
 #![tactic(auto)]
 
 mod bounds;
+mod choosing;
 mod closure;
 mod constraint;
 mod nodes;
@@ -17,6 +19,7 @@ mod solution;
 mod way;
 
 pub use bounds::Bounds;
+pub use choosing::{Choice, choices};
 pub use closure::Closure;
 pub use constraint::Constraint;
 pub use nodes::constraints;

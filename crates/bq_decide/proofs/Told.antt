@@ -15,7 +15,8 @@ use Rattle.bq_closure.specs.Nodes.{place_of}
 use Rattle.bq_refs.specs.declared.range.Range.{Range}
 use Rattle.bq_refs.specs.declared.told.Refs.{Refs}
 use Rattle.bq_refs.specs.Refs.{IsRange, IsClassPlace, AreRefs}
-use Rattle.bq_refs.proofs.Extent.{zip_at, zip_length, place_is}
+use Rattle.bq_closure.proofs.Zips.{zip_at, zip_length}
+use Rattle.bq_refs.proofs.Extent.{place_is}
 use Rattle.bq_refs.proofs.Gathered.{not_iff}
 use Rattle.bq_decide.specs.Deciding.{IsInEquality}
 

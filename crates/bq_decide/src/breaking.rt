@@ -12,7 +12,7 @@ use crate::first::sooner_if;
 use crate::looking::{has_left, has_right, is_among};
 use crate::references::breaks_third;
 use bq_model::{Attr, Condition, Part, Query};
-use bq_refs::{Refs, refs};
+use bq_refs::Refs;
 
 /// A condition that a part breaks, and the column that shows it.
 #[derive(Clone, Copy, Debug, PartialEq, Eq)]
@@ -110,14 +110,14 @@ fn first_reference(q: &Query, p: &Part, refs: &Refs) -> Option<Attr>
 }
 
 /// The first condition that the part breaks with the first column that shows it, or none where it meets all.
-pub fn violation_of(q: &Query, p: &Part) -> Option<Break>
-    requires { IsPart q.now p.now.signs.items }
+pub fn violation_of(q: &Query, p: &Part, refs: &Refs) -> Option<Break>
+    requires part { IsPart q.now p.now.signs.items }
+    requires refs { AreRefs q.now p.now.signs.items refs.now }
     ensures { IsFirstBreak q.now p.now.signs.items result }
 {
-    let refs = refs(q, p);
-    let first = first_unbounded_selected(q, p, &refs);
-    let second = first_unbounded_equal(q, p, &refs);
-    let third = first_reference(q, p, &refs);
+    let first = first_unbounded_selected(q, p, refs);
+    let second = first_unbounded_equal(q, p, refs);
+    let third = first_reference(q, p, refs);
     chosen(first, second, third)
 }
 

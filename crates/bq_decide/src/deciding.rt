@@ -1,11 +1,25 @@
 //! The decision on a query.
 ghost use Rattle.std.specs.Prelude.{◌≡◌, ◌<◌, ◌^◌, length};
-ghost use Rattle.bq_model.specs.Parts.{AreParts};
+ghost use Rattle.bq_model.specs.Parts.{IsPart, AreParts};
 ghost use Rattle.bq_model.specs.Verdict.{IsDecision};
 ghost use Rattle.bq_lto_split.specs.Split.{sign_lists};
+ghost use Rattle.bq_refs.specs.Known.{IsBasis};
+ghost use Rattle.bq_decide.specs.Chosen.{IsFirstBreak};
 
-use crate::breaking::violation_of;
+use crate::breaking::{Break, violation_of};
+use bq_closure::Bounds;
 use bq_model::{Decision, Part, Query};
+use bq_refs::{Basis, refs};
+
+// The first condition that a part breaks.
+fn break_of(q: &Query, p: &Part, basis: &Basis, bounds: &mut Bounds) -> Option<Break>
+    requires part { IsPart q.now p.now.signs.items }
+    requires basis { IsBasis q.now basis.now }
+    ensures { IsFirstBreak q.now p.now.signs.items result }
+{
+    let refs = refs(q, p, basis, bounds);
+    violation_of(q, p, &refs)
+}
 
 /// What the parts of a query say: all conditions are met, or the first part that breaks one, in it the first condition,
 /// and for it the first column. A filter meets all.
@@ -17,8 +31,10 @@ pub fn decide(q: &Query, parts: &[Part]) -> Decision
     if q.is_filter() {
         return Decision::Bounded;
     }
+    let basis = Basis::new(q);
+    let mut bounds = basis.room();
     for i in 0..parts.len() {
-        match violation_of(q, &parts[i]) {
+        match break_of(q, &parts[i], &basis, &mut bounds) {
             Some(found) => {
                 return Decision::Violation {
                     part: (i + 1) as u32,

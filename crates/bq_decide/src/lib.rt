@@ -11,4 +11,5 @@ mod first;
 mod looking;
 mod references;
 
+pub use breaking::{Break, violation_of};
 pub use deciding::decide;

@@ -1,5 +1,5 @@
 -- One more part.
-use Rattle.std.proofs.Common.{◌≡◌, ℕ, true, ◌+◌, ◌-◌, ◌^◌, ◌<◌, min, not, List, [], ◌∷◌, ◌++◌, All, Contains, IsFalse, None, ℤ, ◌≤ℤ◌, refl, sym, ap, ap₂, ◌∙◌, subst, arith, slice_index_or}
+use Rattle.std.proofs.Common.{◌≡◌, ℕ, true, ◌+◌, ◌-◌, ◌^◌, ◌<◌, min, not, List, [], ◌∷◌, ◌++◌, All, Contains, None, ℤ, ◌≤ℤ◌, refl, sym, ap, ap₂, ◌∙◌, subst, arith, slice_index_or}
 use Rattle.std.specs.List.{sum_by}
 use Rattle.std.proofs.lemmas.List.Sums.{sum_by_push}
 use Rattle.std.proofs.lemmas.List.Elements.{All-push, All-contains, Contains-get_or}
@@ -8,21 +8,21 @@ use Rattle.bq_laws.proofs.Classes.{class-tied}
 use Rattle.bq_laws.proofs.TableRoom.{first_tied-is}
 use Rattle.bq_laws.proofs.Tying.{tied-in}
 use Rattle.bq_laws.proofs.StandingIn.{IsSafe}
-use Rattle.bq_laws.proofs.NoViolation.{safe-if, none_breaks}
+use Rattle.bq_laws.proofs.NoViolation.{safe-if}
 use Rattle.bq_laws.proofs.Queries.{query_within}
 use Rattle.bq_model.specs.declared.atom.Attr.{Attr}
 use Rattle.bq_model.specs.declared.part.Sign.{Sign}
 use Rattle.bq_model.specs.declared.plan.Dim.{Dim}
 use Rattle.bq_model.specs.declared.plan.PartPlan.{PartPlan}
-use Rattle.bq_model.specs.Query.{QueryValue, IsWithinLimits, attr_eq, is_filter}
+use Rattle.bq_model.specs.Query.{QueryValue, IsWithinLimits, attr_eq}
 use Rattle.bq_model.specs.Parts.{IsPart}
 use Rattle.bq_model.specs.Order.{IsLeast, IsGreatest}
-use Rattle.bq_model.specs.Violation.{IsViolation}
 use Rattle.bq_model.specs.Boxes.{box_size}
 use Rattle.bq_model.specs.Combinations.{tied}
 use Rattle.bq_model.specs.Plan.{AreOneClass, IsDim, IsPartPlan, selected, dims_at}
 use Rattle.bq_model.specs.Ranges.{different, range_of, selected_ranges}
 use Rattle.bq_model.specs.Numbers.{answer_bound, share, work}
+use Rattle.bq_decide.specs.Chosen.{IsFirstBreak}
 use Rattle.bq_layout.specs.declared.drafting.Draft.{Draft}
 use Rattle.bq_layout.specs.Capped.{capped}
 use Rattle.bq_layout.specs.Boxed.{boxed_part, cells_for, boxed}
@@ -52,11 +52,11 @@ greatest-tied q s a b z t l = record {
   below = λ v i. subst (λ x. x ≤ℤ z) (tied-in q s v i a b t) (l.below v i);
 }
 
-module _ (q : QueryValue) (within : IsWithinLimits q) (plain : IsFalse (is_filter q)) (bounded : IsViolation q None) where
+module _ (q : QueryValue) (within : IsWithinLimits q) where
   -- the range of a selected column goes from its least to its greatest value in the part
-  range_exact : (part : PartPlan) → IsPartPlan q part → IsPart q part.signs.items → (a : Attr) → Contains q.select a → IsRangeOf q part.signs.items (range_of q part) a
-  range_exact part p some a c =
-      let safe : IsSafe q part = safe-if q part p some (none_breaks q plain bounded part.signs.items some) in
+  range_exact : (part : PartPlan) → IsPartPlan q part → IsPart q part.signs.items → IsFirstBreak q part.signs.items None → (a : Attr) → Contains q.select a → IsRangeOf q part.signs.items (range_of q part) a
+  range_exact part p some fine a c =
+      let safe : IsSafe q part = safe-if q part p some fine in
       let dims : List Dim = dims_at part a.stream in
       let l = (query_within q within).select a c in
       let o : (d : Dim) × Contains dims d × AreOneClass q part.signs.items d.attr a = (p.streams a.stream l).dims.all a refl (selected c) (safe.chosen a c) in
@@ -64,33 +64,33 @@ module _ (q : QueryValue) (within : IsWithinLimits q) (plain : IsFalse (is_filte
       let d : IsDim q part.signs.items a.stream (range_of q part a) = All-contains (IsDim q part.signs.items a.stream) dims (range_of q part a) (p.streams a.stream l).dims.each (Contains-from_has dims (range_of q part a) r.0) in
       (least-tied q part.signs.items (range_of q part a).attr a (range_of q part a).lo r.1 d.low, greatest-tied q part.signs.items (range_of q part a).attr a (range_of q part a).hi r.1 d.high)
 
-  ranges_exact : (part : PartPlan) → IsDraft q part → IsPart q part.signs.items → All (IsRangeOf q part.signs.items (range_of q part)) (different q.select)
-  ranges_exact part d some k o l =
+  ranges_exact : (part : PartPlan) → IsDraft q part → IsPart q part.signs.items → IsFirstBreak q part.signs.items None → All (IsRangeOf q part.signs.items (range_of q part)) (different q.select)
+  ranges_exact part d some fine k o l =
       let a : Attr = slice_index_or (different q.select) k o in
       let c : Contains q.select a = Contains-from_has q.select a (different_from q.select a (Has-from_contains (different q.select) a (Contains-get_or (different q.select) k o l))) in
       let e : range_of q (boxed_part q 0 part) a ≡ range_of q part a = range-same q 0 part a in
-      subst (λ (z : Dim). IsLeast q part.signs.items a z.lo × IsGreatest q part.signs.items a z.hi) e (range_exact (boxed_part q 0 part) (d.plan 0) some a c)
+      subst (λ (z : Dim). IsLeast q part.signs.items a z.lo × IsGreatest q part.signs.items a z.hi) e (range_exact (boxed_part q 0 part) (d.plan 0) some fine a c)
 
   -- what a part adds to the answers
-  answers_told : (part : PartPlan) (columns : List Attr) (size : ℕ) → IsDraft q part → IsPart q part.signs.items → columns ≡ different q.select → AreSizesOf q part.signs.items columns size → size ≡ capped (box_size (selected_ranges q part))
-  answers_told part columns size d some e h =
+  answers_told : (part : PartPlan) (columns : List Attr) (size : ℕ) → IsDraft q part → IsPart q part.signs.items → IsFirstBreak q part.signs.items None → columns ≡ different q.select → AreSizesOf q part.signs.items columns size → size ≡ capped (box_size (selected_ranges q part))
+  answers_told part columns size d some fine e h =
       let k : AreSizesOf q part.signs.items (different q.select) size = subst (λ (z : List Attr). AreSizesOf q part.signs.items z size) e h in
-      k.of (range_of q part) (ranges_exact part d some)
+      k.of (range_of q part) (ranges_exact part d some fine)
 
   -- the parts so far with one more
   pub added : (old new : Draft) (part : PartPlan) (columns : List Attr) (answers more : ℕ)
-      → AreDrafted q old → IsPart q part.signs.items → columns ≡ different q.select
+      → AreDrafted q old → IsPart q part.signs.items → IsFirstBreak q part.signs.items None → columns ≡ different q.select
       → IsDraft q part → new.parts.items ≡ old.parts.items ++ part ∷ []
       → new.cells ≡ capped (old.cells + cells_for q part)
       → (new.cells < 2 ^ 32 → boxed_part q old.cells part ≡ part)
       → AreSizesOf q part.signs.items columns answers → new.answers ≡ min (old.answers + answers) (2 ^ 64 - 1)
       → more ≡ capped (share part) → new.work ≡ min (old.work + more) (2 ^ 64 - 1)
       → AreDrafted q new
-  added old new part columns answers more h some e d joined cells boxes sizes total m effort = record {
+  added old new part columns answers more h some fine e d joined cells boxes sizes total m effort = record {
     drafts = subst (All (IsDraft q)) (sym joined) (All-push (IsDraft q) old.parts.items part h.drafts d);
     cells = cells ∙ cells_next ∙ ap (λ (z : List PartPlan). capped (sum_by (cells_for q) z)) (sym joined);
     boxes = λ l. subst (λ (z : List PartPlan). boxed q 0 z ≡ z) (sym joined) (boxes_next l);
-    answers = total ∙ sum_kept old.answers answers (answer_bound q old.parts.items) (box_size (selected_ranges q part)) h.answers (answers_told part columns answers d some e sizes)
+    answers = total ∙ sum_kept old.answers answers (answer_bound q old.parts.items) (box_size (selected_ranges q part)) h.answers (answers_told part columns answers d some fine e sizes)
         ∙ ap capped (sym (sum_by_push (λ p. box_size (selected_ranges q p)) old.parts.items part))
         ∙ ap (λ (z : List PartPlan). capped (answer_bound q z)) (sym joined);
     work = effort ∙ sum_kept old.work more (work old.parts.items) (share part) h.work m

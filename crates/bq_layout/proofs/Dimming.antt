@@ -6,7 +6,7 @@ use Rattle.bq_model.proofs.Has.{Has, first, later, Has-from_contains, Contains-f
 use Rattle.bq_model.proofs.Unique.{Ascends, none, more}
 use Rattle.bq_model.proofs.Ascending.{Ascends-attrs_of}
 use Rattle.bq_refs.proofs.Sifted.{pairs_ascend, Has-take, Ascends-take}
-use Rattle.bq_refs.proofs.Extent.{zip_at}
+use Rattle.bq_closure.proofs.Zips.{zip_at}
 use Rattle.bq_laws.proofs.OnePartFits.{has_cases}
 use Rattle.bq_laws.proofs.Tests.{true_or_false, any_from, any_if, not_both, attr_eq-is, attr_eq-itself}
 use Rattle.bq_model.specs.declared.atom.Attr.{Attr}

@@ -12,7 +12,7 @@ use Rattle.bq_model.specs.Plan.{AreOneClass, NamesClass}
 use Rattle.bq_refs.specs.declared.told.Refs.{Refs}
 use Rattle.bq_refs.specs.Refs.{IsClassPlace, AreRefs}
 use Rattle.bq_refs.proofs.AllLinks.{attr_lt-irreflexive}
-use Rattle.bq_refs.proofs.Extent.{zip_at, zip_length}
+use Rattle.bq_closure.proofs.Zips.{zip_at, zip_length}
 use Rattle.bq_layout.specs.Looking.{attr_at}
 
 -- what a list has at a place

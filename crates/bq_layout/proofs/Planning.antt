@@ -1,9 +1,10 @@
 -- The plan that the drafts come to, with its numbers.
 use Rattle.std.proofs.Common.{◌≡◌, ℕ, zero, suc, ◌+◌, ◌-◌, ◌^◌, ◌<◌, ◌≤◌, min, Bool, true, false, cond, nat_lt, List, [], ◌∷◌, ◌++◌, length, take, All, IsFalse, Ok, Err, None, Some, Option, refl, sym, ap, ◌∙◌, subst, arith, slice_index_or, get_or}
-use Rattle.std.proofs.lemmas.List.{take_more, length-map, get_or-map}
+use Rattle.std.proofs.lemmas.List.{take_more, take_all, length-map, get_or-map}
 use Rattle.std.proofs.lemmas.List.Elements.{All-get_or}
 use Rattle.std.proofs.lemmas.Bool.Decides.{nat_tests}
 use Rattle.bq_model.specs.declared.part.Part.{Part}
+use Rattle.bq_model.specs.declared.part.Sign.{Sign}
 use Rattle.bq_model.specs.declared.decision.Which.{Which}
 use Rattle.bq_model.specs.declared.decision.Which.TheVariants.{Parts, Cells, Answers, Work}
 use Rattle.bq_model.specs.declared.plan.Numbers.{Numbers}
@@ -12,6 +13,7 @@ use Rattle.bq_model.specs.declared.plan.Plan.TheVariants as plan
 use Rattle.bq_model.specs.Query.{QueryValue, is_filter}
 use Rattle.bq_model.specs.Parts.{IsPart, AreParts}
 use Rattle.bq_model.specs.Plan.{IsPartPlan, IsPlan}
+use Rattle.bq_model.specs.Violation.{IsViolation}
 use Rattle.bq_model.specs.Numbers.{numbers_of}
 use Rattle.bq_model.specs.Verdict.{number_of, is_above, first_above}
 use Rattle.bq_lto_split.specs.Split.{sign_lists}
@@ -21,7 +23,7 @@ use Rattle.bq_layout.specs.declared.drafting.Draft.{Draft}
 use Rattle.bq_layout.specs.Capped.{capped}
 use Rattle.bq_layout.specs.Boxed.{cells_for, boxed}
 use Rattle.bq_layout.specs.Drafts.{IsDraft, signs_of}
-use Rattle.bq_layout.specs.Sums.{AreDrafted}
+use Rattle.bq_layout.specs.Sums.{AreDrafted, IsDrafted}
 use Rattle.bq_layout.specs.Layout.{IsLayout, IsLimited}
 use Rattle.bq_layout.proofs.Setting.{parts-follow, signs-same, as_many, cell_count-same, answers-same, work-same}
 
@@ -114,25 +116,29 @@ module _ (q : QueryValue) (draft : Draft) (d : AreDrafted q draft) (parts : AreP
     unfolding whole_plan
     few_parts l = omega (arith, l, as_many q 0 draft.parts.items)
 
-    pub limit_told : (o : LayoutError) → IsFalse (is_filter q) → length draft.parts.items ≤ 4096 → IsLimited record { parts = n; cells = draft.cells; answers = draft.answers; work = draft.work } (Err o) → IsLayout q (Err o)
-    limit_told (why.Limit which value) plain l h = record {
-      plain = plain;
-      parts = whole_plan;
-      plan = is_plan;
-      first = sym (ap first_above (numbers_kept n count) ∙ above_kept (numbers_of q whole_plan)) ∙ h.0;
-      kept = h.1 ∙ ap (λ (z : Numbers). number_of z which) (numbers_kept n count) ∙ number_kept (numbers_of q whole_plan) which (few_parts l);
-    }
-    limit_told why.Memory plain l h = absurd h
+    pub limit_told : (o : LayoutError) → IsFalse (is_filter q) → IsViolation q None → length draft.parts.items ≤ 4096 → IsLimited record { parts = n; cells = draft.cells; answers = draft.answers; work = draft.work } (Err o) → IsLayout q (Err o)
+    limit_told (why.Violation part condition attr) plain fine l h = absurd h
+    limit_told (why.Limit which value) plain fine l h = (
+      record {
+        plain = plain;
+        parts = whole_plan;
+        plan = is_plan;
+        first = sym (ap first_above (numbers_kept n count) ∙ above_kept (numbers_of q whole_plan)) ∙ h.0;
+        kept = h.1 ∙ ap (λ (z : Numbers). number_of z which) (numbers_kept n count) ∙ number_kept (numbers_of q whole_plan) which (few_parts l);
+      },
+      fine,
+    )
+    limit_told why.Memory plain fine l h = absurd h
 
-    pub plan_told : (numbers : Numbers) → IsFalse (is_filter q) → IsLimited record { parts = n; cells = draft.cells; answers = draft.answers; work = draft.work } (Ok numbers) → IsLayout q (Ok (plan.Parts draft.parts.items numbers))
+    pub plan_told : (numbers : Numbers) → IsFalse (is_filter q) → IsViolation q None → IsLimited record { parts = n; cells = draft.cells; answers = draft.answers; work = draft.work } (Ok numbers) → IsLayout q (Ok (plan.Parts draft.parts.items numbers))
     unfolding whole_plan
-    plan_told numbers plain h =
+    plan_told numbers plain fine h =
         let none : first_above (numbers_of q whole_plan) ≡ None = sym (ap first_above (numbers_kept n count) ∙ above_kept (numbers_of q whole_plan)) ∙ h.1 in
         let few : AreFew (numbers_of q whole_plan) = few_if (numbers_of q whole_plan) none in
         let same : numbers ≡ numbers_of q whole_plan = h.0 ∙ numbers_kept n count ∙ kept_few (numbers_of q whole_plan) few in
         let cells : draft.cells ≡ (numbers_of q whole_plan).cells = ap (λ (z : Numbers). z.cells) (numbers_kept n count ∙ kept_few (numbers_of q whole_plan) few) in
         let e : whole_plan ≡ draft.parts.items = d.boxes (omega (arith, cells, few.cells)) in
-        ((plain, subst (IsPlan q) e is_plan, same ∙ ap (numbers_of q) e), ap first_above same ∙ none)
+        ((plain, subst (IsPlan q) e is_plan, same ∙ ap (numbers_of q) e), ap first_above same ∙ none, fine)
 
 -- ---- the list of parts
 
@@ -146,3 +152,13 @@ signs_next ps old new i d l e f =
     let m : i < length (sign_lists ps) = omega (arith, l, length-map ps (λ (p : Part). p.signs.items)) in
     let g : get_or (sign_lists ps) i [] ≡ (slice_index_or ps i d).signs.items = get_or-map (λ (p : Part). p.signs.items) ps i d [] l in
     f ∙ ap (λ z. z ++ (slice_index_or ps i d).signs.items ∷ []) e ∙ ap (λ z. take i (sign_lists ps) ++ z ∷ []) (sym g) ∙ sym (take_more (sign_lists ps) i [] m)
+
+-- after the last part the sign vectors are all there
+pub all_signs : (ps : List Part) (plans : List PartPlan) (i : ℕ) → length ps ≤ i → signs_of plans ≡ take i (sign_lists ps) → signs_of plans ≡ sign_lists ps
+all_signs ps plans i l e = e ∙ take_all i (sign_lists ps) (omega (arith, l, length-map ps (λ (p : Part). p.signs.items)))
+
+-- why there are no drafts is why there is no plan
+pub not_drafted : (q : QueryValue) (parts : List (List Sign)) (e : LayoutError) → IsFalse (is_filter q) → IsDrafted q parts (Err e) → IsLayout q (Err e)
+not_drafted q parts (why.Violation part condition attr) f h = (f, h)
+not_drafted q parts (why.Limit which value) f h = absurd h
+not_drafted q parts why.Memory f h = f

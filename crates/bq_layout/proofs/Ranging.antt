@@ -12,7 +12,7 @@ use Rattle.bq_model.specs.Boxes.{range_size, dim_size, box_size}
 use Rattle.bq_refs.specs.declared.range.Range.{Range}
 use Rattle.bq_refs.specs.declared.told.Refs.{Refs}
 use Rattle.bq_refs.specs.Refs.{IsRange, AreRefs}
-use Rattle.bq_refs.proofs.Extent.{zip_at, zip_length}
+use Rattle.bq_closure.proofs.Zips.{zip_at, zip_length}
 use Rattle.bq_layout.specs.Looking.{attr_at}
 use Rattle.bq_layout.specs.Capped.{capped}
 use Rattle.bq_layout.specs.Sums.{IsSizeOf, IsRangeOf, AreSizesOf}

@@ -8,6 +8,7 @@ use Rattle.bq_model.specs.declared.plan.Plan.{Plan}
 use Rattle.bq_model.specs.declared.plan.Plan.TheVariants as plan
 use Rattle.bq_model.specs.Query.{QueryValue, is_filter}
 use Rattle.bq_model.specs.Plan.{IsPlan}
+use Rattle.bq_model.specs.Violation.{IsViolation}
 use Rattle.bq_model.specs.Numbers.{numbers_of, IsPlanOf}
 use Rattle.bq_model.specs.Verdict.{number_of, first_above}
 use Rattle.bq_layout.specs.declared.error.LayoutError.{LayoutError}
@@ -27,14 +28,17 @@ pub record IsOver (q : QueryValue) (which : Which) (value : ℕ) : Type 0 where
   pub first : first_above (numbers_of q parts) ≡ Some which
   pub kept : value ≡ capped (number_of (numbers_of q parts) which)
 
--- the plan of the query, where its numbers are within their limits, or the first that is not; a filter has its plan always
+-- the plan of the query, where it meets all conditions and its numbers are within their limits; the first violation, or else the
+-- first number that is above its limit; a filter has its plan always
 abbrev pub IsLayout : QueryValue → Result Plan LayoutError → Type 0
-IsLayout q (Ok plan) = IsPlanOf q plan × IsWithin plan
-IsLayout q (Err (why.Limit which value)) = IsOver q which value
+IsLayout q (Ok plan) = IsPlanOf q plan × IsWithin plan × IsViolation q None
+IsLayout q (Err (why.Violation part condition attr)) = IsFalse (is_filter q) × IsViolation q (Some record { part = part; condition = condition; attr = attr })
+IsLayout q (Err (why.Limit which value)) = IsOver q which value × IsViolation q None
 IsLayout q (Err why.Memory) = IsFalse (is_filter q)
 
 -- these numbers, where none is above its limit, or the first that is
 abbrev pub IsLimited : Numbers → Result Numbers LayoutError → Type 0
 IsLimited all (Ok numbers) = (numbers ≡ all) × (first_above all ≡ None)
 IsLimited all (Err (why.Limit which value)) = (first_above all ≡ Some which) × (value ≡ number_of all which)
+IsLimited all (Err (why.Violation part condition attr)) = ⊥
 IsLimited all (Err why.Memory) = ⊥

@@ -1,5 +1,5 @@
 -- The numbers of a part, and of the parts so far, as 64 bits keep them.
-use Rattle.std.specs.Prelude.{◌≡◌, ℕ, ◌<◌, ◌^◌, ℤ, List, map, All}
+use Rattle.std.specs.Prelude.{◌≡◌, ℕ, ◌+◌, ◌<◌, ◌^◌, ℤ, List, map, All, Result, Ok, Err, None, Some}
 use Rattle.std.specs.List.{sum_by}
 use Rattle.bq_model.specs.declared.atom.Attr.{Attr}
 use Rattle.bq_model.specs.declared.part.Sign.{Sign}
@@ -8,10 +8,14 @@ use Rattle.bq_model.specs.Query.{QueryValue}
 use Rattle.bq_model.specs.Order.{IsLeast, IsGreatest}
 use Rattle.bq_model.specs.Boxes.{range_size, box_size}
 use Rattle.bq_model.specs.Numbers.{answer_bound, work}
+use Rattle.bq_model.specs.Violation.{IsViolation}
+use Rattle.bq_decide.specs.declared.breaking.Break.{Break}
+use Rattle.bq_layout.specs.declared.error.LayoutError.{LayoutError}
+use Rattle.bq_layout.specs.declared.error.LayoutError.TheVariants as why
 use Rattle.bq_layout.specs.declared.drafting.Draft.{Draft}
 use Rattle.bq_layout.specs.Capped.{capped}
 use Rattle.bq_layout.specs.Boxed.{cells_for, boxed}
-use Rattle.bq_layout.specs.Drafts.{IsDraft}
+use Rattle.bq_layout.specs.Drafts.{IsDraft, signs_of}
 
 -- how many values a column has in a part, if it has a least and a greatest
 pub record IsSizeOf (q : QueryValue) (s : List Sign) (a : Attr) (size : ℕ) : Type 0 where
@@ -32,3 +36,14 @@ pub record AreDrafted (q : QueryValue) (draft : Draft) : Type 0 where
   pub boxes : draft.cells < 2 ^ 32 → boxed q 0 draft.parts.items ≡ draft.parts.items
   pub answers : draft.answers ≡ capped (answer_bound q draft.parts.items)
   pub work : draft.work ≡ capped (work draft.parts.items)
+
+-- the violation that the part at a place shows
+abbrev pub violation_at : ℕ → Break → LayoutError
+violation_at i found = why.Violation (i + 1) found.condition found.attr
+
+-- drafts of plans of all parts, of which none breaks a condition; or the first that does
+abbrev pub IsDrafted : QueryValue → List (List Sign) → Result Draft LayoutError → Type 0
+IsDrafted q parts (Ok draft) = AreDrafted q draft × (signs_of draft.parts.items ≡ parts) × IsViolation q None
+IsDrafted q parts (Err (why.Violation part condition attr)) = IsViolation q (Some record { part = part; condition = condition; attr = attr })
+IsDrafted q parts (Err (why.Limit which value)) = ⊥
+IsDrafted q parts (Err why.Memory) = Unit {0}

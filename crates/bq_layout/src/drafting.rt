@@ -1,10 +1,10 @@
 //! The plans of the parts, one after another, with what they come to.
-ghost use Rattle.std.specs.Prelude.{◌≡◌, ◌+◌, ◌<◌, ◌≤◌, ◌^◌, ◌++◌, [], ◌∷◌, length, IsFalse, OnOk, None};
-ghost use Rattle.bq_model.specs.Query.{IsWithinLimits, is_filter};
+ghost use Rattle.std.specs.Prelude.{◌≡◌, ◌+◌, ◌<◌, ◌≤◌, ◌^◌, ◌++◌, [], ◌∷◌, length, OnOk, None};
+ghost use Rattle.bq_model.specs.Query.{IsWithinLimits};
 ghost use Rattle.bq_model.specs.Parts.{IsPart};
-ghost use Rattle.bq_model.specs.Violation.{IsViolation};
 ghost use Rattle.bq_model.specs.Ranges.{different};
 ghost use Rattle.bq_refs.specs.Refs.{AreRefs};
+ghost use Rattle.bq_decide.specs.Chosen.{IsFirstBreak};
 ghost use Rattle.bq_layout.specs.Capped.{capped};
 ghost use Rattle.bq_layout.specs.Boxed.{cells_over, boxed_part, cells_for};
 ghost use Rattle.bq_layout.specs.Drafts.{AreSet, IsDraft, signs_of};
@@ -17,7 +17,7 @@ use crate::shares::share;
 use crate::sizes::box_size;
 use arrayvec::ArrayVec;
 use bq_model::{Attr, Dim, Part, PartPlan, Query, Sign, Signs, StreamPlan};
-use bq_refs::{Refs, refs};
+use bq_refs::Refs;
 use std::alloc::AllocError;
 
 /// The plans of the parts so far, and how many cells and answers they have and how much work they are.
@@ -104,18 +104,23 @@ fn part_plan(q: &Query, p: &Part, refs: Refs, first: u64) -> (PartPlan, u64)
     (part, next)
 }
 
-/// Adds the plan of a part, where there is memory for it.
-pub fn add_part(q: &Query, p: &Part, columns: &[Attr], draft: &mut Draft) -> Result<(), AllocError>
+/// Adds the plan of a part that breaks no condition, where there is memory for it.
+pub fn add_part(
+    q: &Query,
+    p: &Part,
+    refs: Refs,
+    columns: &[Attr],
+    draft: &mut Draft,
+) -> Result<(), AllocError>
     requires limits { IsWithinLimits q.now }
     requires part { IsPart q.now p.now.signs.items }
     requires columns { columns.now ≡ different q.now.select }
-    requires plain { IsFalse (is_filter q.now) }
-    requires bounded { IsViolation q.now None }
+    requires refs { AreRefs q.now p.now.signs.items refs }
+    requires fine { IsFirstBreak q.now p.now.signs.items None }
     requires drafted { AreDrafted q.now draft.old }
     ensures drafted { OnOk result (AreDrafted q.now draft.new) }
     ensures signs { OnOk result (signs_of draft.new.parts.items ≡ signs_of draft.old.parts.items ++ p.now.signs.items ∷ []) }
 {
-    let refs = refs(q, p);
     let answers = tuples_in(q, p, &refs, columns);
     let (part, cells) = part_plan(q, p, refs, draft.cells);
     draft.cells = cells;

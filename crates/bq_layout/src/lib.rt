@@ -1,8 +1,9 @@
-//! The plan that an accepted query is given, with its numbers.
+//! The plan that an accepted query is given, with its numbers; or the first part that breaks a condition.
 //!
-//! For each part, `refs` tells the ranges, the classes, the links and the references. From these come the dims and the
-//! kind of each stream, its number of cells, and what the part adds to the answers and to the work. The numbers are kept
-//! as far as 64 bits go, so that each is known to the end even where it is far above its limit.
+//! For each part, `refs` tells the ranges, the classes, the links and the references, once for both. `violation_of` says
+//! whether the part breaks a condition; where it does not, from what was told come the dims and the kind of each stream,
+//! its number of cells, and what the part adds to the answers and to the work. The numbers are kept as far as 64 bits
+//! go, so that each is known to the end even where it is far above its limit.
 #![tactic(auto)]
 
 mod classes;

@@ -1,24 +1,22 @@
 -- What one more sign means for the closure of a node.
-use Rattle.std.proofs.Common.{◌≡◌, ℕ, zero, suc, ◌<◌, ◌≤◌, ◌+◌, ◌*◌, ℤ, List, [], ◌∷◌, ◌++◌, length, length-append, append_assoc, append-nil, All, slice_get, slice_index_or, Some, refl, sym, ◌∙◌, ap, subst, arith}
-use Rattle.std.proofs.lemmas.List.Elements.{Contains-get_or}
-use Rattle.bq_model.proofs.Has.{Has, Has-from_contains}
-use Rattle.bq_model.proofs.Elements.{element_from_has}
-use Rattle.bq_model.proofs.Local.{PairIn, pair_in}
+use Rattle.std.proofs.Common.{◌≡◌, ℕ, zero, suc, ◌<◌, ◌≤◌, ◌+◌, ◌*◌, ℤ, List, [], ◌∷◌, ◌++◌, length, length-append, append_assoc, append-nil, All, pos, slice_get, slice_index_or, Some, refl, sym, ◌∙◌, ap, subst, arith}
 use Rattle.bq_model.proofs.Split.{IsFeasible}
 use Rattle.bq_model.specs.declared.atom.Attr.{Attr}
 use Rattle.bq_model.specs.declared.atom.Atom.{Atom}
 use Rattle.bq_model.specs.declared.part.Pair.{Pair}
 use Rattle.bq_model.specs.declared.part.Sign.{Sign}
 use Rattle.bq_model.specs.declared.atom.Element.TheVariants as element
-use Rattle.bq_model.specs.Query.{QueryValue, attrs_of, consts_of, IsWithinLimits}
+use Rattle.bq_model.specs.Query.{QueryValue, attrs_of, IsWithinLimits}
 use Rattle.bq_model.specs.Parts.{pairs}
-use Rattle.bq_model.specs.Order.{IsElement}
 use Rattle.bq_closure.specs.declared.constraint.Constraint.{Constraint}
+use Rattle.bq_closure.specs.declared.choosing.Choice.{Choice}
 use Rattle.bq_closure.specs.declared.closure.Closure.{Closure}
+use Rattle.bq_closure.specs.Choices.{IsChoice, AreChoices, chosen}
 use Rattle.bq_closure.specs.Closure.{IsClosureOf, HasRoom}
 use Rattle.bq_closure.specs.Nodes.{constraints_of}
 use Rattle.bq_closure.specs.PartConstraints.{sign_of, of_atoms, of_signs, of_prefix}
 use Rattle.bq_closure.specs.Solutions.{IsWithin, Solves, IsSatisfiable}
+use Rattle.bq_closure.proofs.Zips.{zip_length, zip_at}
 use Rattle.bq_closure.proofs.NodeFacts.{length-constraints}
 use Rattle.bq_closure.proofs.Joined.{solves_left, solves_right, solves_both}
 use Rattle.bq_closure.proofs.Link.{of_signs_more, of_no_signs}
@@ -31,14 +29,6 @@ pub pair_at : (ps : List Pair) (i : ℕ) (d : Pair) → i < length ps → slice_
 pair_at [] i d l = absurd (omega arith)
 pair_at (p ∷ ps) zero d l = refl
 pair_at (p ∷ ps) (suc i) d l = pair_at ps i d (omega arith)
-
--- both sides of a pair are elements of the query
-pub pair_elements : (q : QueryValue) (ps : List Pair) (i : ℕ) (d : Pair) → ps ≡ pairs q → i < length ps → IsElement q (element.Attr (slice_index_or ps i d).left) × IsElement q (slice_index_or ps i d).right
-unfolding pairs
-pair_elements q ps i d e l =
-    let h : Has (pairs q) (slice_index_or ps i d) = subst (λ z. Has z (slice_index_or ps i d)) e (Has-from_contains ps _ (Contains-get_or ps i d l)) in
-    let s : PairIn (attrs_of q.atoms) (consts_of q.atoms) (slice_index_or ps i d) = pair_in _ _ _ h in
-    (element_from_has q (element.Attr (slice_index_or ps i d).left) s.left, element_from_has q (slice_index_or ps i d).right s.right)
 
 prefix_more : (q : QueryValue) (pre : List Sign) (p : Pair) (s : Sign) → slice_get (pairs q) (length pre) ≡ Some p → of_prefix q (pre ++ s ∷ []) ≡ of_prefix q pre ++ constraints_of (attrs_of q.atoms) (element.Attr p.left) s p.right
 prefix_more q pre p s h =
@@ -56,16 +46,25 @@ adds_sign q ps pre s d i cs e at l c w =
       few = subst (λ (z : List Constraint). length z ≤ 2) (sym c) (length-constraints (attrs_of q.atoms) (element.Attr (slice_index_or ps i d).left) s (slice_index_or ps i d).right);
     }
 
+-- what the pair of the next sign adds by that sign
+pub adds_choice : (q : QueryValue) (ps : List Choice) (pre : List Sign) (s : Sign) (d : Choice) (cs : List Constraint) → AreChoices q ps → length pre < length ps → cs ≡ chosen (slice_index_or ps (length pre) d) s → AddsSign q pre s cs
+adds_choice q ps pre s d cs h l e =
+    let p : Pair = record { left = record { stream = 0; column = 0 }; right = element.Const (pos 0) } in
+    let n : length ps ≡ length (pairs q) = zip_length (IsChoice q) (pairs q) ps h in
+    let m : length pre < length (pairs q) = omega (arith, l, n) in
+    let k : IsChoice q (slice_index_or (pairs q) (length pre) p) (slice_index_or ps (length pre) d) = zip_at (IsChoice q) (pairs q) ps (length pre) p d h m in
+    adds_sign q (pairs q) pre s p (length pre) cs refl refl m (e ∙ k.says s) (subst (All (IsWithin (length (attrs_of q.atoms)))) (sym e) (k.within s))
+
 -- there is a pair for one more sign
-pub room_next : (q : QueryValue) (ps : List Pair) (k : Closure) (pre : List Sign) (s : Sign) → Before q ps k pre → length pre < length ps → length (pre ++ s ∷ []) ≤ length (pairs q)
+pub room_next : (q : QueryValue) (ps : List Choice) (k : Closure) (pre : List Sign) (s : Sign) → Before q ps k pre → length pre < length ps → length (pre ++ s ∷ []) ≤ length (pairs q)
 room_next q ps k pre s b l =
     let n : length (pre ++ s ∷ []) ≡ length pre + 1 = length-append pre (s ∷ []) in
-    let m : length ps ≡ length (pairs q) = ap length b.pairs in
+    let m : length ps ≡ length (pairs q) = zip_length (IsChoice q) (pairs q) ps b.choices in
     omega (arith, n, m, l)
 
 -- ---- the closure with the sign
 
-module _ (q : QueryValue) (ps : List Pair) (k : Closure) (pre : List Sign) (s : Sign) (cs : List Constraint) (b : Before q ps k pre) (a : AddsSign q pre s cs) where
+module _ (q : QueryValue) (ps : List Choice) (k : Closure) (pre : List Sign) (s : Sign) (cs : List Constraint) (b : Before q ps k pre) (a : AddsSign q pre s cs) where
   solves_more : (x : ℕ → ℤ) → Solves x (b.closure.constraints ++ cs) → Solves x (of_prefix q (pre ++ s ∷ []))
   solves_more x v = subst (Solves x) (sym a.more) (solves_both x (of_prefix q pre) cs (b.closure.into x (solves_left x b.closure.constraints cs v)) (solves_right x b.closure.constraints cs v))
 
@@ -83,7 +82,7 @@ module _ (q : QueryValue) (ps : List Pair) (k : Closure) (pre : List Sign) (s : 
   feasible : length pre < length ps → IsSatisfiable (b.closure.constraints ++ cs) → IsFeasible q (pre ++ s ∷ [])
   feasible l t =
       let n : length (pre ++ s ∷ []) ≡ length pre + 1 = length-append pre (s ∷ []) in
-      let m : length ps ≡ length (pairs q) = ap length b.pairs in
+      let m : length ps ≡ length (pairs q) = zip_length (IsChoice q) (pairs q) ps b.choices in
       feasible_if q (pre ++ s ∷ []) (omega (arith, n, m, l)) (record { at = t.at; solves = solves_more t.at t.solves })
 
   -- where the sign says nothing new the closure stays
@@ -93,7 +92,7 @@ module _ (q : QueryValue) (ps : List Pair) (k : Closure) (pre : List Sign) (s : 
       let t : IsSatisfiable (of_prefix q pre) = satisfiable_if q pre b.feasible in
       record {
         limits = b.limits;
-        pairs = b.pairs;
+        choices = b.choices;
         room = omega (arith, n, l);
         few = b.few;
         closure = record {
@@ -113,7 +112,7 @@ module _ (q : QueryValue) (ps : List Pair) (k : Closure) (pre : List Sign) (s : 
       let m : length (b.closure.constraints ++ cs) ≡ length b.closure.constraints + length cs = length-append b.closure.constraints cs in
       record {
         limits = b.limits;
-        pairs = b.pairs;
+        choices = b.choices;
         room = omega (arith, n, l);
         few = b.few;
         closure = record {
@@ -159,10 +158,10 @@ length-of_atoms xs (t ∷ ts) =
 pub of_no_prefix : (q : QueryValue) → of_prefix q [] ≡ of_atoms (attrs_of q.atoms) q.atoms
 of_no_prefix q = ap (λ z. of_atoms (attrs_of q.atoms) q.atoms ++ z) (of_no_signs (attrs_of q.atoms) (pairs q)) ∙ append-nil (of_atoms (attrs_of q.atoms) q.atoms)
 
-pub before_root : (q : QueryValue) (ps : List Pair) (k : Closure) → IsWithinLimits q → ps ≡ pairs q → length ps ≤ 106 → IsClosureOf k (length (attrs_of q.atoms)) (of_atoms (attrs_of q.atoms) q.atoms) → IsSatisfiable (of_atoms (attrs_of q.atoms) q.atoms) → Before q ps k []
+pub before_root : (q : QueryValue) (ps : List Choice) (k : Closure) → IsWithinLimits q → AreChoices q ps → length ps ≤ 106 → IsClosureOf k (length (attrs_of q.atoms)) (of_atoms (attrs_of q.atoms) q.atoms) → IsSatisfiable (of_atoms (attrs_of q.atoms) q.atoms) → Before q ps k []
 before_root q ps k l e few h t = record {
   limits = l;
-  pairs = e;
+  choices = e;
   room = omega arith;
   few = few;
   closure = record {

@@ -5,7 +5,9 @@ use Rattle.std.proofs.lemmas.List.Elements.{Contains-get_or}
 use Rattle.bq_model.proofs.Has.{Has, Has-append_cases, Has-from_contains}
 use Rattle.bq_model.proofs.Split.{StartsWith, IsFeasible, ArePartsUnder, none_under, one_under, three_under, parts_from_root, ascends_joined, below_starts, shorten, pairs_from}
 use Rattle.bq_model.specs.declared.part.Sign.{Sign}
-use Rattle.bq_model.specs.declared.part.Pair.{Pair}
+use Rattle.bq_closure.specs.declared.choosing.Choice.{Choice}
+use Rattle.bq_closure.specs.Choices.{IsChoice}
+use Rattle.bq_closure.proofs.Zips.{zip_length}
 use Rattle.bq_model.specs.declared.part.Part.{Part}
 use Rattle.bq_model.specs.Query.{QueryValue}
 use Rattle.bq_model.specs.Parts.{pairs, signs_lt, sign_lt, AreParts, HasMoreParts}
@@ -24,17 +26,17 @@ length-lists ps = simp length-map
 
 -- ---- a leaf
 
-pub leaf : (r : Result (Unit {0}) SplitError) (q : QueryValue) (ps : List Pair) (k : Closure) (pre : List Sign) (p : Part) (before after : List Part) → Before q ps k pre → length pre ≡ length ps → p.signs.items ≡ pre → Adds r p before after → Walks r q pre pre pre before after
+pub leaf : (r : Result (Unit {0}) SplitError) (q : QueryValue) (ps : List Choice) (k : Closure) (pre : List Sign) (p : Part) (before after : List Part) → Before q ps k pre → length pre ≡ length ps → p.signs.items ≡ pre → Adds r p before after → Walks r q pre pre pre before after
 leaf (Ok u) q ps k pre p before after b l e h = record {
-  room = (let lp : length ps ≡ length (pairs q) = ap length b.pairs in omega (arith, l, lp));
+  room = (let lp : length ps ≡ length (pairs q) = zip_length (IsChoice q) (pairs q) ps b.choices in omega (arith, l, lp));
   more = pre ∷ [];
-  are = one_under q pre (let lp : length ps ≡ length (pairs q) = ap length b.pairs in omega (arith, l, lp)) b.feasible;
+  are = one_under q pre (let lp : length ps ≡ length (pairs q) = zip_length (IsChoice q) (pairs q) ps b.choices in omega (arith, l, lp)) b.feasible;
   added = ap sign_lists h.added ∙ map-append (λ (p : Part). p.signs.items) before (p ∷ []) ∙ ap (λ z. sign_lists before ++ z ∷ []) e;
   few = h.few;
   same = refl;
 }
 leaf (Err why.TooManyParts) q ps k pre p before after b l e h =
-    let u : ArePartsUnder q pre (pre ∷ []) = one_under q pre (let lp : length ps ≡ length (pairs q) = ap length b.pairs in omega (arith, l, lp)) b.feasible in
+    let u : ArePartsUnder q pre (pre ∷ []) = one_under q pre (let lp : length ps ≡ length (pairs q) = zip_length (IsChoice q) (pairs q) ps b.choices in omega (arith, l, lp)) b.feasible in
     record { some = pre ∷ []; are = record { ascends = u.ascends; parts = u.parts; under = u.under }; over = omega (arith, h) }
 leaf (Err why.Memory) q ps k pre p before after b l e h = tt
 

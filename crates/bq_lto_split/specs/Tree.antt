@@ -1,7 +1,6 @@
 -- What a walk of the tree of signs adds.
 use Rattle.std.specs.Prelude.{◌≡◌, ℕ, ◌+◌, ◌*◌, ◌<◌, ◌≤◌, ℤ, List, [], ◌∷◌, ◌++◌, length, All, Result, Ok, Err}
 use Rattle.bq_model.specs.declared.part.Sign.{Sign}
-use Rattle.bq_model.specs.declared.part.Pair.{Pair}
 use Rattle.bq_model.specs.declared.part.Part.{Part}
 use Rattle.bq_model.specs.Query.{QueryValue, attrs_of, IsWithinLimits}
 use Rattle.bq_model.specs.Parts.{pairs, signs_lt, IsPart}
@@ -9,7 +8,9 @@ use Rattle.bq_model.proofs.Has.{Has}
 use Rattle.bq_model.proofs.Unique.{Ascends}
 use Rattle.bq_model.proofs.Split.{StartsWith, IsFeasible, ArePartsUnder}
 use Rattle.bq_closure.specs.declared.constraint.Constraint.{Constraint}
+use Rattle.bq_closure.specs.declared.choosing.Choice.{Choice}
 use Rattle.bq_closure.specs.declared.closure.Closure.{Closure}
+use Rattle.bq_closure.specs.Choices.{AreChoices}
 use Rattle.bq_closure.specs.Closure.{IsClosureOf}
 use Rattle.bq_closure.specs.PartConstraints.{of_prefix}
 use Rattle.bq_closure.specs.Solutions.{IsWithin, Solves}
@@ -26,11 +27,11 @@ pub record IsClosureFor (q : QueryValue) (signs : List Sign) (k : Closure) : Typ
   pub few : length constraints ≤ 2 * (length q.atoms + length signs)
 
 -- a node of the tree: some assignment has its signs, and the closure is theirs
-pub record Before (q : QueryValue) (ps : List Pair) (k : Closure) (signs : List Sign) : Type 0 where
+pub record Before (q : QueryValue) (cs : List Choice) (k : Closure) (signs : List Sign) : Type 0 where
   pub limits : IsWithinLimits q
-  pub pairs : ps ≡ pairs q
-  pub room : length signs ≤ length ps
-  pub few : length ps ≤ 106
+  pub choices : AreChoices q cs
+  pub room : length signs ≤ length cs
+  pub few : length cs ≤ 106
   pub closure : IsClosureFor q signs k
   pub feasible : IsFeasible q signs
 

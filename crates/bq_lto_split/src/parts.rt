@@ -8,7 +8,7 @@ ghost use Rattle.bq_lto_split.specs.Split.{sign_lists, OnTooMany};
 
 use crate::error::SplitError;
 use crate::tree::walk;
-use bq_closure::{Closure, constraints};
+use bq_closure::{Closure, choices, constraints};
 use bq_model::{Op, Part, Query, Sign, Signs};
 use std::alloc::Global;
 
@@ -48,9 +48,9 @@ pub fn split(alloc: Global, q: &Query) -> Result<Vec<Part>, SplitError>
     if !closure.satisfiable() {
         return Ok(parts);
     }
-    let pairs = q.pairs();
+    let choices = choices(q);
     let mut signs = Signs::new();
-    match walk(q, pairs.as_slice(), &closure, &mut signs, &mut parts) {
+    match walk(q, choices.as_slice(), &closure, &mut signs, &mut parts) {
         Ok(()) => Ok(parts),
         Err(why) => Err(why),
     }

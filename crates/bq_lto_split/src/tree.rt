@@ -1,26 +1,26 @@
 //! The tree of signs.
 ghost use Rattle.std.specs.Prelude.{◌≡◌, ◌<◌, ◌≤◌, ◌++◌, ◌∷◌, [], length};
-ghost use Rattle.bq_model.specs.Parts.{pairs as pairs_of};
+ghost use Rattle.bq_closure.specs.Choices.{AreChoices};
 ghost use Rattle.bq_lto_split.specs.Tree.{Before, AddsSign, Walks, WalksTwo, Adds};
 
 use crate::error::SplitError;
 use arrayvec::ArrayVec;
-use bq_closure::{Closure, Constraint, constraints};
-use bq_model::{Element, Pair, Part, Query, Sign, Signs};
+use bq_closure::{Choice, Closure, Constraint};
+use bq_model::{Part, Query, Sign, Signs};
 
 // The constraints that one more sign adds.
-fn next_constraints(
+fn next_constraints<'a>(
     q: &Query,
-    pairs: &[Pair],
+    choices: &'a [Choice],
     signs: &[Sign],
     sign: Sign,
-) -> ArrayVec<Constraint, 2>
-    requires pairs { pairs.now ≡ pairs_of q.now }
-    requires room { length signs.now < length pairs.now }
-    ensures { AddsSign q.now signs.now sign result.items }
+) -> &'a [Constraint]
+    requires choices { AreChoices q.now choices.now }
+    requires room { length signs.now < length choices.now }
+    ensures { AddsSign q.now signs.now sign result.now }
 {
-    let pair = pairs[signs.len()];
-    constraints(Element::Attr(pair.left), sign, pair.right, q)
+    let _query = q;
+    choices[signs.len()].by(sign)
 }
 
 /// Adds the parts that begin with these signs, with at most 4,096 in all.
@@ -28,20 +28,20 @@ fn next_constraints(
 #[cycle(walk)]
 pub fn walk(
     q: &Query,
-    pairs: &[Pair],
+    choices: &[Choice],
     closure: &Closure,
     signs: &mut Signs,
     parts: &mut Vec<Part>,
 ) -> Result<(), SplitError>
-    requires before { Before q.now pairs.now closure.now signs.old.items }
+    requires before { Before q.now choices.now closure.now signs.old.items }
     requires few { length parts.old.items ≤ 4096 }
     ensures { Walks result q.now signs.old.items signs.old.items signs.new.items parts.old.items parts.new.items }
 {
-    if signs.len() == pairs.len() {
+    if signs.len() == choices.len() {
         return add_part(part_of(signs.as_slice()), parts);
     }
-    match less_or_equal(q, pairs, closure, signs, parts) {
-        Ok(()) => branch(q, pairs, closure, Sign::Gt, signs, parts),
+    match less_or_equal(q, choices, closure, signs, parts) {
+        Ok(()) => branch(q, choices, closure, Sign::Gt, signs, parts),
         Err(why) => Err(why),
     }
 }
@@ -51,18 +51,18 @@ pub fn walk(
 #[cycle(walk)]
 fn less_or_equal(
     q: &Query,
-    pairs: &[Pair],
+    choices: &[Choice],
     closure: &Closure,
     signs: &mut Signs,
     parts: &mut Vec<Part>,
 ) -> Result<(), SplitError>
-    requires before { Before q.now pairs.now closure.now signs.old.items }
-    requires room { length signs.old.items < length pairs.now }
+    requires before { Before q.now choices.now closure.now signs.old.items }
+    requires room { length signs.old.items < length choices.now }
     requires few { length parts.old.items ≤ 4096 }
     ensures { WalksTwo result q.now signs.old.items signs.new.items parts.old.items parts.new.items }
 {
-    match branch(q, pairs, closure, Sign::Lt, signs, parts) {
-        Ok(()) => branch(q, pairs, closure, Sign::Eq, signs, parts),
+    match branch(q, choices, closure, Sign::Lt, signs, parts) {
+        Ok(()) => branch(q, choices, closure, Sign::Eq, signs, parts),
         Err(why) => Err(why),
     }
 }
@@ -71,40 +71,40 @@ fn less_or_equal(
 #[cycle(walk)]
 fn branch(
     q: &Query,
-    pairs: &[Pair],
+    choices: &[Choice],
     closure: &Closure,
     sign: Sign,
     signs: &mut Signs,
     parts: &mut Vec<Part>,
 ) -> Result<(), SplitError>
-    requires before { Before q.now pairs.now closure.now signs.old.items }
-    requires room { length signs.old.items < length pairs.now }
+    requires before { Before q.now choices.now closure.now signs.old.items }
+    requires room { length signs.old.items < length choices.now }
     requires few { length parts.old.items ≤ 4096 }
     ensures { Walks result q.now (signs.old.items ++ sign ∷ []) signs.old.items signs.new.items parts.old.items parts.new.items }
 {
-    let added = next_constraints(q, pairs, signs.as_slice(), sign);
-    if !closure.allows_each(added.as_slice()) {
+    let added = next_constraints(q, choices, signs.as_slice(), sign);
+    if !closure.allows_each(added) {
         return Ok(());
     }
-    if closure.implies_each(added.as_slice()) {
-        return deeper(q, pairs, closure, sign, signs, parts);
+    if closure.implies_each(added) {
+        return deeper(q, choices, closure, sign, signs, parts);
     }
-    fork(q, pairs, closure, added.as_slice(), sign, signs, parts)
+    fork(q, choices, closure, added, sign, signs, parts)
 }
 
 // The same where the sign's constraints say something new.
 #[cycle(walk)]
 fn fork(
     q: &Query,
-    pairs: &[Pair],
+    choices: &[Choice],
     closure: &Closure,
     added: &[Constraint],
     sign: Sign,
     signs: &mut Signs,
     parts: &mut Vec<Part>,
 ) -> Result<(), SplitError>
-    requires before { Before q.now pairs.now closure.now signs.old.items }
-    requires room { length signs.old.items < length pairs.now }
+    requires before { Before q.now choices.now closure.now signs.old.items }
+    requires room { length signs.old.items < length choices.now }
     requires added { AddsSign q.now signs.old.items sign added.now }
     requires few { length parts.old.items ≤ 4096 }
     ensures { Walks result q.now (signs.old.items ++ sign ∷ []) signs.old.items signs.new.items parts.old.items parts.new.items }
@@ -114,25 +114,25 @@ fn fork(
     if !next.satisfiable() {
         return Ok(());
     }
-    deeper(q, pairs, &next, sign, signs, parts)
+    deeper(q, choices, &next, sign, signs, parts)
 }
 
 // The same with the closure of the signs and the one more.
 #[cycle(walk)]
 fn deeper(
     q: &Query,
-    pairs: &[Pair],
+    choices: &[Choice],
     closure: &Closure,
     sign: Sign,
     signs: &mut Signs,
     parts: &mut Vec<Part>,
 ) -> Result<(), SplitError>
-    requires before { Before q.now pairs.now closure.now (signs.old.items ++ sign ∷ []) }
+    requires before { Before q.now choices.now closure.now (signs.old.items ++ sign ∷ []) }
     requires few { length parts.old.items ≤ 4096 }
     ensures { Walks result q.now (signs.old.items ++ sign ∷ []) signs.old.items signs.new.items parts.old.items parts.new.items }
 {
     signs.push(sign);
-    match walk(q, pairs, closure, signs, parts) {
+    match walk(q, choices, closure, signs, parts) {
         Ok(()) => {
             signs.pop();
             Ok(())

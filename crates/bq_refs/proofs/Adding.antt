@@ -1,16 +1,18 @@
 -- The constraints of a part, one after another.
-use Rattle.std.proofs.Common.{◌≡◌, ℕ, zero, suc, ◌+◌, ◌*◌, ◌<◌, ◌≤◌, List, [], ◌∷◌, ◌++◌, length, length-append, append_assoc, append-nil, take, All, get_or, slice_get, slice_index_or, Some, refl, sym, ◌∙◌, ap, subst, arith}
+use Rattle.std.proofs.Common.{◌≡◌, ℕ, zero, suc, ◌+◌, ◌*◌, ◌<◌, ◌≤◌, List, [], ◌∷◌, ◌++◌, length, length-append, append_assoc, append-nil, take, All, get_or, slice_get, slice_index_or, pos, Some, refl, sym, ◌∙◌, ap, subst, arith}
 use Rattle.std.proofs.lemmas.List.{take_more, take_all, length-take-le, length-map}
 use Rattle.std.proofs.lemmas.List.Elements.{Contains-get_or}
+use Rattle.bq_closure.specs.declared.choosing.Choice.{Choice}
+use Rattle.bq_closure.specs.Choices.{IsChoice, AreChoices, chosen}
+use Rattle.bq_closure.proofs.Zips.{zip_length, zip_at}
 use Rattle.bq_model.proofs.Has.{Has, Has-from_contains}
 use Rattle.bq_model.proofs.Elements.{SidesIn, sides_in, element_from_has}
-use Rattle.bq_model.proofs.Local.{PairIn, pair_in}
 use Rattle.bq_model.specs.declared.atom.Attr.{Attr}
 use Rattle.bq_model.specs.declared.atom.Atom.{Atom}
 use Rattle.bq_model.specs.declared.part.Pair.{Pair}
 use Rattle.bq_model.specs.declared.part.Sign.{Sign}
 use Rattle.bq_model.specs.declared.atom.Element.TheVariants as element
-use Rattle.bq_model.specs.Query.{QueryValue, attrs_of, consts_of}
+use Rattle.bq_model.specs.Query.{QueryValue, attrs_of}
 use Rattle.bq_model.specs.Parts.{pairs, signs_of, IsPart}
 use Rattle.bq_model.specs.Order.{IsElement}
 use Rattle.bq_closure.specs.declared.constraint.Constraint.{Constraint}
@@ -79,14 +81,6 @@ pair_at [] i d l = absurd (omega arith)
 pair_at (p ∷ ps) zero d l = refl
 pair_at (p ∷ ps) (suc i) d l = pair_at ps i d (omega arith)
 
--- both sides of a pair are elements of the query
-pub pair_elements : (q : QueryValue) (ps : List Pair) (i : ℕ) (d : Pair) → ps ≡ pairs q → i < length ps → IsElement q (element.Attr (slice_index_or ps i d).left) × IsElement q (slice_index_or ps i d).right
-unfolding pairs
-pair_elements q ps i d e l =
-    let h : Has (pairs q) (slice_index_or ps i d) = subst (λ z. Has z (slice_index_or ps i d)) e (Has-from_contains ps _ (Contains-get_or ps i d l)) in
-    let s : PairIn (attrs_of q.atoms) (consts_of q.atoms) (slice_index_or ps i d) = pair_in _ _ _ h in
-    (element_from_has q (element.Attr (slice_index_or ps i d).left) s.left, element_from_has q (slice_index_or ps i d).right s.right)
-
 prefix_more : (q : QueryValue) (pre : List Sign) (p : Pair) (s : Sign) → slice_get (pairs q) (length pre) ≡ Some p → of_prefix q (pre ++ s ∷ []) ≡ of_prefix q pre ++ constraints_of (attrs_of q.atoms) (element.Attr p.left) s p.right
 prefix_more q pre p s h =
     ap (λ z. of_atoms (attrs_of q.atoms) q.atoms ++ z) (of_signs_more (attrs_of q.atoms) (pairs q) pre p s h)
@@ -104,6 +98,19 @@ adds_sign q ps ss i d t cs e l m c w =
       within = w;
       few = subst (λ (z : List Constraint). length z ≤ 2) (sym c) (length-constraints (attrs_of q.atoms) (element.Attr (slice_index_or ps i d).left) (slice_index_or ss i t) (slice_index_or ps i d).right);
     }
+
+-- what the pair of a sign adds by that sign
+pub adds_choice : (q : QueryValue) (ps : List Choice) (ss : List Sign) (i : ℕ) (d : Choice) (t : Sign) (cs : List Constraint) → AreChoices q ps → i + 1 ≤ length ps → i + 1 ≤ length ss → cs ≡ chosen (slice_index_or ps i d) (slice_index_or ss i t) → AddsSign q ss i cs
+adds_choice q ps ss i d t cs h l m e =
+    let p : Pair = record { left = record { stream = 0; column = 0 }; right = element.Const (pos 0) } in
+    let n : length ps ≡ length (pairs q) = zip_length (IsChoice q) (pairs q) ps h in
+    let o : i < length (pairs q) = omega (arith, l, n) in
+    let k : IsChoice q (slice_index_or (pairs q) i p) (slice_index_or ps i d) = zip_at (IsChoice q) (pairs q) ps i p d h o in
+    adds_sign q (pairs q) ss i p t cs refl (omega (arith, o)) m (e ∙ k.says (slice_index_or ss i t)) (subst (All (IsWithin (length (attrs_of q.atoms)))) (sym e) (k.within (slice_index_or ss i t)))
+
+-- there is a choice for each sign of a part
+pub choice_there : (q : QueryValue) (ps : List Choice) (ss : List Sign) (i : ℕ) → AreChoices q ps → IsPart q ss → i < length ss → i + 1 ≤ length ps
+choice_there q ps ss i h p l = omega (arith, l, zip_length (IsChoice q) (pairs q) ps h, long q ss p)
 
 pub no_prefix : (q : QueryValue) (bs : List Constraint) → bs ≡ of_atoms (attrs_of q.atoms) q.atoms → bs ≡ of_prefix q []
 no_prefix q bs e = e ∙ sym (ap (λ z. of_atoms (attrs_of q.atoms) q.atoms ++ z) (of_no_signs (attrs_of q.atoms) (pairs q)) ∙ append-nil (of_atoms (attrs_of q.atoms) q.atoms))

@@ -25,7 +25,7 @@ use Rattle.bq_refs.specs.Refs.{IsRange, IsClassPlace, AreRefs}
 use Rattle.bq_refs.proofs.Sifted.{kept_next, dropped_next, sift_end, sift_length, sift_ascends, member_from, member_of, pairs_ascend}
 use Rattle.bq_refs.proofs.AllLinks.{links_have, sides_of, links_ascend, attr_lt-apart}
 use Rattle.bq_refs.proofs.Room.{AreOneWay, room_next}
-use Rattle.bq_refs.proofs.Extent.{zip_at}
+use Rattle.bq_closure.proofs.Zips.{zip_at}
 
 -- ---- one step of a loop
 

@@ -1,14 +1,16 @@
 //! The difference bounds of a part.
 ghost use Rattle.std.specs.Prelude.{◌≡◌, ◌+◌, ◌≤◌, ◌++◌, [], ◌∷◌, length, take, All};
 ghost use Rattle.bq_model.specs.Query.{attrs_of};
-ghost use Rattle.bq_model.specs.Parts.{pairs as pairs_of, IsPart};
+ghost use Rattle.bq_model.specs.Parts.{IsPart};
 ghost use Rattle.bq_closure.specs.Solutions.{IsWithin};
+ghost use Rattle.bq_closure.specs.Choices.{AreChoices};
 ghost use Rattle.bq_closure.specs.PartConstraints.{sign_of, of_atoms};
-ghost use Rattle.bq_refs.specs.Known.{IsKnown, AddsSign};
+ghost use Rattle.bq_refs.specs.Known.{IsKnown, IsBasis, AddsSign};
 
+use crate::links::all_links;
 use arrayvec::ArrayVec;
-use bq_closure::{Bounds, Constraint, constraints};
-use bq_model::{Element, Op, Pair, Part, Query, Sign};
+use bq_closure::{Bounds, Choice, Constraint, choices, constraints};
+use bq_model::{Link, Op, Part, Query, Sign};
 
 // How the sides of a comparison stand to each other where it holds.
 fn sign_of(op: Op) -> Sign
@@ -48,28 +50,61 @@ fn of_query(q: &Query) -> Bounds
     bounds
 }
 
-// The constraints of the sign of a pair.
-fn of_sign(q: &Query, pairs: &[Pair], signs: &[Sign], i: usize) -> ArrayVec<Constraint, 2>
-    requires pairs { pairs.now ≡ pairs_of q.now }
-    requires pair { i + 1 ≤ length pairs.now }
-    requires sign { i + 1 ≤ length signs.now }
-    ensures { AddsSign q.now signs.now i result.items }
-{
-    let pair = pairs[i];
-    constraints(Element::Attr(pair.left), signs[i], pair.right, q)
+/// What all parts of a query share: the bounds of its comparisons, what each sign of each pair adds to them, and the links of
+/// each attribute with each.
+#[derive(Drop)]
+pub struct Basis {
+    bounds: Bounds,
+    choices: ArrayVec<Choice, 106>,
+    links: ArrayVec<Link, 144>,
 }
 
-/// The bounds of a part of the query.
-pub fn bounds_of(q: &Query, p: &Part) -> Bounds
-    requires { IsPart q.now p.now.signs.items }
-    ensures { IsKnown q.now p.now.signs.items result }
+impl Basis {
+    /// What the parts of a query share.
+    pub fn new(q: &Query) -> Basis
+        ensures { IsBasis q.now result }
+    {
+        Basis {
+            bounds: of_query(q),
+            choices: choices(q),
+            links: all_links(q.attrs()),
+        }
+    }
+
+    /// The links of each attribute with each.
+    pub fn links(&self) -> &[Link]
+        ensures { result.now ≡ self.now.links.items }
+    {
+        self.links.as_slice()
+    }
+
+    /// Bounds to work in; what they hold does not matter.
+    pub fn room(&self) -> Bounds {
+        self.bounds.copy()
+    }
+}
+
+// The constraints of the sign of a pair.
+fn of_sign<'a>(q: &Query, choices: &'a [Choice], signs: &[Sign], i: usize) -> &'a [Constraint]
+    requires choices { AreChoices q.now choices.now }
+    requires pair { i + 1 ≤ length choices.now }
+    requires sign { i + 1 ≤ length signs.now }
+    ensures { AddsSign q.now signs.now i result.now }
 {
-    let mut bounds = of_query(q);
-    let pairs = q.pairs();
+    let _query = q;
+    choices[i].by(signs[i])
+}
+
+/// Makes bounds those of a part of the query.
+pub fn set_bounds(q: &Query, p: &Part, basis: &Basis, bounds: &mut Bounds)
+    requires part { IsPart q.now p.now.signs.items }
+    requires basis { IsBasis q.now basis.now }
+    ensures { IsKnown q.now p.now.signs.items bounds.new }
+{
+    bounds.set(&basis.bounds);
+    let choices = basis.choices.as_slice();
     let signs = p.signs.as_slice();
     for i in 0..signs.len() {
-        let added = of_sign(q, pairs.as_slice(), signs, i);
-        add_each(&mut bounds, added.as_slice());
+        add_each(bounds, of_sign(q, choices, signs, i));
     }
-    bounds
 }

@@ -14,6 +14,7 @@ mod reading;
 mod redundant;
 mod told;
 
+pub use known::Basis;
 pub use range::Range;
 pub use reading::refs;
 pub use told::Refs;

@@ -32,8 +32,8 @@ fn push_row(list: &mut ArrayVec<Link, 144>, left: Attr, attrs: &[Attr])
     }
 }
 
-// Each column with each.
-fn all_links(attrs: &[Attr]) -> ArrayVec<Link, 144>
+/// Each column with each.
+pub fn all_links(attrs: &[Attr]) -> ArrayVec<Link, 144>
     requires { length attrs.now ≤ 12 }
     ensures { result.items ≡ links_among attrs.now attrs.now }
 {
@@ -78,13 +78,12 @@ fn is_inequality(q: &Query, p: &Part, bounds: &Bounds, l: Link) -> bool
         && !is_redundant(q, p, bounds, Element::Attr(l.left), Element::Attr(l.right))
 }
 
-/// The equalities between streams, each once and with the earlier attribute on the left.
-pub fn equalities(q: &Query, p: &Part, bounds: &Bounds) -> ArrayVec<Link, 66>
-    requires { IsKnown q.now p.now.signs.items bounds.now }
+/// Of all links the equalities between streams, each once and with the earlier attribute on the left.
+pub fn equalities(q: &Query, p: &Part, bounds: &Bounds, links: &[Link]) -> ArrayVec<Link, 66>
+    requires known { IsKnown q.now p.now.signs.items bounds.now }
+    requires links { links.now ≡ links_among (attrs_of q.now.atoms) (attrs_of q.now.atoms) }
     ensures { Sifts (IsOrderedEquality q.now p.now.signs.items) (links_among (attrs_of q.now.atoms) (attrs_of q.now.atoms)) result.items }
 {
-    let links = all_links(q.attrs());
-    let links = links.as_slice();
     let mut list = ArrayVec::new();
     for i in 0..links.len() {
         if is_equality(q, p, bounds, links[i]) {
@@ -94,13 +93,12 @@ pub fn equalities(q: &Query, p: &Part, bounds: &Bounds) -> ArrayVec<Link, 66>
     list
 }
 
-/// The nonredundant inequalities between streams.
-pub fn inequalities(q: &Query, p: &Part, bounds: &Bounds) -> ArrayVec<Link, 66>
-    requires { IsKnown q.now p.now.signs.items bounds.now }
+/// Of all links the nonredundant inequalities between streams.
+pub fn inequalities(q: &Query, p: &Part, bounds: &Bounds, links: &[Link]) -> ArrayVec<Link, 66>
+    requires known { IsKnown q.now p.now.signs.items bounds.now }
+    requires links { links.now ≡ links_among (attrs_of q.now.atoms) (attrs_of q.now.atoms) }
     ensures { Sifts (IsOrderedInequality q.now p.now.signs.items) (links_among (attrs_of q.now.atoms) (attrs_of q.now.atoms)) result.items }
 {
-    let links = all_links(q.attrs());
-    let links = links.as_slice();
     let mut list = ArrayVec::new();
     for i in 0..links.len() {
         if is_inequality(q, p, bounds, links[i]) {

@@ -5,12 +5,12 @@ ghost use Rattle.bq_model.specs.declared.atom.Attr.{Attr};
 ghost use Rattle.bq_model.specs.Query.{attrs_of};
 ghost use Rattle.bq_model.specs.Parts.{IsPart};
 ghost use Rattle.bq_model.specs.Links.{IsMinRef, IsMaxRef};
-ghost use Rattle.bq_refs.specs.Known.{IsKnown};
+ghost use Rattle.bq_refs.specs.Known.{IsKnown, IsBasis};
 ghost use Rattle.bq_refs.specs.Sifting.{Sifts, AreInequalities};
 ghost use Rattle.bq_refs.specs.Refs.{IsRange, AreRefs};
 
 use crate::classes::classes;
-use crate::known::bounds_of;
+use crate::known::{Basis, set_bounds};
 use crate::links::{equalities, inequalities};
 use crate::range::{Range, range_at};
 use crate::told::Refs;
@@ -121,20 +121,23 @@ fn max_refs(q: &Query, p: &Part, ranges: &[Option<Range>], less: &[Link]) -> Arr
     list
 }
 
-/// What holds in a part of the query.
-pub fn refs(q: &Query, p: &Part) -> Refs
-    requires { IsPart q.now p.now.signs.items }
+/// What holds in a part of the query. The bounds are room to work in: what they hold before does not matter, and afterwards they
+/// are those of the part.
+pub fn refs(q: &Query, p: &Part, basis: &Basis, bounds: &mut Bounds) -> Refs
+    requires part { IsPart q.now p.now.signs.items }
+    requires basis { IsBasis q.now basis.now }
     ensures { AreRefs q.now p.now.signs.items result }
 {
-    let bounds = bounds_of(q, p);
-    let ranges = ranges(q, p, &bounds);
-    let less = inequalities(q, p, &bounds);
+    set_bounds(q, p, basis, bounds);
+    let bounds = &*bounds;
+    let ranges = ranges(q, p, bounds);
+    let less = inequalities(q, p, bounds, basis.links());
     let min_ref = min_refs(q, p, ranges.as_slice(), less.as_slice());
     let max_ref = max_refs(q, p, ranges.as_slice(), less.as_slice());
     Refs {
         ranges,
-        class: classes(q, p, &bounds),
-        equal: equalities(q, p, &bounds),
+        class: classes(q, p, bounds),
+        equal: equalities(q, p, bounds, basis.links()),
         less,
         min_ref,
         max_ref,

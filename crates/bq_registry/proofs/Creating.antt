@@ -1,5 +1,5 @@
 -- What CREATE QUERY does.
-use Rattle.std.proofs.Common.{◌≡◌, ℕ, ◌≤◌, List, [], ◌∷◌, ◌++◌, length, sym, ap, ◌∙◌, subst, arith, IsFalse, Ok, Err, All, length-append}
+use Rattle.std.proofs.Common.{◌≡◌, ℕ, ◌≤◌, List, [], ◌∷◌, ◌++◌, sym, ap, subst, arith, IsFalse, Ok, Err, All}
 use Rattle.std.specs.declared.result.Result.{Result}
 use Rattle.bq_model.specs.declared.plan.Plan.{Plan}
 use Rattle.bq_model.specs.declared.decision.Which.TheVariants.{Parts}
@@ -8,11 +8,10 @@ use Rattle.bq_model.specs.Parts.{HasMoreParts}
 use Rattle.bq_model.specs.Verdict.{most}
 use Rattle.bq_pool.specs.Extents.{PoolValue}
 use Rattle.bq_executor.specs.Executor.{IsAccepted, waiting_in}
-use Rattle.bq_registry.specs.declared.live.Live.{Live}
 use Rattle.bq_registry.specs.declared.refusal.CreateError.{CreateError}
 use Rattle.bq_registry.specs.declared.refusal.CreateError.TheVariants as refusals
 use Rattle.bq_registry.specs.declared.verdict.Verdict.{Verdict}
-use Rattle.bq_registry.specs.Live.{newly}
+use Rattle.bq_registry.specs.Live.{Live, newly}
 use Rattle.bq_registry.specs.Registry.{RegistryValue, AreLiveFor}
 use Rattle.bq_registry.specs.Judged.{TellsVerdict, CarriesWhy, Creates}
 use Rattle.bq_registry.specs.Admitted.{Admits}

@@ -1,3 +1,4 @@
+pub mod Entries
 pub mod Beside
 pub mod InTurn
 pub mod InWriting

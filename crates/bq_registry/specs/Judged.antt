@@ -1,5 +1,5 @@
 -- What CREATE QUERY comes to.
-use Rattle.std.specs.Prelude.{◌≡◌, ℕ, ◌<◌, List, [], ◌∷◌, ◌++◌, length, IsFalse, IfSome, ⊤}
+use Rattle.std.specs.Prelude.{◌≡◌, ℕ, ◌<◌, List, [], ◌∷◌, ◌++◌, IsFalse, IfSome, ⊤}
 use Rattle.std.specs.declared.option.Option.{Option}
 use Rattle.std.specs.declared.option.Option.TheVariants.{None, Some}
 use Rattle.std.specs.declared.result.Result.{Result}
@@ -19,8 +19,7 @@ use Rattle.bq_registry.specs.declared.refusal.CreateError.{CreateError}
 use Rattle.bq_registry.specs.declared.refusal.CreateError.TheVariants as refusals
 use Rattle.bq_registry.specs.declared.verdict.Verdict.{Verdict}
 use Rattle.bq_registry.specs.declared.verdict.Verdict.TheVariants as verdicts
-use Rattle.bq_registry.specs.declared.live.Live.{Live}
-use Rattle.bq_registry.specs.Live.{LiveQuery, newly}
+use Rattle.bq_registry.specs.Live.{Live, LiveQuery, newly}
 use Rattle.bq_registry.specs.Registry.{RegistryValue, StandsFor, IsQuiet, GivenUpto}
 
 -- a number of the query that is above its limit: there are too many parts, or else it is the first that its plan has

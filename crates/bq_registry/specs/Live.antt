@@ -1,4 +1,4 @@
--- Live queries with their plans and histories.
+-- Live queries: as they are kept, and with their plans and histories.
 use Rattle.std.specs.Prelude.{ℕ, ◌+◌, ◌-◌, ◌*◌, List, [], ◌∷◌, ◌++◌, map, length, if◌then◌else◌}
 use Rattle.std.specs.List.{sum_by}
 use Rattle.std.specs.Str.{bytes_eq}
@@ -6,6 +6,20 @@ use Rattle.bq_model.specs.declared.plan.Plan.{Plan}
 use Rattle.bq_model.specs.Query.{QueryValue}
 use Rattle.bq_model.specs.Meaning.{Arrival}
 use Rattle.bq_model.specs.Numbers.{parts_of, pages_of, work}
+use Rattle.bq_executor.specs.Executor.{ExecutorValue}
+
+-- a live query as it is kept: its name, and what runs it
+pub record Live : Type 0 where
+  pub name : List ℕ
+  pub executor : ExecutorValue
+
+-- what runs a live query, under its name
+abbrev pub named : List ℕ → ExecutorValue → Live
+named name executor = record { name = name; executor = executor }
+
+-- the live queries that entries of a name and an executor are
+abbrev pub live_of : List (List ℕ × ExecutorValue) → List Live
+live_of entries = map (λ e. named e.0 e.1) entries
 
 -- a live query, the plan that it was given, and all rows since it was created
 pub record LiveQuery : Type 0 where

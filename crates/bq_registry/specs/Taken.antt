@@ -1,11 +1,10 @@
 -- What a row does to the live queries, one after the other.
-use Rattle.std.specs.Prelude.{◌≡◌, ℕ, ◌+◌, ◌<◌, ◌≤◌, List, length, slice_index_or}
+use Rattle.std.specs.Prelude.{◌≡◌, ℕ, ◌+◌, ◌<◌, ◌≤◌, List, length, slice_index_or, slice_set}
 use Rattle.bq_model.specs.Meaning.{Arrival, new_answers}
 use Rattle.bq_pool.specs.Extents.{PoolValue, with_cells, cells_of}
 use Rattle.bq_executor.specs.Executor.{waiting_in, with_given}
 use Rattle.bq_executor.specs.Standing.{AreKept, TookRow}
-use Rattle.bq_registry.specs.declared.live.Live.{Live}
-use Rattle.bq_registry.specs.Live.{LiveQuery, with_row}
+use Rattle.bq_registry.specs.Live.{Live, LiveQuery, with_row}
 use Rattle.bq_registry.specs.Registry.{IsSound, IsLiveFor, AreLiveFor}
 
 -- a live query took a row: no cell of another changed
@@ -15,6 +14,12 @@ pub record TookOne (r : Arrival) (pool later : PoolValue) (before after : Live) 
   pub only : later ≡ with_cells pool before.executor.extent (cells_of later before.executor.extent)
   pub kept : AreKept after.executor later
   pub history : TookRow before.executor pool r after.executor later
+
+-- the live query at a place took a row, and the others stand as before
+pub record TookAt (r : Arrival) (place : ℕ) (pool later : PoolValue) (before after : List Live) : Type 0 where
+  pub live : Live
+  pub took : (l : Live) → TookOne r pool later (slice_index_or before place l) live
+  pub set : after ≡ slice_set before place live
 
 -- the first n live queries took a row, and the others did not
 pub record TookFirst (r : Arrival) (n : ℕ) (pool later : PoolValue) (before after : List Live) : Type 0 where

@@ -1,36 +1,42 @@
 //! Taking a query among the live ones, and out of them.
-ghost use Rattle.std.specs.Prelude.{◌≡◌, ◌<◌, ◌*◌, length, replicate};
+ghost use Rattle.std.specs.Prelude.{◌≡◌, ◌<◌, ◌*◌, false, length, replicate};
+ghost use Rattle.std.specs.List.{list_any};
+ghost use Rattle.std.specs.Str.{bytes_eq};
 ghost use Rattle.bq_model.specs.declared.cell.Cell.TheVariants as cell;
 ghost use Rattle.bq_model.specs.Numbers.{pages_of};
 ghost use Rattle.bq_pool.specs.Extents.{cells_of, IsLive};
 ghost use Rattle.bq_executor.specs.Executor.{IsAccepted};
+ghost use Rattle.bq_registry.specs.Live.{live_of};
 ghost use Rattle.bq_registry.specs.Registry.{IsSound};
 ghost use Rattle.bq_registry.specs.Admitted.{SettlesIn, Admits, IsDropped};
 
-use crate::live::Live;
+use crate::live::{add_last, take_out};
 use crate::refusal::CreateError;
 use crate::verdict::{Verdict, pages_of, verdict_of};
 use bq_executor::Executor;
 use bq_model::{Plan, Query};
 use bq_pool::{Extent, Pool, PoolError};
 use bq_text::Name;
+use indexmap::IndexMap;
 use std::alloc::{AllocError, AllocFailed, Global};
 
-// Takes a query among the live ones whose pages were taken. For want of memory its pages are given back.
+// Takes a query among the live ones whose pages were taken; none of them has its name. For want of memory its pages are given
+// back.
 fn settle_in(
     alloc: Global,
     pool: &mut Pool,
-    live: &mut Vec<Live>,
+    live: &mut IndexMap<Name, Executor>,
     name: Name,
     query: Query,
     plan: Plan,
     extent: Extent,
 ) -> Result<(), AllocError>
     requires accepted { IsAccepted query plan }
+    requires new { list_any (λ l. bytes_eq l.name name) (live_of live.old.entries) ≡ false }
     requires pages { extent.pages ≡ pages_of plan }
     requires there { IsLive pool.old extent }
     requires empty { cells_of pool.old extent ≡ replicate (64 * extent.pages) cell.Empty }
-    ensures { SettlesIn result name query plan extent pool.old live.old.items pool.new live.new.items }
+    ensures { SettlesIn result name query plan extent pool.old (live_of live.old.entries) pool.new (live_of live.new.entries) }
 {
     let executor = match Executor::new(alloc, query, plan, extent) {
         Ok(executor) => executor,
@@ -40,29 +46,29 @@ fn settle_in(
         }
     };
     let _sound = executor.plan();
-    match live.push(Live { name, executor }) {
+    match add_last(live, name, executor) {
         Ok(()) => Ok(()),
         Err(AllocFailed { value }) => {
-            let Live { name: _, executor } = value;
-            executor.close(pool);
+            value.close(pool);
             Err(AllocError)
         }
     }
 }
 
-/// Takes a query that is accepted among the live ones, the last of them, if its pages are free.
+/// Takes a query that is accepted among the live ones, the last of them, if its pages are free. None of them has its name.
 pub fn admit(
     alloc: Global,
     pool: &mut Pool,
-    live: &mut Vec<Live>,
+    live: &mut IndexMap<Name, Executor>,
     name: Name,
     query: Query,
     plan: Plan,
 ) -> Result<Verdict, CreateError>
     requires accepted { IsAccepted query plan }
-    requires sound { IsSound pool.old live.old.items }
-    requires room { length live.old.items < 64 }
-    ensures { Admits result name query plan pool.old live.old.items pool.new live.new.items }
+    requires new { list_any (λ l. bytes_eq l.name name) (live_of live.old.entries) ≡ false }
+    requires sound { IsSound pool.old (live_of live.old.entries) }
+    requires room { length (live_of live.old.entries) < 64 }
+    ensures { Admits result name query plan pool.old (live_of live.old.entries) pool.new (live_of live.new.entries) }
 {
     let verdict = verdict_of(&plan);
     match pool.take(pages_of(&plan)) {
@@ -75,11 +81,11 @@ pub fn admit(
 }
 
 /// Takes the live query at a place out of the live ones; its pages are free again.
-pub fn drop_at(pool: &mut Pool, live: &mut Vec<Live>, place: usize)
-    requires sound { IsSound pool.old live.old.items }
-    requires there { place < length live.old.items }
-    ensures { IsDropped place pool.old live.old.items pool.new live.new.items }
+pub fn drop_at(pool: &mut Pool, live: &mut IndexMap<Name, Executor>, place: usize)
+    requires sound { IsSound pool.old (live_of live.old.entries) }
+    requires there { place < length (live_of live.old.entries) }
+    ensures { IsDropped place pool.old (live_of live.old.entries) pool.new (live_of live.new.entries) }
 {
-    let Live { name: _, executor } = live.remove(place);
+    let executor = take_out(live, place);
     executor.close(pool);
 }

@@ -13,7 +13,6 @@ mod taking;
 mod verdict;
 mod writing;
 
-pub use live::Live;
 pub use refusal::CreateError;
 pub use registry::Registry;
 pub use verdict::Verdict;

@@ -1,23 +1,25 @@
 //! The registry.
-ghost use Rattle.std.specs.Prelude.{◌≡◌, ◌<◌, ◌≤◌, ◌+◌, ◌^◌, List, ℕ, [], All, length, map, is_some, IfOk, IsTrue, slice_index_or};
+ghost use Rattle.std.specs.Prelude.{◌≡◌, ◌<◌, ◌≤◌, ◌+◌, ◌^◌, List, ℕ, [], All, false, length, map, is_some, IfOk, IsTrue, slice_index_or};
 ghost use Rattle.std.specs.List.{flat_map, position, list_any};
 ghost use Rattle.std.specs.Str.{bytes_eq};
 ghost use Rattle.bq_io.specs.Sink.{Writes};
 ghost use Rattle.bq_model.specs.Numbers.{IsPlanOf};
 ghost use Rattle.bq_executor.specs.Executor.{arrival};
-ghost use Rattle.bq_registry.specs.Live.{LiveQuery, with_row, without, free_pages};
+ghost use Rattle.bq_registry.specs.Live.{Live, LiveQuery, live_of, with_row, without, free_pages};
 ghost use Rattle.bq_registry.specs.Registry.{IsSound, KeepQueries, waiting_text, most_steps};
 
 use crate::admission::{admit, drop_at};
-use crate::live::Live;
+use crate::live::{executor_at, has_name, place_of};
 use crate::refusal::CreateError;
 use crate::taking::take_all;
 use crate::verdict::{Verdict, judge};
 use crate::writing::write_all;
+use bq_executor::Executor;
 use bq_io::{Sink, Steps, WriteFault};
 use bq_model::{Plan, Query, Row};
 use bq_pool::Pool;
 use bq_text::Name;
+use indexmap::IndexMap;
 use std::alloc::{AllocError, Global};
 use std::marker::Model;
 use std::sync::ledger::Ledger;
@@ -25,26 +27,28 @@ use std::sync::ledger::Ledger;
 /// The pages of the pool.
 const PAGES: u16 = 16_384;
 
-/// The live queries in order of creation, at most 64, and the pool of all their cells. It cannot be dropped; `close` ends it.
+/// The live queries by name, in order of creation, at most 64, and the pool of all their cells. It cannot be dropped; `close`
+/// ends it.
 pub struct Registry {
     alloc: Global,
     pool: Pool,
-    live: Vec<Live>,
+    live: IndexMap<Name, Executor>,
 }
 
 impl Model for Registry {
+    ghost use Rattle.bq_registry.specs.Live.{live_of};
     ghost use Rattle.bq_registry.specs.Registry.{RegistryValue, IsSound};
 
     ghost Value = { RegistryValue };
 
-    ghost view = { λ r. record { pool = r.pool; live = r.live.items } };
+    ghost view = { λ r. record { pool = r.pool; live = live_of r.live.entries } };
 
-    ghost invariant = { λ r. IsSound r.pool r.live.items };
+    ghost invariant = { λ r. IsSound r.pool (live_of r.live.entries) };
 }
 
 // Gives back the pages of all live queries.
-fn close_all(pool: Pool, live: Vec<Live>)
-    requires { IsSound pool live.items }
+fn close_all(pool: Pool, live: IndexMap<Name, Executor>)
+    requires { IsSound pool (live_of live.entries) }
 {
     let mut pool = pool;
     let mut live = live;
@@ -52,20 +56,6 @@ fn close_all(pool: Pool, live: Vec<Live>)
         drop_at(&mut pool, &mut live, 0);
     }
     live.destroy_empty();
-}
-
-// The place of the live query of a name.
-fn place_of(live: &[Live], name: &Name) -> Option<usize>
-    ensures place { result ≡ position (λ l. bytes_eq l.name name.now) live.now }
-{
-    live.iter().position(|l| l.name == *name)
-}
-
-// Whether a live query has a name.
-fn has_name(live: &[Live], name: &Name) -> bool
-    ensures { result ≡ list_any (λ l. bytes_eq l.name name.now) live.now }
-{
-    live.iter().any(|l| l.name == *name)
 }
 
 impl Registry {
@@ -82,7 +72,7 @@ impl Registry {
         ensures free { IfOk result (λ r. r.pool.free ≡ 16384) }
     {
         let pool = Pool::new(alloc, PAGES)?;
-        let live = Vec::with_capacity(alloc, Registry::MOST_QUERIES)?;
+        let live = IndexMap::with_capacity(alloc, Registry::MOST_QUERIES)?;
         Ok(Registry { alloc, pool, live })
     }
 
@@ -120,7 +110,7 @@ impl Registry {
         requires { place < length self.now.live }
         ensures { (d : Live) → result.now ≡ (slice_index_or self.now.live place d).executor.query }
     {
-        self.live[place].executor.query()
+        executor_at(&self.live, place).query()
     }
 
     /// The plan of the live query at a place.
@@ -129,13 +119,14 @@ impl Registry {
         ensures value { (d : Live) → result.now ≡ (slice_index_or self.now.live place d).executor.plan }
         ensures plan { (d : Live) → IsPlanOf (slice_index_or self.now.live place d).executor.query result.now }
     {
-        self.live[place].executor.plan()
+        executor_at(&self.live, place).plan()
     }
 
-    /// Takes a query among the live ones, or says why it is refused: the verdict with the pages that are free. On a refusal,
-    /// and for want of memory, all is as before.
+    /// Takes a query among the live ones, under a name that none of them has, or says why it is refused: the verdict with the
+    /// pages that are free. On a refusal, and for want of memory, all is as before.
     pub fn create(&mut self, name: Name, query: Query) -> Result<Verdict, CreateError>
-        requires { length self.old.live < 64 }
+        requires room { length self.old.live < 64 }
+        requires new { list_any (λ l. bytes_eq l.name name) self.old.live ≡ false }
         ensures verdict { (queries : List LiveQuery) → StandsFor self.old queries → TellsVerdict query (free_pages queries) result }
         ensures why { CarriesWhy query self.old.pool.free result }
         ensures creates { Creates self.old name query result self.new }

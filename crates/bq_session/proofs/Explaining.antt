@@ -1,6 +1,7 @@
 -- How a live query runs, and that its names stay there.
-use Rattle.std.proofs.Common.{◌≡◌, ℕ, suc, ◌+◌, ◌<◌, ◌≤◌, Bool, true, false, cond, not, List, [], ◌∷◌, ◌++◌, length, refl, sym, ap, ◌∙◌, subst, arith, slice_index_or, All, Some, Ok, Err, nat_lt}
-use Rattle.std.specs.List.{position, position_or_len}
+use Rattle.std.proofs.Common.{◌≡◌, ℕ, suc, ◌+◌, ◌<◌, ◌≤◌, Bool, true, false, cond, not, List, [], ◌∷◌, ◌++◌, length, refl, sym, ap, ◌∙◌, subst, arith, slice_index_or, All, Some, Ok, Err, nat_lt, ◌||◌}
+use Rattle.std.specs.List.{position, position_or_len, list_any}
+use Rattle.std.proofs.lemmas.Bool.Decides.{nat_tests}
 use Rattle.std.specs.Str.{bytes_eq}
 use Rattle.bq_schema.specs.Streams.{Shape, is_duplicate, with_stream}
 use Rattle.bq_parser.specs.Resolution.{HasNamed}
@@ -8,8 +9,7 @@ use Rattle.bq_parser.proofs.Placed.{stays_named}
 use Rattle.bq_model.specs.Query.{QueryValue}
 use Rattle.bq_pool.specs.Extents.{PoolValue}
 use Rattle.bq_explain.specs.Text.{explain_text}
-use Rattle.bq_registry.specs.declared.live.Live.{Live}
-use Rattle.bq_registry.specs.Live.{LiveQuery}
+use Rattle.bq_registry.specs.Live.{Live, LiveQuery}
 use Rattle.bq_model.specs.declared.plan.Plan.{Plan}
 use Rattle.bq_model.specs.Numbers.{IsPlanOf}
 use Rattle.std.specs.declared.result.Result.{Result}
@@ -106,3 +106,24 @@ named_with streams shape live all = by (is_duplicate streams shape) (nat_lt (len
     by true c = all
     by false true = named_more streams (shape ∷ []) live all
     by false false = all
+
+more : (a n : ℕ) → nat_lt (1 + a) (suc n) ≡ true → nat_lt a n ≡ true
+more a n t = grind (arith, nat_tests)
+
+within_one : (b : Bool) (a n : ℕ) (any : Bool) → nat_lt (cond (not b) (1 + a) 0) (suc n) ≡ true → (nat_lt a n ≡ true → any ≡ true) → (b || any) ≡ true
+within_one true a n any t f = refl
+within_one false a n any t f = f (more a n t)
+
+one_within : (name : List ℕ) (live : List Live) → nat_lt (position_or_len (λ (l : Live). bytes_eq l.name name) live) (length live) ≡ true → list_any (λ (l : Live). bytes_eq l.name name) live ≡ true
+one_within name [] t = absurd (none t)
+  where
+    none : nat_lt 0 0 ≡ true → ⊥
+    none t = grind (arith, nat_tests)
+one_within name (l ∷ live) t = within_one (bytes_eq l.name name) (position_or_len (λ (x : Live). bytes_eq x.name name) live) (length live) _ t (one_within name live)
+
+-- a name that is found is there
+pub found_name : (name : List ℕ) (live : List Live) (place : ℕ) → position (λ (l : Live). bytes_eq l.name name) live ≡ Some place → list_any (λ (l : Live). bytes_eq l.name name) live ≡ true
+found_name name live place e = (let found = found_place name live place e in one_within name live (less found.0 found.1))
+  where
+    less : (place < length live) → place ≡ position_or_len (λ (l : Live). bytes_eq l.name name) live → nat_lt (position_or_len (λ (l : Live). bytes_eq l.name name) live) (length live) ≡ true
+    less w s = grind (arith, nat_tests)

@@ -1,3 +1,4 @@
+pub mod Announcing
 pub mod Explaining
 pub mod Deciding
 pub mod Grouped

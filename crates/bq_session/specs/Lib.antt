@@ -1,3 +1,4 @@
+pub mod Announced
 pub mod Answer
 pub mod Answers
 pub mod Decided

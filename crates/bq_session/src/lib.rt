@@ -5,6 +5,7 @@
 //! the next state are functions of state and answer. The session keeps no row.
 #![tactic(auto)]
 
+mod announced;
 pub mod laws;
 mod outcome;
 mod reply;
@@ -12,5 +13,6 @@ mod session;
 mod statement;
 mod word;
 
+pub use announced::Announced;
 pub use outcome::LineOutcome;
 pub use session::Session;

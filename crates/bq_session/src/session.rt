@@ -1,18 +1,20 @@
 //! The session.
-ghost use Rattle.std.specs.Prelude.{◌≡◌, ℕ, ◌+◌, ◌<◌, ◌≤◌, ◌^◌, List, None, Some, IfOk, IsTrue, length, nat_lt};
-ghost use Rattle.std.specs.List.{position};
+ghost use Rattle.std.specs.Prelude.{◌≡◌, ℕ, ◌+◌, ◌<◌, ◌≤◌, ◌^◌, List, None, Some, false, IfOk, IsTrue, length, nat_lt};
+ghost use Rattle.std.specs.List.{list_any, position};
 ghost use Rattle.std.specs.Str.{bytes_eq};
 ghost use Rattle.bq_parser.specs.Grammar.{IsWhole};
 ghost use Rattle.bq_parser.specs.Limits.{limit_of};
 ghost use Rattle.bq_parser.specs.Resolution.{IsTaken, HasNamed};
 ghost use Rattle.bq_schema.specs.Rows.{is_row_line};
 ghost use Rattle.bq_schema.specs.Streams.{added};
+ghost use Rattle.bq_registry.specs.Live.{row_costs};
 ghost use Rattle.bq_registry.specs.Registry.{most_steps};
 ghost use Rattle.bq_session.specs.State.{State, empty, one_line_more};
 ghost use Rattle.bq_session.specs.Request.{asked, explained, refused};
 ghost use Rattle.bq_session.specs.Requests.{row_request, stream_request, query_request, explain_request, drop_request, statement_request};
 ghost use Rattle.bq_session.specs.Session.{outcome_of};
 
+use crate::announced::{Announced, announced_in};
 use crate::outcome::LineOutcome;
 use crate::reply::{
     write_created, write_dropped, write_filter, write_limit, write_no_pages, write_numbers,
@@ -55,6 +57,7 @@ impl Model for Session {
 
 impl Session {
     ghost use Rattle.bq_session.specs.Session.{StandsFor, Does, StatementDoes, Answered, names_in};
+    ghost use Rattle.bq_session.specs.Announced.{announced_by};
 
     /// The most rows of a session.
     pub const MOST_ROWS: u64 = 1 << 40;
@@ -87,6 +90,7 @@ impl Session {
         requires lines { self.old.lines + 1 < 2 ^ 64 }
         ensures reply { (s : State) → StandsFor self.old s → Answered result s line.now self.new (O.seen out.old) (O.seen out.new) }
         ensures steps { steps.new ≤ steps.old + most_steps self.old.registry.live }
+        ensures announced { (s : State) → StandsFor self.old s → steps.new ≤ steps.old + row_costs s.queries }
     {
         let (kind, text) = classify(line);
         self.lines += 1;
@@ -105,6 +109,13 @@ impl Session {
     {
         self.lines += 1;
         self.refuse(Word::LineTooLong, out)
+    }
+
+    /// The sums of the cells and of the answers that the live queries announce, for every state that the session stands for.
+    pub fn announced(&self) -> Announced
+        ensures { (s : State) → StandsFor self.now s → result ≡ announced_by s.queries }
+    {
+        announced_in(&self.registry)
     }
 
     /// Ends the session.
@@ -221,9 +232,6 @@ impl Session {
         ensures { (s : State) → StandsFor self.now (one_line_more s)
             → Does result s (explain_request (names_in self.now.registry) name.now) self.now (O.seen out.old) (O.seen out.new) }
     {
-        if !is_live(&self.registry, name) {
-            return self.refuse(Word::UnknownQuery, out);
-        }
         match self.registry.find(name) {
             Some(place) => self.explain_at(place, name, out),
             None => self.refuse(Word::UnknownQuery, out),
@@ -258,6 +266,7 @@ impl Session {
     fn decide<O: Sink>(&mut self, name: Name, query: Query, out: &mut O) -> LineOutcome
         requires named { HasNamed self.old.streams query }
         requires room { length self.old.registry.live < 64 }
+        requires new { list_any (λ l. bytes_eq l.name name) self.old.registry.live ≡ false }
         ensures { (s : State) → StandsFor self.old (one_line_more s)
             → Does result s (asked name query) self.new (O.seen out.old) (O.seen out.new) }
     {

@@ -6,6 +6,8 @@ mod edge;
 #[cfg(test)]
 mod faults;
 #[cfg(test)]
+mod load;
+#[cfg(test)]
 mod oracle;
 #[cfg(test)]
 mod pool;
@@ -13,6 +15,8 @@ mod pool;
 mod run;
 #[cfg(test)]
 mod runs;
+#[cfg(test)]
+mod script;
 #[cfg(test)]
 mod synopsis;
 #[cfg(test)]

@@ -1,6 +1,9 @@
 pub mod Endings
 pub mod Exits
 pub mod GivenLines
+pub mod LoadForms
+pub mod LoadSteps
+pub mod OneCommand
 pub mod Passing
 pub mod Progress
 pub mod Stops

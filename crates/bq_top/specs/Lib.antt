@@ -1,4 +1,10 @@
+pub mod Commands
+pub mod Ends
 pub mod Fetched
+pub mod Laws
+pub mod Load
+pub mod LoadWords
+pub mod Loading
 pub mod Run
 pub mod Texts
 pub mod Words

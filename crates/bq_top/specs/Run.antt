@@ -1,7 +1,6 @@
 -- What a run over the lines of a source comes to.
-use Rattle.std.specs.Prelude.{◌≡◌, ℕ, ◌-◌, ◌^◌, ◌<◌, ◌≤◌, ◌⊎◌, ⊤, List, String, [], ◌∷◌, ◌++◌, length, IfSome, IsTrue}
+use Rattle.std.specs.Prelude.{◌≡◌, ℕ, ◌-◌, ◌^◌, ◌<◌, ◌≤◌, ◌⊎◌, ⊤, List, [], ◌∷◌, ◌++◌, length, IfSome, IsTrue}
 use Rattle.std.specs.Io.KnownBytes.{Consumes, Appends, Keeps}
-use Rattle.std.specs.declared.alloc.Global.{Global}
 use Rattle.bq_io.specs.Counts.{Rose}
 use Rattle.bq_io.specs.declared.status.Status.{Status}
 use Rattle.bq_io.specs.declared.status.Status.TheVariants as status
@@ -19,7 +18,6 @@ use Rattle.bq_session.specs.Session.{Kept, StandsFor, creates}
 use Rattle.bq_top.specs.declared.ending.Ending.{Ending}
 use Rattle.bq_top.specs.declared.ending.Ending.TheVariants.{Done, ReadFault, WriteFault, Memory, ByteLimit}
 use Rattle.bq_top.specs.Texts.{ended_part, IsNear}
-use Rattle.bq_top.specs.Words.{RunsSession, AreOther}
 
 -- the session stands for some state
 pub record HasState (kept : Kept) : Type 0 where
@@ -110,17 +108,6 @@ SessionEnds status.ReadFault limit source source' sink sink' = Streams ReadFault
 SessionEnds status.WriteFault limit source source' sink sink' = Streams WriteFault (empty limit) source source' sink sink'
 SessionEnds status.Memory limit source source' sink sink' = DidNothing source source' sink sink' ⊎ Streams Memory (empty limit) source source' sink sink'
 SessionEnds status.ByteLimit limit source source' sink sink' = Streams ByteLimit (empty limit) source source' sink sink'
-
--- How the program ends, by the status. Usage: the words are none of the forms, and nothing was read or written. Each other status:
--- the words run a session that may take so many rows, and it ended so.
-abbrev pub Ends : Status → List (String Global) → SourceState → SourceState → SinkState → SinkState → Type 0
-Ends status.Done words source source' sink sink' = RunsSession words (λ limit. SessionEnds status.Done limit source source' sink sink')
-Ends status.Invalid words source source' sink sink' = ⊥
-Ends status.Usage words source source' sink sink' = AreOther words × DidNothing source source' sink sink'
-Ends status.ReadFault words source source' sink sink' = RunsSession words (λ limit. SessionEnds status.ReadFault limit source source' sink sink')
-Ends status.WriteFault words source source' sink sink' = RunsSession words (λ limit. SessionEnds status.WriteFault limit source source' sink sink')
-Ends status.Memory words source source' sink sink' = RunsSession words (λ limit. SessionEnds status.Memory limit source source' sink sink')
-Ends status.ByteLimit words source source' sink sink' = RunsSession words (λ limit. SessionEnds status.ByteLimit limit source source' sink sink')
 
 -- the status is one that comes without a fault of the source or the sink
 abbrev pub IsNoFault : Status → Type 0

@@ -17,13 +17,3 @@ pub data AreRunTexts (texts : List (List ℕ)) (limit : ℕ) : Type 0 where
 -- The words run a session that may take so many rows.
 abbrev pub AreRun : List (String Global) → ℕ → Type 0
 AreRun words limit = AreRunTexts (map string_bytes words) limit
-
--- the words run a session that may take so many rows, and this holds of the number
-pub record RunsSession (words : List (String Global)) (P : ℕ → Type 0) : Type 0 where
-  pub limit : ℕ
-  pub run : AreRun words limit
-  pub holds : P limit
-
--- no words of the forms
-abbrev pub AreOther : List (String Global) → Type 0
-AreOther words = (limit : ℕ) → AreRun words limit → ⊥

@@ -4,10 +4,15 @@
 //! status what was read and written, and why it came.
 #![tactic(auto)]
 
+mod command;
 mod ending;
 mod fetch;
+pub mod laws;
+mod load;
+mod load_words;
 mod program;
 mod stream;
+mod summary;
 mod words;
 
 pub use bq_io::Status;

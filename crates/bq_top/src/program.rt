@@ -4,11 +4,13 @@ ghost use Rattle.bq_io.specs.Counts.{Rose};
 ghost use Rattle.bq_feed.specs.Reading.{fresh};
 ghost use Rattle.bq_session.specs.State.{State, empty};
 ghost use Rattle.bq_session.specs.Session.{StandsFor};
-ghost use Rattle.bq_top.specs.Run.{HasState, Streamed, SessionEnds, Ends, IsNoFault, status_of};
+ghost use Rattle.bq_top.specs.Run.{HasState, Streamed, SessionEnds, IsNoFault, status_of};
+ghost use Rattle.bq_top.specs.Ends.{Ends};
 
+use crate::command::{Command, command_of};
 use crate::ending::Ending;
+use crate::load::load;
 use crate::stream::stream;
-use crate::words::row_limit;
 use bq_feed::LineReader;
 use bq_io::{Gathered, Sink, Source, Status, Steps};
 use bq_session::Session;
@@ -93,14 +95,20 @@ fn run_session<I: Source, O: Sink>(
     status_of(ending)
 }
 
-/// All that the program does over the words after its name. It answers each line of the input before it reads on, without end,
-/// in buffers of fixed size. Replies are gathered, and written before each read, at the end and where 4,096 bytes are held.
+/// All that the program does over the words after its name.
 ///
-/// `Ends` says of each status what was read and written: for `Done` the whole input, and its session text; for `ReadFault` and
-/// `ByteLimit` the session text of the lines that ended before; for `WriteFault` the replies to the lines before one line and a
-/// front of the reply to it; for `Memory` nothing, or the replies to the lines before a line that creates a stream or a query.
-/// `Usage` comes exactly where the words are neither `run` nor `run --rows N`. `ReadFault` and `WriteFault` come only where the
-/// count of faults of that object rose in this call.
+/// `run` and `run --rows N` answer each line of the input before they read on, without end, in buffers of fixed size. Replies are
+/// gathered, and written before each read, at the end and where 4,096 bytes are held. `Ends` says of each status what was read and
+/// written: for `Done` the whole input, and its session text; for `ReadFault` and `ByteLimit` the session text of the lines that
+/// ended before; for `WriteFault` the replies to the lines before one line and a front of the reply to it; for `Memory` nothing, or
+/// the replies to the lines before a line that creates a stream or a query.
+///
+/// `load N` answers the script of N generated rows, 1 to 100,000, reads nothing, and writes one line: N, how many lines the session
+/// text of the script has, and the sums of the cells and of the answers that the live queries announce. For `Done` that line was
+/// written, for `WriteFault` a front of it, and for `Memory` nothing.
+///
+/// `Usage` comes exactly where the words are none of these forms. `ReadFault` and `WriteFault` come only where the count of faults
+/// of that object rose in this call.
 pub fn run<I: Source, O: Sink>(
     alloc: Global,
     words: &[String],
@@ -114,8 +122,9 @@ pub fn run<I: Source, O: Sink>(
     ensures input_later { (I.seen input.old).faults ≤ (I.seen input.new).faults }
     ensures output_later { (O.seen output.old).faults ≤ (O.seen output.new).faults }
 {
-    match row_limit(words) {
-        Some(limit) => run_session(alloc, limit, input, output),
+    match command_of(words) {
+        Some(Command::Run(limit)) => run_session(alloc, limit, input, output),
+        Some(Command::Load(rows)) => load(alloc, rows, output),
         None => Status::Usage,
     }
 }

@@ -2,7 +2,7 @@
 ghost use Rattle.std.specs.Prelude.{◌≡◌, ℕ, ◌<◌, ◌≤◌, ◌^◌, IfSome, MatchOption, decimal};
 ghost use Rattle.std.specs.Str.{bytes_eq};
 ghost use Rattle.std.specs.String.{string_bytes};
-ghost use Rattle.bq_top.specs.Words.{IsRowLimit, AreRun, RunsSession};
+ghost use Rattle.bq_top.specs.Words.{IsRowLimit, AreRun};
 
 use bq_session::Session;
 use itoa::Buffer;
@@ -10,8 +10,8 @@ use itoa::Buffer;
 /// The most rows that a session may take.
 const MOST_ROWS: u64 = Session::MOST_ROWS;
 
-// The number that a text is in its shortest form.
-fn read_number(text: &str) -> Option<u64>
+/// The number that a text is in its shortest form.
+pub fn read_number(text: &str) -> Option<u64>
     ensures { MatchOption result ((n : ℕ) → n < 2 ^ 64 → text.now ≡ decimal n → ⊥) (λ n. text.now ≡ decimal n) }
 {
     match text.parse::<u64>() {
@@ -45,8 +45,8 @@ fn read_row_limit(text: &str) -> Option<u64>
     }
 }
 
-// Whether the word is this text.
-fn is_word(word: &String, text: &str) -> bool
+/// Whether the word is this text.
+pub fn is_word(word: &String, text: &str) -> bool
     ensures { result ≡ bytes_eq (string_bytes word.now) text.now }
 {
     word.as_str() == text

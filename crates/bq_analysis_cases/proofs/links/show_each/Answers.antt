@@ -15,5 +15,5 @@ member q parts i p all inside is =
     let f : Part → List Sign = λ p. p.signs.items in
     subst (IsPart q) (get_or-map f parts i p (f p) inside ∙ ap f (sym is)) (all i (f p) (subst (λ n. i < n) (sym (length-map parts f)) inside))
 
-pub refs-requires : goal.refs-requires
-refs-requires g c = member c.args.query.now c.args.parts.now c.loop-part.part-index c.part-item.result c.requires c.loop-part-test.true c.part-item.is
+pub refs-told-requires-clause-part : goal.refs-told-requires-clause-part
+refs-told-requires-clause-part g c = member c.args.query.now c.args.parts.now c.loop-part.part-index c.part-item.result c.requires c.loop-part-test.true c.part-item.is

@@ -7,8 +7,8 @@ use Rattle.bq_decide.specs.Chosen.{IsFirstBreak}
 use Rattle.bq_decide.proofs.Numbered.{part_there, signs_at, one_fails, none_more, none_fails}
 use Rattle.bq_decide.proofs.deciding.decide.Goals as goal
 
-pub violation_of-requires : goal.violation_of-requires
-violation_of-requires c = subst (λ (z : Part). IsPart c.args.q.now z.signs.items) (sym c.index-parts-i.is) (part_there c.args.q.now (sign_lists c.args.parts.now) c.loop-i.i _ c.requires.parts.each (signs_at c.args.parts.now c.loop-i.i c.index-parts-i.result c.loop-i-test.true))
+pub break_of-requires-clause-part : goal.break_of-requires-clause-part
+break_of-requires-clause-part c = subst (λ (z : Part). IsPart c.args.q.now z.signs.items) (sym c.index-parts-i.is) (part_there c.args.q.now (sign_lists c.args.parts.now) c.loop-i.i _ c.requires.parts.each (signs_at c.args.parts.now c.loop-i.i c.index-parts-i.result c.loop-i-test.true))
 
 pub returns-in-Some : goal.returns-in-Some
 returns-in-Some c =

@@ -1,4 +1,4 @@
-use Rattle.std.proofs.Common.{arith, ◌∙◌}
+use Rattle.std.proofs.Common.{arith}
 use Rattle.bq_lto_split.proofs.Steps.{before_root, not_feasible_root}
 use Rattle.bq_lto_split.proofs.Walks.{no_parts, parts_from, too_many}
 use Rattle.bq_lto_split.proofs.parts.split.Goals as goal
@@ -9,7 +9,7 @@ returns-then-not-satisfiable-clause-parts c =
 
 pub walk-requires-clause-before : goal.walk-requires-clause-before
 walk-requires-clause-before c =
-    rw c.new-signs.ensures (before_root c.args.q.now _ _ c.start-closure.ensures.limits (c.as_slice.ensures.value ∙ c.pairs-pairs.ensures) (omega (arith, c.as_slice.ensures.fits)) c.start-closure.ensures.closure
+    rw c.new-signs.ensures (before_root c.args.q.now _ _ c.start-closure.ensures.limits (rw c.as_slice.ensures.value c.choices-choices.ensures) (omega (arith, c.as_slice.ensures.fits)) c.start-closure.ensures.closure
     ((c.satisfiable.ensures _ _ c.start-closure.ensures.closure).0 c.if-not-satisfiable.false))
 
 pub returns-in-Ok-clause-parts : goal.returns-in-Ok-clause-parts

@@ -8,15 +8,15 @@ use Rattle.bq_lto_split.proofs.tree.+walk.Goals as goal
 pub branch-returns-then-not-allows_each : goal.branch-returns-then-not-allows_each
 branch-returns-then-not-allows_each t c =
     let b = c.requires.before in
-    let a : AddsSign c.args.q.now c.args.signs.now.items c.args.sign c.next_constraints-added.result.items = rw c.as_slice.ensures.value at c.next_constraints-added.ensures in
-    let f = rw c.as_slice-2.ensures.value at (c.allows_each.ensures _ _ b.closure.closure).1 in
+    let a : AddsSign c.args.q.now c.args.signs.now.items c.args.sign c.next_constraints-added.result.now = rw c.as_slice.ensures.value at c.next_constraints-added.ensures in
+    let f = (c.allows_each.ensures _ _ b.closure.closure).1 in
     nothing _ _ _ _ (room_next _ _ _ _ c.args.sign b c.requires.room) c.requires.few (not_feasible _ _ _ _ _ _ b a (λ s. let y = f (allows_each _ _ s) in cc))
 
 pub branch-deeper-requires : goal.branch-deeper-requires
 branch-deeper-requires t c =
     let b = c.requires.before in
-    let a : AddsSign c.args.q.now c.args.signs.now.items c.args.sign c.next_constraints-added.result.items = rw c.as_slice.ensures.value at c.next_constraints-added.ensures in
-    let f = rw c.as_slice-3.ensures.value at ((c.implies_each.ensures _ _ b.closure.closure).0 c.if-implies_each.true) in
+    let a : AddsSign c.args.q.now c.args.signs.now.items c.args.sign c.next_constraints-added.result.now = rw c.as_slice.ensures.value at c.next_constraints-added.ensures in
+    let f = (c.implies_each.ensures _ _ b.closure.closure).0 c.if-implies_each.true in
     (omega arith, (before_same _ _ _ _ _ _ b a c.requires.room (λ x v. solves_implied x _ _ f v), c.requires.few))
 
 pub fork-returns-then-not-satisfiable : goal.fork-returns-then-not-satisfiable
@@ -38,10 +38,10 @@ deeper-walk-requires t c =
     let m : length c.push.new.self.items ≡ length c.args.signs.now.items + 1 = ap length c.push.ensures.items ∙ n in
     (omega (arith, m, n, b.room), (rw c.push.ensures.items b, c.requires.few))
 
-pub walk-returns-then-len-pairs : goal.walk-returns-then-len-pairs
-walk-returns-then-len-pairs t c =
-    leaf c.add_part.result c.args.q.now c.args.pairs.now c.args.closure.now c.args.signs.now.items c.part_of.result c.args.parts.now.items c.add_part.new.parts.items c.requires.before
-    (omega (arith, c.if-len-pairs.true, c.len.ensures.value)) (c.part_of.ensures ∙ c.as_slice.ensures.value) c.add_part.ensures
+pub walk-returns-then-len-choices : goal.walk-returns-then-len-choices
+walk-returns-then-len-choices t c =
+    leaf c.add_part.result c.args.q.now c.args.choices.now c.args.closure.now c.args.signs.now.items c.part_of.result c.args.parts.now.items c.add_part.new.parts.items c.requires.before
+    (omega (arith, c.if-len-choices.true, c.len.ensures.value)) (c.part_of.ensures ∙ c.as_slice.ensures.value) c.add_part.ensures
 
 pub walk-less_or_equal-requires : goal.walk-less_or_equal-requires
-walk-less_or_equal-requires t c = (omega arith, (c.requires.before, (omega (arith, c.if-len-pairs.false, c.len.ensures.value, c.requires.before.room), c.requires.few)))
+walk-less_or_equal-requires t c = (omega arith, (c.requires.before, (omega (arith, c.if-len-choices.false, c.len.ensures.value, c.requires.before.room), c.requires.few)))

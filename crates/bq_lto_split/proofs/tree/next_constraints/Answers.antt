@@ -1,12 +1,10 @@
-use Rattle.std.proofs.Common.{length, refl}
-use Rattle.bq_lto_split.proofs.Steps.{pair_elements, adds_sign}
+use Rattle.std.proofs.Common.{◌∙◌, ap}
+use Rattle.bq_closure.specs.Choices.{chosen}
+use Rattle.bq_closure.specs.declared.choosing.Choice.{Choice}
+use Rattle.bq_lto_split.proofs.Steps.{adds_choice}
 use Rattle.bq_lto_split.proofs.tree.next_constraints.Goals as goal
 
-pub constraints-requires-clause-left : goal.constraints-requires-clause-left
-constraints-requires-clause-left c = (pair_elements c.args.q.now c.args.pairs.now (length c.args.signs.now) _ c.requires.pairs c.requires.room).0
-
-pub constraints-requires-clause-right : goal.constraints-requires-clause-right
-constraints-requires-clause-right c = (pair_elements c.args.q.now c.args.pairs.now (length c.args.signs.now) _ c.requires.pairs c.requires.room).1
-
 pub returns : goal.returns
-returns c = adds_sign c.args.q.now c.args.pairs.now c.args.signs.now c.args.sign _ (length c.args.signs.now) c.constraints.result.items c.requires.pairs refl c.requires.room c.constraints.ensures.value c.constraints.ensures.within
+returns c =
+    adds_choice c.args.q.now c.args.choices.now c.args.signs.now c.args.sign c.index-choices-signs.result _ c.requires.choices c.requires.room
+    (c.by.ensures ∙ ap (λ (z : Choice). chosen z c.args.sign) c.index-choices-signs.is)

@@ -2,7 +2,7 @@ use Rattle.std.proofs.Common.{◌≡◌, length, take, ap, arith}
 use Rattle.std.proofs.lemmas.List.{length-take-le}
 use Rattle.bq_model.specs.Query.{attrs_of}
 use Rattle.bq_refs.specs.Refs.{IsClassPlace}
-use Rattle.bq_refs.proofs.Extent.{zip_length, zip_more_at}
+use Rattle.bq_closure.proofs.Zips.{zip_length, zip_more_at}
 use Rattle.bq_refs.proofs.classes.classes.Goals as goal
 
 pub push-requires : goal.push-requires

@@ -1,12 +1,11 @@
-use Rattle.std.proofs.Common.{arith}
-use Rattle.bq_refs.proofs.Adding.{pair_elements, adds_sign}
+use Rattle.std.proofs.Common.{◌∙◌, ap, slice_index_or}
+use Rattle.bq_model.specs.declared.part.Sign.{Sign}
+use Rattle.bq_closure.specs.Choices.{chosen}
+use Rattle.bq_closure.specs.declared.choosing.Choice.{Choice}
+use Rattle.bq_refs.proofs.Adding.{adds_choice}
 use Rattle.bq_refs.proofs.known.of_sign.Goals as goal
 
-pub constraints-requires-clause-left : goal.constraints-requires-clause-left
-constraints-requires-clause-left c = (pair_elements c.args.q.now c.args.pairs.now c.args.i _ c.requires.pairs (omega arith)).0
-
-pub constraints-requires-clause-right : goal.constraints-requires-clause-right
-constraints-requires-clause-right c = (pair_elements c.args.q.now c.args.pairs.now c.args.i _ c.requires.pairs (omega arith)).1
-
 pub returns : goal.returns
-returns c = adds_sign c.args.q.now c.args.pairs.now c.args.signs.now c.args.i _ _ _ c.requires.pairs c.requires.pair c.requires.sign c.constraints.ensures.value c.constraints.ensures.within
+returns c =
+    adds_choice c.args.q.now c.args.choices.now c.args.signs.now c.args.i c.index-choices-i.result Sign.Lt _ c.requires.choices c.requires.pair c.requires.sign
+    (c.by.ensures ∙ ap (λ (z : Choice). chosen z (slice_index_or c.args.signs.now c.args.i Sign.Lt)) c.index-choices-i.is)

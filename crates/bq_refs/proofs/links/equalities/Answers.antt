@@ -12,31 +12,31 @@ loop-i-init c = rw c.new-list.ensures done
 
 pub is_equality-requires-clause-left : goal.is_equality-requires-clause-left
 is_equality-requires-clause-left c =
-    let e = rw c.attrs.ensures.value at (c.as_slice-links.ensures.value ∙ c.all_links-links.ensures) in
-    (sides_among c.args.q.now c.args.p.now.signs.items c.as_slice-links.result.now c.loop-i.i _ e c.loop-i-test.true).0
+    let e = c.requires.links in
+    (sides_among c.args.q.now c.args.p.now.signs.items c.args.links.now c.loop-i.i _ e c.loop-i-test.true).0
 
 pub is_equality-requires-clause-right : goal.is_equality-requires-clause-right
 is_equality-requires-clause-right c =
-    let e = rw c.attrs.ensures.value at (c.as_slice-links.ensures.value ∙ c.all_links-links.ensures) in
-    (sides_among c.args.q.now c.args.p.now.signs.items c.as_slice-links.result.now c.loop-i.i _ e c.loop-i-test.true).1
+    let e = c.requires.links in
+    (sides_among c.args.q.now c.args.p.now.signs.items c.args.links.now c.loop-i.i _ e c.loop-i-test.true).1
 
 pub push-requires : goal.push-requires
 push-requires c =
-    let e = rw c.attrs.ensures.value at (c.as_slice-links.ensures.value ∙ c.all_links-links.ensures) in
-    let n : length c.loop-i.list.items < 66 = room_for_equality c.args.q.now c.args.p.now.signs.items c.as_slice-links.result.now c.loop-i.list.items c.loop-i.i _ c.requires.few e c.loop-i-test.true (c.is_equality.ensures.0 c.if-is_equality.true) c.loop-i.invariant in
+    let e = c.requires.links in
+    let n : length c.loop-i.list.items < 66 = room_for_equality c.args.q.now c.args.p.now.signs.items c.args.links.now c.loop-i.list.items c.loop-i.i _ c.requires.known.few e c.loop-i-test.true (c.is_equality.ensures.0 c.if-is_equality.true) c.loop-i.invariant in
     (omega arith, n)
 
 pub loop-i-preserved : goal.loop-i-preserved
 loop-i-preserved c =
-    let e = rw c.attrs.ensures.value at (c.as_slice-links.ensures.value ∙ c.all_links-links.ensures) in
+    let e = c.requires.links in
     elim c.if-is_equality.branch [
       | then-is_equality w ↦
-          kept_at (IsOrderedEquality c.args.q.now c.args.p.now.signs.items) (links_among (attrs_of c.args.q.now.atoms) (attrs_of c.args.q.now.atoms)) c.as_slice-links.result.now c.loop-i.list.items _ c.loop-i.i _ e c.loop-i-test.true (c.is_equality.ensures.0 w.if-is_equality.true) c.loop-i.invariant (ap (λ (v : Items Link). v.items) w.list-is ∙ w.push.ensures.items)
+          kept_at (IsOrderedEquality c.args.q.now c.args.p.now.signs.items) (links_among (attrs_of c.args.q.now.atoms) (attrs_of c.args.q.now.atoms)) c.args.links.now c.loop-i.list.items _ c.loop-i.i _ e c.loop-i-test.true (c.is_equality.ensures.0 w.if-is_equality.true) c.loop-i.invariant (ap (λ (v : Items Link). v.items) w.list-is ∙ w.push.ensures.items)
       | else-is_equality w ↦
-          dropped_at (IsOrderedEquality c.args.q.now c.args.p.now.signs.items) (links_among (attrs_of c.args.q.now.atoms) (attrs_of c.args.q.now.atoms)) c.as_slice-links.result.now c.loop-i.list.items _ c.loop-i.i _ e c.loop-i-test.true (not_from _ c.is_equality.ensures.1 w.if-is_equality.false) c.loop-i.invariant (ap (λ (v : Items Link). v.items) w.list-is)
+          dropped_at (IsOrderedEquality c.args.q.now c.args.p.now.signs.items) (links_among (attrs_of c.args.q.now.atoms) (attrs_of c.args.q.now.atoms)) c.args.links.now c.loop-i.list.items _ c.loop-i.i _ e c.loop-i-test.true (not_from _ c.is_equality.ensures.1 w.if-is_equality.false) c.loop-i.invariant (ap (λ (v : Items Link). v.items) w.list-is)
     ]
 
 pub returns : goal.returns
 returns c =
-    let e = rw c.attrs.ensures.value at (c.as_slice-links.ensures.value ∙ c.all_links-links.ensures) in
+    let e = c.requires.links in
     end_at (IsOrderedEquality c.args.q.now c.args.p.now.signs.items) (links_among (attrs_of c.args.q.now.atoms) (attrs_of c.args.q.now.atoms)) _ c.loop-i.list.items c.loop-i.i e c.loop-i-test.false c.loop-i.invariant

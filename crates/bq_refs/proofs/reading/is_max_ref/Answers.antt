@@ -1,7 +1,7 @@
 use Rattle.std.proofs.Common.{arith}
 use Rattle.bq_model.specs.Query.{attrs_of}
 use Rattle.bq_refs.specs.Refs.{IsRange}
-use Rattle.bq_refs.proofs.Extent.{zip_length}
+use Rattle.bq_closure.proofs.Zips.{zip_length}
 use Rattle.bq_refs.proofs.Gathered.{max_ref_answer, none_of_max, not_from}
 use Rattle.bq_refs.proofs.reading.is_max_ref.Goals as goal
 

@@ -1,5 +1,22 @@
+use Rattle.std.proofs.Common.{subst, Err}
+use Rattle.bq_layout.specs.Layout.{IsLayout}
+use Rattle.bq_registry.specs.Judged.{large}
 use Rattle.bq_registry.proofs.FewParts.{few_parts}
+use Rattle.bq_registry.proofs.Verdicts.{within_limits}
 use Rattle.bq_registry.proofs.verdict.judge_parts.Goals as goal
 
-pub returns-in-Violation : goal.returns-in-Violation
-returns-in-Violation c = (c.requires.plain, few_parts c.args.query.now c.args.parts.now 4096 c.requires.parts c.requires.few, c.in-Violation.ensures)
+pub returns-in-Ok : goal.returns-in-Ok
+returns-in-Ok c = (
+  record { plan = c.in-Ok.ensures.0; violation = c.in-Ok.ensures.2; within = within_limits c.in-Ok.plan c.in-Ok.ensures.1 },
+  λ f. few_parts c.args.query.now c.args.parts.now 4096 c.requires.parts c.requires.few,
+)
+
+pub returns-in-Err-Violation : goal.returns-in-Err-Violation
+returns-in-Err-Violation c =
+    let h = subst (λ e. IsLayout c.args.query.now (Err e)) c.in-Err-Violation.field-0-is c.in-Err-Violation.ensures in
+    (c.requires.plain, few_parts c.args.query.now c.args.parts.now 4096 c.requires.parts c.requires.few, h.1)
+
+pub returns-in-Err-Limit : goal.returns-in-Err-Limit
+returns-in-Err-Limit c =
+    let h = subst (λ e. IsLayout c.args.query.now (Err e)) c.in-Err-Limit.field-0-is c.in-Err-Limit.ensures in
+    (large (few_parts c.args.query.now c.args.parts.now 4096 c.requires.parts c.requires.few) h.1 h.0, c.most.ensures)

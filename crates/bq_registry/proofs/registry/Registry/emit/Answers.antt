@@ -1,17 +1,18 @@
 use Rattle.std.proofs.Common.{subst, sym}
+use Rattle.bq_registry.specs.Live.{live_of}
 use Rattle.bq_registry.specs.Registry.{KeepQueries, RegistryValue, StandsFor}
 use Rattle.bq_registry.proofs.Whole.{written_sound, written_stands, written_keep}
 use Rattle.bq_registry.proofs.registry.Registry.emit.Goals as goal
 
 pub invariant_of-self : goal.invariant_of-self
-invariant_of-self g c = written_sound c.self.inside.pool c.self.inside.live.items c.write_all.new.live.items c.self.invariant c.write_all.ensures.wrote
+invariant_of-self g c = written_sound c.self.inside.pool (live_of c.self.inside.live.entries) (live_of c.write_all.new.live.entries) c.self.invariant c.write_all.ensures.wrote
 
 pub returns-clause-stands : goal.returns-clause-stands
 returns-clause-stands g c = λ queries all.
-    written_stands c.self.inside.pool c.self.inside.live.items c.write_all.new.live.items queries c.write_all.ensures.wrote
+    written_stands c.self.inside.pool (live_of c.self.inside.live.entries) (live_of c.write_all.new.live.entries) queries c.write_all.ensures.wrote
     (subst (λ (v : RegistryValue). StandsFor v queries) (sym c.self.view_is) all)
 
 pub returns-clause-queries : goal.returns-clause-queries
 returns-clause-queries g c =
-    subst (λ (v : RegistryValue). KeepQueries v.live c.write_all.new.live.items) c.self.view_is
-    (written_keep c.self.inside.live.items c.write_all.new.live.items c.write_all.ensures.wrote)
+    subst (λ (v : RegistryValue). KeepQueries v.live (live_of c.write_all.new.live.entries)) c.self.view_is
+    (written_keep (live_of c.self.inside.live.entries) (live_of c.write_all.new.live.entries) c.write_all.ensures.wrote)

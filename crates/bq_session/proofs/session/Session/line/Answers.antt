@@ -3,7 +3,7 @@ use Rattle.bq_io.proofs.Writing.{Wrote-nil}
 use Rattle.bq_session.specs.Request.{silent}
 use Rattle.bq_session.specs.Answer.{plain}
 use Rattle.bq_session.specs.Session.{Kept, StandsFor}
-use Rattle.bq_session.proofs.Standing.{of_kind, statement-kept}
+use Rattle.bq_session.proofs.Standing.{of_kind, statement-kept, at_most}
 use Rattle.bq_session.proofs.Stripped.{stripped-short}
 use Rattle.bq_session.proofs.session.Session.line.Goals as goal
 
@@ -48,3 +48,8 @@ returns-in-Nothing-clause-reply g c = λ s stands.
 
 pub answer_text-requires : goal.answer_text-requires
 answer_text-requires g c = stripped-short c.args.line.now c.classify-kind.result.1.now c.classify-kind.ensures.stripped c.requires.short
+
+pub returns-in-RowLine-clause-announced : goal.returns-in-RowLine-clause-announced
+returns-in-RowLine-clause-announced g c = λ s stands.
+    let old = subst (λ (k : Kept). StandsFor k s) (sym c.self.view_is) stands in
+    at_most c.self.inside.registry.pool c.self.inside.registry.live s.queries c.answer_row.new.steps c.args.steps.now old.queries c.answer_row.ensures.steps

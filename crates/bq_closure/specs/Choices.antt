@@ -1,0 +1,27 @@
+-- What a pair of a query adds by each sign.
+use Rattle.std.specs.Prelude.{◌≡◌, List, length, All}
+use Rattle.std.specs.List.{AllZip}
+use Rattle.bq_model.specs.declared.atom.Element.TheVariants as element
+use Rattle.bq_model.specs.declared.part.Pair.{Pair}
+use Rattle.bq_model.specs.declared.part.Sign.{Sign}
+use Rattle.bq_model.specs.Query.{QueryValue, attrs_of}
+use Rattle.bq_model.specs.Parts.{pairs}
+use Rattle.bq_closure.specs.declared.constraint.Constraint.{Constraint}
+use Rattle.bq_closure.specs.declared.choosing.Choice.{Choice}
+use Rattle.bq_closure.specs.Nodes.{constraints_of}
+use Rattle.bq_closure.specs.Solutions.{IsWithin}
+
+-- the constraints of a sign
+abbrev pub chosen : Choice → Sign → List Constraint
+chosen c Sign.Lt = c.less.items
+chosen c Sign.Eq = c.equal.items
+chosen c Sign.Gt = c.greater.items
+
+-- the constraints are those of the pair, whatever its sign
+pub record IsChoice (q : QueryValue) (p : Pair) (c : Choice) : Type 0 where
+  pub says : (s : Sign) → chosen c s ≡ constraints_of (attrs_of q.atoms) (element.Attr p.left) s p.right
+  pub within : (s : Sign) → All (IsWithin (length (attrs_of q.atoms))) (chosen c s)
+
+-- there is one for each pair of the query, in order
+abbrev pub AreChoices : QueryValue → List Choice → Type 0
+AreChoices q cs = AllZip (IsChoice q) (pairs q) cs

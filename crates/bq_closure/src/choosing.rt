@@ -1,0 +1,58 @@
+//! The constraints that the pairs of a query add, worked out once.
+ghost use Rattle.std.specs.Prelude.{◌≡◌};
+ghost use Rattle.bq_model.specs.Order.{IsElement};
+ghost use Rattle.bq_model.specs.declared.atom.Element.TheVariants as element;
+ghost use Rattle.bq_closure.specs.Choices.{IsChoice, AreChoices, chosen};
+
+use crate::constraint::Constraint;
+use crate::nodes::constraints;
+use arrayvec::ArrayVec;
+use bq_model::{Element, Pair, Query, Sign};
+
+/// The constraints that a pair adds by each sign that it may have.
+#[derive(Drop, Default)]
+pub struct Choice {
+    less: ArrayVec<Constraint, 2>,
+    equal: ArrayVec<Constraint, 2>,
+    greater: ArrayVec<Constraint, 2>,
+}
+
+impl Choice {
+    /// The constraints that the pair adds by a sign.
+    pub fn by(&self, sign: Sign) -> &[Constraint]
+        ensures { result.now ≡ chosen self.now sign }
+    {
+        match sign {
+            Sign::Lt => self.less.as_slice(),
+            Sign::Eq => self.equal.as_slice(),
+            Sign::Gt => self.greater.as_slice(),
+        }
+    }
+}
+
+// What a pair adds.
+fn choice_of(q: &Query, pair: Pair) -> Choice
+    requires left { IsElement q.now (element.Attr pair.left) }
+    requires right { IsElement q.now pair.right }
+    ensures { IsChoice q.now pair result }
+{
+    let left = Element::Attr(pair.left);
+    Choice {
+        less: constraints(left, Sign::Lt, pair.right, q),
+        equal: constraints(left, Sign::Eq, pair.right, q),
+        greater: constraints(left, Sign::Gt, pair.right, q),
+    }
+}
+
+/// What each pair of the query adds, in order.
+pub fn choices(q: &Query) -> ArrayVec<Choice, 106>
+    ensures { AreChoices q.now result.items }
+{
+    let pairs = q.pairs();
+    let pairs = pairs.as_slice();
+    let mut list = ArrayVec::new();
+    for i in 0..pairs.len() {
+        list.push(choice_of(q, pairs[i]));
+    }
+    list
+}

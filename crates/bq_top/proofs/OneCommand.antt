@@ -1,0 +1,33 @@
+-- Words ask for one thing at most.
+use Rattle.std.proofs.Common.{◌≡◌, ℕ, List, [], ◌∷◌, map, codes, sym, ap, ◌∙◌, arith}
+use Rattle.std.specs.String.{string_bytes}
+use Rattle.std.proofs.lemmas.Fmt.{decimal_injective}
+use Rattle.bq_top.specs.declared.command.Command.TheVariants.{Run, Load}
+use Rattle.bq_top.specs.Words.{AreRunTexts, alone, limited}
+use Rattle.bq_top.specs.LoadWords.{AreLoadTexts}
+use Rattle.bq_top.specs.Laws.{AskForOne}
+
+one_limit : (texts : List (List ℕ)) (m n : ℕ) → AreRunTexts texts m → AreRunTexts texts n → m ≡ n
+one_limit texts m n (alone e p) (alone f q) = p ∙ sym q
+one_limit texts m n (alone e p) (limited number f q) = let bad : codes "run" ∷ [] ≡ codes "run" ∷ codes "--rows" ∷ number ∷ [] = sym e ∙ f in cc
+one_limit texts m n (limited number e p) (alone f q) = let bad : codes "run" ∷ codes "--rows" ∷ number ∷ [] ≡ codes "run" ∷ [] = sym e ∙ f in cc
+one_limit texts m n (limited number e p) (limited other f q) =
+    let both : codes "run" ∷ codes "--rows" ∷ number ∷ [] ≡ codes "run" ∷ codes "--rows" ∷ other ∷ [] = sym e ∙ f in
+    let same : number ≡ other = cc in
+    decimal_injective m n (omega (arith, p.few)) (omega (arith, q.few)) (sym p.digits ∙ same ∙ q.digits)
+
+one_size : (texts : List (List ℕ)) (m n : ℕ) → AreLoadTexts texts m → AreLoadTexts texts n → m ≡ n
+one_size texts m n p q =
+    let both : codes "load" ∷ p.number ∷ [] ≡ codes "load" ∷ q.number ∷ [] = sym p.words ∙ q.words in
+    let same : p.number ≡ q.number = cc in
+    decimal_injective m n (omega (arith, p.size.few)) (omega (arith, q.size.few)) (sym p.size.digits ∙ same ∙ q.size.digits)
+
+never_both : (texts : List (List ℕ)) (m n : ℕ) → AreRunTexts texts m → AreLoadTexts texts n → ⊥
+never_both texts m n (alone e p) q = let bad : codes "run" ∷ [] ≡ codes "load" ∷ q.number ∷ [] = sym e ∙ q.words in cc
+never_both texts m n (limited number e p) q = let bad : codes "run" ∷ codes "--rows" ∷ number ∷ [] ≡ codes "load" ∷ q.number ∷ [] = sym e ∙ q.words in cc
+
+pub one_command : AskForOne
+one_command words (Run m) (Run n) p q = ap Run (one_limit (map string_bytes words) m n p q)
+one_command words (Run m) (Load n) p q = absurd (never_both (map string_bytes words) m n p q)
+one_command words (Load m) (Run n) p q = absurd (never_both (map string_bytes words) n m q p)
+one_command words (Load m) (Load n) p q = ap Load (one_size (map string_bytes words) m n p q)

@@ -1,0 +1,28 @@
+-- How the program ends.
+use Rattle.std.specs.Prelude.{◌≡◌, List, String}
+use Rattle.std.specs.declared.alloc.Global.{Global}
+use Rattle.bq_io.specs.declared.status.Status.{Status}
+use Rattle.bq_io.specs.declared.status.Status.TheVariants as status
+use Rattle.bq_io.specs.Source.{SourceState}
+use Rattle.bq_io.specs.Sink.{SinkState}
+use Rattle.bq_top.specs.declared.command.Command.{Command}
+use Rattle.bq_top.specs.declared.command.Command.TheVariants.{Run, Load}
+use Rattle.bq_top.specs.Commands.{Runs, AreOther}
+use Rattle.bq_top.specs.Load.{LoadEnds}
+use Rattle.bq_top.specs.Run.{DidNothing, SessionEnds}
+
+-- how a command ends, by the status: a load leaves the source as it was
+abbrev pub CommandEnds : Status → Command → SourceState → SourceState → SinkState → SinkState → Type 0
+CommandEnds s (Run limit) source source' sink sink' = SessionEnds s limit source source' sink sink'
+CommandEnds s (Load rows) source source' sink sink' = (source' ≡ source) × LoadEnds s rows sink sink'
+
+-- How the program ends, by the status. Usage: the words are none of the forms, and nothing was read or written. Each other status:
+-- the words ask for a command, and it ended so.
+abbrev pub Ends : Status → List (String Global) → SourceState → SourceState → SinkState → SinkState → Type 0
+Ends status.Done words source source' sink sink' = Runs words (λ command. CommandEnds status.Done command source source' sink sink')
+Ends status.Invalid words source source' sink sink' = ⊥
+Ends status.Usage words source source' sink sink' = AreOther words × DidNothing source source' sink sink'
+Ends status.ReadFault words source source' sink sink' = Runs words (λ command. CommandEnds status.ReadFault command source source' sink sink')
+Ends status.WriteFault words source source' sink sink' = Runs words (λ command. CommandEnds status.WriteFault command source source' sink sink')
+Ends status.Memory words source source' sink sink' = Runs words (λ command. CommandEnds status.Memory command source source' sink sink')
+Ends status.ByteLimit words source source' sink sink' = Runs words (λ command. CommandEnds status.ByteLimit command source source' sink sink')

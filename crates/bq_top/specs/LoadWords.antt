@@ -1,0 +1,20 @@
+-- The words of a load.
+use Rattle.std.specs.Prelude.{◌≡◌, ℕ, ◌<◌, ◌≤◌, List, [], ◌∷◌, map, codes, decimal, String}
+use Rattle.std.specs.String.{string_bytes}
+use Rattle.std.specs.declared.alloc.Global.{Global}
+
+-- a number of rows of a load, in its shortest form
+pub record IsLoadSize (text : List ℕ) (rows : ℕ) : Type 0 where
+  pub digits : text ≡ decimal rows
+  pub some : 0 < rows
+  pub few : rows ≤ 100000
+
+-- `load N` loads N rows
+pub record AreLoadTexts (texts : List (List ℕ)) (rows : ℕ) : Type 0 where
+  pub number : List ℕ
+  pub words : texts ≡ codes "load" ∷ number ∷ []
+  pub size : IsLoadSize number rows
+
+-- the words load so many rows
+abbrev pub AreLoad : List (String Global) → ℕ → Type 0
+AreLoad words rows = AreLoadTexts (map string_bytes words) rows

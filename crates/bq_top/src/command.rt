@@ -1,0 +1,30 @@
+//! What the words ask for.
+ghost use Rattle.std.specs.Prelude.{MatchOption, IfSome};
+ghost use Rattle.bq_top.specs.declared.command.Command.{Command};
+ghost use Rattle.bq_top.specs.Commands.{Asks, IsAllowed};
+
+use crate::load_words::load_rows;
+use crate::words::row_limit;
+
+/// What the words ask for.
+#[derive(Clone, Copy, Debug, PartialEq, Eq)]
+pub enum Command {
+    /// A session over the input, which may take so many rows: 1 to 2^40.
+    Run(u64),
+    /// A session over a generated script of so many rows: 1 to 100,000.
+    Load(u32),
+}
+
+/// What the words ask for; nothing where they are none of the forms.
+pub fn command_of(words: &[String]) -> Option<Command>
+    ensures asks { MatchOption result ((command : Command) → Asks words.now command → ⊥) (λ command. Asks words.now command) }
+    ensures allowed { IfSome result (λ command. IsAllowed command) }
+{
+    match row_limit(words) {
+        Some(limit) => Some(Command::Run(limit)),
+        None => match load_rows(words) {
+            Some(rows) => Some(Command::Load(rows)),
+            None => None,
+        },
+    }
+}
