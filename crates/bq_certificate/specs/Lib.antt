@@ -1,0 +1,16 @@
+pub mod Nodes
+pub mod Rules
+pub mod Reading
+pub mod Leaves
+pub mod Text
+pub mod Spelling
+pub mod Certificate
+pub mod Laws
+pub mod TreeLaws
+pub mod Chained
+pub mod Bounds
+pub mod Standing
+pub mod Walking
+pub mod OnLeaf
+pub mod FirstBreak
+pub mod SoFar

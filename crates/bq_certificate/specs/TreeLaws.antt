@@ -1,0 +1,26 @@
+-- Laws of the trees of certificates.
+use Rattle.std.specs.Prelude.{◌≡◌, ℕ, List, []}
+use Rattle.std.specs.declared.option.Option.TheVariants.{Some}
+use Rattle.bq_model.specs.Query.{QueryValue}
+use Rattle.bq_model.specs.Parts.{AreParts}
+use Rattle.bq_certificate.specs.declared.answer.CheckAnswer.{CheckAnswer}
+use Rattle.bq_certificate.specs.declared.answer.Reason.{Reason}
+use Rattle.bq_certificate.specs.Nodes.{Node}
+use Rattle.bq_certificate.specs.Reading.{IsGood, IsFirstFault, IsCheckAnswer}
+use Rattle.bq_certificate.specs.Leaves.{leaves_of}
+
+-- the leaves of a good tree are the parts of the query, in order
+abbrev pub LeavesAreParts : Type 0
+LeavesAreParts = (q : QueryValue) → (nodes : List Node) → IsGood q nodes → AreParts q (leaves_of (Some []) nodes)
+
+-- nodes have one answer at most
+abbrev pub HasOneAnswer : Type 0
+HasOneAnswer = (q : QueryValue) → (nodes : List Node) → (answer : CheckAnswer) → (other : CheckAnswer) → IsCheckAnswer q nodes answer → IsCheckAnswer q nodes other → answer ≡ other
+
+-- the query and the nodes determine the place and the reason of the first fault
+abbrev pub HasOneFault : Type 0
+HasOneFault = (q : QueryValue) → (nodes : List Node) → (place other : ℕ) → (why because : Reason) → IsFirstFault q nodes place why → IsFirstFault q nodes other because → (place ≡ other) × (why ≡ because)
+
+-- nodes with a fault are no good tree
+abbrev pub FaultsAreBad : Type 0
+FaultsAreBad = (q : QueryValue) → (nodes : List Node) → (place : ℕ) → (why : Reason) → IsFirstFault q nodes place why → ¬ IsGood q nodes

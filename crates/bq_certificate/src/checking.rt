@@ -1,0 +1,47 @@
+//! The check of a certificate.
+ghost use Rattle.std.specs.Prelude.{◌≡◌, ◌≤◌, length};
+ghost use Rattle.bq_certificate.specs.Nodes.{nodes_of};
+ghost use Rattle.bq_certificate.specs.Reading.{IsCheckAnswer};
+
+use crate::answer::{CheckAnswer, Reason};
+use crate::certificate::Certificate;
+use crate::line::Line;
+use crate::walk::Walk;
+use bq_model::Query;
+
+// Checks the nodes of some lines.
+fn check_lines(q: &Query, lines: &[Line]) -> CheckAnswer
+    requires { length (nodes_of lines.now) ≤ 262144 }
+    ensures { IsCheckAnswer q.now (nodes_of lines.now) result }
+{
+    let pairs = q.pairs();
+    let mut walk = Walk::new(q, pairs.as_slice());
+    for (i, line) in lines.iter().enumerate() {
+        if let Err(reason) = walk.step(q, pairs.as_slice(), line, &lines[i + 1..]) {
+            return CheckAnswer::No {
+                place: walk.nodes,
+                reason,
+            };
+        }
+    }
+    if walk.more {
+        CheckAnswer::No {
+            place: walk.nodes + 1,
+            reason: Reason::Shape,
+        }
+    } else {
+        CheckAnswer::Yes {
+            decision: walk.so_far.finish(q),
+            parts: walk.leaves,
+        }
+    }
+}
+
+/// Whether a certificate is good for the query, whoever made it: then the number of the query's parts and the decision on it; else
+/// the place of the first fault, and the rule that is broken there. It takes no memory, and knows nothing of how a certificate is
+/// made.
+pub fn check(q: &Query, certificate: &Certificate) -> CheckAnswer
+    ensures { IsCheckAnswer q.now (nodes_of certificate.now) result }
+{
+    check_lines(q, certificate.lines())
+}

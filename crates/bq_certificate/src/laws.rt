@@ -1,0 +1,48 @@
+//! Laws of the definitions, as public functions without a body: the clause is the law.
+ghost use Rattle.bq_certificate.specs.Laws.{OneLine, LinesAreWhole, PrintsBack, CertificatesPrintBack, CertificatesAreTaken};
+ghost use Rattle.bq_certificate.specs.TreeLaws.{LeavesAreParts, HasOneAnswer, HasOneFault, FaultsAreBad};
+
+/// No text is two lines.
+pub fn one_line()
+    ensures { OneLine }
+{}
+
+/// The numbers of a line that a text is are at most 65,535, and there are no fewer and no more than it may have.
+pub fn lines_are_whole()
+    ensures { LinesAreWhole }
+{}
+
+/// What is printed for a line is read as this line.
+pub fn prints_back()
+    ensures { PrintsBack }
+{}
+
+/// What is printed for the lines of a certificate is read, line by line, as these lines.
+pub fn certificates_print_back()
+    ensures { CertificatesPrintBack }
+{}
+
+/// What is printed for the lines of a certificate is added, line by line, as these lines, where memory is found.
+pub fn certificates_are_taken()
+    ensures { CertificatesAreTaken }
+{}
+
+/// The leaves of a good tree are the parts of the query, in order.
+pub fn leaves_are_parts()
+    ensures { LeavesAreParts }
+{}
+
+/// The nodes of a certificate have one answer at most.
+pub fn one_answer()
+    ensures { HasOneAnswer }
+{}
+
+/// The query and the nodes determine the place of the first fault, and the rule that is broken there.
+pub fn one_fault()
+    ensures { HasOneFault }
+{}
+
+/// Nodes with a fault are no good tree.
+pub fn faults_are_bad()
+    ensures { FaultsAreBad }
+{}

@@ -1,0 +1,131 @@
+-- Lists of signs that begin with some signs, from those that have one more.
+use Rattle.std.proofs.Common.{◌≡◌, ◌<◌, ◌+◌, List, [], ◌∷◌, ◌++◌, length, length-append, append_assoc, append-nil, refl, sym, ◌∙◌, ap, subst, arith, true, false, inl, inr}
+use Rattle.bq_model.specs.declared.part.Sign.{Sign}
+use Rattle.bq_model.specs.Query.{QueryValue}
+use Rattle.bq_model.specs.Assignment.{Assignment, Holds}
+use Rattle.bq_model.specs.Parts.{pairs, signs_of, sign_lt, signs_lt, IsPart}
+use Rattle.bq_model.proofs.Has.{Has, first, later, Has-append_left, Has-append_right, Has-append_cases}
+use Rattle.bq_model.proofs.Unique.{none, more}
+use Rattle.bq_model.proofs.Split.{StartsWith, IsFeasible, ArePartsUnder, none_under, one_under, ascends_joined, below_starts, shorten}
+use Rattle.bq_refs.proofs.Adding.{long}
+use Rattle.bq_certmake.specs.Made.{IsOpen}
+use Rattle.bq_certmake.specs.Tree.{SomeUnder, AllUnder}
+
+-- ---- some
+
+pub none_some : (P : List Sign → Type 0) (pre : List Sign) → SomeUnder P pre []
+none_some P pre = record { ascends = none; each = λ s h. elim h [ ]; under = λ s h. elim h [ ] }
+
+module _ (P : List Sign → Type 0) (pre : List Sign) (xs ys zs : List (List Sign)) (a : SomeUnder P (pre ++ Sign.Lt ∷ []) xs) (b : SomeUnder P (pre ++ Sign.Eq ∷ []) ys) (c : SomeUnder P (pre ++ Sign.Gt ∷ []) zs) where
+  in_one : (Q : Type 0) (s : List Sign) → Has (xs ++ (ys ++ zs)) s → (Has xs s → Q) → (Has ys s → Q) → (Has zs s → Q) → Q
+  in_one Q s h f g k = elim (Has-append_cases xs (ys ++ zs) s h) [
+    | inl i ↦ f i
+    | inr i ↦ elim (Has-append_cases ys zs s i) [ inl j ↦ g j | inr j ↦ k j ]
+  ]
+
+  pub three_some : SomeUnder P pre (xs ++ (ys ++ zs))
+  three_some = record {
+    ascends = ascends_joined xs (ys ++ zs) a.ascends (ascends_joined ys zs b.ascends c.ascends (λ x y h i. below_starts pre Sign.Eq Sign.Gt x y refl (b.under x h) (c.under y i)))
+        (λ x y h i. elim (Has-append_cases ys zs y i) [
+          | inl j ↦ below_starts pre Sign.Lt Sign.Eq x y refl (a.under x h) (b.under y j)
+          | inr j ↦ below_starts pre Sign.Lt Sign.Gt x y refl (a.under x h) (c.under y j)
+        ]);
+    each = λ s h. in_one (P s) s h (a.each s) (b.each s) (c.each s);
+    under = λ s h. in_one (StartsWith pre s) s h (λ i. shorten pre Sign.Lt s (a.under s i)) (λ i. shorten pre Sign.Eq s (b.under s i)) (λ i. shorten pre Sign.Gt s (c.under s i));
+  }
+
+  -- and these signs themselves before them
+  pub front_some : P pre → SomeUnder P pre (pre ∷ (xs ++ (ys ++ zs)))
+  front_some p = record {
+    ascends = more (λ y h. in_one (signs_lt pre y ≡ true) y h (λ i. below_longer pre Sign.Lt y (a.under y i)) (λ i. below_longer pre Sign.Eq y (b.under y i)) (λ i. below_longer pre Sign.Gt y (c.under y i))) three_some.ascends;
+    each = λ s h. at_front (λ z. P z) s h p three_some.each;
+    under = λ s h. at_front (StartsWith pre) s h (record { rest = []; is = sym (append-nil pre) }) three_some.under;
+  }
+    where
+      sign_self : (s : Sign) → sign_lt s s ≡ false
+      sign_self Sign.Lt = refl
+      sign_self Sign.Eq = refl
+      sign_self Sign.Gt = refl
+
+      below_more : (pre : List Sign) (c : Sign) (r : List Sign) → signs_lt pre (pre ++ c ∷ r) ≡ true
+      below_more [] c r = refl
+      below_more (s ∷ pre) c r = rw sign_self (below_more pre c r)
+
+      below_longer : (pre : List Sign) (c : Sign) (y : List Sign) → StartsWith (pre ++ c ∷ []) y → signs_lt pre y ≡ true
+      below_longer pre c y w = rw (w.is, append_assoc) (below_more pre c w.rest)
+
+      at_front : {x : List Sign} {xs : List (List Sign)} (Q : List Sign → Type 0) (s : List Sign) → Has (x ∷ xs) s → Q x → ((z : List Sign) → Has xs z → Q z) → Q s
+      at_front Q s first p f = p
+      at_front Q s (later h) p f = f s h
+
+-- ---- all
+
+lengthen : (pre : List Sign) (c : Sign) (s rest : List Sign) → s ≡ pre ++ c ∷ rest → StartsWith (pre ++ c ∷ []) s
+lengthen pre c s rest e = record { rest = rest; is = e ∙ sym (append_assoc pre (c ∷ []) rest) }
+
+module _ (P : List Sign → Type 0) (pre : List Sign) (xs ys zs : List (List Sign)) (a : AllUnder P (pre ++ Sign.Lt ∷ []) xs) (b : AllUnder P (pre ++ Sign.Eq ∷ []) ys) (c : AllUnder P (pre ++ Sign.Gt ∷ []) zs) where
+  in_three : (s : List Sign) → P s → (d : Sign) (rest : List Sign) → s ≡ pre ++ d ∷ rest → Has (xs ++ (ys ++ zs)) s
+  in_three s p Sign.Lt rest e = Has-append_left _ (a.all s p (lengthen pre Sign.Lt s rest e))
+  in_three s p Sign.Eq rest e = Has-append_right xs (Has-append_left _ (b.all s p (lengthen pre Sign.Eq s rest e)))
+  in_three s p Sign.Gt rest e = Has-append_right xs (Has-append_right ys (c.all s p (lengthen pre Sign.Gt s rest e)))
+
+  three_rest : ¬ P pre → (s : List Sign) → P s → (rest : List Sign) → s ≡ pre ++ rest → Has (xs ++ (ys ++ zs)) s
+  three_rest n s p [] e = absurd (n (subst P (e ∙ append-nil pre) p))
+  three_rest n s p (d ∷ rest) e = in_three s p d rest e
+
+  pub three_all : ¬ P pre → AllUnder P pre (xs ++ (ys ++ zs))
+  three_all n = record { some = three_some P pre xs ys zs a.some b.some c.some; all = λ s p w. three_rest n s p w.rest w.is }
+
+  front_rest : (s : List Sign) → P s → (rest : List Sign) → s ≡ pre ++ rest → Has (pre ∷ (xs ++ (ys ++ zs))) s
+  front_rest s p [] e = subst (λ z. Has (pre ∷ (xs ++ (ys ++ zs))) z) (sym (e ∙ append-nil pre)) first
+  front_rest s p (d ∷ rest) e = later (in_three s p d rest e)
+
+  pub front_all : P pre → AllUnder P pre (pre ∷ (xs ++ (ys ++ zs)))
+  front_all p = record { some = front_some P pre xs ys zs a.some b.some c.some p; all = λ s p w. front_rest s p w.rest w.is }
+
+-- ---- parts
+
+parts_all : (q : QueryValue) (pre : List Sign) (xs : List (List Sign)) → ArePartsUnder q pre xs → AllUnder (IsPart q) pre xs
+parts_all q pre xs u = record { some = record { ascends = u.ascends; each = u.parts; under = u.under }; all = u.all }
+
+pub no_parts : (q : QueryValue) (pre : List Sign) → ¬ IsFeasible q pre → AllUnder (IsPart q) pre []
+no_parts q pre n = parts_all q pre [] (none_under q pre n)
+
+pub one_part : (q : QueryValue) (pre : List Sign) → length pre ≡ length (pairs q) → IsFeasible q pre → AllUnder (IsPart q) pre (pre ∷ [])
+one_part q pre l f = parts_all q pre (pre ∷ []) (one_under q pre l f)
+
+-- some signs are no part
+pub not_part : (q : QueryValue) (pre : List Sign) → length pre < length (pairs q) → IsPart q pre → ⊥
+not_part q pre l p = omega (arith, long q pre p, l)
+
+-- ---- beginnings of parts
+
+feasible_from : (q : QueryValue) (pre s : List Sign) → IsOpen q s → StartsWith pre s → IsFeasible q pre
+feasible_from q pre s o w = record {
+  one = o.part.one;
+  holds = o.part.inside.holds;
+  starts = record { rest = w.rest ++ o.next ∷ o.rest; is = o.part.inside.signs ∙ ap (λ z. z ++ o.next ∷ o.rest) w.is ∙ append_assoc pre w.rest (o.next ∷ o.rest) };
+}
+
+pub no_fronts : (q : QueryValue) (pre : List Sign) → ¬ IsFeasible q pre → AllUnder (IsOpen q) pre []
+no_fronts q pre n = record { some = none_some (IsOpen q) pre; all = λ s o w. absurd (n (feasible_from q pre s o w)) }
+
+too_long : (q : QueryValue) (pre s : List Sign) → length pre ≡ length (pairs q) → IsOpen q s → StartsWith pre s → ⊥
+too_long q pre s l o w =
+    let a : length (s ++ o.next ∷ o.rest) ≡ length (pairs q) = long q _ o.part in
+    let b : length s ≡ length pre + length w.rest = ap length w.is ∙ length-append pre w.rest in
+    omega (arith, a, b, l, length-append s (o.next ∷ o.rest))
+
+pub whole_fronts : (q : QueryValue) (pre : List Sign) → length pre ≡ length (pairs q) → AllUnder (IsOpen q) pre []
+whole_fronts q pre l = record { some = none_some (IsOpen q) pre; all = λ s o w. absurd (too_long q pre s l o w) }
+
+open_with : (q : QueryValue) (pre : List Sign) (v : Assignment) → Holds q v → length pre < length (pairs q) → (rest : List Sign) → signs_of q v ≡ pre ++ rest → IsOpen q pre
+open_with q pre v h l [] e =
+    let a : length (signs_of q v) ≡ length (pairs q) = long q (signs_of q v) (record { one = v; inside = record { holds = h; signs = refl } }) in
+    let b : length (signs_of q v) ≡ length pre = ap length (e ∙ append-nil pre) in
+    absurd (omega (arith, a, b, l))
+open_with q pre v h l (c ∷ rest) e = record { next = c; rest = rest; part = record { one = v; inside = record { holds = h; signs = e } } }
+
+-- the signs of some assignment, of fewer pairs than there are
+pub open_if : (q : QueryValue) (pre : List Sign) → length pre < length (pairs q) → IsFeasible q pre → IsOpen q pre
+open_if q pre l f = open_with q pre f.one f.holds l f.starts.rest f.starts.is

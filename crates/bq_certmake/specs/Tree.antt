@@ -1,0 +1,74 @@
+-- What a walk of the tree of signs adds.
+use Rattle.std.specs.Prelude.{◌≡◌, ℕ, ◌+◌, ◌*◌, ◌<◌, ◌≤◌, List, [], ◌∷◌, ◌++◌, length, All, Some, Result, Ok, Err}
+use Rattle.bq_model.specs.declared.part.Sign.{Sign}
+use Rattle.bq_model.specs.declared.part.Pair.{Pair}
+use Rattle.bq_model.specs.Query.{QueryValue, attrs_of}
+use Rattle.bq_model.specs.Parts.{pairs, signs_lt, IsPart}
+use Rattle.bq_model.proofs.Has.{Has}
+use Rattle.bq_model.proofs.Unique.{Ascends}
+use Rattle.bq_model.proofs.Split.{StartsWith}
+use Rattle.bq_closure.specs.BoundsValue.{BoundsValue}
+use Rattle.bq_closure.specs.PartConstraints.{of_prefix}
+use Rattle.bq_closure.specs.Solutions.{IsWithin}
+use Rattle.bq_certificate.specs.declared.line.Line.{Line}
+use Rattle.bq_certificate.specs.Nodes.{grouped, nodes_of}
+use Rattle.bq_certificate.specs.Reading.{AreGood, following}
+use Rattle.bq_certificate.specs.Certificate.{HasRoom, IsTooMany}
+use Rattle.bq_certmake.specs.Made.{IsOpen}
+use Rattle.bq_certmake.specs.declared.error.MakeError.{MakeError}
+use Rattle.bq_certmake.specs.declared.error.MakeError.TheVariants as why
+
+-- what adding a line that may stand behind the others comes to
+abbrev pub AddsNext : Result (Unit {0}) MakeError → Line → List Line → List Line → Type 0
+AddsNext (Ok u) l old new = HasRoom old l × (new ≡ old ++ l ∷ [])
+AddsNext (Err why.Limit) l old new = IsTooMany old l
+AddsNext (Err why.Memory) l old new = Unit {0}
+
+-- a node of the tree: the bounds are those of the comparisons and of its signs
+pub record IsNode (q : QueryValue) (ps : List Pair) (signs : List Sign) (b : BoundsValue) : Type 0 where
+  pub pairs : ps ≡ pairs q
+  pub room : length signs ≤ length ps
+  pub few : length ps ≤ 106
+  pub few_attrs : length (attrs_of q.atoms) ≤ 12
+  pub attrs : b.attrs ≡ length (attrs_of q.atoms)
+  pub constraints : b.constraints ≡ of_prefix q signs
+  pub within : All (IsWithin (length (attrs_of q.atoms))) (of_prefix q signs)
+  pub short : length (of_prefix q signs) ≤ 32 + 2 * length signs
+
+-- some lists of signs of which P holds, ascending, that begin with these
+pub record SomeUnder (P : List Sign → Type 0) (signs : List Sign) (xs : List (List Sign)) : Type 0 where
+  pub ascends : Ascends signs_lt xs
+  pub each : (s : List Sign) → Has xs s → P s
+  pub under : (s : List Sign) → Has xs s → StartsWith signs s
+
+-- all of them
+pub record AllUnder (P : List Sign → Type 0) (signs : List Sign) (xs : List (List Sign)) : Type 0 where
+  pub some : SomeUnder P signs xs
+  pub all : (s : List Sign) → P s → StartsWith signs s → Has xs s
+
+-- the nodes of the tree below some signs were added, with the parts that begin with the signs, and with three nodes below each
+-- beginning of a part
+pub record Walked (q : QueryValue) (signs : List Sign) (old new : List Line) (before after : ℕ) : Type 0 where
+  pub added : List Line
+  pub lines : new ≡ old ++ added
+  pub head : (grouped added).paths ≡ []
+  pub good : AreGood q (Some signs) (nodes_of added) (following signs)
+  pub parts : List (List Sign)
+  pub are_parts : AllUnder (IsPart q) signs parts
+  pub counted : after ≡ before + length parts
+  pub few : after ≤ 4096
+  pub fronts : List (List Sign)
+  pub are_fronts : AllUnder (IsOpen q) signs fronts
+  pub sized : length (nodes_of added) ≡ 1 + 3 * length fronts
+  pub fit : length (nodes_of new) ≤ 262144
+
+-- with so many nodes and parts before them, the nodes below some signs are too many, or the parts that begin with the signs are
+pub data IsOver (q : QueryValue) (signs : List Sign) (nodes parts : ℕ) : Type 0 where
+  of_parts : (some : List (List Sign)) → SomeUnder (IsPart q) signs some → 4096 < parts + length some → IsOver q signs nodes parts
+  of_nodes : (some : List (List Sign)) → SomeUnder (IsOpen q) signs some → 262144 < nodes + 1 + 3 * length some → IsOver q signs nodes parts
+
+-- the nodes below some signs were added, or there are too many
+abbrev pub Walks : Result (Unit {0}) MakeError → QueryValue → List Sign → List Line → List Line → ℕ → ℕ → Type 0
+Walks (Ok u) q signs old new before after = Walked q signs old new before after
+Walks (Err why.Limit) q signs old new before after = IsOver q signs (length (nodes_of old)) before
+Walks (Err why.Memory) q signs old new before after = Unit {0}
