@@ -1,3 +1,6 @@
+pub mod GivenEnds
+pub mod GivenLines
 pub mod LineTexts
 pub mod Pieces
 pub mod Steps
+pub mod TextLines

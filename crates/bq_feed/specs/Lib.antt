@@ -1,2 +1,4 @@
 pub mod Buffers
+pub mod GivenLines
 pub mod Reading
+pub mod Texts

@@ -145,6 +145,13 @@ impl LineReader {
         }
     }
 
+    /// How many lines were given or called too long, which is the number of the last one, from 1.
+    pub fn lines(&self) -> u64
+        ensures { result ≡ self.now.lines }
+    {
+        self.lines
+    }
+
     /// Gives the next line exactly where it lies whole in what was read and is not too long. It takes nothing from the source.
     /// Where the answer is `false`, nothing is changed.
     pub fn buffered_line(&mut self) -> bool

@@ -15,4 +15,6 @@ mod word;
 
 pub use announced::Announced;
 pub use outcome::LineOutcome;
+pub use reply::write_refused;
 pub use session::Session;
+pub use word::{Word, parse_word, resolve_word, stream_word};

@@ -15,11 +15,12 @@ use Rattle.bq_session.specs.State.{State}
 use Rattle.bq_session.specs.Session.{Kept, Answered}
 use Rattle.bq_top.specs.declared.ending.Ending.TheVariants as ending
 use Rattle.bq_top.specs.Fetched.{Read, StoppedHere}
-use Rattle.bq_top.specs.Texts.{text_of, ended_part}
+use Rattle.bq_feed.specs.Texts.{text_of, ended_part}
 use Rattle.bq_top.specs.Run.{WroteText, StopsAtLine, Streamed}
 use Rattle.bq_top.proofs.Passing.{Passed, passed-more, passed-flush, passed-all, IfSome-map}
-use Rattle.bq_top.proofs.TextLines.{append-nothing, ended_part-text_of}
-use Rattle.bq_top.proofs.GivenLines.{GivenLines, spent}
+use Rattle.bq_feed.proofs.TextLines.{append-nothing, ended_part-text_of}
+use Rattle.bq_feed.specs.GivenLines.{GivenLines}
+use Rattle.bq_feed.proofs.GivenLines.{spent}
 use Rattle.bq_top.proofs.Stops.{stops-held}
 use Rattle.bq_top.proofs.Told.{Told, lines_of, answers_of, at, replied, AreTold, lines_of-append, replied-append, replied-push, AreTold-push, are-answers}
 use Rattle.bq_top.proofs.Progress.{Progress, near-last, progress-all}

@@ -1,12 +1,10 @@
 pub mod Endings
 pub mod Exits
-pub mod GivenLines
 pub mod LoadForms
 pub mod LoadSteps
 pub mod OneCommand
 pub mod Passing
 pub mod Progress
 pub mod Stops
-pub mod TextLines
 pub mod Told
 pub mod WordForms

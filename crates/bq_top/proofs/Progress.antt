@@ -13,9 +13,10 @@ use Rattle.bq_session.specs.Replies.{reply_to}
 use Rattle.bq_session.specs.Session.{Kept, StandsFor, Answered}
 use Rattle.bq_session.proofs.LineRuns.{next_of-lines}
 use Rattle.bq_top.specs.Fetched.{Came, buffered, read}
-use Rattle.bq_top.specs.Texts.{IsNear}
+use Rattle.bq_feed.specs.Texts.{IsNear}
 use Rattle.bq_top.proofs.Passing.{Passed, passed-more, passed-all}
-use Rattle.bq_top.proofs.GivenLines.{Step, step-buffered, step-read, GivenLines, given-none, given-line}
+use Rattle.bq_feed.specs.GivenLines.{GivenLines}
+use Rattle.bq_feed.proofs.GivenLines.{Step, step-buffered, step-read, given-none, given-line}
 use Rattle.bq_top.proofs.Told.{Told, lines_of, at, replied, AreTold, lines_of-append, at-push, replied-none, replied-append, replied-push, AreTold-push}
 
 -- The replies to the lines that were answered before the last read stand below. Those to the pending lines, which came in that

@@ -5,10 +5,10 @@ use Rattle.bq_io.specs.Sink.{SinkState}
 use Rattle.bq_text.specs.Lines.{lines}
 use Rattle.bq_session.specs.State.{State, next_of, after}
 use Rattle.bq_session.specs.Replies.{reply_to, replies}
-use Rattle.bq_top.specs.Texts.{text_of, IsNear}
+use Rattle.bq_feed.specs.Texts.{text_of, IsNear}
 use Rattle.bq_top.specs.Run.{StopsAtLine}
 use Rattle.bq_top.proofs.Passing.{Passed}
-use Rattle.bq_top.proofs.TextLines.{length-text_of-append, length-text_of-cons}
+use Rattle.bq_feed.proofs.TextLines.{length-text_of-append, length-text_of-cons}
 use Rattle.bq_top.proofs.Told.{Told, lines_of, answers_of, at, replied, AreTold, lines_of-append, at-append, replied-none, replied-cons, replied-append, AreTold-front, are-answers}
 
 compare : (q r a b : List ℕ) → q ++ r ≡ a ++ b → ((more : List ℕ) × (q ≡ a ++ more) × (more ++ r ≡ b)) ⊎ ((rest : List ℕ) × (a ≡ q ++ rest))

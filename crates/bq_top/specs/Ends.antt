@@ -6,7 +6,10 @@ use Rattle.bq_io.specs.declared.status.Status.TheVariants as status
 use Rattle.bq_io.specs.Source.{SourceState}
 use Rattle.bq_io.specs.Sink.{SinkState}
 use Rattle.bq_top.specs.declared.command.Command.{Command}
-use Rattle.bq_top.specs.declared.command.Command.TheVariants.{Run, Load}
+use Rattle.bq_top.specs.declared.command.Command.TheVariants.{Run, Load, Certify, Check}
+use Rattle.bq_certify.specs.Commands as certificates
+use Rattle.bq_certify.specs.Certifying.{Certifies}
+use Rattle.bq_certify.specs.Checking.{Checks}
 use Rattle.bq_top.specs.Commands.{Runs, AreOther}
 use Rattle.bq_top.specs.Load.{LoadEnds}
 use Rattle.bq_top.specs.Run.{DidNothing, SessionEnds}
@@ -15,12 +18,14 @@ use Rattle.bq_top.specs.Run.{DidNothing, SessionEnds}
 abbrev pub CommandEnds : Status → Command → SourceState → SourceState → SinkState → SinkState → Type 0
 CommandEnds s (Run limit) source source' sink sink' = SessionEnds s limit source source' sink sink'
 CommandEnds s (Load rows) source source' sink sink' = (source' ≡ source) × LoadEnds s rows sink sink'
+CommandEnds s Certify source source' sink sink' = certificates.CommandEnds Certifies s source source' sink sink'
+CommandEnds s Check source source' sink sink' = certificates.CommandEnds Checks s source source' sink sink'
 
 -- How the program ends, by the status. Usage: the words are none of the forms, and nothing was read or written. Each other status:
 -- the words ask for a command, and it ended so.
 abbrev pub Ends : Status → List (String Global) → SourceState → SourceState → SinkState → SinkState → Type 0
 Ends status.Done words source source' sink sink' = Runs words (λ command. CommandEnds status.Done command source source' sink sink')
-Ends status.Invalid words source source' sink sink' = ⊥
+Ends status.Invalid words source source' sink sink' = Runs words (λ command. CommandEnds status.Invalid command source source' sink sink')
 Ends status.Usage words source source' sink sink' = AreOther words × DidNothing source source' sink sink'
 Ends status.ReadFault words source source' sink sink' = Runs words (λ command. CommandEnds status.ReadFault command source source' sink sink')
 Ends status.WriteFault words source source' sink sink' = Runs words (λ command. CommandEnds status.WriteFault command source source' sink sink')

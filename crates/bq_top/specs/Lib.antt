@@ -1,3 +1,4 @@
+pub mod CertificateWords
 pub mod Commands
 pub mod Ends
 pub mod Fetched
@@ -6,5 +7,4 @@ pub mod Load
 pub mod LoadWords
 pub mod Loading
 pub mod Run
-pub mod Texts
 pub mod Words

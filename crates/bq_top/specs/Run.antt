@@ -17,7 +17,7 @@ use Rattle.bq_session.specs.Replies.{reply_to, replies, AreAnswers, AreReplies}
 use Rattle.bq_session.specs.Session.{Kept, StandsFor, creates}
 use Rattle.bq_top.specs.declared.ending.Ending.{Ending}
 use Rattle.bq_top.specs.declared.ending.Ending.TheVariants.{Done, ReadFault, WriteFault, Memory, ByteLimit}
-use Rattle.bq_top.specs.Texts.{ended_part, IsNear}
+use Rattle.bq_feed.specs.Texts.{ended_part, IsNear}
 
 -- the session stands for some state
 pub record HasState (kept : Kept) : Type 0 where
@@ -112,7 +112,7 @@ SessionEnds status.ByteLimit limit source source' sink sink' = Streams ByteLimit
 -- the status is one that comes without a fault of the source or the sink
 abbrev pub IsNoFault : Status → Type 0
 IsNoFault status.Done = ⊤
-IsNoFault status.Invalid = ⊥
+IsNoFault status.Invalid = ⊤
 IsNoFault status.Usage = ⊤
 IsNoFault status.ReadFault = ⊥
 IsNoFault status.WriteFault = ⊥

@@ -3,6 +3,7 @@ ghost use Rattle.std.specs.Prelude.{MatchOption, IfSome};
 ghost use Rattle.bq_top.specs.declared.command.Command.{Command};
 ghost use Rattle.bq_top.specs.Commands.{Asks, IsAllowed};
 
+use crate::certificate_words::certificate_command;
 use crate::load_words::load_rows;
 use crate::words::row_limit;
 
@@ -13,6 +14,10 @@ pub enum Command {
     Run(u64),
     /// A session over a generated script of so many rows: 1 to 100,000.
     Load(u32),
+    /// A certificate of the query of a script.
+    Certify,
+    /// The check of the certificate behind a script.
+    Check,
 }
 
 /// What the words ask for; nothing where they are none of the forms.
@@ -24,7 +29,7 @@ pub fn command_of(words: &[String]) -> Option<Command>
         Some(limit) => Some(Command::Run(limit)),
         None => match load_rows(words) {
             Some(rows) => Some(Command::Load(rows)),
-            None => None,
+            None => certificate_command(words),
         },
     }
 }

@@ -4,6 +4,7 @@
 //! status what was read and written, and why it came.
 #![tactic(auto)]
 
+mod certificate_words;
 mod command;
 mod ending;
 mod fetch;

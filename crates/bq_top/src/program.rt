@@ -11,6 +11,7 @@ use crate::command::{Command, command_of};
 use crate::ending::Ending;
 use crate::load::load;
 use crate::stream::stream;
+use bq_certify::{certify, check_script};
 use bq_feed::LineReader;
 use bq_io::{Gathered, Sink, Source, Status, Steps};
 use bq_session::Session;
@@ -107,6 +108,10 @@ fn run_session<I: Source, O: Sink>(
 /// text of the script has, and the sums of the cells and of the answers that the live queries announce. For `Done` that line was
 /// written, for `WriteFault` a front of it, and for `Memory` nothing.
 ///
+/// `certify` reads a script of one query, and writes its statements with a certificate of the query's parts and decision. `check`
+/// reads such a text, and writes what the certificate shows, or its first fault. Both write when all is known, and end with `Invalid`
+/// where a line is refused or the certificate has a fault. For `ReadFault`, `ByteLimit` and `Memory` nothing was written.
+///
 /// `Usage` comes exactly where the words are none of these forms. `ReadFault` and `WriteFault` come only where the count of faults
 /// of that object rose in this call.
 pub fn run<I: Source, O: Sink>(
@@ -117,7 +122,7 @@ pub fn run<I: Source, O: Sink>(
 ) -> Status
     ensures ends { Ends result words.now (I.seen input.old) (I.seen input.new) (O.seen output.old) (O.seen output.new) }
 
-    // Where neither the source nor the sink fails, the status is Done, Memory, ByteLimit or Usage.
+    // Where neither the source nor the sink fails, the status is Done, Invalid, Memory, ByteLimit or Usage.
     ensures complete { ¬ (Rose (I.seen input.old).faults (I.seen input.new).faults) → ¬ (Rose (O.seen output.old).faults (O.seen output.new).faults) → IsNoFault result }
     ensures input_later { (I.seen input.old).faults ≤ (I.seen input.new).faults }
     ensures output_later { (O.seen output.old).faults ≤ (O.seen output.new).faults }
@@ -125,6 +130,8 @@ pub fn run<I: Source, O: Sink>(
     match command_of(words) {
         Some(Command::Run(limit)) => run_session(alloc, limit, input, output),
         Some(Command::Load(rows)) => load(alloc, rows, output),
+        Some(Command::Certify) => certify(alloc, input, output),
+        Some(Command::Check) => check_script(alloc, input, output),
         None => Status::Usage,
     }
 }

@@ -1,0 +1,119 @@
+-- What certifying a script comes to.
+use Rattle.std.proofs.Common.{◌≡◌, ℕ, ◌+◌, true, false, List, [], ◌∷◌, ◌++◌, length, refl, sym, ap, ◌∙◌, subst, append_assoc, length-append, arith, Err}
+use Rattle.std.proofs.lemmas.Bool.{false≢true}
+use Rattle.std.proofs.lemmas.List.Elements.{All-from_recursion}
+use Rattle.bq_io.specs.Source.{SourceState}
+use Rattle.bq_model.specs.Query.{QueryValue}
+use Rattle.bq_text.specs.Lines.{lines}
+use Rattle.bq_feed.specs.Reading.{Reading}
+use Rattle.bq_schema.specs.Streams.{Shape}
+use Rattle.bq_parser.specs.declared.tree.SelectAst.{SelectAst}
+use Rattle.bq_parser.specs.declared.tree.Statement.{Statement}
+use Rattle.bq_session.specs.declared.word.Word.{Word}
+use Rattle.bq_session.specs.declared.word.Word.TheVariants.{Limit}
+use Rattle.bq_certificate.specs.declared.line.Line.{Line}
+use Rattle.bq_certificate.specs.Nodes.{nodes_of}
+use Rattle.bq_certificate.specs.Certificate.{AreLines}
+use Rattle.bq_certificate.specs.Reading.{IsGood}
+use Rattle.bq_certificate.specs.Text.{certificate_text}
+use Rattle.bq_certmake.specs.Made.{IsTooLarge}
+use Rattle.bq_script.specs.declared.end.ScriptEnd.{ScriptEnd}
+use Rattle.bq_script.specs.declared.end.ScriptEnd.TheVariants.{Refused, ReadFault, ByteLimit, Memory}
+use Rattle.bq_script.specs.declared.script.Script.{Script}
+use Rattle.bq_script.specs.Script.{Asks, IsBlank, IsMisplaced}
+use Rattle.bq_script.specs.Texts.{script_text}
+use Rattle.bq_script.specs.Ends.{GaveScript, GaveLine, GaveAll, ReadsBlank}
+use Rattle.bq_io.specs.declared.status.Status.TheVariants as status
+use Rattle.bq_certify.specs.Commands.{Outcome, ComesTo}
+use Rattle.bq_certify.specs.Certifying.{Certifies, refusal, certified}
+use Rattle.bq_certify.specs.Certifying as certifying
+use Rattle.bq_certify.specs.Ending.{StopsAt}
+use Rattle.bq_certify.specs.Certified.{MakesFor, ends_with}
+
+no-more : (xs : List (List ℕ)) → length xs ≡ 0 → xs ≡ []
+no-more [] e = refl
+no-more (x ∷ xs) e = absurd (omega arith)
+
+-- the line of the query is the last of those that were given up to it
+none-behind : (given : List (List ℕ)) (streams : List Shape) (name : List ℕ) (select : SelectAst) (q : QueryValue) (number : ℕ)
+    → (a : Asks given streams name select q number) → number ≡ length given → a.behind ≡ []
+none-behind given streams name select q number a last =
+    no-more a.behind (omega (arith, last, a.number_is, ap length a.whole, length-append a.before (a.line ∷ a.behind)))
+
+-- lines that ask for a query, and more lines behind them
+abbrev asks-then : (given more all : List (List ℕ)) (streams : List Shape) (name : List ℕ) (select : SelectAst) (q : QueryValue) (number : ℕ)
+    → (a : Asks given streams name select q number) → a.behind ≡ [] → all ≡ given ++ more → Asks all streams name select q number
+asks-then given more all streams name select q number a none e = record {
+  before = a.before;
+  line = a.line;
+  behind = more;
+  whole = e ∙ ap (λ l. l ++ more) (a.whole ∙ ap (λ l. a.before ++ a.line ∷ l) none) ∙ append_assoc a.before (a.line ∷ []) more;
+  create = a.create;
+  is = a.is;
+  number_is = a.number_is;
+}
+
+-- the query of a script is too large
+pub comes-large : (script : Script) (source now : SourceState) (reader : Reading) → GaveScript script source now reader → IsTooLarge script.query → ComesTo Certifies source now (refusal script.line Limit)
+comes-large script source now reader g large =
+    let none = none-behind g.given script.catalog g.name g.select script.query script.line g.asks g.last in
+    let all : lines (g.front ++ reader.ahead) ≡ g.given ++ lines reader.ahead = g.lines.cut reader.ahead (λ ended. (g.lines.over ended).0) in
+    record {
+      text = g.front ++ reader.ahead;
+      taken = g.lines.taken;
+      comes = certifying.large script.catalog g.name g.select script.query script.line
+          (asks-then g.given (lines reader.ahead) (lines (g.front ++ reader.ahead)) script.catalog g.name g.select script.query script.line g.asks none all) large refl;
+      all = λ h. absurd (false≢true h);
+    }
+
+-- a line behind the query says something
+pub comes-misplaced : (script : Script) (source now now' : SourceState) (old new : Reading) (number : ℕ) (word : Word) (g : GaveScript script source now old) → ¬ IsTooLarge script.query
+    → GaveLine source now' g.given new (λ place line. (number ≡ place) × IsMisplaced line word) → ComesTo Certifies source now' (refusal number word)
+comes-misplaced script source now now' old new number word g small t =
+    let others = lines new.ahead in
+    let more = t.blanks ++ t.line ∷ others in
+    let none = none-behind g.given script.catalog g.name g.select script.query script.line g.asks g.last in
+    let all : lines (t.front ++ new.ahead) ≡ g.given ++ more =
+    t.lines.cut new.ahead (λ ended. (t.lines.over ended).0) ∙ append_assoc g.given (t.blanks ++ t.line ∷ []) others ∙ ap (λ l. g.given ++ l) (append_assoc t.blanks (t.line ∷ []) others) in
+    let place : number ≡ script.line + length t.blanks + 1 = omega (arith, t.holds.0, g.last, length-append g.given t.blanks) in
+    record {
+      text = t.front ++ new.ahead;
+      taken = t.lines.taken;
+      comes = certifying.misplaced script.catalog g.name g.select script.query script.line
+          (asks-then g.given more (lines (t.front ++ new.ahead)) script.catalog g.name g.select script.query script.line g.asks none all) small t.blanks t.line others word refl
+          (All-from_recursion IsBlank t.blanks t.blank) t.holds.1 (ap (λ n. refusal n word) place);
+      all = λ h. absurd (false≢true h);
+    }
+
+-- blank lines stand behind the query, up to the end of the source
+pub comes-whole : (script : Script) (certificate : List Line) (source now now' : SourceState) (old new : Reading) (g : GaveScript script source now old) → ¬ IsTooLarge script.query
+    → AreLines certificate → IsGood script.query (nodes_of certificate) → GaveAll source now' g.given new → ComesTo Certifies source now' (ends_with script certificate)
+comes-whole script certificate source now now' old new g small are good t =
+    let none = none-behind g.given script.catalog g.name g.select script.query script.line g.asks g.last in
+    let written : Statement → Outcome = λ s. record { status = status.Done; text = script_text script.catalog s ++ certificate_text certificate; whole = true } in
+    record {
+      text = t.text;
+      taken = t.lines.all.taken;
+      comes = certifying.whole script.catalog g.name g.select script.query script.line
+          (asks-then g.given t.blanks (lines t.text) script.catalog g.name g.select script.query script.line g.asks none t.lines.are) small
+          (All-from_recursion IsBlank t.blanks t.blank) certificate are good (ap written g.states);
+      all = λ _. t.lines.all;
+    }
+
+-- reading the lines behind the query stops
+pub stops-behind : (script : Script) (end : ScriptEnd) (source now now' : SourceState) (old new : Reading) (g : GaveScript script source now old) → ¬ IsTooLarge script.query
+    → ReadsBlank (Err end) source now' g.given new → StopsAt Certifies end source now'
+stops-behind script (Refused number word) source now now' old new g small t = record { whole = false; comes = comes-misplaced script source now now' old new number word g small t }
+stops-behind script ReadFault source now now' old new g small t = t.0
+stops-behind script ByteLimit source now now' old new g small t = record { text = t.text; taken = t.lines.taken; full = t.holds }
+stops-behind script Memory source now now' old new g small t = absurd t
+
+-- no certificate was made
+pub stops-unmade : (script : Script) (end : ScriptEnd) (source now : SourceState) (reader : Reading) → GaveScript script source now reader → MakesFor (Err end) script → StopsAt Certifies end source now
+stops-unmade script (Refused number word) source now reader g m =
+    let P : Outcome → Type 0 = λ o. ComesTo Certifies source now o in
+    let same : refusal number word ≡ refusal script.line Limit = ap (λ n. refusal n word) m.0 ∙ ap (λ w. refusal script.line w) m.1 in
+    record { whole = false; comes = subst P (sym same) (comes-large script source now reader g m.2) }
+stops-unmade script ReadFault source now reader g m = absurd m
+stops-unmade script ByteLimit source now reader g m = absurd m
+stops-unmade script Memory source now reader g m = tt

@@ -1,0 +1,115 @@
+-- What a script with a certificate comes to.
+use Rattle.std.proofs.Common.{◌≡◌, ℕ, suc, ◌+◌, List, [], ◌∷◌, ◌++◌, length, true, false, refl, sym, ap, ◌∙◌, subst, append_assoc, length-append, arith, Ok, Err}
+use Rattle.bq_io.specs.Source.{SourceState}
+use Rattle.std.proofs.lemmas.Bool.{false≢true}
+use Rattle.bq_feed.specs.Reading.{Reading, TakesAll}
+use Rattle.bq_text.specs.Lines.{lines}
+use Rattle.bq_model.specs.Query.{QueryValue}
+use Rattle.bq_schema.specs.Streams.{Shape}
+use Rattle.bq_parser.specs.declared.tree.SelectAst.{SelectAst}
+use Rattle.bq_session.specs.declared.word.Word.{Word}
+use Rattle.bq_certificate.specs.declared.line.Line.{Line}
+use Rattle.bq_certificate.specs.declared.answer.CheckAnswer.{CheckAnswer}
+use Rattle.bq_certificate.specs.Nodes.{nodes_of}
+use Rattle.bq_certificate.specs.Reading.{IsCheckAnswer}
+use Rattle.bq_script.specs.declared.end.ScriptEnd.{ScriptEnd}
+use Rattle.bq_script.specs.declared.end.ScriptEnd.TheVariants.{Refused, ReadFault, ByteLimit, Memory}
+use Rattle.bq_script.specs.declared.script.Script.{Script}
+use Rattle.bq_script.specs.Script.{Asks, IsRefusedAt, at_line, at_end}
+use Rattle.bq_script.specs.Ends.{IfAtEnd, IsRefused, EndsEarly, GaveScript}
+use Rattle.bq_certify.specs.declared.checking.Checked.{Checked}
+use Rattle.bq_certify.specs.Certifying.{refusal, needs_all}
+use Rattle.bq_certify.specs.Checking as checking
+use Rattle.bq_certify.specs.Checking.{answered, Checks}
+use Rattle.bq_certify.specs.Collecting.{HasGiven, GaveRefused, Refuses, ReadsCertificate, name_of, ReadsAnswer}
+
+-- nothing stands behind the last line
+pub none-behind : (before : List (List ℕ)) (line : List ℕ) (behind : List (List ℕ)) (n : ℕ) → n ≡ suc (length before) → n ≡ length (before ++ line ∷ behind) → behind ≡ []
+none-behind before line [] n e f = refl
+none-behind before line (x ∷ behind) n e f = absurd (omega (arith, e, f, length-append before (line ∷ x ∷ behind)))
+
+-- these lines ask for the query, and what stands behind it is this
+abbrev pub asks-all : (given more all : List (List ℕ)) (streams : List Shape) (name : List ℕ) (select : SelectAst) (q : QueryValue) (number : ℕ) → Asks given streams name select q number → number ≡ length given → all ≡ given ++ more
+    → Asks all streams name select q number
+asks-all given more all streams name select q number a last e = record {
+  before = a.before;
+  line = a.line;
+  behind = more;
+  whole = e ∙ ap (λ l. l ++ more) a.whole ∙ append_assoc a.before (a.line ∷ a.behind) more
+      ∙ ap (λ l. a.before ++ a.line ∷ (l ++ more)) (none-behind a.before a.line a.behind number a.number_is (last ∙ ap length a.whole));
+  create = a.create;
+  is = a.is;
+  number_is = a.number_is;
+}
+
+-- where a script ends before its query, all was read
+all-read : {all : List (List ℕ)} {number : ℕ} {word : Word} (P : Type 0) (refused : IsRefusedAt all number word) → IfAtEnd refused P → needs_all refused ≡ true → P
+all-read P (at_line before line others streams whole create is number_is) holds e = absurd (false≢true e)
+all-read P (at_end streams create word_is number_is) holds e = holds
+
+-- a line is refused before the query, or the script ends before it
+early : (source now : SourceState) (number : ℕ) (word : Word) → IsRefused number word source now → Refuses source now number word
+early source now number word r = record {
+  whole = needs_all r.refused;
+  comes = record {
+    text = r.text;
+    taken = r.taken;
+    comes = checking.early number word r.refused refl;
+    all = λ e. all-read (TakesAll source now r.text) r.refused r.all e;
+  };
+}
+
+-- the script is not taken
+pub ends-early : (source now : SourceState) (reader : Reading) (end : ScriptEnd) → EndsEarly end source now reader → ReadsAnswer (Err end) source now
+ends-early source now reader (Refused number word) r = early source now number word r
+ends-early source now reader ReadFault r = r.0
+ends-early source now reader ByteLimit r = record { text = r.text; taken = r.lines.taken; full = r.holds }
+ends-early source now reader Memory r = tt
+
+-- lines were given up to the query
+pub stands : (script : Script) (source now : SourceState) (reader : Reading) → GaveScript script source now reader → HasGiven now reader
+stands script source now reader g = record {
+  source = source;
+  front = g.front;
+  given = g.given;
+  lines = g.lines;
+}
+
+-- a line of the certificate is refused
+later : (script : Script) (source now now' : SourceState) (reader : Reading) (number : ℕ) (word : Word) → (g : GaveScript script source now reader) → GaveRefused source now' g.given number word → Refuses source now' number word
+later script source now now' reader number word g r =
+    let place : number ≡ script.line + length r.before + 1 = omega (arith, r.number_is, g.last) in
+    record {
+      whole = false;
+      comes = record {
+        text = r.text;
+        taken = r.taken;
+        comes = checking.later script.catalog g.name g.select script.query script.line
+            (asks-all g.given (r.before ++ r.line ∷ r.others) (lines r.text) script.catalog g.name g.select script.query script.line g.asks g.last r.are)
+            r.before r.line r.others r.certificate word refl r.collect r.refused (ap (λ n. refusal n word) place);
+        all = λ e. absurd (false≢true e);
+      };
+    }
+
+-- the certificate is not read to its end
+pub ends-behind : (script : Script) (source now now' : SourceState) (reader : Reading) (end : ScriptEnd) → (g : GaveScript script source now reader) → ReadsCertificate (Err end) source now' g.given → ReadsAnswer (Err end) source now'
+ends-behind script source now now' reader (Refused number word) g r = later script source now now' reader number word g r
+ends-behind script source now now' reader ReadFault g r = r
+ends-behind script source now now' reader ByteLimit g r = r
+ends-behind script source now now' reader Memory g r = tt
+
+-- the certificate is checked
+pub ends-whole : (script : Script) (source now now' : SourceState) (reader : Reading) (certificate : List Line) (answer : CheckAnswer) (checked : Checked) → (g : GaveScript script source now reader)
+    → ReadsCertificate (Ok certificate) source now' g.given → IsCheckAnswer script.query (nodes_of certificate) answer → checked ≡ record { script = script; answer = answer } → ReadsAnswer (Ok checked) source now'
+ends-whole script source now now' reader certificate answer checked g c is e =
+    subst (λ x. ReadsAnswer (Ok x) source now') (sym e) (
+      record {
+        text = c.text;
+        taken = c.all.taken;
+        comes = checking.whole script.catalog g.name g.select script.query script.line
+            (asks-all g.given c.behind (lines c.text) script.catalog g.name g.select script.query script.line g.asks g.last c.are)
+            certificate answer c.collect is (ap (λ n. answered script.catalog n script.query answer) (ap name_of g.states));
+        all = λ _. c.all;
+      },
+      record { nodes = nodes_of certificate; is = is; named = g.named },
+    )

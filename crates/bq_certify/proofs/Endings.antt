@@ -1,0 +1,77 @@
+-- How the commands end, whatever they come to.
+use Rattle.std.proofs.Common.{◌≡◌, ℕ, true, List, sym, subst}
+use Rattle.std.proofs.KnownBytes.{Keeps-refl}
+use Rattle.std.proofs.lemmas.Bool.{false≢true}
+use Rattle.std.specs.Io.KnownBytes.{Keeps}
+use Rattle.bq_io.specs.declared.status.Status.{Status}
+use Rattle.bq_io.specs.declared.status.Status.TheVariants as status
+use Rattle.bq_io.specs.Source.{SourceState}
+use Rattle.bq_io.specs.Sink.{SinkState, BrokeOff}
+use Rattle.bq_text.specs.Lines.{lines}
+use Rattle.bq_feed.specs.Reading.{Reading, TakesAll}
+use Rattle.bq_session.specs.declared.word.Word.{Word}
+use Rattle.bq_script.specs.declared.end.ScriptEnd.{ScriptEnd}
+use Rattle.bq_script.specs.declared.end.ScriptEnd.TheVariants.{Refused, ReadFault, ByteLimit, Memory}
+use Rattle.bq_script.specs.Script.{IsRefusedAt, at_line, at_end}
+use Rattle.bq_script.specs.Ends.{EndsEarly, IfAtEnd}
+use Rattle.bq_certify.specs.Commands.{Outcome, ComesTo, WroteFront, CommandEnds, error_text}
+use Rattle.bq_certify.specs.Certifying.{needs_all, early_refusal}
+use Rattle.bq_certify.specs.Ending.{StopsAt, EndsWith, EndsBy}
+
+-- all lines were read where the script ends before its query
+all-early : {all : List (List ℕ)} {number : ℕ} {word : Word} (refused : IsRefusedAt all number word) (P : Type 0) → IfAtEnd refused P → needs_all refused ≡ true → P
+all-early (at_line before line behind streams whole create is number_is) P h e = absurd (false≢true e)
+all-early (at_end streams create word_is number_is) P h e = h
+
+-- what an early end of the script comes to
+pub stops-early : (IsOutcome : List (List ℕ) → Outcome → Type 0)
+    → ((all : List (List ℕ)) (number : ℕ) (word : Word) (refused : IsRefusedAt all number word) → IsOutcome all (early_refusal number word refused)) → (end : ScriptEnd) (source now : SourceState) (reader : Reading)
+    → EndsEarly end source now reader → StopsAt IsOutcome end source now
+stops-early IsOutcome early (Refused number word) source now reader e = record {
+  whole = needs_all e.refused;
+  comes = record {
+    text = e.text;
+    taken = e.taken;
+    comes = early (lines e.text) number word e.refused;
+    all = λ h. all-early e.refused (TakesAll source now e.text) e.all h;
+  };
+}
+stops-early IsOutcome early ReadFault source now reader e = e.0
+stops-early IsOutcome early ByteLimit source now reader e = record { text = e.text; taken = e.lines.taken; full = e.holds }
+stops-early IsOutcome early Memory source now reader e = tt
+
+-- the statuses that go with a text
+abbrev pub HasText : Status → Type 0
+HasText status.Done = Unit {0}
+HasText status.Invalid = Unit {0}
+HasText status.Usage = ⊥
+HasText status.ReadFault = ⊥
+HasText status.WriteFault = ⊥
+HasText status.Memory = ⊥
+HasText status.ByteLimit = ⊥
+
+-- a command ends with the text of what it comes to, or the sink failed
+pub finishes : (IsOutcome : List (List ℕ) → Outcome → Type 0) (o : Outcome) (s : Status) (source now : SourceState) (before after : SinkState)
+    → HasText o.status → ComesTo IsOutcome source now o → EndsWith o.status o.text s before after → CommandEnds IsOutcome s source now before after
+finishes IsOutcome o status.Done source now before after final p e = record { outcome = o; comes = p; status_is = e.0; written = e.1 }
+finishes IsOutcome o status.Invalid source now before after final p e = record { outcome = o; comes = p; status_is = e.0; written = e.1 }
+finishes IsOutcome o status.Usage source now before after final p e = absurd (subst HasText e.0 final)
+finishes IsOutcome o status.ReadFault source now before after final p e = absurd (subst HasText e.0 final)
+finishes IsOutcome o status.WriteFault source now before after final p e = record { outcome = o; comes = p; broke = e }
+finishes IsOutcome o status.Memory source now before after final p e = absurd (subst HasText e.0 final)
+finishes IsOutcome o status.ByteLimit source now before after final p e = absurd (subst HasText e.0 final)
+
+keeps-same : (before after : SinkState) → after ≡ before → Keeps before.written after.written
+keeps-same before after e = subst (λ (s : SinkState). Keeps before.written s.written) (sym e) (Keeps-refl before.written)
+
+-- a command ends that stops before it has an answer
+pub stops : (IsOutcome : List (List ℕ) → Outcome → Type 0) (end : ScriptEnd) (s : Status) (source now : SourceState) (before after : SinkState)
+    → StopsAt IsOutcome end source now → EndsBy end s before after → CommandEnds IsOutcome s source now before after
+stops IsOutcome (Refused number word) s source now before after p e = finishes IsOutcome (record { status = status.Invalid; text = error_text number word; whole = p.whole }) s source now before after tt p.comes e
+stops IsOutcome ReadFault s source now before after p e = subst (λ t. CommandEnds IsOutcome t source now before after) (sym e.0) (p, keeps-same before after e.1)
+stops IsOutcome ByteLimit s source now before after p e = subst (λ t. CommandEnds IsOutcome t source now before after) (sym e.0) (p, keeps-same before after e.1)
+stops IsOutcome Memory s source now before after p e = subst (λ t. CommandEnds IsOutcome t source now before after) (sym e.0) (keeps-same before after e.1)
+
+-- a text broke off, so a front of it was written
+pub front-written : (before after : SinkState) (text : List ℕ) → BrokeOff before after text → WroteFront before after text
+front-written before after text b = record { front = b.front; rest = b.rest; whole = b.whole; written = b.wrote.bytes; rose = b.rose }

@@ -1,0 +1,42 @@
+-- What is found before a certificate is written.
+use Rattle.std.specs.Prelude.{◌≡◌, ℕ, ⊤, true, List, ◌++◌}
+use Rattle.std.specs.declared.result.Result.{Result}
+use Rattle.std.specs.declared.result.Result.TheVariants.{Ok, Err}
+use Rattle.bq_io.specs.declared.status.Status.TheVariants as status
+use Rattle.bq_io.specs.Source.{SourceState}
+use Rattle.bq_session.specs.declared.word.Word.TheVariants.{Limit}
+use Rattle.bq_certificate.specs.declared.line.Line.{Line}
+use Rattle.bq_certificate.specs.Nodes.{nodes_of}
+use Rattle.bq_certificate.specs.Certificate.{AreLines}
+use Rattle.bq_certificate.specs.Reading.{IsGood}
+use Rattle.bq_certificate.specs.Text.{certificate_text}
+use Rattle.bq_certmake.specs.Made.{IsTooLarge}
+use Rattle.bq_script.specs.declared.end.ScriptEnd.{ScriptEnd}
+use Rattle.bq_script.specs.declared.end.ScriptEnd.TheVariants.{Refused, ReadFault, ByteLimit, Memory}
+use Rattle.bq_script.specs.declared.script.Script.{Script}
+use Rattle.bq_script.specs.Texts.{script_text}
+use Rattle.bq_certify.specs.declared.certifying.Certified.{Certified}
+use Rattle.bq_certify.specs.Commands.{Outcome, ComesTo}
+use Rattle.bq_certify.specs.Certifying.{Certifies}
+use Rattle.bq_certify.specs.Ending.{StopsAt}
+
+-- what making a certificate for a script comes to: a query that is too large is refused at its line
+abbrev pub MakesFor : Result (List Line) ScriptEnd → Script → Type 0
+MakesFor (Ok lines) script = AreLines lines × IsGood script.query (nodes_of lines) × (¬ IsTooLarge script.query)
+MakesFor (Err (Refused number word)) script = (number ≡ script.line) × (word ≡ Limit) × IsTooLarge script.query
+MakesFor (Err ReadFault) script = ⊥
+MakesFor (Err ByteLimit) script = ⊥
+MakesFor (Err Memory) script = ⊤
+
+-- the statements of a script in printed form, and its certificate
+abbrev pub text_with : Script → List Line → List ℕ
+text_with script lines = script_text script.catalog script.statement ++ certificate_text lines
+
+-- they are what is written at the end
+abbrev pub ends_with : Script → List Line → Outcome
+ends_with script lines = record { status = status.Done; text = text_with script lines; whole = true }
+
+-- how reading ends: with a script and its certificate, or before
+abbrev pub ReadsCertified : Result Certified ScriptEnd → SourceState → SourceState → Type 0
+ReadsCertified (Ok c) source now = ComesTo Certifies source now (ends_with c.script c.certificate)
+ReadsCertified (Err end) source now = StopsAt Certifies end source now

@@ -1,0 +1,49 @@
+-- What `certify` comes to over the lines of a script.
+use Rattle.std.specs.Prelude.{◌≡◌, ℕ, ◌+◌, Bool, true, false, List, ◌∷◌, ◌++◌, length}
+use Rattle.std.specs.List.{All}
+use Rattle.bq_io.specs.declared.status.Status.TheVariants as status
+use Rattle.bq_model.specs.Query.{QueryValue}
+use Rattle.bq_schema.specs.Streams.{Shape}
+use Rattle.bq_parser.specs.declared.tree.SelectAst.{SelectAst}
+use Rattle.bq_parser.specs.declared.tree.Statement.TheVariants.{CreateQuery}
+use Rattle.bq_session.specs.declared.word.Word.{Word}
+use Rattle.bq_session.specs.declared.word.Word.TheVariants.{Limit}
+use Rattle.bq_certificate.specs.declared.line.Line.{Line}
+use Rattle.bq_certificate.specs.Nodes.{nodes_of}
+use Rattle.bq_certificate.specs.Certificate.{AreLines}
+use Rattle.bq_certificate.specs.Reading.{IsGood}
+use Rattle.bq_certificate.specs.Text.{certificate_text}
+use Rattle.bq_certmake.specs.Made.{IsTooLarge}
+use Rattle.bq_script.specs.Script.{Asks, IsRefusedAt, at_line, at_end, IsBlank, IsMisplaced}
+use Rattle.bq_script.specs.Texts.{script_text}
+use Rattle.bq_certify.specs.Commands.{Outcome, error_text}
+
+-- a refused line, by its number and the word
+abbrev pub refusal : ℕ → Word → Outcome
+refusal number word = record { status = status.Invalid; text = error_text number word; whole = false }
+
+-- whether a refusal before the query is known only once all lines were read: where the script ends before its query
+abbrev pub needs_all : {lines : List (List ℕ)} {number : ℕ} {word : Word} → IsRefusedAt lines number word → Bool
+needs_all (at_line before line behind streams whole create is number_is) = false
+needs_all (at_end streams create word_is number_is) = true
+
+-- a line that is refused before the query
+abbrev pub early_refusal : {lines : List (List ℕ)} (number : ℕ) (word : Word) → IsRefusedAt lines number word → Outcome
+early_refusal number word refused = record { status = status.Invalid; text = error_text number word; whole = needs_all refused }
+
+-- the statements of a script in printed form, and a certificate
+abbrev pub certified : List Shape → List ℕ → SelectAst → List Line → Outcome
+certified streams name select lines = record { status = status.Done; text = script_text streams (CreateQuery name select) ++ certificate_text lines; whole = true }
+
+-- What it comes to: the first line that is refused before the query; the line of a query that is too large for a certificate; the first
+-- line behind it that says something; or else the script with a good certificate, whichever it is.
+pub data Certifies (lines : List (List ℕ)) (o : Outcome) : Type 0 where
+  early : (number : ℕ) (word : Word) (refused : IsRefusedAt lines number word) → o ≡ early_refusal number word refused → Certifies lines o
+  large : (streams : List Shape) (name : List ℕ) (select : SelectAst) (q : QueryValue) (number : ℕ) → Asks lines streams name select q number
+      → IsTooLarge q → o ≡ refusal number Limit → Certifies lines o
+  misplaced : (streams : List Shape) (name : List ℕ) (select : SelectAst) (q : QueryValue) (number : ℕ) (asks : Asks lines streams name select q number)
+      → ¬ IsTooLarge q → (blanks : List (List ℕ)) (line : List ℕ) (others : List (List ℕ)) (word : Word) → asks.behind ≡ blanks ++ line ∷ others → All IsBlank blanks
+      → IsMisplaced line word → o ≡ refusal (number + length blanks + 1) word → Certifies lines o
+  whole : (streams : List Shape) (name : List ℕ) (select : SelectAst) (q : QueryValue) (number : ℕ) (asks : Asks lines streams name select q number)
+      → ¬ IsTooLarge q → All IsBlank asks.behind → (certificate : List Line) → AreLines certificate → IsGood q (nodes_of certificate)
+      → o ≡ certified streams name select certificate → Certifies lines o

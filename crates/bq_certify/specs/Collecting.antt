@@ -1,0 +1,98 @@
+-- How reading a certificate behind a query ends, and what a check finds.
+use Rattle.std.specs.Prelude.{◌≡◌, ℕ, ◌+◌, ⊤, Bool, List, [], ◌∷◌, ◌++◌, length}
+use Rattle.std.specs.Io.KnownBytes.{Consumes}
+use Rattle.std.specs.declared.result.Result.{Result}
+use Rattle.std.specs.declared.result.Result.TheVariants.{Ok, Err}
+use Rattle.bq_io.specs.Counts.{Rose}
+use Rattle.bq_io.specs.declared.status.Status.TheVariants as status
+use Rattle.bq_io.specs.Source.{SourceState}
+use Rattle.bq_text.specs.Lines.{lines}
+use Rattle.bq_feed.specs.Reading.{Reading, TakesAll}
+use Rattle.bq_feed.specs.GivenLines.{GivenLines}
+use Rattle.bq_parser.specs.declared.tree.Statement.{Statement}
+use Rattle.bq_parser.specs.declared.tree.Statement.TheVariants as statements
+use Rattle.bq_parser.specs.Resolution.{HasNamed}
+use Rattle.bq_session.specs.declared.word.Word.{Word}
+use Rattle.bq_session.specs.declared.word.Word.TheVariants as words
+use Rattle.bq_certificate.specs.declared.line.Line.{Line}
+use Rattle.bq_certificate.specs.declared.error.CertError.{CertError}
+use Rattle.bq_certificate.specs.declared.error.CertError.TheVariants as why
+use Rattle.bq_certificate.specs.Nodes.{Node}
+use Rattle.bq_certificate.specs.Reading.{IsCheckAnswer}
+use Rattle.bq_script.specs.declared.end.ScriptEnd.{ScriptEnd}
+use Rattle.bq_script.specs.declared.end.ScriptEnd.TheVariants.{Refused, ReadFault, ByteLimit, Memory}
+use Rattle.bq_certify.specs.declared.checking.Checked.{Checked}
+use Rattle.bq_certify.specs.Commands.{Outcome, ComesTo, TakesMost, error_text}
+use Rattle.bq_certify.specs.Checking.{Collect, IsRefusedLine, answered, Checks}
+
+-- the name in a statement
+abbrev pub name_of : Statement → List ℕ
+name_of (statements.CreateStream name columns) = name
+name_of (statements.CreateQuery name select) = name
+name_of (statements.Explain name) = name
+name_of (statements.DropQuery name) = name
+
+-- some lines were given, since the source was in some state
+pub record HasGiven (now : SourceState) (reader : Reading) : Type 0 where
+  pub source : SourceState
+  pub front : List ℕ
+  pub given : List (List ℕ)
+  pub lines : GivenLines source now reader front given
+
+-- how a script ends at the line of this number that is not added to the certificate
+abbrev pub end_at : ℕ → CertError → ScriptEnd
+end_at number why.Syntax = Refused number words.Syntax
+end_at number why.Limit = Refused number words.Limit
+end_at number why.Memory = Memory
+
+-- Behind the lines that were given, those of a certificate were given up to the end of the source.
+pub record GaveCertificate (source now : SourceState) (given : List (List ℕ)) (certificate : List Line) : Type 0 where
+  pub text : List ℕ
+  pub behind : List (List ℕ)
+  pub all : TakesAll source now text
+  pub are : lines text ≡ given ++ behind
+  pub collect : Collect [] behind certificate
+
+-- Behind the lines that were given and those of a certificate, the line of this number is refused.
+pub record GaveRefused (source now : SourceState) (given : List (List ℕ)) (number : ℕ) (word : Word) : Type 0 where
+  pub text : List ℕ
+  pub taken : Consumes source.left now.left text
+  pub before : List (List ℕ)
+  pub line : List ℕ
+  pub others : List (List ℕ)
+  pub are : lines text ≡ given ++ (before ++ line ∷ others)
+  pub certificate : List Line
+  pub collect : Collect [] before certificate
+  pub refused : IsRefusedLine certificate line word
+  pub number_is : number ≡ length given + length before + 1
+
+-- how reading a certificate ends, behind the lines that were given
+abbrev pub ReadsCertificate : Result (List Line) ScriptEnd → SourceState → SourceState → List (List ℕ) → Type 0
+ReadsCertificate (Ok certificate) source now given = GaveCertificate source now given certificate
+ReadsCertificate (Err (Refused number word)) source now given = GaveRefused source now given number word
+ReadsCertificate (Err ReadFault) source now given = Rose source.faults now.faults
+ReadsCertificate (Err ByteLimit) source now given = TakesMost source now
+ReadsCertificate (Err Memory) source now given = ⊤
+
+-- The check of a script comes to a refusal of this line, which is known once all lines were read or before.
+pub record Refuses (source now : SourceState) (number : ℕ) (word : Word) : Type 0 where
+  pub whole : Bool
+  pub comes : ComesTo Checks source now (record { status = status.Invalid; text = error_text number word; whole = whole })
+
+-- what the answer of the check of a script comes to
+abbrev pub outcome_of : Checked → Outcome
+outcome_of checked = answered checked.script.catalog (name_of checked.script.statement) checked.script.query checked.answer
+
+-- the answer of a check, and all that its text names is there
+pub record IsSound (checked : Checked) : Type 0 where
+  pub nodes : List Node
+  pub is : IsCheckAnswer checked.script.query nodes checked.answer
+  pub named : HasNamed checked.script.catalog checked.script.query
+
+-- how the check of a script ends before anything is written
+abbrev pub ReadsAnswer : Result Checked ScriptEnd → SourceState → SourceState → Type 0
+ReadsAnswer (Ok checked) source now = ComesTo Checks source now (outcome_of checked) × IsSound checked
+ReadsAnswer (Err (Refused number word)) source now = Refuses source now number word
+ReadsAnswer (Err ReadFault) source now = Rose source.faults now.faults
+ReadsAnswer (Err ByteLimit) source now = TakesMost source now
+ReadsAnswer (Err Memory) source now = ⊤

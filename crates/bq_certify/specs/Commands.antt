@@ -1,0 +1,67 @@
+-- How the commands on certificates end: what was read and written under each status.
+use Rattle.std.specs.Prelude.{◌≡◌, ℕ, ◌-◌, ◌^◌, Bool, true, List, [], ◌∷◌, ◌++◌, length, codes, decimal}
+use Rattle.std.specs.Io.KnownBytes.{Consumes, Appends, Keeps}
+use Rattle.bq_io.specs.Counts.{Rose}
+use Rattle.bq_io.specs.declared.status.Status.{Status}
+use Rattle.bq_io.specs.declared.status.Status.TheVariants as status
+use Rattle.bq_io.specs.Source.{SourceState}
+use Rattle.bq_io.specs.Sink.{SinkState}
+use Rattle.bq_text.specs.Lines.{lines}
+use Rattle.bq_feed.specs.Reading.{TakesAll}
+use Rattle.bq_session.specs.Replies.{word_text}
+use Rattle.bq_session.specs.declared.word.Word.{Word}
+
+-- What a command comes to over some lines: its status, what it writes, and whether it comes to it only once all lines were read.
+pub record Outcome : Type 0 where
+  pub status : Status
+  pub text : List ℕ
+  pub whole : Bool
+
+-- the text for a refused line
+abbrev pub error_text : ℕ → Word → List ℕ
+error_text number word = codes "error " ++ decimal number ++ 32 ∷ word_text word ++ 10 ∷ []
+
+-- The bytes of a text were taken, over the lines of which the command comes to this; all bytes, where all lines were to be read.
+pub record ComesTo (IsOutcome : List (List ℕ) → Outcome → Type 0) (source now : SourceState) (o : Outcome) : Type 0 where
+  pub text : List ℕ
+  pub taken : Consumes source.left now.left text
+  pub comes : IsOutcome (lines text) o
+  pub all : o.whole ≡ true → TakesAll source now text
+
+-- it came to this, with this status, and its text was written
+pub record Finishes (IsOutcome : List (List ℕ) → Outcome → Type 0) (s : Status) (source now : SourceState) (before after : SinkState) : Type 0 where
+  pub outcome : Outcome
+  pub comes : ComesTo IsOutcome source now outcome
+  pub status_is : outcome.status ≡ s
+  pub written : Appends before.written after.written outcome.text
+
+-- a front of the text was written, and then the sink failed
+pub record WroteFront (before after : SinkState) (text : List ℕ) : Type 0 where
+  pub front : List ℕ
+  pub rest : List ℕ
+  pub whole : text ≡ front ++ rest
+  pub written : Appends before.written after.written front
+  pub rose : Rose before.faults after.faults
+
+-- it came to this, and then the sink failed: a front of its text was written
+pub record BreaksOff (IsOutcome : List (List ℕ) → Outcome → Type 0) (source now : SourceState) (before after : SinkState) : Type 0 where
+  pub outcome : Outcome
+  pub comes : ComesTo IsOutcome source now outcome
+  pub broke : WroteFront before after outcome.text
+
+-- as many bytes were taken as can be counted
+pub record TakesMost (source now : SourceState) : Type 0 where
+  pub text : List ℕ
+  pub taken : Consumes source.left now.left text
+  pub full : length text ≡ 2 ^ 64 - 1
+
+-- How a command ends, by the status. Nothing is written before it is known what it comes to, so nothing is on a fault of the source,
+-- at the byte limit and for want of memory.
+abbrev pub CommandEnds : (List (List ℕ) → Outcome → Type 0) → Status → SourceState → SourceState → SinkState → SinkState → Type 0
+CommandEnds IsOutcome status.Done source now before after = Finishes IsOutcome status.Done source now before after
+CommandEnds IsOutcome status.Invalid source now before after = Finishes IsOutcome status.Invalid source now before after
+CommandEnds IsOutcome status.Usage source now before after = ⊥
+CommandEnds IsOutcome status.ReadFault source now before after = Rose source.faults now.faults × Keeps before.written after.written
+CommandEnds IsOutcome status.WriteFault source now before after = BreaksOff IsOutcome source now before after
+CommandEnds IsOutcome status.Memory source now before after = Keeps before.written after.written
+CommandEnds IsOutcome status.ByteLimit source now before after = TakesMost source now × Keeps before.written after.written

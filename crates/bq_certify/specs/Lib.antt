@@ -1,0 +1,7 @@
+pub mod Commands
+pub mod Certifying
+pub mod Certified
+pub mod Checking
+pub mod Collecting
+pub mod Ending
+pub mod Telling

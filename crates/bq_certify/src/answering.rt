@@ -1,0 +1,160 @@
+//! The answer of a check, written in one line.
+ghost use Rattle.std.specs.Prelude.{◌≡◌, ◌++◌, ◌∷◌, [], codes, decimal};
+ghost use Rattle.bq_io.specs.Sink.{Writes};
+ghost use Rattle.bq_explain.specs.Text.{column_text};
+ghost use Rattle.bq_parser.specs.Resolution.{HasNamed};
+ghost use Rattle.bq_session.specs.Replies as replies;
+ghost use Rattle.bq_model.specs.Verdict.{IsDecision};
+ghost use Rattle.bq_certify.specs.Checking as checking;
+ghost use Rattle.bq_certify.specs.Checking.{decision_text};
+ghost use Rattle.bq_certify.specs.Collecting as collecting;
+
+use bq_certificate::Reason;
+use bq_io::{Sink, WriteFault, write_pieces};
+use bq_model::{Condition, Decision};
+use bq_parser::{ColumnAst, Statement, column_named};
+use bq_script::Script;
+use bq_text::Name;
+use itoa::Buffer;
+
+// The name in a statement.
+fn name_of(statement: &Statement) -> &Name
+    ensures { result.now ≡ collecting.name_of statement.now }
+{
+    match statement {
+        Statement::CreateStream { name, .. } => name,
+        Statement::CreateQuery { name, .. } => name,
+        Statement::Explain { name } => name,
+        Statement::DropQuery { name } => name,
+    }
+}
+
+fn condition_text(condition: Condition) -> &'static [u8]
+    ensures { result.now ≡ replies.condition_text condition }
+{
+    match condition {
+        Condition::C1 => b"C1",
+        Condition::C2 => b"C2",
+        Condition::C3 => b"C3",
+    }
+}
+
+fn reason_text(reason: Reason) -> &'static [u8]
+    ensures { result.now ≡ checking.reason_text reason }
+{
+    match reason {
+        Reason::Shape => b"Shape",
+        Reason::Cycle => b"Cycle",
+        Reason::Path => b"Path",
+        Reason::Bound => b"Bound",
+    }
+}
+
+// `certified q bounded parts N`, by its parts.
+fn write_bounded_text<'a, O: Sink>(
+    out: &mut O,
+    name: &'a [u8],
+    parts: &'a [u8],
+) -> Result<(), WriteFault>
+    ensures { Writes result (O.seen out.old) (O.seen out.new) (codes "certified " ++ name.now ++ codes " bounded parts " ++ parts.now ++ 10 ∷ []) }
+{
+    let pieces: [&[u8]; 5] = [b"certified ", name, b" bounded parts ", parts, b"\n"];
+    write_pieces(out, &pieces)
+}
+
+// `certified q bounded parts N`
+fn write_bounded<O: Sink>(out: &mut O, name: &Name, parts: u32) -> Result<(), WriteFault>
+    ensures { Writes result (O.seen out.old) (O.seen out.new) (codes "certified " ++ name.now ++ codes " bounded parts " ++ decimal parts ++ 10 ∷ []) }
+{
+    let mut buffer = Buffer::new();
+    let number = buffer.format(parts).as_bytes();
+    write_bounded_text(out, name.bytes(), number)
+}
+
+// `certified q part N C3 S.b`, by its parts.
+fn write_violation_text<'a, O: Sink>(
+    out: &mut O,
+    name: &'a [u8],
+    part: &'a [u8],
+    condition: &'a [u8],
+    stream: &'a [u8],
+    column: &'a [u8],
+) -> Result<(), WriteFault>
+    ensures { Writes result (O.seen out.old) (O.seen out.new)
+        (codes "certified " ++ name.now ++ codes " part " ++ part.now ++ 32 ∷ condition.now ++ 32 ∷ (stream.now ++ 46 ∷ column.now) ++ 10 ∷ []) }
+{
+    let pieces: [&[u8]; 11] = [
+        b"certified ",
+        name,
+        b" part ",
+        part,
+        b" ",
+        condition,
+        b" ",
+        stream,
+        b".",
+        column,
+        b"\n",
+    ];
+    write_pieces(out, &pieces)
+}
+
+// `certified q part N C3 S.b`
+fn write_violation<O: Sink>(
+    out: &mut O,
+    name: &Name,
+    part: u32,
+    condition: Condition,
+    column: &ColumnAst,
+) -> Result<(), WriteFault>
+    ensures { Writes result (O.seen out.old) (O.seen out.new)
+        (codes "certified " ++ name.now ++ codes " part " ++ decimal part ++ 32 ∷ replies.condition_text condition ++ 32 ∷ column_text column.now ++ 10 ∷ []) }
+{
+    let mut buffer = Buffer::new();
+    let number = buffer.format(part).as_bytes();
+    let condition = condition_text(condition);
+    write_violation_text(
+        out,
+        name.bytes(),
+        number,
+        condition,
+        column.stream.bytes(),
+        column.column.bytes(),
+    )
+}
+
+/// Writes the decision of a certificate that is good, and where no condition is broken how many parts the query has.
+pub fn write_decision<O: Sink>(
+    out: &mut O,
+    script: &Script,
+    decision: Decision,
+    parts: u32,
+) -> Result<(), WriteFault>
+    requires named { HasNamed script.now.catalog script.now.query }
+    requires is { IsDecision script.now.query decision }
+    ensures { Writes result (O.seen out.old) (O.seen out.new)
+        (decision_text script.now.catalog (collecting.name_of script.now.statement) script.now.query decision parts) }
+{
+    let name = name_of(&script.statement);
+    match decision {
+        Decision::Bounded => write_bounded(out, name, parts),
+        Decision::Violation {
+            part,
+            condition,
+            attr,
+        } => {
+            let column = column_named(attr, script.query.from(), &script.catalog);
+            write_violation(out, name, part, condition, &column)
+        }
+    }
+}
+
+/// `no P Shape`
+pub fn write_no<O: Sink>(out: &mut O, place: u32, reason: Reason) -> Result<(), WriteFault>
+    ensures { Writes result (O.seen out.old) (O.seen out.new) (codes "no " ++ decimal place ++ 32 ∷ checking.reason_text reason ++ 10 ∷ []) }
+{
+    let mut buffer = Buffer::new();
+    let number = buffer.format(place).as_bytes();
+    let pieces: [&[u8]; 5] = [b"no ", number, b" ", reason_text(reason), b"\n"];
+    write_pieces(out, &pieces)
+}

@@ -1,0 +1,155 @@
+//! The command that certifies a script.
+ghost use Rattle.std.specs.Prelude.{◌≡◌, ◌≤◌, []};
+ghost use Rattle.bq_io.specs.declared.status.Status.TheVariants as status;
+ghost use Rattle.bq_io.specs.Source.{SourceState};
+ghost use Rattle.bq_io.specs.Sink.{Writes};
+ghost use Rattle.bq_feed.specs.Reading.{fresh};
+ghost use Rattle.bq_script.specs.Ends.{GaveScript};
+ghost use Rattle.bq_certify.specs.Commands.{CommandEnds};
+ghost use Rattle.bq_certify.specs.Certifying.{Certifies};
+ghost use Rattle.bq_certify.specs.Ending.{EndsWith, WritesText};
+ghost use Rattle.bq_certify.specs.Certified.{MakesFor, ReadsCertified, text_with};
+
+use crate::ending::end_early;
+use bq_certificate::Certificate;
+use bq_certmake::{MakeError, make};
+use bq_feed::LineReader;
+use bq_io::{Gathered, Sink, Source, Status, WriteFault};
+use bq_script::{Script, ScriptEnd, print_script, read_blank, read_script};
+use bq_session::Word;
+use std::alloc::Global;
+
+/// A script, and a certificate of its query.
+#[derive(Drop)]
+pub struct Certified {
+    pub script: Script,
+    pub certificate: Certificate,
+}
+
+// Makes a certificate for a script. A query that is too large is refused at its line.
+fn make_for(alloc: Global, script: &Script) -> Result<Certificate, ScriptEnd>
+    ensures { MakesFor result script.now }
+{
+    match make(alloc, &script.query) {
+        Ok(certificate) => {
+            // No effect at run time. The proof reads from this call that the lines are those of a certificate.
+            let _lines = certificate.lines();
+            Ok(certificate)
+        }
+        Err(MakeError::Limit) => Err(ScriptEnd::Refused {
+            line: script.line,
+            word: Word::Limit,
+        }),
+        Err(MakeError::Memory) => Err(ScriptEnd::Memory),
+    }
+}
+
+// Makes the certificate of a script, and reads the lines behind its query, which say nothing.
+fn certify_script<I: Source>(
+    alloc: Global,
+    script: Script,
+    reader: &mut LineReader,
+    input: &mut I,
+) -> Result<Certified, ScriptEnd>
+    ensures reads { (source : SourceState) → GaveScript script source (I.seen input.old) reader.old → ReadsCertified result source (I.seen input.new) }
+    ensures later { (I.seen input.old).faults ≤ (I.seen input.new).faults }
+{
+    match make_for(alloc, &script) {
+        Ok(certificate) => match read_blank(reader, input) {
+            Ok(()) => Ok(Certified {
+                script,
+                certificate,
+            }),
+            Err(stop) => Err(stop),
+        },
+        Err(end) => Err(end),
+    }
+}
+
+// Reads a script to the end of the source, and makes its certificate as soon as the line of its query is read.
+fn read_certified<I: Source>(
+    alloc: Global,
+    reader: &mut LineReader,
+    input: &mut I,
+) -> Result<Certified, ScriptEnd>
+    requires { reader.old ≡ fresh }
+    ensures reads { ReadsCertified result (I.seen input.old) (I.seen input.new) }
+    ensures later { (I.seen input.old).faults ≤ (I.seen input.new).faults }
+{
+    match read_script(alloc, reader, input) {
+        Ok(script) => certify_script(alloc, script, reader, input),
+        Err(end) => Err(end),
+    }
+}
+
+// Writes the statements of the script in printed form, and then the certificate.
+#[tactic(auto, using(crate::proofs::Texts::writes_behind))]
+fn print<O: Sink>(certified: &Certified, out: &mut O) -> Result<(), WriteFault>
+    ensures { Writes result (O.seen out.old) (O.seen out.new) (text_with certified.now.script certified.now.certificate) }
+{
+    match print_script(&certified.script, out) {
+        Ok(()) => certified.certificate.print(out),
+        Err(fault) => Err(fault),
+    }
+}
+
+// Writes the whole text to a gatherer, and then what it still holds to the sink below.
+fn print_flushed<O: Sink>(
+    certified: &Certified,
+    out: &mut Gathered<'_, O>,
+) -> Result<(), WriteFault>
+    requires { out.old.held.items ≡ [] }
+    ensures written { WritesText result (text_with certified.now.script certified.now.certificate) (O.seen out.old.sink.now) (O.seen out.new.sink.now) }
+    ensures later { (O.seen out.old.sink.now).faults ≤ (O.seen out.new.sink.now).faults }
+    ensures same_reference { out.new.sink.ghost_name ≡ out.old.sink.ghost_name }
+{
+    match print(certified, out) {
+        Ok(()) => out.flush(),
+        Err(fault) => Err(fault),
+    }
+}
+
+// Writes the whole text, in pieces of at most 4,096 bytes.
+fn print_gathered<O: Sink>(certified: &Certified, output: &mut O) -> Result<(), WriteFault>
+    ensures written { WritesText result (text_with certified.now.script certified.now.certificate) (O.seen output.old) (O.seen output.new) }
+    ensures later { (O.seen output.old).faults ≤ (O.seen output.new).faults }
+{
+    let mut gathered = Gathered::new(output);
+    let written = print_flushed(certified, &mut gathered);
+    let Gathered { sink, held: _held } = gathered;
+    // No effect at run time. The proof reads what the output holds from this use.
+    let _ = &*sink;
+    written
+}
+
+// Writes the whole text, and gives the status.
+fn end_done<O: Sink>(certified: &Certified, output: &mut O) -> Status
+    ensures ends { EndsWith status.Done (text_with certified.now.script certified.now.certificate) result (O.seen output.old) (O.seen output.new) }
+    ensures later { (O.seen output.old).faults ≤ (O.seen output.new).faults }
+{
+    match print_gathered(certified, output) {
+        Ok(()) => Status::Done,
+        Err(_) => Status::WriteFault,
+    }
+}
+
+/// Reads a script to the end of the source, and writes its statements in printed form and a certificate of its query.
+///
+/// The script is one of CREATE STREAM lines and then one CREATE QUERY line, between blank lines and comments. The first line that is
+/// not is refused with `error L Word` and `Invalid`, as is the line of a query of more than 4,096 parts, or whose certificate has more
+/// than 262,144 nodes, with the word `Limit`. Nothing is written before it is known what the command comes to, so nothing is where the
+/// source fails, where it has more bytes than can be counted, and for want of memory. Where the sink fails, a front of the text was
+/// written.
+pub fn certify<I: Source, O: Sink>(alloc: Global, input: &mut I, output: &mut O) -> Status
+    ensures ends { CommandEnds Certifies result (I.seen input.old) (I.seen input.new) (O.seen output.old) (O.seen output.new) }
+    ensures input_later { (I.seen input.old).faults ≤ (I.seen input.new).faults }
+    ensures output_later { (O.seen output.old).faults ≤ (O.seen output.new).faults }
+{
+    let Ok(mut reader) = LineReader::new(alloc) else {
+        return Status::Memory;
+    };
+    match read_certified(alloc, &mut reader, input) {
+        Ok(certified) => end_done(&certified, output),
+        Err(end) => end_early(end, output),
+    }
+}

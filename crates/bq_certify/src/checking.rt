@@ -1,0 +1,78 @@
+//! The check of a script with a certificate.
+ghost use Rattle.std.specs.Prelude.{◌≡◌, ◌≤◌};
+ghost use Rattle.bq_feed.specs.Reading.{fresh};
+ghost use Rattle.bq_certify.specs.Commands.{CommandEnds};
+ghost use Rattle.bq_certify.specs.Checking.{Checks};
+ghost use Rattle.bq_certify.specs.Telling.{Tells};
+ghost use Rattle.bq_certify.specs.Collecting.{IsSound, ReadsAnswer, outcome_of};
+
+use crate::answering::{write_decision, write_no};
+use crate::collecting::read_certificate;
+use crate::telling::{status_after, tell_end};
+use bq_certificate::{CheckAnswer, check};
+use bq_feed::LineReader;
+use bq_io::{Sink, Source, Status};
+use bq_script::{Script, ScriptEnd, read_script};
+use std::alloc::Global;
+
+/// A script, and the answer to the certificate behind its query.
+#[derive(Drop)]
+pub struct Checked {
+    pub script: Script,
+    pub answer: CheckAnswer,
+}
+
+// Reads a script with a certificate, with a fresh reader, and checks the certificate.
+fn read_answer<I: Source>(
+    alloc: Global,
+    reader: &mut LineReader,
+    input: &mut I,
+) -> Result<Checked, ScriptEnd>
+    requires { reader.old ≡ fresh }
+    ensures reads { ReadsAnswer result (I.seen input.old) (I.seen input.new) }
+    ensures later { (I.seen input.old).faults ≤ (I.seen input.new).faults }
+{
+    match read_script(alloc, reader, input) {
+        Ok(script) => match read_certificate(alloc, reader, input) {
+            Ok(certificate) => {
+                let answer = check(&script.query, &certificate);
+                Ok(Checked { script, answer })
+            }
+            Err(end) => Err(end),
+        },
+        Err(end) => Err(end),
+    }
+}
+
+// Writes the answer to a certificate, and gives the status.
+fn tell_answer<O: Sink>(checked: &Checked, output: &mut O) -> Status
+    requires { IsSound checked.now }
+    ensures { Tells (outcome_of checked.now).status result (O.seen output.old) (O.seen output.new) (outcome_of checked.now).text }
+{
+    match checked.answer {
+        CheckAnswer::Yes { decision, parts } => status_after(
+            write_decision(output, &checked.script, decision, parts),
+            Status::Done,
+        ),
+        CheckAnswer::No { place, reason } => {
+            status_after(write_no(output, place, reason), Status::Invalid)
+        }
+    }
+}
+
+/// Checks the certificate that stands behind the query of a script: reads the script to its end, and then writes what the certificate
+/// says of the query, or the first node at fault, or the first line that is refused, in one line. Nothing is written where the source
+/// fails, has too many bytes, or no memory is found.
+pub fn check_script<I: Source, O: Sink>(alloc: Global, input: &mut I, output: &mut O) -> Status
+    ensures ends { CommandEnds Checks result (I.seen input.old) (I.seen input.new) (O.seen output.old) (O.seen output.new) }
+    ensures input_later { (I.seen input.old).faults ≤ (I.seen input.new).faults }
+    ensures output_later { (O.seen output.old).faults ≤ (O.seen output.new).faults }
+{
+    let Ok(mut reader) = LineReader::new(alloc) else {
+        return Status::Memory;
+    };
+    match read_answer(alloc, &mut reader, input) {
+        Ok(checked) => tell_answer(&checked, output),
+        Err(end) => tell_end(end, output),
+    }
+}

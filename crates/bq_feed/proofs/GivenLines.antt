@@ -1,0 +1,165 @@
+-- The lines that were given so far, out of the bytes that were taken.
+use Rattle.std.proofs.Common.{◌≡◌, ℕ, ◌+◌, ◌-◌, ◌^◌, ◌<◌, ◌≤◌, ◌⊎◌, inl, inr, Bool, true, false, List, [], ◌∷◌, ◌++◌, length, refl, sym, ap, ◌∙◌, subst, append_assoc, append-nil, length-append, arith, None, Some, IfSome}
+use Rattle.std.specs.declared.option.Option.{Option}
+use Rattle.std.specs.Io.KnownBytes.{Consumes}
+use Rattle.std.proofs.KnownBytes.{Consumes-nil, Consumes-trans}
+use Rattle.std.proofs.lemmas.Bool.{false≢true}
+use Rattle.bq_io.specs.Source.{SourceState}
+use Rattle.bq_text.specs.Lines.{lines}
+use Rattle.bq_feed.specs.Reading.{Reading, fresh, IsPlain, IsLine, fed, last, IsBuffered, NextLine, TakesAll, IsBegun, answer_to}
+use Rattle.bq_feed.proofs.LineTexts.{lines-given}
+use Rattle.bq_feed.specs.Texts.{text_of}
+use Rattle.bq_feed.specs.GivenLines.{GivenLines}
+use Rattle.bq_feed.proofs.TextLines.{text_of-append, text_of-one, length-text_of-append, length-text_of-cons}
+
+-- The reader gave a line, or called it too long.
+pub record Step (long : Bool) (old new : Reading) (source now : SourceState) : Type 0 where
+  pub got : List ℕ
+  pub given : List ℕ
+  pub line : List ℕ
+  pub whole : old.ahead ++ got ≡ given ++ new.ahead
+  pub taken : Consumes source.left now.left got
+  pub count : new.taken ≡ old.taken + length got
+  pub near : length old.ahead ≤ 4096 → length new.ahead ≤ 4096
+  pub counted : (new.lines ≤ new.taken) × (new.taken < 2 ^ 64)
+  pub unended : old.ended ≡ false
+  pub form : IsLine given line new.ended
+  pub plain : IsPlain line
+  pub begun : IsBegun long new.line line
+  pub short : long ≡ false → length new.line ≤ 1024
+  pub lines : new.lines ≡ old.lines + 1
+  pub over : new.ended ≡ true → (new.ahead ≡ []) × (new.taken < 2 ^ 64 - 1) × TakesAll source now got
+  pub later : source.faults ≤ now.faults
+
+pub shorter : (old line new : List ℕ) → old ≡ line ++ 10 ∷ new → length old ≤ 4096 → length new ≤ 4096
+shorter old line new e le = omega (arith, ap length e, length-append line (10 ∷ new))
+
+-- a line that lay whole in what was read
+abbrev pub step-buffered : (old new : Reading) (source : SourceState) → IsBuffered old new → Step false old new source source
+step-buffered old new source b = record {
+  got = [];
+  given = new.line ++ 10 ∷ [];
+  line = new.line;
+  whole = append-nil old.ahead ∙ b.whole ∙ sym (append_assoc new.line (10 ∷ []) new.ahead);
+  taken = Consumes-nil source.left;
+  count = omega (arith, b.taken);
+  near = shorter old.ahead new.line new.ahead b.whole;
+  counted = b.counted;
+  unended = b.ended.0;
+  form = fed refl b.ended.1;
+  plain = b.plain;
+  begun = refl;
+  short = λ _. b.short;
+  lines = b.lines;
+  over = λ e. absurd (false≢true (sym b.ended.1 ∙ e));
+  later = omega arith;
+}
+
+-- the source has ended in this call
+over-now : (old new : Reading) (source now : SourceState) (got : List ℕ) → old.ended ≡ false → (new.ahead ≡ []) × (new.taken < 2 ^ 64 - 1) × ((old.ended ≡ true) ⊎ TakesAll source now got)
+    → (new.ahead ≡ []) × (new.taken < 2 ^ 64 - 1) × TakesAll source now got
+over-now old new source now got unended (none, few, inl ended) = absurd (false≢true (sym unended ∙ ended))
+over-now old new source now got unended (none, few, inr all) = (none, few, all)
+
+-- a line for which the source was read
+pub step-read : (long : Bool) (old new : Reading) (source now : SourceState) → NextLine (answer_to long) old new source now → Step long old new source now
+step-read true old new source now n = record {
+  got = n.got;
+  given = n.given;
+  line = n.tells.0;
+  whole = n.whole;
+  taken = n.taken;
+  count = n.count;
+  near = λ _. n.near;
+  counted = n.counted;
+  unended = n.tells.4;
+  form = n.tells.1;
+  plain = n.tells.2;
+  begun = n.tells.3;
+  short = λ e. absurd (false≢true (sym e));
+  lines = n.tells.5;
+  over = λ e. over-now old new source now n.got n.tells.4 (n.over e);
+  later = n.later;
+}
+step-read false old new source now n = record {
+  got = n.got;
+  given = n.given;
+  line = new.line;
+  whole = n.whole;
+  taken = n.taken;
+  count = n.count;
+  near = λ _. n.near;
+  counted = n.counted;
+  unended = n.tells.3;
+  form = n.tells.0;
+  plain = n.tells.1;
+  begun = refl;
+  short = λ _. n.tells.2;
+  lines = n.tells.4;
+  over = λ e. over-now old new source now n.got n.tells.3 (n.over e);
+  later = n.later;
+}
+
+-- nothing was taken
+pub given-none : (source : SourceState) → GivenLines source source fresh [] []
+given-none source = record {
+  taken = Consumes-nil source.left;
+  count = refl;
+  ahead = omega arith;
+  cut = λ rest _. refl;
+  whole = λ _. refl;
+  size = omega arith;
+  over = λ e. absurd (false≢true e);
+  later = omega arith;
+  numbered = refl;
+  counted = (omega arith, omega arith);
+}
+
+-- what was left before is what was taken since, where that was all
+pub spent : (a b : Option (List ℕ)) (bytes got front : List ℕ) → Consumes a b bytes → IfSome b (λ left. left ≡ got) → bytes ++ got ≡ front → IfSome a (λ all. all ≡ front)
+spent None b bytes got front p q e = tt
+spent (Some x) None bytes got front p q e = absurd p
+spent (Some x) (Some y) bytes got front p q e = p ∙ ap (λ l. bytes ++ l) q ∙ e
+
+line-size : (given line : List ℕ) (ended : Bool) → IsLine given line ended → length given ≤ length line + 1
+line-size given line ended (fed e u) = omega (arith, ap length e, length-append line (10 ∷ []))
+line-size given line ended (last e s d) = omega (arith, ap length e)
+
+line-whole : (given line : List ℕ) (ended : Bool) → IsLine given line ended → ended ≡ false → given ≡ line ++ 10 ∷ []
+line-whole given line ended (fed e u) f = e
+line-whole given line ended (last e s d) f = absurd (false≢true (sym f ∙ d))
+
+-- one more line was given
+pub given-line : (long : Bool) (old new : Reading) (source now now' : SourceState) (front : List ℕ) (given : List (List ℕ)) → GivenLines source now old front given
+    → (step : Step long old new now now') → GivenLines source now' new (front ++ step.given) (given ++ step.line ∷ [])
+given-line long old new source now now' front given g step =
+    let moved : (front ++ old.ahead) ++ step.got ≡ (front ++ step.given) ++ new.ahead =
+    append_assoc front old.ahead step.got ∙ ap (λ l. front ++ l) step.whole ∙ sym (append_assoc front step.given new.ahead) in
+    record {
+      taken = subst (Consumes source.left now'.left) moved (Consumes-trans source.left now.left now'.left (front ++ old.ahead) step.got g.taken step.taken);
+      count = omega (arith, step.count, g.count, ap length moved, length-append (front ++ old.ahead) step.got);
+      ahead = step.near g.ahead;
+      cut = λ rest none.
+          ap lines (append_assoc front step.given rest) ∙ g.cut (step.given ++ rest) (λ ended. absurd (false≢true (sym step.unended ∙ ended)))
+          ∙ ap (λ l. given ++ l) (lines-given step.given step.line new.ended step.form step.plain rest none)
+          ∙ sym (append_assoc given (step.line ∷ []) (lines rest));
+      whole = λ unended.
+          ap (λ l. l ++ step.given) (g.whole step.unended)
+          ∙ ap (λ l. text_of given ++ l) (line-whole step.given step.line new.ended step.form unended ∙ sym (text_of-one step.line))
+          ∙ sym (text_of-append given (step.line ∷ []));
+      size = omega (
+        arith,
+        g.size,
+        length-append front step.given,
+        line-size step.given step.line new.ended step.form,
+        length-text_of-append given (step.line ∷ []),
+        length-text_of-cons step.line [],
+      );
+      over = λ ended.
+          let done = step.over ended in
+          let all : (front ++ old.ahead) ++ step.got ≡ front ++ step.given = moved ∙ ap (λ l. (front ++ step.given) ++ l) done.0 ∙ append-nil (front ++ step.given) in
+          (done.0, done.1, spent source.left now.left (front ++ old.ahead) step.got (front ++ step.given) g.taken done.2.whole all);
+      later = omega (arith, g.later, step.later);
+      numbered = omega (arith, g.numbered, step.lines, length-append given (step.line ∷ []));
+      counted = step.counted;
+    }

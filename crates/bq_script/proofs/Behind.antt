@@ -1,0 +1,46 @@
+-- What stands behind the query.
+use Rattle.std.proofs.Common.{ℕ, List, ◌++◌, refl, ap, ◌∙◌, append_assoc, ◌∷◌}
+use Rattle.bq_io.specs.Source.{SourceState}
+use Rattle.bq_feed.specs.Reading.{Reading}
+use Rattle.bq_model.specs.Query.{QueryValue}
+use Rattle.bq_schema.specs.Streams.{Shape}
+use Rattle.bq_parser.specs.declared.tree.SelectAst.{SelectAst}
+use Rattle.bq_script.specs.declared.texts.TextAnswer.{TextAnswer}
+use Rattle.bq_script.specs.declared.texts.TextAnswer.TheVariants as answers
+use Rattle.bq_script.specs.Script as scripts
+use Rattle.bq_script.specs.Script.{Asks}
+use Rattle.bq_script.specs.Ends.{GivesText, ReadsBlank, blank_end}
+
+-- a line that is not blank is refused
+pub behind : (answer : TextAnswer) (source now : SourceState) (given : List (List ℕ)) (reader : Reading) → GivesText answer source now given reader → ReadsBlank (blank_end answer reader.lines) source now given reader
+behind answers.Text source now given reader t = record {
+  blanks = t.blanks;
+  line = t.line;
+  front = t.front;
+  lines = t.lines;
+  blank = t.blank;
+  holds = (t.holds.0, scripts.loud t.holds.2 t.holds.3 refl);
+}
+behind answers.TooLong source now given reader t = record {
+  blanks = t.blanks;
+  line = t.line;
+  front = t.front;
+  lines = t.lines;
+  blank = t.blank;
+  holds = (t.holds.0, scripts.IsMisplaced.too_long t.holds.1 refl);
+}
+behind answers.End source now given reader t = t
+behind answers.ReadFault source now given reader t = t
+behind answers.ByteLimit source now given reader t = t
+
+-- lines that ask for a query still do where more lines stand behind them
+pub asks-more : (lines more : List (List ℕ)) (streams : List Shape) (name : List ℕ) (select : SelectAst) (q : QueryValue) (number : ℕ) → Asks lines streams name select q number → Asks (lines ++ more) streams name select q number
+asks-more lines more streams name select q number a = record {
+  before = a.before;
+  line = a.line;
+  behind = a.behind ++ more;
+  whole = ap (λ l. l ++ more) a.whole ∙ append_assoc a.before (a.line ∷ a.behind) more;
+  create = a.create;
+  is = a.is;
+  number_is = a.number_is;
+}

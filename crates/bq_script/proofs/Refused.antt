@@ -1,0 +1,94 @@
+-- Texts that are no statement within the limits.
+use Rattle.std.proofs.Common.{◌≡◌, ℕ, inl, inr, Bool, true, false, List, [], ◌∷◌, ◌++◌, refl, sym, ap, ◌∙◌, Ok}
+use Rattle.std.proofs.lemmas.Bool.{false≢true}
+use Rattle.bq_lexer.specs.declared.token.Token.{Token}
+use Rattle.bq_lexer.specs.declared.token.TokenKind.{TokenKind}
+use Rattle.bq_lexer.specs.declared.token.TokenKind.TheVariants as kinds
+use Rattle.bq_lexer.specs.Tokens.{tokens}
+use Rattle.bq_schema.specs.Streams.{Shape}
+use Rattle.bq_parser.specs.declared.parsing.ParseError.{ParseError}
+use Rattle.bq_parser.specs.declared.parsing.ParseError.TheVariants as parse_errors
+use Rattle.bq_parser.specs.declared.tree.Statement.{Statement}
+use Rattle.bq_parser.specs.declared.tree.Statement.TheVariants as statements
+use Rattle.bq_parser.specs.Grammar.{Lexeme, key, statement_tokens, semicolon, Spells}
+use Rattle.bq_parser.specs.Syntax.{IsStatement, lexemes, lexeme_as}
+use Rattle.bq_parser.specs.Refusal.{IsRefusal}
+use Rattle.bq_parser.proofs.RoundTrip.{faults_are_none}
+use Rattle.bq_session.specs.declared.word.Word.TheVariants.{Syntax}
+use Rattle.bq_session.specs.Decided.{parse_word}
+use Rattle.bq_script.specs.Script.{Creates, IsScriptStatement, refused, outside, misplaced, limited}
+use Rattle.bq_script.specs.Creations.{is_create_key, is_create, begin_with_create}
+
+-- whether the first of what tokens say is CREATE
+abbrev says_create : Lexeme → Bool
+says_create (key k) = is_create_key k
+says_create _ = false
+
+abbrev first_says_create : List Lexeme → Bool
+first_says_create [] = false
+first_says_create (l ∷ ls) = says_create l
+
+-- whether the statement creates a stream or a query
+abbrev creates : Statement → Bool
+creates (statements.CreateStream name columns) = true
+creates (statements.CreateQuery name select) = true
+creates (statements.Explain name) = false
+creates (statements.DropQuery name) = false
+
+kind_says : (k : TokenKind) (w : List ℕ) → is_create k ≡ says_create (lexeme_as k w)
+kind_says kinds.Word w = refl
+kind_says (kinds.Reserved k) w = refl
+kind_says kinds.Integer w = refl
+kind_says kinds.Comma w = refl
+kind_says kinds.Point w = refl
+kind_says kinds.Open w = refl
+kind_says kinds.Close w = refl
+kind_says kinds.Less w = refl
+kind_says kinds.Equal w = refl
+kind_says kinds.Greater w = refl
+kind_says kinds.Semi w = refl
+
+tokens_say : (text : List ℕ) (ts : List Token) → begin_with_create (Ok ts) ≡ first_says_create (lexemes text ts)
+tokens_say text [] = refl
+tokens_say text (t ∷ ts) = kind_says t.kind _
+
+statement_says : (s : Statement) → first_says_create (statement_tokens s) ≡ creates s
+statement_says (statements.CreateStream name columns) = refl
+statement_says (statements.CreateQuery name select) = refl
+statement_says (statements.Explain name) = refl
+statement_says (statements.DropQuery name) = refl
+
+ended_says : (s : Statement) → first_says_create (statement_tokens s ++ semicolon ∷ []) ≡ creates s
+ended_says (statements.CreateStream name columns) = refl
+ended_says (statements.CreateQuery name select) = refl
+ended_says (statements.Explain name) = refl
+ended_says (statements.DropQuery name) = refl
+
+spelled_says : (ls : List Lexeme) (s : Statement) → Spells ls s → first_says_create ls ≡ creates s
+spelled_says ls s (whole, inl e) = ap first_says_create e ∙ statement_says s
+spelled_says ls s (whole, inr e) = ap first_says_create e ∙ ended_says s
+
+text_says : (text : List ℕ) (s : Statement) → IsStatement text s → begin_with_create (tokens text) ≡ creates s
+text_says text s is = ap begin_with_create is.lexed ∙ tokens_say text is.its_tokens ∙ spelled_says (lexemes text is.its_tokens) s is.spelled
+
+does_create : (s : Statement) → creates s ≡ true → Creates s
+does_create (statements.CreateStream name columns) e = tt
+does_create (statements.CreateQuery name select) e = tt
+does_create (statements.Explain name) e = absurd (false≢true e)
+does_create (statements.DropQuery name) e = absurd (false≢true e)
+
+creates_nothing : (s : Statement) → creates s ≡ false → ¬ (Creates s)
+creates_nothing (statements.CreateStream name columns) e = absurd (false≢true (sym e))
+creates_nothing (statements.CreateQuery name select) e = absurd (false≢true (sym e))
+creates_nothing (statements.Explain name) e = λ c. c
+creates_nothing (statements.DropQuery name) e = λ c. c
+
+-- a text that begins with CREATE is refused by its own word
+pub refused-create : (streams : List Shape) (text : List ℕ) (error : ParseError) → begin_with_create (tokens text) ≡ true → IsRefusal text error → IsScriptStatement streams text (refused (parse_word error))
+refused-create streams text (parse_errors.Syntax at) begins fault = outside (λ s is. faults_are_none text at s fault is) refl
+refused-create streams text (parse_errors.Limit what) begins (s, is, passed) = limited s what is (does_create s (sym (text_says text s is) ∙ begins)) passed refl
+
+-- another text has no place
+pub refused-other : (streams : List Shape) (text : List ℕ) (error : ParseError) → begin_with_create (tokens text) ≡ false → IsRefusal text error → IsScriptStatement streams text (refused Syntax)
+refused-other streams text (parse_errors.Syntax at) begins fault = outside (λ s is. faults_are_none text at s fault is) refl
+refused-other streams text (parse_errors.Limit what) begins (s, is, passed) = misplaced s is (creates_nothing s (sym (text_says text s is) ∙ begins)) refl

@@ -1,0 +1,5 @@
+pub mod Creations
+pub mod Ends
+pub mod Laws
+pub mod Script
+pub mod Texts
