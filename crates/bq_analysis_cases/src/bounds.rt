@@ -1,10 +1,11 @@
 //! Difference bounds, and what they imply.
 ghost use Rattle.std.specs.Prelude.{◌≡◌, ◌≤◌, ◌<◌, ◌+◌, length, IfOk};
-ghost use Rattle.bq_closure.specs.Solutions.{IsSatisfiable};
+ghost use Rattle.bq_constraints.specs.Solutions.{IsSatisfiable};
 
 use crate::fault::Fault;
 use arrayvec::ArrayVec;
-use bq_closure::{Bounds, Constraint};
+use bq_closure::Bounds;
+use bq_constraints::Constraint;
 use bq_io::{Sink, write_all};
 use bq_text::{cut, read_i64};
 use std::alloc::Global;

@@ -6,11 +6,11 @@ use Rattle.bq_model.specs.declared.part.Sign.{Sign}
 use Rattle.bq_model.specs.Query.{QueryValue}
 use Rattle.bq_model.proofs.Split.{StartsWith, IsFeasible}
 use Rattle.bq_model.specs.Parts.{IsPart}
-use Rattle.bq_closure.specs.declared.constraint.Constraint.{Constraint}
-use Rattle.bq_closure.specs.Solutions.{Solves, IsSatisfiable, IsChain, IsNegativeCycle}
-use Rattle.bq_closure.specs.PartConstraints.{of_prefix}
-use Rattle.bq_closure.proofs.Chains.{contains_at}
-use Rattle.bq_closure.proofs.Feasible.{satisfiable_if}
+use Rattle.bq_constraints.specs.declared.constraint.Constraint.{Constraint}
+use Rattle.bq_constraints.specs.Solutions.{Solves, IsSatisfiable, IsChain, IsNegativeCycle}
+use Rattle.bq_constraints.specs.PartConstraints.{of_prefix}
+use Rattle.bq_constraints.proofs.Numbers.{contains_at}
+use Rattle.bq_constraints.proofs.Feasible.{satisfiable_if}
 
 -- a solution keeps within the sum of a chain
 pub sum_sound : (cs : List Constraint) (es : List ℕ) (i j : ℕ) (s : ℤ) (x : ℕ → ℤ) → Solves x cs → IsChain cs es i j s → x i ≤ℤ (s +ℤ x j)

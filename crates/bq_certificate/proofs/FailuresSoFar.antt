@@ -10,7 +10,7 @@ use Rattle.bq_model.specs.declared.condition.Condition.TheVariants.{C1, C2, C3}
 use Rattle.bq_model.specs.declared.part.Sign.{Sign}
 use Rattle.bq_model.specs.Query.{QueryValue, attr_lt, is_filter}
 use Rattle.bq_model.specs.Violation.{Breaks, Failure, failure_lt, condition_lt, condition_index, Fails, IsFirstFailure, IsViolation, first}
-use Rattle.bq_closure.proofs.Chains.{slice_get-append}
+use Rattle.bq_constraints.proofs.Numbers.{slice_get-append}
 use Rattle.bq_certificate.specs.Nodes.{Node}
 use Rattle.bq_certificate.specs.Reading.{IsGood}
 use Rattle.bq_certificate.specs.Leaves.{leaves_of}

@@ -2,8 +2,8 @@
 use Rattle.std.proofs.Common.{◌≡◌, ℕ, ◌+◌, ◌*◌, ◌≤◌, ℤ, pos, ◌+ℤ◌, IsTrue, IfSome, cond, nat_eq, true, false, Bool, Option, Some, None, List, All, Contains, get_or, refl, sym, ◌∙◌, ap, subst, arith}
 use Rattle.std.proofs.lemmas.List.Elements.{All-contains, Contains-get_or}
 use Rattle.std.proofs.lemmas.Int.{ints}
-use Rattle.bq_closure.specs.declared.constraint.Constraint.{Constraint}
-use Rattle.bq_closure.specs.Solutions.{IsWithin}
+use Rattle.bq_constraints.specs.declared.constraint.Constraint.{Constraint}
+use Rattle.bq_constraints.specs.Solutions.{IsWithin}
 use Rattle.bq_certificate.specs.declared.line.Path.{Path}
 use Rattle.bq_certificate.specs.Rules.{HasBound, AreClosed}
 use Rattle.bq_certificate.specs.Bounds.{bound_at, IsModest, AreModest, IsAtMost, KeepsBy, Keeps, KeepsEach, Tells}

@@ -8,13 +8,12 @@ use Rattle.bq_model.specs.declared.part.Sign.{Sign}
 use Rattle.bq_model.specs.Query.{QueryValue, attrs_of}
 use Rattle.bq_model.specs.Assignment.{Assignment}
 use Rattle.bq_model.specs.Order.{IsElement, IsLess, IsEqual, IsBounded, IsLeast, IsGreatest}
-use Rattle.bq_closure.specs.Answers.{IsAlwaysLess, IsAlwaysEqual}
-use Rattle.bq_closure.specs.Nodes.{node_of, offset_of, element_at, assignment_of, nodes_of}
-use Rattle.bq_closure.specs.PartConstraints.{of_prefix}
-use Rattle.bq_closure.specs.Solutions.{Solves, IsUpper}
+use Rattle.bq_constraints.specs.Nodes.{IsAlwaysLess, IsAlwaysEqual, node_of, offset_of, element_at, assignment_of, nodes_of}
+use Rattle.bq_constraints.specs.PartConstraints.{of_prefix}
+use Rattle.bq_constraints.specs.Solutions.{Solves, IsUpper}
 use Rattle.bq_model.proofs.Has.{Has-from_contains}
-use Rattle.bq_closure.proofs.NodeFacts.{node_in, nodes_agree}
-use Rattle.bq_closure.proofs.InPart.{solves_in_part, in_part_from_solves, less_in_part, less_from_part, equal_in_part, equal_from_part}
+use Rattle.bq_constraints.proofs.NodeFacts.{node_in, nodes_agree}
+use Rattle.bq_constraints.proofs.InPart.{solves_in_part, in_part_from_solves, less_in_part, less_from_part, equal_in_part, equal_from_part}
 use Rattle.bq_certificate.specs.declared.line.Path.{Path}
 use Rattle.bq_certificate.specs.Rules.{IsBound, HasBound, IsGoodLeaf}
 use Rattle.bq_certificate.proofs.LeafTable.{table_of}

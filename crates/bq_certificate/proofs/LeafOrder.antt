@@ -8,9 +8,9 @@ use Rattle.bq_model.specs.declared.part.Sign.{Sign}
 use Rattle.bq_model.specs.Query.{QueryValue, attrs_of}
 use Rattle.bq_model.specs.Order.{IsElement, IsLess, IsEqual, IsBounded}
 use Rattle.bq_model.proofs.Has.{Has, first, later, Has-from_contains, Contains-from_has}
-use Rattle.bq_closure.specs.Nodes.{place_of, node_of, offset_of}
-use Rattle.bq_closure.specs.PartConstraints.{of_prefix}
-use Rattle.bq_closure.proofs.NodeFacts.{node_in, place_below}
+use Rattle.bq_constraints.specs.Nodes.{place_of, node_of, offset_of}
+use Rattle.bq_constraints.specs.PartConstraints.{of_prefix}
+use Rattle.bq_constraints.proofs.NodeFacts.{node_in, place_below}
 use Rattle.bq_certificate.specs.Rules.{IsBound, HasBound}
 use Rattle.bq_certificate.specs.Bounds.{bound_at, IsAtMost}
 use Rattle.bq_certificate.specs.OnLeaf.{IsLeafTable, SaysAbove}

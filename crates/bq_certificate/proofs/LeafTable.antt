@@ -5,13 +5,12 @@ use Rattle.std.proofs.lemmas.Bool.Decides.{nat_tests}
 use Rattle.std.proofs.lemmas.List.Elements.{All-contains}
 use Rattle.bq_model.proofs.Has.{Has, first, later, Has-from_contains, Contains-from_has}
 use Rattle.bq_model.proofs.Unique.{Ascends, more, ascends_from}
-use Rattle.bq_closure.specs.declared.constraint.Constraint.{Constraint}
-use Rattle.bq_closure.specs.Solutions.{IsChain}
-use Rattle.bq_closure.specs.Table.{Table}
-use Rattle.bq_closure.specs.Closure.{AtMost, IsClosed, Covers}
-use Rattle.bq_closure.proofs.Solve.{Within}
-use Rattle.bq_closure.proofs.Chains.{contains_at}
-use Rattle.bq_closure.proofs.Options.{some_is}
+use Rattle.bq_constraints.specs.declared.constraint.Constraint.{Constraint}
+use Rattle.bq_constraints.specs.Solutions.{IsChain}
+use Rattle.bq_constraints.specs.Table.{Table, AtMost, IsClosed, Covers}
+use Rattle.bq_constraints.proofs.Solve.{Within}
+use Rattle.bq_constraints.proofs.Numbers.{contains_at}
+use Rattle.bq_constraints.proofs.Options.{some_is}
 use Rattle.bq_certificate.specs.declared.line.Path.{Path}
 use Rattle.bq_certificate.specs.Rules.{IsPath, path_lt, ArePaths, IsBound, same, of_path, HasBound, AreClosed}
 use Rattle.bq_certificate.proofs.ChainSums.{sum_of, sum_is}

@@ -11,7 +11,7 @@ use Rattle.bq_certificate.specs.Nodes.{Node, split, infeasible, leaf}
 use Rattle.bq_certificate.specs.Rules.{IsNextPair, IsGoodNode}
 use Rattle.bq_certificate.specs.Reading.{following, after, AreGood, done, next, IsGood, HasParts}
 use Rattle.bq_certificate.specs.declared.line.Path.{Path}
-use Rattle.bq_closure.proofs.Chains.{slice_get-append}
+use Rattle.bq_constraints.proofs.Numbers.{slice_get-append}
 use Rattle.bq_certificate.specs.Leaves.{leaf_at, leaves_of}
 use Rattle.bq_certificate.specs.TreeLaws.{LeavesAreParts}
 use Rattle.bq_certificate.proofs.ChainSums.{no_assignment}

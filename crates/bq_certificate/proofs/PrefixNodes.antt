@@ -9,10 +9,10 @@ use Rattle.bq_model.specs.declared.part.Sign.{Sign}
 use Rattle.bq_model.specs.Query.{QueryValue, attrs_of}
 use Rattle.bq_model.specs.Parts.{pairs}
 use Rattle.bq_model.proofs.Has.{Has, first, later, Has-append_cases}
-use Rattle.bq_closure.specs.declared.constraint.Constraint.{Constraint}
-use Rattle.bq_closure.specs.Nodes.{node_of, between, constraints_of, turned}
-use Rattle.bq_closure.specs.PartConstraints.{sign_of, of_atoms, of_signs, of_prefix}
-use Rattle.bq_closure.proofs.NodeFacts.{Known, place_below}
+use Rattle.bq_constraints.specs.declared.constraint.Constraint.{Constraint}
+use Rattle.bq_constraints.specs.Nodes.{node_of, between, constraints_of, turned}
+use Rattle.bq_constraints.specs.PartConstraints.{sign_of, of_atoms, of_signs, of_prefix}
+use Rattle.bq_constraints.proofs.NodeFacts.{Known, place_below}
 use Rattle.bq_model.specs.Query.{consts_of}
 use Rattle.bq_model.proofs.Elements.{SidesIn, sides_in, HasElement}
 use Rattle.bq_model.proofs.Local.{PairIn, pair_in}

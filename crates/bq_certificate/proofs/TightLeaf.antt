@@ -7,13 +7,12 @@ use Rattle.bq_model.specs.Query.{QueryValue, attrs_of}
 use Rattle.bq_model.specs.Parts.{pairs, IsPart}
 use Rattle.bq_model.proofs.Has.{Has, first}
 use Rattle.bq_model.proofs.Split.{IsFeasible, one_under}
-use Rattle.bq_closure.specs.declared.constraint.Constraint.{Constraint}
-use Rattle.bq_closure.specs.Solutions.{Solves, IsSatisfiable, IsUpper, HasNoUpper}
-use Rattle.bq_closure.specs.Answers.{IsUpperAnswer}
-use Rattle.bq_closure.specs.PartConstraints.{of_prefix}
-use Rattle.bq_closure.proofs.Feasible.{feasible_if}
-use Rattle.bq_closure.proofs.Options.{none_is}
-use Rattle.bq_closure.proofs.Solve as solve
+use Rattle.bq_constraints.specs.declared.constraint.Constraint.{Constraint}
+use Rattle.bq_constraints.specs.Solutions.{Solves, IsSatisfiable, IsUpper, HasNoUpper, IsUpperAnswer}
+use Rattle.bq_constraints.specs.PartConstraints.{of_prefix}
+use Rattle.bq_constraints.proofs.Feasible.{feasible_if}
+use Rattle.bq_constraints.proofs.Options.{none_is}
+use Rattle.bq_constraints.proofs.Solve as solve
 use Rattle.bq_certificate.specs.declared.line.Path.{Path}
 use Rattle.bq_certificate.specs.Rules.{ArePaths, IsBound, same, of_path, AreClosed, IsGoodLeaf}
 use Rattle.bq_certificate.proofs.ChainSums.{sum_sound}

@@ -5,9 +5,9 @@ use Rattle.std.proofs.lemmas.Bool.Decides.{nat_tests}
 use Rattle.std.proofs.Math.ListN.{drop_of_length-le}
 use Rattle.std.proofs.lemmas.List.{drop_more}
 use Rattle.std.proofs.lemmas.List.Elements.{All-contains}
-use Rattle.bq_closure.proofs.Chains.{contains_at}
-use Rattle.bq_closure.specs.declared.constraint.Constraint.{Constraint}
-use Rattle.bq_closure.specs.Solutions.{IsWithin, IsChain, IsNegativeCycle}
+use Rattle.bq_constraints.proofs.Numbers.{contains_at}
+use Rattle.bq_constraints.specs.declared.constraint.Constraint.{Constraint}
+use Rattle.bq_constraints.specs.Solutions.{IsWithin, IsChain, IsNegativeCycle}
 use Rattle.bq_certificate.specs.declared.chain.Chain.{Chain}
 use Rattle.bq_certificate.specs.Chained.{Closes, numbered, IsChainFrom, IsChainOf}
 

@@ -7,9 +7,9 @@ use Rattle.bq_model.specs.declared.atom.Op.{Op}
 use Rattle.bq_model.specs.declared.part.Sign.{Sign}
 use Rattle.bq_model.specs.Query.{QueryValue}
 use Rattle.bq_model.specs.Parts.{pairs, AreParts}
-use Rattle.bq_closure.specs.declared.constraint.Constraint.{Constraint}
-use Rattle.bq_closure.specs.Solutions.{IsNegativeCycle}
-use Rattle.bq_closure.specs.PartConstraints.{of_prefix}
+use Rattle.bq_constraints.specs.declared.constraint.Constraint.{Constraint}
+use Rattle.bq_constraints.specs.Solutions.{IsNegativeCycle}
+use Rattle.bq_constraints.specs.PartConstraints.{of_prefix}
 use Rattle.bq_certificate.specs.declared.line.Path.{Path}
 use Rattle.bq_certificate.specs.Nodes.{Node, split, infeasible, leaf}
 use Rattle.bq_certificate.specs.Rules.{IsPath, path_lt, ArePaths, IsBound, same, of_path, HasBound, AreClosed, IsGoodLeaf}
@@ -18,8 +18,8 @@ use Rattle.bq_certificate.proofs.LeavesInOrder.{leaves_are_parts}
 use Rattle.bq_model.proofs.Has.{Has, first, later, Has-from_contains}
 use Rattle.bq_model.proofs.Unique.{none, more}
 use Rattle.bq_model.proofs.Split.{pairs_from}
-use Rattle.bq_closure.proofs.Joined.{All-from_has}
-use Rattle.bq_closure.proofs.Options.{some_is}
+use Rattle.bq_constraints.proofs.Joined.{All-from_has}
+use Rattle.bq_constraints.proofs.Options.{some_is}
 use Rattle.bq_certificate.specs.Reading.{IsGood, done, next}
 
 -- the only column, S.a

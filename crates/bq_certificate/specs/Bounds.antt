@@ -1,7 +1,7 @@
 -- The bounds of a leaf as a table with 13 nodes to a row.
 use Rattle.std.specs.Prelude.{◌≡◌, ℕ, ◌+◌, ◌*◌, ◌≤◌, ℤ, pos, neg_ℤ, ◌+ℤ◌, ◌≤ℤ◌, cond, nat_eq, Option, Some, None, List, slice_index_or, slice_set, IfSome}
-use Rattle.bq_closure.specs.declared.constraint.Constraint.{Constraint}
-use Rattle.bq_closure.specs.Solutions.{IsChain}
+use Rattle.bq_constraints.specs.declared.constraint.Constraint.{Constraint}
+use Rattle.bq_constraints.specs.Solutions.{IsChain}
 use Rattle.bq_certificate.specs.declared.line.Path.{Path}
 use Rattle.bq_certificate.specs.Rules.{IsPath, ArePaths, IsBound}
 

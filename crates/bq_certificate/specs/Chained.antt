@@ -1,7 +1,7 @@
 -- What is read off the numbers of constraints: chains.
 use Rattle.std.specs.Prelude.{◌≡◌, ℕ, ◌-◌, ◌<◌, ℤ, pos, ◌<ℤ◌, cond, nat_eq, Option, Some, None, List, length, slice_get}
-use Rattle.bq_closure.specs.declared.constraint.Constraint.{Constraint}
-use Rattle.bq_closure.specs.Solutions.{IsChain}
+use Rattle.bq_constraints.specs.declared.constraint.Constraint.{Constraint}
+use Rattle.bq_constraints.specs.Solutions.{IsChain}
 use Rattle.bq_certificate.specs.declared.chain.Chain.{Chain}
 
 -- the constraint with a number, from 1

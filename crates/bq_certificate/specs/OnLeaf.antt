@@ -7,8 +7,8 @@ use Rattle.bq_model.specs.declared.part.Sign.{Sign}
 use Rattle.bq_model.specs.Query.{QueryValue, attrs_of}
 use Rattle.bq_model.specs.Order.{IsLess, IsEqual}
 use Rattle.bq_model.specs.Links.{IsInequality, IsMinRef, IsMaxRef}
-use Rattle.bq_closure.specs.Nodes.{node_of, offset_of}
-use Rattle.bq_closure.specs.PartConstraints.{of_prefix}
+use Rattle.bq_constraints.specs.Nodes.{node_of, offset_of}
+use Rattle.bq_constraints.specs.PartConstraints.{of_prefix}
 use Rattle.bq_certificate.specs.declared.line.Path.{Path}
 use Rattle.bq_certificate.specs.declared.leaf.Leaf.{Leaf}
 use Rattle.bq_certificate.specs.declared.links.Side.{Side}

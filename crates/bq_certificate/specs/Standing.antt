@@ -3,9 +3,8 @@ use Rattle.std.specs.Prelude.{◌≡◌, ℕ, ◌-◌, ◌≤◌, Bool, cond, Op
 use Rattle.bq_model.specs.declared.part.Sign.{Sign}
 use Rattle.bq_model.specs.Query.{QueryValue, attrs_of}
 use Rattle.bq_model.specs.Parts.{pairs}
-use Rattle.bq_closure.specs.declared.constraint.Constraint.{Constraint}
-use Rattle.bq_closure.specs.PartConstraints.{of_prefix}
-use Rattle.bq_closure.specs.Solutions.{IsWithin}
+use Rattle.bq_constraints.specs.PartConstraints.{of_prefix}
+use Rattle.bq_constraints.specs.Solutions.{IsWithin}
 use Rattle.bq_certificate.specs.declared.place.Place.{Place}
 
 -- how many constraints a sign stands for
@@ -13,12 +12,6 @@ abbrev pub width : Sign → ℕ
 width Sign.Lt = 1
 width Sign.Eq = 2
 width Sign.Gt = 1
-
--- the constraints that one more sign adds
-pub record AddsSign (q : QueryValue) (signs : List Sign) (s : Sign) (cs : List Constraint) : Type 0 where
-  pub more : of_prefix q (signs ++ s ∷ []) ≡ of_prefix q signs ++ cs
-  pub within : All (IsWithin 12) cs
-  pub long : length cs ≡ width s
 
 -- the signs are those of some first pairs, and the constraints are theirs
 pub record Stands (q : QueryValue) (p : Place) : Type 0 where

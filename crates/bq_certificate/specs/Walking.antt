@@ -10,7 +10,7 @@ use Rattle.bq_certificate.specs.declared.walk.Walk.{Walk}
 use Rattle.bq_certificate.specs.Nodes.{Node, split, infeasible, leaf, grouped}
 use Rattle.bq_certificate.specs.Rules.{IsGoodNode, IsGoodLeaf, Breaks}
 use Rattle.bq_certificate.specs.Bounds.{Tells}
-use Rattle.bq_closure.specs.PartConstraints.{of_prefix}
+use Rattle.bq_constraints.specs.PartConstraints.{of_prefix}
 use Rattle.bq_certificate.specs.declared.line.Path.{Path}
 use Rattle.bq_certificate.specs.Reading.{after, AreGood}
 use Rattle.bq_certificate.specs.declared.decision.DecisionSoFar.{DecisionSoFar}

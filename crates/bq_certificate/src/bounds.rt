@@ -1,12 +1,12 @@
 //! The bounds that the paths of a leaf give.
 ghost use Rattle.std.specs.Prelude.{◌≡◌, ◌≢◌, ℕ, ◌+◌, ◌*◌, ◌<◌, ◌≤◌, pos, neg_ℤ, ◌≤ℤ◌, IfSome, IsTrue, ◌↔◌, length, All, slice_index_or, cond, nat_eq};
-ghost use Rattle.bq_closure.specs.Solutions.{IsWithin};
+ghost use Rattle.bq_constraints.specs.Solutions.{IsWithin};
 ghost use Rattle.bq_certificate.specs.Nodes.{grouped};
 ghost use Rattle.bq_certificate.specs.Bounds.{bound_at, IsModest, AreModest, IsSumOf, AddsPath, ReadsBounds, IsAtMost, Keeps, KeepsEach};
 
 use crate::chain::{Chain, chain_of};
 use crate::line::{Line, Path};
-use bq_closure::Constraint;
+use bq_constraints::Constraint;
 
 // Whether a path names two different nodes.
 fn names_nodes(attrs: u8, path: &Path) -> bool

@@ -1,9 +1,9 @@
 //! Chains of constraints that are named by their numbers.
 ghost use Rattle.std.specs.Prelude.{◌≡◌, ℕ, ◌<◌, ◌≤◌, ◌*◌, pos, neg_ℤ, ◌≤ℤ◌, IfSome, IsTrue, ◌↔◌, length, All};
-ghost use Rattle.bq_closure.specs.Solutions.{IsWithin, IsNegativeCycle};
+ghost use Rattle.bq_constraints.specs.Solutions.{IsWithin, IsNegativeCycle};
 ghost use Rattle.bq_certificate.specs.Chained.{Closes, numbered, IsChainFrom, IsChainOf};
 
-use bq_closure::Constraint;
+use bq_constraints::Constraint;
 
 /// The nodes at the ends of a chain, and the sum of its bounds.
 #[derive(Clone, Copy)]

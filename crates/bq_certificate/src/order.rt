@@ -1,65 +1,20 @@
 //! What the bounds of a good leaf say of its part: the order of elements, and which columns are bounded.
-ghost use Rattle.std.specs.Prelude.{◌≡◌, ◌↔◌, ◌≤◌, ◌≤ℤ◌, ◌+ℤ◌, ◌-ℤ◌, pos, neg_ℤ, IsTrue, Contains, None, length};
+ghost use Rattle.std.specs.Prelude.{◌≡◌, ◌↔◌, ◌≤◌, ◌≤ℤ◌, pos, neg_ℤ, IsTrue, Contains, None};
 ghost use Rattle.bq_model.specs.Query.{attrs_of};
 ghost use Rattle.bq_model.specs.Order.{IsElement, IsLess, IsEqual, IsBounded};
-ghost use Rattle.bq_closure.specs.Nodes.{place_of, node_of, offset_of, IsWithinLimit};
 ghost use Rattle.bq_certificate.specs.Bounds.{bound_at};
 ghost use Rattle.bq_certificate.specs.OnLeaf.{IsLeaf, SaysAbove};
 
 use crate::bounds::{between, is_at_most};
 use crate::leaf::Leaf;
+use bq_constraints::{difference, node, place_of};
 use bq_model::{Attr, Element};
-
-// The place of a column among some, or their number where it is none of them.
-fn place_of(columns: &[Attr], attr: Attr) -> usize
-    ensures value { result ≡ place_of columns.now attr }
-    ensures within { result ≤ length columns.now }
-{
-    for (i, a) in columns.iter().enumerate() {
-        if a.stream == attr.stream && a.column == attr.column {
-            return i;
-        }
-    }
-    columns.len()
-}
 
 /// Whether a column is among some.
 pub fn is_among(columns: &[Attr], attr: Attr) -> bool
     ensures { IsTrue result ↔ Contains columns.now attr }
 {
     place_of(columns, attr) < columns.len()
-}
-
-// The node of an element.
-fn node(attrs: &[Attr], element: Element) -> u8
-    requires { length attrs.now ≤ 12 }
-    ensures { result ≡ node_of attrs.now element }
-{
-    match element {
-        Element::Attr(attr) => place_of(attrs, attr) as u8 + 1,
-        Element::Const(_) => 0,
-    }
-}
-
-// What an element adds to its node.
-fn offset(element: Element) -> i64
-    ensures { result ≡ offset_of element }
-{
-    match element {
-        Element::Attr(_) => 0,
-        Element::Const(k) => k,
-    }
-}
-
-// How much the node of x is above that of y, where x is so much above y.
-fn difference(x: Element, y: Element, by: i64) -> i64
-    requires left { IsWithinLimit x }
-    requires right { IsWithinLimit y }
-    requires low { neg_ℤ (pos 1) ≤ℤ by }
-    requires high { by ≤ℤ pos 0 }
-    ensures { result ≡ offset_of y -ℤ offset_of x +ℤ by }
-{
-    offset(y) - offset(x) + by
 }
 
 // Whether a bound says that x is at most so much above y.

@@ -1,32 +1,18 @@
 //! Where the walk over the nodes of a certificate stands.
-ghost use Rattle.std.specs.Prelude.{◌≡◌, ◌+◌, ◌<◌, ◌≤◌, ◌++◌, [], ◌∷◌, length, All};
-ghost use Rattle.bq_model.specs.Query.{attrs_of};
+ghost use Rattle.std.specs.Prelude.{◌≡◌, ◌+◌, ◌<◌, ◌≤◌, ◌++◌, [], ◌∷◌, length};
 ghost use Rattle.bq_model.specs.Parts.{pairs as pairs_of};
-ghost use Rattle.bq_closure.specs.PartConstraints.{sign_of, of_atoms};
-ghost use Rattle.bq_closure.specs.Solutions.{IsWithin};
 ghost use Rattle.bq_certificate.specs.Reading.{following};
-ghost use Rattle.bq_certificate.specs.Standing.{width, AddsSign, Stands, Drops, next_sign, at};
+ghost use Rattle.bq_certificate.specs.Standing.{width, Stands, Drops, next_sign, at};
 
 use arrayvec::ArrayVec;
-use bq_closure::{Constraint, constraints};
-use bq_model::{Element, Op, Pair, Query, Sign, Signs};
+use bq_constraints::{Constraint, add_each, of_next_sign, of_query};
+use bq_model::{Pair, Query, Sign, Signs};
 
 /// The signs of the first pairs, and the constraints of the query's comparisons and of these signs.
 #[derive(Drop)]
 pub struct Place {
     pub signs: Signs,
     pub constraints: ArrayVec<Constraint, 268>,
-}
-
-// How the sides of a comparison stand to each other where it holds.
-fn sign_of(op: Op) -> Sign
-    ensures { result ≡ sign_of op }
-{
-    match op {
-        Op::Lt => Sign::Lt,
-        Op::Eq => Sign::Eq,
-        Op::Gt => Sign::Gt,
-    }
 }
 
 // How many constraints a sign stands for.
@@ -51,42 +37,6 @@ fn next_sign(sign: Sign) -> Option<Sign>
     }
 }
 
-// Adds these constraints, in order.
-fn push_each(list: &mut ArrayVec<Constraint, 268>, cs: &[Constraint])
-    requires { length list.old.items + length cs.now ≤ 268 }
-    ensures { list.new.items ≡ list.old.items ++ cs.now }
-{
-    for c in cs {
-        list.push(*c);
-    }
-}
-
-// The constraints of the query's comparisons.
-fn of_query(q: &Query) -> ArrayVec<Constraint, 268>
-    ensures items { result.items ≡ of_atoms (attrs_of q.now.atoms) q.now.atoms }
-    ensures within { All (IsWithin 12) result.items }
-    ensures few_atoms { length q.now.atoms ≤ 16 }
-    ensures few_attrs { length (attrs_of q.now.atoms) ≤ 12 }
-{
-    let mut list = ArrayVec::new();
-    for atom in q.atoms() {
-        let added = constraints(atom.left, sign_of(atom.op), atom.right, q);
-        push_each(&mut list, added.as_slice());
-    }
-    list
-}
-
-// The constraints that one more sign adds.
-fn of_sign(q: &Query, pairs: &[Pair], signs: &[Sign], sign: Sign) -> ArrayVec<Constraint, 2>
-    requires pairs { pairs.now ≡ pairs_of q.now }
-    requires room { length signs.now < length pairs.now }
-    requires few_attrs { length (attrs_of q.now.atoms) ≤ 12 }
-    ensures { AddsSign q.now signs.now sign result.items }
-{
-    let pair = pairs[signs.len()];
-    constraints(Element::Attr(pair.left), sign, pair.right, q)
-}
-
 impl Place {
     /// Where the first node stands: there is no sign yet.
     pub fn root(q: &Query, pairs: &[Pair]) -> Place
@@ -109,8 +59,8 @@ impl Place {
         ensures stands { Stands q.now self.new }
         ensures signs { self.new.signs.items ≡ self.old.signs.items ++ sign ∷ [] }
     {
-        let added = of_sign(q, pairs, self.signs.as_slice(), sign);
-        push_each(&mut self.constraints, added.as_slice());
+        let added = of_next_sign(q, pairs, self.signs.as_slice(), sign);
+        add_each(&mut self.constraints, added.as_slice());
         self.signs.push(sign);
     }
 

@@ -1,7 +1,7 @@
 //! Whether a node of a certificate meets its rules.
 ghost use Rattle.std.specs.Prelude.{◌≡◌, suc, ◌<◌, ◌≤◌, length, All};
 ghost use Rattle.bq_model.specs.Parts.{pairs as pairs_of};
-ghost use Rattle.bq_closure.specs.Solutions.{IsWithin, IsNegativeCycle};
+ghost use Rattle.bq_constraints.specs.Solutions.{IsWithin, IsNegativeCycle};
 ghost use Rattle.bq_certificate.specs.Nodes.{grouped};
 ghost use Rattle.bq_certificate.specs.Standing.{Stands};
 ghost use Rattle.bq_certificate.specs.Walking.{IsUnless, JudgesLeaf};
@@ -11,7 +11,7 @@ use crate::bounds::{bounds_of, is_closed};
 use crate::chain::is_negative_cycle;
 use crate::line::Line;
 use crate::place::Place;
-use bq_closure::Constraint;
+use bq_constraints::Constraint;
 use bq_model::{Pair, Query, Sign};
 
 /// The rule of a split: it is at the next pair.

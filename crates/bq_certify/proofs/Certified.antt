@@ -1,11 +1,11 @@
 -- What certifying a script comes to.
-use Rattle.std.proofs.Common.{◌≡◌, ℕ, ◌+◌, true, false, List, [], ◌∷◌, ◌++◌, length, refl, sym, ap, ◌∙◌, subst, append_assoc, length-append, arith, Err}
-use Rattle.std.proofs.lemmas.Bool.{false≢true}
+use Rattle.std.proofs.Common.{◌≡◌, ℕ, ◌+◌, None, Some, List, [], ◌∷◌, ◌++◌, length, refl, sym, ap, ◌∙◌, subst, append_assoc, append-nil, length-append, arith, Err}
 use Rattle.std.proofs.lemmas.List.Elements.{All-from_recursion}
 use Rattle.bq_io.specs.Source.{SourceState}
 use Rattle.bq_model.specs.Query.{QueryValue}
 use Rattle.bq_text.specs.Lines.{lines}
 use Rattle.bq_feed.specs.Reading.{Reading}
+use Rattle.bq_feed.proofs.GivenEnds.{front-lines, took-lines, took-all}
 use Rattle.bq_schema.specs.Streams.{Shape}
 use Rattle.bq_parser.specs.declared.tree.SelectAst.{SelectAst}
 use Rattle.bq_parser.specs.declared.tree.Statement.{Statement}
@@ -25,7 +25,7 @@ use Rattle.bq_script.specs.Texts.{script_text}
 use Rattle.bq_script.specs.Ends.{GaveScript, GaveLine, GaveAll, ReadsBlank}
 use Rattle.bq_io.specs.declared.status.Status.TheVariants as status
 use Rattle.bq_certify.specs.Commands.{Outcome, ComesTo}
-use Rattle.bq_certify.specs.Certifying.{Certifies, refusal, certified}
+use Rattle.bq_certify.specs.Certifying.{Certifies, refusal}
 use Rattle.bq_certify.specs.Certifying as certifying
 use Rattle.bq_certify.specs.Ending.{StopsAt}
 use Rattle.bq_certify.specs.Certified.{MakesFor, ends_with}
@@ -57,32 +57,30 @@ asks-then given more all streams name select q number a none e = record {
 pub comes-large : (script : Script) (source now : SourceState) (reader : Reading) → GaveScript script source now reader → IsTooLarge script.query → ComesTo Certifies source now (refusal script.line Limit)
 comes-large script source now reader g large =
     let none = none-behind g.given script.catalog g.name g.select script.query script.line g.asks g.last in
-    let all : lines (g.front ++ reader.ahead) ≡ g.given ++ lines reader.ahead = g.lines.cut reader.ahead (λ ended. (g.lines.over ended).0) in
+    let all : lines g.front ≡ g.given ++ [] = front-lines source now reader g.front g.given g.lines ∙ sym (append-nil g.given) in
     record {
-      text = g.front ++ reader.ahead;
-      taken = g.lines.taken;
+      text = g.front;
+      took = took-lines source now reader g.front g.given g.lines;
       comes = certifying.large script.catalog g.name g.select script.query script.line
-          (asks-then g.given (lines reader.ahead) (lines (g.front ++ reader.ahead)) script.catalog g.name g.select script.query script.line g.asks none all) large refl;
-      all = λ h. absurd (false≢true h);
+          (asks-then g.given [] (lines g.front) script.catalog g.name g.select script.query script.line g.asks none all) large refl;
+      needed = omega (arith, ap length (front-lines source now reader g.front g.given g.lines), g.last);
     }
 
 -- a line behind the query says something
 pub comes-misplaced : (script : Script) (source now now' : SourceState) (old new : Reading) (number : ℕ) (word : Word) (g : GaveScript script source now old) → ¬ IsTooLarge script.query
     → GaveLine source now' g.given new (λ place line. (number ≡ place) × IsMisplaced line word) → ComesTo Certifies source now' (refusal number word)
 comes-misplaced script source now now' old new number word g small t =
-    let others = lines new.ahead in
-    let more = t.blanks ++ t.line ∷ others in
+    let more = t.blanks ++ t.line ∷ [] in
     let none = none-behind g.given script.catalog g.name g.select script.query script.line g.asks g.last in
-    let all : lines (t.front ++ new.ahead) ≡ g.given ++ more =
-    t.lines.cut new.ahead (λ ended. (t.lines.over ended).0) ∙ append_assoc g.given (t.blanks ++ t.line ∷ []) others ∙ ap (λ l. g.given ++ l) (append_assoc t.blanks (t.line ∷ []) others) in
+    let all : lines t.front ≡ g.given ++ more = front-lines source now' new t.front (g.given ++ more) t.lines in
     let place : number ≡ script.line + length t.blanks + 1 = omega (arith, t.holds.0, g.last, length-append g.given t.blanks) in
     record {
-      text = t.front ++ new.ahead;
-      taken = t.lines.taken;
+      text = t.front;
+      took = took-lines source now' new t.front (g.given ++ more) t.lines;
       comes = certifying.misplaced script.catalog g.name g.select script.query script.line
-          (asks-then g.given more (lines (t.front ++ new.ahead)) script.catalog g.name g.select script.query script.line g.asks none all) small t.blanks t.line others word refl
+          (asks-then g.given more (lines t.front) script.catalog g.name g.select script.query script.line g.asks none all) small t.blanks t.line [] word refl
           (All-from_recursion IsBlank t.blanks t.blank) t.holds.1 (ap (λ n. refusal n word) place);
-      all = λ h. absurd (false≢true h);
+      needed = omega (arith, ap length all, length-append g.given more, length-append t.blanks (t.line ∷ []), t.holds.0, length-append g.given t.blanks);
     }
 
 -- blank lines stand behind the query, up to the end of the source
@@ -90,20 +88,20 @@ pub comes-whole : (script : Script) (certificate : List Line) (source now now' :
     → AreLines certificate → IsGood script.query (nodes_of certificate) → GaveAll source now' g.given new → ComesTo Certifies source now' (ends_with script certificate)
 comes-whole script certificate source now now' old new g small are good t =
     let none = none-behind g.given script.catalog g.name g.select script.query script.line g.asks g.last in
-    let written : Statement → Outcome = λ s. record { status = status.Done; text = script_text script.catalog s ++ certificate_text certificate; whole = true } in
+    let written : Statement → Outcome = λ s. record { status = status.Done; text = script_text script.catalog s ++ certificate_text certificate; needs = None } in
     record {
       text = t.text;
-      taken = t.lines.all.taken;
+      took = took-all source now' t.text t.lines.all;
       comes = certifying.whole script.catalog g.name g.select script.query script.line
           (asks-then g.given t.blanks (lines t.text) script.catalog g.name g.select script.query script.line g.asks none t.lines.are) small
           (All-from_recursion IsBlank t.blanks t.blank) certificate are good (ap written g.states);
-      all = λ _. t.lines.all;
+      needed = t.lines.all;
     }
 
 -- reading the lines behind the query stops
 pub stops-behind : (script : Script) (end : ScriptEnd) (source now now' : SourceState) (old new : Reading) (g : GaveScript script source now old) → ¬ IsTooLarge script.query
     → ReadsBlank (Err end) source now' g.given new → StopsAt Certifies end source now'
-stops-behind script (Refused number word) source now now' old new g small t = record { whole = false; comes = comes-misplaced script source now now' old new number word g small t }
+stops-behind script (Refused number word) source now now' old new g small t = record { needs = Some number; comes = comes-misplaced script source now now' old new number word g small t }
 stops-behind script ReadFault source now now' old new g small t = t.0
 stops-behind script ByteLimit source now now' old new g small t = record { text = t.text; taken = t.lines.taken; full = t.holds }
 stops-behind script Memory source now now' old new g small t = absurd t
@@ -113,7 +111,7 @@ pub stops-unmade : (script : Script) (end : ScriptEnd) (source now : SourceState
 stops-unmade script (Refused number word) source now reader g m =
     let P : Outcome → Type 0 = λ o. ComesTo Certifies source now o in
     let same : refusal number word ≡ refusal script.line Limit = ap (λ n. refusal n word) m.0 ∙ ap (λ w. refusal script.line w) m.1 in
-    record { whole = false; comes = subst P (sym same) (comes-large script source now reader g m.2) }
+    record { needs = Some number; comes = subst P (sym same) (comes-large script source now reader g m.2) }
 stops-unmade script ReadFault source now reader g m = absurd m
 stops-unmade script ByteLimit source now reader g m = absurd m
 stops-unmade script Memory source now reader g m = tt

@@ -1,8 +1,8 @@
 -- What a script with a certificate comes to.
-use Rattle.std.proofs.Common.{◌≡◌, ℕ, suc, ◌+◌, List, [], ◌∷◌, ◌++◌, length, true, false, refl, sym, ap, ◌∙◌, subst, append_assoc, length-append, arith, Ok, Err}
+use Rattle.std.proofs.Common.{◌≡◌, ℕ, suc, ◌+◌, List, [], ◌∷◌, ◌++◌, length, None, Some, refl, sym, ap, ◌∙◌, subst, append_assoc, length-append, arith, Ok, Err}
 use Rattle.bq_io.specs.Source.{SourceState}
-use Rattle.std.proofs.lemmas.Bool.{false≢true}
-use Rattle.bq_feed.specs.Reading.{Reading, TakesAll}
+use Rattle.bq_feed.specs.Reading.{Reading}
+use Rattle.bq_feed.proofs.GivenEnds.{took-all}
 use Rattle.bq_text.specs.Lines.{lines}
 use Rattle.bq_model.specs.Query.{QueryValue}
 use Rattle.bq_schema.specs.Streams.{Shape}
@@ -10,17 +10,20 @@ use Rattle.bq_parser.specs.declared.tree.SelectAst.{SelectAst}
 use Rattle.bq_session.specs.declared.word.Word.{Word}
 use Rattle.bq_certificate.specs.declared.line.Line.{Line}
 use Rattle.bq_certificate.specs.declared.answer.CheckAnswer.{CheckAnswer}
+use Rattle.bq_certificate.specs.declared.answer.CheckAnswer.TheVariants.{Yes, No}
 use Rattle.bq_certificate.specs.Nodes.{nodes_of}
 use Rattle.bq_certificate.specs.Reading.{IsCheckAnswer}
 use Rattle.bq_script.specs.declared.end.ScriptEnd.{ScriptEnd}
 use Rattle.bq_script.specs.declared.end.ScriptEnd.TheVariants.{Refused, ReadFault, ByteLimit, Memory}
 use Rattle.bq_script.specs.declared.script.Script.{Script}
-use Rattle.bq_script.specs.Script.{Asks, IsRefusedAt, at_line, at_end}
-use Rattle.bq_script.specs.Ends.{IfAtEnd, IsRefused, EndsEarly, GaveScript}
+use Rattle.bq_script.specs.Script.{Asks}
+use Rattle.bq_script.specs.Ends.{IsRefused, EndsEarly, GaveScript}
 use Rattle.bq_certify.specs.declared.checking.Checked.{Checked}
-use Rattle.bq_certify.specs.Certifying.{refusal, needs_all}
+use Rattle.bq_certify.specs.Commands.{AreNeeded}
+use Rattle.bq_certify.specs.Certifying.{refusal, lines_for}
+use Rattle.bq_certify.proofs.Endings.{early-needed}
 use Rattle.bq_certify.specs.Checking as checking
-use Rattle.bq_certify.specs.Checking.{answered, Checks}
+use Rattle.bq_certify.specs.Checking.{answered}
 use Rattle.bq_certify.specs.Collecting.{HasGiven, GaveRefused, Refuses, ReadsCertificate, name_of, ReadsAnswer}
 
 -- nothing stands behind the last line
@@ -42,20 +45,15 @@ asks-all given more all streams name select q number a last e = record {
   number_is = a.number_is;
 }
 
--- where a script ends before its query, all was read
-all-read : {all : List (List ℕ)} {number : ℕ} {word : Word} (P : Type 0) (refused : IsRefusedAt all number word) → IfAtEnd refused P → needs_all refused ≡ true → P
-all-read P (at_line before line others streams whole create is number_is) holds e = absurd (false≢true e)
-all-read P (at_end streams create word_is number_is) holds e = holds
-
 -- a line is refused before the query, or the script ends before it
 early : (source now : SourceState) (number : ℕ) (word : Word) → IsRefused number word source now → Refuses source now number word
 early source now number word r = record {
-  whole = needs_all r.refused;
+  needs = lines_for number r.refused;
   comes = record {
     text = r.text;
-    taken = r.taken;
+    took = r.took;
     comes = checking.early number word r.refused refl;
-    all = λ e. all-read (TakesAll source now r.text) r.refused r.all e;
+    needed = early-needed r.text number word source now r.refused r.last r.all;
   };
 }
 
@@ -80,14 +78,14 @@ later : (script : Script) (source now now' : SourceState) (reader : Reading) (nu
 later script source now now' reader number word g r =
     let place : number ≡ script.line + length r.before + 1 = omega (arith, r.number_is, g.last) in
     record {
-      whole = false;
+      needs = Some number;
       comes = record {
         text = r.text;
-        taken = r.taken;
+        took = r.took;
         comes = checking.later script.catalog g.name g.select script.query script.line
-            (asks-all g.given (r.before ++ r.line ∷ r.others) (lines r.text) script.catalog g.name g.select script.query script.line g.asks g.last r.are)
-            r.before r.line r.others r.certificate word refl r.collect r.refused (ap (λ n. refusal n word) place);
-        all = λ e. absurd (false≢true e);
+            (asks-all g.given (r.before ++ r.line ∷ []) (lines r.text) script.catalog g.name g.select script.query script.line g.asks g.last r.are)
+            r.before r.line [] r.certificate word refl r.collect r.refused (ap (λ n. refusal n word) place);
+        needed = omega (arith, ap length r.are, length-append g.given (r.before ++ r.line ∷ []), length-append r.before (r.line ∷ []), r.number_is);
       };
     }
 
@@ -98,6 +96,11 @@ ends-behind script source now now' reader ReadFault g r = r
 ends-behind script source now now' reader ByteLimit g r = r
 ends-behind script source now now' reader Memory g r = tt
 
+-- the answer to a certificate needs all lines
+answered-needs : (streams : List Shape) (name : List ℕ) (q : QueryValue) (answer : CheckAnswer) → (answered streams name q answer).needs ≡ None
+answered-needs streams name q (Yes decision parts) = refl
+answered-needs streams name q (No place why) = refl
+
 -- the certificate is checked
 pub ends-whole : (script : Script) (source now now' : SourceState) (reader : Reading) (certificate : List Line) (answer : CheckAnswer) (checked : Checked) → (g : GaveScript script source now reader)
     → ReadsCertificate (Ok certificate) source now' g.given → IsCheckAnswer script.query (nodes_of certificate) answer → checked ≡ record { script = script; answer = answer } → ReadsAnswer (Ok checked) source now'
@@ -105,11 +108,11 @@ ends-whole script source now now' reader certificate answer checked g c is e =
     subst (λ x. ReadsAnswer (Ok x) source now') (sym e) (
       record {
         text = c.text;
-        taken = c.all.taken;
+        took = took-all source now' c.text c.all;
         comes = checking.whole script.catalog g.name g.select script.query script.line
             (asks-all g.given c.behind (lines c.text) script.catalog g.name g.select script.query script.line g.asks g.last c.are)
             certificate answer c.collect is (ap (λ n. answered script.catalog n script.query answer) (ap name_of g.states));
-        all = λ _. c.all;
+        needed = subst (λ n. AreNeeded n source now' c.text) (sym (answered-needs script.catalog (name_of script.statement) script.query answer)) c.all;
       },
       record { nodes = nodes_of certificate; is = is; named = g.named },
     )

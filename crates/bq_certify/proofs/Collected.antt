@@ -5,7 +5,7 @@ use Rattle.bq_io.specs.Source.{SourceState}
 use Rattle.bq_text.specs.Lines.{lines}
 use Rattle.bq_feed.specs.Reading.{Reading}
 use Rattle.bq_feed.specs.GivenLines.{GivenLines}
-use Rattle.bq_feed.proofs.GivenEnds.{text-lines}
+use Rattle.bq_feed.proofs.GivenEnds.{front-lines, took-lines}
 use Rattle.bq_parser.specs.LineKind.{stripped}
 use Rattle.bq_session.specs.declared.word.Word.{Word}
 use Rattle.bq_session.specs.declared.word.Word.TheVariants as words
@@ -80,12 +80,12 @@ goes-on source now now' old new given certificate certificate' c t (l, is, (next
 refused-line : (source now now' : SourceState) (old new : Reading) (given : List (List ℕ)) (certificate : List Line) (word : Word) (P : ℕ → List ℕ → Type 0) → (c : Collected source now given old certificate)
     → (t : GaveLine source now' (given ++ c.behind) new P) → IsRefusedLine certificate t.line word → GaveRefused source now' given new.lines word
 refused-line source now now' old new given certificate word P c t refused = record {
-  text = t.front ++ new.ahead;
-  taken = t.lines.taken;
+  text = t.front;
+  took = took-lines source now' new t.front ((given ++ c.behind) ++ (t.blanks ++ t.line ∷ [])) t.lines;
   before = c.behind ++ t.blanks;
   line = t.line;
-  others = lines new.ahead;
-  are = text-lines source now' new t.front ((given ++ c.behind) ++ (t.blanks ++ t.line ∷ [])) t.lines ∙ grouped given c.behind t.blanks t.line (lines new.ahead);
+  are = front-lines source now' new t.front ((given ++ c.behind) ++ (t.blanks ++ t.line ∷ [])) t.lines
+      ∙ sym (append-nil ((given ++ c.behind) ++ (t.blanks ++ t.line ∷ []))) ∙ grouped given c.behind t.blanks t.line [];
   certificate = certificate;
   collect = collect-then-blank certificate c.behind t.blanks c.collect t.blank;
   refused = refused;

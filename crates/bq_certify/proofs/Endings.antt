@@ -1,7 +1,6 @@
 -- How the commands end, whatever they come to.
-use Rattle.std.proofs.Common.{◌≡◌, ℕ, true, List, sym, subst}
+use Rattle.std.proofs.Common.{◌≡◌, ℕ, List, [], ◌∷◌, ◌++◌, length, sym, ap, ◌∙◌, subst, length-append, arith}
 use Rattle.std.proofs.KnownBytes.{Keeps-refl}
-use Rattle.std.proofs.lemmas.Bool.{false≢true}
 use Rattle.std.specs.Io.KnownBytes.{Keeps}
 use Rattle.bq_io.specs.declared.status.Status.{Status}
 use Rattle.bq_io.specs.declared.status.Status.TheVariants as status
@@ -13,27 +12,29 @@ use Rattle.bq_session.specs.declared.word.Word.{Word}
 use Rattle.bq_script.specs.declared.end.ScriptEnd.{ScriptEnd}
 use Rattle.bq_script.specs.declared.end.ScriptEnd.TheVariants.{Refused, ReadFault, ByteLimit, Memory}
 use Rattle.bq_script.specs.Script.{IsRefusedAt, at_line, at_end}
-use Rattle.bq_script.specs.Ends.{EndsEarly, IfAtEnd}
-use Rattle.bq_certify.specs.Commands.{Outcome, ComesTo, WroteFront, CommandEnds, error_text}
-use Rattle.bq_certify.specs.Certifying.{needs_all, early_refusal}
+use Rattle.bq_script.specs.Ends.{EndsEarly, IfAtEnd, IsLast}
+use Rattle.bq_certify.specs.Commands.{Outcome, AreNeeded, ComesTo, WroteFront, CommandEnds, error_text}
+use Rattle.bq_certify.specs.Certifying.{lines_for, early_refusal}
 use Rattle.bq_certify.specs.Ending.{StopsAt, EndsWith, EndsBy}
 
--- all lines were read where the script ends before its query
-all-early : {all : List (List ℕ)} {number : ℕ} {word : Word} (refused : IsRefusedAt all number word) (P : Type 0) → IfAtEnd refused P → needs_all refused ≡ true → P
-all-early (at_line before line behind streams whole create is number_is) P h e = absurd (false≢true e)
-all-early (at_end streams create word_is number_is) P h e = h
+-- as many lines were read as a refusal before the query needs
+pub early-needed : (text : List ℕ) (number : ℕ) (word : Word) (source now : SourceState) (refused : IsRefusedAt (lines text) number word) → IsLast refused → IfAtEnd refused (TakesAll source now text)
+    → AreNeeded (lines_for number refused) source now text
+early-needed text number word source now (at_line before line behind streams whole create is number_is) last all =
+    omega (arith, ap length (whole ∙ ap (λ l. before ++ line ∷ l) last), length-append before (line ∷ []), number_is)
+early-needed text number word source now (at_end streams create word_is number_is) last all = all
 
 -- what an early end of the script comes to
 pub stops-early : (IsOutcome : List (List ℕ) → Outcome → Type 0)
     → ((all : List (List ℕ)) (number : ℕ) (word : Word) (refused : IsRefusedAt all number word) → IsOutcome all (early_refusal number word refused)) → (end : ScriptEnd) (source now : SourceState) (reader : Reading)
     → EndsEarly end source now reader → StopsAt IsOutcome end source now
 stops-early IsOutcome early (Refused number word) source now reader e = record {
-  whole = needs_all e.refused;
+  needs = lines_for number e.refused;
   comes = record {
     text = e.text;
-    taken = e.taken;
+    took = e.took;
     comes = early (lines e.text) number word e.refused;
-    all = λ h. all-early e.refused (TakesAll source now e.text) e.all h;
+    needed = early-needed e.text number word source now e.refused e.last e.all;
   };
 }
 stops-early IsOutcome early ReadFault source now reader e = e.0
@@ -67,7 +68,7 @@ keeps-same before after e = subst (λ (s : SinkState). Keeps before.written s.wr
 -- a command ends that stops before it has an answer
 pub stops : (IsOutcome : List (List ℕ) → Outcome → Type 0) (end : ScriptEnd) (s : Status) (source now : SourceState) (before after : SinkState)
     → StopsAt IsOutcome end source now → EndsBy end s before after → CommandEnds IsOutcome s source now before after
-stops IsOutcome (Refused number word) s source now before after p e = finishes IsOutcome (record { status = status.Invalid; text = error_text number word; whole = p.whole }) s source now before after tt p.comes e
+stops IsOutcome (Refused number word) s source now before after p e = finishes IsOutcome (record { status = status.Invalid; text = error_text number word; needs = p.needs }) s source now before after tt p.comes e
 stops IsOutcome ReadFault s source now before after p e = subst (λ t. CommandEnds IsOutcome t source now before after) (sym e.0) (p, keeps-same before after e.1)
 stops IsOutcome ByteLimit s source now before after p e = subst (λ t. CommandEnds IsOutcome t source now before after) (sym e.0) (p, keeps-same before after e.1)
 stops IsOutcome Memory s source now before after p e = subst (λ t. CommandEnds IsOutcome t source now before after) (sym e.0) (keeps-same before after e.1)

@@ -1,5 +1,5 @@
 -- What is found before a certificate is written.
-use Rattle.std.specs.Prelude.{◌≡◌, ℕ, ⊤, true, List, ◌++◌}
+use Rattle.std.specs.Prelude.{◌≡◌, ℕ, ⊤, None, List, ◌++◌}
 use Rattle.std.specs.declared.result.Result.{Result}
 use Rattle.std.specs.declared.result.Result.TheVariants.{Ok, Err}
 use Rattle.bq_io.specs.declared.status.Status.TheVariants as status
@@ -34,7 +34,7 @@ text_with script lines = script_text script.catalog script.statement ++ certific
 
 -- they are what is written at the end
 abbrev pub ends_with : Script → List Line → Outcome
-ends_with script lines = record { status = status.Done; text = text_with script lines; whole = true }
+ends_with script lines = record { status = status.Done; text = text_with script lines; needs = None }
 
 -- how reading ends: with a script and its certificate, or before
 abbrev pub ReadsCertified : Result Certified ScriptEnd → SourceState → SourceState → Type 0

@@ -1,5 +1,5 @@
 -- What `certify` comes to over the lines of a script.
-use Rattle.std.specs.Prelude.{◌≡◌, ℕ, ◌+◌, Bool, true, false, List, ◌∷◌, ◌++◌, length}
+use Rattle.std.specs.Prelude.{◌≡◌, ℕ, ◌+◌, Option, None, Some, List, ◌∷◌, ◌++◌, length}
 use Rattle.std.specs.List.{All}
 use Rattle.bq_io.specs.declared.status.Status.TheVariants as status
 use Rattle.bq_model.specs.Query.{QueryValue}
@@ -20,20 +20,20 @@ use Rattle.bq_certify.specs.Commands.{Outcome, error_text}
 
 -- a refused line, by its number and the word
 abbrev pub refusal : ℕ → Word → Outcome
-refusal number word = record { status = status.Invalid; text = error_text number word; whole = false }
+refusal number word = record { status = status.Invalid; text = error_text number word; needs = Some number }
 
--- whether a refusal before the query is known only once all lines were read: where the script ends before its query
-abbrev pub needs_all : {lines : List (List ℕ)} {number : ℕ} {word : Word} → IsRefusedAt lines number word → Bool
-needs_all (at_line before line behind streams whole create is number_is) = false
-needs_all (at_end streams create word_is number_is) = true
+-- how many lines must be read for a refusal before the query: those up to it; or all, where the script ends before its query
+abbrev pub lines_for : {lines : List (List ℕ)} (number : ℕ) {word : Word} → IsRefusedAt lines number word → Option ℕ
+lines_for number (at_line before line behind streams whole create is number_is) = Some number
+lines_for number (at_end streams create word_is number_is) = None
 
 -- a line that is refused before the query
 abbrev pub early_refusal : {lines : List (List ℕ)} (number : ℕ) (word : Word) → IsRefusedAt lines number word → Outcome
-early_refusal number word refused = record { status = status.Invalid; text = error_text number word; whole = needs_all refused }
+early_refusal number word refused = record { status = status.Invalid; text = error_text number word; needs = lines_for number refused }
 
 -- the statements of a script in printed form, and a certificate
 abbrev pub certified : List Shape → List ℕ → SelectAst → List Line → Outcome
-certified streams name select lines = record { status = status.Done; text = script_text streams (CreateQuery name select) ++ certificate_text lines; whole = true }
+certified streams name select lines = record { status = status.Done; text = script_text streams (CreateQuery name select) ++ certificate_text lines; needs = None }
 
 -- What it comes to: the first line that is refused before the query; the line of a query that is too large for a certificate; the first
 -- line behind it that says something; or else the script with a good certificate, whichever it is.

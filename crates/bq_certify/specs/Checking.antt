@@ -1,5 +1,5 @@
 -- What `check` comes to over the lines of a script with a certificate.
-use Rattle.std.specs.Prelude.{◌≡◌, ℕ, ◌+◌, ◌<◌, ◌≤◌, true, List, [], ◌∷◌, ◌++◌, length, codes, decimal}
+use Rattle.std.specs.Prelude.{◌≡◌, ℕ, ◌+◌, ◌<◌, ◌≤◌, None, List, [], ◌∷◌, ◌++◌, length, codes, decimal}
 use Rattle.bq_io.specs.declared.status.Status.TheVariants as status
 use Rattle.bq_model.specs.declared.decision.Decision.{Decision}
 use Rattle.bq_model.specs.declared.decision.Decision.TheVariants as decision
@@ -53,8 +53,8 @@ decision_text streams name q (decision.Violation part condition attr) parts =
 
 -- what the answer of the check comes to
 abbrev pub answered : List Shape → List ℕ → QueryValue → CheckAnswer → Outcome
-answered streams name q (Yes decision parts) = record { status = status.Done; text = decision_text streams name q decision parts; whole = true }
-answered streams name q (No place why) = record { status = status.Invalid; text = codes "no " ++ decimal place ++ 32 ∷ reason_text why ++ 10 ∷ []; whole = true }
+answered streams name q (Yes decision parts) = record { status = status.Done; text = decision_text streams name q decision parts; needs = None }
+answered streams name q (No place why) = record { status = status.Invalid; text = codes "no " ++ decimal place ++ 32 ∷ reason_text why ++ 10 ∷ []; needs = None }
 
 -- What it comes to: the first line that is refused before the query; the first line of the certificate that is refused; or else the
 -- answer to the certificate.

@@ -1,6 +1,5 @@
 -- How reading a certificate behind a query ends, and what a check finds.
-use Rattle.std.specs.Prelude.{◌≡◌, ℕ, ◌+◌, ⊤, Bool, List, [], ◌∷◌, ◌++◌, length}
-use Rattle.std.specs.Io.KnownBytes.{Consumes}
+use Rattle.std.specs.Prelude.{◌≡◌, ℕ, ◌+◌, ⊤, Option, List, [], ◌∷◌, ◌++◌, length}
 use Rattle.std.specs.declared.result.Result.{Result}
 use Rattle.std.specs.declared.result.Result.TheVariants.{Ok, Err}
 use Rattle.bq_io.specs.Counts.{Rose}
@@ -8,7 +7,7 @@ use Rattle.bq_io.specs.declared.status.Status.TheVariants as status
 use Rattle.bq_io.specs.Source.{SourceState}
 use Rattle.bq_text.specs.Lines.{lines}
 use Rattle.bq_feed.specs.Reading.{Reading, TakesAll}
-use Rattle.bq_feed.specs.GivenLines.{GivenLines}
+use Rattle.bq_feed.specs.GivenLines.{GivenLines, TookLines}
 use Rattle.bq_parser.specs.declared.tree.Statement.{Statement}
 use Rattle.bq_parser.specs.declared.tree.Statement.TheVariants as statements
 use Rattle.bq_parser.specs.Resolution.{HasNamed}
@@ -56,11 +55,10 @@ pub record GaveCertificate (source now : SourceState) (given : List (List ℕ)) 
 -- Behind the lines that were given and those of a certificate, the line of this number is refused.
 pub record GaveRefused (source now : SourceState) (given : List (List ℕ)) (number : ℕ) (word : Word) : Type 0 where
   pub text : List ℕ
-  pub taken : Consumes source.left now.left text
+  pub took : TookLines source now text
   pub before : List (List ℕ)
   pub line : List ℕ
-  pub others : List (List ℕ)
-  pub are : lines text ≡ given ++ (before ++ line ∷ others)
+  pub are : lines text ≡ given ++ (before ++ line ∷ [])
   pub certificate : List Line
   pub collect : Collect [] before certificate
   pub refused : IsRefusedLine certificate line word
@@ -76,8 +74,8 @@ ReadsCertificate (Err Memory) source now given = ⊤
 
 -- The check of a script comes to a refusal of this line, which is known once all lines were read or before.
 pub record Refuses (source now : SourceState) (number : ℕ) (word : Word) : Type 0 where
-  pub whole : Bool
-  pub comes : ComesTo Checks source now (record { status = status.Invalid; text = error_text number word; whole = whole })
+  pub needs : Option ℕ
+  pub comes : ComesTo Checks source now (record { status = status.Invalid; text = error_text number word; needs = needs })
 
 -- what the answer of the check of a script comes to
 abbrev pub outcome_of : Checked → Outcome

@@ -1,5 +1,5 @@
 -- How the commands on certificates end: what was read and written under each status.
-use Rattle.std.specs.Prelude.{◌≡◌, ℕ, ◌-◌, ◌^◌, Bool, true, List, [], ◌∷◌, ◌++◌, length, codes, decimal}
+use Rattle.std.specs.Prelude.{◌≡◌, ℕ, ◌-◌, ◌^◌, Option, None, Some, List, [], ◌∷◌, ◌++◌, length, codes, decimal}
 use Rattle.std.specs.Io.KnownBytes.{Consumes, Appends, Keeps}
 use Rattle.bq_io.specs.Counts.{Rose}
 use Rattle.bq_io.specs.declared.status.Status.{Status}
@@ -8,25 +8,32 @@ use Rattle.bq_io.specs.Source.{SourceState}
 use Rattle.bq_io.specs.Sink.{SinkState}
 use Rattle.bq_text.specs.Lines.{lines}
 use Rattle.bq_feed.specs.Reading.{TakesAll}
+use Rattle.bq_feed.specs.GivenLines.{TookLines}
 use Rattle.bq_session.specs.Replies.{word_text}
 use Rattle.bq_session.specs.declared.word.Word.{Word}
 
--- What a command comes to over some lines: its status, what it writes, and whether it comes to it only once all lines were read.
+-- What a command comes to over some lines: its status, what it writes, and how many lines must be read for it; all of them, where no
+-- number is told.
 pub record Outcome : Type 0 where
   pub status : Status
   pub text : List ℕ
-  pub whole : Bool
+  pub needs : Option ℕ
 
 -- the text for a refused line
 abbrev pub error_text : ℕ → Word → List ℕ
 error_text number word = codes "error " ++ decimal number ++ 32 ∷ word_text word ++ 10 ∷ []
 
--- The bytes of a text were taken, over the lines of which the command comes to this; all bytes, where all lines were to be read.
+-- so many lines stand in the text that was taken, or it is all there is
+abbrev pub AreNeeded : Option ℕ → SourceState → SourceState → List ℕ → Type 0
+AreNeeded None source now text = TakesAll source now text
+AreNeeded (Some n) source now text = length (lines text) ≡ n
+
+-- The lines of a text were taken, each of them whole and as many as are needed, and over them the command comes to this.
 pub record ComesTo (IsOutcome : List (List ℕ) → Outcome → Type 0) (source now : SourceState) (o : Outcome) : Type 0 where
   pub text : List ℕ
-  pub taken : Consumes source.left now.left text
+  pub took : TookLines source now text
   pub comes : IsOutcome (lines text) o
-  pub all : o.whole ≡ true → TakesAll source now text
+  pub needed : AreNeeded o.needs source now text
 
 -- it came to this, with this status, and its text was written
 pub record Finishes (IsOutcome : List (List ℕ) → Outcome → Type 0) (s : Status) (source now : SourceState) (before after : SinkState) : Type 0 where

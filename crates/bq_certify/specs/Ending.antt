@@ -1,5 +1,5 @@
 -- How a command on certificates ends: where its script is not taken, and where its text is known.
-use Rattle.std.specs.Prelude.{◌≡◌, ℕ, ⊤, Bool, List}
+use Rattle.std.specs.Prelude.{◌≡◌, ℕ, ⊤, Option, List}
 use Rattle.std.specs.Io.KnownBytes.{Appends}
 use Rattle.std.specs.declared.result.Result.{Result}
 use Rattle.std.specs.declared.result.Result.TheVariants.{Ok, Err}
@@ -15,8 +15,8 @@ use Rattle.bq_certify.specs.Commands.{Outcome, ComesTo, TakesMost, WroteFront, e
 
 -- it comes to a refusal of this line
 pub record Refuses (IsOutcome : List (List ℕ) → Outcome → Type 0) (number : ℕ) (word : Word) (source now : SourceState) : Type 0 where
-  pub whole : Bool
-  pub comes : ComesTo IsOutcome source now (record { status = status.Invalid; text = error_text number word; whole = whole })
+  pub needs : Option ℕ
+  pub comes : ComesTo IsOutcome source now (record { status = status.Invalid; text = error_text number word; needs = needs })
 
 -- What was read where a command stops before it has an answer. A refusal is what it comes to.
 abbrev pub StopsAt : (List (List ℕ) → Outcome → Type 0) → ScriptEnd → SourceState → SourceState → Type 0

@@ -10,10 +10,10 @@ use Rattle.bq_model.specs.Query.{QueryValue, attrs_of}
 use Rattle.bq_model.specs.Parts.{pairs}
 use Rattle.bq_model.proofs.Has.{Has, first, later, Has-from_contains, Contains-from_has}
 use Rattle.bq_model.proofs.Split.{pairs_from}
-use Rattle.bq_closure.specs.declared.constraint.Constraint.{Constraint}
-use Rattle.bq_closure.specs.PartConstraints.{of_prefix}
-use Rattle.bq_closure.specs.Solutions.{IsWithin, Solves, IsSatisfiable, IsChain, IsNegativeCycle}
-use Rattle.bq_closure.proofs.Chains.{contains_at}
+use Rattle.bq_constraints.specs.declared.constraint.Constraint.{Constraint}
+use Rattle.bq_constraints.specs.PartConstraints.{of_prefix}
+use Rattle.bq_constraints.specs.Solutions.{IsWithin, Solves, IsSatisfiable, IsChain, IsNegativeCycle}
+use Rattle.bq_constraints.proofs.Numbers.{contains_at}
 use Rattle.bq_certificate.specs.declared.line.Path.{Path}
 use Rattle.bq_certificate.specs.Rules.{IsPath, ArePaths, path_lt, IsBound, same, of_path, HasBound, AreClosed, IsGoodLeaf}
 use Rattle.bq_certificate.specs.declared.line.Line.{Line}

@@ -5,12 +5,11 @@ use Rattle.bq_model.specs.declared.part.Pair.{Pair}
 use Rattle.bq_model.specs.declared.part.Sign.{Sign}
 use Rattle.bq_model.specs.Query.{QueryValue, attrs_of}
 use Rattle.bq_model.specs.Parts.{pairs}
-use Rattle.bq_closure.specs.declared.constraint.Constraint.{Constraint}
+use Rattle.bq_constraints.specs.declared.constraint.Constraint.{Constraint}
 use Rattle.bq_closure.specs.BoundsValue.{BoundsValue}
-use Rattle.bq_closure.specs.PartConstraints.{of_atoms, of_prefix}
-use Rattle.bq_closure.specs.Solutions.{IsWithin}
-use Rattle.bq_lto_split.specs.Tree.{AddsSign}
-use Rattle.bq_lto_split.proofs.Steps.{of_no_prefix}
+use Rattle.bq_constraints.specs.PartConstraints.{of_atoms, of_prefix, AddsSign}
+use Rattle.bq_constraints.specs.Solutions.{IsWithin}
+use Rattle.bq_constraints.proofs.Prefix.{of_no_prefix}
 use Rattle.bq_certmake.specs.Tree.{IsNode}
 
 pub node_deeper : (q : QueryValue) (ps : List Pair) (pre : List Sign) (s : Sign) (b next : BoundsValue) (cs : List Constraint) → IsNode q ps pre b → length pre < length ps → AddsSign q pre s cs → next.attrs ≡ b.attrs → next.constraints ≡ b.constraints ++ cs → IsNode q ps (pre ++ s ∷ []) next

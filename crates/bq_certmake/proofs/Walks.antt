@@ -6,10 +6,10 @@ use Rattle.bq_model.specs.declared.part.Pair.{Pair}
 use Rattle.bq_model.specs.Query.{QueryValue, attrs_of}
 use Rattle.bq_model.specs.Parts.{pairs, IsPart}
 use Rattle.bq_model.proofs.Split.{IsFeasible}
-use Rattle.bq_closure.specs.declared.constraint.Constraint.{Constraint}
+use Rattle.bq_constraints.specs.declared.constraint.Constraint.{Constraint}
 use Rattle.bq_closure.specs.BoundsValue.{BoundsValue}
-use Rattle.bq_closure.specs.Solutions.{IsSatisfiable, IsNegativeCycle}
-use Rattle.bq_closure.proofs.Feasible.{feasible_if, satisfiable_if}
+use Rattle.bq_constraints.specs.Solutions.{IsSatisfiable, IsNegativeCycle}
+use Rattle.bq_constraints.proofs.Feasible.{feasible_if, satisfiable_if}
 use Rattle.bq_certificate.specs.declared.line.Line.{Line}
 use Rattle.bq_certificate.specs.declared.line.Line.TheVariants as line
 use Rattle.bq_certificate.specs.Nodes.{Node, leaf as leaf_node, grouped, nodes_of}

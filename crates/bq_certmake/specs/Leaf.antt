@@ -2,8 +2,8 @@
 use Rattle.std.specs.Prelude.{◌⊎◌, ◌≡◌, ◌≢◌, ℕ, ◌+◌, ◌*◌, ◌<◌, ◌≤◌, ℤ, true, List, [], ◌∷◌, ◌++◌, map, Result, Ok, Err}
 use Rattle.bq_model.proofs.Has.{Has}
 use Rattle.bq_model.proofs.Unique.{Ascends}
-use Rattle.bq_closure.specs.declared.constraint.Constraint.{Constraint}
-use Rattle.bq_closure.specs.Solutions.{IsUpper, HasNoUpper, IsChain}
+use Rattle.bq_constraints.specs.declared.constraint.Constraint.{Constraint}
+use Rattle.bq_constraints.specs.Solutions.{IsUpper, HasNoUpper, IsChain}
 use Rattle.bq_certificate.specs.declared.line.Path.{Path}
 use Rattle.bq_certificate.specs.declared.line.Line.{Line}
 use Rattle.bq_certificate.specs.declared.line.Line.TheVariants as line

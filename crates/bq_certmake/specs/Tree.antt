@@ -8,8 +8,8 @@ use Rattle.bq_model.proofs.Has.{Has}
 use Rattle.bq_model.proofs.Unique.{Ascends}
 use Rattle.bq_model.proofs.Split.{StartsWith}
 use Rattle.bq_closure.specs.BoundsValue.{BoundsValue}
-use Rattle.bq_closure.specs.PartConstraints.{of_prefix}
-use Rattle.bq_closure.specs.Solutions.{IsWithin}
+use Rattle.bq_constraints.specs.PartConstraints.{of_prefix}
+use Rattle.bq_constraints.specs.Solutions.{IsWithin}
 use Rattle.bq_certificate.specs.declared.line.Line.{Line}
 use Rattle.bq_certificate.specs.Nodes.{grouped, nodes_of}
 use Rattle.bq_certificate.specs.Reading.{AreGood, following}

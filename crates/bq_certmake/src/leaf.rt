@@ -1,6 +1,6 @@
 //! A leaf with its paths.
 ghost use Rattle.std.specs.Prelude.{◌≡◌, ◌≢◌, ◌≤◌, true, length};
-ghost use Rattle.bq_closure.specs.Solutions.{IsSatisfiable};
+ghost use Rattle.bq_constraints.specs.Solutions.{IsSatisfiable};
 ghost use Rattle.bq_certificate.specs.declared.line.Line.TheVariants as line;
 ghost use Rattle.bq_certificate.specs.Certificate.{last_of, takes_path};
 ghost use Rattle.bq_certmake.specs.Leaf.{AddsPath, AddsPaths, AddsLeaf};

@@ -2,9 +2,9 @@
 ghost use Rattle.bq_certmake.specs.Made.{Makes};
 
 use crate::error::MakeError;
-use crate::node::of_query;
 use crate::tree::walk;
 use bq_certificate::Certificate;
+use bq_closure::Bounds;
 use bq_model::{Query, Signs};
 use std::alloc::Global;
 
@@ -14,7 +14,7 @@ pub fn make(alloc: Global, q: &Query) -> Result<Certificate, MakeError>
     ensures { Makes q.now result }
 {
     let mut certificate = Certificate::new(alloc);
-    let bounds = of_query(q);
+    let bounds = Bounds::of_query(q);
     let pairs = q.pairs();
     let signs = Signs::new();
     let mut parts = 0;

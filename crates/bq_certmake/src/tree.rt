@@ -1,6 +1,6 @@
 //! The tree of signs.
 ghost use Rattle.std.specs.Prelude.{◌≡◌, ◌<◌, ◌≤◌, ◌++◌, ◌∷◌, [], length};
-ghost use Rattle.bq_closure.specs.Solutions.{IsSatisfiable};
+ghost use Rattle.bq_constraints.specs.Solutions.{IsSatisfiable};
 ghost use Rattle.bq_certificate.specs.declared.line.Line.TheVariants as line;
 ghost use Rattle.bq_certmake.specs.Tree.{IsNode, Walks};
 

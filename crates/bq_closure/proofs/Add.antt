@@ -2,18 +2,20 @@
 use Rattle.std.proofs.Common.{◌≡◌, ℕ, zero, suc, ◌<◌, ◌≤◌, ◌+◌, ◌*◌, ℤ, pos, neg_ℤ, ◌+ℤ◌, ◌≤ℤ◌, inl, inr, refl, sym, ◌∙◌, ap, subst, arith, Option, Some, None, Bool, true, false, not, is_some, List, [], ◌∷◌, ◌++◌, length, length-append, Contains, suc-mul}
 use Rattle.std.proofs.lemmas.Int.{ints}
 use Rattle.std.proofs.lemmas.List.Elements.{Contains-push_cases}
-use Rattle.bq_closure.specs.declared.constraint.Constraint.{Constraint}
+use Rattle.bq_constraints.specs.declared.constraint.Constraint.{Constraint}
 use Rattle.bq_closure.specs.declared.way.Way.{Way}
 use Rattle.bq_closure.specs.declared.closure.Cycle.{Cycle}
 use Rattle.bq_closure.specs.declared.closure.Closure.{Closure}
 use Rattle.bq_closure.specs.Ways.{path_items, way_bound, IsModest, walked}
 use Rattle.bq_closure.specs.Cycles.{IsImplied, IsClosing, IsClosingOver, closes, agrees}
-use Rattle.bq_closure.specs.Closure.{AtMost, Next, Chain, step, HasChain, way_at, bound_at, AreTight, IsNegative, IsSettled, IsClosureOf, Modest}
+use Rattle.bq_constraints.specs.Table.{AtMost}
+use Rattle.bq_closure.specs.Closure.{Next, Chain, step, HasChain, way_at, bound_at, AreTight, IsNegative, IsSettled, IsClosureOf, Modest}
 use Rattle.bq_closure.proofs.Tighten.{Agrees}
-use Rattle.bq_closure.proofs.Chains.{slice_get-append, chain_grows, chain_modest, times}
+use Rattle.bq_constraints.proofs.Numbers.{slice_get-append}
+use Rattle.bq_closure.proofs.Chains.{chain_grows, chain_modest, times}
 use Rattle.bq_closure.proofs.Walks.{chain_at, is_short, length-walked}
 use Rattle.bq_closure.proofs.Keep.{last_is}
-use Rattle.bq_closure.proofs.Options.{some_is}
+use Rattle.bq_constraints.proofs.Options.{some_is}
 
 pub tight_when : (n : ℕ) (cs : List Constraint) (ws : List (Option Way)) (o : Option Cycle) (b : Bool) → IsSettled n cs ws o → is_some o ≡ not b → b ≡ true → AreTight n cs ws
 tight_when n cs ws None b k e t = k

@@ -2,18 +2,19 @@
 use Rattle.std.proofs.Common.{◌≡◌, ℕ, ◌<◌, ◌≤◌, ℤ, pos, ◌+ℤ◌, ◌≤ℤ◌, ◌<ℤ◌, refl, sym, subst, ◌∙◌, arith, Option, Some, None, List, [], ◌∷◌, ◌++◌, Bool, true, false, not, is_some, IsTrue, Contains, ◌⊎◌, inl, inr}
 use Rattle.std.proofs.lemmas.Int.{ints, by_lt_z}
 use Rattle.std.proofs.lemmas.List.Elements.{Contains-append_left, Contains-append_right, Contains-push_cases}
-use Rattle.bq_closure.specs.declared.constraint.Constraint.{Constraint}
+use Rattle.bq_constraints.specs.declared.constraint.Constraint.{Constraint}
 use Rattle.bq_closure.specs.declared.way.Way.{Way}
 use Rattle.bq_closure.specs.declared.closure.Cycle.{Cycle}
 use Rattle.bq_closure.specs.Cycles.{IsImplied}
-use Rattle.bq_closure.specs.Table.{Table, tightened}
-use Rattle.bq_closure.specs.Solutions.{Solves, IsSatisfiable, IsUpper, Allows, Implies}
-use Rattle.bq_closure.specs.Closure.{AtMost, IsClosed, Covers, way_at, bound_at, AreTight, IsSettled, Modest}
+use Rattle.bq_constraints.specs.Table.{Table, AtMost, IsClosed, Covers}
+use Rattle.bq_closure.specs.Tightened.{tightened}
+use Rattle.bq_constraints.specs.Solutions.{Solves, IsSatisfiable, IsUpper, Allows, Implies}
+use Rattle.bq_closure.specs.Closure.{way_at, bound_at, AreTight, IsSettled, Modest}
 use Rattle.bq_closure.proofs.Chains.{chain_sound}
 use Rattle.bq_closure.proofs.Facts.{no_solution}
-use Rattle.bq_closure.proofs.Options.{some_is}
+use Rattle.bq_constraints.proofs.Options.{some_is}
 use Rattle.bq_closure.proofs.Keep.{way_of, WayOf}
-use Rattle.bq_closure.proofs.Solve as solve
+use Rattle.bq_constraints.proofs.Solve as solve
 use Rattle.bq_closure.proofs.Tighten.{Agrees, tightened-closed, over-at_most, at_most-trans, at_most-weaker}
 use Rattle.bq_closure.proofs.Upper.{tight_if_satisfiable, upper_some, upper_none}
 use Rattle.bq_closure.proofs.Walks.{chain_at}

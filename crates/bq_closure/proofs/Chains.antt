@@ -1,16 +1,13 @@
 -- Chains of constraints: what they say of a solution, their pieces, and that a chain without a node twice is short.
-use Rattle.std.proofs.Common.{◌≡◌, ℕ, zero, suc, ℤ, pos, neg_ℤ, ◌+ℤ◌, ◌≤ℤ◌, refl, ap, subst, arith, Some, List, [], ◌∷◌, ◌++◌, length, Contains, slice_get}
+use Rattle.std.proofs.Common.{◌≡◌, ℕ, zero, suc, ℤ, pos, neg_ℤ, ◌+ℤ◌, ◌≤ℤ◌, refl, ap, subst, arith, List, ◌++◌, length}
 use Rattle.std.proofs.lemmas.Int.{ints}
-use Rattle.bq_closure.specs.declared.constraint.Constraint.{Constraint}
-use Rattle.bq_closure.specs.Solutions.{Solves}
+use Rattle.bq_constraints.specs.declared.constraint.Constraint.{Constraint}
+use Rattle.bq_constraints.specs.Solutions.{Solves}
+use Rattle.bq_constraints.proofs.Numbers.{contains_at, slice_get-append}
 use Rattle.bq_closure.specs.Closure.{Chain, stop, step, Modest}
-use Rattle.std.proofs.lemmas.Option.{slice_get_within, get_or_from_slice_get}
 
 pub chain_sum_is : {cs : List Constraint} {es xs : List ℕ} {i j : ℕ} (s r : ℤ) → s ≡ r → Chain cs es i j xs s → Chain cs es i j xs r
 chain_sum_is {cs} {es} {xs} {i} {j} s r e h = subst (λ z. Chain cs es i j xs z) e h
-
-pub contains_at : (cs : List Constraint) (e : ℕ) (c : Constraint) → slice_get cs e ≡ Some c → Contains cs c
-contains_at cs e c h = (e, slice_get_within cs e c h, get_or_from_slice_get cs e c c h)
 
 -- a solution keeps within the sum of a chain
 pub chain_sound : {cs : List Constraint} {es xs : List ℕ} {i j : ℕ} {s : ℤ} (x : ℕ → ℤ) → Solves x cs → Chain cs es i j xs s → x i ≤ℤ (s +ℤ x j)
@@ -21,12 +18,6 @@ chain_sound {cs} {s = s} x v (step {e} {i} {k} {j} {es} {xs} {b} {s = r} c at l 
     let f : x c.left ≡ x i = ap x l in
     let g : x c.right ≡ x k = ap x m in
     omega (arith, ints)
-
-pub slice_get-append : {A : Type 0} (xs ys : List A) (e : ℕ) (x : A) → slice_get xs e ≡ Some x → slice_get (xs ++ ys) e ≡ Some x
-slice_get-append [] ys zero x h = cc
-slice_get-append [] ys (suc e) x h = cc
-slice_get-append (y ∷ xs) ys zero x h = h
-slice_get-append (y ∷ xs) ys (suc e) x h = slice_get-append xs ys e x h
 
 -- a chain stays one when constraints are added
 pub chain_grows : {cs : List Constraint} {es xs : List ℕ} {i j : ℕ} {s : ℤ} (ds : List Constraint) → Chain cs es i j xs s → Chain (cs ++ ds) es i j xs s

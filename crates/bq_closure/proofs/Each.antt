@@ -3,9 +3,9 @@ use Rattle.std.proofs.Common.{◌≡◌, ℕ, ◌+◌, ◌<◌, ◌≤◌, List,
 use Rattle.std.proofs.lemmas.List.{take_more, length-take-le}
 use Rattle.std.proofs.Math.Seq.{take-length}
 use Rattle.std.proofs.lemmas.List.Elements.{All-get_or, All-push}
-use Rattle.bq_closure.specs.declared.constraint.Constraint.{Constraint}
+use Rattle.bq_constraints.specs.declared.constraint.Constraint.{Constraint}
 use Rattle.bq_closure.specs.declared.closure.Closure.{Closure}
-use Rattle.bq_closure.specs.Solutions.{IsWithin}
+use Rattle.bq_constraints.specs.Solutions.{IsWithin}
 use Rattle.bq_closure.specs.Closure.{IsClosureOf, HasRoom}
 
 -- the first of them and the next

@@ -1,16 +1,16 @@
 -- What the table of bounds says of the solutions.
 use Rattle.std.proofs.Common.{◌≡◌, ◌≢◌, ℕ, suc, ◌<◌, ◌≤◌, ◌+◌, ◌*◌, ◌/◌, ◌%◌, ℤ, pos, ◌+ℤ◌, ◌≤ℤ◌, ◌<ℤ◌, refl, sym, ◌∙◌, ap, arith, Option, Some, None, Bool, true, false, List, [], Contains, is_none, is_some, not}
 use Rattle.std.proofs.lemmas.Int.{ints}
-use Rattle.bq_closure.specs.declared.constraint.Constraint.{Constraint}
+use Rattle.bq_constraints.specs.declared.constraint.Constraint.{Constraint}
 use Rattle.bq_closure.specs.declared.way.Way.{Way}
 use Rattle.bq_closure.specs.declared.closure.Cycle.{Cycle}
 use Rattle.bq_closure.specs.declared.closure.Closure.{Closure}
-use Rattle.bq_closure.specs.Solutions.{IsSatisfiable}
+use Rattle.bq_constraints.specs.Solutions.{IsSatisfiable}
 use Rattle.bq_closure.specs.Ways.{way_bound, IsUnlinked, self, other, IsUnlinkedAt}
 use Rattle.bq_closure.specs.Closure.{way_at, bound_at, AreTight, IsNegative, IsSettled, IsClosureOf}
 use Rattle.bq_closure.proofs.Chains.{chain_sound}
-use Rattle.bq_closure.proofs.Solve as solve
-use Rattle.bq_closure.proofs.Options.{some_is, none_is}
+use Rattle.bq_constraints.proofs.Solve as solve
+use Rattle.bq_constraints.proofs.Options.{some_is, none_is}
 
 pub no_solution : (cs : List Constraint) (y : Cycle) → IsNegative cs y → IsSatisfiable cs → ⊥
 no_solution cs y n s =

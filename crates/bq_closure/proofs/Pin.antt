@@ -1,15 +1,15 @@
 -- A solution in which one node has a given value within its bounds.
 use Rattle.std.proofs.Common.{◌≡◌, ◌≢◌, ℕ, zero, suc, ◌+◌, ◌<◌, ℤ, pos, neg_ℤ, ◌+ℤ◌, ◌-ℤ◌, ◌≤ℤ◌, ◌⊎◌, inl, inr, refl, sym, ◌∙◌, ap, arith, Some, List, [], ◌∷◌, ◌++◌, length, get_or, below_more}
 use Rattle.std.proofs.lemmas.Int.{ints}
-use Rattle.bq_closure.specs.declared.constraint.Constraint.{Constraint}
-use Rattle.bq_closure.specs.Table.{Table}
-use Rattle.bq_closure.specs.Reach.{reach, pinned}
-use Rattle.bq_closure.specs.Solutions.{Solves}
-use Rattle.bq_closure.specs.Closure.{AtMost, IsClosed, Covers}
+use Rattle.bq_constraints.specs.declared.constraint.Constraint.{Constraint}
+use Rattle.bq_constraints.specs.Table.{Table, AtMost, IsClosed, Covers}
+use Rattle.bq_constraints.specs.Reach.{reach}
+use Rattle.bq_closure.specs.Pinned.{pinned}
+use Rattle.bq_constraints.specs.Solutions.{Solves}
 use Rattle.bq_closure.specs.Answers.{at_nodes}
-use Rattle.bq_closure.proofs.Closed.{Source, own, along, reach-le_own, reach-within, source_of}
-use Rattle.bq_closure.proofs.Solve.{Within}
-use Rattle.bq_closure.proofs.Options.{some_is}
+use Rattle.bq_constraints.proofs.Closed.{Source, own, along, reach-le_own, reach-within, source_of}
+use Rattle.bq_constraints.proofs.Solve.{Within}
+use Rattle.bq_constraints.proofs.Options.{some_is}
 
 -- which of its three values a node has
 pub data Place (i : ℕ) (v m : ℤ) (k : ℕ) : Type 0 where

@@ -1,9 +1,9 @@
 -- A closed table with one more bound, which does not close a negative cycle, is closed.
 use Rattle.std.proofs.Common.{◌≡◌, ℕ, ◌<◌, ℤ, pos, ◌+ℤ◌, ◌≤ℤ◌, int_lt, cond, refl, sym, ◌∙◌, ap, ap₂, arith, Option, Some, None, Bool, true, false}
 use Rattle.std.proofs.lemmas.Int.{ints}
-use Rattle.bq_closure.specs.Table.{Table, through, lesser, tightened}
-use Rattle.bq_closure.specs.Closure.{AtMost, IsClosed}
-use Rattle.bq_closure.proofs.Options.{some_is}
+use Rattle.bq_constraints.specs.Table.{Table, AtMost, IsClosed}
+use Rattle.bq_closure.specs.Tightened.{through, lesser, tightened}
+use Rattle.bq_constraints.proofs.Options.{some_is}
 
 -- an entry of the new table is the old one, or a way over the new bound
 pub data From (t : Table) (a b : ℕ) (c : ℤ) (i j : ℕ) (d : ℤ) : Type 0 where

@@ -4,20 +4,21 @@ use Rattle.std.proofs.lemmas.Int.{ints, by_lt_z}
 use Rattle.bq_model.specs.declared.atom.Attr.{Attr}
 use Rattle.bq_model.specs.declared.atom.Element.{Element}
 use Rattle.bq_model.specs.Query.{QueryValue, attrs_of}
-use Rattle.bq_closure.specs.declared.constraint.Constraint.{Constraint}
+use Rattle.bq_constraints.specs.declared.constraint.Constraint.{Constraint}
 use Rattle.bq_closure.specs.declared.way.Way.{Way}
 use Rattle.bq_closure.specs.declared.closure.Cycle.{Cycle}
 use Rattle.bq_closure.specs.declared.closure.Closure.{Closure}
 use Rattle.bq_closure.specs.BoundsValue.{AreBounds}
 use Rattle.bq_closure.specs.Ways.{way_bound, AreModest, IsModest, walked}
-use Rattle.bq_closure.specs.Nodes.{node_of, offset_of, element_at}
-use Rattle.bq_closure.specs.Solutions.{Solves, IsSatisfiable, IsUpper, HasNoUpper, IsLeast, HasNoLeast, IsGreatest, HasNoGreatest, IsChain, IsNegativeCycle}
-use Rattle.bq_closure.specs.Answers.{IsUpperAnswer, IsLowAnswer, IsHighAnswer, IsBelow, IsAbove, IsOutside, below, above, IsPathAnswer, IsCycleAnswer, IsAlwaysLess, IsAlwaysEqual, IsAlwaysAbove, IsNear, IsSolvedAt, at_nodes}
-use Rattle.bq_closure.specs.Reach.{reach, pinned}
+use Rattle.bq_constraints.specs.Nodes.{node_of, offset_of, element_at, IsAlwaysLess, IsAlwaysEqual, IsAlwaysAbove}
+use Rattle.bq_constraints.specs.Solutions.{Solves, IsSatisfiable, IsUpper, HasNoUpper, IsLeast, HasNoLeast, IsGreatest, HasNoGreatest, IsChain, IsNegativeCycle, IsUpperAnswer, IsLowAnswer, IsHighAnswer}
+use Rattle.bq_closure.specs.Answers.{IsBelow, IsAbove, IsOutside, below, above, IsPathAnswer, IsCycleAnswer, IsNear, IsSolvedAt, at_nodes}
+use Rattle.bq_constraints.specs.Reach.{reach}
+use Rattle.bq_closure.specs.Pinned.{pinned}
 use Rattle.bq_closure.specs.Closure.{Chain, stop, step, way_at, bound_at, AreTight, IsSettled, IsClosureOf, Modest, cycle_items}
 use Rattle.bq_closure.proofs.Chains.{chain_sound}
 use Rattle.bq_closure.proofs.Pin as pin
-use Rattle.bq_closure.proofs.Solve as solve
+use Rattle.bq_constraints.proofs.Solve as solve
 use Rattle.bq_closure.proofs.Keep.{way_of, WayOf}
 use Rattle.bq_closure.proofs.Walks.{chain_at}
 use Rattle.bq_closure.proofs.Add.{modest_at}

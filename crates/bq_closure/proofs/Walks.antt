@@ -2,13 +2,14 @@
 use Rattle.std.proofs.Common.{◌≡◌, ◌≢◌, ℕ, zero, suc, ◌<◌, ◌≤◌, ◌+◌, ◌-◌, ◌*◌, ℤ, pos, ◌+ℤ◌, ◌⊎◌, inl, inr, refl, sym, ◌∙◌, ap, subst, arith, Option, Some, None, List, [], ◌∷◌, ◌++◌, length, take, set, append_assoc, slice_index_or}
 use Rattle.std.proofs.lemmas.List.{take_more_set}
 use Rattle.bq_model.proofs.Has.{Has, first, later}
-use Rattle.bq_closure.specs.declared.constraint.Constraint.{Constraint}
+use Rattle.bq_constraints.specs.declared.constraint.Constraint.{Constraint}
 use Rattle.bq_closure.specs.declared.way.Way.{Way}
 use Rattle.bq_closure.specs.Ways.{way_bound, walked, number_of, next_of}
 use Rattle.bq_closure.specs.Closure.{Chain, stop, step, HasChain, IsSimple, none, more, way_at, Next, AreTight}
-use Rattle.bq_closure.proofs.Chains.{contains_at, chain_sum_is, length-nodes}
+use Rattle.bq_constraints.proofs.Numbers.{contains_at}
+use Rattle.bq_closure.proofs.Chains.{chain_sum_is, length-nodes}
 use Rattle.bq_closure.proofs.Simple.{length-simple}
-use Rattle.bq_closure.proofs.Options.{some_is}
+use Rattle.bq_constraints.proofs.Options.{some_is}
 
 -- ---- the loop that walks
 

@@ -1,27 +1,8 @@
 -- What the questions about difference bounds are answered.
 use Rattle.std.specs.Prelude.{◌≡◌, ℕ, zero, suc, ℤ, pos, neg_ℤ, ◌+ℤ◌, ◌≤ℤ◌, ◌<ℤ◌, List, [], ◌∷◌, length, Option, Some, None, nat_abs, All}
 use Rattle.arrayvec.specs.ArrayVec.{ArrayVec as Items}
-use Rattle.bq_model.specs.declared.atom.Attr.{Attr}
-use Rattle.bq_model.specs.declared.atom.Element.{Element}
-use Rattle.bq_model.specs.Query.{QueryValue, attrs_of}
-use Rattle.bq_closure.specs.declared.constraint.Constraint.{Constraint}
-use Rattle.bq_closure.specs.Nodes.{element_at}
-use Rattle.bq_closure.specs.Solutions.{Solves, IsSatisfiable, IsUpper, HasNoUpper, IsLeast, HasNoLeast, IsGreatest, HasNoGreatest, IsChain, IsNegativeCycle}
-
--- the least bound of i - j, or none where there is none
-abbrev pub IsUpperAnswer : List Constraint → ℕ → ℕ → Option ℤ → Type 0
-IsUpperAnswer cs i j None = HasNoUpper cs i j
-IsUpperAnswer cs i j (Some u) = IsUpper cs i j u
-
--- the least value of node i, or none where there is none
-abbrev pub IsLowAnswer : List Constraint → ℕ → Option ℤ → Type 0
-IsLowAnswer cs i None = HasNoLeast cs i
-IsLowAnswer cs i (Some low) = IsLeast cs i low
-
--- the greatest value of node i, or none where there is none
-abbrev pub IsHighAnswer : List Constraint → ℕ → Option ℤ → Type 0
-IsHighAnswer cs i None = HasNoGreatest cs i
-IsHighAnswer cs i (Some high) = IsGreatest cs i high
+use Rattle.bq_constraints.specs.declared.constraint.Constraint.{Constraint}
+use Rattle.bq_constraints.specs.Solutions.{Solves, IsSatisfiable, IsUpper, HasNoUpper, IsLeast, IsGreatest, IsChain, IsNegativeCycle}
 
 -- within 10^17 either way
 abbrev pub IsSmall : Option ℤ → Type 0
@@ -42,18 +23,6 @@ IsPathAnswer cs i j (Some es) = (u : ℤ) × IsUpper cs i j u × IsChain cs es i
 abbrev pub IsCycleAnswer : List Constraint → Option (List ℕ) → Type 0
 IsCycleAnswer cs None = IsSatisfiable cs
 IsCycleAnswer cs (Some es) = IsNegativeCycle cs es × (¬ IsSatisfiable cs)
-
--- x is less than y in all solutions
-pub record IsAlwaysLess (q : QueryValue) (cs : List Constraint) (x y : Element) : Type 0 where
-  pub less : (z : ℕ → ℤ) → Solves z cs → element_at (attrs_of q.atoms) z x <ℤ element_at (attrs_of q.atoms) z y
-
--- x is equal to y in all solutions
-pub record IsAlwaysEqual (q : QueryValue) (cs : List Constraint) (x y : Element) : Type 0 where
-  pub equal : (z : ℕ → ℤ) → Solves z cs → element_at (attrs_of q.atoms) z x ≡ element_at (attrs_of q.atoms) z y
-
--- x is at most so much above y in all solutions
-pub record IsAlwaysAbove (xs : List Attr) (cs : List Constraint) (x y : Element) (by : ℤ) : Type 0 where
-  pub above : (z : ℕ → ℤ) → Solves z cs → element_at xs z x ≤ℤ (by +ℤ element_at xs z y)
 
 -- 0 at node 0, and the integers of the list at the nodes after it
 abbrev pub at_nodes : List ℤ → ℕ → ℤ

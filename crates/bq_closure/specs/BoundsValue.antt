@@ -1,6 +1,6 @@
 -- What contracts see of difference bounds.
 use Rattle.std.specs.Prelude.{ℕ, List, ◌<◌, length}
-use Rattle.bq_closure.specs.declared.constraint.Constraint.{Constraint}
+use Rattle.bq_constraints.specs.declared.constraint.Constraint.{Constraint}
 use Rattle.bq_closure.specs.declared.closure.Closure.{Closure}
 use Rattle.bq_closure.specs.Closure.{IsClosureOf}
 

@@ -6,10 +6,10 @@ use Rattle.bq_model.specs.declared.part.Pair.{Pair}
 use Rattle.bq_model.specs.declared.part.Sign.{Sign}
 use Rattle.bq_model.specs.Query.{QueryValue, attrs_of}
 use Rattle.bq_model.specs.Parts.{pairs}
-use Rattle.bq_closure.specs.declared.constraint.Constraint.{Constraint}
+use Rattle.bq_constraints.specs.declared.constraint.Constraint.{Constraint}
 use Rattle.bq_closure.specs.declared.choosing.Choice.{Choice}
-use Rattle.bq_closure.specs.Nodes.{constraints_of}
-use Rattle.bq_closure.specs.Solutions.{IsWithin}
+use Rattle.bq_constraints.specs.Nodes.{constraints_of}
+use Rattle.bq_constraints.specs.Solutions.{IsWithin}
 
 -- the constraints of a sign
 abbrev pub chosen : Choice → Sign → List Constraint

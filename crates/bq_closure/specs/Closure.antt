@@ -1,29 +1,12 @@
 -- What a table of bounds keeps: it is closed, and each bound is the sum of a chain of constraints.
 use Rattle.std.specs.Prelude.{◌≡◌, ◌≢◌, ℕ, suc, ◌+◌, ◌*◌, ◌<◌, ◌≤◌, ℤ, pos, neg_ℤ, ◌+ℤ◌, ◌≤ℤ◌, ◌<ℤ◌, List, [], ◌∷◌, length, Option, Some, None, Contains, slice_get, slice_index_or}
 use Rattle.bq_model.proofs.Has.{Has}
-use Rattle.bq_closure.specs.declared.constraint.Constraint.{Constraint}
+use Rattle.bq_constraints.specs.declared.constraint.Constraint.{Constraint}
 use Rattle.bq_closure.specs.declared.way.Way.{Way}
 use Rattle.bq_closure.specs.declared.closure.Cycle.{Cycle}
 use Rattle.bq_closure.specs.declared.closure.Closure.{Closure}
-use Rattle.bq_closure.specs.Table.{Table}
+use Rattle.bq_constraints.specs.Table.{Table, IsClosed, Covers}
 use Rattle.bq_closure.specs.Ways.{way_bound, path_items}
-
--- some bound at i and j is at most u
-pub record AtMost (t : Table) (i j : ℕ) (u : ℤ) : Type 0 where
-  pub bound : ℤ
-  pub is : t i j ≡ Some bound
-  pub small : bound ≤ℤ u
-
--- each node is 0 above itself, and no two bounds sum to less than the bound of their ends
-pub record IsClosed (n : ℕ) (t : Table) : Type 0 where
-  pub self : (i : ℕ) → i < n → t i i ≡ Some (pos 0)
-  pub closed : (i j k : ℕ) → i < n → j < n → k < n → (p q : ℤ) → t i j ≡ Some p → t j k ≡ Some q → AtMost t i k (p +ℤ q)
-
--- the table is as tight as each constraint
-pub record Covers (n : ℕ) (t : Table) (cs : List Constraint) : Type 0 where
-  pub left : (c : Constraint) → Contains cs c → c.left < n
-  pub right : (c : Constraint) → Contains cs c → c.right < n
-  pub tight : (c : Constraint) → Contains cs c → AtMost t c.left c.right c.bound
 
 -- the constraints with the numbers es, from 1, lead from i to j over the nodes xs, both ends among them, with the sum s
 pub data Chain (cs : List Constraint) : List ℕ → ℕ → ℕ → List ℕ → ℤ → Type 0 where

@@ -1,11 +1,8 @@
-pub mod Solutions
-pub mod Nodes
-pub mod PartConstraints
 pub mod Answers
-pub mod Table
+pub mod Tightened
 pub mod Ways
 pub mod Closure
 pub mod Cycles
-pub mod Reach
+pub mod Pinned
 pub mod BoundsValue
 pub mod Choices

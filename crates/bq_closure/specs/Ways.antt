@@ -2,7 +2,7 @@
 use Rattle.std.specs.Prelude.{◌≡◌, ◌≢◌, ℕ, zero, suc, ◌+◌, ◌<◌, ◌≤◌, ℤ, pos, neg_ℤ, ◌+ℤ◌, ◌≤ℤ◌, ◌<ℤ◌, List, [], ◌∷◌, take, Option, Some, None, ◌*◌, ◌/◌, ◌%◌, slice_index_or, Bool, cond, nat_eq}
 use Rattle.bq_closure.specs.declared.path.Path.{Path}
 use Rattle.bq_closure.specs.declared.way.Way.{Way}
-use Rattle.bq_closure.specs.declared.constraint.Constraint.{Constraint}
+use Rattle.bq_constraints.specs.declared.constraint.Constraint.{Constraint}
 
 -- the numbers of a path
 abbrev pub path_items : Path → List ℕ

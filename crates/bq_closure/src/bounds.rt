@@ -1,19 +1,19 @@
 //! Difference bounds that are kept closed.
-ghost use Rattle.std.specs.Prelude.{◌≡◌, ℕ, ◌+◌, ◌<◌, ◌≤◌, [], ◌∷◌, ◌++◌, List, length, map, pos, neg_ℤ, ◌≤ℤ◌, ◌<ℤ◌, ◌+ℤ◌, ◌-ℤ◌, ℤ, ◌^◌, IsTrue, IsFalse, ◌↔◌, MatchOption, Some, None, take};
+ghost use Rattle.std.specs.Prelude.{◌≡◌, ℕ, ◌+◌, ◌<◌, ◌≤◌, [], ◌∷◌, ◌++◌, List, length, map, pos, neg_ℤ, ◌≤ℤ◌, ◌<ℤ◌, ◌+ℤ◌, ◌-ℤ◌, ℤ, ◌^◌, IsTrue, IsFalse, ◌↔◌, MatchOption, Some, None, take, All};
 ghost use Rattle.bq_model.specs.Query.{attrs_of};
 ghost use Rattle.bq_model.specs.Order.{IsElement};
-ghost use Rattle.bq_closure.specs.Solutions.{IsWithin, IsSatisfiable};
-ghost use Rattle.bq_closure.specs.Nodes.{node_of, IsWithinLimit};
+ghost use Rattle.bq_constraints.specs.Solutions.{IsWithin, IsSatisfiable};
+ghost use Rattle.bq_constraints.specs.PartConstraints.{of_atoms};
+ghost use Rattle.bq_constraints.specs.Nodes.{node_of, offset_of, IsWithinLimit};
 ghost use Rattle.bq_closure.specs.Closure.{cycle_items};
 ghost use Rattle.bq_closure.specs.Answers.{IsBelow, IsAbove};
 
 use crate::closure::{Closure, Cycle};
-use crate::constraint::Constraint;
-use crate::nodes::{node, offset};
 use crate::path::Path;
 use crate::solution::solution;
 use crate::way::way_between;
 use arrayvec::ArrayVec;
+use bq_constraints::{Constraint, difference, node, of_query};
 use bq_model::{Attr, Element, Query};
 use std::marker::Model;
 
@@ -36,7 +36,9 @@ impl Model for Bounds {
 }
 
 impl Bounds {
-    ghost use Rattle.bq_closure.specs.Answers.{IsUpperAnswer, IsLowAnswer, IsHighAnswer, IsSmall, IsPathAnswer, IsCycleAnswer, IsSolveAnswer, list_of, IsAlwaysLess, IsAlwaysEqual, IsAlwaysAbove};
+    ghost use Rattle.bq_constraints.specs.Solutions.{IsUpperAnswer, IsLowAnswer, IsHighAnswer};
+    ghost use Rattle.bq_closure.specs.Answers.{IsSmall, IsPathAnswer, IsCycleAnswer, IsSolveAnswer, list_of};
+    ghost use Rattle.bq_constraints.specs.Nodes.{IsAlwaysLess, IsAlwaysEqual, IsAlwaysAbove};
 
     /// No constraint, for at most 12 attributes.
     pub fn new(attrs: u8) -> Bounds
@@ -48,6 +50,19 @@ impl Bounds {
             constraints: ArrayVec::new(),
             closure: Closure::new(attrs),
         }
+    }
+
+    /// The constraints of the query's comparisons, between its attributes.
+    pub fn of_query(q: &Query) -> Bounds
+        ensures attrs { result.attrs ≡ length (attrs_of q.now.atoms) }
+        ensures constraints { result.constraints ≡ of_atoms (attrs_of q.now.atoms) q.now.atoms }
+        ensures within { All (IsWithin (length (attrs_of q.now.atoms))) result.constraints }
+        ensures few { length result.constraints ≤ 32 }
+        ensures few_attrs { length (attrs_of q.now.atoms) ≤ 12 }
+    {
+        let mut bounds = Bounds::new(q.attrs().len() as u8);
+        bounds.add_all(of_query(q).as_slice());
+        bounds
     }
 
     /// The same bounds.
@@ -90,6 +105,18 @@ impl Bounds {
     {
         self.closure.add(c);
         self.constraints.push(c);
+    }
+
+    /// Adds these constraints, in order.
+    pub fn add_all(&mut self, cs: &[Constraint])
+        requires within { All (IsWithin self.old.attrs) cs.now }
+        requires few { length self.old.constraints + length cs.now ≤ 268 }
+        ensures attrs { self.new.attrs ≡ self.old.attrs }
+        ensures constraints { self.new.constraints ≡ self.old.constraints ++ cs.now }
+    {
+        for c in cs {
+            self.add(*c);
+        }
     }
 
     /// The least bound of `i - j` over all solutions, within 10^17 either way. None where there is no bound.
@@ -167,7 +194,7 @@ impl Bounds {
         ensures { IsTrue result ↔ IsAlwaysAbove attrs.now self.now.constraints x y by }
     {
         match self.upper(node(attrs, x), node(attrs, y)) {
-            Some(bound) => bound <= limit(offset(x), offset(y), by),
+            Some(bound) => bound <= limit(x, y, by),
             None => false,
         }
     }
@@ -251,16 +278,14 @@ fn is_above(value: i128, greatest: Option<i128>) -> bool
 }
 
 // The bound between the nodes of two elements that keeps the first at most `by` above the second.
-fn limit(left: i64, right: i64, by: i64) -> i128
-    requires left_low { neg_ℤ (pos 999999999999999) ≤ℤ left }
-    requires left_high { left ≤ℤ pos 999999999999999 }
-    requires right_low { neg_ℤ (pos 999999999999999) ≤ℤ right }
-    requires right_high { right ≤ℤ pos 999999999999999 }
+fn limit(x: Element, y: Element, by: i64) -> i128
+    requires left { IsWithinLimit x }
+    requires right { IsWithinLimit y }
     requires low { neg_ℤ (pos 1) ≤ℤ by }
     requires high { by ≤ℤ pos 0 }
-    ensures { result ≡ right -ℤ left +ℤ by }
+    ensures { result ≡ offset_of y -ℤ offset_of x +ℤ by }
 {
-    i128::from(right - left + by)
+    i128::from(difference(x, y, by))
 }
 
 // The numbers of a cycle.

@@ -4,9 +4,8 @@ ghost use Rattle.bq_model.specs.Order.{IsElement};
 ghost use Rattle.bq_model.specs.declared.atom.Element.TheVariants as element;
 ghost use Rattle.bq_closure.specs.Choices.{IsChoice, AreChoices, chosen};
 
-use crate::constraint::Constraint;
-use crate::nodes::constraints;
 use arrayvec::ArrayVec;
+use bq_constraints::{Constraint, constraints};
 use bq_model::{Element, Pair, Query, Sign};
 
 /// The constraints that a pair adds by each sign that it may have.

@@ -1,12 +1,12 @@
 //! Ways that are kept closed, for constraints that are kept elsewhere.
 ghost use Rattle.std.specs.Prelude.{◌≡◌, ℕ, ◌+◌, ◌<◌, ◌≤◌, [], ◌∷◌, ◌++◌, List, length, pos, neg_ℤ, ◌≤ℤ◌, ◌+ℤ◌, ℤ, IsTrue, IsFalse, ◌↔◌, All, ◌*◌, slice_index_or, Option, suc};
-ghost use Rattle.bq_closure.specs.Solutions.{IsWithin, IsSatisfiable, Allows, Implies};
+ghost use Rattle.bq_constraints.specs.Solutions.{IsWithin, IsSatisfiable, Allows, Implies};
 ghost use Rattle.bq_closure.specs.Ways.{IsModest, path_items, walked};
-ghost use Rattle.bq_closure.specs.declared.constraint.Constraint.{Constraint};
+ghost use Rattle.bq_constraints.specs.declared.constraint.Constraint.{Constraint};
 
-use crate::constraint::Constraint;
 use crate::path::Path;
 use crate::way::{Way, closes, tighten, unlinked, way_between};
+use bq_constraints::Constraint;
 
 /// The numbers of constraints that close a chain with a negative sum.
 #[derive(Clone, Copy)]

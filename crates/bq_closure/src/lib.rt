@@ -12,8 +12,6 @@
 mod bounds;
 mod choosing;
 mod closure;
-mod constraint;
-mod nodes;
 mod path;
 mod solution;
 mod way;
@@ -21,5 +19,3 @@ mod way;
 pub use bounds::Bounds;
 pub use choosing::{Choice, choices};
 pub use closure::Closure;
-pub use constraint::Constraint;
-pub use nodes::constraints;

@@ -2,13 +2,14 @@
 ghost use Rattle.std.specs.Prelude.{◌≡◌, ℕ, ◌+◌, ◌<◌, ◌≤◌, pos, neg_ℤ, ◌≤ℤ◌, ◌+ℤ◌, ◌^◌, int_lt, if◌then◌else◌, nat_abs, length};
 ghost use Rattle.bq_closure.specs.Answers.{at_nodes};
 ghost use Rattle.bq_closure.specs.Closure.{bound_at};
-ghost use Rattle.bq_closure.specs.Reach.{reach, pinned};
+ghost use Rattle.bq_constraints.specs.Reach.{reach};
+ghost use Rattle.bq_closure.specs.Pinned.{pinned};
 
 use crate::way::{Way, way_between};
 use arrayvec::ArrayVec;
 
 // 0 at node 0, the value at node i, and a large one elsewhere.
-#[tactic(auto, unfolding(crate::specs::Reach::pinned))]
+#[tactic(auto, unfolding(crate::specs::Pinned::pinned))]
 fn first_value(k: u8, i: u8, value: i128, large: i128) -> i128
     requires low { neg_ℤ (pos (10 ^ 31)) ≤ℤ value }
     requires high { value ≤ℤ pos (10 ^ 31) }

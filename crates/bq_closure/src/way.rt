@@ -3,7 +3,7 @@
 ghost use Rattle.std.specs.Prelude.{◌≡◌, ◌≢◌, ℕ, ◌+◌, ◌<◌, ◌≤◌, ◌^◌, ◌∷◌, [], ◌++◌, ◌+ℤ◌, ◌≤ℤ◌, ◌<ℤ◌, IsTrue, ◌↔◌, pos, neg_ℤ, length, ◌*◌, ◌/◌, ◌%◌, slice_index_or, Option, cond, nat_eq};
 ghost use Rattle.bq_closure.specs.Ways.{Improves, IsBetter, IsModest, AreModest, IsUnlinked, IsUnlinkedAt, Writes, IsShorterAt, head_of};
 
-use crate::constraint::Constraint;
+use bq_constraints::Constraint;
 
 /// A bound of the difference of two nodes, with the chain of constraints that it is the sum of: the number of the first,
 /// the node that it leads to, and how many there are.

@@ -11,7 +11,7 @@ use Rattle.bq_model.specs.Query.{QueryValue, attrs_of, attr_lt}
 use Rattle.bq_model.specs.Order.{IsBounded, IsEqual}
 use Rattle.bq_model.specs.Links.{IsEquality}
 use Rattle.bq_model.specs.Plan.{link, AreOneClass}
-use Rattle.bq_closure.specs.Nodes.{place_of}
+use Rattle.bq_constraints.specs.Nodes.{place_of}
 use Rattle.bq_refs.specs.declared.range.Range.{Range}
 use Rattle.bq_refs.specs.declared.told.Refs.{Refs}
 use Rattle.bq_refs.specs.Refs.{IsRange, IsClassPlace, AreRefs}

@@ -1,5 +1,5 @@
 -- What was given where no more lines come.
-use Rattle.std.proofs.Common.{◌≡◌, ℕ, ◌⊎◌, inl, inr, true, false, List, [], ◌++◌, length, refl, sym, ap, ◌∙◌, subst, append_assoc, append-nil, length-append, arith, IfSome}
+use Rattle.std.proofs.Common.{◌≡◌, ℕ, ◌⊎◌, inl, inr, Bool, true, false, List, [], ◌++◌, length, refl, sym, ap, ◌∙◌, subst, append_assoc, append-nil, length-append, arith, IfSome}
 use Rattle.std.specs.Io.KnownBytes.{Consumes}
 use Rattle.std.proofs.KnownBytes.{Consumes-trans}
 use Rattle.bq_io.specs.Source.{SourceState}
@@ -8,7 +8,7 @@ use Rattle.bq_feed.specs.declared.reader.LineAnswer.{LineAnswer}
 use Rattle.bq_feed.specs.declared.reader.LineAnswer.TheVariants.{End}
 use Rattle.bq_feed.specs.Reading.{Reading, IsPlain, NextLine, TakesAll}
 use Rattle.bq_feed.specs.Texts.{text_of, ended_part}
-use Rattle.bq_feed.specs.GivenLines.{GivenLines, AllGiven, LastGiven}
+use Rattle.bq_feed.specs.GivenLines.{GivenLines, TookLines, AllGiven, LastGiven}
 use Rattle.bq_feed.proofs.GivenLines.{spent}
 use Rattle.bq_feed.proofs.TextLines.{append-nothing, ended_part-text_of}
 
@@ -17,8 +17,23 @@ pub text-lines : (source now : SourceState) (reader : Reading) (front : List ℕ
 text-lines source now reader front given g = g.cut reader.ahead (λ ended. (g.over ended).0)
 
 -- the lines of the front that was given
-front-lines : (source now : SourceState) (reader : Reading) (front : List ℕ) (given : List (List ℕ)) → GivenLines source now reader front given → lines front ≡ given
+pub front-lines : (source now : SourceState) (reader : Reading) (front : List ℕ) (given : List (List ℕ)) → GivenLines source now reader front given → lines front ≡ given
 front-lines source now reader front given g = ap lines (sym (append-nil front)) ∙ g.cut [] (λ _. refl) ∙ append-nil given
+
+-- the lines that were given are those of a front of the bytes, and the last of them is whole
+pub took-lines : (source now : SourceState) (reader : Reading) (front : List ℕ) (given : List (List ℕ)) → GivenLines source now reader front given → TookLines source now front
+took-lines source now reader front given g = record { ahead = reader.ahead; taken = g.taken; near = g.ahead; ended = by_end reader.ended refl }
+  where
+    by_end : (b : Bool) → reader.ended ≡ b → (front ≡ text_of (lines front)) ⊎ TakesAll source now front
+    by_end false open-yet = inl (g.whole open-yet ∙ ap text_of (sym (front-lines source now reader front given g)))
+    by_end true over = inr record {
+      taken = subst (Consumes source.left now.left) (ap (λ l. front ++ l) (g.over over).0 ∙ append-nil front) g.taken;
+      whole = (g.over over).2;
+    }
+
+-- all bytes were taken
+pub took-all : (source now : SourceState) (text : List ℕ) → TakesAll source now text → TookLines source now text
+took-all source now text all = record { ahead = []; taken = subst (Consumes source.left now.left) (sym (append-nil text)) all.taken; near = omega arith; ended = inr all }
 
 -- the source is at its end, and all was given
 pub all-given : (source now now' : SourceState) (old new : Reading) (front : List ℕ) (given : List (List ℕ)) → GivenLines source now old front given → NextLine End old new now now' → AllGiven source now' new front given

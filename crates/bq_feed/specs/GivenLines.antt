@@ -1,5 +1,5 @@
 -- The lines that a reader has given, out of the bytes that it has taken.
-use Rattle.std.specs.Prelude.{◌≡◌, ℕ, ◌-◌, ◌^◌, ◌<◌, ◌≤◌, true, false, List, [], ◌++◌, length, IfSome}
+use Rattle.std.specs.Prelude.{◌≡◌, ◌⊎◌, ℕ, ◌-◌, ◌^◌, ◌<◌, ◌≤◌, true, false, List, [], ◌++◌, length, IfSome}
 use Rattle.std.specs.Io.KnownBytes.{Consumes}
 use Rattle.bq_io.specs.Source.{SourceState}
 use Rattle.bq_text.specs.Lines.{lines}
@@ -20,6 +20,14 @@ pub record GivenLines (source now : SourceState) (reader : Reading) (front : Lis
   pub later : source.faults ≤ now.faults
   pub numbered : reader.lines ≡ length given
   pub counted : (reader.lines ≤ reader.taken) × (reader.taken < 2 ^ 64)
+
+-- This text is a front of the bytes that were taken, at most 4,096 of which lie beyond it, and the last of its lines is whole: it ends
+-- in LF, or nothing follows.
+pub record TookLines (source now : SourceState) (text : List ℕ) : Type 0 where
+  pub ahead : List ℕ
+  pub taken : Consumes source.left now.left (text ++ ahead)
+  pub near : length ahead ≤ 4096
+  pub ended : (text ≡ text_of (lines text)) ⊎ TakesAll source now text
 
 -- The source was read to its end, and these are the lines of all its bytes, which are fewer than can be counted.
 pub record AllGiven (source now : SourceState) (reader : Reading) (text : List ℕ) (given : List (List ℕ)) : Type 0 where

@@ -1,50 +1,25 @@
 -- What one more sign means for the closure of a node.
-use Rattle.std.proofs.Common.{◌≡◌, ℕ, zero, suc, ◌<◌, ◌≤◌, ◌+◌, ◌*◌, ℤ, List, [], ◌∷◌, ◌++◌, length, length-append, append_assoc, append-nil, All, pos, slice_get, slice_index_or, Some, refl, sym, ◌∙◌, ap, subst, arith}
+use Rattle.std.proofs.Common.{◌≡◌, ℕ, ◌<◌, ◌≤◌, ◌+◌, ℤ, List, [], ◌∷◌, ◌++◌, length, length-append, All, pos, slice_index_or, refl, sym, ◌∙◌, subst, arith}
 use Rattle.bq_model.proofs.Split.{IsFeasible}
-use Rattle.bq_model.specs.declared.atom.Attr.{Attr}
-use Rattle.bq_model.specs.declared.atom.Atom.{Atom}
 use Rattle.bq_model.specs.declared.part.Pair.{Pair}
 use Rattle.bq_model.specs.declared.part.Sign.{Sign}
 use Rattle.bq_model.specs.declared.atom.Element.TheVariants as element
 use Rattle.bq_model.specs.Query.{QueryValue, attrs_of, IsWithinLimits}
 use Rattle.bq_model.specs.Parts.{pairs}
-use Rattle.bq_closure.specs.declared.constraint.Constraint.{Constraint}
+use Rattle.bq_constraints.specs.declared.constraint.Constraint.{Constraint}
 use Rattle.bq_closure.specs.declared.choosing.Choice.{Choice}
 use Rattle.bq_closure.specs.declared.closure.Closure.{Closure}
 use Rattle.bq_closure.specs.Choices.{IsChoice, AreChoices, chosen}
 use Rattle.bq_closure.specs.Closure.{IsClosureOf, HasRoom}
-use Rattle.bq_closure.specs.Nodes.{constraints_of}
-use Rattle.bq_closure.specs.PartConstraints.{sign_of, of_atoms, of_signs, of_prefix}
-use Rattle.bq_closure.specs.Solutions.{IsWithin, Solves, IsSatisfiable}
+use Rattle.bq_constraints.specs.PartConstraints.{AddsSign, of_atoms, of_prefix}
+use Rattle.bq_constraints.specs.Solutions.{IsWithin, Solves, IsSatisfiable}
 use Rattle.bq_closure.proofs.Zips.{zip_length, zip_at}
-use Rattle.bq_closure.proofs.NodeFacts.{length-constraints}
-use Rattle.bq_closure.proofs.Joined.{solves_left, solves_right, solves_both}
-use Rattle.bq_closure.proofs.Link.{of_signs_more, of_no_signs}
-use Rattle.bq_closure.proofs.Feasible.{feasible_if, satisfiable_if}
-use Rattle.bq_lto_split.specs.Tree.{Before, AddsSign}
+use Rattle.bq_constraints.proofs.Joined.{solves_left, solves_right, solves_both}
+use Rattle.bq_constraints.proofs.Prefix.{adds_sign, of_no_prefix, length-of_atoms}
+use Rattle.bq_constraints.proofs.Feasible.{feasible_if, satisfiable_if}
+use Rattle.bq_lto_split.specs.Tree.{Before}
 
 -- ---- the pair of the next sign
-
-pub pair_at : (ps : List Pair) (i : ℕ) (d : Pair) → i < length ps → slice_get ps i ≡ Some (slice_index_or ps i d)
-pair_at [] i d l = absurd (omega arith)
-pair_at (p ∷ ps) zero d l = refl
-pair_at (p ∷ ps) (suc i) d l = pair_at ps i d (omega arith)
-
-prefix_more : (q : QueryValue) (pre : List Sign) (p : Pair) (s : Sign) → slice_get (pairs q) (length pre) ≡ Some p → of_prefix q (pre ++ s ∷ []) ≡ of_prefix q pre ++ constraints_of (attrs_of q.atoms) (element.Attr p.left) s p.right
-prefix_more q pre p s h =
-    ap (λ z. of_atoms (attrs_of q.atoms) q.atoms ++ z) (of_signs_more (attrs_of q.atoms) (pairs q) pre p s h)
-    ∙ sym (append_assoc (of_atoms (attrs_of q.atoms) q.atoms) (of_signs (attrs_of q.atoms) (pairs q) pre) (constraints_of (attrs_of q.atoms) (element.Attr p.left) s p.right))
-
-pub adds_sign : (q : QueryValue) (ps : List Pair) (pre : List Sign) (s : Sign) (d : Pair) (i : ℕ) (cs : List Constraint) → ps ≡ pairs q → i ≡ length pre → i < length ps
-    → cs ≡ constraints_of (attrs_of q.atoms) (element.Attr (slice_index_or ps i d).left) s (slice_index_or ps i d).right → All (IsWithin (length (attrs_of q.atoms))) cs → AddsSign q pre s cs
-adds_sign q ps pre s d i cs e at l c w =
-    let p : Pair = slice_index_or ps i d in
-    let is : slice_get (pairs q) (length pre) ≡ Some (slice_index_or ps i d) = subst (λ (z : List Pair). slice_get z (length pre) ≡ Some (slice_index_or ps i d)) e (subst (λ (n : ℕ). slice_get ps n ≡ Some (slice_index_or ps i d)) at (pair_at ps i d l)) in
-    record {
-      more = prefix_more q pre (slice_index_or ps i d) s is ∙ ap (λ z. of_prefix q pre ++ z) (sym c);
-      within = w;
-      few = subst (λ (z : List Constraint). length z ≤ 2) (sym c) (length-constraints (attrs_of q.atoms) (element.Attr (slice_index_or ps i d).left) s (slice_index_or ps i d).right);
-    }
 
 -- what the pair of the next sign adds by that sign
 pub adds_choice : (q : QueryValue) (ps : List Choice) (pre : List Sign) (s : Sign) (d : Choice) (cs : List Constraint) → AreChoices q ps → length pre < length ps → cs ≡ chosen (slice_index_or ps (length pre) d) s → AddsSign q pre s cs
@@ -143,20 +118,6 @@ module _ (q : QueryValue) (ps : List Choice) (k : Closure) (pre : List Sign) (s 
   within_here = subst (λ m. All (IsWithin m) cs) (sym b.closure.closure.attrs) a.within
 
 -- ---- the root
-
-pub of_atoms-append : (xs : List Attr) (ts us : List Atom) → of_atoms xs (ts ++ us) ≡ of_atoms xs ts ++ of_atoms xs us
-of_atoms-append xs [] us = refl
-of_atoms-append xs (t ∷ ts) us = ap (λ z. constraints_of xs t.left (sign_of t.op) t.right ++ z) (of_atoms-append xs ts us) ∙ sym (append_assoc (constraints_of xs t.left (sign_of t.op) t.right) (of_atoms xs ts) (of_atoms xs us))
-
-pub length-of_atoms : (xs : List Attr) (ts : List Atom) → length (of_atoms xs ts) ≤ 2 * length ts
-length-of_atoms xs [] = omega arith
-length-of_atoms xs (t ∷ ts) =
-    let a = length-constraints xs t.left (sign_of t.op) t.right in
-    let b = length-of_atoms xs ts in
-    omega (arith, a, b, length-append (constraints_of xs t.left (sign_of t.op) t.right) (of_atoms xs ts))
-
-pub of_no_prefix : (q : QueryValue) → of_prefix q [] ≡ of_atoms (attrs_of q.atoms) q.atoms
-of_no_prefix q = ap (λ z. of_atoms (attrs_of q.atoms) q.atoms ++ z) (of_no_signs (attrs_of q.atoms) (pairs q)) ∙ append-nil (of_atoms (attrs_of q.atoms) q.atoms)
 
 pub before_root : (q : QueryValue) (ps : List Choice) (k : Closure) → IsWithinLimits q → AreChoices q ps → length ps ≤ 106 → IsClosureOf k (length (attrs_of q.atoms)) (of_atoms (attrs_of q.atoms) q.atoms) → IsSatisfiable (of_atoms (attrs_of q.atoms) q.atoms) → Before q ps k []
 before_root q ps k l e few h t = record {

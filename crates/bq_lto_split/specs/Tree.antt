@@ -1,5 +1,5 @@
 -- What a walk of the tree of signs adds.
-use Rattle.std.specs.Prelude.{◌≡◌, ℕ, ◌+◌, ◌*◌, ◌<◌, ◌≤◌, ℤ, List, [], ◌∷◌, ◌++◌, length, All, Result, Ok, Err}
+use Rattle.std.specs.Prelude.{◌≡◌, ℕ, ◌+◌, ◌*◌, ◌<◌, ◌≤◌, ℤ, List, [], ◌∷◌, ◌++◌, length, Result, Ok, Err}
 use Rattle.bq_model.specs.declared.part.Sign.{Sign}
 use Rattle.bq_model.specs.declared.part.Part.{Part}
 use Rattle.bq_model.specs.Query.{QueryValue, attrs_of, IsWithinLimits}
@@ -7,13 +7,13 @@ use Rattle.bq_model.specs.Parts.{pairs, signs_lt, IsPart}
 use Rattle.bq_model.proofs.Has.{Has}
 use Rattle.bq_model.proofs.Unique.{Ascends}
 use Rattle.bq_model.proofs.Split.{StartsWith, IsFeasible, ArePartsUnder}
-use Rattle.bq_closure.specs.declared.constraint.Constraint.{Constraint}
+use Rattle.bq_constraints.specs.declared.constraint.Constraint.{Constraint}
 use Rattle.bq_closure.specs.declared.choosing.Choice.{Choice}
 use Rattle.bq_closure.specs.declared.closure.Closure.{Closure}
 use Rattle.bq_closure.specs.Choices.{AreChoices}
 use Rattle.bq_closure.specs.Closure.{IsClosureOf}
-use Rattle.bq_closure.specs.PartConstraints.{of_prefix}
-use Rattle.bq_closure.specs.Solutions.{IsWithin, Solves}
+use Rattle.bq_constraints.specs.PartConstraints.{of_prefix}
+use Rattle.bq_constraints.specs.Solutions.{Solves}
 use Rattle.bq_lto_split.specs.declared.error.SplitError.{SplitError}
 use Rattle.bq_lto_split.specs.declared.error.SplitError.TheVariants as why
 use Rattle.bq_lto_split.specs.Split.{sign_lists}
@@ -34,12 +34,6 @@ pub record Before (q : QueryValue) (cs : List Choice) (k : Closure) (signs : Lis
   pub few : length cs ≤ 106
   pub closure : IsClosureFor q signs k
   pub feasible : IsFeasible q signs
-
--- the constraints that one more sign adds
-pub record AddsSign (q : QueryValue) (signs : List Sign) (s : Sign) (cs : List Constraint) : Type 0 where
-  pub more : of_prefix q (signs ++ s ∷ []) ≡ of_prefix q signs ++ cs
-  pub within : All (IsWithin (length (attrs_of q.atoms))) cs
-  pub few : length cs ≤ 2
 
 -- the parts that begin with the signs of some pairs were added, there are at most 4,096 in all, and a list stayed as it was
 pub record Walked (q : QueryValue) (signs old new : List Sign) (before after : List Part) : Type 0 where

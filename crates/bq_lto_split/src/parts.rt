@@ -3,25 +3,15 @@ ghost use Rattle.std.specs.Prelude.{◌≡◌, ◌≤◌, length, IfOk};
 ghost use Rattle.bq_model.specs.Query.{attrs_of, IsWithinLimits};
 ghost use Rattle.bq_model.specs.Parts.{AreParts, HasMoreParts};
 ghost use Rattle.bq_closure.specs.Closure.{IsClosureOf};
-ghost use Rattle.bq_closure.specs.PartConstraints.{sign_of, of_atoms};
+ghost use Rattle.bq_constraints.specs.PartConstraints.{of_atoms};
 ghost use Rattle.bq_lto_split.specs.Split.{sign_lists, OnTooMany};
 
 use crate::error::SplitError;
 use crate::tree::walk;
-use bq_closure::{Closure, choices, constraints};
-use bq_model::{Op, Part, Query, Sign, Signs};
+use bq_closure::{Closure, choices};
+use bq_constraints::of_query;
+use bq_model::{Part, Query, Signs};
 use std::alloc::Global;
-
-// How the sides of a comparison stand to each other where it holds.
-fn sign_of(op: Op) -> Sign
-    ensures { result ≡ sign_of op }
-{
-    match op {
-        Op::Lt => Sign::Lt,
-        Op::Eq => Sign::Eq,
-        Op::Gt => Sign::Gt,
-    }
-}
 
 // What the query's comparisons imply.
 fn start(q: &Query) -> Closure
@@ -29,10 +19,7 @@ fn start(q: &Query) -> Closure
     ensures limits { IsWithinLimits q.now }
 {
     let mut closure = Closure::new(q.attrs().len() as u8);
-    for atom in q.atoms() {
-        let added = constraints(atom.left, sign_of(atom.op), atom.right, q);
-        closure.add_all(added.as_slice());
-    }
+    closure.add_all(of_query(q).as_slice());
     closure
 }
 

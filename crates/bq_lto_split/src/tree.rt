@@ -1,11 +1,13 @@
 //! The tree of signs.
 ghost use Rattle.std.specs.Prelude.{◌≡◌, ◌<◌, ◌≤◌, ◌++◌, ◌∷◌, [], length};
 ghost use Rattle.bq_closure.specs.Choices.{AreChoices};
-ghost use Rattle.bq_lto_split.specs.Tree.{Before, AddsSign, Walks, WalksTwo, Adds};
+ghost use Rattle.bq_constraints.specs.PartConstraints.{AddsSign};
+ghost use Rattle.bq_lto_split.specs.Tree.{Before, Walks, WalksTwo, Adds};
 
 use crate::error::SplitError;
 use arrayvec::ArrayVec;
-use bq_closure::{Choice, Closure, Constraint};
+use bq_closure::{Choice, Closure};
+use bq_constraints::Constraint;
 use bq_model::{Part, Query, Sign, Signs};
 
 // The constraints that one more sign adds.

@@ -12,13 +12,12 @@ use Rattle.bq_model.specs.declared.part.Sign.{Sign}
 use Rattle.bq_model.specs.Query.{QueryValue, attrs_of, attr_lt}
 use Rattle.bq_model.specs.Parts.{pairs}
 use Rattle.bq_model.specs.Order.{IsElement, IsBounded}
-use Rattle.bq_closure.specs.declared.constraint.Constraint.{Constraint}
+use Rattle.bq_constraints.specs.declared.constraint.Constraint.{Constraint}
 use Rattle.bq_closure.specs.BoundsValue.{BoundsValue}
-use Rattle.bq_closure.specs.Answers.{IsLowAnswer, IsHighAnswer}
-use Rattle.bq_closure.specs.Nodes.{place_of, node_of, assignment_of}
-use Rattle.bq_closure.specs.PartConstraints.{of_prefix}
-use Rattle.bq_closure.specs.Solutions.{Solves, HasNoLeast, HasNoGreatest}
-use Rattle.bq_closure.proofs.InPart.{in_part_from_solves, least_in_part, greatest_in_part}
+use Rattle.bq_constraints.specs.Solutions.{IsLowAnswer, IsHighAnswer, Solves, HasNoLeast, HasNoGreatest}
+use Rattle.bq_constraints.specs.Nodes.{place_of, node_of, assignment_of}
+use Rattle.bq_constraints.specs.PartConstraints.{of_prefix}
+use Rattle.bq_constraints.proofs.InPart.{in_part_from_solves, least_in_part, greatest_in_part}
 use Rattle.bq_refs.specs.declared.range.Range.{Range}
 use Rattle.bq_refs.specs.Known.{IsKnown}
 use Rattle.bq_refs.specs.Refs.{IsRange, IsRangeAt, between_of}

@@ -4,12 +4,11 @@ use Rattle.bq_model.specs.declared.part.Sign.{Sign}
 use Rattle.bq_model.specs.declared.atom.Element.{Element}
 use Rattle.bq_model.specs.Query.{QueryValue, attrs_of}
 use Rattle.bq_model.specs.Order.{IsElement, IsLess, IsEqual}
-use Rattle.bq_closure.specs.declared.constraint.Constraint.{Constraint}
+use Rattle.bq_constraints.specs.declared.constraint.Constraint.{Constraint}
 use Rattle.bq_closure.specs.BoundsValue.{BoundsValue}
-use Rattle.bq_closure.specs.Answers.{IsAlwaysLess, IsAlwaysEqual}
-use Rattle.bq_closure.specs.Nodes.{nodes_of}
-use Rattle.bq_closure.specs.Solutions.{IsSatisfiable}
-use Rattle.bq_closure.proofs.InPart.{solves_in_part, less_in_part, less_from_part, equal_in_part, equal_from_part}
+use Rattle.bq_constraints.specs.Nodes.{IsAlwaysLess, IsAlwaysEqual, nodes_of}
+use Rattle.bq_constraints.specs.Solutions.{IsSatisfiable}
+use Rattle.bq_constraints.proofs.InPart.{solves_in_part, less_in_part, less_from_part, equal_in_part, equal_from_part}
 use Rattle.bq_refs.specs.Known.{IsKnown}
 use Rattle.bq_refs.proofs.Adding.{long}
 

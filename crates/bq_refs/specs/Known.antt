@@ -3,11 +3,11 @@ use Rattle.std.specs.Prelude.{◌≡◌, ℕ, ◌+◌, ◌≤◌, List, ◌++◌
 use Rattle.bq_model.specs.declared.part.Sign.{Sign}
 use Rattle.bq_model.specs.Query.{QueryValue, attrs_of}
 use Rattle.bq_model.specs.Parts.{IsPart}
-use Rattle.bq_closure.specs.declared.constraint.Constraint.{Constraint}
+use Rattle.bq_constraints.specs.declared.constraint.Constraint.{Constraint}
 use Rattle.bq_closure.specs.BoundsValue.{BoundsValue}
 use Rattle.bq_closure.specs.Choices.{AreChoices}
-use Rattle.bq_closure.specs.PartConstraints.{of_atoms, of_prefix}
-use Rattle.bq_closure.specs.Solutions.{IsWithin}
+use Rattle.bq_constraints.specs.PartConstraints.{of_atoms, of_prefix}
+use Rattle.bq_constraints.specs.Solutions.{IsWithin}
 use Rattle.bq_refs.specs.declared.known.Basis.{Basis}
 use Rattle.bq_refs.specs.Sifting.{links_among}
 

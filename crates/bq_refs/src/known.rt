@@ -1,54 +1,14 @@
 //! The difference bounds of a part.
-ghost use Rattle.std.specs.Prelude.{◌≡◌, ◌+◌, ◌≤◌, ◌++◌, [], ◌∷◌, length, take, All};
-ghost use Rattle.bq_model.specs.Query.{attrs_of};
+ghost use Rattle.std.specs.Prelude.{◌≡◌, ◌+◌, ◌≤◌, length};
 ghost use Rattle.bq_model.specs.Parts.{IsPart};
-ghost use Rattle.bq_closure.specs.Solutions.{IsWithin};
 ghost use Rattle.bq_closure.specs.Choices.{AreChoices};
-ghost use Rattle.bq_closure.specs.PartConstraints.{sign_of, of_atoms};
 ghost use Rattle.bq_refs.specs.Known.{IsKnown, IsBasis, AddsSign};
 
 use crate::links::all_links;
 use arrayvec::ArrayVec;
-use bq_closure::{Bounds, Choice, Constraint, choices, constraints};
-use bq_model::{Link, Op, Part, Query, Sign};
-
-// How the sides of a comparison stand to each other where it holds.
-fn sign_of(op: Op) -> Sign
-    ensures { result ≡ sign_of op }
-{
-    match op {
-        Op::Lt => Sign::Lt,
-        Op::Eq => Sign::Eq,
-        Op::Gt => Sign::Gt,
-    }
-}
-
-// Adds these constraints, in order.
-fn add_each(bounds: &mut Bounds, cs: &[Constraint])
-    requires within { All (IsWithin bounds.old.attrs) cs.now }
-    requires few { length bounds.old.constraints + length cs.now ≤ 268 }
-    ensures attrs { bounds.new.attrs ≡ bounds.old.attrs }
-    ensures constraints { bounds.new.constraints ≡ bounds.old.constraints ++ cs.now }
-{
-    for c in cs {
-        bounds.add(*c);
-    }
-}
-
-// The bounds of the query's comparisons.
-fn of_query(q: &Query) -> Bounds
-    ensures attrs { result.attrs ≡ length (attrs_of q.now.atoms) }
-    ensures constraints { result.constraints ≡ of_atoms (attrs_of q.now.atoms) q.now.atoms }
-    ensures few { length result.constraints ≤ 32 }
-    ensures few_attrs { length (attrs_of q.now.atoms) ≤ 12 }
-{
-    let mut bounds = Bounds::new(q.attrs().len() as u8);
-    for atom in q.atoms() {
-        let added = constraints(atom.left, sign_of(atom.op), atom.right, q);
-        add_each(&mut bounds, added.as_slice());
-    }
-    bounds
-}
+use bq_closure::{Bounds, Choice, choices};
+use bq_constraints::Constraint;
+use bq_model::{Link, Part, Query, Sign};
 
 /// What all parts of a query share: the bounds of its comparisons, what each sign of each pair adds to them, and the links of
 /// each attribute with each.
@@ -65,7 +25,7 @@ impl Basis {
         ensures { IsBasis q.now result }
     {
         Basis {
-            bounds: of_query(q),
+            bounds: Bounds::of_query(q),
             choices: choices(q),
             links: all_links(q.attrs()),
         }
@@ -105,6 +65,6 @@ pub fn set_bounds(q: &Query, p: &Part, basis: &Basis, bounds: &mut Bounds)
     let choices = basis.choices.as_slice();
     let signs = p.signs.as_slice();
     for i in 0..signs.len() {
-        add_each(bounds, of_sign(q, choices, signs, i));
+        bounds.add_all(of_sign(q, choices, signs, i));
     }
 }

@@ -2,7 +2,8 @@
 ghost use Rattle.std.specs.Prelude.{◌≡◌, ◌<◌, ◌+◌, ◌≤◌, ◌≤ℤ◌, Some, length, get_or, slice_index_or};
 ghost use Rattle.bq_model.specs.declared.atom.Attr.{Attr};
 ghost use Rattle.bq_model.specs.Query.{attrs_of};
-ghost use Rattle.bq_closure.specs.Answers.{IsLowAnswer, IsHighAnswer, IsSmall};
+ghost use Rattle.bq_constraints.specs.Solutions.{IsLowAnswer, IsHighAnswer};
+ghost use Rattle.bq_closure.specs.Answers.{IsSmall};
 ghost use Rattle.bq_refs.specs.Known.{IsKnown};
 ghost use Rattle.bq_refs.specs.Refs.{IsRangeAt, between_of};
 

@@ -27,7 +27,7 @@ pub tells : (result : Result Verdict CreateError) (name : List ℕ) (q : QueryVa
 tells (Ok verdict) name q plan pool live later after a few m = (subst (λ (v : Verdict). TellsVerdict q pool.free (Ok v)) (sym m.0) (tells_accepted q plan pool.free a few m.1), tt)
 tells (Err (refusals.Violation p c t)) name q plan pool live later after a few m = absurd m
 tells (Err (refusals.Limit which value l)) name q plan pool live later after a few m = absurd m
-tells (Err (refusals.Pool needed free)) name q plan pool live later after a few m = (tells_pool q plan pool.free needed a few m.0 m.2, (m.2, m.1))
+tells (Err (refusals.Pool needed free)) name q plan pool live later after a few m = (tells_pool q plan pool.free needed a few m.0 m.2, (m.2, m.1, (plan, a, m.0)))
 tells (Err refusals.Memory) name q plan pool live later after a few m = (tt, tt)
 
 pub creates : (result : Result Verdict CreateError) (name : List ℕ) (q : QueryValue) (plan : Plan) (pool : PoolValue) (live : List Live) (later : PoolValue) (after : List Live)

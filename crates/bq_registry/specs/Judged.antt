@@ -10,6 +10,7 @@ use Rattle.bq_model.specs.declared.plan.Plan.{Plan}
 use Rattle.bq_model.specs.declared.plan.Plan.TheVariants as plans
 use Rattle.bq_model.specs.Query.{QueryValue, is_filter}
 use Rattle.bq_model.specs.Parts.{HasMoreParts}
+use Rattle.bq_model.specs.Numbers.{pages_of}
 use Rattle.bq_model.specs.Violation.{IsViolation}
 use Rattle.bq_model.specs.Verdict as model
 use Rattle.bq_model.specs.Verdict.{most, IsVerdict}
@@ -54,12 +55,16 @@ told (Err refusals.Memory) = None
 abbrev pub TellsVerdict : QueryValue → ℕ → Result Verdict CreateError → Type 0
 TellsVerdict q free result = IfSome (told result) (IsVerdict q free)
 
+-- so many pages are needed by the plan of a query that meets all conditions
+abbrev pub NeedsPages : QueryValue → ℕ → Type 0
+NeedsPages q needed = (plan : Plan) × IsAccepted q plan × (needed ≡ pages_of plan)
+
 -- what a refusal carries: the violation; the number that is too large and its limit; how many pages are needed and how many are free
 abbrev pub CarriesWhy : QueryValue → ℕ → Result Verdict CreateError → Type 0
 CarriesWhy q available (Ok verdict) = ⊤
 CarriesWhy q available (Err (refusals.Violation part condition attr)) = IsViolation q (Some record { part = part; condition = condition; attr = attr })
 CarriesWhy q available (Err (refusals.Limit which value limit)) = IsTooLarge q which value × (limit ≡ most which)
-CarriesWhy q available (Err (refusals.Pool needed free)) = (available < needed) × (free ≡ available)
+CarriesWhy q available (Err (refusals.Pool needed free)) = (available < needed) × (free ≡ available) × NeedsPages q needed
 CarriesWhy q available (Err refusals.Memory) = ⊤
 
 -- the query is live, the last in order of creation, with its plan and no history; the other live queries are as before

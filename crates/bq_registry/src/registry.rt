@@ -1,5 +1,5 @@
 //! The registry.
-ghost use Rattle.std.specs.Prelude.{◌≡◌, ◌<◌, ◌≤◌, ◌+◌, ◌^◌, List, ℕ, [], All, false, length, map, is_some, IfOk, IsTrue, slice_index_or};
+ghost use Rattle.std.specs.Prelude.{◌≡◌, ◌<◌, ◌≤◌, ◌+◌, ◌^◌, List, ℕ, [], All, false, length, map, is_some, IfOk, IsTrue, Some, remove, slice_index_or};
 ghost use Rattle.std.specs.List.{flat_map, position, list_any};
 ghost use Rattle.std.specs.Str.{bytes_eq};
 ghost use Rattle.bq_io.specs.Sink.{Writes};
@@ -87,6 +87,7 @@ impl Registry {
     /// The number of free pages: all but those of the live queries.
     pub fn free(&self) -> u32
         ensures free { result ≡ self.now.pool.free }
+        ensures queries { (queries : List LiveQuery) → StandsFor self.now queries → result ≡ free_pages queries }
     {
         self.pool.free()
     }
@@ -169,9 +170,11 @@ impl Registry {
         write_all(&mut self.live, out)
     }
 
-    /// Takes the live query of a name out of the live ones. Its pages are free, and the others are as before.
+    /// Takes the live query of a name out of the live ones, the first that has it. Its pages are free, and the others are as
+    /// before, also what waits of them.
     pub fn drop_query(&mut self, name: &Name)
         requires { IsTrue (list_any (λ l. bytes_eq l.name name.now) self.old.live) }
+        ensures left { (n : ℕ) → position (λ l. bytes_eq l.name name.now) self.old.live ≡ Some n → self.new.live ≡ remove self.old.live n }
         ensures stands { (queries : List LiveQuery) → StandsFor self.old queries → StandsFor self.new (without name.now queries) }
         ensures quiet { IsQuiet self.old → IsQuiet self.new }
         ensures given { (n : ℕ) → GivenUpto n self.old → GivenUpto n self.new }

@@ -5,7 +5,7 @@ use Rattle.bq_text.specs.Lines.{lines}
 use Rattle.bq_feed.specs.Reading.{Reading, fresh}
 use Rattle.bq_feed.specs.GivenLines.{GivenLines}
 use Rattle.bq_feed.proofs.GivenLines.{given-none}
-use Rattle.bq_feed.proofs.GivenEnds.{text-lines}
+use Rattle.bq_feed.proofs.GivenEnds.{front-lines, took-lines, took-all}
 use Rattle.bq_schema.specs.Streams.{Shape}
 use Rattle.bq_session.specs.declared.word.Word.{Word}
 use Rattle.bq_session.specs.declared.word.Word.TheVariants.{LineTooLong, Syntax}
@@ -92,13 +92,14 @@ ends-query source now now' old new streams streams' asked p t took =
 refused-line : (source now now' : SourceState) (old new : Reading) (streams : List Shape) (word : Word) (P : ℕ → List ℕ → Type 0) → (p : Progress source now old streams) → (t : GaveLine source now' p.given new P) → IsScriptLine streams t.line (refused word)
     → IsRefused new.lines word source now'
 refused-line source now now' old new streams word P p t is = record {
-  text = t.front ++ new.ahead;
-  taken = t.lines.taken;
-  refused = at_line (p.given ++ t.blanks) t.line (lines new.ahead) streams
-      (text-lines source now' new t.front (p.given ++ (t.blanks ++ t.line ∷ [])) t.lines ∙ grouped p.given t.blanks t.line (lines new.ahead))
+  text = t.front;
+  took = took-lines source now' new t.front (p.given ++ (t.blanks ++ t.line ∷ [])) t.lines;
+  refused = at_line (p.given ++ t.blanks) t.line [] streams
+      (front-lines source now' new t.front (p.given ++ (t.blanks ++ t.line ∷ [])) t.lines ∙ sym (append-nil (p.given ++ (t.blanks ++ t.line ∷ []))) ∙ grouped p.given t.blanks t.line [])
       (create-then-blank [] streams p.given t.blanks p.create t.blank)
       is
       (t.lines.numbered ∙ length-grouped p.given t.blanks t.line);
+  last = refl;
   all = tt;
 }
 
@@ -122,8 +123,9 @@ ends-before source now now' old new streams end p t e =
     let here = create-then-blank [] streams p.given t.blanks p.create t.blank in
     subst (λ x. EndsEarly x source now' new) (sym e) record {
       text = t.text;
-      taken = t.lines.all.taken;
+      took = took-all source now' t.text t.lines.all;
       refused = at_end streams (subst (λ l. CreateStreams [] l streams) (sym t.lines.are) here) refl (omega (arith, t.lines.numbered, ap length t.lines.are));
+      last = tt;
       all = t.lines.all;
     }
 

@@ -1,14 +1,13 @@
 -- How reading a script ends.
 use Rattle.std.specs.Prelude.{◌≡◌, ℕ, suc, ◌-◌, ◌^◌, ◌<◌, ◌≤◌, ⊤, List, [], ◌∷◌, ◌++◌, length}
 use Rattle.std.specs.List.{AllByRecursion}
-use Rattle.std.specs.Io.KnownBytes.{Consumes}
 use Rattle.std.specs.declared.result.Result.{Result}
 use Rattle.std.specs.declared.result.Result.TheVariants.{Ok, Err}
 use Rattle.bq_io.specs.Counts.{Rose}
 use Rattle.bq_io.specs.Source.{SourceState}
 use Rattle.bq_text.specs.Lines.{lines}
 use Rattle.bq_feed.specs.Reading.{Reading, TakesAll}
-use Rattle.bq_feed.specs.GivenLines.{GivenLines, AllGiven, LastGiven}
+use Rattle.bq_feed.specs.GivenLines.{GivenLines, TookLines, AllGiven, LastGiven}
 use Rattle.bq_schema.specs.Streams.{Shape}
 use Rattle.bq_parser.specs.declared.tree.SelectAst.{SelectAst}
 use Rattle.bq_parser.specs.declared.tree.Statement.TheVariants.{CreateQuery}
@@ -96,11 +95,17 @@ abbrev pub IfAtEnd : {all : List (List ℕ)} {number : ℕ} {word : Word} → Is
 IfAtEnd (at_line before line behind streams whole create is number_is) P = ⊤
 IfAtEnd (at_end streams create word_is number_is) P = P
 
--- The bytes of a text were taken, and a line of it is refused. A script that ends before its query was read to its end.
+-- nothing stands behind the line that is refused
+abbrev pub IsLast : {all : List (List ℕ)} {number : ℕ} {word : Word} → IsRefusedAt all number word → Type 0
+IsLast (at_line before line behind streams whole create is number_is) = behind ≡ []
+IsLast (at_end streams create word_is number_is) = ⊤
+
+-- The lines of a text were taken, each of them whole, and the last of them is refused. A script that ends before its query was read to its end.
 pub record IsRefused (number : ℕ) (word : Word) (source now : SourceState) : Type 0 where
   pub text : List ℕ
-  pub taken : Consumes source.left now.left text
+  pub took : TookLines source now text
   pub refused : IsRefusedAt (lines text) number word
+  pub last : IsLast refused
   pub all : IfAtEnd refused (TakesAll source now text)
 
 -- The reader broke off. All lines that ended in the bytes that were taken create streams, and this holds of these bytes.

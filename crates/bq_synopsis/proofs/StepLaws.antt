@@ -134,20 +134,20 @@ cost-of-back rates streams p r (popped c n a b e v f g j) o l =
 
 -- what is outside the level is what is left after going back
 pub outer-of-back : (sel : List Attr) (part : PartPlan) (read : Reading) (p r : Probe) → WentBack p r → p.over ≡ false → IsUnderway part p →
-    left_of sel part read r ≡ outer (setting p.pairs.items sel part p.arriving p.row.items read) (length part.streams.items) [] p.chosen.items p.numbers.items
+    left_of sel part read r ≡ outer (setting p.pairs.now.items sel part p.arriving p.row.now.items read) (length part.streams.items) [] p.chosen.items p.numbers.items
 unfolding left
 outer-of-back sel part read p r (ended a b c d e f g h) o u =
-    (λ k. left (setting r.pairs.items sel part r.arriving r.row.items read) r.chosen.items r.numbers.items r.next (e k))
-    ∙ sym ((λ k. outer (setting p.pairs.items sel part p.arriving p.row.items read) (length part.streams.items) [] (a k) p.numbers.items) ∙ outer-none (setting p.pairs.items sel part p.arriving p.row.items read) (length part.streams.items) [] p.numbers.items)
+    (λ k. left (setting r.pairs.now.items sel part r.arriving r.row.now.items read) r.chosen.items r.numbers.items r.next (e k))
+    ∙ sym ((λ k. outer (setting p.pairs.now.items sel part p.arriving p.row.now.items read) (length part.streams.items) [] (a k) p.numbers.items) ∙ outer-none (setting p.pairs.now.items sel part p.arriving p.row.now.items read) (length part.streams.items) [] p.numbers.items)
 outer-of-back sel part read p r (popped c n a b e v f g j) o u =
-    let w = setting p.pairs.items sel part p.arriving p.row.items read in
+    let w = setting p.pairs.now.items sel part p.arriving p.row.now.items read in
     let x = ap length a in
     let y = ap length b in
     let s = length-append r.chosen.items (c ∷ []) in
     let t = length-append r.numbers.items (n ∷ []) in
     let m : length r.chosen.items ≡ length r.numbers.items = omega (arith, x, y, s, t, u.same) in
     let few : length r.chosen.items < length part.streams.items = omega (arith, x, s, u.few) in
-    (λ k. left (setting (j k).items sel part (f k) (g k).items read) r.chosen.items r.numbers.items (e k) ((v ∙ o) k))
+    (λ k. left (setting (j k).now.items sel part (f k) (g k).now.items read) r.chosen.items r.numbers.items (e k) ((v ∙ o) k))
     ∙ sym (left-back w r.chosen.items r.numbers.items c n m few)
     ∙ (λ k. outer w (length part.streams.items) [] (sym a k) (sym b k))
 
@@ -169,18 +169,18 @@ underway-back part p r (popped c n a b e v f g j) u =
     record { here = subst (λ m. m < length part.streams.items) (sym f) u.here; same = omega (arith, x, y, s, t, u.same); few = omega (arith, x, s, u.few); light = subst (λ m. AreLight m 0 r.chosen.items) (sym f) (light-front p.arriving 0 r.chosen.items c (subst (λ cs. AreLight p.arriving 0 cs) a u.light)) }
 
 pub left-of-back : (sel : List Attr) (part : PartPlan) (read : Reading) (p r : Probe) → WentBack p r → p.over ≡ false → IsUnderway part p → length p.chosen.items < length part.streams.items →
-    box_size (narrowed_dims p.pairs.items part p.arriving p.row.items p.chosen.items) ≤ p.next → left_of sel part read r ≡ left_of sel part read p
+    box_size (narrowed_dims p.pairs.now.items part p.arriving p.row.now.items p.chosen.items) ≤ p.next → left_of sel part read r ≡ left_of sel part read p
 left-of-back sel part read p r back o u l past =
-    let w = setting p.pairs.items sel part p.arriving p.row.items read in
+    let w = setting p.pairs.now.items sel part p.arriving p.row.now.items read in
     outer-of-back sel part read p r back o u
-    ∙ sym (left-past w p.chosen.items p.numbers.items p.next l (omega (arith, past, length-box (narrowed_dims p.pairs.items part p.arriving p.row.items p.chosen.items))))
+    ∙ sym (left-past w p.chosen.items p.numbers.items p.next l (omega (arith, past, length-box (narrowed_dims p.pairs.now.items part p.arriving p.row.now.items p.chosen.items))))
     ∙ (λ k. left w p.chosen.items p.numbers.items p.next (sym o k))
 
 -- the candidate that is next
-pub candidate : (part : PartPlan) (p : Probe) (values : List ℤ) → p.next < box_size (narrowed_dims p.pairs.items part p.arriving p.row.items p.chosen.items) →
-    values ≡ values_at (narrowed_dims p.pairs.items part p.arriving p.row.items p.chosen.items) p.next →
-    drop p.next (box (narrowed_dims p.pairs.items part p.arriving p.row.items p.chosen.items)) ≡ values ∷ drop (p.next + 1) (box (narrowed_dims p.pairs.items part p.arriving p.row.items p.chosen.items))
-candidate part p values l e = box-from _ _ l ∙ ap (λ vs. vs ∷ drop (p.next + 1) (box (narrowed_dims p.pairs.items part p.arriving p.row.items p.chosen.items))) (sym e)
+pub candidate : (part : PartPlan) (p : Probe) (values : List ℤ) → p.next < box_size (narrowed_dims p.pairs.now.items part p.arriving p.row.now.items p.chosen.items) →
+    values ≡ values_at (narrowed_dims p.pairs.now.items part p.arriving p.row.now.items p.chosen.items) p.next →
+    drop p.next (box (narrowed_dims p.pairs.now.items part p.arriving p.row.now.items p.chosen.items)) ≡ values ∷ drop (p.next + 1) (box (narrowed_dims p.pairs.now.items part p.arriving p.row.now.items p.chosen.items))
+candidate part p values l e = box-from _ _ l ∙ ap (λ vs. vs ∷ drop (p.next + 1) (box (narrowed_dims p.pairs.now.items part p.arriving p.row.now.items p.chosen.items))) (sym e)
 
 pub paid-exactly : (s t x y e f : ℕ) → t ≡ s + e → e ≡ f → x + f ≡ y → t + x ≤ s + y
 paid-exactly s t x y e f a b c = omega (arith, a, b, c)
@@ -294,20 +294,20 @@ product-next cs i x product w v l e f g h = (λ k. e k * (h ∙ g ∙ ap (λ (y 
 
 -- all streams are chosen: the combination, if it meets the links, and then the rest
 module _ (sel : List Attr) (part : PartPlan) (p r : Probe) (back : WentBack p r) (o : p.over ≡ false) (u : IsUnderway part p) (whole : length p.chosen.items ≡ length part.streams.items) where
-  whole-left : (read : Reading) → left_of sel part read p ≡ walk (setting p.pairs.items sel part p.arriving p.row.items read) 0 p.chosen.items ++ left_of sel part read r
+  whole-left : (read : Reading) → left_of sel part read p ≡ walk (setting p.pairs.now.items sel part p.arriving p.row.now.items read) 0 p.chosen.items ++ left_of sel part read r
   whole-left read =
-      (λ k. left (setting p.pairs.items sel part p.arriving p.row.items read) p.chosen.items p.numbers.items p.next (o k))
-      ∙ left-whole (setting p.pairs.items sel part p.arriving p.row.items read) p.chosen.items p.numbers.items p.next whole
-      ∙ ap (λ fs. walk (setting p.pairs.items sel part p.arriving p.row.items read) 0 p.chosen.items ++ fs) (sym (outer-of-back sel part read p r back o u))
+      (λ k. left (setting p.pairs.now.items sel part p.arriving p.row.now.items read) p.chosen.items p.numbers.items p.next (o k))
+      ∙ left-whole (setting p.pairs.now.items sel part p.arriving p.row.now.items read) p.chosen.items p.numbers.items p.next whole
+      ∙ ap (λ fs. walk (setting p.pairs.now.items sel part p.arriving p.row.now.items read) 0 p.chosen.items ++ fs) (sym (outer-of-back sel part read p r back o u))
 
-  pub finish-none : meets_links p.pairs.items part p.arriving p.row.items p.chosen.items ≡ false → (read : Reading) → left_of sel part read p ≡ left_of sel part read r
+  pub finish-none : meets_links p.pairs.now.items part p.arriving p.row.now.items p.chosen.items ≡ false → (read : Reading) → left_of sel part read p ≡ left_of sel part read r
   unfolding walk
-  finish-none e read = whole-left read ∙ ap (λ b. (if b then found (setting p.pairs.items sel part p.arriving p.row.items read) p.chosen.items ∷ [] else []) ++ left_of sel part read r) e
+  finish-none e read = whole-left read ∙ ap (λ b. (if b then found (setting p.pairs.now.items sel part p.arriving p.row.now.items read) p.chosen.items ∷ [] else []) ++ left_of sel part read r) e
 
-  pub finish-some : (vs : List ℤ) (n : ℕ) → meets_links p.pairs.items part p.arriving p.row.items p.chosen.items ≡ true → vs ≡ tuple_of p.pairs.items sel part p.arriving p.row.items p.chosen.items → n ≡ product_of p.chosen.items → (read : Reading) → left_of sel part read p ≡ as_found vs n ∷ left_of sel part read r
+  pub finish-some : (vs : List ℤ) (n : ℕ) → meets_links p.pairs.now.items part p.arriving p.row.now.items p.chosen.items ≡ true → vs ≡ tuple_of p.pairs.now.items sel part p.arriving p.row.now.items p.chosen.items → n ≡ product_of p.chosen.items → (read : Reading) → left_of sel part read p ≡ as_found vs n ∷ left_of sel part read r
   unfolding walk
   finish-some vs n e f g read =
-      whole-left read ∙ ap (λ b. (if b then found (setting p.pairs.items sel part p.arriving p.row.items read) p.chosen.items ∷ [] else []) ++ left_of sel part read r) e
+      whole-left read ∙ ap (λ b. (if b then found (setting p.pairs.now.items sel part p.arriving p.row.now.items read) p.chosen.items ∷ [] else []) ++ left_of sel part read r) e
       ∙ (λ k. as_found (sym f k) (sym g k) ∷ left_of sel part read r)
 
 pub option_weaker : {T : Type 0} (o : Option T) (A B : Type 0) (P R : T → Type 0) → (A → B) → ((t : T) → P t → R t) → MatchOption o A P → MatchOption o B R
@@ -316,4 +316,4 @@ option_weaker (Some t) A B P R f g h = g t h
 
 pub left-over : (sel : List Attr) (part : PartPlan) (read : Reading) (p : Probe) → p.over ≡ true → left_of sel part read p ≡ []
 unfolding left
-left-over sel part read p o = λ k. left (setting p.pairs.items sel part p.arriving p.row.items read) p.chosen.items p.numbers.items p.next (o k)
+left-over sel part read p o = λ k. left (setting p.pairs.now.items sel part p.arriving p.row.now.items read) p.chosen.items p.numbers.items p.next (o k)

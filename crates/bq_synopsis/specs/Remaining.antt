@@ -12,7 +12,7 @@ use Rattle.bq_synopsis.specs.Costs.{cost_left, reads, turns}
 
 -- what the probe has still to give
 abbrev pub left_of : List Attr → PartPlan → Reading → Probe → List Found
-left_of select part read p = left (setting p.pairs.items select part p.arriving p.row.items read) p.chosen.items p.numbers.items p.next p.over
+left_of select part read p = left (setting p.pairs.now.items select part p.arriving p.row.now.items read) p.chosen.items p.numbers.items p.next p.over
 
 -- the cells that it has still to read, at most
 abbrev pub reads_left : PartPlan → Probe → ℕ

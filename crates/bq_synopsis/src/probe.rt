@@ -26,10 +26,10 @@ use std::sync::ledger::Ledger;
 
 /// A walk over the combinations of cells that answer a row.
 #[derive(Drop)]
-pub struct Probe {
+pub struct Probe<'a> {
     arriving: u8,
-    row: Row,
-    pairs: ArrayVec<Pair, 106>,
+    row: &'a Row,
+    pairs: &'a ArrayVec<Pair, 106>,
     chosen: ArrayVec<Chosen, 4>,
     numbers: ArrayVec<u32, 4>,
     next: u32,
@@ -117,22 +117,10 @@ fn answer(
     }
 }
 
-// A row with these values.
-fn copy_of(row: &[i64]) -> Row
-    requires { length row.now ≤ 8 }
-    ensures { result.items ≡ row.now }
-{
-    let mut copy: Row = ArrayVec::new();
-    'values: for v in row {
-        copy.push(*v);
-    }
-    copy
-}
-
-impl Probe {
+impl<'a> Probe<'a> {
     /// The walk for a row that arrives at a place of FROM, from its start: what it has to give is what the cells answer
     /// to the row, whatever they hold, and it reads at most three times the share of the part. With DISTINCT each count is 1.
-    pub fn new(q: &Query, part: &PartPlan, pos: u8, row: &Row) -> Probe
+    pub fn new(q: &'a Query, part: &PartPlan, pos: u8, row: &'a Row) -> Probe<'a>
         requires here { pos < length q.now.from }
         requires walked { IsWalked q.now part.now }
         ensures underway { IsUnderway part.now result }
@@ -144,7 +132,7 @@ impl Probe {
         let _streams = part.streams.as_slice();
         Probe {
             arriving: pos,
-            row: copy_of(row.as_slice()),
+            row,
             pairs: q.pairs(),
             chosen: ArrayVec::new(),
             numbers: ArrayVec::new(),

@@ -2,11 +2,17 @@
 #![tactic(auto)]
 
 #[cfg(test)]
+mod certificate_faults;
+#[cfg(test)]
+mod certificates;
+#[cfg(test)]
 mod edge;
 #[cfg(test)]
 mod faults;
 #[cfg(test)]
 mod load;
+#[cfg(test)]
+mod load_oracle;
 #[cfg(test)]
 mod oracle;
 #[cfg(test)]

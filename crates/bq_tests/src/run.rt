@@ -31,14 +31,27 @@ pub fn words(alloc: Global, word: &str) -> Result<Vec<String>, AllocError> {
     Ok(words)
 }
 
+/// Runs a command that is one word: how it ended, and what it wrote.
+pub fn command_over(
+    alloc: Global,
+    word: &str,
+    script: &[u8],
+    edges: Edges,
+) -> Result<(Status, MemSink), AllocError>
+    requires piece { 0 < edges.piece }
+    requires most { 0 < edges.most }
+{
+    let words = words(alloc, word)?;
+    let mut input = MemSource::new(alloc, script, edges.piece, edges.read_fails)?;
+    let mut output = MemSink::new(alloc, edges.most, edges.write_fails)?;
+    let status = bq_top::run(alloc, &words, &mut input, &mut output);
+    Ok((status, output))
+}
+
 /// Runs a script with the word `run`: how it ended, and what it wrote.
 pub fn run_over(alloc: Global, script: &[u8], edges: Edges) -> Result<(Status, MemSink), AllocError>
     requires piece { 0 < edges.piece }
     requires most { 0 < edges.most }
 {
-    let words = words(alloc, "run")?;
-    let mut input = MemSource::new(alloc, script, edges.piece, edges.read_fails)?;
-    let mut output = MemSink::new(alloc, edges.most, edges.write_fails)?;
-    let status = bq_top::run(alloc, &words, &mut input, &mut output);
-    Ok((status, output))
+    command_over(alloc, "run", script, edges)
 }

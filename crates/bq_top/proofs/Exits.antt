@@ -1,5 +1,5 @@
 -- How a run ends, by how far it was.
-use Rattle.std.proofs.Common.{◌≡◌, ℕ, ◌≤◌, ◌⊎◌, inl, inr, true, false, List, [], ◌∷◌, ◌++◌, length, refl, sym, ap, ◌∙◌, subst, append_assoc, append-nil, length-append, arith, IfSome}
+use Rattle.std.proofs.Common.{◌≡◌, ℕ, ◌≤◌, ◌⊎◌, inl, inr, Bool, true, false, List, [], ◌∷◌, ◌++◌, length, refl, sym, ap, ◌∙◌, subst, append_assoc, append-nil, length-append, arith, IfSome}
 use Rattle.std.specs.Io.KnownBytes.{Consumes, Appends}
 use Rattle.std.proofs.KnownBytes.{Consumes-trans}
 use Rattle.bq_io.specs.Source.{SourceState}
@@ -16,12 +16,13 @@ use Rattle.bq_session.specs.Session.{Kept, Answered}
 use Rattle.bq_top.specs.declared.ending.Ending.TheVariants as ending
 use Rattle.bq_top.specs.Fetched.{Read, StoppedHere}
 use Rattle.bq_feed.specs.Texts.{text_of, ended_part}
-use Rattle.bq_top.specs.Run.{WroteText, StopsAtLine, Streamed}
+use Rattle.bq_top.specs.Run.{AreWhole, WroteText, StopsAtLine, Streamed}
 use Rattle.bq_top.proofs.Passing.{Passed, passed-more, passed-flush, passed-all, IfSome-map}
 use Rattle.bq_feed.proofs.TextLines.{append-nothing, ended_part-text_of}
 use Rattle.bq_feed.specs.GivenLines.{GivenLines}
 use Rattle.bq_feed.proofs.GivenLines.{spent}
-use Rattle.bq_top.proofs.Stops.{stops-held}
+use Rattle.bq_feed.proofs.GivenEnds.{text-lines}
+use Rattle.bq_top.proofs.Stops.{whole-front, stops-held}
 use Rattle.bq_top.proofs.Told.{Told, lines_of, answers_of, at, replied, AreTold, lines_of-append, replied-append, replied-push, AreTold-push, are-answers}
 use Rattle.bq_top.proofs.Progress.{Progress, near-last, progress-all}
 
@@ -30,9 +31,15 @@ front-lines : (source now : SourceState) (reader : Reading) (front : List ℕ) (
 front-lines source now reader front given g =
     ap lines (sym (append-nil front)) ∙ g.cut [] (λ _. refl) ∙ append-nil (given ++ []) ∙ append-nil given
 
--- the lines of all bytes that were taken
-text-lines : (source now : SourceState) (reader : Reading) (front : List ℕ) (given : List (List ℕ)) → GivenLines source now reader front given → lines (front ++ reader.ahead) ≡ given ++ lines reader.ahead
-text-lines source now reader front given g = g.cut reader.ahead (λ ended. (g.over ended).0)
+-- the lines that were given are whole
+given-whole : (source now : SourceState) (reader : Reading) (front : List ℕ) (given : List (List ℕ)) → GivenLines source now reader front given → AreWhole source now (front ++ reader.ahead) given
+given-whole source now reader front given g = by_end reader.ended refl
+  where
+    by_end : (b : Bool) → reader.ended ≡ b → AreWhole source now (front ++ reader.ahead) given
+    by_end false open-yet = inl (reader.ahead, ap (λ f. f ++ reader.ahead) (g.whole open-yet))
+    by_end true over =
+        let all : front ++ reader.ahead ≡ front = ap (λ l. front ++ l) (g.over over).0 ∙ append-nil front in
+        inr record { taken = g.taken; whole = subst (λ t. IfSome source.left (λ bytes. bytes ≡ t)) (sym all) (g.over over).2 }
 
 -- the replies to all lines of a text were written
 wrote-told : (s : State) (text : List ℕ) (told : List Told) (before now : SinkState) → lines text ≡ lines_of told → AreTold s told → Appends before.written now.written (replied s told) → WroteText s text before now
@@ -132,9 +139,10 @@ ends-stopped s source now now' old new session before below below' held kept p r
         record {
           text = p.front ++ old.ahead;
           taken = g.taken;
-          holds = IfSome-map before.written (λ _. Passed before.written below'.written (replied s p.answered) (replied (at s p.answered) p.pending) kept) (λ _. StopsAtLine s (p.front ++ old.ahead) before below')
-              (λ _ q. stops-held s (p.front ++ old.ahead) p.answered p.pending (lines old.ahead) before below' kept
+          holds = IfSome-map before.written (λ _. Passed before.written below'.written (replied s p.answered) (replied (at s p.answered) p.pending) kept) (λ _. StopsAtLine s source now (p.front ++ old.ahead) before below')
+              (λ _ q. stops-held s source now (p.front ++ old.ahead) p.answered p.pending (lines old.ahead) before below' kept
               (text-lines source now old p.front (all ++ []) g ∙ ap (λ l. l ++ lines old.ahead) (append-nil all))
+              (subst (AreWhole source now (p.front ++ old.ahead)) (append-nil all) (given-whole source now old p.front (all ++ []) g))
               (λ first others e. p.near first others (append-nil (lines_of p.pending) ∙ e))
               p.are (omega (arith, r.stays.some)) q)
               passed;
@@ -167,9 +175,10 @@ ends-write_fault s source now reader session session' before below below' held h
         record {
           text = text;
           taken = g.taken;
-          holds = IfSome-map before.written (λ _. Passed before.written below'.written (replied s p.answered) (replied (at s p.answered) p.pending ++ broke.front) held') (λ _. StopsAtLine s text before below')
-              (λ _ q. stops-held s text p.answered pushed (lines reader.ahead) before below' (held' ++ broke.rest)
+          holds = IfSome-map before.written (λ _. Passed before.written below'.written (replied s p.answered) (replied (at s p.answered) p.pending ++ broke.front) held') (λ _. StopsAtLine s source now text before below')
+              (λ _ q. stops-held s source now text p.answered pushed (lines reader.ahead) before below' (held' ++ broke.rest)
               (text-lines source now reader p.front (lines_of all ++ line ∷ []) g ∙ ap (λ l. l ++ lines reader.ahead) listed)
+              (subst (AreWhole source now text) listed (given-whole source now reader p.front (lines_of all ++ line ∷ []) g))
               (λ first others e. p.near first others (sym (lines_of-append p.pending (t ∷ [])) ∙ e))
               (subst (AreTold s) regrouped (AreTold-push s all t p.are (record { request = told.request; asks = told.asks; settles = told.does.settles })))
               (omega (arith, length-append p.pending (t ∷ [])))
@@ -203,6 +212,7 @@ ends-memory s source now reader session session' before below below' below'' hel
             line = line;
             others = lines reader.ahead;
             whole = text-lines source now reader p.front (lines_of all ++ line ∷ []) g ∙ append_assoc (lines_of all) (line ∷ []) (lines reader.ahead);
+            ended = given-whole source now reader p.front (lines_of all ++ line ∷ []) g;
             near = near-last source now reader p.front (lines_of all ++ line ∷ []) g;
             answers = answers_of all;
             are = are-answers s all p.are;
@@ -236,9 +246,10 @@ ends-memory_fault s source now reader session session' before below below' below
         record {
           text = text;
           taken = g.taken;
-          holds = IfSome-map before.written (λ _. Passed before.written below''.written (replied s p.answered) (pending-text ++ []) kept) (λ _. StopsAtLine s text before below'')
-              (λ _ q. stops-held s text p.answered p.pending (line ∷ lines reader.ahead) before below'' kept
+          holds = IfSome-map before.written (λ _. Passed before.written below''.written (replied s p.answered) (pending-text ++ []) kept) (λ _. StopsAtLine s source now text before below'')
+              (λ _ q. stops-held s source now text p.answered p.pending (line ∷ lines reader.ahead) before below'' kept
               (text-lines source now reader p.front (all ++ line ∷ []) g ∙ append_assoc all (line ∷ []) (lines reader.ahead))
+              (whole-front source now text all (line ∷ []) (given-whole source now reader p.front (all ++ line ∷ []) g))
               (λ first others e. p.near first (others ++ line ∷ []) (ap (λ l. l ++ line ∷ []) e))
               p.are (omega (arith, stays.some))
               (record { passed = q.passed; written = q.written; whole = q.whole ∙ append-nil pending-text }))

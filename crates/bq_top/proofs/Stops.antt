@@ -1,14 +1,15 @@
 -- The first line whose reply is not whole below.
 use Rattle.std.proofs.Common.{◌≡◌, ℕ, ◌+◌, ◌<◌, ◌≤◌, ◌⊎◌, inl, inr, List, [], ◌∷◌, ◌++◌, length, refl, sym, ap, ◌∙◌, subst, append_assoc, append-nil, length-append, arith}
 use Rattle.std.specs.Io.KnownBytes.{Appends}
+use Rattle.bq_io.specs.Source.{SourceState}
 use Rattle.bq_io.specs.Sink.{SinkState}
 use Rattle.bq_text.specs.Lines.{lines}
 use Rattle.bq_session.specs.State.{State, next_of, after}
 use Rattle.bq_session.specs.Replies.{reply_to, replies}
 use Rattle.bq_feed.specs.Texts.{text_of, IsNear}
-use Rattle.bq_top.specs.Run.{StopsAtLine}
+use Rattle.bq_top.specs.Run.{AreWhole, StopsAtLine}
 use Rattle.bq_top.proofs.Passing.{Passed}
-use Rattle.bq_feed.proofs.TextLines.{length-text_of-append, length-text_of-cons}
+use Rattle.bq_feed.proofs.TextLines.{text_of-append, length-text_of-append, length-text_of-cons}
 use Rattle.bq_top.proofs.Told.{Told, lines_of, answers_of, at, replied, AreTold, lines_of-append, at-append, replied-none, replied-cons, replied-append, AreTold-front, are-answers}
 
 compare : (q r a b : List ℕ) → q ++ r ≡ a ++ b → ((more : List ℕ) × (q ≡ a ++ more) × (more ++ r ≡ b)) ⊎ ((rest : List ℕ) × (a ≡ q ++ rest))
@@ -86,17 +87,25 @@ further answered first others (x ∷ done) t rest e =
       length-text_of-cons x.line (lines_of done),
     )
 
+-- the first of some whole lines are whole
+pub whole-front : (source now : SourceState) (text : List ℕ) (front others : List (List ℕ)) → AreWhole source now text (front ++ others) → AreWhole source now text front
+whole-front source now text front others (inl t) =
+    inl (text_of others ++ t.0, t.1 ∙ ap (λ l. l ++ t.0) (text_of-append front others) ∙ append_assoc (text_of front) (text_of others) t.0)
+whole-front source now text front others (inr all) = inr all
+
 -- a run stops in the reply to one of these lines
-stops : (s : State) (text : List ℕ) (answered : List Told) (first : Told) (others : List Told) (more : List (List ℕ)) (before now : SinkState) (rest : List ℕ)
-    → lines text ≡ lines_of (answered ++ first ∷ others) ++ more → IsNear text (lines_of answered ++ first.line ∷ []) → AreTold s (answered ++ first ∷ others)
-    → Passed before.written now.written (replied s answered) (replied (at s answered) (first ∷ others)) rest → StopsAtLine s text before now
-stops s text answered first others more before now rest whole near are p =
+stops : (s : State) (source source' : SourceState) (text : List ℕ) (answered : List Told) (first : Told) (others : List Told) (more : List (List ℕ)) (before now : SinkState) (rest : List ℕ)
+    → lines text ≡ lines_of (answered ++ first ∷ others) ++ more → AreWhole source source' text (lines_of (answered ++ first ∷ others)) → IsNear text (lines_of answered ++ first.line ∷ []) → AreTold s (answered ++ first ∷ others)
+    → Passed before.written now.written (replied s answered) (replied (at s answered) (first ∷ others)) rest → StopsAtLine s source source' text before now
+stops s source source' text answered first others more before now rest whole ended near are p =
     let found = locate (at s answered) first others p.passed rest p.whole in
     let front = answered ++ found.answered in
     let split : answered ++ first ∷ others ≡ front ++ found.here ∷ found.others = ap (λ l. answered ++ l) found.whole ∙ sym (append_assoc answered found.answered (found.here ∷ found.others)) in
     let told = AreTold-front s front found.here found.others (subst (AreTold s) split are) in
     let listed : lines_of (answered ++ first ∷ others) ++ more ≡ lines_of front ++ found.here.line ∷ (lines_of found.others ++ more) =
     ap (λ l. lines_of l ++ more) split ∙ ap (λ l. l ++ more) (lines_of-append front (found.here ∷ found.others)) ∙ append_assoc (lines_of front) (found.here.line ∷ lines_of found.others) more in
+    let here : lines_of (answered ++ first ∷ others) ≡ (lines_of front ++ found.here.line ∷ []) ++ lines_of found.others =
+    ap lines_of split ∙ lines_of-append front (found.here ∷ found.others) ∙ sym (append_assoc (lines_of front) (found.here.line ∷ []) (lines_of found.others)) in
     let nearby : IsNear text (lines_of front ++ found.here.line ∷ []) =
     subst (λ l. IsNear text (l ++ found.here.line ∷ [])) (sym (lines_of-append answered found.answered))
     (omega (arith, near, further (lines_of answered) first others found.answered found.here found.others found.whole)) in
@@ -106,6 +115,7 @@ stops s text answered first others more before now rest whole near are p =
         line = found.here.line;
         others = lines_of found.others ++ more;
         whole = whole ∙ listed;
+        ended = whole-front source source' text (lines_of front ++ found.here.line ∷ []) (lines_of found.others) (subst (AreWhole source source' text) here ended);
         near = nearby;
         answers = answers_of front;
         are = are-answers s front told.0;
@@ -120,12 +130,12 @@ stops s text answered first others more before now rest whole near are p =
     }
 
 -- Some line is not answered whole below, or a front of what is held is left.
-pub stops-held : (s : State) (text : List ℕ) (answered pending : List Told) (more : List (List ℕ)) (before now : SinkState) (rest : List ℕ)
-    → lines text ≡ lines_of (answered ++ pending) ++ more
+pub stops-held : (s : State) (source source' : SourceState) (text : List ℕ) (answered pending : List Told) (more : List (List ℕ)) (before now : SinkState) (rest : List ℕ)
+    → lines text ≡ lines_of (answered ++ pending) ++ more → AreWhole source source' text (lines_of (answered ++ pending))
     → ((first : List ℕ) (others : List (List ℕ)) → lines_of pending ≡ first ∷ others → IsNear text (lines_of answered ++ first ∷ []))
     → AreTold s (answered ++ pending) → 0 < length rest + length pending
-    → Passed before.written now.written (replied s answered) (replied (at s answered) pending) rest → StopsAtLine s text before now
-stops-held s text answered [] more before now rest whole near are some p =
+    → Passed before.written now.written (replied s answered) (replied (at s answered) pending) rest → StopsAtLine s source source' text before now
+stops-held s source source' text answered [] more before now rest whole ended near are some p =
     absurd (omega (arith, some, ap length (p.whole ∙ replied-none (at s answered)), length-append p.passed rest))
-stops-held s text answered (first ∷ others) more before now rest whole near are some p =
-    stops s text answered first others more before now rest whole (near first.line (lines_of others) refl) are p
+stops-held s source source' text answered (first ∷ others) more before now rest whole ended near are some p =
+    stops s source source' text answered first others more before now rest whole ended (near first.line (lines_of others) refl) are p

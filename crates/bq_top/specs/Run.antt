@@ -17,7 +17,7 @@ use Rattle.bq_session.specs.Replies.{reply_to, replies, AreAnswers, AreReplies}
 use Rattle.bq_session.specs.Session.{Kept, StandsFor, creates}
 use Rattle.bq_top.specs.declared.ending.Ending.{Ending}
 use Rattle.bq_top.specs.declared.ending.Ending.TheVariants.{Done, ReadFault, WriteFault, Memory, ByteLimit}
-use Rattle.bq_feed.specs.Texts.{ended_part, IsNear}
+use Rattle.bq_feed.specs.Texts.{text_of, ended_part, IsNear}
 
 -- the session stands for some state
 pub record HasState (kept : Kept) : Type 0 where
@@ -43,19 +43,25 @@ pub record WroteText (s : State) (text : List ℕ) (before now : SinkState) : Ty
   pub is_text : AreReplies s text replied
   pub written : Appends before.written now.written replied
 
--- One line of a text, and what the lines before it came to. At most 4,096 bytes of the text lie beyond it.
-pub record AtLine (s : State) (text : List ℕ) : Type 0 where
+-- These lines are whole: each with its LF, they begin the text that was taken, or that is all there is.
+abbrev pub AreWhole : SourceState → SourceState → List ℕ → List (List ℕ) → Type 0
+AreWhole source now text front = ((rest : List ℕ) × (text ≡ text_of front ++ rest)) ⊎ TakesAll source now text
+
+-- One line of the text that was taken, which is whole, and what the lines before it came to. At most 4,096 bytes of the text lie
+-- beyond it.
+pub record AtLine (s : State) (source now : SourceState) (text : List ℕ) : Type 0 where
   pub answered : List (List ℕ)
   pub line : List ℕ
   pub others : List (List ℕ)
   pub whole : lines text ≡ answered ++ line ∷ others
+  pub ended : AreWhole source now text (answered ++ line ∷ [])
   pub near : IsNear text (answered ++ line ∷ [])
   pub answers : List Answer
   pub are : AreAnswers s answered answers
 
 -- The replies to the lines before one line were written, and a front of the reply to that line.
-pub record StopsAtLine (s : State) (text : List ℕ) (before now : SinkState) : Type 0 where
-  pub at_line : AtLine s text
+pub record StopsAtLine (s : State) (source source' : SourceState) (text : List ℕ) (before now : SinkState) : Type 0 where
+  pub at_line : AtLine s source source' text
   pub answer : Answer
   pub comes : IsAnswer (after s at_line.answers) at_line.line answer
   pub front : List ℕ
@@ -65,8 +71,8 @@ pub record StopsAtLine (s : State) (text : List ℕ) (before now : SinkState) : 
 
 -- The replies to the lines before one line were written, and nothing else. That line asks for a stream or a query, and no word
 -- refuses it; no memory was found for it.
-pub record StopsAtCreate (s : State) (text : List ℕ) (before now : SinkState) : Type 0 where
-  pub at_line : AtLine s text
+pub record StopsAtCreate (s : State) (source source' : SourceState) (text : List ℕ) (before now : SinkState) : Type 0 where
+  pub at_line : AtLine s source source' text
   pub request : Request
   pub asks : IsRequest (after s at_line.answers) at_line.line request
   pub creates : IsTrue (creates request)
@@ -77,8 +83,8 @@ pub record StopsAtCreate (s : State) (text : List ℕ) (before now : SinkState) 
 abbrev pub Streams : Ending → State → SourceState → SourceState → SinkState → SinkState → Type 0
 Streams Done s source source' sink sink' = TookAll source source' (λ text. WroteText s text sink sink')
 Streams ReadFault s source source' sink sink' = Rose source.faults source'.faults × Took source source' (λ text. WroteText s (ended_part text) sink sink')
-Streams WriteFault s source source' sink sink' = Rose sink.faults sink'.faults × Took source source' (λ text. IfSome sink.written (λ _. StopsAtLine s text sink sink'))
-Streams Memory s source source' sink sink' = Took source source' (λ text. StopsAtCreate s text sink sink')
+Streams WriteFault s source source' sink sink' = Rose sink.faults sink'.faults × Took source source' (λ text. IfSome sink.written (λ _. StopsAtLine s source source' text sink sink'))
+Streams Memory s source source' sink sink' = Took source source' (λ text. StopsAtCreate s source source' text sink sink')
 Streams ByteLimit s source source' sink sink' = Took source source' (λ text. (length text ≡ 2 ^ 64 - 1) × WroteText s (ended_part text) sink sink')
 
 -- a run ends so, and the counts of faults did not fall

@@ -1,6 +1,6 @@
 use Rattle.std.proofs.Common.{◌≡◌, ◌+ℤ◌, ◌≤ℤ◌, neg_ℤ, pos, to_z, of_z, w64, refl, arith, sym, ◌∙◌}
 use Rattle.std.proofs.lemmas.Int.{ints}
-use Rattle.bq_closure.specs.Solutions.{IsWithin}
+use Rattle.bq_constraints.specs.Solutions.{IsWithin}
 use Rattle.bq_certificate.proofs.WalkedChains.{within_numbered, lower_more, upper_more, leads_next, leads_all}
 use Rattle.bq_certificate.proofs.chain.chain_from.Goals as goal
 

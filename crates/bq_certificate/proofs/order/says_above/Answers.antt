@@ -1,4 +1,4 @@
-use Rattle.bq_closure.proofs.NodeFacts.{limit_in}
+use Rattle.bq_constraints.proofs.NodeFacts.{limit_in}
 use Rattle.bq_certificate.proofs.order.says_above.Goals as goal
 
 pub difference-requires-clause-left : goal.difference-requires-clause-left

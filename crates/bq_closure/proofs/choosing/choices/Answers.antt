@@ -2,7 +2,8 @@ use Rattle.std.proofs.Common.{◌≡◌, ◌<◌, ◌∙◌, List, length, subst
 use Rattle.bq_model.specs.declared.part.Pair.{Pair}
 use Rattle.bq_model.specs.Parts.{pairs}
 use Rattle.bq_closure.specs.Choices.{IsChoice}
-use Rattle.bq_closure.proofs.Pairs.{pair_elements, so_many}
+use Rattle.bq_constraints.proofs.Sides.{pair_elements}
+use Rattle.bq_closure.proofs.Pairs.{so_many}
 use Rattle.bq_closure.proofs.Zips.{zip_more_at}
 use Rattle.bq_closure.proofs.choosing.choices.Goals as goal
 

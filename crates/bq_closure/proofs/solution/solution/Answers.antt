@@ -2,7 +2,8 @@ use Rattle.std.proofs.Common.{◌≡◌, pos, ◌+ℤ◌, nat_abs, ◌+◌, arit
 use Rattle.std.proofs.lemmas.Int.{to_z-of_z}
 use mir.Syntax.{w128}
 use Rattle.bq_closure.specs.Closure.{bound_at}
-use Rattle.bq_closure.specs.Reach.{reach, pinned}
+use Rattle.bq_constraints.specs.Reach.{reach}
+use Rattle.bq_closure.specs.Pinned.{pinned}
 use Rattle.bq_closure.proofs.Pin.{values_more}
 use Rattle.bq_closure.proofs.solution.solution.Goals as goal
 

@@ -1,7 +1,8 @@
 use Rattle.std.proofs.Common.{◌≡◌, ℕ, ◌+◌, ◌<◌, ◌+ℤ◌, pos, nat_abs, length}
 use Rattle.bq_closure.specs.Answers.{at_nodes}
 use Rattle.bq_closure.specs.Closure.{bound_at}
-use Rattle.bq_closure.specs.Reach.{reach, pinned}
+use Rattle.bq_constraints.specs.Reach.{reach}
+use Rattle.bq_closure.specs.Pinned.{pinned}
 use Rattle.bq_closure.proofs.solution.solution.Given as goal
 
 abbrev pub invariant-loop-k : goal.invariant-loop-k

@@ -1,6 +1,7 @@
 use Rattle.std.proofs.Common.{◌≡◌}
 use Rattle.bq_closure.specs.Closure.{bound_at}
-use Rattle.bq_closure.specs.Reach.{reach, pinned}
+use Rattle.bq_constraints.specs.Reach.{reach}
+use Rattle.bq_closure.specs.Pinned.{pinned}
 use Rattle.bq_closure.proofs.solution.value_of.Given as goal
 
 abbrev pub invariant-loop-m : goal.invariant-loop-m

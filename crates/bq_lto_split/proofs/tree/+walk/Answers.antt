@@ -1,6 +1,6 @@
 use Rattle.std.proofs.Common.{◌≡◌, ◌∙◌, arith, ◌+◌, ◌++◌, ◌∷◌, [], length, length-append, ap}
-use Rattle.bq_lto_split.specs.Tree.{AddsSign}
-use Rattle.bq_closure.proofs.Joined.{allows_each, solves_implied}
+use Rattle.bq_constraints.specs.PartConstraints.{AddsSign}
+use Rattle.bq_constraints.proofs.Joined.{allows_each, solves_implied}
 use Rattle.bq_lto_split.proofs.Steps.{room_next, not_feasible, before_same, before_added}
 use Rattle.bq_lto_split.proofs.Walks.{nothing, leaf}
 use Rattle.bq_lto_split.proofs.tree.+walk.Goals as goal

@@ -1,11 +1,12 @@
-use Rattle.std.proofs.Common.{◌∙◌}
-use Rattle.bq_refs.proofs.Adding.{no_prefix, choice_there}
+use Rattle.std.proofs.Common.{sym, ◌∙◌}
+use Rattle.bq_constraints.proofs.Prefix.{of_no_prefix}
+use Rattle.bq_refs.proofs.Adding.{choice_there}
 use Rattle.bq_refs.proofs.known.set_bounds.Goals as goal
 
 pub loop-i-init : goal.loop-i-init
 loop-i-init c = record {
   attrs = c.set.ensures.attrs ∙ c.requires.basis.attrs;
-  constraints = no_prefix c.args.q.now _ (c.set.ensures.constraints ∙ c.requires.basis.constraints);
+  constraints = c.set.ensures.constraints ∙ c.requires.basis.constraints ∙ sym (of_no_prefix c.args.q.now);
   few = rw c.set.ensures.constraints c.requires.basis.room;
 }
 

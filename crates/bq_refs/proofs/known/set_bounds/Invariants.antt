@@ -1,6 +1,6 @@
 use Rattle.std.proofs.Common.{◌≡◌, ◌+◌, ◌*◌, ◌≤◌, length, take}
 use Rattle.bq_model.specs.Query.{attrs_of}
-use Rattle.bq_closure.specs.PartConstraints.{of_prefix}
+use Rattle.bq_constraints.specs.PartConstraints.{of_prefix}
 use Rattle.bq_refs.proofs.known.set_bounds.Given as goal
 
 abbrev pub invariant-loop-i : goal.invariant-loop-i

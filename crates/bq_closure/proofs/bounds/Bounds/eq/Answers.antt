@@ -1,4 +1,4 @@
-use Rattle.bq_closure.proofs.NodeFacts.{node_in}
+use Rattle.bq_constraints.proofs.NodeFacts.{node_in}
 use Rattle.bq_closure.proofs.Upper.{equal_from, above_from_equal, above_from_equal_turned}
 use Rattle.bq_closure.proofs.bounds.Bounds.eq.Goals as goal
 

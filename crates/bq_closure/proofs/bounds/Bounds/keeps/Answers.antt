@@ -1,10 +1,10 @@
 use Rattle.std.proofs.Common.{◌≡◌, pos, neg_ℤ, ◌≤ℤ◌, ◌+ℤ◌, ◌-ℤ◌, arith, to_z, of_z}
 use Rattle.std.proofs.lemmas.Int.{ints}
 use mir.Syntax.{w128}
-use Rattle.bq_closure.specs.Nodes.{node_of, offset_of}
-use Rattle.bq_closure.specs.Solutions.{IsUpper, HasNoUpper}
+use Rattle.bq_constraints.specs.Nodes.{node_of, offset_of}
+use Rattle.bq_constraints.specs.Solutions.{IsUpper, HasNoUpper}
 use Rattle.bq_closure.proofs.Upper.{keeps_some, keeps_none}
-use Rattle.bq_closure.proofs.NodeFacts.{offset_low, offset_high}
+use Rattle.bq_constraints.proofs.NodeFacts.{offset_low, offset_high}
 use Rattle.bq_closure.proofs.bounds.Bounds.keeps.Goals as goal
 
 pub returns-in-Some : goal.returns-in-Some
@@ -16,7 +16,7 @@ returns-in-Some c =
     let r2 = offset_high c.args.y c.requires.right_limit in
     let low : neg_ℤ (pos 1) ≤ℤ c.args.by = omega (arith, ints) in
     let high : c.args.by ≤ℤ pos 0 = omega (arith, ints) in
-    let e : c.limit.result ≡ offset_of c.args.y -ℤ offset_of c.args.x +ℤ c.args.by = omega (arith, ints, c.limit.ensures, c.offset.ensures, c.offset-in-Some.ensures, l1, l2, r1, r2) in
+    let e : c.limit.result ≡ offset_of c.args.y -ℤ offset_of c.args.x +ℤ c.args.by = omega (arith, ints, c.limit.ensures, l1, l2, r1, r2) in
     let u1 : to_z w128 (of_z w128 c.in-Some.bound) ≡ c.in-Some.bound = omega (arith, ints, s.0, s.1) in
     let v1 : to_z w128 (of_z w128 c.limit.result) ≡ c.limit.result = omega (arith, ints, e, l1, l2, r1, r2, low, high) in
     let up0 : IsUpper c.args.self.now.constraints c.node.result c.node-2.result c.in-Some.bound = c.in-Some.ensures.answer in

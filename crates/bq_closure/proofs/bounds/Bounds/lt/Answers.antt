@@ -1,4 +1,4 @@
-use Rattle.bq_closure.proofs.NodeFacts.{node_in}
+use Rattle.bq_constraints.proofs.NodeFacts.{node_in}
 use Rattle.bq_closure.proofs.Upper.{less_from, above_from_less}
 use Rattle.bq_closure.proofs.bounds.Bounds.lt.Goals as goal
 

@@ -1,7 +1,7 @@
 use Rattle.std.proofs.Common.{◌≡◌, ◌<◌, ℕ, arith, ap, sym, ◌∙◌, subst, Some, List}
 use Rattle.bq_closure.specs.BoundsValue.{BoundsValue}
 use Rattle.bq_closure.specs.Answers.{IsPathAnswer}
-use Rattle.bq_closure.specs.Solutions.{IsSatisfiable}
+use Rattle.bq_constraints.specs.Solutions.{IsSatisfiable}
 use Rattle.bq_closure.proofs.Upper.{tight_if_satisfiable, path_some, upper_none, modest_way}
 use Rattle.bq_closure.proofs.bounds.Bounds.path.Goals as goal
 

@@ -2,7 +2,7 @@ use Rattle.std.proofs.Common.{◌≡◌, ◌<◌, arith, ap, to_z, of_z, rules}
 use Rattle.std.proofs.lemmas.Int.{to_z-of_z}
 use mir.Syntax.{w128}
 use Rattle.bq_closure.specs.BoundsValue.{BoundsValue}
-use Rattle.bq_closure.specs.Solutions.{IsSatisfiable}
+use Rattle.bq_constraints.specs.Solutions.{IsSatisfiable}
 use Rattle.bq_closure.proofs.Upper.{tight_if_satisfiable, solved_at, is_outside_below, is_outside_above, not_below, not_above}
 use Rattle.bq_closure.proofs.bounds.Bounds.solve_at.Goals as goal
 

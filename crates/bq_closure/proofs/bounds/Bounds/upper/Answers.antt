@@ -3,7 +3,7 @@ use Rattle.std.proofs.lemmas.Int.{ints}
 use mir.Syntax.{w128}
 use Rattle.bq_closure.specs.BoundsValue.{BoundsValue}
 use Rattle.bq_closure.specs.Ways.{AreModest}
-use Rattle.bq_closure.specs.Solutions.{IsSatisfiable}
+use Rattle.bq_constraints.specs.Solutions.{IsSatisfiable}
 use Rattle.bq_closure.proofs.Upper.{tight_if_satisfiable, upper_some, upper_none, modest_way}
 use Rattle.bq_closure.proofs.bounds.Bounds.upper.Goals as goal
 

@@ -1,5 +1,5 @@
 use Rattle.std.proofs.Common.{arith, refl}
-use Rattle.bq_closure.specs.Solutions.{Allows}
+use Rattle.bq_constraints.specs.Solutions.{Allows}
 use Rattle.bq_closure.proofs.Each.{all_more, all_end, all_one}
 use Rattle.bq_closure.proofs.closure.Closure.allows_each.Goals as goal
 

@@ -1,6 +1,6 @@
 use Rattle.std.proofs.Common.{ℕ, List, All, take}
-use Rattle.bq_closure.specs.declared.constraint.Constraint.{Constraint}
-use Rattle.bq_closure.specs.Solutions.{Implies}
+use Rattle.bq_constraints.specs.declared.constraint.Constraint.{Constraint}
+use Rattle.bq_constraints.specs.Solutions.{Implies}
 use Rattle.bq_closure.specs.Closure.{IsClosureOf}
 use Rattle.bq_closure.proofs.closure.Closure.implies_each.Given as goal
 

@@ -1,5 +1,5 @@
-use Rattle.std.proofs.Common.{◌≡◌, ◌≤◌, [], subst, sym, IsTrue}
-use Rattle.std.specs.List.{list_any}
+use Rattle.std.proofs.Common.{◌≡◌, ℕ, ◌≤◌, [], ap, ◌∙◌, subst, sym, IsTrue, Some}
+use Rattle.std.specs.List.{list_any, position, remove}
 use Rattle.std.specs.Str.{bytes_eq}
 use Rattle.bq_executor.specs.Executor.{waiting_in}
 use Rattle.bq_registry.specs.Live.{Live, live_of}
@@ -35,3 +35,17 @@ returns-in-Some-clause-queries c =
     let found = found_place c.args.name.now (live_of c.self.inside.live.entries) c.in-Some.place (sym c.in-Some.ensures.place) in
     subst (λ (v : RegistryValue). KeepQueries v.live (live_of c.drop_at.new.live.entries)) c.self.view_is
     (dropped_keep c.in-Some.place c.self.inside.pool c.drop_at.new.pool (live_of c.self.inside.live.entries) (live_of c.drop_at.new.live.entries) found.0 c.drop_at.ensures)
+
+same_place : (n m : ℕ) → Some n ≡ Some m → n ≡ m
+same_place n m e = cc
+
+pub returns-in-Some-clause-left : goal.returns-in-Some-clause-left
+returns-in-Some-clause-left c = λ n e.
+    let viewed = ap (λ (v : RegistryValue). position (λ (l : Live). bytes_eq l.name c.args.name.now) v.live) c.self.view_is in
+    let same : c.in-Some.place ≡ n = same_place c.in-Some.place n (c.in-Some.ensures.place ∙ viewed ∙ e) in
+    c.drop_at.ensures.left ∙ ap (λ (v : RegistryValue). remove v.live c.in-Some.place) c.self.view_is ∙ ap (λ m. remove c.args.self.now.live m) same
+
+pub returns-in-None-clause-left : goal.returns-in-None-clause-left
+returns-in-None-clause-left c = λ n e.
+    let none = not_found c.args.name.now (live_of c.self.inside.live.entries) (sym c.in-None.ensures.place) in
+    absurd (true_or_false (subst (λ (v : RegistryValue). IsTrue (list_any (λ (l : Live). bytes_eq l.name c.args.name.now) v.live)) (sym c.self.view_is) c.requires) none)

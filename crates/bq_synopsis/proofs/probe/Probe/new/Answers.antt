@@ -10,7 +10,7 @@ use Rattle.bq_synopsis.proofs.probe.Probe.new.Goals as goal
 
 pub returns-clause-left : goal.returns-clause-left
 returns-clause-left c read =
-    (λ k. left (setting (c.pairs.ensures k) c.args.q.now.select c.args.part.now c.args.pos ((c.copy_of.ensures ∙ c.as_slice.ensures.value) k) read) (c.new.ensures k) (c.new-2.ensures k) 0 false)
+    (λ k. left (setting (c.pairs.ensures k) c.args.q.now.select c.args.part.now c.args.pos c.args.row.now.items read) (c.new.ensures k) (c.new-2.ensures k) 0 false)
     ∙ left-start c.args.q.now c.args.part.now c.args.pos c.args.row.now.items read c.requires.walked (omega (arith, c.requires.here, c.requires.walked.plan.count))
 
 pub returns-clause-reads : goal.returns-clause-reads

@@ -1,0 +1,299 @@
+"""The analysis of a query, from the definitions: parts, links, decision, numbers, plan.
+
+A query is given with its columns numbered: an attribute is a pair (place in FROM, column), a
+constant an integer. Node 0 stands for the number 0, node i for the i-th attribute from 1.
+`Bounds.at[i][j]` is the least bound of i - j, or None where there is none.
+"""
+from collections import namedtuple
+from itertools import combinations
+
+MOST_PARTS = 4096
+MOST_CELLS = 262_144
+MOST_ANSWERS = 65_536
+MOST_WORK = 4_194_304
+CELLS_OF_PAGE = 64
+SIGNS = "<=>"
+
+# atoms are triples (left, operator, right) of attributes and integers
+Query = namedtuple("Query", "distinct places select atoms")
+Analysis = namedtuple("Analysis", "verdict parts")
+Part = namedtuple("Part", "signs facts dims extremes")
+TooManyParts = type("TooManyParts", (Exception,), {})
+
+
+def is_constant(element):
+    return isinstance(element, int)
+
+
+def attributes_of(query):
+    """The columns that the atoms name, in FROM order and then column order."""
+    return sorted({it for left, _, right in query.atoms for it in (left, right)
+                   if not is_constant(it)})
+
+
+def constants_of(query):
+    """The integers that the atoms name, ascending."""
+    return sorted({it for left, _, right in query.atoms for it in (left, right)
+                   if is_constant(it)})
+
+
+def pairs_of(query):
+    """Each attribute with each constant, then with each later attribute of its stream."""
+    attributes, constants = attributes_of(query), constants_of(query)
+    pairs = []
+    for attribute in attributes:
+        pairs += [(attribute, it) for it in constants]
+        pairs += [(attribute, it) for it in attributes
+                  if it[0] == attribute[0] and it > attribute]
+    return pairs
+
+
+def constraints_of(left, operator, right, nodes):
+    """The constraints of one comparison: triples (i, j, bound) say that i - j <= bound."""
+    if is_constant(left):
+        left, operator, right = right, {"<": ">", "=": "=", ">": "<"}[operator], left
+    i = nodes[left]
+    j, shift = (0, right) if is_constant(right) else (nodes[right], 0)
+    if operator == "<":
+        return [(i, j, shift - 1)]
+    if operator == ">":
+        return [(j, i, -shift - 1)]
+    return [(i, j, shift), (j, i, -shift)]
+
+
+class Bounds:
+    """What difference constraints imply, as a closed table; `possible` says whether any do."""
+
+    def __init__(self, size):
+        self.size = size
+        self.possible = True
+        self.at = [[0 if i == j else None for j in range(size)] for i in range(size)]
+
+    def copy(self):
+        other = Bounds.__new__(Bounds)
+        other.size, other.possible = self.size, self.possible
+        other.at = [row[:] for row in self.at]
+        return other
+
+    def add(self, constraint):
+        """Takes one more constraint and closes the table again."""
+        a, b, bound = constraint
+        if not self.possible:
+            return
+        back = self.at[b][a]
+        if back is not None and back + bound < 0:
+            self.possible = False
+            return
+        here = self.at[a][b]
+        if here is not None and here <= bound:
+            return
+        behind = self.at[b]
+        for row in self.at:
+            if row[a] is None:
+                continue
+            first = row[a] + bound
+            for j, last in enumerate(behind):
+                if last is not None and (row[j] is None or first + last < row[j]):
+                    row[j] = first + last
+
+
+class Facts:
+    """What holds in every assignment of a part, read off a closed table of bounds."""
+
+    def __init__(self, query, nodes, constants, at):
+        self.query, self.nodes, self.constants, self.at = query, nodes, constants, at
+        self.attributes = sorted(nodes)
+        # each element stands at a node, a constant at node 0 with its value on top
+        self.stands = {it: (node, 0) for it, node in nodes.items()}
+        self.stands.update((it, (0, it)) for it in constants)
+        self.links()
+        self.references()
+
+    def upper(self, x, y):
+        """The least bound of x - y, or None."""
+        i, k = self.stands[x]
+        j, m = self.stands[y]
+        bound = self.at[i][j]
+        return None if bound is None else bound + k - m
+
+    def less(self, x, y):
+        bound = self.upper(x, y)
+        return bound is not None and bound <= -1
+
+    def equal(self, x, y):
+        one, other = self.upper(x, y), self.upper(y, x)
+        return one is not None and other is not None and one <= 0 and other <= 0
+
+    def range(self, x):
+        """The least and the greatest value of a bounded attribute, else None."""
+        if x not in self.nodes:
+            return None
+        low, high = self.at[0][self.nodes[x]], self.at[self.nodes[x]][0]
+        return None if low is None or high is None else (-low, high)
+
+    def redundant(self, x, y):
+        elements = self.attributes + self.constants
+        return (any(self.less(x, it) and self.less(it, y) for it in elements)
+                or any(self.equal(x, it) and self.less(it, y) for it in self.constants)
+                or any(self.less(x, it) and self.equal(it, y) for it in self.constants))
+
+    def links(self):
+        """Equalities and inequalities between streams, the redundant ones left out."""
+        between = [(x, y) for x in self.attributes for y in self.attributes if x[0] != y[0]]
+        self.equalities = [(x, y) for x, y in between if x < y and self.equal(x, y)]
+        self.inequalities = [(x, y) for x, y in between
+                             if self.less(x, y) and not self.redundant(x, y)]
+
+    def references(self):
+        """The unbounded attributes that stand on the left, and on the right."""
+        self.least = {x for x, _ in self.inequalities if not self.range(x)}
+        self.greatest = {y for _, y in self.inequalities if not self.range(y)}
+
+    def class_of(self, x):
+        """The first attribute of the stream that equals x."""
+        return next(it for it in self.attributes if it[0] == x[0] and self.equal(it, x))
+
+
+def violation_of(query, facts):
+    """The first condition that a part fails with the attribute at fault, or None."""
+    for column in sorted(set(query.select)):
+        if not facts.range(column):
+            return "C1", column
+    sides = sorted({it for pair in facts.equalities for it in pair})
+    for side in sides:
+        if not facts.range(side):
+            return "C2", side
+    for place in range(query.places):
+        least = {it for it in facts.least if it[0] == place}
+        greatest = {it for it in facts.greatest if it[0] == place}
+        classes = len({facts.class_of(it) for it in least})
+        classes += len({facts.class_of(it) for it in greatest})
+        if classes > (1 if query.distinct else 0):
+            return "C3", min(least | greatest)
+    return None
+
+
+def dims_of(query, facts, place):
+    """The classes of bounded attributes by which the rows of a stream are told apart."""
+    used = set(query.select)
+    used |= {it for pair in facts.equalities + facts.inequalities for it in pair}
+    members = [it for it in facts.attributes
+               if it[0] == place and facts.range(it) and it in used]
+    return sorted({facts.class_of(it) for it in members})
+
+
+def size_of(facts, columns):
+    """The product of the sizes of the ranges of these columns."""
+    size = 1
+    for column in columns:
+        low, high = facts.range(column)
+        size *= high - low + 1
+    return size
+
+
+def work_of(query, facts, dims):
+    """The most combinations that a row of any stream can meet in a part."""
+    most = 0
+    for arriving in range(query.places):
+        own = [it for it in facts.attributes if it[0] == arriving]
+        free, earlier = [], []
+        for place in range(query.places):
+            if place == arriving:
+                continue
+            free += [it for it in dims[place]
+                     if not any(facts.equal(it, other) for other in own + earlier)]
+            earlier = earlier + dims[place]
+        most = max(most, size_of(facts, free))
+    return most
+
+
+def walk_parts(query, most):
+    """All sign vectors that some assignment has, ascending, each with its closed table."""
+    nodes = {it: i for i, it in enumerate(attributes_of(query), 1)}
+    pairs = pairs_of(query)
+    root = Bounds(len(nodes) + 1)
+    for left, operator, right in query.atoms:
+        for constraint in constraints_of(left, operator, right, nodes):
+            root.add(constraint)
+    found, waiting = [], [("", root)] if root.possible else []
+    while waiting:
+        signs, bounds = waiting.pop()
+        if len(signs) == len(pairs):
+            found.append((signs, bounds.at))
+            if len(found) > most:
+                raise TooManyParts
+            continue
+        left, right = pairs[len(signs)]
+        for sign in reversed(SIGNS):
+            child = bounds.copy()
+            for constraint in constraints_of(left, sign, right, nodes):
+                child.add(constraint)
+            if child.possible:
+                waiting.append((signs + sign, child))
+    return found
+
+
+def nodes_of(query, parts):
+    """How many nodes the tree of a certificate has."""
+    if not parts or not pairs_of(query):
+        return 1
+    fronts = {signs[:length] for signs in parts for length in range(len(signs))}
+    return 1 + 3 * len(fronts)
+
+
+def part_of(query, signs, at):
+    nodes = {it: i for i, it in enumerate(attributes_of(query), 1)}
+    facts = Facts(query, nodes, constants_of(query), at)
+    dims = [dims_of(query, facts, place) for place in range(query.places)]
+    return Part(signs, facts, dims, [extreme_of(facts, it) for it in range(query.places)])
+
+
+def extreme_of(facts, place):
+    """Which extreme the cells of a stream keep with DISTINCT: its word and column, or None."""
+    for word, members in (("least", facts.least), ("greatest", facts.greatest)):
+        columns = sorted(facts.class_of(it) for it in members if it[0] == place)
+        if columns:
+            return word, columns[0]
+    return None
+
+
+def numbers_of(query, parts):
+    """Cells, answers and work of a query that meets all conditions."""
+    cells = answers = work = 0
+    for part in parts:
+        if query.places > 1:
+            cells += sum(size_of(part.facts, dims) for dims in part.dims)
+        answers += size_of(part.facts, sorted(set(query.select)))
+        work += work_of(query, part.facts, part.dims)
+    return cells, answers, work
+
+
+def analyse(query):
+    """The verdict on a query, the pool aside, and its parts.
+
+    A verdict is ("filter",), ("limit", word), ("violation", part, condition, attribute) or
+    ("ok", parts, cells, answers, work).
+    """
+    if query.places == 1 and not query.distinct:
+        return Analysis(("filter",), [])
+    try:
+        vectors = walk_parts(query, MOST_PARTS)
+    except TooManyParts:
+        return Analysis(("limit", "parts"), [])
+    parts = []
+    for number, (signs, at) in enumerate(vectors, 1):
+        part = part_of(query, signs, at)
+        violation = violation_of(query, part.facts)
+        if violation:
+            return Analysis(("violation", number, *violation), [])
+        parts.append(part)
+    cells, answers, work = numbers_of(query, parts)
+    for word, value, most in (("cells", cells, MOST_CELLS), ("answers", answers, MOST_ANSWERS),
+                              ("work", work, MOST_WORK)):
+        if value > most:
+            return Analysis(("limit", word), parts)
+    return Analysis(("ok", len(parts), cells, answers, work), parts)
+
+
+def pages_of(cells):
+    return -(-cells // CELLS_OF_PAGE)

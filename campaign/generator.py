@@ -1,0 +1,265 @@
+"""Random scripts. The writer asks the evaluator for the reply to each line that it writes.
+
+So it knows which queries live, and drops those whose answers become too many.
+"""
+from evaluator import Session
+
+MOST_ANSWER_BYTES = 4000
+STREAM_NAMES = [b"S", b"T", b"U", b"W", b"R", b"L", b"s", b"_x", b"temp_1", b"reading", b"Q1", b"Zz",
+                b"A" * 24, b"in_", b"selects", b"m0", b"m1", b"m2"]
+COLUMN_NAMES = [b"a", b"b", b"c", b"d", b"e", b"f", b"g", b"h", b"A", b"_", b"col9", b"c" * 24]
+QUERY_NAMES = [b"q", b"p", b"Q", b"hot", b"_", b"q2", b"S", b"z" * 24] + [b"n%d" % i for i in range(70)]
+FIELDS = [b"", b"x", b"1.5", b"--1", b"+", b"-", b"9223372036854775808", b"-9223372036854775809",
+          b"1 2", b"0x1", b"1;", b"\xff", b"\x00", b"1\r", b"1e3", b"9" * 40]
+GOOD_FIELDS = [b"9223372036854775807", b"-9223372036854775808", b"+5", b"005", b"-0", b" 3", b"2\t",
+               b"0" * 30 + b"4", b"1000000", b"-1000000"]
+LINES = [b"", b"   ", b"\t", b"-- nothing", b"  -- S,1", b"--", b"-", b"- -", b";", b",", b",1", b"1,2",
+         b"CREATE", b"CREATE STREAM", b"CREATE STREAM S", b"CREATE STREAM S ()", b"CREATE STREAM S (a,)",
+         b"CREATE QUERY q AS SELECT", b"DROP q", b"DROP QUERY", b"EXPLAIN", b"SELECT,1", b"resume,1",
+         b"x" * 1024, b"x" * 1025, b"-- " + b"y" * 1021, b"-- " + b"y" * 1022, b"S," + b"1" * 1022,
+         b"S," + b"0" * 1023, b" " * 1024, b" " * 1025, b"create stream K (a);;", b"\r", b" \r", b"\r\r",
+         b"CHECKPOINT", b"RESUME 1", b"CREATE STREAM i (a IN 1 TO 5)", b"drop query nobody", b"nobody,1",
+         b"n" * 25 + b",1", b"CREATE STREAM " + b"n" * 25 + b" (a)", b"\xef\xbb\xbfS,1", b"S\x00,1"]
+
+
+class Writer:
+    """Writes one script line by line, with the wanted reply to each line."""
+
+    def __init__(self, random, most_rows=None):
+        self.random = random
+        self.session = Session(most_rows) if most_rows else Session()
+        self.lines, self.replies = [], []
+
+    def write(self, line):
+        reply = self.session.reply(line)
+        self.lines.append(line)
+        self.replies.append(reply)
+        return reply
+
+    def text(self):
+        return b"\n".join(self.lines) + b"\n"
+
+    def wanted(self):
+        return b"".join(self.replies)
+
+    def chance(self, share):
+        return self.random.random() < share
+
+    # statements
+
+    def spaced(self, line):
+        """The line with odd blanks, a semicolon or a CR now and then."""
+        if self.chance(0.05):
+            line = line.replace(b" ", b"  ", 1).replace(b",", b" ,\t")
+        if self.chance(0.05):
+            line = self.random.choice([b" ", b"\t", b" \t "]) + line
+        if self.chance(0.05):
+            line += self.random.choice([b" ", b"\t", b"\r", b" \r", b"\r ", b"\r\r"])
+        return line
+
+    def statement(self, line):
+        if self.chance(0.1):
+            line = line.replace(b"SELECT", b"select").replace(b" AND ", b" and ")
+        if self.chance(0.1):
+            line += self.random.choice([b";", b" ;"])
+        return self.write(self.spaced(line))
+
+    def stream(self, most_columns=8):
+        name = self.random.choice(STREAM_NAMES)
+        columns = self.random.sample(COLUMN_NAMES, self.random.randint(1, most_columns))
+        if self.chance(0.03):
+            columns[0] = columns[-1]
+        return self.statement(b"CREATE STREAM " + name + b" (" + b", ".join(columns) + b")")
+
+    def columns_of(self, stream):
+        return [stream + b"." + it for it in self.session.streams[stream]]
+
+    def bound(self, column, base, width):
+        """Comparisons that bound a column, or one that does so on one side, or a single value."""
+        low, high = base, base + width + 1
+        kind = self.random.random()
+        if kind < 0.2:
+            return [column + b" = %d" % (base + 1)]
+        if kind < 0.3:
+            return [self.random.choice([column + b" > %d" % low, b"%d > " % high + column])]
+        return [self.random.choice([column + b" > %d" % low, b"%d < " % low + column]),
+                self.random.choice([column + b" < %d" % high, b"%d > " % high + column])]
+
+    def query_text(self):
+        """A query over the streams that are there; most of them can be accepted."""
+        streams = list(self.session.streams)
+        many = min(len(streams), self.random.choice([1, 1, 2, 2, 2, 2, 3, 3, 4]))
+        chosen = self.random.sample(streams, many)
+        base, width = self.random.randint(-1, 3), self.random.choice([1, 1, 2, 2, 3])
+        used = {it: self.random.choice(self.columns_of(it)) for it in chosen}
+        atoms = self.joins(chosen, used, base, width)
+        first = self.random.choice(chosen)
+        select = [used[first]]
+        for _ in range(self.random.choice([0, 0, 0, 1, 2])):
+            select.append(self.random.choice(self.columns_of(self.random.choice(chosen))))
+        for column in dict.fromkeys(select):
+            if self.chance(0.93):
+                atoms += self.bound(column, base, width)
+        if self.chance(0.25):
+            atoms.append(self.any_atom(chosen))
+        if self.chance(0.15):
+            atoms.append(self.any_atom([first]))
+        self.random.shuffle(atoms)
+        text = b"SELECT " + (b"DISTINCT " if self.chance(0.5) else b"") + b", ".join(select)
+        text += b" FROM " + b", ".join(chosen)
+        return text + (b" WHERE " + b" AND ".join(atoms) if atoms else b"")
+
+    def joins(self, chosen, used, base, width):
+        """Comparisons that tie the streams together; equalities are bounded more often."""
+        atoms = []
+        for one, other in zip(chosen, chosen[1:]):
+            kind = self.random.random()
+            if kind < 0.15:
+                continue
+            operator = b"=" if kind < 0.45 else self.random.choice([b"<", b">"])
+            pair = [self.joined(it, used[it], operator) for it in (one, other)]
+            atoms.append((b" " + operator + b" ").join(pair))
+            for column in pair:
+                if self.chance(0.6 if operator == b"=" else 0.15):
+                    atoms += self.bound(column, base, width)
+        return atoms
+
+    def joined(self, stream, used, operator):
+        """A column for a join: for an inequality mostly one that is not selected."""
+        others = [it for it in self.columns_of(stream) if it != used]
+        if not others or self.chance(0.5 if operator == b"=" else 0.15):
+            return used
+        return self.random.choice(others)
+
+    def any_atom(self, chosen):
+        """A comparison of any two columns, or of a column and some number."""
+        left = self.random.choice(self.columns_of(self.random.choice(chosen)))
+        right = self.random.choice(self.columns_of(self.random.choice(chosen)))
+        if self.chance(0.3):
+            right = b"%d" % self.random.choice([-5, 0, 1, 4, 999999999999999])
+        return left + b" " + self.random.choice([b"<", b"=", b">"]) + b" " + right
+
+    def query(self, name=None, text=None):
+        name = name or self.random.choice(QUERY_NAMES[:8])
+        text = text or self.query_text()
+        if self.chance(0.03):
+            text = self.spoiled(text)
+        return self.statement(b"CREATE QUERY " + name + b" AS " + text)
+
+    def spoiled(self, text):
+        """A query with a fault of its own kind."""
+        old, new = self.random.choice([
+            (b"FROM ", b"FROM nobody, "), (b"SELECT ", b"SELECT nobody.a, "), (b".a", b".zz"),
+            (b"WHERE", b"WHERE 1 < 2 AND"), (b" AND ", b" OR "), (b"SELECT ", b"SELECT * "),
+            (b"WHERE", b"WHERE S.a <= 2 AND"), (b"FROM ", b"FROM S, S, "), (b"AND", b"AND AND"),
+            (b"WHERE ", b"WHERE " + b"S.a = S.a AND " * 16), (b"> ", b"> 1000000000000000"),
+            (b"SELECT ", b"SELECT " + b"S.a, " * 8), (b"FROM ", b"FROM S, T, U, W, R, ")])
+        return text.replace(old, new, 1)
+
+    # rows
+
+    def value(self):
+        if self.chance(0.03):
+            return self.random.choice(GOOD_FIELDS)
+        return b"%d" % self.random.randint(-2, 7)
+
+    def row(self):
+        """A row of a stream that is there, its answers kept few by dropping what has too many."""
+        stream = self.random.choice(list(self.session.streams))
+        fields = [self.value() for _ in self.session.streams[stream]]
+        if self.chance(0.02):
+            fields[self.random.randrange(len(fields))] = self.random.choice(FIELDS)
+        if self.chance(0.02):
+            fields = fields[1:] or fields * 2
+        reply = self.write(self.spaced(stream + b"," + b",".join(fields)))
+        if len(reply) > MOST_ANSWER_BYTES:
+            names = [it.split(b",")[0] for it in reply.split(b"\n")[:-1]]
+            self.statement(b"DROP QUERY " + max(set(names), key=names.count))
+
+    def hostile(self):
+        self.write(self.spaced(self.random.choice(LINES)))
+
+    # whole scripts
+
+    def step(self):
+        """One more line of a mixed script."""
+        kind = self.random.random()
+        live = list(self.session.queries)
+        if kind < 0.86:
+            self.row()
+        elif kind < 0.91:
+            self.query()
+        elif kind < 0.93 and live:
+            self.statement(b"DROP QUERY " + self.random.choice(live))
+        elif kind < 0.94:
+            self.statement(b"EXPLAIN " + self.random.choice(live + [b"q"]))
+        elif kind < 0.95:
+            self.stream()
+        else:
+            self.hostile()
+
+    def mixed(self, length):
+        """Streams, then queries, then rows with all else between them."""
+        while not self.session.streams:
+            self.stream(self.random.choice([2, 3, 8]))
+        for _ in range(self.random.randint(0, 4)):
+            self.stream(self.random.choice([2, 3, 8]))
+        for _ in range(self.random.randint(1, 5)):
+            self.query()
+        while len(self.lines) < length:
+            self.step()
+
+    def crowded(self, length):
+        """Up to 64 live queries and 16 streams at once, and one more of each tried."""
+        for _ in range(26):
+            self.stream(3)
+        for name in QUERY_NAMES:
+            self.query(name)
+        while len(self.session.queries) < 64:
+            self.query(self.random.choice(QUERY_NAMES))
+        self.query(b"one_more")
+        while len(self.lines) < length:
+            self.step()
+
+    def extreme_query(self):
+        """A query with DISTINCT whose cells keep extremes, or one that is near to it."""
+        chosen = self.random.sample([b"X", b"Y", b"Z"], self.random.choice([2, 2, 3]))
+        atoms, select = [], []
+        for one, other in zip(chosen, chosen[1:]):
+            pair = [one + b".v", other + b".v"]
+            atoms.append(self.random.choice([b" < ", b" > "]).join(pair))
+            if self.chance(0.4):
+                atoms.append(one + b".k = " + other + b".k")
+        low = self.random.randint(-1, 2)
+        for stream in chosen:
+            if self.chance(0.6) or not select:
+                select.append(stream + b".k")
+                high = low + self.random.randint(2, 7)
+                atoms += [stream + b".k > %d" % low, stream + b".k < %d" % high]
+        if self.chance(0.3):
+            atoms.append(chosen[0] + b".w " + self.random.choice([b"<", b"=", b">"]) + b" %d" % low)
+        if self.chance(0.2):
+            atoms.append(chosen[-1] + b".w = " + chosen[-1] + b".v")
+        text = b"SELECT DISTINCT " + b", ".join(select) + b" FROM " + b", ".join(chosen)
+        return text + b" WHERE " + b" AND ".join(atoms)
+
+    def extremes(self, length):
+        """Queries that keep extremes, over rows whose values drift up and down."""
+        for name in (b"X", b"Y", b"Z"):
+            self.write(b"CREATE STREAM " + name + b" (k, v, w)")
+        drift = 0
+        while len(self.lines) < length:
+            kind = self.random.random()
+            live = list(self.session.queries)
+            if kind < 0.06 or not live:
+                self.query(text=self.extreme_query())
+            elif kind < 0.09:
+                self.statement(b"DROP QUERY " + self.random.choice(live))
+            else:
+                drift += self.random.randint(-4, 4)
+                name = self.random.choice([b"X", b"Y", b"Z"])
+                value = drift + self.random.randint(-15, 15)
+                if self.chance(0.01):
+                    value = self.random.choice([2**63 - 1, -(2**63)])
+                w = self.random.choice([value, self.random.randint(-2, 3)])
+                self.write(b"%s,%d,%d,%d" % (name, self.random.randint(-1, 7), value, w))

@@ -1,0 +1,240 @@
+"""The script language: kinds of lines, tokens, statements, rows and the printed form.
+
+Everything here works on bytes. A statement that is refused raises Refused with its word.
+"""
+import re
+from collections import namedtuple
+
+LONGEST_LINE = 1024
+LONGEST_NAME = 24
+MOST_COLUMNS = 8
+MOST_SELECTED = 8
+MOST_FROM = 4
+MOST_ATOMS = 16
+MOST_ATTRIBUTES = 12
+MOST_CONSTANTS = 6
+LARGEST_INTEGER = 999_999_999_999_999
+LEAST_VALUE, GREATEST_VALUE = -(2**63), 2**63 - 1
+
+RESERVED = {
+    b"CREATE", b"STREAM", b"QUERY", b"AS", b"SELECT", b"DISTINCT", b"FROM", b"WHERE", b"AND",
+    b"EXPLAIN", b"DROP", b"IN", b"SHARED", b"CHECKPOINT", b"RESUME",
+}
+TOKEN = re.compile(rb"[ \t]*(?:([A-Za-z_][A-Za-z0-9_]*)|([+-]?[0-9]+)|([,.()<=>;]))")
+ROW = re.compile(rb"([A-Za-z_][A-Za-z0-9_]*)[ \t]*,")
+VALUE = re.compile(rb"[+-]?[0-9]+\Z")
+
+CreateStream = namedtuple("CreateStream", "name columns")
+CreateQuery = namedtuple("CreateQuery", "name distinct select streams atoms")
+Explain = namedtuple("Explain", "name")
+DropQuery = namedtuple("DropQuery", "name")
+# A column is a pair of names; an operand is such a pair or an integer.
+Atom = namedtuple("Atom", "left operator right")
+
+
+class Refused(Exception):
+    """A line is refused; the word says why."""
+
+    def __init__(self, word):
+        super().__init__(word)
+        self.word = word
+
+
+def lines_of(text):
+    """The lines of a text: cut at LF, a last piece without LF where it is not empty."""
+    pieces = text.split(b"\n")
+    return pieces if pieces[-1] else pieces[:-1]
+
+
+def strip_line(line):
+    """A line without one CR at its end, and then without blanks at both ends."""
+    if line.endswith(b"\r"):
+        line = line[:-1]
+    return line.strip(b" \t")
+
+
+def says_nothing(stripped):
+    """Whether a stripped line is empty or a comment."""
+    return not stripped or stripped.startswith(b"--")
+
+
+def tokens_of(stripped):
+    """The tokens of a statement, each a kind and a text; a reserved word has its own kind."""
+    tokens, place, end = [], 0, len(stripped)
+    while place < end:
+        found = TOKEN.match(stripped, place)
+        if not found:
+            if stripped[place:].strip(b" \t"):
+                raise Refused("Syntax")
+            break
+        word, integer, mark = found.groups()
+        if word is not None:
+            upper = word.upper()
+            tokens.append((upper.decode(), word) if upper in RESERVED else ("name", word))
+        elif integer is not None:
+            tokens.append(("integer", integer))
+        else:
+            tokens.append((mark.decode(), mark))
+        place = found.end()
+    return tokens
+
+
+class Reader:
+    """Reads the tokens of one statement from front to back."""
+
+    def __init__(self, tokens):
+        self.tokens = tokens
+        self.place = 0
+
+    def kind(self):
+        """The kind of the next token, or None at the end."""
+        return self.tokens[self.place][0] if self.place < len(self.tokens) else None
+
+    def take(self, kind):
+        """Takes the next token, which must be of this kind, and gives its text."""
+        if self.kind() != kind:
+            raise Refused("Syntax")
+        self.place += 1
+        return self.tokens[self.place - 1][1]
+
+    def takes(self, kind):
+        """Takes the next token where it is of this kind, and says so."""
+        if self.kind() != kind:
+            return False
+        self.place += 1
+        return True
+
+    def list_of(self, item, separator):
+        """One or more items with separators between them."""
+        items = [item()]
+        while self.takes(separator):
+            items.append(item())
+        return items
+
+    def name(self):
+        return self.take("name")
+
+    def column(self):
+        stream = self.name()
+        self.take(".")
+        return stream, self.name()
+
+    def atom(self):
+        """A comparison: one side at least is a column."""
+        left = int(self.take("integer")) if self.kind() == "integer" else self.column()
+        operator = self.kind()
+        if operator not in ("<", "=", ">"):
+            raise Refused("Syntax")
+        self.place += 1
+        if isinstance(left, tuple) and self.kind() == "integer":
+            return Atom(left, operator, int(self.take("integer")))
+        return Atom(left, operator, self.column())
+
+
+def read_stream(reader):
+    reader.take("STREAM")
+    name = reader.name()
+    reader.take("(")
+    columns = reader.list_of(reader.name, ",")
+    reader.take(")")
+    return CreateStream(name, columns)
+
+
+def read_query(reader):
+    reader.take("QUERY")
+    name = reader.name()
+    reader.take("AS")
+    reader.take("SELECT")
+    distinct = reader.takes("DISTINCT")
+    select = reader.list_of(reader.column, ",")
+    reader.take("FROM")
+    streams = reader.list_of(reader.name, ",")
+    atoms = reader.list_of(reader.atom, "AND") if reader.takes("WHERE") else []
+    return CreateQuery(name, distinct, select, streams, atoms)
+
+
+def read_statement(reader):
+    """One statement, with its semicolon where it has one, and nothing behind it."""
+    if reader.takes("CREATE"):
+        statement = read_stream(reader) if reader.kind() == "STREAM" else read_query(reader)
+    elif reader.takes("EXPLAIN"):
+        statement = Explain(reader.name())
+    else:
+        reader.take("DROP")
+        reader.take("QUERY")
+        statement = DropQuery(reader.name())
+    reader.takes(";")
+    if reader.kind() is not None:
+        raise Refused("Syntax")
+    return statement
+
+
+def query_passes_limit(query):
+    """Whether a query passes a limit of the language other than that of names."""
+    operands = [it for atom in query.atoms for it in (atom.left, atom.right)]
+    integers = {it for it in operands if isinstance(it, int)}
+    columns = {it for it in operands if not isinstance(it, int)}
+    return (len(query.select) > MOST_SELECTED or len(query.streams) > MOST_FROM
+            or len(query.atoms) > MOST_ATOMS or len(columns) > MOST_ATTRIBUTES
+            or any(abs(it) > LARGEST_INTEGER for it in integers)
+            or len(integers) > MOST_CONSTANTS)
+
+
+def parse(stripped):
+    """The statement that a stripped line spells; Refused with Syntax or Limit."""
+    tokens = tokens_of(stripped)
+    statement = read_statement(Reader(tokens))
+    if any(kind == "name" and len(text) > LONGEST_NAME for kind, text in tokens):
+        raise Refused("Limit")
+    if isinstance(statement, CreateStream) and len(statement.columns) > MOST_COLUMNS:
+        raise Refused("Limit")
+    if isinstance(statement, CreateQuery) and query_passes_limit(statement):
+        raise Refused("Limit")
+    return statement
+
+
+def row_name(stripped):
+    """The first word of a stripped line that is a row, else None."""
+    found = ROW.match(stripped)
+    return found.group(1) if found else None
+
+
+def read_row(stripped, streams):
+    """The stream and the values of a row; `streams` has the columns of each stream by its name."""
+    name = row_name(stripped)
+    if name.upper() in RESERVED:
+        raise Refused("Syntax")
+    if len(name) > LONGEST_NAME:
+        raise Refused("Limit")
+    if name not in streams:
+        raise Refused("UnknownStream")
+    fields = [it.strip(b" \t") for it in stripped.split(b",")[1:]]
+    if len(fields) != len(streams[name]):
+        raise Refused("Arity")
+    if not all(VALUE.match(it) for it in fields):
+        raise Refused("Value")
+    values = tuple(int(it) for it in fields)
+    if not all(LEAST_VALUE <= it <= GREATEST_VALUE for it in values):
+        raise Refused("Value")
+    return name, values
+
+
+def print_operand(operand):
+    return b"%d" % operand if isinstance(operand, int) else b".".join(operand)
+
+
+def print_select(query):
+    """The printed form of a query, from SELECT on."""
+    text = b"SELECT " + (b"DISTINCT " if query.distinct else b"")
+    text += b", ".join(b".".join(it) for it in query.select)
+    text += b" FROM " + b", ".join(query.streams)
+    atoms = [b" ".join((print_operand(it.left), it.operator.encode(), print_operand(it.right)))
+             for it in query.atoms]
+    return text + (b" WHERE " + b" AND ".join(atoms) if atoms else b"")
+
+
+def print_statement(statement):
+    """The printed form of a CREATE statement."""
+    if isinstance(statement, CreateStream):
+        return b"CREATE STREAM " + statement.name + b" (" + b", ".join(statement.columns) + b")"
+    return b"CREATE QUERY " + statement.name + b" AS " + print_select(statement)

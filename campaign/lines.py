@@ -1,0 +1,104 @@
+"""Random and mutated lines among good ones, compared with the evaluator line by line.
+
+In each script some lines of a good one are changed by one character; others are made of words
+and marks at random. At the end known rows must still be answered rightly.
+"""
+from common import Part, compare, scaled
+from evaluator import Session
+from generator import QUERY_NAMES, Writer
+
+SCRIPTS = 600
+LENGTH = 120
+TELLING = b"\t \r,;.()<=>+-0159azAZ_\"'*/\\\x00\x0b\x0c\x1b\x7f\x80\xa0\xff"
+WORDS = [b"CREATE", b"STREAM", b"QUERY", b"AS", b"SELECT", b"DISTINCT", b"FROM", b"WHERE", b"AND",
+         b"EXPLAIN", b"DROP", b"in", b"shared", b"checkpoint", b"resume", b"S", b"T", b"a", b"b", b"q",
+         b"p", b"Create", b"seLECT", b"n" * 24, b"n" * 25, b"0", b"-1", b"+7", b"999999999999999",
+         b"1000000000000000", b"-999999999999999", b",", b".", b"(", b")", b"<", b"=", b">", b";",
+         b"S.a", b"T.b", b"--", b"-", b"+", b" ", b"\t", b"\r", b"x", b"'", b"\xc3\xa9", b"1a", b"a1"]
+SHAPES = [b"CREATE STREAM # ( # , # ) #", b"CREATE QUERY # AS SELECT # . # FROM # WHERE # # #",
+          b"CREATE QUERY # AS SELECT DISTINCT S.a FROM S # WHERE S.a # # AND S.a < 3 #",
+          b"EXPLAIN # #", b"DROP QUERY # #", b"S , # , #", b"# , 1 , #", b"# # # # #", b"CREATE # #"]
+TAIL = [b"CREATE STREAM known (a, b)",
+        b"CREATE QUERY k1 AS SELECT known.a FROM known WHERE known.b > 3",
+        b"CREATE QUERY k2 AS SELECT DISTINCT known.a FROM known WHERE known.a > 0 AND known.a < 4",
+        b"known,1,4", b"known,1,2", b"known,3,9", b"known,4,4", b"EXPLAIN k2"]
+
+
+def changed(random, line):
+    """The line with one character changed, dropped, doubled or inserted."""
+    place = random.randrange(len(line) + 1)
+    kind = random.choice(["change", "drop", "double", "insert"])
+    more = bytes([random.choice(TELLING)])
+    if kind == "insert" or place == len(line):
+        return line[:place] + more + line[place:]
+    if kind == "change":
+        return line[:place] + more + line[place + 1:]
+    return line[:place] + (line[place:place + 1] * 2 if kind == "double" else b"") + line[place + 1:]
+
+
+def made(random):
+    """A line of words and marks: in the shape of a statement, or in none."""
+    if random.random() < 0.3:
+        return random.choice([b"", b" "]).join(random.choices(WORDS, k=random.randint(1, 12)))
+    shape = random.choice(SHAPES)
+    while b"#" in shape:
+        shape = shape.replace(b"#", random.choice(WORDS), 1)
+    return shape if random.random() < 0.5 else shape.replace(b" ", b"", random.randint(1, 3))
+
+
+def spoil(part, good):
+    """The lines of a good script, some changed and some made up."""
+    random, lines = part.random, []
+    for line in good:
+        kind = random.random()
+        if kind < 0.45:
+            for _ in range(random.choice([1, 1, 1, 2])):
+                line = changed(random, line)
+            part.count("changed lines")
+        elif kind < 0.6:
+            line = made(random)
+            part.count("made lines")
+        lines.append(line.replace(b"\n", b""))
+    return lines + spoil_statements(part, good)
+
+
+def spoil_statements(part, good):
+    """Each statement of a good script thrice, changed, its query under another name."""
+    lines = []
+    for line in good:
+        words = line.split()
+        if len(words) < 3 or b"," in words[0]:
+            continue
+        for _ in range(3):
+            name = part.random.choice(QUERY_NAMES)
+            again = line.replace(b" " + words[2] + b" ", b" " + name + b" ", 1)
+            lines.append(changed(part.random, again).replace(b"\n", b""))
+            part.count("changed statements")
+    return lines
+
+
+def one_script(part, program):
+    writer = Writer(part.random)
+    writer.mixed(LENGTH)
+    # a stream's own line stays good, so that what follows is more than unknown names
+    head = [it for it in writer.lines if it.strip().lower().startswith(b"create stream")][:2]
+    lines = head + spoil(part, writer.lines)
+    lines += TAIL
+    session = Session()
+    wanted = b"".join(session.reply(it) for it in lines)
+    if wanted.endswith(tail_reply()):
+        part.count("known tails answered")
+    compare(part, program, b"\n".join(lines) + b"\n", wanted)
+
+
+def tail_reply():
+    """The last replies of the known rows, the same in every script."""
+    session = Session()
+    return b"".join([session.reply(it) for it in TAIL][3:])
+
+
+def run(program, seed, scale):
+    part = Part("lines", seed)
+    for _ in range(scaled(SCRIPTS, scale)):
+        one_script(part, program)
+    return part

@@ -1,0 +1,12 @@
+pub mod Options
+pub mod Numbers
+pub mod Joined
+pub mod Closed
+pub mod Solve
+pub mod NodeFacts
+pub mod Link
+pub mod Meaning
+pub mod Feasible
+pub mod InPart
+pub mod Sides
+pub mod Prefix

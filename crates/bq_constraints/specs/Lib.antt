@@ -1,0 +1,5 @@
+pub mod Solutions
+pub mod Nodes
+pub mod PartConstraints
+pub mod Table
+pub mod Reach
