@@ -97,7 +97,7 @@ ends-behind script source now now' reader ByteLimit g r = r
 ends-behind script source now now' reader Memory g r = tt
 
 -- the answer to a certificate needs all lines
-answered-needs : (streams : List Shape) (name : List ℕ) (q : QueryValue) (answer : CheckAnswer) → (answered streams name q answer).needs ≡ None
+pub answered-needs : (streams : List Shape) (name : List ℕ) (q : QueryValue) (answer : CheckAnswer) → (answered streams name q answer).needs ≡ None
 answered-needs streams name q (Yes decision parts) = refl
 answered-needs streams name q (No place why) = refl
 

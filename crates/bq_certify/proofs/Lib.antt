@@ -5,3 +5,8 @@ pub mod Texts
 pub mod Checks
 pub mod Collected
 pub mod Grouped
+pub mod OneRefusal
+pub mod OneFinding
+pub mod OneChecked
+pub mod OneCertified
+pub mod MoreLines

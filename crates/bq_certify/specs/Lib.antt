@@ -4,4 +4,5 @@ pub mod Certified
 pub mod Checking
 pub mod Collecting
 pub mod Ending
+pub mod Laws
 pub mod Telling

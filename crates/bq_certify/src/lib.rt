@@ -9,6 +9,7 @@ mod certifying;
 mod checking;
 mod collecting;
 mod ending;
+pub mod laws;
 mod telling;
 
 pub use certifying::certify;

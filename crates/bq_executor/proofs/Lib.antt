@@ -17,3 +17,5 @@ pub mod Settled
 pub mod Running
 pub mod Standings
 pub mod CallerLemmas
+pub mod PreparedParts
+pub mod ClearedNone

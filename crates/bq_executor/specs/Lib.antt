@@ -4,3 +4,4 @@ pub mod Runs
 pub mod Written
 pub mod Taking
 pub mod Arriving
+pub mod Prepared

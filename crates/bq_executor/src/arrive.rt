@@ -3,19 +3,22 @@ ghost use Rattle.std.specs.Prelude.{◌≡◌, ◌<◌, ◌≤◌, ◌+◌, ◌*
 ghost use Rattle.std.specs.List.{list_any};
 ghost use Rattle.bq_model.specs.declared.plan.Plan.TheVariants as plans;
 ghost use Rattle.bq_model.specs.Combinations.{read_from};
+ghost use Rattle.bq_model.specs.Parts.{pairs};
 ghost use Rattle.bq_model.specs.Numbers.{work, parts_of};
 ghost use Rattle.bq_pool.specs.Extents.{cells_of};
 ghost use Rattle.bq_answers.specs.Entries.{with_entries};
 ghost use Rattle.bq_executor.specs.Executor.{arrival};
 ghost use Rattle.bq_executor.specs.Taking.{with_all, HaveRoom};
 ghost use Rattle.bq_executor.specs.Arriving.{own_found, answered_by, HasTaken, IsPlanReady};
+ghost use Rattle.bq_executor.specs.Prepared.{ArePrepared};
 
 use crate::part::take_up;
 use crate::parts::take_in_all;
 use bq_answers::Answers;
 use bq_io::Steps;
-use bq_model::{Plan, Query, Row};
+use bq_model::{Plan, Query, Row, Tuple};
 use bq_pool::{Extent, Pool};
+use bq_synopsis::{Prepared, Room};
 use std::sync::ledger::Ledger;
 
 // The first place at which a stream stands in a list.
@@ -54,12 +57,16 @@ pub fn arrive<L: Ledger>(
     e: &Extent,
     q: &Query,
     plan: &Plan,
+    prepared: &[Prepared],
     stream: u8,
     row: &Row,
+    room: &mut Room,
+    tuple: &mut Tuple,
     table: &mut Answers,
     steps: &mut Steps<L>,
 )
     requires ready { IsPlanReady q.now plan.now pool.old e.now }
+    requires prepared { ArePrepared (pairs q.now) (parts_of plan.now) prepared.now }
     requires room { HaveRoom q.now.distinct (answered_by q.now plan.now (read_from (cells_of pool.old e.now)) (arrival stream row.now.items)) table.old }
     ensures table { table.new ≡ with_entries table.old (with_all q.now.distinct (answered_by q.now plan.now (read_from (cells_of pool.old e.now)) (arrival stream row.now.items)) table.old.entries) }
     ensures pool { HasTaken q.now (parts_of plan.now) e.now (arrival stream row.now.items) (length (parts_of plan.now)) pool.old pool.new }
@@ -70,7 +77,11 @@ pub fn arrive<L: Ledger>(
     match plan {
         Plan::Filter => answer_alone(q, stream, row, table),
         Plan::Parts { parts, .. } => match place_of(q.from(), stream) {
-            Some(pos) => take_in_all(pool, e, q, parts, pos, row, table, steps),
+            Some(pos) => {
+                take_in_all(
+                    pool, e, q, parts, prepared, pos, row, room, tuple, table, steps,
+                )
+            },
             None => {}
         },
     }

@@ -15,11 +15,13 @@ ghost use Rattle.bq_executor.specs.Standing.{StandsFor, AreKept, IsReady, TookRo
 ghost use Rattle.bq_executor.specs.Written.{answer_lines};
 
 use crate::arrive::arrive;
+use crate::prepared::prepare_all;
 use crate::written::put_waiting;
 use bq_answers::Answers;
 use bq_io::{Sink, Steps, WriteFault};
-use bq_model::{Plan, Query, Row};
+use bq_model::{Plan, Query, Row, Tuple};
 use bq_pool::{Extent, Pool};
+use bq_synopsis::{Prepared, Room};
 use bq_text::Name;
 use std::alloc::{AllocError, Global};
 use std::marker::Model;
@@ -29,19 +31,25 @@ use std::sync::ledger::Ledger;
 pub struct Executor {
     query: Query,
     plan: Plan,
+    prepared: Vec<Prepared>,
     extent: Extent,
     given: u64,
+    room: Room,
+    tuple: Tuple,
     table: Answers,
 }
 
 impl Model for Executor {
+    ghost use Rattle.bq_model.specs.Parts.{pairs};
+    ghost use Rattle.bq_model.specs.Numbers.{parts_of};
     ghost use Rattle.bq_executor.specs.Executor.{ExecutorValue, IsSound};
+    ghost use Rattle.bq_executor.specs.Prepared.{ArePrepared};
 
     ghost Value = { ExecutorValue };
 
     ghost view = { λ e. record { query = e.query; plan = e.plan; extent = e.extent; given = e.given; table = e.table } };
 
-    ghost invariant = { λ e. IsSound (record { query = e.query; plan = e.plan; extent = e.extent; given = e.given; table = e.table }) };
+    ghost invariant = { λ e. IsSound (record { query = e.query; plan = e.plan; extent = e.extent; given = e.given; table = e.table }) × ArePrepared (pairs e.query) (parts_of e.plan) e.prepared.items };
 }
 
 // For how many answers a query with this plan has room.
@@ -58,6 +66,9 @@ fn most_answers(plan: &Plan) -> u32
 fn clear(distinct: bool, table: &mut Answers)
     ensures { table.new ≡ with_entries table.old (cleared distinct table.old.entries) }
 {
+    if table.len() == 0 {
+        return;
+    }
     if distinct {
         table.settle();
     } else {
@@ -79,14 +90,21 @@ impl Executor {
         ensures value { MatchResult result (λ e. e ≡ record { query = query; plan = plan; extent = extent; given = 0; table = record { width = length query.select; capacity = most_answers plan; entries = [] } }) (λ refused. refused.0 ≡ extent) }
         ensures history { IfOk result (λ e. (pool : PoolValue) → IsLive pool extent → cells_of pool extent ≡ replicate (64 * extent.pages) cell.Empty → StandsFor e pool []) }
     {
+        let prepared = match prepare_all(alloc, &query, &plan) {
+            Ok(prepared) => prepared,
+            Err(error) => return Err((extent, error)),
+        };
         let capacity = most_answers(&plan);
         let width = query.select().len() as u8;
         match Answers::new(alloc, capacity, width) {
             Ok(table) => Ok(Executor {
                 query,
                 plan,
+                prepared,
                 extent,
                 given: 0,
+                room: Room::default(),
+                tuple: Tuple::new(),
                 table,
             }),
             Err(error) => Err((extent, error)),
@@ -117,8 +135,11 @@ impl Executor {
             &self.extent,
             &self.query,
             &self.plan,
+            &self.prepared,
             stream,
             row,
+            &mut self.room,
+            &mut self.tuple,
             &mut self.table,
             steps,
         );
@@ -174,8 +195,11 @@ impl Executor {
         let Executor {
             query: _query,
             plan: _plan,
+            prepared: _prepared,
             extent,
             given: _,
+            room: _room,
+            tuple: _tuple,
             table: _table,
         } = self;
         pool.give_back(extent);

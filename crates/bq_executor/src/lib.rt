@@ -14,6 +14,7 @@ mod executor;
 pub mod laws;
 mod part;
 mod parts;
+mod prepared;
 mod written;
 
 pub use executor::Executor;

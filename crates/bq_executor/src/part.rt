@@ -5,7 +5,9 @@ ghost use Rattle.bq_model.specs.Combinations.{read_from, found_in};
 ghost use Rattle.bq_model.specs.Probing.{found_beside};
 ghost use Rattle.bq_model.specs.Numbers.{share};
 ghost use Rattle.bq_pool.specs.Extents.{cells_of};
+ghost use Rattle.bq_model.specs.Parts.{pairs};
 ghost use Rattle.bq_synopsis.specs.Premises.{IsReady};
+ghost use Rattle.bq_synopsis.specs.Preparing.{IsPrepared};
 ghost use Rattle.bq_synopsis.specs.Remaining.{as_found};
 ghost use Rattle.bq_answers.specs.Entries.{with_entries, Fits};
 ghost use Rattle.bq_executor.specs.Taking.{with_found, with_all, HaveRoom};
@@ -15,7 +17,7 @@ use bq_answers::Answers;
 use bq_io::Steps;
 use bq_model::{PartPlan, Query, Row, Tuple};
 use bq_pool::{Extent, Pool};
-use bq_synopsis::{Probe, admits, insert};
+use bq_synopsis::{Prepared, Probe, Room, admits, insert};
 use std::sync::ledger::Ledger;
 
 /// The most times that one answer waits.
@@ -40,21 +42,24 @@ fn answer<L: Ledger>(
     e: &Extent,
     q: &Query,
     part: &PartPlan,
+    prepared: &Prepared,
     pos: u8,
     row: &Row,
+    room: &mut Room,
+    tuple: &mut Tuple,
     table: &mut Answers,
     steps: &mut Steps<L>,
 )
     requires here { pos < length q.now.from }
     requires ready { IsReady q.now part.now pool.now e.now }
+    requires prepared { IsPrepared (pairs q.now) part.now prepared.now }
     requires room { HaveRoom q.now.distinct (found_beside q.now part.now (read_from (cells_of pool.now e.now)) pos (by_column row.now.items)) table.old }
     ensures table { table.new ≡ with_entries table.old (with_all q.now.distinct (found_beside q.now part.now (read_from (cells_of pool.now e.now)) pos (by_column row.now.items)) table.old.entries) }
     ensures steps { steps.new ≤ steps.old + 3 * share part.now }
 {
-    let mut probe = Probe::new(q, part, pos, row);
-    'walk: while let Some(found) = probe.next(pool, e, q, part, steps) {
-        let (tuple, count) = found;
-        take_up(q.distinct(), &tuple, count, table);
+    let mut probe = Probe::new(q, part, prepared, pos, row, room);
+    'walk: while let Some(count) = probe.next(pool, e, q, part, tuple, steps) {
+        take_up(q.distinct(), tuple, count, table);
     }
 }
 
@@ -65,13 +70,17 @@ pub fn take_row<L: Ledger>(
     e: &Extent,
     q: &Query,
     part: &PartPlan,
+    prepared: &Prepared,
     pos: u8,
     row: &Row,
+    room: &mut Room,
+    tuple: &mut Tuple,
     table: &mut Answers,
     steps: &mut Steps<L>,
 )
     requires here { pos < length q.now.from }
     requires ready { IsReady q.now part.now pool.old e.now }
+    requires prepared { IsPrepared (pairs q.now) part.now prepared.now }
     requires counts { CanCount part.now (read_from (cells_of pool.old e.now)) }
     requires room { HaveRoom q.now.distinct (found_in q.now part.now (read_from (cells_of pool.old e.now)) (arrives q.now pos row.now.items)) table.old }
     ensures table { table.new ≡ with_entries table.old (with_all q.now.distinct (found_in q.now part.now (read_from (cells_of pool.old e.now)) (arrives q.now pos row.now.items)) table.old.entries) }
@@ -79,10 +88,12 @@ pub fn take_row<L: Ledger>(
     ensures steps { steps.new ≤ steps.old + 3 * share part.now + 2 }
 {
     let streams = q.from().len();
-    if !admits(q, part, pos, row) {
+    if !admits(q, part, prepared, pos, row) {
         return;
     }
-    answer(pool, e, q, part, pos, row, table, steps);
+    answer(
+        pool, e, q, part, prepared, pos, row, room, tuple, table, steps,
+    );
     if 1 < streams {
         insert(pool, e, q, part, pos, row, steps);
     }

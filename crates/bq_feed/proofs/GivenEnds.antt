@@ -2,11 +2,14 @@
 use Rattle.std.proofs.Common.{◌≡◌, ℕ, ◌⊎◌, inl, inr, Bool, true, false, List, [], ◌++◌, length, refl, sym, ap, ◌∙◌, subst, append_assoc, append-nil, length-append, arith, IfSome}
 use Rattle.std.specs.Io.KnownBytes.{Consumes}
 use Rattle.std.proofs.KnownBytes.{Consumes-trans}
+use Rattle.std.proofs.lemmas.Bool.{false≢true}
+use Rattle.bq_io.specs.Counts.{Rose}
 use Rattle.bq_io.specs.Source.{SourceState}
+use Rattle.bq_io.proofs.Writing.{Rose-earlier}
 use Rattle.bq_text.specs.Lines.{lines}
 use Rattle.bq_feed.specs.declared.reader.LineAnswer.{LineAnswer}
-use Rattle.bq_feed.specs.declared.reader.LineAnswer.TheVariants.{End}
-use Rattle.bq_feed.specs.Reading.{Reading, IsPlain, NextLine, TakesAll}
+use Rattle.bq_feed.specs.declared.reader.LineAnswer.TheVariants.{End, ReadFault}
+use Rattle.bq_feed.specs.Reading.{Reading, IsPlain, Fails, NextLine, TakesAll}
 use Rattle.bq_feed.specs.Texts.{text_of, ended_part}
 use Rattle.bq_feed.specs.GivenLines.{GivenLines, TookLines, AllGiven, LastGiven}
 use Rattle.bq_feed.proofs.GivenLines.{spent}
@@ -75,3 +78,11 @@ last-given answer source now now' old new front given g n plain none open-yet =
       are = ap lines part ∙ front-lines source now old front given g;
       later = omega (arith, g.later, n.later);
     }
+
+-- the source failed since the first state
+pub rose-given : (source now now' : SourceState) (old new : Reading) (front : List ℕ) (given : List (List ℕ)) → GivenLines source now old front given → NextLine ReadFault old new now now' → Rose source.faults now'.faults
+rose-given source now now' old new front given g n = by_time n.fails
+  where
+    by_time : Fails ReadFault old new now now' → Rose source.faults now'.faults
+    by_time (failed, inl here) = Rose-earlier source.faults now.faults now'.faults g.later here.1
+    by_time (failed, inr kept) = absurd (false≢true (sym g.unfailed ∙ ap (λ (r : Reading). r.failed) (sym kept.0) ∙ failed))

@@ -6,9 +6,9 @@ use Rattle.std.proofs.KnownBytes.{Consumes-nil, Consumes-trans}
 use Rattle.std.proofs.lemmas.Bool.{false≢true}
 use Rattle.bq_io.specs.Source.{SourceState}
 use Rattle.bq_text.specs.Lines.{lines}
-use Rattle.bq_feed.specs.Reading.{Reading, fresh, IsPlain, IsLine, fed, last, IsBuffered, NextLine, TakesAll, IsBegun, answer_to}
+use Rattle.bq_feed.specs.Reading.{Reading, fresh, IsPlain, IsLine, fed, last, IsBuffered, ReadsNoFurther, unread, needed, NextLine, TakesAll, IsBegun, answer_to}
 use Rattle.bq_feed.proofs.LineTexts.{lines-given}
-use Rattle.bq_feed.specs.Texts.{text_of}
+use Rattle.bq_feed.specs.Texts.{text_of, IsNear}
 use Rattle.bq_feed.specs.GivenLines.{GivenLines}
 use Rattle.bq_feed.proofs.TextLines.{text_of-append, text_of-one, length-text_of-append, length-text_of-cons}
 
@@ -21,8 +21,10 @@ pub record Step (long : Bool) (old new : Reading) (source now : SourceState) : T
   pub taken : Consumes source.left now.left got
   pub count : new.taken ≡ old.taken + length got
   pub near : length old.ahead ≤ 4096 → length new.ahead ≤ 4096
+  pub recent : length old.ahead ≤ source.last → new.ended ≡ false → length new.ahead < now.last
   pub counted : (new.lines ≤ new.taken) × (new.taken < 2 ^ 64)
   pub unended : old.ended ≡ false
+  pub unfailed : new.failed ≡ false
   pub form : IsLine given line new.ended
   pub plain : IsPlain line
   pub begun : IsBegun long new.line line
@@ -31,8 +33,16 @@ pub record Step (long : Bool) (old new : Reading) (source now : SourceState) : T
   pub over : new.ended ≡ true → (new.ahead ≡ []) × (new.taken < 2 ^ 64 - 1) × TakesAll source now got
   pub later : source.faults ≤ now.faults
 
-pub shorter : (old line new : List ℕ) → old ≡ line ++ 10 ∷ new → length old ≤ 4096 → length new ≤ 4096
-shorter old line new e le = omega (arith, ap length e, length-append line (10 ∷ new))
+pub shorter : (old line new : List ℕ) → old ≡ line ++ 10 ∷ new → length new < length old
+shorter old line new e = omega (arith, ap length e, length-append line (10 ∷ new))
+
+line-size : (given line : List ℕ) (ended : Bool) → IsLine given line ended → length given ≤ length line + 1
+line-size given line ended (fed e u) = omega (arith, ap length e, length-append line (10 ∷ []))
+line-size given line ended (last e s d) = omega (arith, ap length e)
+
+line-whole : (given line : List ℕ) (ended : Bool) → IsLine given line ended → ended ≡ false → given ≡ line ++ 10 ∷ []
+line-whole given line ended (fed e u) f = e
+line-whole given line ended (last e s d) f = absurd (false≢true (sym f ∙ d))
 
 -- a line that lay whole in what was read
 abbrev pub step-buffered : (old new : Reading) (source : SourceState) → IsBuffered old new → Step false old new source source
@@ -43,9 +53,11 @@ step-buffered old new source b = record {
   whole = append-nil old.ahead ∙ b.whole ∙ sym (append_assoc new.line (10 ∷ []) new.ahead);
   taken = Consumes-nil source.left;
   count = omega (arith, b.taken);
-  near = shorter old.ahead new.line new.ahead b.whole;
+  near = λ le. omega (arith, le, shorter old.ahead new.line new.ahead b.whole);
+  recent = λ le _. omega (arith, le, shorter old.ahead new.line new.ahead b.whole);
   counted = b.counted;
   unended = b.ended.0;
+  unfailed = b.unfailed.1;
   form = fed refl b.ended.1;
   plain = b.plain;
   begun = refl;
@@ -61,6 +73,15 @@ over-now : (old new : Reading) (source now : SourceState) (got : List ℕ) → o
 over-now old new source now got unended (none, few, inl ended) = absurd (false≢true (sym unended ∙ ended))
 over-now old new source now got unended (none, few, inr all) = (none, few, all)
 
+-- a line was given for which the source was read no further
+recent-read : (old new : Reading) (source now : SourceState) (got given line : List ℕ) → ReadsNoFurther old new source now got given → old.ahead ++ got ≡ given ++ new.ahead → IsLine given line new.ended
+    → length old.ahead ≤ source.last → new.ended ≡ false → length new.ahead < now.last
+recent-read old new source now got given line (unread none same) whole form le open-yet =
+    let kept : old.ahead ≡ line ++ 10 ∷ new.ahead =
+    sym (append-nil old.ahead) ∙ ap (λ l. old.ahead ++ l) (sym none) ∙ whole ∙ ap (λ l. l ++ new.ahead) (line-whole given line new.ended form open-yet) ∙ append_assoc line (10 ∷ []) new.ahead in
+    omega (arith, le, shorter old.ahead line new.ahead kept, ap (λ (s : SourceState). s.last) same)
+recent-read old new source now got given line (needed plain late) whole form le open-yet = late line (line-whole given line new.ended form open-yet)
+
 -- a line for which the source was read
 pub step-read : (long : Bool) (old new : Reading) (source now : SourceState) → NextLine (answer_to long) old new source now → Step long old new source now
 step-read true old new source now n = record {
@@ -71,8 +92,10 @@ step-read true old new source now n = record {
   taken = n.taken;
   count = n.count;
   near = λ _. n.near;
+  recent = recent-read old new source now n.got n.given n.tells.0 n.prompt n.whole n.tells.1;
   counted = n.counted;
   unended = n.tells.4;
+  unfailed = n.fails.1;
   form = n.tells.1;
   plain = n.tells.2;
   begun = n.tells.3;
@@ -89,8 +112,10 @@ step-read false old new source now n = record {
   taken = n.taken;
   count = n.count;
   near = λ _. n.near;
+  recent = recent-read old new source now n.got n.given new.line n.prompt n.whole n.tells.0;
   counted = n.counted;
   unended = n.tells.3;
+  unfailed = n.fails.1;
   form = n.tells.0;
   plain = n.tells.1;
   begun = refl;
@@ -106,11 +131,13 @@ given-none source = record {
   taken = Consumes-nil source.left;
   count = refl;
   ahead = omega arith;
+  recent = omega arith;
   cut = λ rest _. refl;
   whole = λ _. refl;
   size = omega arith;
   over = λ e. absurd (false≢true e);
   later = omega arith;
+  unfailed = refl;
   numbered = refl;
   counted = (omega arith, omega arith);
 }
@@ -121,13 +148,13 @@ spent None b bytes got front p q e = tt
 spent (Some x) None bytes got front p q e = absurd p
 spent (Some x) (Some y) bytes got front p q e = p ∙ ap (λ l. bytes ++ l) q ∙ e
 
-line-size : (given line : List ℕ) (ended : Bool) → IsLine given line ended → length given ≤ length line + 1
-line-size given line ended (fed e u) = omega (arith, ap length e, length-append line (10 ∷ []))
-line-size given line ended (last e s d) = omega (arith, ap length e)
-
-line-whole : (given line : List ℕ) (ended : Bool) → IsLine given line ended → ended ≡ false → given ≡ line ++ 10 ∷ []
-line-whole given line ended (fed e u) f = e
-line-whole given line ended (last e s d) f = absurd (false≢true (sym f ∙ d))
+-- what is ahead came by the last read
+recent-line : (long : Bool) (old new : Reading) (source now : SourceState) → Step long old new source now → length old.ahead ≤ source.last → length new.ahead ≤ now.last
+recent-line long old new source now step le = by_end new.ended refl
+  where
+    by_end : (b : Bool) → new.ended ≡ b → length new.ahead ≤ now.last
+    by_end false open-yet = omega (arith, step.recent le open-yet)
+    by_end true over = omega (arith, ap length (step.over over).0)
 
 -- one more line was given
 pub given-line : (long : Bool) (old new : Reading) (source now now' : SourceState) (front : List ℕ) (given : List (List ℕ)) → GivenLines source now old front given
@@ -139,6 +166,7 @@ given-line long old new source now now' front given g step =
       taken = subst (Consumes source.left now'.left) moved (Consumes-trans source.left now.left now'.left (front ++ old.ahead) step.got g.taken step.taken);
       count = omega (arith, step.count, g.count, ap length moved, length-append (front ++ old.ahead) step.got);
       ahead = step.near g.ahead;
+      recent = recent-line long old new now now' step g.recent;
       cut = λ rest none.
           ap lines (append_assoc front step.given rest) ∙ g.cut (step.given ++ rest) (λ ended. absurd (false≢true (sym step.unended ∙ ended)))
           ∙ ap (λ l. given ++ l) (lines-given step.given step.line new.ended step.form step.plain rest none)
@@ -160,6 +188,37 @@ given-line long old new source now now' front given g step =
           let all : (front ++ old.ahead) ++ step.got ≡ front ++ step.given = moved ∙ ap (λ l. (front ++ step.given) ++ l) done.0 ∙ append-nil (front ++ step.given) in
           (done.0, done.1, spent source.left now.left (front ++ old.ahead) step.got (front ++ step.given) g.taken done.2.whole all);
       later = omega (arith, g.later, step.later);
+      unfailed = step.unfailed;
       numbered = omega (arith, g.numbered, step.lines, length-append given (step.line ∷ []));
       counted = step.counted;
     }
+
+-- little lies beyond a line that was given
+pub near-line : (long : Bool) (old new : Reading) (source now now' : SourceState) (front : List ℕ) (given : List (List ℕ)) → GivenLines source now old front given
+    → (step : Step long old new now now') → IsNear ((front ++ step.given) ++ new.ahead) (given ++ step.line ∷ []) now'.last
+near-line long old new source now now' front given g step =
+    let g' = given-line long old new source now now' front given g step in
+    record { within = omega (arith, g'.size, g'.ahead, length-append (front ++ step.given) new.ahead); recent = by_form step.form }
+  where
+    by_form : IsLine step.given step.line new.ended → length ((front ++ step.given) ++ new.ahead) < length (text_of (given ++ step.line ∷ [])) + now'.last
+    by_form (fed e open-yet) = omega (
+      arith,
+      g.size,
+      ap length e,
+      length-append step.line (10 ∷ []),
+      length-append (front ++ step.given) new.ahead,
+      length-append front step.given,
+      length-text_of-append given (step.line ∷ []),
+      length-text_of-cons step.line [],
+      step.recent g.recent open-yet,
+    )
+    by_form (last e some over) = omega (
+      arith,
+      g.size,
+      ap length e,
+      ap length (step.over over).0,
+      length-append (front ++ step.given) new.ahead,
+      length-append front step.given,
+      length-text_of-append given (step.line ∷ []),
+      length-text_of-cons step.line [],
+    )

@@ -1,7 +1,8 @@
 -- Parts of a buffer.
 use Rattle.std.proofs.Common.{◌≡◌, ℕ, ◌+◌, ◌-◌, ◌<◌, ◌≤◌, ◌≢◌, get_or, List, [], ◌∷◌, ◌++◌, length, take, drop, refl, sym, ap, ◌∙◌, subst, arith, append_assoc, length-drop, length-append, append-nil, zero, suc, Bool, true, false}
 use Rattle.std.proofs.lemmas.List.{take-append-drop, drop-take, drop-drop, drop_more, length-take, take-append-le, take_all}
-use Rattle.std.proofs.lemmas.List.Elements.{All-append}
+use Rattle.std.proofs.lemmas.List.Elements.{All-append, All-take}
+use Rattle.std.proofs.Math.Seq.{take-append_seam}
 use Rattle.std.specs.List.{slice_range}
 use Rattle.bq_feed.specs.Reading.{IsPlain}
 
@@ -98,3 +99,13 @@ no-whole-line bytes line rest plain e =
     let all : IsPlain (take (length bytes) bytes) = subst IsPlain (sym (take_all (length bytes) bytes (omega arith))) plain in
     let longer : length bytes ≤ length line = plain-front (length bytes) line rest (subst (λ l. IsPlain (take (length bytes) l)) e all) in
     absurd (omega (arith, longer, ap length e, length-append line (10 ∷ rest)))
+
+-- what has an LF is not without one
+pub not-plain : (line rest : List ℕ) → IsPlain (line ++ 10 ∷ rest) → ⊥
+not-plain [] rest plain = plain 0 0 (omega arith) refl
+not-plain (b ∷ line) rest plain = not-plain line rest (later-plain b (line ++ 10 ∷ rest) plain)
+
+-- the front of what has no LF
+pub plain-begin : (front rest whole : List ℕ) → IsPlain whole → front ++ rest ≡ whole → IsPlain front
+plain-begin front rest whole plain e =
+    subst IsPlain (take-append_seam front rest) (All-take (λ b. b ≢ 10) (length front) (front ++ rest) (subst IsPlain (sym e) plain))

@@ -12,12 +12,15 @@ pub record GivenLines (source now : SourceState) (reader : Reading) (front : Lis
   pub taken : Consumes source.left now.left (front ++ reader.ahead)
   pub count : reader.taken ≡ length (front ++ reader.ahead)
   pub ahead : length reader.ahead ≤ 4096
+  -- what is ahead came by the last read that gave some bytes
+  pub recent : length reader.ahead ≤ now.last
   -- whatever follows, these are the first lines
   pub cut : (rest : List ℕ) → (reader.ended ≡ true → rest ≡ []) → lines (front ++ rest) ≡ given ++ lines rest
   pub whole : reader.ended ≡ false → front ≡ text_of given
   pub size : length front ≤ length (text_of given)
   pub over : reader.ended ≡ true → (reader.ahead ≡ []) × (reader.taken < 2 ^ 64 - 1) × IfSome source.left (λ bytes. bytes ≡ front)
   pub later : source.faults ≤ now.faults
+  pub unfailed : reader.failed ≡ false
   pub numbered : reader.lines ≡ length given
   pub counted : (reader.lines ≤ reader.taken) × (reader.taken < 2 ^ 64)
 

@@ -20,10 +20,12 @@ pub record Reading : Type 0 where
   pub lines : ℕ
   -- whether the source has said that it is at its end
   pub ended : Bool
+  -- whether the source has failed in a call
+  pub failed : Bool
 
 -- a reader that has taken nothing
 abbrev pub fresh : Reading
-fresh = record { ahead = []; line = []; taken = 0; lines = 0; ended = false }
+fresh = record { ahead = []; line = []; taken = 0; lines = 0; ended = false; failed = false }
 
 -- no byte is LF
 abbrev pub IsPlain : List ℕ → Type 0
@@ -43,6 +45,7 @@ pub record IsBuffered (old new : Reading) : Type 0 where
   pub lines : new.lines ≡ old.lines + 1
   pub counted : (new.lines ≤ new.taken) × (new.taken < 2 ^ 64)
   pub ended : (old.ended ≡ false) × (new.ended ≡ false)
+  pub unfailed : (old.failed ≡ false) × (new.failed ≡ false)
 
 -- Nothing is changed: what begins ahead and lies whole in what was read, if anything does, is too long.
 pub record NoneBuffered (old new : Reading) : Type 0 where
@@ -55,18 +58,30 @@ GivesBuffered true old new = IsBuffered old new
 GivesBuffered false old new = NoneBuffered old new
 
 -- What an answer says of the bytes that are given up with it. Line and TooLong: they are a line, of at most 1,024 bytes, or of
--- more. End: there are none. ReadFault and ByteLimit: they are of a line that has no LF yet.
+-- more, which counts. End: there are none. ReadFault and ByteLimit: they are of a line that has no LF yet, and it does not count.
 abbrev pub Tells : LineAnswer → List ℕ → Reading → Reading → SourceState → SourceState → Type 0
 Tells Line given old new before after = IsLine given new.line new.ended × IsPlain new.line × (length new.line ≤ 1024) × (old.ended ≡ false) × (new.lines ≡ old.lines + 1)
 Tells TooLong given old new before after = (line : List ℕ) × IsLine given line new.ended × IsPlain line × (1024 < length line) × (old.ended ≡ false) × (new.lines ≡ old.lines + 1)
 Tells End given old new before after = (given ≡ []) × (new.ended ≡ true) × (new.lines ≡ old.lines)
-Tells ReadFault given old new before after = IsPlain given × (new.ahead ≡ []) × (old.ended ≡ false) × (new.taken < 2 ^ 64 - 1) × Rose before.faults after.faults
-Tells ByteLimit given old new before after = IsPlain given × (new.ahead ≡ []) × (old.ended ≡ false) × (new.taken ≡ 2 ^ 64 - 1)
+Tells ReadFault given old new before after = IsPlain given × (new.ahead ≡ []) × (old.ended ≡ false) × (new.taken < 2 ^ 64 - 1) × (new.lines ≡ old.lines)
+Tells ByteLimit given old new before after = IsPlain given × (new.ahead ≡ []) × (old.ended ≡ false) × (new.taken ≡ 2 ^ 64 - 1) × (new.lines ≡ old.lines)
+
+-- Where a call answers that the source failed, it failed in this call, or in an earlier one: then nothing is changed. Every other
+-- answer comes from a reader of which no call has answered that.
+abbrev pub Fails : LineAnswer → Reading → Reading → SourceState → SourceState → Type 0
+Fails ReadFault old new before after = (new.failed ≡ true) × (((old.failed ≡ false) × Rose before.faults after.faults) ⊎ ((new ≡ old) × (after ≡ before)))
+Fails _ old new before after = (old.failed ≡ false) × (new.failed ≡ false)
 
 -- these bytes were taken, and they are all that were left, where the source tells them
 pub record TakesAll (before after : SourceState) (bytes : List ℕ) : Type 0 where
   pub taken : Consumes before.left after.left bytes
   pub whole : IfSome before.left (λ left. left ≡ bytes)
+
+-- The source is read no further than a line asks for. Either it was not read: nothing was got, and it is as it was. Or no LF was
+-- ahead, and where the bytes that are given up end in LF, that LF came by the last read: fewer bytes are ahead than it gave.
+pub data ReadsNoFurther (old new : Reading) (before after : SourceState) (got given : List ℕ) : Type 0 where
+  unread : got ≡ [] → after ≡ before → ReadsNoFurther old new before after got given
+  needed : IsPlain old.ahead → ((line : List ℕ) → given ≡ line ++ 10 ∷ [] → length new.ahead < after.last) → ReadsNoFurther old new before after got given
 
 -- What a call for the next line takes from the source, and which bytes it gives up: the first of those that were ahead and
 -- those that were got. At most 4,096 bytes are ahead after it, and there are no more lines than bytes.
@@ -77,8 +92,11 @@ pub record NextLine (answer : LineAnswer) (old new : Reading) (before after : So
   pub taken : Consumes before.left after.left got
   pub count : new.taken ≡ old.taken + length got
   pub near : length new.ahead ≤ 4096
+  -- so a line that has come whole is given before the source is read again
+  pub prompt : ReadsNoFurther old new before after got given
   pub counted : (new.lines ≤ new.taken) × (new.taken < 2 ^ 64)
   pub tells : Tells answer given old new before after
+  pub fails : Fails answer old new before after
   -- at the end nothing is ahead, the limit was not reached, and the source said so now or before
   pub over : new.ended ≡ true → (new.ahead ≡ []) × (new.taken < 2 ^ 64 - 1) × ((old.ended ≡ true) ⊎ TakesAll before after got)
   pub later : before.faults ≤ after.faults

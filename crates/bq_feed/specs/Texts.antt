@@ -1,5 +1,5 @@
 -- Texts as lines, each with its LF.
-use Rattle.std.specs.Prelude.{ℕ, ◌+◌, ◌≤◌, List, [], ◌∷◌, ◌++◌, length, if◌then◌else◌}
+use Rattle.std.specs.Prelude.{ℕ, ◌+◌, ◌<◌, ◌≤◌, List, [], ◌∷◌, ◌++◌, length, if◌then◌else◌}
 use Rattle.std.specs.List.{flat_map, list_any}
 use Rattle.bq_text.specs.Lines.{is_line_feed}
 
@@ -12,6 +12,8 @@ abbrev pub ended_part : List ℕ → List ℕ
 ended_part [] = []
 ended_part (b ∷ bytes) = if list_any is_line_feed (b ∷ bytes) then b ∷ ended_part bytes else []
 
--- at most 4,096 bytes of a text lie beyond its lines up to one of them
-abbrev pub IsNear : List ℕ → List (List ℕ) → Type 0
-IsNear text front = length text ≤ length (text_of front) + 4096
+-- Little of a text lies beyond its lines up to one of them: at most 4,096 bytes, and fewer than the last read gave. So that line
+-- ended in the last read, or it is the last line, which has no LF.
+pub record IsNear (text : List ℕ) (front : List (List ℕ)) (last : ℕ) : Type 0 where
+  pub within : length text ≤ length (text_of front) + 4096
+  pub recent : length text < length (text_of front) + last

@@ -18,7 +18,8 @@ pub enum LineAnswer {
     TooLong,
     /// All lines were given, and the source is at its end.
     End,
-    /// The source failed. All lines that ended before were given, and the line that was begun is lost.
+    /// The source failed, in this call or in an earlier one. All lines that ended before were given, and the line that was begun
+    /// is lost.
     ReadFault,
     /// 2^64 - 1 bytes were taken, and all lines that ended in them were given. More bytes cannot be counted.
     ByteLimit,
@@ -33,8 +34,9 @@ const LONGEST: usize = 1024;
 /// A reader of lines from a source that gives its bytes in pieces. A line ends at LF, or at the end of the source where it is
 /// not empty. It has at most 1,024 bytes, the LF not counted.
 ///
-/// The reader takes at most 4,096 bytes beyond a line. It works in two fixed buffers and takes no memory once it is made. It
-/// is meant to be called with one source until it answers `End`, `ReadFault` or `ByteLimit`.
+/// The reader takes at most 4,096 bytes beyond a line, and none where a line lies whole in what it took: it reads until the line
+/// ends, and no further. It works in two fixed buffers and takes no memory once it is made. It is meant to be called with one
+/// source. Once it answers `End`, `ReadFault` or `ByteLimit`, it answers the same to each further call, and takes nothing.
 #[derive(Drop)]
 pub struct LineReader {
     // What was read last; of it, `at..filled` is ahead, and `from..to` is of the last line.
@@ -48,6 +50,7 @@ pub struct LineReader {
     taken: u64,
     lines: u64,
     ended: bool,
+    failed: bool,
 }
 
 impl Model for LineReader {
@@ -62,12 +65,13 @@ impl Model for LineReader {
       taken = r.taken;
       lines = r.lines;
       ended = r.ended;
+      failed = r.failed;
     } };
 
     ghost use Rattle.bq_feed.specs.Buffers.{IsSound};
     ghost use Rattle.std.specs.Prelude.{vec_len, length};
 
-    ghost invariant = { λ r. IsSound (vec_len r.chunk) r.at r.filled (length r.begun.items) r.from r.to r.taken r.lines r.ended };
+    ghost invariant = { λ r. IsSound (vec_len r.chunk) r.at r.filled (length r.begun.items) r.from r.to r.taken r.lines r.ended r.failed };
 }
 
 // Adds a piece to the line that was begun, and says whether that is too long now.
@@ -131,6 +135,7 @@ impl LineReader {
             taken: 0,
             lines: 0,
             ended: false,
+            failed: false,
         })
     }
 
@@ -173,7 +178,8 @@ impl LineReader {
         }
     }
 
-    /// Gives the next line, and takes from the source what it needs for it.
+    /// Gives the next line, and takes from the source what it needs for it: nothing where the line lies whole in what was taken
+    /// before, and else as many reads as there are up to its end.
     pub fn next_line<I: Source>(&mut self, input: &mut I) -> LineAnswer
         // What is taken from the source, and which bytes are given up.
         ensures next { NextLine result self.old self.new (I.seen input.old) (I.seen input.new) }
@@ -184,12 +190,16 @@ impl LineReader {
         if self.ended {
             return LineAnswer::End;
         }
+        if self.failed {
+            return LineAnswer::ReadFault;
+        }
         self.read_line(input)
     }
 
     // Reads on until a line is there, or there is none.
     fn read_line<I: Source>(&mut self, input: &mut I) -> LineAnswer
-        requires { self.old.ended ≡ false }
+        requires ended { self.old.ended ≡ false }
+        requires failed { self.old.failed ≡ false }
         ensures { NextLine result self.old self.new (I.seen input.old) (I.seen input.new) }
     {
         self.begun.clear();
@@ -226,7 +236,10 @@ impl LineReader {
                     self.lines += 1;
                     return answer_to(long);
                 }
-                ReadAnswer::Failed => return LineAnswer::ReadFault,
+                ReadAnswer::Failed => {
+                    self.failed = true;
+                    return LineAnswer::ReadFault;
+                }
             }
         }
     }

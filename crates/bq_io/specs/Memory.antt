@@ -15,16 +15,17 @@ abbrev pub is_listed : ℕ → List ℕ → Bool
 is_listed call fails = list_any (λ k. k == call) fails
 
 -- A source in memory: the bytes that are left, the most that it gives at a time, the numbers of the calls that fail, how
--- many calls there were, and how many of them failed.
+-- many calls there were, how many of them failed, and how many bytes the last read gave of those that gave some.
 pub record MemSourceState : Type 0 where
   pub left : List ℕ
   pub piece : ℕ
   pub fails : List ℕ
   pub calls : ℕ
   pub failed : ℕ
+  pub last : ℕ
 
 abbrev pub mem_source_seen : MemSourceState → SourceState
-mem_source_seen s = record { left = Some s.left; faults = s.failed }
+mem_source_seen s = record { left = Some s.left; faults = s.failed; last = s.last }
 
 -- so many bytes, or the end where there are none
 abbrev pub given : ℕ → ReadAnswer
@@ -37,13 +38,17 @@ read_answer s room = if is_listed (one_more s.calls) s.fails then read.Failed el
 
 -- the source after a read that gave this
 abbrev pub after_read : MemSourceState → ReadAnswer → MemSourceState
-after_read s (read.Got n) = record s { left = drop n s.left; calls = one_more s.calls }
+after_read s (read.Got n) = record s { left = drop n s.left; calls = one_more s.calls; last = n }
 after_read s read.End = record s { calls = one_more s.calls }
 after_read s read.Failed = record s { calls = one_more s.calls; failed = one_more s.failed }
 
--- a source in memory that never fails: the bytes that are left
-abbrev pub sure_source_seen : List ℕ → SourceState
-sure_source_seen left = record { left = Some left; faults = 0 }
+-- A source in memory that never fails: the bytes that are left, and how many the last read gave of those that gave some.
+pub record SureSourceState : Type 0 where
+  pub left : List ℕ
+  pub last : ℕ
+
+abbrev pub sure_source_seen : SureSourceState → SourceState
+sure_source_seen s = record { left = Some s.left; faults = 0; last = s.last }
 
 -- A sink in memory: the bytes written, the most that it takes at a time, the numbers of the calls that fail, how many
 -- calls there were, how many of them failed, and how many of these because no memory was found.

@@ -1,8 +1,8 @@
 //! The outside: where bytes come from, where they go, and what stands for both in memory and at the process.
 //!
-//! A clause sees a source as the bytes that are left and a count of faults, and a sink as the bytes written and a
-//! count of faults. Every call that writes a text has the one clause `Writes`: the text was written, or a front of
-//! it, and then the sink failed.
+//! A clause sees a source as the bytes that are left, a count of faults and how many bytes the last read gave, and a sink as
+//! the bytes written and a count of faults. Every call that writes a text has the one clause `Writes`: the text was written,
+//! or a front of it, and then the sink failed.
 #![tactic(auto)]
 
 mod gathered;

@@ -12,7 +12,8 @@ pub enum ReadAnswer {
 
 /// Bytes that come from somewhere.
 pub trait Source {
-    /// The bytes that are left, where the source tells them, and how often a read has failed.
+    /// The bytes that are left, where the source tells them, how often a read has failed, and how many bytes the last read gave
+    /// of those that gave some.
     ghost seen: { Self → SourceState };
 
     /// Reads at least one byte into the front of the buffer, unless none is left or the read fails.

@@ -1,5 +1,7 @@
-//! The trusted edge: a reader and a writer of the process. They tell no bytes, so a contract speaks of their faults alone.
+//! The trusted edge: a reader and a writer of the process. Those tell no bytes, so a contract speaks of their faults alone. A
+//! source over a reader that tells its bytes, as a slice, tells them too.
 ghost use Rattle.std.specs.Prelude.{◌≡◌, ◌≤◌, length, IfSome};
+ghost use Rattle.bq_io.specs.Standard.{ReadsUpTo};
 
 use crate::sink::{Sink, WriteAnswer};
 use crate::source::{ReadAnswer, Source};
@@ -7,7 +9,7 @@ use std::io::{ErrorKind, Read, Write};
 
 // Reads, and again where a signal interrupts the read. A read that fails gives nothing.
 fn read_again<R: Read>(inner: &mut R, buffer: &mut [u8]) -> Option<usize>
-    ensures { IfSome result (λ n. n ≤ length buffer.old) }
+    ensures { ReadsUpTo result buffer.new (R.remaining inner.old) (R.remaining inner.new) }
 {
     for _ in 0..u64::MAX {
         match inner.read(buffer) {
@@ -38,29 +40,39 @@ fn write_again<W: Write>(inner: &mut W, piece: &[u8]) -> Option<usize>
 pub struct StdSource<R: Read + Drop> {
     inner: R,
     failed: u64,
+    // How many bytes the last read gave that gave some.
+    last: usize,
 }
 
 impl<R: Read + Drop> StdSource<R> {
-    ghost use Rattle.bq_io.specs.Standard.{source_faults};
+    ghost use Rattle.bq_io.specs.Standard.{source_faults, source_inner, source_last};
 
-    /// No read has failed yet.
+    /// Nothing was read yet, and no read has failed.
     pub fn new(inner: R) -> StdSource<R>
-        ensures { source_faults result ≡ 0 }
+        ensures faults { source_faults result ≡ 0 }
+        ensures inner { source_inner result ≡ inner }
+        ensures last { source_last result ≡ 0 }
     {
-        StdSource { inner, failed: 0 }
+        StdSource {
+            inner,
+            failed: 0,
+            last: 0,
+        }
     }
 }
 
 impl<R: Read + Drop> Source for StdSource<R> {
     ghost use Rattle.bq_io.specs.Source.{SourceState};
-    ghost use Rattle.std.specs.Prelude.{None};
 
-    ghost seen = { λ s. record { left = None; faults = s.failed } };
+    ghost seen = { λ s. record { left = R.remaining s.inner; faults = s.failed; last = s.last } };
 
     fn read(&mut self, buffer: &mut [u8]) -> ReadAnswer {
         match read_again(&mut self.inner, buffer) {
             Some(0) => ReadAnswer::End,
-            Some(n) => ReadAnswer::Got(n),
+            Some(n) => {
+                self.last = n;
+                ReadAnswer::Got(n)
+            }
             None => {
                 self.failed = self.failed.saturating_add(1);
                 ReadAnswer::Failed

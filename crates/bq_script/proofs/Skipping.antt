@@ -2,12 +2,11 @@
 use Rattle.std.proofs.Common.{◌≡◌, ℕ, suc, ◌≤◌, Bool, true, false, List, [], ◌∷◌, ◌++◌, length, refl, sym, ◌∙◌, subst, append_assoc, append-nil, length-append, arith}
 use Rattle.std.specs.List.{AllByRecursion}
 use Rattle.bq_io.specs.Source.{SourceState}
-use Rattle.bq_io.proofs.Writing.{Rose-earlier}
 use Rattle.bq_feed.specs.declared.reader.LineAnswer.TheVariants.{Line, TooLong, End, ReadFault, ByteLimit}
 use Rattle.bq_feed.specs.Reading.{Reading, NextLine}
 use Rattle.bq_feed.specs.GivenLines.{GivenLines}
 use Rattle.bq_feed.proofs.GivenLines.{Step, step-read, given-line}
-use Rattle.bq_feed.proofs.GivenEnds.{all-given, last-given, last-text}
+use Rattle.bq_feed.proofs.GivenEnds.{all-given, last-given, last-text, rose-given}
 use Rattle.bq_script.specs.declared.texts.TextAnswer.TheVariants as answers
 use Rattle.bq_script.specs.Script.{SaysNothing, IsBlank}
 use Rattle.bq_script.specs.Ends.{GivesText}
@@ -102,7 +101,7 @@ gives-end source now now' old new given s n = record {
 pub gives-fault : (source now now' : SourceState) (old new : Reading) (given : List (List ℕ)) → Skipped source now given old → NextLine ReadFault old new now now' → GivesText answers.ReadFault source now' given new
 gives-fault source now now' old new given s n =
     let t = n.tells in (
-      Rose-earlier _ _ _ s.lines.later t.4,
+      rose-given source now now' old new s.front (given ++ s.blanks) s.lines n,
       record {
         blanks = s.blanks;
         text = last-text ReadFault old new now now' s.front n;

@@ -1,5 +1,5 @@
 -- The ends of two lists of one length.
-use Rattle.std.proofs.Common.{◌≡◌, ◌-◌, List, [], ◌∷◌, ◌++◌, length, take, ap, arith, length-append}
+use Rattle.std.proofs.Common.{◌≡◌, ◌-◌, List, [], ◌∷◌, ◌++◌, length, take, ap, refl, sym, ◌∙◌, arith, length-append}
 use Rattle.std.specs.Prelude.{Option, Some, None, option_to_list}
 use Rattle.std.proofs.lemmas.List.{length-take, nil_from_length}
 
@@ -13,6 +13,13 @@ last-there cs ds ns ms None n l e f g =
     let j = ap length g in
     let k = length-take (length cs - 1) cs in
     absurd (omega (arith, a, b, h, i, j, k, l))
+
+pub last-some : {X Y : Type 0} (cs ds : List X) (ns ms : List Y) (o : Option X) (n : Y) → length cs ≡ length ns → ns ≡ ms ++ n ∷ [] → cs ≡ ds ++ option_to_list o → ds ≡ take (length cs - 1) cs → (c : X) × (cs ≡ ds ++ c ∷ []) × (o ≡ Some c)
+last-some cs ds ns ms (Some c) n l e f g = (c, f, refl)
+last-some cs ds ns ms None n l e f g = let t = last-there cs ds ns ms None n l e f g in absurd (longer ds t.0 (sym t.1 ∙ f))
+  where
+    longer : {X : Type 0} (ds : List X) (c : X) → ds ++ c ∷ [] ≡ ds ++ [] → ⊥
+    longer ds c h = let a = ap length h in let b = length-append ds (c ∷ []) in let d = length-append ds [] in omega (arith, a, b, d)
 
 pub none-left : {X : Type 0} (ns ms : List X) → ns ≡ ms ++ [] → ms ≡ take (length ns - 1) ns → ns ≡ []
 none-left ns ms e f =

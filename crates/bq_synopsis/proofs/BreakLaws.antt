@@ -40,10 +40,10 @@ right-true false t e = absurd (false-is-not e)
     false-is-not : false ≡ true → ⊥
     false-is-not e = cc
 
-some-is : {X : Type 0} (x y : X) → Some x ≡ Some y → x ≡ y
+pub some-is : {X : Type 0} (x y : X) → Some x ≡ Some y → x ≡ y
 some-is x y e = cc
 
-none-is : {X : Type 0} (x : X) → None ≡ Some x → ⊥
+pub none-is : {X : Type 0} (x : X) → None ≡ Some x → ⊥
 none-is x e = cc
 
 no-and : (s t : Bool) → t ≡ false → s && t ≡ false
@@ -88,7 +88,7 @@ get-here : {X : Type 0} (xs ys : List X) (x : X) → slice_get ((xs ++ x ∷ [])
 get-here [] ys x = refl
 get-here (y ∷ xs) ys x = get-here xs ys x
 
-get-there : {X : Type 0} (xs : List X) (i : ℕ) (d : X) → i < length xs → slice_get xs i ≡ Some (get_or xs i d)
+pub get-there : {X : Type 0} (xs : List X) (i : ℕ) (d : X) → i < length xs → slice_get xs i ≡ Some (get_or xs i d)
 get-there [] i d l = absurd (omega (arith, l))
 get-there (x ∷ xs) zero d l = refl
 get-there (x ∷ xs) (suc i) d l = get-there xs i d (omega (arith, l))

@@ -119,68 +119,59 @@ few-candidates ps part arriving row known =
     let b = free-tried part arriving (length known) in
     omega (arith, a, b)
 
-pub cost-of-back : (rates : ℕ → Rates) (streams : ℕ) (p r : Probe) → WentBack p r → p.over ≡ false → length p.numbers.items ≤ streams →
-    cost_left (rates r.arriving) streams r.numbers.items r.next r.over + (rates p.arriving).level ≤ cost_left (rates p.arriving) streams p.numbers.items p.next p.over
-cost-of-back rates streams p r (ended a b c d e f g h) o l =
-    let x : cost_left (rates r.arriving) streams r.numbers.items r.next r.over ≡ cost_left (rates p.arriving) streams r.numbers.items r.next true = λ k. cost_left (rates (f k)) streams r.numbers.items r.next (e k) in
-    let y : cost_left (rates p.arriving) streams p.numbers.items p.next p.over ≡ cost_left (rates p.arriving) streams [] p.next false = λ k. cost_left (rates p.arriving) streams (b k) p.next (o k) in
-    omega (arith, x, y, cost-end (rates p.arriving) streams p.next r.numbers.items r.next)
-cost-of-back rates streams p r (popped c n a b e v f g j) o l =
-    let z = ap length b in
-    let h = length-append r.numbers.items (n ∷ []) in
-    let x : cost_left (rates r.arriving) streams r.numbers.items r.next r.over ≡ cost_left (rates p.arriving) streams r.numbers.items n false = λ k. cost_left (rates (f k)) streams r.numbers.items (e k) ((v ∙ o) k) in
-    let y : cost_left (rates p.arriving) streams p.numbers.items p.next p.over ≡ cost_left (rates p.arriving) streams (r.numbers.items ++ n ∷ []) p.next false = λ k. cost_left (rates p.arriving) streams (b k) p.next (o k) in
-    omega (arith, x, y, cost-back (rates p.arriving) streams r.numbers.items n p.next (omega (arith, z, h, l)))
+pub cost-of-back : (rates : ℕ → Rates) (streams : ℕ) (p r : Probe) → WentBack p r → p.over ≡ false → length p.room.now.numbers.items ≤ streams →
+    cost_left (rates r.arriving) streams r.room.now.numbers.items r.next r.over + (rates p.arriving).level ≤ cost_left (rates p.arriving) streams p.room.now.numbers.items p.next p.over
+cost-of-back rates streams p r (ended a b c d e f g h m zs) o l =
+    let x : cost_left (rates r.arriving) streams r.room.now.numbers.items r.next r.over ≡ cost_left (rates p.arriving) streams r.room.now.numbers.items r.next true = λ k. cost_left (rates (f k)) streams r.room.now.numbers.items r.next (e k) in
+    let y : cost_left (rates p.arriving) streams p.room.now.numbers.items p.next p.over ≡ cost_left (rates p.arriving) streams [] p.next false = λ k. cost_left (rates p.arriving) streams (b k) p.next (o k) in
+    omega (arith, x, y, cost-end (rates p.arriving) streams p.next r.room.now.numbers.items r.next)
+cost-of-back rates streams p r (popped c n z a b e v f g j m zs zv) o l =
+    let l-b = ap length b in
+    let h = length-append r.room.now.numbers.items (n ∷ []) in
+    let x : cost_left (rates r.arriving) streams r.room.now.numbers.items r.next r.over ≡ cost_left (rates p.arriving) streams r.room.now.numbers.items n false = λ k. cost_left (rates (f k)) streams r.room.now.numbers.items (e k) ((v ∙ o) k) in
+    let y : cost_left (rates p.arriving) streams p.room.now.numbers.items p.next p.over ≡ cost_left (rates p.arriving) streams (r.room.now.numbers.items ++ n ∷ []) p.next false = λ k. cost_left (rates p.arriving) streams (b k) p.next (o k) in
+    omega (arith, x, y, cost-back (rates p.arriving) streams r.room.now.numbers.items n p.next (omega (arith, l-b, h, l)))
 
 -- what is outside the level is what is left after going back
 pub outer-of-back : (sel : List Attr) (part : PartPlan) (read : Reading) (p r : Probe) → WentBack p r → p.over ≡ false → IsUnderway part p →
-    left_of sel part read r ≡ outer (setting p.pairs.now.items sel part p.arriving p.row.now.items read) (length part.streams.items) [] p.chosen.items p.numbers.items
+    left_of sel part read r ≡ outer (setting p.pairs.now.items sel part p.arriving p.row.now.items read) (length part.streams.items) [] p.room.now.chosen.items p.room.now.numbers.items
 unfolding left
-outer-of-back sel part read p r (ended a b c d e f g h) o u =
-    (λ k. left (setting r.pairs.now.items sel part r.arriving r.row.now.items read) r.chosen.items r.numbers.items r.next (e k))
-    ∙ sym ((λ k. outer (setting p.pairs.now.items sel part p.arriving p.row.now.items read) (length part.streams.items) [] (a k) p.numbers.items) ∙ outer-none (setting p.pairs.now.items sel part p.arriving p.row.now.items read) (length part.streams.items) [] p.numbers.items)
-outer-of-back sel part read p r (popped c n a b e v f g j) o u =
+outer-of-back sel part read p r (ended a b c d e f g h m zs) o u =
+    (λ k. left (setting r.pairs.now.items sel part r.arriving r.row.now.items read) r.room.now.chosen.items r.room.now.numbers.items r.next (e k))
+    ∙ sym ((λ k. outer (setting p.pairs.now.items sel part p.arriving p.row.now.items read) (length part.streams.items) [] (a k) p.room.now.numbers.items) ∙ outer-none (setting p.pairs.now.items sel part p.arriving p.row.now.items read) (length part.streams.items) [] p.room.now.numbers.items)
+outer-of-back sel part read p r (popped c n z a b e v f g j m zs zv) o u =
     let w = setting p.pairs.now.items sel part p.arriving p.row.now.items read in
     let x = ap length a in
     let y = ap length b in
-    let s = length-append r.chosen.items (c ∷ []) in
-    let t = length-append r.numbers.items (n ∷ []) in
-    let m : length r.chosen.items ≡ length r.numbers.items = omega (arith, x, y, s, t, u.same) in
-    let few : length r.chosen.items < length part.streams.items = omega (arith, x, s, u.few) in
-    (λ k. left (setting (j k).now.items sel part (f k) (g k).now.items read) r.chosen.items r.numbers.items (e k) ((v ∙ o) k))
-    ∙ sym (left-back w r.chosen.items r.numbers.items c n m few)
+    let s = length-append r.room.now.chosen.items (c ∷ []) in
+    let t = length-append r.room.now.numbers.items (n ∷ []) in
+    let m : length r.room.now.chosen.items ≡ length r.room.now.numbers.items = omega (arith, x, y, s, t, u.same) in
+    let few : length r.room.now.chosen.items < length part.streams.items = omega (arith, x, s, u.few) in
+    (λ k. left (setting (j k).now.items sel part (f k) (g k).now.items read) r.room.now.chosen.items r.room.now.numbers.items (e k) ((v ∙ o) k))
+    ∙ sym (left-back w r.room.now.chosen.items r.room.now.numbers.items c n m few)
     ∙ (λ k. outer w (length part.streams.items) [] (sym a k) (sym b k))
 
-light-front : (a i : ℕ) (cs : List Chosen) (c : Chosen) → AreLight a i (cs ++ c ∷ []) → AreLight a i cs
+pub light-front : (a i : ℕ) (cs : List Chosen) (c : Chosen) → AreLight a i (cs ++ c ∷ []) → AreLight a i cs
 light-front a i [] c h = tt
 light-front a i (x ∷ cs) c h = (h.0, light-front a (i + 1) cs c h.1)
 
-light-more : (a i : ℕ) (cs : List Chosen) (c : Chosen) → AreLight a i cs → rows_in c.cell ≤ limit a (i + length cs) → AreLight a i (cs ++ c ∷ [])
+pub light-more : (a i : ℕ) (cs : List Chosen) (c : Chosen) → AreLight a i cs → rows_in c.cell ≤ limit a (i + length cs) → AreLight a i (cs ++ c ∷ [])
 light-more a i [] c h l = (subst (λ n. rows_in c.cell ≤ limit a n) (let e : i + 0 ≡ i = omega arith in e) l, tt)
 light-more a i (x ∷ cs) c h l = (h.0, light-more a (i + 1) cs c h.1 (subst (λ n. rows_in c.cell ≤ limit a n) (let e : i + suc (length cs) ≡ i + 1 + length cs = omega arith in e) l))
 
-pub underway-back : (part : PartPlan) (p r : Probe) → WentBack p r → IsUnderway part p → IsUnderway part r
-underway-back part p r (ended a b c d e f g h) u = record { here = subst (λ m. m < length part.streams.items) (sym f) u.here; same = ap length c ∙ sym (ap length d); few = let z = ap length c in omega (arith, z); light = subst (λ cs. AreLight r.arriving 0 cs) (sym c) tt }
-underway-back part p r (popped c n a b e v f g j) u =
-    let x = ap length a in
-    let y = ap length b in
-    let s = length-append r.chosen.items (c ∷ []) in
-    let t = length-append r.numbers.items (n ∷ []) in
-    record { here = subst (λ m. m < length part.streams.items) (sym f) u.here; same = omega (arith, x, y, s, t, u.same); few = omega (arith, x, s, u.few); light = subst (λ m. AreLight m 0 r.chosen.items) (sym f) (light-front p.arriving 0 r.chosen.items c (subst (λ cs. AreLight p.arriving 0 cs) a u.light)) }
-
-pub left-of-back : (sel : List Attr) (part : PartPlan) (read : Reading) (p r : Probe) → WentBack p r → p.over ≡ false → IsUnderway part p → length p.chosen.items < length part.streams.items →
-    box_size (narrowed_dims p.pairs.now.items part p.arriving p.row.now.items p.chosen.items) ≤ p.next → left_of sel part read r ≡ left_of sel part read p
+pub left-of-back : (sel : List Attr) (part : PartPlan) (read : Reading) (p r : Probe) → WentBack p r → p.over ≡ false → IsUnderway part p → length p.room.now.chosen.items < length part.streams.items →
+    box_size (narrowed_dims p.pairs.now.items part p.arriving p.row.now.items p.room.now.chosen.items) ≤ p.next → left_of sel part read r ≡ left_of sel part read p
 left-of-back sel part read p r back o u l past =
     let w = setting p.pairs.now.items sel part p.arriving p.row.now.items read in
     outer-of-back sel part read p r back o u
-    ∙ sym (left-past w p.chosen.items p.numbers.items p.next l (omega (arith, past, length-box (narrowed_dims p.pairs.now.items part p.arriving p.row.now.items p.chosen.items))))
-    ∙ (λ k. left w p.chosen.items p.numbers.items p.next (sym o k))
+    ∙ sym (left-past w p.room.now.chosen.items p.room.now.numbers.items p.next l (omega (arith, past, length-box (narrowed_dims p.pairs.now.items part p.arriving p.row.now.items p.room.now.chosen.items))))
+    ∙ (λ k. left w p.room.now.chosen.items p.room.now.numbers.items p.next (sym o k))
 
 -- the candidate that is next
-pub candidate : (part : PartPlan) (p : Probe) (values : List ℤ) → p.next < box_size (narrowed_dims p.pairs.now.items part p.arriving p.row.now.items p.chosen.items) →
-    values ≡ values_at (narrowed_dims p.pairs.now.items part p.arriving p.row.now.items p.chosen.items) p.next →
-    drop p.next (box (narrowed_dims p.pairs.now.items part p.arriving p.row.now.items p.chosen.items)) ≡ values ∷ drop (p.next + 1) (box (narrowed_dims p.pairs.now.items part p.arriving p.row.now.items p.chosen.items))
-candidate part p values l e = box-from _ _ l ∙ ap (λ vs. vs ∷ drop (p.next + 1) (box (narrowed_dims p.pairs.now.items part p.arriving p.row.now.items p.chosen.items))) (sym e)
+pub candidate : (part : PartPlan) (p : Probe) (values : List ℤ) → p.next < box_size (narrowed_dims p.pairs.now.items part p.arriving p.row.now.items p.room.now.chosen.items) →
+    values ≡ values_at (narrowed_dims p.pairs.now.items part p.arriving p.row.now.items p.room.now.chosen.items) p.next →
+    drop p.next (box (narrowed_dims p.pairs.now.items part p.arriving p.row.now.items p.room.now.chosen.items)) ≡ values ∷ drop (p.next + 1) (box (narrowed_dims p.pairs.now.items part p.arriving p.row.now.items p.room.now.chosen.items))
+candidate part p values l e = box-from _ _ l ∙ ap (λ vs. vs ∷ drop (p.next + 1) (box (narrowed_dims p.pairs.now.items part p.arriving p.row.now.items p.room.now.chosen.items))) (sym e)
 
 pub paid-exactly : (s t x y e f : ℕ) → t ≡ s + e → e ≡ f → x + f ≡ y → t + x ≤ s + y
 paid-exactly s t x y e f a b c = omega (arith, a, b, c)
@@ -189,12 +180,12 @@ pub paid-enough : (s t x y e f : ℕ) → t ≡ s + e → e ≡ f → x + f ≤ 
 paid-enough s t x y e f a b c = omega (arith, a, b, c)
 
 -- the cost of a level more, and of the next candidate, in the probe's terms
-module _ (rates : Rates) (streams : ℕ) (p : Probe) (l : length p.numbers.items < streams) (h : p.next < rates.size (length p.numbers.items)) (o : p.over ≡ false) where
-  pub cost-of-enter : (ns : List ℕ) → ns ≡ p.numbers.items ++ (p.next + 1) ∷ [] → cost_left rates streams ns 0 p.over + rates.each (length p.numbers.items) ≡ cost_left rates streams p.numbers.items p.next p.over
-  cost-of-enter ns e = (λ k. cost_left rates streams (e k) 0 (o k) + rates.each (length p.numbers.items)) ∙ cost-enter rates streams p.numbers.items p.next l h ∙ (λ k. cost_left rates streams p.numbers.items p.next (sym o k))
+module _ (rates : Rates) (streams : ℕ) (p : Probe) (l : length p.room.now.numbers.items < streams) (h : p.next < rates.size (length p.room.now.numbers.items)) (o : p.over ≡ false) where
+  pub cost-of-enter : (ns : List ℕ) → ns ≡ p.room.now.numbers.items ++ (p.next + 1) ∷ [] → cost_left rates streams ns 0 p.over + rates.each (length p.room.now.numbers.items) ≡ cost_left rates streams p.room.now.numbers.items p.next p.over
+  cost-of-enter ns e = (λ k. cost_left rates streams (e k) 0 (o k) + rates.each (length p.room.now.numbers.items)) ∙ cost-enter rates streams p.room.now.numbers.items p.next l h ∙ (λ k. cost_left rates streams p.room.now.numbers.items p.next (sym o k))
 
-  pub cost-of-next : cost_left rates streams p.numbers.items (p.next + 1) p.over + rates.each (length p.numbers.items) ≤ cost_left rates streams p.numbers.items p.next p.over
-  cost-of-next = let g = cost-next rates streams p.numbers.items p.next l h in subst (λ b. cost_left rates streams p.numbers.items (p.next + 1) b + rates.each (length p.numbers.items) ≤ cost_left rates streams p.numbers.items p.next b) (sym o) g
+  pub cost-of-next : cost_left rates streams p.room.now.numbers.items (p.next + 1) p.over + rates.each (length p.room.now.numbers.items) ≤ cost_left rates streams p.room.now.numbers.items p.next p.over
+  cost-of-next = let g = cost-next rates streams p.room.now.numbers.items p.next l h in subst (λ b. cost_left rates streams p.room.now.numbers.items (p.next + 1) b + rates.each (length p.room.now.numbers.items) ≤ cost_left rates streams p.room.now.numbers.items p.next b) (sym o) g
 
 modest-weight : (kind : Kind) (c : Cell) → FitsKind kind c → rows_in c ≤ 2 ^ 40
 modest-weight kind Empty h = omega arith
@@ -217,20 +208,6 @@ light-cell part arriving read place vs fits l cells out = by (place == arriving)
         let s = (out other).size in
         let b = place-below (dims_at part place) vs i in
         modest-weight (stream_at part place).kind _ (fits place (place_of (dims_at part place) vs) l (omega (arith, s, b)))
-
-pub underway-enter : (part : PartPlan) (p r : Probe) (c : Chosen) (n : ℕ) → IsUnderway part p → r.arriving ≡ p.arriving → r.chosen.items ≡ p.chosen.items ++ c ∷ [] → r.numbers.items ≡ p.numbers.items ++ n ∷ [] → length p.chosen.items < length part.streams.items → rows_in c.cell ≤ limit p.arriving (length p.chosen.items) → IsUnderway part r
-underway-enter part p r c n u f a b l h =
-    let x = ap length a in
-    let y = ap length b in
-    let s = length-append p.chosen.items (c ∷ []) in
-    let t = length-append p.numbers.items (n ∷ []) in
-    let z : length p.chosen.items ≡ 0 + length p.chosen.items = omega arith in
-    record {
-      here = subst (λ m. m < length part.streams.items) (sym f) u.here;
-      same = omega (arith, x, y, s, t, u.same);
-      few = omega (arith, x, s, l);
-      light = subst (λ m. AreLight m 0 r.chosen.items) (sym f) (subst (λ cs. AreLight p.arriving 0 cs) (sym a) (light-more p.arriving 0 p.chosen.items c u.light (subst (λ m. rows_in c.cell ≤ limit p.arriving m) z h)));
-    }
 
 pub limits : ℕ → ℕ → ℕ → ℕ
 limits a i zero = 1
@@ -293,21 +270,21 @@ pub product-next : (cs : List Chosen) (i : ℕ) (x : Chosen) (product w v : ℕ)
 product-next cs i x product w v l e f g h = (λ k. e k * (h ∙ g ∙ ap (λ (y : Chosen). rows_in y.cell) f) k) ∙ sym (product-more cs i x l)
 
 -- all streams are chosen: the combination, if it meets the links, and then the rest
-module _ (sel : List Attr) (part : PartPlan) (p r : Probe) (back : WentBack p r) (o : p.over ≡ false) (u : IsUnderway part p) (whole : length p.chosen.items ≡ length part.streams.items) where
-  whole-left : (read : Reading) → left_of sel part read p ≡ walk (setting p.pairs.now.items sel part p.arriving p.row.now.items read) 0 p.chosen.items ++ left_of sel part read r
+module _ (sel : List Attr) (part : PartPlan) (p r : Probe) (back : WentBack p r) (o : p.over ≡ false) (u : IsUnderway part p) (whole : length p.room.now.chosen.items ≡ length part.streams.items) where
+  whole-left : (read : Reading) → left_of sel part read p ≡ walk (setting p.pairs.now.items sel part p.arriving p.row.now.items read) 0 p.room.now.chosen.items ++ left_of sel part read r
   whole-left read =
-      (λ k. left (setting p.pairs.now.items sel part p.arriving p.row.now.items read) p.chosen.items p.numbers.items p.next (o k))
-      ∙ left-whole (setting p.pairs.now.items sel part p.arriving p.row.now.items read) p.chosen.items p.numbers.items p.next whole
-      ∙ ap (λ fs. walk (setting p.pairs.now.items sel part p.arriving p.row.now.items read) 0 p.chosen.items ++ fs) (sym (outer-of-back sel part read p r back o u))
+      (λ k. left (setting p.pairs.now.items sel part p.arriving p.row.now.items read) p.room.now.chosen.items p.room.now.numbers.items p.next (o k))
+      ∙ left-whole (setting p.pairs.now.items sel part p.arriving p.row.now.items read) p.room.now.chosen.items p.room.now.numbers.items p.next whole
+      ∙ ap (λ fs. walk (setting p.pairs.now.items sel part p.arriving p.row.now.items read) 0 p.room.now.chosen.items ++ fs) (sym (outer-of-back sel part read p r back o u))
 
-  pub finish-none : meets_links p.pairs.now.items part p.arriving p.row.now.items p.chosen.items ≡ false → (read : Reading) → left_of sel part read p ≡ left_of sel part read r
+  pub finish-none : meets_links p.pairs.now.items part p.arriving p.row.now.items p.room.now.chosen.items ≡ false → (read : Reading) → left_of sel part read p ≡ left_of sel part read r
   unfolding walk
-  finish-none e read = whole-left read ∙ ap (λ b. (if b then found (setting p.pairs.now.items sel part p.arriving p.row.now.items read) p.chosen.items ∷ [] else []) ++ left_of sel part read r) e
+  finish-none e read = whole-left read ∙ ap (λ b. (if b then found (setting p.pairs.now.items sel part p.arriving p.row.now.items read) p.room.now.chosen.items ∷ [] else []) ++ left_of sel part read r) e
 
-  pub finish-some : (vs : List ℤ) (n : ℕ) → meets_links p.pairs.now.items part p.arriving p.row.now.items p.chosen.items ≡ true → vs ≡ tuple_of p.pairs.now.items sel part p.arriving p.row.now.items p.chosen.items → n ≡ product_of p.chosen.items → (read : Reading) → left_of sel part read p ≡ as_found vs n ∷ left_of sel part read r
+  pub finish-some : (vs : List ℤ) (n : ℕ) → meets_links p.pairs.now.items part p.arriving p.row.now.items p.room.now.chosen.items ≡ true → vs ≡ tuple_of p.pairs.now.items sel part p.arriving p.row.now.items p.room.now.chosen.items → n ≡ product_of p.room.now.chosen.items → (read : Reading) → left_of sel part read p ≡ as_found vs n ∷ left_of sel part read r
   unfolding walk
   finish-some vs n e f g read =
-      whole-left read ∙ ap (λ b. (if b then found (setting p.pairs.now.items sel part p.arriving p.row.now.items read) p.chosen.items ∷ [] else []) ++ left_of sel part read r) e
+      whole-left read ∙ ap (λ b. (if b then found (setting p.pairs.now.items sel part p.arriving p.row.now.items read) p.room.now.chosen.items ∷ [] else []) ++ left_of sel part read r) e
       ∙ (λ k. as_found (sym f k) (sym g k) ∷ left_of sel part read r)
 
 pub option_weaker : {T : Type 0} (o : Option T) (A B : Type 0) (P R : T → Type 0) → (A → B) → ((t : T) → P t → R t) → MatchOption o A P → MatchOption o B R
@@ -316,4 +293,4 @@ option_weaker (Some t) A B P R f g h = g t h
 
 pub left-over : (sel : List Attr) (part : PartPlan) (read : Reading) (p : Probe) → p.over ≡ true → left_of sel part read p ≡ []
 unfolding left
-left-over sel part read p o = λ k. left (setting p.pairs.now.items sel part p.arriving p.row.now.items read) p.chosen.items p.numbers.items p.next (o k)
+left-over sel part read p o = λ k. left (setting p.pairs.now.items sel part p.arriving p.row.now.items read) p.room.now.chosen.items p.room.now.numbers.items p.next (o k)

@@ -1,4 +1,5 @@
 pub mod Values
+pub mod Preparing
 pub mod Choosing
 pub mod Walk
 pub mod Costs

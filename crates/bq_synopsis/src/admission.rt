@@ -1,12 +1,14 @@
 //! Which rows a part admits.
-ghost use Rattle.std.specs.Prelude.{◌≡◌, ◌<◌, ◌&&◌, ◌||◌, not, nat_eq, length};
+ghost use Rattle.std.specs.Prelude.{◌≡◌, ◌<◌, ◌&&◌, ◌||◌, not, nat_eq, length, slice_get};
 ghost use Rattle.std.specs.List.{list_all};
 ghost use Rattle.bq_model.specs.Assignment.{value};
-ghost use Rattle.bq_model.specs.Parts.{sign, sign_at};
+ghost use Rattle.bq_model.specs.Parts.{pairs, sign, sign_at};
 ghost use Rattle.bq_model.specs.Meaning.{by_column};
-ghost use Rattle.bq_model.specs.Plan.{stream_at};
-ghost use Rattle.bq_model.specs.Admission.{alone, sign_eq, keeps_signs, in_range, admits};
+ghost use Rattle.bq_model.specs.Plan.{stream_at, dims_at};
+ghost use Rattle.bq_model.specs.Admission.{alone, sign_eq, in_range, admits};
+ghost use Rattle.bq_synopsis.specs.Preparing.{IsPrepared, keeps_pair, keeps_tests};
 
+use crate::prepared::Prepared;
 use bq_model::{Attr, Dim, Element, Pair, PartPlan, Query, Row, Sign, StreamPlan};
 
 /// The value of a column in a row, 0 where the row has none.
@@ -73,20 +75,34 @@ fn keeps_sign(place: u8, row: &[i64], pair: Pair, wanted: Sign) -> bool
         )
 }
 
-// Whether the pairs of the stream at this place have these signs in a row.
-#[tactic(auto, using(crate::proofs::SignLaws::kept_past, crate::proofs::SignLaws::kept_all, crate::proofs::SignLaws::kept_step))]
-fn keeps_signs(place: u8, row: &[i64], pairs: &[Pair], signs: &[Sign]) -> bool
-    ensures { result ≡ keeps_signs place (alone (by_column row.now)) pairs.now signs.now }
+// Whether a pair has its sign in a row, where it is a pair of the stream at this place; what is not there has none.
+fn keeps_pair(place: u8, row: &[i64], pair: Option<Pair>, wanted: Option<Sign>) -> bool
+    ensures { result ≡ keeps_pair place (alone (by_column row.now)) pair wanted }
 {
-    'pairs: for (i, pair) in pairs.iter().enumerate() {
-        if i >= signs.len() {
-            return false;
-        }
-        if !keeps_sign(place, row, *pair, signs[i]) {
-            return false;
-        }
+    match pair {
+        Some(pair) => match wanted {
+            Some(sign) => keeps_sign(place, row, pair, sign),
+            None => false,
+        },
+        None => false,
     }
-    true
+}
+
+// Whether the pair of a number has its sign in a row, where it is a pair of the stream at this place.
+fn keeps_test(place: u8, row: &[i64], pairs: &[Pair], signs: &[Sign], i: u8) -> bool
+    ensures { result ≡ keeps_pair place (alone (by_column row.now)) (slice_get pairs.now i) (slice_get signs.now i) }
+{
+    let i = usize::from(i);
+    keeps_pair(place, row, pairs.get(i).copied(), signs.get(i).copied())
+}
+
+// Whether the pairs of these numbers have their signs in a row, where they are of the stream at this place.
+fn keeps_tests(place: u8, row: &[i64], pairs: &[Pair], signs: &[Sign], tests: &[u8]) -> bool
+    ensures { result ≡ keeps_tests place (alone (by_column row.now)) pairs.now signs.now tests.now }
+{
+    tests
+        .iter()
+        .all(|i| keeps_test(place, row, pairs, signs, *i))
 }
 
 // Whether the value of a dim is within its range.
@@ -112,19 +128,36 @@ pub fn stream_at(part: &PartPlan, place: usize) -> &StreamPlan
     &part.streams.as_slice()[place]
 }
 
-/// Whether the part admits a row of the stream at a place of FROM: the row has the signs of the part, and the value of
-/// each dim is within its range.
-pub fn admits(q: &Query, part: &PartPlan, pos: u8, row: &Row) -> bool
+// Whether a row of the stream at a place of FROM lies in the ranges of its dims.
+fn is_inside(part: &PartPlan, pos: u8, row: &Row) -> bool
     requires { pos < length part.now.streams.items }
-    ensures { result ≡ admits q.now part.now pos (by_column row.now.items) }
+    ensures { result ≡ list_all (in_range (by_column row.now.items)) (dims_at part.now pos) }
 {
-    keeps_signs(
+    all_in_range(
+        row.as_slice(),
+        stream_at(part, usize::from(pos)).dims.as_slice(),
+    )
+}
+
+// Whether it has the signs that must be tested.
+fn is_kept(q: &Query, part: &PartPlan, prepared: &Prepared, pos: u8, row: &Row) -> bool
+    ensures { result ≡ keeps_tests pos (alone (by_column row.now.items)) (pairs q.now) part.now.signs.items prepared.now.tests.items }
+{
+    keeps_tests(
         pos,
         row.as_slice(),
         q.pairs().as_slice(),
         part.signs.as_slice(),
-    ) && all_in_range(
-        row.as_slice(),
-        stream_at(part, usize::from(pos)).dims.as_slice(),
+        prepared.tests(),
     )
+}
+
+/// Whether the part admits a row of the stream at a place of FROM: the row has the signs of the part, and the value of
+/// each dim is within its range.
+pub fn admits(q: &Query, part: &PartPlan, prepared: &Prepared, pos: u8, row: &Row) -> bool
+    requires here { pos < length part.now.streams.items }
+    requires prepared { IsPrepared (pairs q.now) part.now prepared.now }
+    ensures { result ≡ admits q.now part.now pos (by_column row.now.items) }
+{
+    is_inside(part, pos, row) && is_kept(q, part, prepared, pos, row)
 }

@@ -1,10 +1,10 @@
 //! What a row does to the cells of a part.
-ghost use Rattle.std.specs.Prelude.{◌≡◌, ◌+◌, ◌*◌, ◌<◌, ◌≤◌, length, slice_index_or, slice_set, IsTrue, [], ◌∷◌};
-ghost use Rattle.bq_model.specs.Boxes.{AreInside};
+ghost use Rattle.std.specs.Prelude.{◌≡◌, ◌+◌, ◌*◌, ◌<◌, ◌≤◌, length, slice_index_or, slice_set, IsTrue, [], ◌∷◌, ◌^◌, ◌≤ℤ◌, ◌-ℤ◌, nat_abs};
+ghost use Rattle.bq_model.specs.Boxes.{dim_size, box_size, AreFull, AreNumbered, AreInside};
 ghost use Rattle.bq_model.specs.Meaning.{by_column};
 ghost use Rattle.bq_model.specs.Plan.{stream_at, dims_at};
 ghost use Rattle.bq_model.specs.Admission.{admits};
-ghost use Rattle.bq_model.specs.Cells.{dim_values, content};
+ghost use Rattle.bq_model.specs.Cells.{dim_values, row_place, content};
 ghost use Rattle.bq_model.specs.Merge.{merged};
 ghost use Rattle.bq_model.specs.declared.cell.Cell.TheVariants as cells;
 ghost use Rattle.bq_model.specs.declared.plan.Kind.TheVariants as kinds;
@@ -12,9 +12,8 @@ ghost use Rattle.bq_pool.specs.Extents.{cells_of, with_cells};
 ghost use Rattle.bq_synopsis.specs.Premises.{IsHeld, IsLaidOut, HasRoom, row_cell};
 
 use crate::admission::{column_of, stream_at};
-use arrayvec::ArrayVec;
 use bq_io::Steps;
-use bq_model::{Attr, Cell, Dim, Kind, PartPlan, Query, Row, cell_index};
+use bq_model::{Attr, Cell, Dim, Kind, PartPlan, Query, Row};
 use bq_pool::{Extent, Pool};
 use std::sync::ledger::Ledger;
 
@@ -80,16 +79,39 @@ fn with_row(kind: Kind, row: &[i64], cell: Cell) -> Cell
     }
 }
 
-// The values of the dims in a row.
-fn dim_values(dims: &[Dim], row: &[i64]) -> ArrayVec<i64, 8>
-    requires { length dims.now ≤ 8 }
-    ensures { result.items ≡ dim_values dims.now (by_column row.now) }
+// How many values a dim has.
+fn size_of(dim: Dim) -> u32
+    requires full { dim.lo ≤ℤ dim.hi }
+    requires few { dim_size dim < 2 ^ 32 }
+    ensures { result ≡ dim_size dim }
 {
-    let mut values: ArrayVec<i64, 8> = ArrayVec::new();
-    'dims: for dim in dims {
-        values.push(column_of(row, dim.attr));
+    (dim.hi - dim.lo) as u32 + 1
+}
+
+// How far a value is above the least one of its dim.
+fn offset(dim: Dim, value: i64) -> u32
+    requires low { dim.lo ≤ℤ value }
+    requires high { value ≤ℤ dim.hi }
+    requires few { dim_size dim < 2 ^ 32 }
+    ensures value { result ≡ nat_abs (value -ℤ dim.lo) }
+    ensures below { result < dim_size dim }
+{
+    (value - dim.lo) as u32
+}
+
+// The place of a row in the box of its stream.
+fn row_place(dims: &[Dim], row: &[i64]) -> u32
+    requires full { AreFull dims.now }
+    requires sound { AreNumbered dims.now }
+    requires inside { AreInside dims.now (dim_values dims.now (by_column row.now)) }
+    ensures value { result ≡ row_place dims.now (by_column row.now) }
+    ensures below { result < box_size dims.now }
+{
+    let mut place: u32 = 0;
+    'places: for dim in dims {
+        place = place * size_of(*dim) + offset(*dim, column_of(row, dim.attr));
     }
-    values
+    place
 }
 
 // The number of the cell that stands for a row.
@@ -101,8 +123,7 @@ fn row_cell(part: &PartPlan, pos: u8, row: &[i64], e: &Extent) -> u32
     ensures below { result < 64 * e.now.pages }
 {
     let plan = stream_at(part, usize::from(pos));
-    let values = dim_values(plan.dims.as_slice(), row);
-    cell_index(plan, values.as_slice())
+    plan.base + row_place(plan.dims.as_slice(), row)
 }
 
 /// Takes a row into the cell that stands for it, and changes no other cell of any extent. This is one read and one write.

@@ -8,12 +8,15 @@
 mod admission;
 mod cells;
 mod chosen;
+mod combination;
 pub mod laws;
 mod links;
 mod narrow;
+mod prepared;
 mod probe;
 mod values;
 
 pub use admission::admits;
 pub use cells::insert;
-pub use probe::Probe;
+pub use prepared::{Prepared, prepare};
+pub use probe::{Probe, Room};

@@ -1,10 +1,12 @@
 //! The values that the equalities leave for the next stream.
 ghost use Rattle.std.specs.Prelude.{◌≡◌, ◌<◌, length};
 ghost use Rattle.bq_model.specs.Probing.{is_known};
+ghost use Rattle.bq_synopsis.specs.Preparing.{IsPrepared};
 ghost use Rattle.bq_synopsis.specs.Values.{value_in};
 ghost use Rattle.bq_synopsis.specs.Walk.{witness, narrowed_to, narrow, narrowed_dims};
 
 use crate::chosen::Chosen;
+use crate::prepared::Prepared;
 use crate::values::{is_same, value_in};
 use arrayvec::ArrayVec;
 use bq_model::{Attr, Dim, Link, Pair, PartPlan};
@@ -55,36 +57,43 @@ fn narrowed_to(dim: Dim, value: i64) -> Dim
 fn narrow(
     pairs: &[Pair],
     part: &PartPlan,
+    prepared: &Prepared,
     arriving: u8,
     row: &[i64],
     known: &[Chosen],
     dim: Dim,
 ) -> Dim
+    requires { IsPrepared pairs.now part.now prepared.now }
     ensures { result ≡ narrow arriving (length known.now) part.now.equal.items (value_in pairs.now part.now arriving row.now known.now) dim }
 {
     match witness(arriving, known.len(), dim.attr, part.equal.as_slice()) {
-        Some(a) => narrowed_to(dim, value_in(pairs, part, arriving, row, known, a)),
+        Some(a) => narrowed_to(
+            dim,
+            value_in(pairs, part, prepared, arriving, row, known, a),
+        ),
         None => dim,
     }
 }
 
-/// The dims of the next stream, each with the values that the equalities leave.
+/// Puts into `dims` the dims of the next stream, each with the values that the equalities leave.
 #[tactic(auto, unfolding(crate::specs::Walk::narrowed_dims, crate::specs::Choosing::dims_in))]
 pub fn narrowed_dims(
     pairs: &[Pair],
     part: &PartPlan,
+    prepared: &Prepared,
     arriving: u8,
     row: &[i64],
     known: &[Chosen],
-) -> ArrayVec<Dim, 8>
-    requires { length known.now < length part.now.streams.items }
-    ensures { result.items ≡ narrowed_dims pairs.now part.now arriving row.now known.now }
+    dims: &mut ArrayVec<Dim, 8>,
+)
+    requires here { length known.now < length part.now.streams.items }
+    requires prepared { IsPrepared pairs.now part.now prepared.now }
+    ensures { dims.new.items ≡ narrowed_dims pairs.now part.now arriving row.now known.now }
 {
-    let mut dims: ArrayVec<Dim, 8> = ArrayVec::new();
+    dims.clear();
     if known.len() != arriving as usize {
         'dims: for d in part.streams.as_slice()[known.len()].dims.as_slice() {
-            dims.push(narrow(pairs, part, arriving, row, known, *d));
+            dims.push(narrow(pairs, part, prepared, arriving, row, known, *d));
         }
     }
-    dims
 }

@@ -11,9 +11,11 @@ ghost use Rattle.bq_synopsis.specs.Values.{rows_in};
 
 use arrayvec::ArrayVec;
 use bq_io::Steps;
-use bq_model::{Atom, Attr, Dim, Element, Kind, Link, Op, PartPlan, Query, Row, Sign, StreamPlan};
+use bq_model::{
+    Atom, Attr, Dim, Element, Kind, Link, Op, PartPlan, Query, Row, Sign, StreamPlan, Tuple,
+};
 use bq_pool::{Extent, Pool};
-use bq_synopsis::{Probe, admits, insert};
+use bq_synopsis::{Probe, Room, admits, insert, prepare};
 use std::alloc::{AllocError, Global};
 use std::marker::Brand;
 use std::sync::ledger::{Blank, Ledger};
@@ -52,7 +54,8 @@ fn take_row<L: Ledger>(
     if usize::from(pos) >= q.from().len() {
         return;
     }
-    if !admits(q, part, pos, row) {
+    let prepared = prepare(q, part);
+    if !admits(q, part, &prepared, pos, row) {
         return;
     }
     insert(pool, e, q, part, pos, row, steps);
@@ -96,9 +99,11 @@ fn walk<L: Ledger>(
     ensures steps { steps.new ≤ steps.old + 3 * share part.now }
 {
     let mut told = Vec::new(alloc);
-    let mut probe = Probe::new(q, part, pos, row);
-    'walk: while let Some(found) = probe.next(pool, e, q, part, steps) {
-        let (tuple, count) = found;
+    let prepared = prepare(q, part);
+    let mut room = Room::default();
+    let mut tuple = Tuple::new();
+    let mut probe = Probe::new(q, part, &prepared, pos, row, &mut room);
+    'walk: while let Some(count) = probe.next(pool, e, q, part, &mut tuple, steps) {
         told.extend_from_slice(tuple.as_slice())?;
         told.push(count.min(99) as i64)?;
     }

@@ -15,13 +15,13 @@ use Rattle.bq_session.specs.State.{State}
 use Rattle.bq_session.specs.Session.{Kept, Answered}
 use Rattle.bq_top.specs.declared.ending.Ending.TheVariants as ending
 use Rattle.bq_top.specs.Fetched.{Read, StoppedHere}
-use Rattle.bq_feed.specs.Texts.{text_of, ended_part}
+use Rattle.bq_feed.specs.Texts.{text_of, ended_part, IsNear}
 use Rattle.bq_top.specs.Run.{AreWhole, WroteText, StopsAtLine, Streamed}
 use Rattle.bq_top.proofs.Passing.{Passed, passed-more, passed-flush, passed-all, IfSome-map}
 use Rattle.bq_feed.proofs.TextLines.{append-nothing, ended_part-text_of}
 use Rattle.bq_feed.specs.GivenLines.{GivenLines}
 use Rattle.bq_feed.proofs.GivenLines.{spent}
-use Rattle.bq_feed.proofs.GivenEnds.{text-lines}
+use Rattle.bq_feed.proofs.GivenEnds.{text-lines, rose-given}
 use Rattle.bq_top.proofs.Stops.{whole-front, stops-held}
 use Rattle.bq_top.proofs.Told.{Told, lines_of, answers_of, at, replied, AreTold, lines_of-append, replied-append, replied-push, AreTold-push, are-answers}
 use Rattle.bq_top.proofs.Progress.{Progress, near-last, progress-all}
@@ -109,7 +109,7 @@ ends-read_fault s source now now' old new session before below below' held kept 
     let t = r.next.tells in
     let u = unended reads.ReadFault s source now now' old new session before below below' held kept p r t.0 t.1 t.2 in
     record {
-      ends = (Rose-earlier _ _ _ p.given.later t.4, record { text = u.text; taken = u.taken; holds = u.written });
+      ends = (rose-given source now now' old new p.front (lines_of (p.answered ++ p.pending) ++ []) p.given r.next, record { text = u.text; taken = u.taken; holds = u.written });
       input_later = omega (arith, p.given.later, r.next.later);
       output_later = omega (arith, p.later, r.wrote.later.faults);
     }
@@ -213,7 +213,7 @@ ends-memory s source now reader session session' before below below' below'' hel
             others = lines reader.ahead;
             whole = text-lines source now reader p.front (lines_of all ++ line ∷ []) g ∙ append_assoc (lines_of all) (line ∷ []) (lines reader.ahead);
             ended = given-whole source now reader p.front (lines_of all ++ line ∷ []) g;
-            near = near-last source now reader p.front (lines_of all ++ line ∷ []) g;
+            near = subst (λ l. IsNear (p.front ++ reader.ahead) (l ++ line ∷ []) now.last) (sym (lines_of-append p.answered p.pending)) (near-last (lines_of p.answered) (lines_of p.pending) line (p.front ++ reader.ahead) now.last p.near);
             answers = answers_of all;
             are = are-answers s all p.are;
           };

@@ -1,5 +1,5 @@
 -- How far a run is: which lines were given, which of them were answered, and what of the replies was passed on.
-use Rattle.std.proofs.Common.{◌≡◌, ℕ, ◌+◌, ◌^◌, ◌<◌, ◌≤◌, Bool, false, List, [], ◌∷◌, ◌++◌, length, refl, sym, ap, ◌∙◌, subst, append_assoc, append-nil, length-append, arith, None, Some, IfSome}
+use Rattle.std.proofs.Common.{◌≡◌, ℕ, ◌+◌, ◌^◌, ◌<◌, ◌≤◌, Bool, false, List, [], ◌∷◌, ◌++◌, length, refl, sym, ap, ◌∙◌, subst, append_assoc, append-nil, arith, None, Some, IfSome}
 use Rattle.std.specs.declared.option.Option.{Option}
 use Rattle.std.specs.Io.KnownBytes.{Appends}
 use Rattle.std.proofs.KnownBytes.{Appends-nil}
@@ -13,10 +13,11 @@ use Rattle.bq_session.specs.Replies.{reply_to}
 use Rattle.bq_session.specs.Session.{Kept, StandsFor, Answered}
 use Rattle.bq_session.proofs.LineRuns.{next_of-lines}
 use Rattle.bq_top.specs.Fetched.{Came, buffered, read}
-use Rattle.bq_feed.specs.Texts.{IsNear}
+use Rattle.bq_feed.specs.Texts.{text_of, IsNear}
 use Rattle.bq_top.proofs.Passing.{Passed, passed-more, passed-all}
 use Rattle.bq_feed.specs.GivenLines.{GivenLines}
-use Rattle.bq_feed.proofs.GivenLines.{Step, step-buffered, step-read, given-none, given-line}
+use Rattle.bq_feed.proofs.GivenLines.{Step, step-buffered, step-read, given-none, given-line, near-line}
+use Rattle.bq_feed.proofs.TextLines.{length-text_of-append, length-text_of-cons}
 use Rattle.bq_top.proofs.Told.{Told, lines_of, at, replied, AreTold, lines_of-append, at-push, replied-none, replied-append, replied-push, AreTold-push}
 
 -- The replies to the lines that were answered before the last read stand below. Those to the pending lines, which came in that
@@ -26,7 +27,7 @@ pub record Progress (s : State) (source now : SourceState) (reader : Reading) (s
   pub pending : List Told
   pub front : List ℕ
   pub given : GivenLines source now reader front (lines_of (answered ++ pending) ++ waiting)
-  pub near : (first : List ℕ) (others : List (List ℕ)) → lines_of pending ++ waiting ≡ first ∷ others → IsNear (front ++ reader.ahead) (lines_of answered ++ first ∷ [])
+  pub near : (first : List ℕ) (others : List (List ℕ)) → lines_of pending ++ waiting ≡ first ∷ others → IsNear (front ++ reader.ahead) (lines_of answered ++ first ∷ []) now.last
   pub are : AreTold s (answered ++ pending)
   pub stands : StandsFor session (at s (answered ++ pending))
   pub numbers : session.lines + length waiting ≡ reader.lines
@@ -61,19 +62,31 @@ begins s source reader session before held new none empty stands = record {
   later = omega arith;
 }
 
--- at most 4,096 bytes lie beyond the last line
-pub near-last : (source now : SourceState) (reader : Reading) (front : List ℕ) (given : List (List ℕ)) → GivenLines source now reader front given → IsNear (front ++ reader.ahead) given
-near-last source now reader front given g = omega (arith, g.size, g.ahead, length-append front reader.ahead)
-
 -- one more line is pending, and no byte was taken
-near-pushed : (answered pending : List (List ℕ)) (line text : List ℕ) → ((first : List ℕ) (others : List (List ℕ)) → pending ++ [] ≡ first ∷ others → IsNear text (answered ++ first ∷ []))
-    → IsNear text ((answered ++ pending) ++ line ∷ []) → (first : List ℕ) (others : List (List ℕ)) → pending ++ line ∷ [] ≡ first ∷ others → IsNear text (answered ++ first ∷ [])
-near-pushed answered [] line text old here first others e =
+near-pushed : (answered pending : List (List ℕ)) (line text : List ℕ) (last : ℕ) → ((first : List ℕ) (others : List (List ℕ)) → pending ++ [] ≡ first ∷ others → IsNear text (answered ++ first ∷ []) last)
+    → IsNear text ((answered ++ pending) ++ line ∷ []) last → (first : List ℕ) (others : List (List ℕ)) → pending ++ line ∷ [] ≡ first ∷ others → IsNear text (answered ++ first ∷ []) last
+near-pushed answered [] line text last old here first others e =
     let heads : line ≡ first = cc in
-    subst (λ l. IsNear text (answered ++ l ∷ [])) heads (subst (λ a. IsNear text (a ++ line ∷ [])) (append-nil answered) here)
-near-pushed answered (x ∷ pending) line text old here first others e =
+    subst (λ l. IsNear text (answered ++ l ∷ []) last) heads (subst (λ a. IsNear text (a ++ line ∷ []) last) (append-nil answered) here)
+near-pushed answered (x ∷ pending) line text last old here first others e =
     let heads : x ≡ first = cc in
-    subst (λ l. IsNear text (answered ++ l ∷ [])) heads (old x pending (append-nil (x ∷ pending)))
+    subst (λ l. IsNear text (answered ++ l ∷ []) last) heads (old x pending (append-nil (x ∷ pending)))
+
+-- what lies beyond the first of some lines lies beyond the last of them too, or is of them
+pub near-last : (answered pending : List (List ℕ)) (line text : List ℕ) (last : ℕ) → ((first : List ℕ) (others : List (List ℕ)) → pending ++ line ∷ [] ≡ first ∷ others → IsNear text (answered ++ first ∷ []) last)
+    → IsNear text ((answered ++ pending) ++ line ∷ []) last
+near-last answered [] line text last near = subst (λ a. IsNear text (a ++ line ∷ []) last) (sym (append-nil answered)) (near line [] refl)
+near-last answered (x ∷ pending) line text last near =
+    let first = near x (pending ++ line ∷ []) refl in
+    let longer : length (text_of (answered ++ x ∷ [])) ≤ length (text_of ((answered ++ x ∷ pending) ++ line ∷ [])) = omega (
+      arith,
+      length-text_of-append answered (x ∷ []),
+      length-text_of-cons x [],
+      length-text_of-append (answered ++ x ∷ pending) (line ∷ []),
+      length-text_of-append answered (x ∷ pending),
+      length-text_of-cons x pending,
+    ) in
+    record { within = omega (arith, first.within, longer); recent = omega (arith, first.recent, longer) }
 
 -- a line that lay whole in what was read waits
 progress-buffered : (s : State) (source now : SourceState) (old new : Reading) (session : Kept) (before below : SinkState) (held : List ℕ) → Progress s source now old session before below held []
@@ -84,15 +97,16 @@ progress-buffered s source now old new session before below held p b =
     let same : (p.front ++ step.given) ++ new.ahead ≡ p.front ++ old.ahead = append_assoc p.front step.given new.ahead ∙ ap (λ l. p.front ++ l) (sym step.whole ∙ append-nil old.ahead) in
     let given : GivenLines source now new (p.front ++ step.given) (all ++ new.line ∷ []) =
     subst (λ l. GivenLines source now new (p.front ++ step.given) (l ++ new.line ∷ [])) (append-nil all) (given-line false old new source now now p.front (all ++ []) p.given step) in
-    let last : IsNear ((p.front ++ step.given) ++ new.ahead) ((lines_of p.answered ++ lines_of p.pending) ++ new.line ∷ []) =
-    subst (λ l. IsNear ((p.front ++ step.given) ++ new.ahead) (l ++ new.line ∷ [])) (lines_of-append p.answered p.pending) (near-last source now new (p.front ++ step.given) (all ++ new.line ∷ []) given) in
+    let here : IsNear ((p.front ++ step.given) ++ new.ahead) ((lines_of p.answered ++ lines_of p.pending) ++ new.line ∷ []) now.last =
+    subst (λ l. IsNear ((p.front ++ step.given) ++ new.ahead) (l ++ new.line ∷ []) now.last) (append-nil all ∙ lines_of-append p.answered p.pending)
+    (near-line false old new source now now p.front (all ++ []) p.given step) in
     record {
       answered = p.answered;
       pending = p.pending;
       front = p.front ++ step.given;
       given = given;
-      near = near-pushed (lines_of p.answered) (lines_of p.pending) new.line ((p.front ++ step.given) ++ new.ahead)
-          (λ first others e. subst (λ t. IsNear t (lines_of p.answered ++ first ∷ [])) (sym same) (p.near first others e)) last;
+      near = near-pushed (lines_of p.answered) (lines_of p.pending) new.line ((p.front ++ step.given) ++ new.ahead) now.last
+          (λ first others e. subst (λ t. IsNear t (lines_of p.answered ++ first ∷ []) now.last) (sym same) (p.near first others e)) here;
       are = p.are;
       stands = p.stands;
       numbers = omega (arith, p.numbers, b.lines);
@@ -115,8 +129,8 @@ progress-read long s source now now' old new session before below below' held he
     let all = p.answered ++ p.pending in
     let listed = lines_of all in
     let given : GivenLines source now' new (p.front ++ step.given) ((listed ++ []) ++ step.line ∷ []) = given-line long old new source now now' p.front (listed ++ []) p.given step in
-    let here : IsNear ((p.front ++ step.given) ++ new.ahead) (listed ++ step.line ∷ []) =
-    subst (λ l. IsNear ((p.front ++ step.given) ++ new.ahead) (l ++ step.line ∷ [])) (append-nil listed) (near-last source now' new (p.front ++ step.given) ((listed ++ []) ++ step.line ∷ []) given) in
+    let here : IsNear ((p.front ++ step.given) ++ new.ahead) (listed ++ step.line ∷ []) now'.last =
+    subst (λ l. IsNear ((p.front ++ step.given) ++ new.ahead) (l ++ step.line ∷ []) now'.last) (append-nil listed) (near-line long old new source now now' p.front (listed ++ []) p.given step) in
     let below-all = progress-all s source now old session before below below' held [] p wrote.bytes in
     record {
       answered = all;
@@ -125,7 +139,7 @@ progress-read long s source now now' old new session before below below' held he
       given = subst (λ l. GivenLines source now' new (p.front ++ step.given) (l ++ step.line ∷ [])) (append-nil listed ∙ ap lines_of (sym (append-nil all))) given;
       near = λ first others e.
           let heads : step.line ≡ first = cc in
-          subst (λ l. IsNear ((p.front ++ step.given) ++ new.ahead) (listed ++ l ∷ [])) heads here;
+          subst (λ l. IsNear ((p.front ++ step.given) ++ new.ahead) (listed ++ l ∷ []) now'.last) heads here;
       are = subst (AreTold s) (sym (append-nil all)) p.are;
       stands = subst (λ l. StandsFor session (at s l)) (sym (append-nil all)) p.stands;
       numbers = omega (arith, p.numbers, step.lines);

@@ -95,7 +95,7 @@ whole-front source now text front others (inr all) = inr all
 
 -- a run stops in the reply to one of these lines
 stops : (s : State) (source source' : SourceState) (text : List ℕ) (answered : List Told) (first : Told) (others : List Told) (more : List (List ℕ)) (before now : SinkState) (rest : List ℕ)
-    → lines text ≡ lines_of (answered ++ first ∷ others) ++ more → AreWhole source source' text (lines_of (answered ++ first ∷ others)) → IsNear text (lines_of answered ++ first.line ∷ []) → AreTold s (answered ++ first ∷ others)
+    → lines text ≡ lines_of (answered ++ first ∷ others) ++ more → AreWhole source source' text (lines_of (answered ++ first ∷ others)) → IsNear text (lines_of answered ++ first.line ∷ []) source'.last → AreTold s (answered ++ first ∷ others)
     → Passed before.written now.written (replied s answered) (replied (at s answered) (first ∷ others)) rest → StopsAtLine s source source' text before now
 stops s source source' text answered first others more before now rest whole ended near are p =
     let found = locate (at s answered) first others p.passed rest p.whole in
@@ -106,9 +106,10 @@ stops s source source' text answered first others more before now rest whole end
     ap (λ l. lines_of l ++ more) split ∙ ap (λ l. l ++ more) (lines_of-append front (found.here ∷ found.others)) ∙ append_assoc (lines_of front) (found.here.line ∷ lines_of found.others) more in
     let here : lines_of (answered ++ first ∷ others) ≡ (lines_of front ++ found.here.line ∷ []) ++ lines_of found.others =
     ap lines_of split ∙ lines_of-append front (found.here ∷ found.others) ∙ sym (append_assoc (lines_of front) (found.here.line ∷ []) (lines_of found.others)) in
-    let nearby : IsNear text (lines_of front ++ found.here.line ∷ []) =
-    subst (λ l. IsNear text (l ++ found.here.line ∷ [])) (sym (lines_of-append answered found.answered))
-    (omega (arith, near, further (lines_of answered) first others found.answered found.here found.others found.whole)) in
+    let beyond = further (lines_of answered) first others found.answered found.here found.others found.whole in
+    let nearby : IsNear text (lines_of front ++ found.here.line ∷ []) source'.last =
+    subst (λ l. IsNear text (l ++ found.here.line ∷ []) source'.last) (sym (lines_of-append answered found.answered))
+    (record { within = omega (arith, near.within, beyond); recent = omega (arith, near.recent, beyond) }) in
     record {
       at_line = record {
         answered = lines_of front;
@@ -132,7 +133,7 @@ stops s source source' text answered first others more before now rest whole end
 -- Some line is not answered whole below, or a front of what is held is left.
 pub stops-held : (s : State) (source source' : SourceState) (text : List ℕ) (answered pending : List Told) (more : List (List ℕ)) (before now : SinkState) (rest : List ℕ)
     → lines text ≡ lines_of (answered ++ pending) ++ more → AreWhole source source' text (lines_of (answered ++ pending))
-    → ((first : List ℕ) (others : List (List ℕ)) → lines_of pending ≡ first ∷ others → IsNear text (lines_of answered ++ first ∷ []))
+    → ((first : List ℕ) (others : List (List ℕ)) → lines_of pending ≡ first ∷ others → IsNear text (lines_of answered ++ first ∷ []) source'.last)
     → AreTold s (answered ++ pending) → 0 < length rest + length pending
     → Passed before.written now.written (replied s answered) (replied (at s answered) pending) rest → StopsAtLine s source source' text before now
 stops-held s source source' text answered [] more before now rest whole ended near are some p =

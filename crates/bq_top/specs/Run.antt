@@ -48,14 +48,14 @@ abbrev pub AreWhole : SourceState → SourceState → List ℕ → List (List �
 AreWhole source now text front = ((rest : List ℕ) × (text ≡ text_of front ++ rest)) ⊎ TakesAll source now text
 
 -- One line of the text that was taken, which is whole, and what the lines before it came to. At most 4,096 bytes of the text lie
--- beyond it.
+-- beyond it, and fewer than the last read of the source gave: so each line that ended before that read comes before this line.
 pub record AtLine (s : State) (source now : SourceState) (text : List ℕ) : Type 0 where
   pub answered : List (List ℕ)
   pub line : List ℕ
   pub others : List (List ℕ)
   pub whole : lines text ≡ answered ++ line ∷ others
   pub ended : AreWhole source now text (answered ++ line ∷ [])
-  pub near : IsNear text (answered ++ line ∷ [])
+  pub near : IsNear text (answered ++ line ∷ []) now.last
   pub answers : List Answer
   pub are : AreAnswers s answered answers
 

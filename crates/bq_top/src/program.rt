@@ -102,7 +102,8 @@ fn run_session<I: Source, O: Sink>(
 /// gathered, and written before each read, at the end and where 4,096 bytes are held. `Ends` says of each status what was read and
 /// written: for `Done` the whole input, and its session text; for `ReadFault` and `ByteLimit` the session text of the lines that
 /// ended before; for `WriteFault` the replies to the lines before one line and a front of the reply to it; for `Memory` nothing, or
-/// the replies to the lines before a line that creates a stream or a query.
+/// the replies to the lines before a line that creates a stream or a query. Such a line ended in the last read of the input that
+/// gave some bytes, or it is the last line of all: each line that ended before that read was answered in full.
 ///
 /// `load N` answers the script of N generated rows, 1 to 100,000, reads nothing, and writes one line: N, how many lines the session
 /// text of the script has, and the sums of the cells and of the answers that the live queries announce. For `Done` that line was

@@ -17,6 +17,8 @@ pub struct MemSource {
     fails: Vec<u64>,
     calls: u64,
     failed: u64,
+    // How many bytes the last read gave that gave some.
+    last: usize,
 }
 
 impl Model for MemSource {
@@ -25,7 +27,7 @@ impl Model for MemSource {
 
     ghost Value = { MemSourceState };
 
-    ghost view = { λ s. record { left = drop s.at s.bytes.items; piece = s.piece; fails = s.fails.items; calls = s.calls; failed = s.failed } };
+    ghost view = { λ s. record { left = drop s.at s.bytes.items; piece = s.piece; fails = s.fails.items; calls = s.calls; failed = s.failed; last = s.last } };
 
     ghost invariant = { λ s. (s.at ≤ vec_len s.bytes) × (0 < s.piece) };
 }
@@ -39,7 +41,7 @@ impl MemSource {
         fails: &[u64],
     ) -> Result<MemSource, AllocError>
         requires { 0 < piece }
-        ensures { IfOk result (λ s. s ≡ record { left = bytes.now; piece = piece; fails = fails.now; calls = 0; failed = 0 }) }
+        ensures { IfOk result (λ s. s ≡ record { left = bytes.now; piece = piece; fails = fails.now; calls = 0; failed = 0; last = 0 }) }
     {
         Ok(MemSource {
             bytes: Vec::from_slice(alloc, bytes)?,
@@ -48,6 +50,7 @@ impl MemSource {
             fails: Vec::from_slice(alloc, fails)?,
             calls: 0,
             failed: 0,
+            last: 0,
         })
     }
 }
@@ -71,6 +74,7 @@ impl Source for MemSource {
             return ReadAnswer::End;
         }
         self.at += n;
+        self.last = n;
         ReadAnswer::Got(n)
     }
 }

@@ -12,7 +12,7 @@ use Rattle.bq_executor.proofs.part.answer.Goals as goal
 pub walk-preserved : goal.walk-preserved
 walk-preserved g c =
     let d = c.args.q.now.distinct in
-    let f : Found = as_found c.in-Some.found.0.items c.in-Some.found.1 in
+    let f : Found = as_found c.next.new.tuple.items c.in-Some.count in
     let left : List Found = left_of c.args.q.now.select c.args.part.now (read_from (cells_of c.args.pool.now c.args.e.now)) c.walk.probe in
     let others : List Found = left_of c.args.q.now.select c.args.part.now (read_from (cells_of c.args.pool.now c.args.e.now)) c.next.new.self in
     let e : left ≡ f ∷ others = c.in-Some.ensures.left in

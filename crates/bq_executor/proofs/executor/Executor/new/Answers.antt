@@ -7,18 +7,20 @@ use Rattle.bq_executor.proofs.executor.Executor.new.Goals as goal
 
 pub invariant_of-result : goal.invariant_of-result
 invariant_of-result c =
-    let is = c.in-Ok.ensures in
-    record {
-      limits = c.select.ensures.limits;
-      accepted = c.requires.accepted;
-      pages = c.requires.pages;
-      width = ap (λ (t : TableValue). t.width) is ∙ ap length c.select.ensures.value;
-      capacity = ap (λ (t : TableValue). t.capacity) is ∙ c.most_answers-capacity.ensures;
-      tuples = λ d. none_within c.args.query (parts_of c.args.plan) c.in-Ok.table.entries (ap (λ (t : TableValue). t.entries) is);
-    }
+    let is = c.in-Ok-new.ensures in (
+      record {
+        limits = c.select.ensures.limits;
+        accepted = c.requires.accepted;
+        pages = c.requires.pages;
+        width = ap (λ (t : TableValue). t.width) is ∙ ap length c.select.ensures.value;
+        capacity = ap (λ (t : TableValue). t.capacity) is ∙ c.most_answers-capacity.ensures;
+        tuples = λ d. none_within c.args.query (parts_of c.args.plan) c.in-Ok-new.table.entries (ap (λ (t : TableValue). t.entries) is);
+      },
+      c.in-Ok.ensures,
+    )
 
-pub returns-in-Ok-clause-history : goal.returns-in-Ok-clause-history
-returns-in-Ok-clause-history c =
-    let e : ExecutorValue = record { query = c.args.query; plan = c.args.plan; extent = c.args.extent; given = 0; table = c.in-Ok.table } in
-    let is = c.in-Ok.ensures in
-    begins e (invariant_of-result c) refl (ap (λ (t : TableValue). t.entries) is)
+pub returns-in-Ok-new-clause-history : goal.returns-in-Ok-new-clause-history
+returns-in-Ok-new-clause-history c =
+    let e : ExecutorValue = record { query = c.args.query; plan = c.args.plan; extent = c.args.extent; given = 0; table = c.in-Ok-new.table } in
+    let is = c.in-Ok-new.ensures in
+    begins e (invariant_of-result c).0 refl (ap (λ (t : TableValue). t.entries) is)

@@ -15,6 +15,7 @@ returns-else-n-gt-LONGEST c =
     let later = range-later s.chunk.items s.at s.filled n told.0 in
     let inside : n < s.filled - s.at = omega (arith, told.0, short-range s.chunk.items s.at s.filled) in
     let unended : s.ended ≡ false = not-true s.ended (λ e. omega (arith, inside, (c.self.invariant.last e).0)) in
+    let unfailed : s.failed ≡ false = not-true s.failed (λ e. omega (arith, inside, (c.self.invariant.lost e).0)) in
     rw (← c.self.view_is) record {
       whole = cut-at rest n 10 told.0 told.1 ∙ ap (λ l. l ++ 10 ∷ drop (n + 1) rest) (sym line) ∙ ap (λ l. (c.clear.new.self.items ++ slice_range s.chunk.items s.at (s.at + n)) ++ 10 ∷ l) (sym later);
       plain = subst IsPlain (sym line) told.2;
@@ -23,6 +24,7 @@ returns-else-n-gt-LONGEST c =
       lines = refl;
       counted = (omega (arith, inside, c.self.invariant.counted), omega (arith, c.self.ranges));
       ended = (unended, unended);
+      unfailed = (unfailed, unfailed);
     }
 
 pub returns-then-n-gt-LONGEST : goal.returns-then-n-gt-LONGEST

@@ -12,4 +12,5 @@ invariant_of-result c = record {
   sole = search rules;
   counted = omega arith;
   last = λ e. (refl, omega arith);
+  lost = λ e. (refl, omega arith, refl);
 }

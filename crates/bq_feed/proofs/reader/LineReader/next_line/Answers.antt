@@ -1,7 +1,9 @@
-use Rattle.std.proofs.Common.{[], append-nil, refl, inl, arith}
+use Rattle.std.proofs.Common.{◌≡◌, [], false, append-nil, refl, sym, ◌∙◌, inl, inr, arith}
 use Rattle.std.proofs.KnownBytes.{Consumes-nil}
+use Rattle.bq_feed.specs.Reading.{unread}
 use Rattle.bq_feed.proofs.LineTexts.{gives-line}
-use Rattle.bq_feed.proofs.Pieces.{range-none, short-range}
+use Rattle.bq_feed.proofs.Pieces.{range-none, short-range, not-true}
+use Rattle.std.proofs.lemmas.Bool.{false≢true}
 use Rattle.bq_feed.proofs.reader.LineReader.next_line.Goals as goal
 
 pub returns-then-self-clause-next : goal.returns-then-self-clause-next
@@ -9,6 +11,7 @@ returns-then-self-clause-next g c =
     let s = c.self.inside in
     let over = c.self.invariant.last c.if-self.true in
     let none = range-none s.chunk.items s.at s.filled over.0 in
+    let unfailed : s.failed ≡ false = not-true s.failed (λ e. false≢true (sym (c.self.invariant.lost e).2 ∙ c.if-self.true)) in
     rw (← c.self.view_is) record {
       got = [];
       given = [];
@@ -16,9 +19,30 @@ returns-then-self-clause-next g c =
       taken = Consumes-nil _;
       count = omega arith;
       near = omega (arith, short-range s.chunk.items s.at s.filled, c.self.invariant.inside, c.self.invariant.size);
+      prompt = unread refl refl;
       counted = (omega (arith, c.self.invariant.counted), omega (arith, c.self.ranges));
       tells = (refl, c.if-self.true, refl);
+      fails = (unfailed, unfailed);
       over = λ e. (none, over.1, inl e);
+      later = omega arith;
+    }
+
+pub returns-then-self-2-clause-next : goal.returns-then-self-2-clause-next
+returns-then-self-2-clause-next g c =
+    let s = c.self.inside in
+    let lost = c.self.invariant.lost c.if-self-2.true in
+    rw (← c.self.view_is) record {
+      got = [];
+      given = [];
+      whole = append-nil _;
+      taken = Consumes-nil _;
+      count = omega arith;
+      near = omega (arith, short-range s.chunk.items s.at s.filled, c.self.invariant.inside, c.self.invariant.size);
+      prompt = unread refl refl;
+      counted = (omega (arith, c.self.invariant.counted), omega (arith, c.self.ranges));
+      tells = (λ k d lt. absurd (omega arith), range-none s.chunk.items s.at s.filled lost.0, lost.2, lost.1, refl);
+      fails = (c.if-self-2.true, inr (refl, refl));
+      over = λ e. absurd (false≢true (sym lost.2 ∙ e));
       later = omega arith;
     }
 

@@ -1,12 +1,12 @@
-use Rattle.std.proofs.Common.{◌≡◌, ◌+◌, ◌-◌, ◌<◌, ◌≤◌, [], ◌∷◌, ◌++◌, length, take, drop, refl, sym, ap, ◌∙◌, subst, arith, append_assoc, append-nil, length-append, inr}
+use Rattle.std.proofs.Common.{◌≡◌, ◌+◌, ◌-◌, ◌<◌, ◌≤◌, [], ◌∷◌, ◌++◌, length, take, drop, refl, sym, ap, ◌∙◌, subst, arith, append_assoc, append-nil, length-append, inl, inr}
 use Rattle.std.specs.List.{slice_range}
 use Rattle.std.proofs.KnownBytes.{Consumes-nil, Consumes-trans, Consumes-kept}
 use Rattle.std.proofs.lemmas.Bool.{false≢true}
 use Rattle.std.proofs.lemmas.List.{length-take}
 use Rattle.bq_feed.specs.Reading.{Reading, IsPlain, IsBegun, fed, last}
-use Rattle.bq_feed.proofs.Pieces.{range-front, range-later, fed-line, plain-more, held-line, short-range, range-filled}
+use Rattle.bq_feed.proofs.Pieces.{range-front, range-later, fed-line, plain-more, plain-begin, held-line, short-range, range-filled}
 use Rattle.bq_io.proofs.Writing.{Rose-earlier}
-use Rattle.bq_feed.proofs.Steps.{given-next, takes-all}
+use Rattle.bq_feed.proofs.Steps.{given-next, takes-all, prompt-line, prompt-plain}
 use Rattle.bq_feed.proofs.reader.LineReader.read_line.Goals as goal
 
 pub reading-init : goal.reading-init
@@ -20,13 +20,15 @@ reading-init g c =
       held = c.clear.ensures;
       short = omega (arith, ap length c.clear.ensures);
       bytes = Consumes-nil _;
+      read = inl (refl, refl);
       taken = omega (arith, ap (λ (r : Reading). r.taken) v);
       lines = ap (λ (r : Reading). r.lines) v;
       size = c.self.invariant.size;
       order = c.self.invariant.order;
       inside = omega (arith, c.self.invariant.inside, c.self.invariant.size);
       span = (refl, refl);
-      unended = (c.requires, ap (λ (r : Reading). r.ended) v ∙ c.requires);
+      unended = (c.requires.ended, ap (λ (r : Reading). r.ended) v ∙ c.requires.ended);
+      unfailed = (c.requires.failed, ap (λ (r : Reading). r.failed) v ∙ c.requires.failed);
       counted = omega (arith, c.self.invariant.counted);
       fits = omega (arith, c.self.ranges);
       later = omega arith;
@@ -47,10 +49,12 @@ returns-in-Some g c =
     (i.whole ∙ fed-line i.begun (slice_range s.chunk.items s.at s.filled) _ _ n told.0 told.1 front later)
     i.bytes i.taken
     (omega (arith, short-range s.chunk.items (s.at + (n + 1)) s.filled, i.inside))
+    (prompt-line _ _ _ _ _ _ s.filled i.read (omega (arith, short-range s.chunk.items (s.at + (n + 1)) s.filled, inside)))
     (omega (arith, i.counted), i.fits)
     (λ e. absurd (false≢true (sym i.unended.1 ∙ e)))
     i.later
     i.unended.0
+    i.unfailed
     (fed refl i.unended.1)
     (plain-more i.begun _ i.plain (subst IsPlain (sym front) told.2))
     (subst (λ l. IsBegun c.gather-long.result l line) (sym held) (rw c.deref-in-Some.ensures.value at c.gather-long.ensures.line i.begun i.held))
@@ -70,8 +74,10 @@ returns-then-most-eq0 g c =
       taken = i.bytes;
       count = i.taken;
       near = omega arith;
+      prompt = prompt-plain _ _ _ _ i.got (i.begun ++ rest) (plain-more i.begun rest i.plain plain) i.whole;
       counted = (omega (arith, i.counted), i.fits);
-      tells = (plain-more i.begun rest i.plain plain, refl, i.unended.0, omega (arith, c.room-most.ensures, c.if-most-eq0.true, i.fits));
+      tells = (plain-more i.begun rest i.plain plain, refl, i.unended.0, omega (arith, c.room-most.ensures, c.if-most-eq0.true, i.fits), i.lines);
+      fails = i.unfailed;
       over = λ e. absurd (false≢true (sym i.unended.1 ∙ e));
       later = i.later;
     }
@@ -99,6 +105,7 @@ reading-preserved g c =
       held = rw c.deref-in-reading.ensures.value at c.gather-long-in-reading.ensures.line i.begun i.held;
       short = c.gather-long-in-reading.ensures.short;
       bytes = Consumes-trans _ _ _ i.got piece i.bytes told.2;
+      read = inr (plain-begin _ i.got (i.begun ++ rest) (plain-more i.begun rest i.plain plain) i.whole, omega (arith, told.4));
       taken = omega (arith, i.taken, length-append i.got piece, long);
       lines = i.lines;
       size = size;
@@ -106,6 +113,7 @@ reading-preserved g c =
       inside = omega (arith, few, c.room-most.ensures);
       span = i.span;
       unended = i.unended;
+      unfailed = i.unfailed;
       counted = omega (arith, i.counted, length-append i.begun rest, short-range s.chunk.items s.at s.filled);
       fits = omega (arith, i.fits, few, c.room-most.ensures);
       later = omega (arith, i.later, told.3);
@@ -125,10 +133,12 @@ returns-in-End g c =
     (i.whole ∙ sym (append-nil _))
     (Consumes-kept _ _ _ _ i.bytes c.in-End.ensures.1) i.taken
     (omega arith)
+    (prompt-plain _ _ _ _ i.got line (plain-more i.begun rest i.plain plain) i.whole)
     (omega (arith, i.counted, some, length-append i.begun rest, short-range s.chunk.items s.at s.filled), i.fits)
     (λ e. (refl, omega (arith, c.room-most.ensures, c.if-most-eq0.false, i.fits), inr (takes-all _ _ _ i.got i.bytes c.in-End.ensures.0 c.in-End.ensures.1)))
     (omega (arith, i.later, c.in-End.ensures.2))
     i.unended.0
+    i.unfailed
     (last refl some refl)
     (plain-more i.begun rest i.plain plain)
     (subst (λ l. IsBegun c.gather-long-in-reading.result l line) (sym held) begun)
@@ -148,8 +158,10 @@ returns-in-Failed g c =
       taken = Consumes-kept _ _ _ _ i.bytes c.in-Failed.ensures.1;
       count = i.taken;
       near = omega arith;
+      prompt = prompt-plain _ _ _ _ i.got (i.begun ++ rest) (plain-more i.begun rest i.plain plain) i.whole;
       counted = (omega (arith, i.counted), i.fits);
-      tells = (plain-more i.begun rest i.plain plain, refl, i.unended.0, omega (arith, c.room-most.ensures, c.if-most-eq0.false, i.fits), Rose-earlier _ _ _ i.later c.in-Failed.ensures.0);
+      tells = (plain-more i.begun rest i.plain plain, refl, i.unended.0, omega (arith, c.room-most.ensures, c.if-most-eq0.false, i.fits), i.lines);
+      fails = (refl, inl (i.unfailed.0, Rose-earlier _ _ _ i.later c.in-Failed.ensures.0));
       over = λ e. absurd (false≢true (sym i.unended.1 ∙ e));
       later = omega (arith, i.later, c.in-Failed.ensures.2);
     }

@@ -2,6 +2,7 @@ use Rattle.std.proofs.Common.{◌≡◌, ℕ, ◌+◌, ◌-◌, ◌^◌, ◌<◌
 use Rattle.std.specs.List.{slice_range}
 use Rattle.std.specs.Io.KnownBytes.{Consumes}
 use Rattle.bq_feed.specs.Reading.{IsPlain, IsBegun}
+use Rattle.bq_feed.proofs.Steps.{HasRead}
 use Rattle.bq_feed.proofs.reader.LineReader.read_line.Given as goal
 
 -- a line was begun by all that was taken before the buffer
@@ -14,6 +15,7 @@ invariant-reading g l = record {
   held : IsBegun l.long l.self-inside.begun.items begun;
   short : length l.self-inside.begun.items ≤ 1024;
   bytes : Consumes (g.I.Source.seen l.fn.input).left (g.I.Source.seen l.input).left got;
+  read : HasRead l.fn.self (g.I.Source.seen l.fn.input) (g.I.Source.seen l.input) got l.self-inside.filled;
   taken : l.self-inside.taken ≡ l.fn.self.taken + length got;
   lines : l.self-inside.lines ≡ l.fn.self.lines;
   size : vec_len l.self-inside.chunk ≡ 4096;
@@ -21,6 +23,7 @@ invariant-reading g l = record {
   inside : l.self-inside.filled ≤ 4096;
   span : (l.self-inside.from ≡ 0) × (l.self-inside.to ≡ 0);
   unended : (l.fn.self.ended ≡ false) × (l.self-inside.ended ≡ false);
+  unfailed : (l.fn.self.failed ≡ false) × (l.self-inside.failed ≡ false);
   counted : l.self-inside.lines + length begun + (l.self-inside.filled - l.self-inside.at) ≤ l.self-inside.taken;
   fits : l.self-inside.taken < 2 ^ 64;
   later : (g.I.Source.seen l.fn.input).faults ≤ (g.I.Source.seen l.input).faults;

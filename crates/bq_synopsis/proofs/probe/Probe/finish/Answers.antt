@@ -1,27 +1,24 @@
 use Rattle.std.proofs.Common.{◌≤◌, ◌^◌, ℕ, take, length, arith, sym, ap, ◌∙◌, subst}
 use Rattle.bq_synopsis.specs.Choosing.{product_of, meets_links, tuple_of}
 use Rattle.bq_synopsis.specs.Costs.{reads, turns}
-use Rattle.bq_synopsis.proofs.StepLaws.{light-product, underway-back, cost-of-back, finish-none, finish-some, option_weaker}
+use Rattle.bq_synopsis.proofs.StepLaws.{light-product, cost-of-back, finish-none, finish-some, option_weaker}
 use Rattle.bq_synopsis.proofs.probe.Probe.finish.Goals as goal
 
-pub answer-found-requires : goal.answer-found-requires
-answer-found-requires c = subst (λ cs. (k : ℕ) → product_of (take k cs) ≤ 2 ^ 120) (sym c.as_slice-3.ensures.value)
-    (λ k. light-product c.args.self.now.arriving k c.args.self.now.chosen.items (omega (arith, c.requires.underway.here, c.requires.few)) (omega (arith, c.requires.whole, c.requires.few)) c.requires.underway.light)
-
-pub returns-clause-underway : goal.returns-clause-underway
-returns-clause-underway c = underway-back c.args.part.now c.args.self.now c.back.new.self c.back.ensures c.requires.underway
+pub answer-found-requires-clause-light : goal.answer-found-requires-clause-light
+answer-found-requires-clause-light c = subst (λ cs. (k : ℕ) → product_of (take k cs) ≤ 2 ^ 120) (sym c.as_slice-3.ensures.value)
+    (λ k. light-product c.args.self.now.arriving k c.args.self.now.room.now.chosen.items (omega (arith, c.requires.underway.here, c.requires.few)) (omega (arith, c.requires.whole, c.requires.few)) c.requires.underway.light)
 
 pub returns-clause-left : goal.returns-clause-left
 returns-clause-left c =
     option_weaker c.answer-found.result _ _ _ _
-    (λ e. finish-none c.args.q.now.select c.args.part.now c.args.self.now c.back.new.self c.back.ensures c.requires.going c.requires.underway c.requires.whole ((λ k. meets_links (sym c.as_slice.ensures.value k) c.args.part.now c.args.self.now.arriving (sym c.as_slice-2.ensures.value k) (sym c.as_slice-3.ensures.value k)) ∙ e))
-    (λ f h. finish-some c.args.q.now.select c.args.part.now c.args.self.now c.back.new.self c.back.ensures c.requires.going c.requires.underway c.requires.whole f.0.items f.1 ((λ k. meets_links (sym c.as_slice.ensures.value k) c.args.part.now c.args.self.now.arriving (sym c.as_slice-2.ensures.value k) (sym c.as_slice-3.ensures.value k)) ∙ h.0) (h.1 ∙ (λ k. tuple_of (c.as_slice.ensures.value k) c.args.q.now.select c.args.part.now c.args.self.now.arriving (c.as_slice-2.ensures.value k) (c.as_slice-3.ensures.value k))) (h.2 ∙ ap product_of c.as_slice-3.ensures.value))
-    c.answer-found.ensures.tuple
+    (λ e. finish-none c.args.q.now.select c.args.part.now c.args.self.now c.retreat.new.self c.retreat.ensures.back c.requires.going c.requires.underway c.requires.whole ((λ k. meets_links (sym c.as_slice.ensures.value k) c.args.part.now c.args.self.now.arriving (sym c.as_slice-2.ensures.value k) (sym c.as_slice-3.ensures.value k)) ∙ e))
+    (λ f h. finish-some c.args.q.now.select c.args.part.now c.args.self.now c.retreat.new.self c.retreat.ensures.back c.requires.going c.requires.underway c.requires.whole c.answer-found.new.tuple.items f ((λ k. meets_links (sym c.as_slice.ensures.value k) c.args.part.now c.args.self.now.arriving (sym c.as_slice-2.ensures.value k) (sym c.as_slice-3.ensures.value k)) ∙ h.0) (h.1 ∙ (λ k. tuple_of (c.as_slice.ensures.value k) c.args.q.now.select c.args.part.now c.args.self.now.arriving (c.as_slice-2.ensures.value k) (c.as_slice-3.ensures.value k))) (h.2 ∙ ap product_of c.as_slice-3.ensures.value))
+    c.answer-found.ensures
 
 pub returns-clause-reads : goal.returns-clause-reads
 returns-clause-reads c =
-    let h = cost-of-back (reads c.args.part.now) (length c.args.part.now.streams.items) c.args.self.now c.back.new.self c.back.ensures c.requires.going (omega (arith, c.requires.underway.same, c.requires.whole)) in omega (arith, h)
+    let h = cost-of-back (reads c.args.part.now) (length c.args.part.now.streams.items) c.args.self.now c.retreat.new.self c.retreat.ensures.back c.requires.going (omega (arith, c.requires.underway.same, c.requires.whole)) in omega (arith, h)
 
 pub returns-clause-turns : goal.returns-clause-turns
 returns-clause-turns c =
-    let h = cost-of-back (turns c.args.part.now) (length c.args.part.now.streams.items) c.args.self.now c.back.new.self c.back.ensures c.requires.going (omega (arith, c.requires.underway.same, c.requires.whole)) in omega (arith, h)
+    let h = cost-of-back (turns c.args.part.now) (length c.args.part.now.streams.items) c.args.self.now c.retreat.new.self c.retreat.ensures.back c.requires.going (omega (arith, c.requires.underway.same, c.requires.whole)) in omega (arith, h)

@@ -1,0 +1,90 @@
+-- The lines determine what `certify` comes to, but for the certificate.
+use Rattle.std.proofs.Common.{◌≡◌, ℕ, suc, List, [], ◌∷◌, ◌++◌, length, refl, sym, ap, ap₂, ◌∙◌, subst, arith}
+use Rattle.std.specs.List.{All, AllByRecursion}
+use Rattle.std.proofs.lemmas.List.Elements.{recursion_from_All}
+use Rattle.bq_schema.specs.Streams.{Shape}
+use Rattle.bq_parser.specs.declared.tree.SelectAst.{SelectAst}
+use Rattle.bq_session.specs.declared.word.Word.{Word}
+use Rattle.bq_session.specs.declared.word.Word.TheVariants.{Limit}
+use Rattle.bq_certificate.specs.declared.line.Line.{Line}
+use Rattle.bq_certmake.specs.Made.{IsTooLarge}
+use Rattle.bq_script.specs.Script as scripts
+use Rattle.bq_script.specs.Script.{IsBlank, IsMisplaced}
+use Rattle.bq_script.proofs.OneEnd.{one_end}
+use Rattle.bq_certify.specs.Commands.{Outcome}
+use Rattle.bq_certify.specs.Certifying as certifying
+use Rattle.bq_certify.specs.Certifying.{Certifies, refusal, certified}
+use Rattle.bq_certify.specs.Laws.{AreAlike, same, both}
+use Rattle.bq_certify.proofs.OneRefusal.{head-same, tail-same, behind-same, early-same}
+
+-- a line that has no place is not blank
+misplaced-loud : (line : List ℕ) (w : Word) → IsMisplaced line w → IsBlank line → ⊥
+misplaced-loud line w (scripts.IsMisplaced.too_long m p) b = omega (arith, m, b.short)
+misplaced-loud line w (scripts.loud short n p) b = n b
+
+one-word : (line : List ℕ) (v w : Word) → IsMisplaced line v → IsMisplaced line w → v ≡ w
+one-word line v w (scripts.IsMisplaced.too_long m p) (scripts.IsMisplaced.too_long n q) = p ∙ sym q
+one-word line v w (scripts.IsMisplaced.too_long m p) (scripts.loud short n q) = absurd (omega (arith, m, short))
+one-word line v w (scripts.loud short n p) (scripts.IsMisplaced.too_long m q) = absurd (omega (arith, m, short))
+one-word line v w (scripts.loud short n p) (scripts.loud s m q) = p ∙ sym q
+
+-- one line is the first that has no place
+one-misplaced : (xs ys : List (List ℕ)) (x y : List ℕ) (rest others : List (List ℕ)) (v w : Word) → AllByRecursion IsBlank xs → AllByRecursion IsBlank ys → IsMisplaced x v → IsMisplaced y w
+    → xs ++ x ∷ rest ≡ ys ++ y ∷ others → (length xs ≡ length ys) × (v ≡ w)
+one-misplaced [] [] x y rest others v w a b i k e = (refl, one-word x v w i (subst (λ l. IsMisplaced l w) (sym (head-same x y rest others e)) k))
+one-misplaced [] (z ∷ ys) x y rest others v w a b i k e = absurd (misplaced-loud x v i (subst IsBlank (sym (head-same x z rest (ys ++ y ∷ others) e)) b.0))
+one-misplaced (z ∷ xs) [] x y rest others v w a b i k e = absurd (misplaced-loud y w k (subst IsBlank (head-same z y (xs ++ x ∷ rest) others e) a.0))
+one-misplaced (u ∷ xs) (z ∷ ys) x y rest others v w a b i k e =
+    let same = one-misplaced xs ys x y rest others v w a.1 b.1 i k (tail-same u z (xs ++ x ∷ rest) (ys ++ y ∷ others) e) in
+    (ap suc same.0, same.1)
+
+-- none of blank lines is misplaced
+blank-placed : (xs : List (List ℕ)) (x : List ℕ) (rest : List (List ℕ)) (w : Word) → AllByRecursion IsBlank (xs ++ x ∷ rest) → IsMisplaced x w → ⊥
+blank-placed [] x rest w all i = misplaced-loud x w i all.0
+blank-placed (z ∷ xs) x rest w all i = blank-placed xs x rest w all.1 i
+
+all-placed : (texts xs : List (List ℕ)) (x : List ℕ) (rest : List (List ℕ)) (w : Word) → texts ≡ xs ++ x ∷ rest → All IsBlank texts → IsMisplaced x w → ⊥
+all-placed texts xs x rest w e all i = blank-placed xs x rest w (subst (AllByRecursion IsBlank) e (recursion_from_All IsBlank texts all)) i
+
+certified-same : (streams shapes : List Shape) (name title : List ℕ) (select choice : SelectAst) (c : List Line) → streams ≡ shapes → name ≡ title → select ≡ choice → certified streams name select c ≡ certified shapes title choice c
+certified-same streams shapes name title select choice c e f g = ap (λ s. certified s name select c) e ∙ ap (λ n. certified shapes n select c) f ∙ ap (λ x. certified shapes title x c) g
+
+pub alike : (all : List (List ℕ)) (o p : Outcome) → Certifies all o → Certifies all p → AreAlike o p
+alike all o p (certifying.early m v a e) (certifying.early n w b f) = same (e ∙ early-same all m n v w a b ∙ sym f)
+alike all o p (certifying.early m v a e) (certifying.large streams name select q n asks large f) = absurd ((one_end all).2 streams name select q n m v asks a)
+alike all o p (certifying.early m v a e) (certifying.misplaced streams name select q n asks small blanks line others w is blank wrong f) = absurd ((one_end all).2 streams name select q n m v asks a)
+alike all o p (certifying.early m v a e) (certifying.whole streams name select q n asks small blank c are good f) = absurd ((one_end all).2 streams name select q n m v asks a)
+alike all o p (certifying.large streams name select q n asks large e) (certifying.early m v a f) = absurd ((one_end all).2 streams name select q n m v asks a)
+alike all o p (certifying.large streams name select q m asks large e) (certifying.large shapes title choice r n also great f) =
+    let i = (one_end all).0 streams shapes name title select choice q r m n asks also in
+    same (e ∙ ap (λ k. refusal k Limit) i.4 ∙ sym f)
+alike all o p (certifying.large streams name select q m asks large e) (certifying.misplaced shapes title choice r n also small blanks line others w is blank wrong f) =
+    let i = (one_end all).0 streams shapes name title select choice q r m n asks also in
+    absurd (small (subst IsTooLarge i.3 large))
+alike all o p (certifying.large streams name select q m asks large e) (certifying.whole shapes title choice r n also small blank c are good f) =
+    let i = (one_end all).0 streams shapes name title select choice q r m n asks also in
+    absurd (small (subst IsTooLarge i.3 large))
+alike all o p (certifying.misplaced streams name select q n asks small blanks line others w is blank wrong e) (certifying.early m v a f) = absurd ((one_end all).2 streams name select q n m v asks a)
+alike all o p (certifying.misplaced streams name select q m asks small blanks line others v is blank wrong e) (certifying.large shapes title choice r n also large f) =
+    let i = (one_end all).0 streams shapes name title select choice q r m n asks also in
+    absurd (small (subst IsTooLarge (sym i.3) large))
+alike all o p (certifying.misplaced streams name select q m asks small blanks line others v is blank wrong e) (certifying.misplaced shapes title choice r n also little empty text more w it bare bad f) =
+    let i = (one_end all).0 streams shapes name title select choice q r m n asks also in
+    let behind : asks.behind ≡ also.behind = behind-same all streams shapes name title select choice q r m n asks also i.4 in
+    let k = one-misplaced blanks empty line text others more v w (recursion_from_All IsBlank blanks blank) (recursion_from_All IsBlank empty bare) wrong bad (sym is ∙ behind ∙ it) in
+    same (e ∙ ap₂ (λ (j : ℕ) (x : Word). refusal j x) (omega (arith, i.4, k.0)) k.1 ∙ sym f)
+alike all o p (certifying.misplaced streams name select q m asks small blanks line others v is blank wrong e) (certifying.whole shapes title choice r n also little bare c are good f) =
+    let i = (one_end all).0 streams shapes name title select choice q r m n asks also in
+    let behind : asks.behind ≡ also.behind = behind-same all streams shapes name title select choice q r m n asks also i.4 in
+    absurd (all-placed also.behind blanks line others v (sym behind ∙ is) bare wrong)
+alike all o p (certifying.whole streams name select q n asks small blank c are good e) (certifying.early m v a f) = absurd ((one_end all).2 streams name select q n m v asks a)
+alike all o p (certifying.whole streams name select q m asks small blank c are good e) (certifying.large shapes title choice r n also large f) =
+    let i = (one_end all).0 streams shapes name title select choice q r m n asks also in
+    absurd (small (subst IsTooLarge (sym i.3) large))
+alike all o p (certifying.whole streams name select q m asks small blank c are good e) (certifying.misplaced shapes title choice r n also little empty text more w it bare bad f) =
+    let i = (one_end all).0 streams shapes name title select choice q r m n asks also in
+    let behind : asks.behind ≡ also.behind = behind-same all streams shapes name title select choice q r m n asks also i.4 in
+    absurd (all-placed asks.behind empty text more w (behind ∙ it) blank bad)
+alike all o p (certifying.whole streams name select q m asks small blank c are good e) (certifying.whole shapes title choice r n also little bare d lines fine f) =
+    let i = (one_end all).0 streams shapes name title select choice q r m n asks also in
+    both shapes title choice c d (e ∙ certified-same streams shapes name title select choice c i.0 i.1 i.2) f

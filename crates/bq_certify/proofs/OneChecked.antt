@@ -1,0 +1,48 @@
+-- The lines determine what `check` comes to.
+use Rattle.std.proofs.Common.{◌≡◌, ℕ, List, [], sym, ap, ap₂, ◌∙◌, subst, arith}
+use Rattle.bq_model.specs.Query.{QueryValue}
+use Rattle.bq_schema.specs.Streams.{Shape}
+use Rattle.bq_session.specs.declared.word.Word.{Word}
+use Rattle.bq_certificate.specs.declared.line.Line.{Line}
+use Rattle.bq_certificate.specs.declared.answer.CheckAnswer.{CheckAnswer}
+use Rattle.bq_certificate.specs.Nodes.{nodes_of}
+use Rattle.bq_certificate.specs.Reading.{IsCheckAnswer}
+use Rattle.bq_certificate.proofs.OneAnswer as answers
+use Rattle.bq_script.proofs.OneEnd.{one_end}
+use Rattle.bq_certify.specs.Certifying.{refusal}
+use Rattle.bq_certify.specs.Checking as checking
+use Rattle.bq_certify.specs.Checking.{Collect, answered}
+use Rattle.bq_certify.specs.Laws.{HasOneAnswer}
+use Rattle.bq_certify.proofs.OneRefusal.{behind-same, early-same}
+use Rattle.bq_certify.proofs.OneFinding.{one-refused, one-collected, collected-stays}
+
+answer-same : (streams shapes : List Shape) (name title : List ℕ) (q r : QueryValue) (c d : List Line) (answer other : CheckAnswer) → streams ≡ shapes → name ≡ title → q ≡ r → c ≡ d
+    → IsCheckAnswer q (nodes_of c) answer → IsCheckAnswer r (nodes_of d) other → answered streams name q answer ≡ answered shapes title r other
+answer-same streams shapes name title q r c d answer other e f g h is it =
+    let back : IsCheckAnswer q (nodes_of c) other = subst (λ l. IsCheckAnswer q (nodes_of l) other) (sym h) (subst (λ x. IsCheckAnswer x (nodes_of d) other) (sym g) it) in
+    ap (λ s. answered s name q answer) e ∙ ap (λ n. answered shapes n q answer) f ∙ ap (λ x. answered shapes title x answer) g ∙ ap (answered shapes title r) (answers.one_answer q (nodes_of c) answer other is back)
+
+pub one-checked : HasOneAnswer
+one-checked all o p (checking.early m v a e) (checking.early n w b f) = e ∙ early-same all m n v w a b ∙ sym f
+one-checked all o p (checking.early m v a e) (checking.later streams name select q n asks before text others c w is collect refused f) = absurd ((one_end all).2 streams name select q n m v asks a)
+one-checked all o p (checking.early m v a e) (checking.whole streams name select q n asks c answer collect is f) = absurd ((one_end all).2 streams name select q n m v asks a)
+one-checked all o p (checking.later streams name select q n asks before text others c w is collect refused e) (checking.early m v a f) = absurd ((one_end all).2 streams name select q n m v asks a)
+one-checked all o p (checking.later streams name select q m asks before text others c v is collect refused e) (checking.later shapes title choice r n also front line more d w it gather denied f) =
+    let same = (one_end all).0 streams shapes name title select choice q r m n asks also in
+    let behind : asks.behind ≡ also.behind = behind-same all streams shapes name title select choice q r m n asks also same.4 in
+    let i = one-refused asks.behind before front text line others more c d v w is (behind ∙ it) collect gather refused denied in
+    e ∙ ap₂ (λ (k : ℕ) (x : Word). refusal k x) (omega (arith, same.4, i.0)) i.1 ∙ sym f
+one-checked all o p (checking.later streams name select q m asks before text others c v is collect refused e) (checking.whole shapes title choice r n also d answer gather it f) =
+    let same = (one_end all).0 streams shapes name title select choice q r m n asks also in
+    let behind : asks.behind ≡ also.behind = behind-same all streams shapes name title select choice q r m n asks also same.4 in
+    absurd (collected-stays also.behind before text others c d v (sym behind ∙ is) collect refused gather)
+one-checked all o p (checking.whole streams name select q n asks c answer collect is e) (checking.early m v a f) = absurd ((one_end all).2 streams name select q n m v asks a)
+one-checked all o p (checking.whole streams name select q m asks c answer collect is e) (checking.later shapes title choice r n also front line more d w it gather denied f) =
+    let same = (one_end all).0 streams shapes name title select choice q r m n asks also in
+    let behind : asks.behind ≡ also.behind = behind-same all streams shapes name title select choice q r m n asks also same.4 in
+    absurd (collected-stays asks.behind front line more d c w (behind ∙ it) gather denied collect)
+one-checked all o p (checking.whole streams name select q m asks c answer collect is e) (checking.whole shapes title choice r n also d other gather it f) =
+    let same = (one_end all).0 streams shapes name title select choice q r m n asks also in
+    let behind : asks.behind ≡ also.behind = behind-same all streams shapes name title select choice q r m n asks also same.4 in
+    let lines : c ≡ d = one-collected also.behind c d (subst (λ l. Collect [] l c) behind collect) gather in
+    e ∙ answer-same streams shapes name title q r c d answer other same.0 same.1 same.3 lines is it ∙ sym f

@@ -1,0 +1,5 @@
+use Rattle.bq_certify.proofs.MoreLines.{certifying-stays}
+use Rattle.bq_certify.proofs.laws.certifying_stays.Goals as goal
+
+pub returns : goal.returns
+returns c = certifying-stays
