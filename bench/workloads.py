@@ -10,15 +10,17 @@ def chosen(seed, count, one):
 
 
 class Workload:
-    """A head of CREATE lines and a generator of rows; `mawk`, `python` and `sqlite` are peers for the very queries, or None."""
+    """A head of CREATE lines and a generator of rows; `mawk`, `python` and `sqlite` are peers for the very queries, or None. Of a
+    workload whose rows are dear, one row in `share` is run where times and memory are measured."""
 
-    def __init__(self, name, head, one, mawk=None, python=None, sqlite=None):
+    def __init__(self, name, head, one, mawk=None, python=None, sqlite=None, share=1):
         self.name = name
         self.head = head
         self.one = one
         self.mawk = mawk
         self.python = python
         self.sqlite = sqlite
+        self.share = share
 
     def write(self, path, rows, head=True):
         with open(path, "w", encoding="ascii") as file:
@@ -115,4 +117,13 @@ def distinct():
     return Workload("4 DISTINCT joins of the hot-rooms form, 64,920 cells each, and an inequality with 748", head, one)
 
 
-WORKLOADS = [no_query(), filters(), joins(), distinct()]
+def worst():
+    """A query of work 1.9 million over four streams, of which one has a row for each value and the next has none: nothing is found."""
+    head = [f"CREATE STREAM {name} (a)" for name in "STUV"]
+    within = " AND ".join(f"{name}.a > 0 AND {name}.a < 125" for name in "STUV")
+    head += [f"CREATE QUERY w AS SELECT S.a FROM S, T, U, V WHERE {within} AND T.a < U.a AND U.a < V.a"]
+    head += [f"T,{value}" for value in range(1, 125)]
+    return Workload("a row that finds nothing, in a query of work 1.9 million", head, lambda r: f"S,{1 + r.randrange(124)}", share=100)
+
+
+WORKLOADS = [no_query(), filters(), joins(), distinct(), worst()]

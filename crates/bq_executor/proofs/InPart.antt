@@ -1,5 +1,5 @@
 -- What one part finds for a row, and which of its cells takes the row.
-use Rattle.std.proofs.Common.{◌≡◌, ℕ, ◌<◌, nat_eq, cond, Bool, true, false, ℤ, List, [], length, refl, sym, ap, ◌∙◌, arith, slice_index_or}
+use Rattle.std.proofs.Common.{◌≡◌, ℕ, ◌<◌, ◌&&◌, nat_eq, nat_lt, cond, Bool, true, false, ℤ, List, [], ◌∷◌, length, slice_set, refl, sym, ap, ◌∙◌, arith, slice_index_or}
 use Rattle.std.proofs.lemmas.Bool.Decides.{nat_tests}
 use Rattle.bq_model.specs.declared.cell.Cell.{Cell}
 use Rattle.bq_model.specs.declared.plan.PartPlan.{PartPlan}
@@ -8,16 +8,19 @@ use Rattle.bq_model.specs.Meaning.{by_column}
 use Rattle.bq_model.specs.Boxes.{box_size}
 use Rattle.bq_model.specs.Plan.{IsPartPlan, stream_at, dims_at}
 use Rattle.bq_model.specs.Admission.{admits}
-use Rattle.bq_model.specs.Cells.{row_place, dim_values}
+use Rattle.bq_model.specs.Cells.{row_place, dim_values, content}
+use Rattle.bq_model.specs.Merge.{merged}
 use Rattle.bq_model.specs.Combinations.{Reading, Found, found_in, read_from}
 use Rattle.bq_model.specs.Probing.{found_beside}
 use Rattle.bq_model.proofs.BoxLaws.{place-below}
 use Rattle.bq_laws.proofs.Inverse.{admitted-rows-have-places}
 use Rattle.bq_laws.proofs.ByPlace.{walks-find-all}
+use Rattle.bq_pool.specs.declared.pool.Extent.{Extent}
+use Rattle.bq_pool.specs.Extents.{PoolValue, cells_of, with_cells}
 use Rattle.bq_answers.specs.Entries.{TableValue, with_entries}
 use Rattle.bq_synopsis.specs.Premises.{HasRoom, row_cell}
 use Rattle.bq_executor.specs.Taking.{with_all}
-use Rattle.bq_executor.specs.Arriving.{arrives, CanCount}
+use Rattle.bq_executor.specs.Arriving.{arrives, with_row, CanCount}
 
 module _ (q : QueryValue) (part : PartPlan) (within : IsWithinLimits q) (plan : IsPartPlan q part) (pos : ℕ) (here : pos < length q.from) (values : List ℤ) where
   abbrev v : ℕ → ℤ
@@ -56,3 +59,9 @@ none_added d fs table e = ap (λ (gs : List Found). with_entries table (with_all
 pub all_added : (d : Bool) (fs gs : List Found) (table more : TableValue) → gs ≡ fs
     → more ≡ with_entries table (with_all d fs table.entries) → more ≡ with_entries table (with_all d gs table.entries)
 all_added d fs gs table more e is = is ∙ ap (λ (hs : List Found). with_entries table (with_all d hs table.entries)) (sym e)
+
+-- the pool after a part that does not admit the row
+pub row_refused : (q : QueryValue) (part : PartPlan) (pos : ℕ) (values : List ℤ) (extent : Extent) (pool : PoolValue)
+    → admits q part pos (by_column values) ≡ false → pool ≡ with_row q part pos values extent pool
+row_refused q part pos values extent pool e =
+    sym (ap (λ b. cond (b && nat_lt 1 (length q.from)) (with_cells pool extent (slice_set (cells_of pool extent) (row_cell part pos values) (merged (stream_at part pos).kind (slice_index_or (cells_of pool extent) (row_cell part pos values) Cell.Empty) (content (stream_at part pos).kind (values ∷ []))))) pool) e)

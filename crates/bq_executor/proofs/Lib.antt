@@ -19,3 +19,6 @@ pub mod Standings
 pub mod CallerLemmas
 pub mod PreparedParts
 pub mod ClearedNone
+pub mod GateLaws
+pub mod OneTuple
+pub mod SameRows

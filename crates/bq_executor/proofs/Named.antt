@@ -1,5 +1,5 @@
 -- Whether FROM names the stream of a row; and a filter's own answer.
-use Rattle.std.proofs.Common.{◌≡◌, ℕ, ◌<◌, ◌==◌, Bool, true, false, List, [], length, get_or, map, sym, ap, ◌∙◌, Option, Some, None, ℤ, cond, ◌≤◌, nat_lt, arith}
+use Rattle.std.proofs.Common.{◌≡◌, ℕ, ◌<◌, ◌==◌, Bool, true, false, List, [], ◌∷◌, ◌&&◌, subst, length, get_or, map, sym, ap, ◌∙◌, Option, Some, None, ℤ, cond, ◌≤◌, nat_lt, arith}
 use Rattle.std.specs.List.{position, position_or_len, list_any}
 use Rattle.std.specs.Option.{option_to_list}
 use Rattle.std.proofs.lemmas.List.Quantifiers.{position-Some}
@@ -8,7 +8,9 @@ use Rattle.std.proofs.lemmas.List.Sums.{fails_before_first}
 use Rattle.std.proofs.lemmas.List.Folds.{list_any_at, list_any_none}
 use Rattle.bq_model.specs.declared.plan.PartPlan.{PartPlan}
 use Rattle.bq_model.specs.Query.{QueryValue, IsWithinLimits}
-use Rattle.bq_model.specs.Meaning.{Arrival}
+use Rattle.bq_model.specs.declared.atom.Attr.{Attr}
+use Rattle.bq_model.specs.Assignment.{holds, projected}
+use Rattle.bq_model.specs.Meaning.{Arrival, assignment_of}
 use Rattle.bq_model.specs.Filter.{filter_tuple}
 use Rattle.bq_model.specs.Plan.{IsPlan}
 use Rattle.bq_model.specs.Combinations.{Found, Reading}
@@ -18,8 +20,8 @@ use Rattle.bq_model.specs.declared.plan.Plan.TheVariants as plan
 use Rattle.bq_laws.proofs.Tests.{nat_true}
 use Rattle.bq_pool.specs.declared.pool.Extent.{Extent}
 use Rattle.bq_pool.specs.Extents.{PoolValue, cells_of, IsLive}
-use Rattle.bq_answers.specs.Entries.{TableValue, with_entries}
-use Rattle.bq_executor.specs.Taking.{with_all, with_found}
+use Rattle.bq_answers.specs.Entries.{TableValue, with_entries, Fits}
+use Rattle.bq_executor.specs.Taking.{with_all, with_found, HaveRoom}
 use Rattle.bq_executor.specs.Arriving.{own_found, all_found, answered_by, HasTaken}
 use Rattle.bq_executor.proofs.Inserting.{inserted_outside}
 use Rattle.bq_executor.proofs.Taken.{with_own}
@@ -62,6 +64,24 @@ pub own_none : (q : QueryValue) (r : Arrival) (table : TableValue) → None ≡ 
 unfolding with_all
 own_none q r table e =
     ap (λ (o : Option (List ℤ)). with_entries table (with_all q.distinct (map (λ t. let f : Found = record { tuple = t; count = 1 } in f) (option_to_list o)) table.entries)) e
+
+-- it has room
+pub own_room : (q : QueryValue) (r : Arrival) (t : List ℤ) (table : TableValue) → Some t ≡ filter_tuple q r → HaveRoom q.distinct (own_found q r) table
+    → (length t ≡ table.width) × Fits t table
+own_room q r t table e h =
+    let k : HaveRoom q.distinct (map (λ t. let f : Found = record { tuple = t; count = 1 } in f) (option_to_list (Some t))) table
+    = subst (λ (o : Option (List ℤ)). HaveRoom q.distinct (map (λ t. let f : Found = record { tuple = t; count = 1 } in f) (option_to_list o)) table) (sym e) h in
+    (k.0, k.1)
+
+-- a filter answers where its condition holds
+pub own_told : (q : QueryValue) (r : Arrival) (t : List ℤ) → ((r.stream == get_or q.from 0 0) && holds q (assignment_of (r.values ∷ []))) ≡ true
+    → (select : List Attr) → select ≡ q.select → t ≡ map (assignment_of (r.values ∷ [])) select → Some t ≡ filter_tuple q r
+own_told q r t b select is e =
+    ap (λ (xs : List ℤ). Some xs) (e ∙ ap (map (assignment_of (r.values ∷ []))) is)
+    ∙ sym (ap (λ c. cond c (Some (projected q (assignment_of (r.values ∷ [])))) None) b)
+
+pub own_untold : (q : QueryValue) (r : Arrival) → ((r.stream == get_or q.from 0 0) && holds q (assignment_of (r.values ∷ []))) ≡ false → None ≡ filter_tuple q r
+own_untold q r b = sym (ap (λ c. cond c (Some (projected q (assignment_of (r.values ∷ [])))) None) b)
 
 -- a row of a stream outside FROM is answered nothing
 pub answered_nothing : (q : QueryValue) (p : Plan) (parts : List PartPlan) (numbers : Numbers) (read : Reading) (r : Arrival)

@@ -5,3 +5,5 @@ pub mod Written
 pub mod Taking
 pub mod Arriving
 pub mod Prepared
+pub mod Gate
+pub mod Known

@@ -15,13 +15,14 @@ ghost use Rattle.bq_executor.specs.Standing.{StandsFor, AreKept, IsReady, TookRo
 ghost use Rattle.bq_executor.specs.Written.{answer_lines};
 
 use crate::arrive::arrive;
-use crate::prepared::prepare_all;
+use crate::gate::{Gate, gate_of};
+use crate::prepared::{PreparedPlan, prepare_all};
 use crate::written::put_waiting;
 use bq_answers::Answers;
 use bq_io::{Sink, Steps, WriteFault};
 use bq_model::{Plan, Query, Row, Tuple};
 use bq_pool::{Extent, Pool};
-use bq_synopsis::{Prepared, Room};
+use bq_synopsis::Room;
 use bq_text::Name;
 use std::alloc::{AllocError, Global};
 use std::marker::Model;
@@ -29,27 +30,28 @@ use std::sync::ledger::Ledger;
 
 /// A live query. Like its extent it cannot be dropped: `close` spends it.
 pub struct Executor {
+    given: u64,
+    gate: Gate,
+    table: Answers,
     query: Query,
     plan: Plan,
-    prepared: Vec<Prepared>,
+    prepared: PreparedPlan,
     extent: Extent,
-    given: u64,
     room: Room,
     tuple: Tuple,
-    table: Answers,
 }
 
 impl Model for Executor {
-    ghost use Rattle.bq_model.specs.Parts.{pairs};
     ghost use Rattle.bq_model.specs.Numbers.{parts_of};
     ghost use Rattle.bq_executor.specs.Executor.{ExecutorValue, IsSound};
-    ghost use Rattle.bq_executor.specs.Prepared.{ArePrepared};
+    ghost use Rattle.bq_executor.specs.Prepared.{IsPreparedPlan};
+    ghost use Rattle.bq_executor.specs.Gate.{IsGate};
 
     ghost Value = { ExecutorValue };
 
     ghost view = { λ e. record { query = e.query; plan = e.plan; extent = e.extent; given = e.given; table = e.table } };
 
-    ghost invariant = { λ e. IsSound (record { query = e.query; plan = e.plan; extent = e.extent; given = e.given; table = e.table }) × ArePrepared (pairs e.query) (parts_of e.plan) e.prepared.items };
+    ghost invariant = { λ e. IsSound (record { query = e.query; plan = e.plan; extent = e.extent; given = e.given; table = e.table }) × IsPreparedPlan e.query (parts_of e.plan) e.prepared × IsGate e.query e.plan e.gate };
 }
 
 // For how many answers a query with this plan has room.
@@ -94,18 +96,20 @@ impl Executor {
             Ok(prepared) => prepared,
             Err(error) => return Err((extent, error)),
         };
+        let gate = gate_of(&query, &plan);
         let capacity = most_answers(&plan);
         let width = query.select().len() as u8;
         match Answers::new(alloc, capacity, width) {
             Ok(table) => Ok(Executor {
+                given: 0,
+                gate,
+                table,
                 query,
                 plan,
                 prepared,
                 extent,
-                given: 0,
                 room: Room::default(),
                 tuple: Tuple::new(),
-                table,
             }),
             Err(error) => Err((extent, error)),
         }
@@ -127,22 +131,46 @@ impl Executor {
         ensures outside { list_any (λ s. stream == s) self.old.query.from ≡ false → steps.new ≡ steps.old }
         ensures history { TookRow self.old pool.old (arrival stream row.now.items) self.new pool.new }
     {
+        let _waits = self.take(pool, stream, row, steps);
+    }
+
+    /// Takes a row as `row` does. Where it says no, no answer waits; where it says yes, some may.
+    pub fn take<L: Ledger>(
+        &mut self,
+        pool: &mut Pool,
+        stream: u8,
+        row: &Row,
+        steps: &mut Steps<L>,
+    ) -> bool
+        requires ready { IsReady self.old pool.old }
+        ensures waits { (t : List ℤ) → waiting_of t self.new.table.entries ≡ min (occurs t (future_in self.old pool.old (arrival stream row.now.items))) (2 ^ 127) }
+        ensures none { result ≡ false → waiting_in self.new ≡ [] }
+        ensures cells { pool.new ≡ pool_with self.old pool.old (arrival stream row.now.items) }
+        ensures tuples { self.old.query.distinct ≡ true → tuples_in self.new ≡ merged_table (tuples_in self.old) (future_in self.old pool.old (arrival stream row.now.items)) }
+        ensures same { self.new ≡ with_given self.old (self.old.given + 1) self.new.table.entries }
+        ensures kept { AreKept self.new pool.new }
+        ensures steps { steps.new ≤ steps.old + 3 * work (parts_in self.old) + 2 * length (parts_in self.old) }
+        ensures alone { IsTrue (is_filter self.old.query) → steps.new ≡ steps.old }
+        ensures outside { list_any (λ s. stream == s) self.old.query.from ≡ false → steps.new ≡ steps.old }
+        ensures history { TookRow self.old pool.old (arrival stream row.now.items) self.new pool.new }
+    {
         let _ascends = self.table.len();
         self.given += 1;
         clear(self.query.distinct(), &mut self.table);
         arrive(
+            &self.gate,
             pool,
             &self.extent,
             &self.query,
             &self.plan,
-            &self.prepared,
+            &mut self.prepared,
             stream,
             row,
             &mut self.room,
             &mut self.tuple,
             &mut self.table,
             steps,
-        );
+        )
     }
 
     /// Writes a line for each answer that waits, in ascending order. Then nothing waits, also after a fault; all else is as
@@ -193,14 +221,15 @@ impl Executor {
         ensures { IsGivenBack pool.old self.extent pool.new }
     {
         let Executor {
+            given: _,
+            gate: _gate,
+            table: _table,
             query: _query,
             plan: _plan,
             prepared: _prepared,
             extent,
-            given: _,
             room: _room,
             tuple: _tuple,
-            table: _table,
         } = self;
         pool.give_back(extent);
     }

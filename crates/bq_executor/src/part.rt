@@ -1,5 +1,6 @@
 //! What a row does in one part: what the cells answer to it waits in the table, and its own cell takes it.
-ghost use Rattle.std.specs.Prelude.{◌≡◌, ◌<◌, ◌≤◌, ◌+◌, ◌*◌, length};
+ghost use Rattle.std.specs.Prelude.{◌≡◌, ◌<◌, ◌≤◌, ◌+◌, ◌*◌, length, true};
+ghost use Rattle.bq_model.specs.Admission.{admits};
 ghost use Rattle.bq_model.specs.Meaning.{by_column};
 ghost use Rattle.bq_model.specs.Combinations.{read_from, found_in};
 ghost use Rattle.bq_model.specs.Probing.{found_beside};
@@ -12,12 +13,14 @@ ghost use Rattle.bq_synopsis.specs.Remaining.{as_found};
 ghost use Rattle.bq_answers.specs.Entries.{with_entries, Fits};
 ghost use Rattle.bq_executor.specs.Taking.{with_found, with_all, HaveRoom};
 ghost use Rattle.bq_executor.specs.Arriving.{arrives, with_row, CanCount};
+ghost use Rattle.bq_executor.specs.Known.{AnswersOne};
 
+use crate::known::answers_one;
 use bq_answers::Answers;
 use bq_io::Steps;
 use bq_model::{PartPlan, Query, Row, Tuple};
 use bq_pool::{Extent, Pool};
-use bq_synopsis::{Prepared, Probe, Room, admits, insert};
+use bq_synopsis::{Prepared, Probe, Room, insert};
 use std::sync::ledger::Ledger;
 
 /// The most times that one answer waits.
@@ -36,8 +39,41 @@ pub fn take_up(distinct: bool, tuple: &Tuple, count: u128, table: &mut Answers)
     }
 }
 
-// Takes up all that the cells of a part answer to a row that it admits.
-fn answer<L: Ledger>(
+// Takes up the one tuple that a part can answer to a row. Where it has an entry nothing changes, and no cell is read;
+// else the walk ends at the first find.
+fn answer_once<L: Ledger>(
+    pool: &Pool,
+    e: &Extent,
+    q: &Query,
+    part: &PartPlan,
+    prepared: &Prepared,
+    pos: u8,
+    row: &Row,
+    room: &mut Room,
+    tuple: &mut Tuple,
+    table: &mut Answers,
+    steps: &mut Steps<L>,
+)
+    requires here { pos < length q.now.from }
+    requires ready { IsReady q.now part.now pool.now e.now }
+    requires prepared { IsPrepared (pairs q.now) part.now prepared.now }
+    requires room { HaveRoom q.now.distinct (found_beside q.now part.now (read_from (cells_of pool.now e.now)) pos (by_column row.now.items)) table.old }
+    requires one { AnswersOne q.now part.now pos row.now.items tuple.old.items }
+    ensures table { table.new ≡ with_entries table.old (with_all q.now.distinct (found_beside q.now part.now (read_from (cells_of pool.now e.now)) pos (by_column row.now.items)) table.old.entries) }
+    ensures steps { steps.new ≤ steps.old + 3 * share part.now }
+{
+    if table.has(tuple) {
+        return;
+    }
+    let mut probe = Probe::new(q, part, prepared, pos, row, room);
+    match probe.next(pool, e, q, part, tuple, steps) {
+        Some(count) => take_up(true, tuple, count, table),
+        None => {}
+    }
+}
+
+// Takes up all that a walk over the cells of a part finds for a row.
+fn walk<L: Ledger>(
     pool: &Pool,
     e: &Extent,
     q: &Query,
@@ -63,8 +99,41 @@ fn answer<L: Ledger>(
     }
 }
 
-/// Takes a row into one part: all that its cells answer to the row waits in the table; and where the query has several
-/// streams, the row's own cell takes it. A part that does not admit the row does nothing.
+// Takes up all that the cells of a part answer to a row that it admits.
+fn answer<L: Ledger>(
+    pool: &Pool,
+    e: &Extent,
+    q: &Query,
+    part: &PartPlan,
+    prepared: &Prepared,
+    pos: u8,
+    row: &Row,
+    room: &mut Room,
+    tuple: &mut Tuple,
+    table: &mut Answers,
+    steps: &mut Steps<L>,
+)
+    requires here { pos < length q.now.from }
+    requires ready { IsReady q.now part.now pool.now e.now }
+    requires prepared { IsPrepared (pairs q.now) part.now prepared.now }
+    requires room { HaveRoom q.now.distinct (found_beside q.now part.now (read_from (cells_of pool.now e.now)) pos (by_column row.now.items)) table.old }
+    ensures table { table.new ≡ with_entries table.old (with_all q.now.distinct (found_beside q.now part.now (read_from (cells_of pool.now e.now)) pos (by_column row.now.items)) table.old.entries) }
+    ensures steps { steps.new ≤ steps.old + 3 * share part.now }
+{
+    if answers_one(q, part, pos, row, tuple) {
+        answer_once(
+            pool, e, q, part, prepared, pos, row, room, tuple, table, steps,
+        );
+    } else {
+        walk(
+            pool, e, q, part, prepared, pos, row, room, tuple, table, steps,
+        );
+    }
+}
+
+/// Takes a row into a part that admits it: all that its cells answer to the row waits in the table; and where the query has
+/// several streams, the row's own cell takes it.
+#[inline(never)]
 pub fn take_row<L: Ledger>(
     pool: &mut Pool,
     e: &Extent,
@@ -81,6 +150,7 @@ pub fn take_row<L: Ledger>(
     requires here { pos < length q.now.from }
     requires ready { IsReady q.now part.now pool.old e.now }
     requires prepared { IsPrepared (pairs q.now) part.now prepared.now }
+    requires admitted { admits q.now part.now pos (by_column row.now.items) ≡ true }
     requires counts { CanCount part.now (read_from (cells_of pool.old e.now)) }
     requires room { HaveRoom q.now.distinct (found_in q.now part.now (read_from (cells_of pool.old e.now)) (arrives q.now pos row.now.items)) table.old }
     ensures table { table.new ≡ with_entries table.old (with_all q.now.distinct (found_in q.now part.now (read_from (cells_of pool.old e.now)) (arrives q.now pos row.now.items)) table.old.entries) }
@@ -88,9 +158,6 @@ pub fn take_row<L: Ledger>(
     ensures steps { steps.new ≤ steps.old + 3 * share part.now + 2 }
 {
     let streams = q.from().len();
-    if !admits(q, part, prepared, pos, row) {
-        return;
-    }
     answer(
         pool, e, q, part, prepared, pos, row, room, tuple, table, steps,
     );

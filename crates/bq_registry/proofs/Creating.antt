@@ -1,5 +1,5 @@
 -- What CREATE QUERY does.
-use Rattle.std.proofs.Common.{◌≡◌, ℕ, ◌≤◌, List, [], ◌∷◌, ◌++◌, sym, ap, subst, arith, IsFalse, Ok, Err, All}
+use Rattle.std.proofs.Common.{◌≡◌, ℕ, ◌≤◌, List, [], ◌∷◌, ◌++◌, sym, ap, subst, arith, IsFalse, Ok, Err, All, length}
 use Rattle.std.specs.declared.result.Result.{Result}
 use Rattle.bq_model.specs.declared.plan.Plan.{Plan}
 use Rattle.bq_model.specs.declared.decision.Which.TheVariants.{Parts}
@@ -12,10 +12,13 @@ use Rattle.bq_registry.specs.declared.refusal.CreateError.{CreateError}
 use Rattle.bq_registry.specs.declared.refusal.CreateError.TheVariants as refusals
 use Rattle.bq_registry.specs.declared.verdict.Verdict.{Verdict}
 use Rattle.bq_registry.specs.Live.{Live, newly}
-use Rattle.bq_registry.specs.Registry.{RegistryValue, AreLiveFor}
+use Rattle.bq_registry.specs.declared.waiting.Places.{Places}
+use Rattle.bq_registry.specs.Registry.{RegistryValue, AreLiveFor, IsSound}
+use Rattle.bq_registry.specs.Waiting.{AreQuiet}
 use Rattle.bq_registry.specs.Judged.{TellsVerdict, CarriesWhy, Creates}
 use Rattle.bq_registry.specs.Admitted.{Admits}
 use Rattle.bq_registry.proofs.Telling.{tells_accepted, tells_pool}
+use Rattle.bq_registry.proofs.Quiet.{quiet_last}
 use Rattle.bq_registry.proofs.Whole.{beside_stands, added_stands, added_all}
 
 abbrev pub registry_of : PoolValue → List Live → RegistryValue
@@ -60,3 +63,15 @@ creates (Err refusals.Memory) name q plan pool live later after a m = record {
   free = m.2;
   stands = λ queries all. subst (λ (x : List Live). AreLiveFor later x queries) (sym m.3) (beside_stands pool later live queries m.1 all);
 }
+
+-- what is true of the live queries is true then, and of no further one an answer waits
+pub keeps : (result : Result Verdict CreateError) (name : List ℕ) (q : QueryValue) (plan : Plan) (pool : PoolValue) (live : List Live) (later : PoolValue) (after : List Live)
+    → (p : Places) → IsSound pool live → AreQuiet (length live) p live → Admits result name q plan pool live later after → IsSound later after × AreQuiet (length after) p after
+keeps (Ok verdict) name q plan pool live later after p sound quiet m =
+    let last = m.4.1 in
+    (m.2, subst (λ (xs : List Live). AreQuiet (length xs) p xs) (sym last.last) (quiet_last p live last.live quiet last.new.none))
+keeps (Err (refusals.Violation p c t)) name q plan pool live later after places sound quiet m = absurd m
+keeps (Err (refusals.Limit which value l)) name q plan pool live later after p sound quiet m = absurd m
+keeps (Err (refusals.Pool needed free)) name q plan pool live later after p sound quiet m =
+    (subst (λ (x : PoolValue). IsSound x after) (sym m.3) (subst (λ (xs : List Live). IsSound pool xs) (sym m.4) sound), subst (λ (xs : List Live). AreQuiet (length xs) p xs) (sym m.4) quiet)
+keeps (Err refusals.Memory) name q plan pool live later after p sound quiet m = (m.0, subst (λ (xs : List Live). AreQuiet (length xs) p xs) (sym m.3) quiet)

@@ -7,4 +7,5 @@ pub mod Verdicts
 pub mod Admitting
 pub mod Whole
 pub mod Telling
+pub mod Quiet
 pub mod Creating

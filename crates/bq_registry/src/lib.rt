@@ -11,6 +11,7 @@ mod refusal;
 mod registry;
 mod taking;
 mod verdict;
+mod waiting;
 mod writing;
 
 pub use refusal::CreateError;

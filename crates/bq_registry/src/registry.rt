@@ -13,6 +13,7 @@ use crate::live::{executor_at, has_name, place_of};
 use crate::refusal::CreateError;
 use crate::taking::take_all;
 use crate::verdict::{Verdict, judge};
+use crate::waiting::Places;
 use crate::writing::write_all;
 use bq_executor::Executor;
 use bq_io::{Sink, Steps, WriteFault};
@@ -33,17 +34,20 @@ pub struct Registry {
     alloc: Global,
     pool: Pool,
     live: IndexMap<Name, Executor>,
+    waiting: Places,
 }
 
 impl Model for Registry {
     ghost use Rattle.bq_registry.specs.Live.{live_of};
     ghost use Rattle.bq_registry.specs.Registry.{RegistryValue, IsSound};
+    ghost use Rattle.bq_registry.specs.Waiting.{AreQuiet};
+    ghost use Rattle.std.specs.Prelude.{length};
 
     ghost Value = { RegistryValue };
 
     ghost view = { λ r. record { pool = r.pool; live = live_of r.live.entries } };
 
-    ghost invariant = { λ r. IsSound r.pool (live_of r.live.entries) };
+    ghost invariant = { λ r. IsSound r.pool (live_of r.live.entries) × AreQuiet (length (live_of r.live.entries)) r.waiting (live_of r.live.entries) };
 }
 
 // Gives back the pages of all live queries.
@@ -73,7 +77,13 @@ impl Registry {
     {
         let pool = Pool::new(alloc, PAGES)?;
         let live = IndexMap::with_capacity(alloc, Registry::MOST_QUERIES)?;
-        Ok(Registry { alloc, pool, live })
+        let waiting = Places { from: 0, to: 0 };
+        Ok(Registry {
+            alloc,
+            pool,
+            live,
+            waiting,
+        })
     }
 
     /// The number of live queries.
@@ -155,7 +165,7 @@ impl Registry {
         ensures queries { KeepQueries self.old.live self.new.live }
         ensures steps { steps.new ≤ steps.old + most_steps self.old.live }
     {
-        take_all(&mut self.pool, &mut self.live, stream, row, steps);
+        self.waiting = take_all(&mut self.pool, &mut self.live, stream, row, steps);
     }
 
     /// Writes what waits, query by query in order of creation. Afterwards nothing waits, on a fault too, and the registry stands
@@ -167,7 +177,9 @@ impl Registry {
         ensures given { (n : ℕ) → GivenUpto n self.old → GivenUpto n self.new }
         ensures queries { KeepQueries self.old.live self.new.live }
     {
-        write_all(&mut self.live, out)
+        let waiting = self.waiting;
+        self.waiting = Places { from: 0, to: 0 };
+        write_all(&mut self.live, waiting, out)
     }
 
     /// Takes the live query of a name out of the live ones, the first that has it. Its pages are free, and the others are as
@@ -181,7 +193,13 @@ impl Registry {
         ensures queries { KeepQueries self.old.live self.new.live }
     {
         match place_of(&self.live, name) {
-            Some(place) => drop_at(&mut self.pool, &mut self.live, place),
+            Some(place) => {
+                drop_at(&mut self.pool, &mut self.live, place);
+                self.waiting = Places {
+                    from: 0,
+                    to: self.live.len(),
+                };
+            }
             None => {}
         }
     }
@@ -192,6 +210,7 @@ impl Registry {
             alloc: _,
             pool,
             live,
+            waiting: _,
         } = self;
         close_all(pool, live);
     }

@@ -5,7 +5,9 @@ ghost use Rattle.bq_io.specs.Sink.{Writes};
 ghost use Rattle.bq_registry.specs.Live.{Live, live_of, named};
 ghost use Rattle.bq_registry.specs.Registry.{waiting_text};
 ghost use Rattle.bq_registry.specs.Written.{WritesNext, WroteOne, WroteAt, WroteFirst};
+ghost use Rattle.bq_registry.specs.Waiting.{AreQuiet};
 
+use crate::waiting::Places;
 use bq_executor::Executor;
 use bq_io::{Sink, WriteFault};
 use bq_text::Name;
@@ -60,16 +62,19 @@ fn write_at<O: Sink>(
     write_next(written, name, executor, out)
 }
 
-/// Writes what waits of each live query, in order of creation. Where the sink fails, what is left is given up.
+/// Writes what waits of each live query, in order of creation, where nothing waits outside some places. Where the sink fails,
+/// what is left is given up.
 pub fn write_all<O: Sink>(
     live: &mut IndexMap<Name, Executor>,
+    waiting: Places,
     out: &mut O,
 ) -> Result<(), WriteFault>
+    requires { AreQuiet (length (live_of live.old.entries)) waiting (live_of live.old.entries) }
     ensures written { Writes result (O.seen out.old) (O.seen out.new) (flat_map waiting_text (live_of live.old.entries)) }
     ensures wrote { WroteFirst (length (live_of live.old.entries)) (live_of live.old.entries) (live_of live.new.entries) }
 {
     let mut written = Ok(());
-    for place in 0..live.len() {
+    for place in waiting.from..waiting.to {
         written = write_at(written, live, place, out);
     }
     written

@@ -80,6 +80,13 @@ behind_number text = drop (integer_len (without_blanks_before text)) (without_bl
 abbrev blanks_at : List ℕ → List ℕ
 blanks_at text = take (prefix_len is_blank text) text
 
+-- the parts of a text, where those behind the blanks at its front are known
+pub blanks_split : (text first : List ℕ) (others : List (List ℕ)) → slice_split is_comma (without_blanks_before text) ≡ first ∷ others
+    → slice_split is_comma text ≡ (blanks_at text ++ first) ∷ others
+blanks_split text first others e =
+    ap (slice_split is_comma) (sym (take-append-drop (prefix_len is_blank text) text))
+    ∙ split_behind (blanks_at text) (without_blanks_before text) first others (all_weaker is_blank is_no_comma blank_no_comma (blanks_at text) (front_passes is_blank text)) e
+
 abbrev front_of : List ℕ → List ℕ
 front_of text = blanks_at text ++ (number_at text ++ blanks_at (behind_number text))
 

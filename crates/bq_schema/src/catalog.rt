@@ -100,8 +100,8 @@ impl Catalog {
         Some(place as u8)
     }
 
-    // The number of the stream that has these bytes as its name.
-    fn find_bytes(&self, name: &[u8]) -> Option<u8>
+    /// The number of the stream that has these bytes as its name.
+    pub fn find_bytes(&self, name: &[u8]) -> Option<u8>
         ensures number { result ≡ stream_number self.now name.now }
         ensures inside { IfSome result (λ number. number < length self.now) }
         ensures name { IfSome result (λ number. IsName name.now) }
@@ -148,22 +148,22 @@ impl Catalog {
         &columns[usize::from(column)]
     }
 
-    /// The row that a row line is, with the number of its stream. The line begins with a word; blanks or none and a comma
-    /// stand behind it. An error is the first of `RowError` that applies.
+    /// Puts the row that a row line is into `row`, in place of what that holds, and gives the number of its stream. The line begins with
+    /// a word; blanks or none and a comma stand behind it. An error is the first of `RowError` that applies, and `row` is left
+    /// with any values then.
     #[tactic(auto, unfolding(crate::specs::Rows::row_of))]
-    pub fn read_row(&self, line: &[u8]) -> Result<(u8, Row), RowError>
+    pub fn read_row(&self, line: &[u8], row: &mut Row) -> Result<u8, RowError>
         requires { IsTrue (is_row_line line.now) }
-        ensures row { result_map_both (λ r. entry r.0 r.1.items) (λ error. error) result ≡ row_of self.now line.now }
-        ensures stream { IfOk result (λ r. r.0 < length self.now) }
-        ensures width { IfOk result (λ r. length r.1.items ≡ length (shape_at self.now r.0).columns) }
+        ensures row { result_map_both (λ stream. entry stream row.new.items) (λ error. error) result ≡ row_of self.now line.now }
+        ensures stream { IfOk result (λ stream. stream < length self.now) }
+        ensures width { IfOk result (λ stream. length row.new.items ≡ length (shape_at self.now stream).columns) }
     {
         let (word, fields) = split_fields(line);
         let Some(stream) = self.find_bytes(word) else {
             return Err(refusal_of(word));
         };
-        let mut row = Row::new();
-        match read_fields(&mut row, usize::from(self.width(stream)), fields) {
-            Ok(()) => Ok((stream, row)),
+        match read_fields(row, usize::from(self.width(stream)), fields) {
+            Ok(()) => Ok(stream),
             Err(error) => Err(error),
         }
     }

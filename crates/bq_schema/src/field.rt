@@ -8,8 +8,9 @@ ghost use Rattle.bq_text.specs.Value.{value_of};
 ghost use Rattle.bq_schema.specs.Rows.{is_comma, entry, row_with};
 
 use crate::row_error::RowError;
+use crate::row_line::cut_behind;
 use bq_model::Row;
-use bq_text::{cut, leading_i64, trim_start};
+use bq_text::{leading_i64, trim_start};
 
 // The value that the first field of a text is without the blanks at its ends, and the text behind the comma that ends it.
 fn read_field(text: &[u8]) -> (Option<i64>, Option<&[u8]>)
@@ -18,7 +19,7 @@ fn read_field(text: &[u8]) -> (Option<i64>, Option<&[u8]>)
     ensures shorter { IfSome result.1 (λ rest. length rest.now < length text.now) }
 {
     let (value, behind) = leading_i64(trim_start(text));
-    let (left, others) = cut(trim_start(behind), b',');
+    let (left, others) = cut_behind(behind);
     if left.is_empty() {
         (value, others)
     } else {
@@ -26,14 +27,14 @@ fn read_field(text: &[u8]) -> (Option<i64>, Option<&[u8]>)
     }
 }
 
-/// Puts the values of the fields of a text into an empty row, one for each of at most 8 columns. Each field is read once. Where the
-/// fields are no row, the row is left with any values.
+/// Puts the values of the fields of a text into a row in place of what it holds, one for each of at most 8 columns. Each field is read
+/// once. Where the fields are no row, the row is left with any values.
 pub fn read_fields(row: &mut Row, width: usize, fields: Option<&[u8]>) -> Result<(), RowError>
-    requires empty { row.old.items ≡ [] }
     requires width { width ≤ 8 }
     ensures row { (stream : ℕ) → result_map_both (λ done. entry stream row.new.items) (λ error. error) result ≡ row_with stream width (parts_behind 44 fields.entry) }
     ensures width { IfOk result (λ done. length row.new.items ≡ width) }
 {
+    row.clear();
     let mut all_values = true;
     let mut rest = fields;
     while let Some(text) = rest {

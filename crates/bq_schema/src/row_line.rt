@@ -1,5 +1,7 @@
 //! Row lines.
-ghost use Rattle.std.specs.Prelude.{◌≡◌};
+ghost use Rattle.std.specs.Prelude.{◌≡◌, ◌∷◌, ◌<◌, length, IfSome};
+ghost use Rattle.std.specs.List.{slice_split};
+ghost use Rattle.bq_text.specs.Blank.{without_blanks_before};
 ghost use Rattle.bq_text.specs.Lines.{parts_behind};
 ghost use Rattle.bq_text.specs.Word.{word_of};
 ghost use Rattle.bq_schema.specs.Rows as rows;
@@ -24,11 +26,29 @@ pub fn is_row_line(text: &[u8]) -> bool
     begins_word(text) && begins_comma(trim_start(rest))
 }
 
+/// A text without the blanks at its front, up to its first comma, and what stands behind that comma. Mostly the text begins with the
+/// comma, or nothing is left of it.
+pub fn cut_behind(text: &[u8]) -> (&[u8], Option<&[u8]>)
+    ensures parts { slice_split rows.is_comma (without_blanks_before text.now) ≡ result.0.now ∷ parts_behind 44 result.1 }
+    ensures shorter { IfSome result.1 (λ rest. length rest.now < length text.now) }
+{
+    match text {
+        [] => (text, None),
+        [first, others @ ..] => {
+            if *first == b',' {
+                (&[], Some(others))
+            } else {
+                cut(trim_start(text), b',')
+            }
+        }
+    }
+}
+
 /// The word at the front of a line, and the text of the fields behind it, which is cut at commas.
 pub fn split_fields(line: &[u8]) -> (&[u8], Option<&[u8]>)
     ensures word { result.0.now ≡ word_of line.now }
     ensures fields { rows.fields_of line.now ≡ parts_behind 44 result.1 }
 {
     let (word, behind) = split_word(line);
-    (word, cut(behind, b',').1)
+    (word, cut_behind(behind).1)
 }

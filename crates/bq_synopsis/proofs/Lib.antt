@@ -6,6 +6,7 @@ pub mod WalkLaws
 pub mod CostLaws
 pub mod NarrowLaws
 pub mod BackLaws
+pub mod CutLaws
 pub mod ExactLaws
 pub mod BreakLaws
 pub mod PrepareLaws
@@ -13,6 +14,8 @@ pub mod ModelLaws
 pub mod StepLaws
 pub mod UnderwayLaws
 pub mod LeastLaws
+pub mod LineLaws
+pub mod FixedLaws
 pub mod StartLaws
 pub mod CallerLemmas
 pub mod OneEach

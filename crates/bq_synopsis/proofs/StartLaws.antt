@@ -21,7 +21,7 @@ use Rattle.bq_synopsis.specs.Premises.{IsWalked}
 use Rattle.bq_synopsis.proofs.WalkLaws.{walk-first, outer-none}
 use Rattle.bq_synopsis.proofs.CostLaws.{cost-first}
 use Rattle.bq_synopsis.proofs.ExactLaws.{walk-is}
-use Rattle.bq_synopsis.proofs.BreakLaws.{breaks}
+use Rattle.bq_synopsis.proofs.BreakLaws.{breaks, breaks-inequality}
 use Rattle.bq_synopsis.proofs.PlanLaws.{named}
 use Rattle.bq_synopsis.proofs.ModelLaws.{combinations-are}
 
@@ -34,7 +34,7 @@ left-start q part arriving row read walked l =
     let N = length part.streams.items in
     let z : N - 0 ≡ N = omega arith in
     (λ k. walk_from w (z k) [] 0 ++ outer-none w N [] [] k) ∙ append-nil (walk_from w N [] 0) ∙ walk-first w N []
-    ∙ walk-is w (breaks w (named q part walked)) ∙ combinations-are q part arriving row read l
+    ∙ walk-is w (breaks w (named q part walked)) (breaks-inequality w (named q part walked)) ∙ combinations-are q part arriving row read l
 
 one-at-least : (x S : ℕ) → 0 < S → x ≤ x * S
 one-at-least x zero l = absurd (omega (arith, l))

@@ -1,6 +1,6 @@
 -- What one turn of a probe keeps.
-use Rattle.std.proofs.Common.{◌≡◌, ◌≢◌, ℕ, zero, suc, ◌+◌, ◌*◌, ◌<◌, ◌≤◌, ◌^◌, ◌==◌, Bool, true, false, not, cond, get_or, List, [], ◌∷◌, ◌++◌, map, filter, length, drop, take, lit≤, refl, sym, ap, ◌∙◌, subst, arith, length-append, ℤ, pos, if◌then◌else◌, ◌&&◌, ◌||◌}
-use Rattle.std.specs.Prelude.{Option, Some, None, int_le, MatchOption}
+use Rattle.std.proofs.Common.{◌≡◌, ◌≢◌, ℕ, zero, suc, ◌+◌, ◌-◌, ◌*◌, ◌<◌, ◌≤◌, ◌^◌, ◌==◌, Bool, true, false, not, cond, get_or, List, [], ◌∷◌, ◌++◌, map, filter, length, drop, take, lit≤, refl, sym, ap, ◌∙◌, subst, arith, length-append, ℤ, pos, if◌then◌else◌, ◌&&◌, ◌||◌}
+use Rattle.std.specs.Prelude.{Option, Some, None, int_le, MatchOption, slice_index_or}
 use Rattle.std.specs.List.{list_any}
 use Rattle.std.proofs.lemmas.Bool.Decides.{nat_tests}
 use Rattle.std.proofs.Math.Nat.{mul-le-mul}
@@ -15,23 +15,25 @@ use Rattle.bq_model.specs.declared.plan.PartPlan.{PartPlan}
 use Rattle.bq_model.specs.Query.{attr_eq}
 use Rattle.bq_model.specs.Plan.{stream_at, dims_at}
 use Rattle.bq_model.specs.Cells.{FitsKind}
-use Rattle.bq_model.specs.Combinations.{Reading}
+use Rattle.bq_model.specs.Combinations.{Reading, read_from}
 use Rattle.bq_model.specs.Numbers.{equals_some}
 use Rattle.bq_model.specs.Probing.{is_known}
-use Rattle.bq_model.proofs.BoxLaws.{sound-full, length-box, box-from, place-below}
+use Rattle.bq_model.proofs.BoxLaws.{values-inside, sound-full, length-box, box-from, place-below}
 use Rattle.bq_model.specs.declared.cell.Cell.{Cell}
 use Rattle.bq_model.specs.declared.cell.Cell.TheVariants.{Empty, Count, Present, Extreme}
 use Rattle.bq_synopsis.specs.declared.chosen.Chosen.{Chosen}
 use Rattle.bq_synopsis.specs.declared.probe.Probe.{Probe}
 use Rattle.bq_synopsis.specs.Values.{value_in, rows_in}
 use Rattle.bq_synopsis.specs.Choosing.{setting, product_of, meets_links, tuple_of, found, dims_in, cell_in}
-use Rattle.bq_synopsis.specs.Walk.{left, walk, outer, narrowed_dims, narrow, narrowed_by, witness}
-use Rattle.bq_synopsis.specs.Costs.{Rates, cost_left, tried_size}
+use Rattle.bq_synopsis.specs.Walk.{left, walk, outer, narrowed_dims, narrow, narrowed_by, witness, cut}
+use Rattle.bq_synopsis.specs.Costs.{Rates, cost_left, tried_size, read_at}
+use Rattle.bq_synopsis.specs.declared.lines.Line.{Line}
+use Rattle.bq_synopsis.specs.Lined.{IsLine, at_line}
 use Rattle.bq_synopsis.specs.Premises.{IsLaidOut, AreFitting}
-use Rattle.bq_synopsis.specs.Remaining.{left_of, IsUnderway, WentBack, ended, popped, AreLight, limit, as_found}
-use Rattle.bq_synopsis.proofs.WalkLaws.{left-back, left-past, left-whole, outer-none}
-use Rattle.bq_synopsis.proofs.CostLaws.{cost-back, cost-end, cost-next, cost-enter}
-use Rattle.bq_synopsis.proofs.NarrowLaws.{narrower, map-sound, map-inside, one-value}
+use Rattle.bq_synopsis.specs.Remaining.{left_of, outer_of, IsPlaced, WentBack, HasEntered, ended, popped, AreLight, limit, as_found}
+use Rattle.bq_synopsis.proofs.WalkLaws.{left-skip, left-back, left-past, left-whole, left-enter, outer-none}
+use Rattle.bq_synopsis.proofs.CostLaws.{cost-skip, cost-back, cost-end, cost-next, cost-enter}
+use Rattle.bq_synopsis.proofs.NarrowLaws.{narrower, cut-narrower, map-low, map-sound, map-inside, one-value}
 
 pub record AreWhole (ds : List Dim) : Type 0 where
   pub full : AreFull ds
@@ -51,11 +53,26 @@ dims-whole part arriving cells place r = by (place == arriving) refl
 module _ (ps : List Pair) (part : PartPlan) (arriving : ℕ) (row : List ℤ) (cells : ℕ) (known : List Chosen) (r : length known ≢ arriving → IsLaidOut (stream_at part (length known)) cells) where
   pub sound-narrowed : AreNumbered (narrowed_dims ps part arriving row known)
   unfolding narrowed_dims
-  sound-narrowed = let d = dims-whole part arriving cells (length known) r in map-sound _ (narrower arriving (length known) part.equal.items (value_in ps part arriving row known)) _ d.full d.sound
+  sound-narrowed = let d = dims-whole part arriving cells (length known) r in map-sound _ (narrower arriving (length known) part.equal.items part.less.items (value_in ps part arriving row known)) _ d.full d.sound
 
   pub inside-narrowed : (vs : List ℤ) → AreInside (narrowed_dims ps part arriving row known) vs → AreInside (dims_in part arriving (length known)) vs
   unfolding narrowed_dims
-  inside-narrowed vs i = let d = dims-whole part arriving cells (length known) r in map-inside _ (narrower arriving (length known) part.equal.items (value_in ps part arriving row known)) _ vs d.full i
+  inside-narrowed vs i = let d = dims-whole part arriving cells (length known) r in map-inside _ (narrower arriving (length known) part.equal.items part.less.items (value_in ps part arriving row known)) _ vs d.full i
+
+  pub dims-beside : length known ≢ arriving → dims_in part arriving (length known) ≡ dims_at part (length known)
+  unfolding dims_in
+  dims-beside n = by (length known == arriving) refl
+    where
+      by : (t : Bool) → (length known == arriving) ≡ t → (if t then [] else dims_at part (length known)) ≡ dims_at part (length known)
+      by true e = absurd (n (grind (arith, nat_tests)))
+      by false e = refl
+
+  pub low-narrowed : length known ≢ arriving → 0 < box_size (narrowed_dims ps part arriving row known) → AreInside (dims_at part (length known)) (map (λ d. d.lo) (narrowed_dims ps part arriving row known))
+  unfolding narrowed_dims
+  low-narrowed n some =
+      let d = dims-whole part arriving cells (length known) r in
+      subst (λ ds. AreInside ds (map (λ e. e.lo) (map (narrow arriving (length known) part.equal.items part.less.items (value_in ps part arriving row known)) (dims_in part arriving (length known))))) (dims-beside n)
+      (map-low _ (narrower arriving (length known) part.equal.items part.less.items (value_in ps part arriving row known)) _ d.full some)
 
 -- a dim counts with all its values where no known column fixes it, and else with one
 abbrev free_dim : Dim → Option Attr → ℕ
@@ -103,29 +120,30 @@ one-at-most : (d : Dim) (v : ℤ) (t : Bool) → dim_size (if t then record { at
 one-at-most d v true = omega (arith, one-value v)
 one-at-most d v false = omega arith
 
-free-by : (d : Dim) (values : Attr → ℤ) (a : Option Attr) → dim_size (narrowed_by d values a) ≤ free_dim d a
-free-by d values None = omega arith
-free-by d values (Some a) = one-at-most d (values a) (int_le d.lo (values a) && int_le (values a) d.hi)
+free-by : (d other : Dim) (values : Attr → ℤ) (a : Option Attr) → dim_size other ≤ dim_size d → dim_size (narrowed_by d other values a) ≤ free_dim d a
+free-by d other values None h = h
+free-by d other values (Some a) h = one-at-most d (values a) (int_le d.lo (values a) && int_le (values a) d.hi)
 
-free-map : (arriving place : ℕ) (links : List Link) (values : Attr → ℤ) (ds : List Dim) → box_size (map (narrow arriving place links values) ds) ≤ free_product arriving place links ds
+free-map : (arriving place : ℕ) (equal less : List Link) (values : Attr → ℤ) (ds : List Dim) → box_size (map (narrow arriving place equal less values) ds) ≤ free_product arriving place equal ds
 unfolding narrow
-free-map arriving place links values [] = omega arith
-free-map arriving place links values (d ∷ ds) = mul-le-mul (free-by d values (witness arriving place d.attr links)) (free-map arriving place links values ds)
+free-map arriving place equal less values [] = omega arith
+free-map arriving place equal less values (d ∷ ds) =
+    mul-le-mul (free-by d (cut arriving place less values d) values (witness arriving place d.attr equal) (cut-narrower arriving place less values d).size) (free-map arriving place equal less values ds)
 
 pub few-candidates : (ps : List Pair) (part : PartPlan) (arriving : ℕ) (row : List ℤ) (known : List Chosen) → box_size (narrowed_dims ps part arriving row known) ≤ tried_size part arriving (length known)
 unfolding narrowed_dims
 few-candidates ps part arriving row known =
-    let a = free-map arriving (length known) part.equal.items (value_in ps part arriving row known) (dims_in part arriving (length known)) in
+    let a = free-map arriving (length known) part.equal.items part.less.items (value_in ps part arriving row known) (dims_in part arriving (length known)) in
     let b = free-tried part arriving (length known) in
     omega (arith, a, b)
 
 pub cost-of-back : (rates : ℕ → Rates) (streams : ℕ) (p r : Probe) → WentBack p r → p.over ≡ false → length p.room.now.numbers.items ≤ streams →
     cost_left (rates r.arriving) streams r.room.now.numbers.items r.next r.over + (rates p.arriving).level ≤ cost_left (rates p.arriving) streams p.room.now.numbers.items p.next p.over
-cost-of-back rates streams p r (ended a b c d e f g h m zs) o l =
+cost-of-back rates streams p r (ended a b c d e f g h m zs ss) o l =
     let x : cost_left (rates r.arriving) streams r.room.now.numbers.items r.next r.over ≡ cost_left (rates p.arriving) streams r.room.now.numbers.items r.next true = λ k. cost_left (rates (f k)) streams r.room.now.numbers.items r.next (e k) in
     let y : cost_left (rates p.arriving) streams p.room.now.numbers.items p.next p.over ≡ cost_left (rates p.arriving) streams [] p.next false = λ k. cost_left (rates p.arriving) streams (b k) p.next (o k) in
     omega (arith, x, y, cost-end (rates p.arriving) streams p.next r.room.now.numbers.items r.next)
-cost-of-back rates streams p r (popped c n z a b e v f g j m zs zv) o l =
+cost-of-back rates streams p r (popped c n z a b e v f g j m zs zv ss) o l =
     let l-b = ap length b in
     let h = length-append r.room.now.numbers.items (n ∷ []) in
     let x : cost_left (rates r.arriving) streams r.room.now.numbers.items r.next r.over ≡ cost_left (rates p.arriving) streams r.room.now.numbers.items n false = λ k. cost_left (rates (f k)) streams r.room.now.numbers.items (e k) ((v ∙ o) k) in
@@ -133,13 +151,13 @@ cost-of-back rates streams p r (popped c n z a b e v f g j m zs zv) o l =
     omega (arith, x, y, cost-back (rates p.arriving) streams r.room.now.numbers.items n p.next (omega (arith, l-b, h, l)))
 
 -- what is outside the level is what is left after going back
-pub outer-of-back : (sel : List Attr) (part : PartPlan) (read : Reading) (p r : Probe) → WentBack p r → p.over ≡ false → IsUnderway part p →
-    left_of sel part read r ≡ outer (setting p.pairs.now.items sel part p.arriving p.row.now.items read) (length part.streams.items) [] p.room.now.chosen.items p.room.now.numbers.items
+pub outer-of-back : (sel : List Attr) (part : PartPlan) (read : Reading) (p r : Probe) → WentBack p r → p.over ≡ false → IsPlaced part p →
+    left_of sel part read r ≡ outer_of sel part read p
 unfolding left
-outer-of-back sel part read p r (ended a b c d e f g h m zs) o u =
+outer-of-back sel part read p r (ended a b c d e f g h m zs ss) o u =
     (λ k. left (setting r.pairs.now.items sel part r.arriving r.row.now.items read) r.room.now.chosen.items r.room.now.numbers.items r.next (e k))
     ∙ sym ((λ k. outer (setting p.pairs.now.items sel part p.arriving p.row.now.items read) (length part.streams.items) [] (a k) p.room.now.numbers.items) ∙ outer-none (setting p.pairs.now.items sel part p.arriving p.row.now.items read) (length part.streams.items) [] p.room.now.numbers.items)
-outer-of-back sel part read p r (popped c n z a b e v f g j m zs zv) o u =
+outer-of-back sel part read p r (popped c n z a b e v f g j m zs zv ss) o u =
     let w = setting p.pairs.now.items sel part p.arriving p.row.now.items read in
     let x = ap length a in
     let y = ap length b in
@@ -159,13 +177,13 @@ pub light-more : (a i : ℕ) (cs : List Chosen) (c : Chosen) → AreLight a i cs
 light-more a i [] c h l = (subst (λ n. rows_in c.cell ≤ limit a n) (let e : i + 0 ≡ i = omega arith in e) l, tt)
 light-more a i (x ∷ cs) c h l = (h.0, light-more a (i + 1) cs c h.1 (subst (λ n. rows_in c.cell ≤ limit a n) (let e : i + suc (length cs) ≡ i + 1 + length cs = omega arith in e) l))
 
-pub left-of-back : (sel : List Attr) (part : PartPlan) (read : Reading) (p r : Probe) → WentBack p r → p.over ≡ false → IsUnderway part p → length p.room.now.chosen.items < length part.streams.items →
-    box_size (narrowed_dims p.pairs.now.items part p.arriving p.row.now.items p.room.now.chosen.items) ≤ p.next → left_of sel part read r ≡ left_of sel part read p
-left-of-back sel part read p r back o u l past =
+-- a level that is used up
+pub past-outer : (sel : List Attr) (part : PartPlan) (read : Reading) (p : Probe) → p.over ≡ false → length p.room.now.chosen.items < length part.streams.items →
+    box_size (narrowed_dims p.pairs.now.items part p.arriving p.row.now.items p.room.now.chosen.items) ≤ p.next → left_of sel part read p ≡ outer_of sel part read p
+past-outer sel part read p o l past =
     let w = setting p.pairs.now.items sel part p.arriving p.row.now.items read in
-    outer-of-back sel part read p r back o u
-    ∙ sym (left-past w p.room.now.chosen.items p.room.now.numbers.items p.next l (omega (arith, past, length-box (narrowed_dims p.pairs.now.items part p.arriving p.row.now.items p.room.now.chosen.items))))
-    ∙ (λ k. left w p.room.now.chosen.items p.room.now.numbers.items p.next (sym o k))
+    (λ k. left w p.room.now.chosen.items p.room.now.numbers.items p.next (o k))
+    ∙ left-past w p.room.now.chosen.items p.room.now.numbers.items p.next l (omega (arith, past, length-box (narrowed_dims p.pairs.now.items part p.arriving p.row.now.items p.room.now.chosen.items)))
 
 -- the candidate that is next
 pub candidate : (part : PartPlan) (p : Probe) (values : List ℤ) → p.next < box_size (narrowed_dims p.pairs.now.items part p.arriving p.row.now.items p.room.now.chosen.items) →
@@ -270,12 +288,12 @@ pub product-next : (cs : List Chosen) (i : ℕ) (x : Chosen) (product w v : ℕ)
 product-next cs i x product w v l e f g h = (λ k. e k * (h ∙ g ∙ ap (λ (y : Chosen). rows_in y.cell) f) k) ∙ sym (product-more cs i x l)
 
 -- all streams are chosen: the combination, if it meets the links, and then the rest
-module _ (sel : List Attr) (part : PartPlan) (p r : Probe) (back : WentBack p r) (o : p.over ≡ false) (u : IsUnderway part p) (whole : length p.room.now.chosen.items ≡ length part.streams.items) where
+module _ (sel : List Attr) (part : PartPlan) (p r : Probe) (back : (read : Reading) → left_of sel part read r ≡ outer_of sel part read p) (o : p.over ≡ false) (whole : length p.room.now.chosen.items ≡ length part.streams.items) where
   whole-left : (read : Reading) → left_of sel part read p ≡ walk (setting p.pairs.now.items sel part p.arriving p.row.now.items read) 0 p.room.now.chosen.items ++ left_of sel part read r
   whole-left read =
       (λ k. left (setting p.pairs.now.items sel part p.arriving p.row.now.items read) p.room.now.chosen.items p.room.now.numbers.items p.next (o k))
       ∙ left-whole (setting p.pairs.now.items sel part p.arriving p.row.now.items read) p.room.now.chosen.items p.room.now.numbers.items p.next whole
-      ∙ ap (λ fs. walk (setting p.pairs.now.items sel part p.arriving p.row.now.items read) 0 p.room.now.chosen.items ++ fs) (sym (outer-of-back sel part read p r back o u))
+      ∙ ap (λ fs. walk (setting p.pairs.now.items sel part p.arriving p.row.now.items read) 0 p.room.now.chosen.items ++ fs) (sym (back read))
 
   pub finish-none : meets_links p.pairs.now.items part p.arriving p.row.now.items p.room.now.chosen.items ≡ false → (read : Reading) → left_of sel part read p ≡ left_of sel part read r
   unfolding walk
@@ -294,3 +312,85 @@ option_weaker (Some t) A B P R f g h = g t h
 pub left-over : (sel : List Attr) (part : PartPlan) (read : Reading) (p : Probe) → p.over ≡ true → left_of sel part read p ≡ []
 unfolding left
 left-over sel part read p o = λ k. left (setting p.pairs.now.items sel part p.arriving p.row.now.items read) p.room.now.chosen.items p.room.now.numbers.items p.next (o k)
+
+-- one level more
+pub entered-left : (sel : List Attr) (part : PartPlan) (read : Reading) (p r : Probe) (values : List ℤ) (cell : Cell) → HasEntered values cell p r → p.over ≡ false → length p.room.now.chosen.items ≡ length p.room.now.numbers.items
+    → length p.room.now.chosen.items < length part.streams.items → p.next < box_size (narrowed_dims p.pairs.now.items part p.arriving p.row.now.items p.room.now.chosen.items)
+    → values ≡ values_at (narrowed_dims p.pairs.now.items part p.arriving p.row.now.items p.room.now.chosen.items) p.next → cell_in part read p.arriving (length p.room.now.chosen.items) values ≡ cell → (cell ≡ Empty → ⊥)
+    → left_of sel part read r ≡ left_of sel part read p
+entered-left sel part read p r values cell e o same more below is content some =
+    let w = setting p.pairs.now.items sel part p.arriving p.row.now.items read in
+    (λ k. left (setting (e.pairs k).now.items sel part (e.arriving k) (e.row k).now.items read) (e.chosen k) (e.numbers k) (e.next k) ((e.over ∙ o) k))
+    ∙ sym (left-enter w p.room.now.chosen.items p.room.now.numbers.items p.next values cell same more (candidate part p values below is) content some)
+    ∙ (λ k. left w p.room.now.chosen.items p.room.now.numbers.items p.next (sym o k))
+
+pub entered-long : (p r : Probe) (values : List ℤ) (cell : Cell) → HasEntered values cell p r → length r.room.now.chosen.items ≡ length p.room.now.chosen.items + 1
+entered-long p r values cell e = let a = ap length e.chosen in let b = length-append p.room.now.chosen.items (record { values = record { items = values }; cell = cell } ∷ []) in omega (arith, a, b)
+
+pub entered-cost : (rates : ℕ → Rates) (streams : ℕ) (p r : Probe) (values : List ℤ) (cell : Cell) → HasEntered values cell p r → p.over ≡ false → length p.room.now.numbers.items < streams
+    → p.next < (rates p.arriving).size (length p.room.now.numbers.items)
+    → cost_left (rates r.arriving) streams r.room.now.numbers.items r.next r.over + (rates p.arriving).each (length p.room.now.numbers.items) ≡ cost_left (rates p.arriving) streams p.room.now.numbers.items p.next p.over
+entered-cost rates streams p r values cell e o more below =
+    (λ k. cost_left (rates (e.arriving k)) streams r.room.now.numbers.items (e.next k) (e.over k) + (rates p.arriving).each (length p.room.now.numbers.items))
+    ∙ cost-of-enter (rates p.arriving) streams p more below o r.room.now.numbers.items e.numbers
+
+-- the arriving row stands for itself
+pub own-cell : (part : PartPlan) (read : Reading) (arriving place : ℕ) (values : List ℤ) → place ≡ arriving → cell_in part read arriving place values ≡ Present
+unfolding cell_in
+own-cell part read arriving place values e =
+    let t : (place == arriving) ≡ true = grind (arith, nat_tests) in
+    ap (λ b. if b then Present else read part place (place_of (dims_at part place) values)) t
+
+-- the cells of a level that stand on a line
+module _ (ps : List Pair) (part : PartPlan) (arriving : ℕ) (row : List ℤ) (cells : ℕ) (known : List Chosen) (r : length known ≢ arriving → IsLaidOut (stream_at part (length known)) cells) (n : length known ≢ arriving) (line : Line) (on : IsLine (stream_at part (length known)).base (dims_at part (length known)) (narrowed_dims ps part arriving row known) line) where
+  pub line-within : (i : ℕ) → i < box_size (narrowed_dims ps part arriving row known) → line.first + i * line.stride < (stream_at part (length known)).base + (stream_at part (length known)).size
+  line-within i l =
+      let D = narrowed_dims ps part arriving row known in
+      let inside = subst (λ ds. AreInside ds (values_at D i)) (dims-beside ps part arriving row cells known r n) (inside-narrowed ps part arriving row cells known r (values_at D i) (values-inside D i l)) in
+      let b = place-below (dims_at part (length known)) (values_at D i) inside in
+      omega (arith, on i l, b, (r n).size)
+
+  pub line-cell : (contents : List Cell) (i : ℕ) → i < box_size (narrowed_dims ps part arriving row known) → cell_in part (read_from contents) arriving (length known) (values_at (narrowed_dims ps part arriving row known) i) ≡ at_line contents line i
+  unfolding cell_in
+  line-cell contents i l = by (length known == arriving) refl ∙ ap (λ m. slice_index_or contents m Empty) (on i l)
+    where
+      by : (t : Bool) → (length known == arriving) ≡ t → (if t then Present else read_from contents part (length known) (place_of (dims_at part (length known)) (values_at (narrowed_dims ps part arriving row known) i)))
+          ≡ slice_index_or contents ((stream_at part (length known)).base + place_of (dims_at part (length known)) (values_at (narrowed_dims ps part arriving row known) i)) Empty
+      by true e = absurd (n (grind (arith, nat_tests)))
+      by false e = refl
+
+-- candidates with empty cells are passed
+pub passed-left : (sel : List Attr) (part : PartPlan) (read : Reading) (p : Probe) (m : ℕ) → p.over ≡ false → length p.room.now.chosen.items < length part.streams.items → p.next ≤ m
+    → m ≤ box_size (narrowed_dims p.pairs.now.items part p.arriving p.row.now.items p.room.now.chosen.items)
+    → ((i : ℕ) → p.next ≤ i → i < m → cell_in part read p.arriving (length p.room.now.chosen.items) (values_at (narrowed_dims p.pairs.now.items part p.arriving p.row.now.items p.room.now.chosen.items) i) ≡ Empty)
+    → left (setting p.pairs.now.items sel part p.arriving p.row.now.items read) p.room.now.chosen.items p.room.now.numbers.items m p.over ≡ left_of sel part read p
+passed-left sel part read p m o more after within empty =
+    let w = setting p.pairs.now.items sel part p.arriving p.row.now.items read in
+    let s : p.next + (m - p.next) ≡ m = omega (arith, after) in
+    (λ k. left w p.room.now.chosen.items p.room.now.numbers.items (sym s k) (o k))
+    ∙ sym (left-skip w p.room.now.chosen.items p.room.now.numbers.items (m - p.next) p.next more (λ i a b. (omega (arith, b, s, within), empty i a (omega (arith, b, s)))))
+    ∙ (λ k. left w p.room.now.chosen.items p.room.now.numbers.items p.next (sym o k))
+
+pub passed-cost : (rates : Rates) (streams : ℕ) (p : Probe) (m : ℕ) → p.over ≡ false → length p.room.now.numbers.items < streams → p.next ≤ m → m ≤ rates.size (length p.room.now.numbers.items)
+    → cost_left rates streams p.room.now.numbers.items m p.over + (m - p.next) * rates.each (length p.room.now.numbers.items) ≤ cost_left rates streams p.room.now.numbers.items p.next p.over
+passed-cost rates streams p m o more after within =
+    let s : p.next + (m - p.next) ≡ m = omega (arith, after) in
+    let h = cost-skip rates streams p.room.now.numbers.items (m - p.next) p.next more (omega (arith, s, within)) in
+    let x : cost_left rates streams p.room.now.numbers.items m p.over ≡ cost_left rates streams p.room.now.numbers.items (p.next + (m - p.next)) false = λ k. cost_left rates streams p.room.now.numbers.items (sym s k) (o k) in
+    let y : cost_left rates streams p.room.now.numbers.items p.next p.over ≡ cost_left rates streams p.room.now.numbers.items p.next false = λ k. cost_left rates streams p.room.now.numbers.items p.next (o k) in
+    omega (arith, h, x, y)
+
+-- a cell beside the arriving row is one read
+pub read-beside : (arriving place : ℕ) → place ≢ arriving → read_at arriving place ≡ 1
+read-beside arriving place n = by (place == arriving) refl
+  where
+    by : (t : Bool) → (place == arriving) ≡ t → ◌≡◌ {A = ℕ} (if t then 0 else 1) 1
+    by true e = absurd (n (grind (arith, nat_tests)))
+    by false e = refl
+
+pub own-light : (arriving place : ℕ) → place ≡ arriving → 1 ≤ limit arriving place
+own-light arriving place e = by (place == arriving)
+  where
+    by : (t : Bool) → 1 ≤ (if t then 1 else 2 ^ 40)
+    by true = omega arith
+    by false = omega arith

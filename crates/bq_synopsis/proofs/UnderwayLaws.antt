@@ -1,23 +1,34 @@
 -- A probe stays in the middle of its walk.
-use Rattle.std.proofs.Common.{◌≡◌, ℕ, suc, ◌+◌, ◌<◌, ◌≤◌, true, false, List, [], ◌∷◌, ◌++◌, length, refl, sym, ap, ◌∙◌, subst, arith, append_assoc, append-nil, length-append, ℤ}
+use Rattle.std.proofs.Common.{◌≡◌, ◌≢◌, ℕ, zero, suc, ◌+◌, ◌^◌, ◌<◌, ◌≤◌, true, false, List, [], ◌∷◌, ◌++◌, length, take, refl, sym, ap, ◌∙◌, subst, arith, append_assoc, append-nil, length-append, ℤ, map, ◌==◌, if◌then◌else◌}
+use Rattle.std.proofs.lemmas.Bool.Decides.{nat_tests}
 use Rattle.bq_model.specs.Boxes.{box_size, AreNumbered}
 use Rattle.bq_model.specs.declared.part.Pair.{Pair}
 use Rattle.bq_model.specs.declared.plan.PartPlan.{PartPlan}
+use Rattle.bq_model.specs.Plan.{dims_at, stream_at}
 use Rattle.bq_model.specs.Query.{QueryValue}
 use Rattle.bq_model.specs.Parts.{pairs}
 use Rattle.bq_synopsis.specs.declared.chosen.Chosen.{Chosen}
 use Rattle.bq_synopsis.specs.declared.probe.Probe.{Probe}
 use Rattle.bq_synopsis.specs.Preparing.{IsPrepared}
-use Rattle.bq_synopsis.specs.Values.{rows_in}
-use Rattle.bq_synopsis.specs.Walk.{narrowed_dims}
-use Rattle.bq_synopsis.specs.Premises.{IsWalked}
-use Rattle.bq_synopsis.specs.Remaining.{IsUnderway, WentBack, ended, popped, AreLight, AreSizes, limit, dims_now, HasOpened}
+use Rattle.bq_model.specs.declared.atom.Attr.{Attr}
+use Rattle.bq_model.specs.Combinations.{Reading}
+use Rattle.bq_synopsis.specs.Values.{rows_in, value_in}
+use Rattle.bq_synopsis.specs.Choosing.{setting, dims_in}
+use Rattle.bq_synopsis.specs.Costs.{Rates, cost_left}
+use Rattle.bq_synopsis.specs.Walk.{left, narrowed_dims, narrow}
+use Rattle.bq_synopsis.specs.Premises.{IsWalked, IsLaidOut}
+use Rattle.bq_synopsis.specs.Lined.{StandOn}
+use Rattle.bq_synopsis.specs.Remaining.{IsPlaced, IsUnderway, IsSameWalk, IsSameSight, TellsOf, WentBack, ended, popped, AreLight, AreSizes, limit, dims_now, HasOpened, left_of}
 use Rattle.bq_synopsis.proofs.PlanLaws.{laid-beside}
 use Rattle.bq_synopsis.proofs.StepLaws.{sound-narrowed, light-front, light-more}
 
 -- the dims at a level have sizes that fit
 pub numbered : (q : QueryValue) (part : PartPlan) → IsWalked q part → (ps : List Pair) (a : ℕ) (row : List ℤ) (known : List Chosen) → a < length part.streams.items → length known < length part.streams.items → AreNumbered (narrowed_dims ps part a row known)
 numbered q part walked ps a row known here more = sound-narrowed ps part a row walked.cells known (λ n. laid-beside q part walked walked.cells (omega arith) a (length known) here more n)
+
+-- and the box of its stream is laid out
+pub laid-here : (q : QueryValue) (part : PartPlan) → IsWalked q part → (a place : ℕ) → a < length part.streams.items → place < length part.streams.items → place ≢ a → IsLaidOut (stream_at part place) (2 ^ 32)
+laid-here q part walked a place here more n = laid-beside q part walked (2 ^ 32) (let f = walked.few in omega (arith, f)) a place here more n
 
 module _ (ps : List Pair) (part : PartPlan) (a : ℕ) (row : List ℤ) where
   abbrev size_at : List Chosen → ℕ
@@ -49,29 +60,27 @@ module _ (ps : List Pair) (part : PartPlan) (a : ℕ) (row : List ℤ) where
   sizes-length known (x ∷ cs) [] h = absurd h
   sizes-length known (x ∷ cs) (y ∷ ns) h = ap suc (sizes-length (known ++ x ∷ []) cs ns h.1)
 
--- where a probe stands, whatever it knows of its level
-pub record IsPlaced (part : PartPlan) (p : Probe) : Type 0 where
-  pub here : p.arriving < length part.streams.items
-  pub same : length p.room.now.chosen.items ≡ length p.room.now.numbers.items
-  pub few : length p.room.now.chosen.items ≤ length part.streams.items
-  pub light : AreLight p.arriving 0 p.room.now.chosen.items
-  pub prepared : IsPrepared p.pairs.now.items part p.prepared.now
-  pub sizes : AreSizes p.pairs.now.items part p.arriving p.row.now.items [] p.room.now.chosen.items p.room.now.sizes.items
+-- a front of the choices
+pub take-front : {X : Type 0} (n : ℕ) (xs ys : List X) → n ≤ length xs → take n (xs ++ ys) ≡ take n xs
+take-front zero xs ys l = refl
+take-front (suc n) [] ys l = absurd (omega (arith, l))
+take-front (suc n) (x ∷ xs) ys l = ap (λ zs. x ∷ zs) (take-front n xs ys (omega (arith, l)))
 
--- the probe is of the same walk
-pub record IsSameWalk (p r : Probe) : Type 0 where
-  pub arriving : r.arriving ≡ p.arriving
-  pub row : r.row ≡ p.row
-  pub pairs : r.pairs ≡ p.pairs
-  pub prepared : r.prepared ≡ p.prepared
+pub take-whole : {X : Type 0} (n : ℕ) (xs : List X) → n ≡ length xs → take n xs ≡ xs
+take-whole n xs e = ap (λ m. take m xs) e ∙ all xs
+  where
+    all : {X : Type 0} (xs : List X) → take (length xs) xs ≡ xs
+    all [] = refl
+    all (x ∷ xs) = ap (λ zs. x ∷ zs) (all xs)
 
 module _ (part : PartPlan) (p r : Probe) (walk : IsSameWalk p r) where
   -- lists that fit one fit the other
   pub same-placed : p.arriving < length part.streams.items → IsPrepared p.pairs.now.items part p.prepared.now
       → length r.room.now.chosen.items ≡ length r.room.now.numbers.items → length r.room.now.chosen.items ≤ length part.streams.items
       → AreLight p.arriving 0 r.room.now.chosen.items
-      → AreSizes p.pairs.now.items part p.arriving p.row.now.items [] r.room.now.chosen.items r.room.now.sizes.items → IsPlaced part r
-  same-placed here prepared same few light sizes =
+      → AreSizes p.pairs.now.items part p.arriving p.row.now.items [] r.room.now.chosen.items r.room.now.sizes.items
+      → (r.level ≤ length r.room.now.chosen.items → TellsOf part r (take r.level r.room.now.chosen.items)) → IsPlaced part r
+  same-placed here prepared same few light sizes seen =
       let ps : r.pairs.now.items ≡ p.pairs.now.items = λ k. (walk.pairs k).now.items in
       let row : r.row.now.items ≡ p.row.now.items = λ k. (walk.row k).now.items in
       let x : r.prepared.now ≡ p.prepared.now = λ k. (walk.prepared k).now in
@@ -85,41 +94,57 @@ module _ (part : PartPlan) (p r : Probe) (walk : IsSameWalk p r) where
             subst (λ xs. AreSizes xs part r.arriving r.row.now.items [] r.room.now.chosen.items r.room.now.sizes.items) (sym ps)
             (subst (λ m. AreSizes p.pairs.now.items part m r.row.now.items [] r.room.now.chosen.items r.room.now.sizes.items) (sym walk.arriving)
             (subst (λ xs. AreSizes p.pairs.now.items part p.arriving xs [] r.room.now.chosen.items r.room.now.sizes.items) (sym row) sizes));
+        seen = seen;
       }
 
   pub same-dims : (known : List Chosen) → narrowed_dims p.pairs.now.items part p.arriving p.row.now.items known ≡ narrowed_dims r.pairs.now.items part r.arriving r.row.now.items known
   same-dims known = λ k. narrowed_dims (sym walk.pairs k).now.items part (sym walk.arriving k) (sym walk.row k).now.items known
 
+  -- a room that tells the same
+  pub same-tells : IsSameSight p r → (known others : List Chosen) → known ≡ others → TellsOf part p known → TellsOf part r others
+  same-tells sight known others e t =
+      let ds : narrowed_dims p.pairs.now.items part p.arriving p.row.now.items known ≡ narrowed_dims r.pairs.now.items part r.arriving r.row.now.items others
+      = same-dims known ∙ ap (narrowed_dims r.pairs.now.items part r.arriving r.row.now.items) e in (
+        sight.dims ∙ t.0 ∙ ds,
+        subst (λ xs. StandOn part r.arriving (length others) xs r.room.now.line) ds
+            (subst (λ m. StandOn part m (length others) (narrowed_dims p.pairs.now.items part p.arriving p.row.now.items known) r.room.now.line) (sym walk.arriving)
+            (subst (λ cs. StandOn part p.arriving (length cs) (narrowed_dims p.pairs.now.items part p.arriving p.row.now.items known) r.room.now.line) e
+            (subst (λ o. StandOn part p.arriving (length known) (narrowed_dims p.pairs.now.items part p.arriving p.row.now.items known) o) (sym sight.line) t.1))),
+      )
+
 -- one level less
 pub back-walk : (p r : Probe) → WentBack p r → IsSameWalk p r
-back-walk p r (ended a b c d e f g h m zs) = record { arriving = f; row = g; pairs = h; prepared = m }
-back-walk p r (popped c n z a b e v f g j m zs zv) = record { arriving = f; row = g; pairs = j; prepared = m }
+back-walk p r (ended a b c d e f g h m zs ss) = record { arriving = f; row = g; pairs = h; prepared = m }
+back-walk p r (popped c n z a b e v f g j m zs zv ss) = record { arriving = f; row = g; pairs = j; prepared = m }
 
-pub back-placed : (part : PartPlan) (p r : Probe) → WentBack p r → IsUnderway part p → IsPlaced part r
-back-placed part p r (ended a b c d e f g h m zs) u =
-    same-placed part p r (back-walk p r (ended a b c d e f g h m zs)) u.here u.prepared (ap length c ∙ sym (ap length d)) (let z = ap length c in omega (arith, z))
+pub back-placed : (part : PartPlan) (p r : Probe) → WentBack p r → IsPlaced part p → IsPlaced part r
+back-placed part p r (ended a b c d e f g h m zs ss) u =
+    same-placed part p r (back-walk p r (ended a b c d e f g h m zs ss)) u.here u.prepared (ap length c ∙ sym (ap length d)) (let z = ap length c in omega (arith, z))
     (subst (λ cs. AreLight p.arriving 0 cs) (sym c) tt)
     (subst (λ cs. AreSizes p.pairs.now.items part p.arriving p.row.now.items [] cs r.room.now.sizes.items) (sym c) (subst (λ ns. AreSizes p.pairs.now.items part p.arriving p.row.now.items [] [] ns) (sym zs) tt))
-back-placed part p r (popped c n z a b e v f g j m zs zv) u =
+    (λ l. same-tells part p r (back-walk p r (ended a b c d e f g h m zs ss)) ss _ _ (λ k. take (sym ss.level k) ((a ∙ sym c) k)) (u.seen (let x = ap length a in let y = ap length c in omega (arith, l, ss.level, x, y))))
+back-placed part p r (popped c n z a b e v f g j m zs zv ss) u =
     let x = ap length a in
     let y = ap length b in
     let s = length-append r.room.now.chosen.items (c ∷ []) in
     let t = length-append r.room.now.numbers.items (n ∷ []) in
-    same-placed part p r (back-walk p r (popped c n z a b e v f g j m zs zv)) u.here u.prepared (omega (arith, x, y, s, t, u.same)) (omega (arith, x, s, u.few))
+    same-placed part p r (back-walk p r (popped c n z a b e v f g j m zs zv ss)) u.here u.prepared (omega (arith, x, y, s, t, u.same)) (omega (arith, x, s, u.few))
     (light-front p.arriving 0 r.room.now.chosen.items c (subst (λ cs. AreLight p.arriving 0 cs) a u.light))
     (sizes-pop p.pairs.now.items part p.arriving p.row.now.items [] r.room.now.chosen.items r.room.now.sizes.items c z
     (subst (λ cs. AreSizes p.pairs.now.items part p.arriving p.row.now.items [] cs (r.room.now.sizes.items ++ z ∷ [])) a (subst (λ ns. AreSizes p.pairs.now.items part p.arriving p.row.now.items [] p.room.now.chosen.items ns) zs u.sizes))).0
+    (λ l. same-tells part p r (back-walk p r (popped c n z a b e v f g j m zs zv ss)) ss _ _
+    ((λ k. take (sym ss.level k) (a k)) ∙ take-front r.level r.room.now.chosen.items (c ∷ []) l) (u.seen (omega (arith, l, ss.level, x, s))))
 
-pub back-size : (part : PartPlan) (p r : Probe) → WentBack p r → IsUnderway part p → r.over ≡ false → r.size ≡ box_size (dims_now part r)
-back-size part p r (ended a b c d e f g h m zs) u o = absurd (let x : true ≡ false = sym e ∙ o in cc)
-back-size part p r (popped c n z a b e v f g j m zs zv) u o =
+pub back-size : (part : PartPlan) (p r : Probe) → WentBack p r → IsPlaced part p → r.over ≡ false → r.size ≡ box_size (dims_now part r)
+back-size part p r (ended a b c d e f g h m zs ss) u o = absurd (let x : true ≡ false = sym e ∙ o in cc)
+back-size part p r (popped c n z a b e v f g j m zs zv ss) u o =
     zv ∙ (sizes-pop p.pairs.now.items part p.arriving p.row.now.items [] r.room.now.chosen.items r.room.now.sizes.items c z
     (subst (λ cs. AreSizes p.pairs.now.items part p.arriving p.row.now.items [] cs (r.room.now.sizes.items ++ z ∷ [])) a (subst (λ ns. AreSizes p.pairs.now.items part p.arriving p.row.now.items [] p.room.now.chosen.items ns) zs u.sizes))).1
-    ∙ ap box_size (same-dims part p r (back-walk p r (popped c n z a b e v f g j m zs zv)) r.room.now.chosen.items)
+    ∙ ap box_size (same-dims part p r (back-walk p r (popped c n z a b e v f g j m zs zv ss)) r.room.now.chosen.items)
 
-pub back-shorter : (part : PartPlan) (p r : Probe) → WentBack p r → IsUnderway part p → r.over ≡ false → length r.room.now.chosen.items < length part.streams.items
-back-shorter part p r (ended a b c d e f g h m zs) u o = absurd (let x : true ≡ false = sym e ∙ o in cc)
-back-shorter part p r (popped c n z a b e v f g j m zs zv) u o =
+pub back-shorter : (part : PartPlan) (p r : Probe) → WentBack p r → IsPlaced part p → r.over ≡ false → length r.room.now.chosen.items < length part.streams.items
+back-shorter part p r (ended a b c d e f g h m zs ss) u o = absurd (let x : true ≡ false = sym e ∙ o in cc)
+back-shorter part p r (popped c n z a b e v f g j m zs zv ss) u o =
     let x = ap length a in
     let s = length-append r.room.now.chosen.items (c ∷ []) in
     omega (arith, x, s, u.few)
@@ -127,8 +152,11 @@ back-shorter part p r (popped c n z a b e v f g j m zs zv) u o =
 -- a probe that knows its level
 pub placed-underway : (part : PartPlan) (r : Probe) → IsPlaced part r
     → (r.over ≡ false → length r.room.now.chosen.items < length part.streams.items → r.size ≡ box_size (dims_now part r))
-    → (r.over ≡ false → length r.room.now.chosen.items < length part.streams.items → r.next < r.size → r.room.now.dims.items ≡ dims_now part r) → IsUnderway part r
-placed-underway part r h size dims = record { here = h.here; same = h.same; few = h.few; light = h.light; prepared = h.prepared; sizes = h.sizes; size = size; dims = dims }
+    → (r.over ≡ false → length r.room.now.chosen.items < length part.streams.items → r.next < r.size → r.level ≡ length r.room.now.chosen.items) → IsUnderway part r
+placed-underway part r h size level =
+    let tells : r.level ≡ length r.room.now.chosen.items → TellsOf part r r.room.now.chosen.items
+    = λ e. subst (λ cs. TellsOf part r cs) (take-whole r.level r.room.now.chosen.items e) (h.seen (omega (arith, e))) in
+    record { placed = h; size = size; dims = λ a b c. (tells (level a b c)).0; line = λ a b c. (tells (level a b c)).1; level = level }
 
 module _ (part : PartPlan) (r s : Probe) (o : HasOpened part r s) where
   opened-walk : IsSameWalk r s
@@ -141,21 +169,29 @@ module _ (part : PartPlan) (r s : Probe) (o : HasOpened part r s) where
   opened-underway h =
       let x = ap length o.chosen in
       let y = ap length o.numbers in
+      let level : s.level ≡ length s.room.now.chosen.items = o.level ∙ sym x in
       placed-underway part s
       (same-placed part r s opened-walk h.here h.prepared (omega (arith, x, y, h.same)) (omega (arith, x, h.few)) (subst (λ cs. AreLight r.arriving 0 cs) (sym o.chosen) h.light)
-      (subst (λ cs. AreSizes r.pairs.now.items part r.arriving r.row.now.items [] cs s.room.now.sizes.items) (sym o.chosen) (subst (λ ns. AreSizes r.pairs.now.items part r.arriving r.row.now.items [] r.room.now.chosen.items ns) (sym o.sizes) h.sizes)))
-      (λ a b. o.size ∙ ap box_size opened-dims) (λ a b c. o.dims ∙ opened-dims)
+      (subst (λ cs. AreSizes r.pairs.now.items part r.arriving r.row.now.items [] cs s.room.now.sizes.items) (sym o.chosen) (subst (λ ns. AreSizes r.pairs.now.items part r.arriving r.row.now.items [] r.room.now.chosen.items ns) (sym o.sizes) h.sizes))
+      (λ l. subst (λ cs. TellsOf part s cs) (sym (take-whole s.level s.room.now.chosen.items level)) (
+        o.dims ∙ opened-dims,
+        subst (λ ds. StandOn part s.arriving (length s.room.now.chosen.items) ds s.room.now.line) opened-dims
+            (subst (λ n. StandOn part n (length s.room.now.chosen.items) (dims_now part r) s.room.now.line) (sym o.arriving)
+            (subst (λ n. StandOn part r.arriving n (dims_now part r) s.room.now.line) (sym x) o.line)),
+      )))
+      (λ a b. o.size ∙ ap box_size opened-dims)
+      (λ a b c. level)
 
-  pub back-opened : (p : Probe) → WentBack p r → IsUnderway part p → r.over ≡ false → WentBack p s
-  back-opened p (ended a b c d e f g h m zs) u f-over = absurd (let x : true ≡ false = sym e ∙ f-over in cc)
-  back-opened p (popped c n z a b e v f g j m zs zv) u f-over =
-      popped c n z (a ∙ ap (λ cs. cs ++ c ∷ []) (sym o.chosen)) (b ∙ ap (λ ns. ns ++ n ∷ []) (sym o.numbers)) (o.next ∙ e) (o.over ∙ v) (o.arriving ∙ f) (o.row ∙ g) (o.pairs ∙ j) (o.prepared ∙ m)
-      (zs ∙ ap (λ ns. ns ++ z ∷ []) (sym o.sizes)) (o.size ∙ sym (back-size part p r (popped c n z a b e v f g j m zs zv) u f-over) ∙ zv)
+  pub opened-left : (sel : List Attr) (read : Reading) → left_of sel part read s ≡ left_of sel part read r
+  opened-left sel read = λ k. left (setting (o.pairs k).now.items sel part (o.arriving k) (o.row k).now.items read) (o.chosen k) (o.numbers k) (o.next k) (o.over k)
+
+  pub opened-cost : (rates : ℕ → Rates) → cost_left (rates s.arriving) (length part.streams.items) s.room.now.numbers.items s.next s.over ≡ cost_left (rates r.arriving) (length part.streams.items) r.room.now.numbers.items r.next r.over
+  opened-cost rates = λ k. cost_left (rates (o.arriving k)) (length part.streams.items) (o.numbers k) (o.next k) (o.over k)
 
 -- one level more
-pub enter-placed : (part : PartPlan) (p r : Probe) (c : Chosen) (n : ℕ) → IsSameWalk p r → IsUnderway part p → p.over ≡ false → r.room.now.chosen.items ≡ p.room.now.chosen.items ++ c ∷ [] → r.room.now.numbers.items ≡ p.room.now.numbers.items ++ n ∷ []
-    → r.room.now.sizes.items ≡ p.room.now.sizes.items ++ p.size ∷ [] → length p.room.now.chosen.items < length part.streams.items → rows_in c.cell ≤ limit p.arriving (length p.room.now.chosen.items) → IsPlaced part r
-enter-placed part p r c n walk u o a b zs l h =
+pub enter-placed : (part : PartPlan) (p r : Probe) (c : Chosen) (n z : ℕ) → IsSameWalk p r → IsSameSight p r → p.level ≢ length p.room.now.chosen.items + 1 → IsPlaced part p → z ≡ box_size (dims_now part p) → r.room.now.chosen.items ≡ p.room.now.chosen.items ++ c ∷ [] → r.room.now.numbers.items ≡ p.room.now.numbers.items ++ n ∷ []
+    → r.room.now.sizes.items ≡ p.room.now.sizes.items ++ z ∷ [] → length p.room.now.chosen.items < length part.streams.items → rows_in c.cell ≤ limit p.arriving (length p.room.now.chosen.items) → IsPlaced part r
+enter-placed part p r c n size walk sight apart u e a b zs l h =
     let x = ap length a in
     let y = ap length b in
     let s = length-append p.room.now.chosen.items (c ∷ []) in
@@ -165,16 +201,29 @@ enter-placed part p r c n walk u o a b zs l h =
     (subst (λ cs. AreLight p.arriving 0 cs) (sym a) (light-more p.arriving 0 p.room.now.chosen.items c u.light (subst (λ m. rows_in c.cell ≤ limit p.arriving m) z h)))
     (subst (λ cs. AreSizes p.pairs.now.items part p.arriving p.row.now.items [] cs r.room.now.sizes.items) (sym a)
     (subst (λ ns. AreSizes p.pairs.now.items part p.arriving p.row.now.items [] (p.room.now.chosen.items ++ c ∷ []) ns) (sym zs)
-    (sizes-push p.pairs.now.items part p.arriving p.row.now.items [] p.room.now.chosen.items p.room.now.sizes.items c p.size u.sizes (u.size o l))))
+    (sizes-push p.pairs.now.items part p.arriving p.row.now.items [] p.room.now.chosen.items p.room.now.sizes.items c size u.sizes e)))
+    (λ m. let few : p.level ≤ length p.room.now.chosen.items = level-before p.level (length p.room.now.chosen.items) apart (omega (arith, m, sight.level, x, s)) in
+    same-tells part p r walk sight _ _ (sym (take-front p.level p.room.now.chosen.items (c ∷ []) few) ∙ (λ k. take (sym sight.level k) (sym a k))) (u.seen few))
+  where
+    level-before : (m n : ℕ) → m ≢ n + 1 → m ≤ n + 1 → m ≤ n
+    level-before m n a l = grind arith
 
 -- at the start of a walk
 pub start-placed : (q : QueryValue) (part : PartPlan) (p : Probe) → p.arriving < length part.streams.items → p.room.now.chosen.items ≡ [] → p.room.now.numbers.items ≡ [] → p.room.now.sizes.items ≡ []
-    → p.pairs.now.items ≡ pairs q → IsPrepared (pairs q) part p.prepared.now → IsPlaced part p
-start-placed q part p here a b d e h = record {
+    → p.pairs.now.items ≡ pairs q → IsPrepared (pairs q) part p.prepared.now → 0 < p.level → IsPlaced part p
+start-placed q part p here a b d e h some = record {
   here = here;
   same = ap length a ∙ sym (ap length b);
   few = (let z = ap length a in omega (arith, z));
   light = subst (λ cs. AreLight p.arriving 0 cs) (sym a) tt;
   prepared = subst (λ xs. IsPrepared xs part p.prepared.now) (sym e) h;
   sizes = subst (λ cs. AreSizes p.pairs.now.items part p.arriving p.row.now.items [] cs p.room.now.sizes.items) (sym a) (subst (λ ns. AreSizes p.pairs.now.items part p.arriving p.row.now.items [] [] ns) (sym d) tt);
+  seen = (λ l. let z = ap length a in absurd (omega (arith, l, z, some)));
 }
+
+-- the arriving row's own level has no dims
+pub own-dims : (ps : List Pair) (part : PartPlan) (a : ℕ) (row : List ℤ) (known : List Chosen) → length known ≡ a → narrowed_dims ps part a row known ≡ []
+unfolding narrowed_dims dims_in
+own-dims ps part a row known e =
+    let t : (length known == a) ≡ true = grind (arith, nat_tests) in
+    ap (λ b. map (narrow a (length known) part.equal.items part.less.items (value_in ps part a row known)) (if b then [] else dims_at part (length known))) t

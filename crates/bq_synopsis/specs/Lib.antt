@@ -3,6 +3,7 @@ pub mod Preparing
 pub mod Choosing
 pub mod Walk
 pub mod Costs
+pub mod Lined
 pub mod Premises
 pub mod Remaining
 pub mod Inserting

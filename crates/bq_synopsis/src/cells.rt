@@ -88,8 +88,8 @@ fn size_of(dim: Dim) -> u32
     (dim.hi - dim.lo) as u32 + 1
 }
 
-// How far a value is above the least one of its dim.
-fn offset(dim: Dim, value: i64) -> u32
+/// How far a value is above the least one of its dim.
+pub fn offset(dim: Dim, value: i64) -> u32
     requires low { dim.lo ≤ℤ value }
     requires high { value ≤ℤ dim.hi }
     requires few { dim_size dim < 2 ^ 32 }

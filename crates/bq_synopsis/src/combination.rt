@@ -6,8 +6,8 @@ ghost use Rattle.bq_model.specs.Boxes.{dim_size, box_size, values_at, AreNumbere
 use arrayvec::ArrayVec;
 use bq_model::Dim;
 
-// How many values a dim has.
-fn dim_size(dim: Dim) -> u32
+/// How many values a dim has.
+pub fn dim_size(dim: Dim) -> u32
     requires { dim_size dim < 2 ^ 32 }
     ensures { result ≡ dim_size dim }
 {
@@ -59,27 +59,26 @@ fn remainder(n: u32, by: u32) -> u32
     n % by
 }
 
-// The least value of each dim.
-fn least_of(dims: &[Dim]) -> ArrayVec<i64, 8>
+// Puts the least value of each dim into `values`.
+fn least_into(dims: &[Dim], values: &mut ArrayVec<i64, 8>)
     requires { length dims.now ≤ 8 }
-    ensures { result.items ≡ map (λ d. d.lo) dims.now }
+    ensures { values.new.items ≡ map (λ d. d.lo) dims.now }
 {
-    let mut values: ArrayVec<i64, 8> = ArrayVec::new();
+    values.clear();
     'dims: for dim in dims {
         values.push(dim.lo);
     }
-    values
 }
 
-// The combination of values at a place, where there are so many.
-fn values_among(dims: &[Dim], combinations: u32, place: u32) -> ArrayVec<i64, 8>
+// Puts the combination of values at a place, where there are so many, into `values`.
+fn values_among(dims: &[Dim], combinations: u32, place: u32, values: &mut ArrayVec<i64, 8>)
     requires few { length dims.now ≤ 8 }
     requires sound { AreNumbered dims.now }
     requires size { combinations ≡ box_size dims.now }
     requires below { place < combinations }
-    ensures { result.items ≡ values_at dims.now place }
+    ensures { values.new.items ≡ values_at dims.now place }
 {
-    let mut values: ArrayVec<i64, 8> = ArrayVec::new();
+    values.clear();
     let mut rest = place;
     let mut size = combinations;
     'values: for dim in dims {
@@ -89,7 +88,21 @@ fn values_among(dims: &[Dim], combinations: u32, place: u32) -> ArrayVec<i64, 8>
         rest = remainder(rest, stride);
         size = stride;
     }
-    values
+}
+
+/// Puts the combination of values at a place, where there are so many, into `values`.
+pub fn values_into(dims: &[Dim], combinations: u32, place: u32, values: &mut ArrayVec<i64, 8>)
+    requires few { length dims.now ≤ 8 }
+    requires sound { AreNumbered dims.now }
+    requires size { combinations ≡ box_size dims.now }
+    requires below { place < combinations }
+    ensures { values.new.items ≡ values_at dims.now place }
+{
+    if combinations == 1 {
+        least_into(dims, values);
+        return;
+    }
+    values_among(dims, combinations, place, values);
 }
 
 /// The combination of values at a place, where there are so many.
@@ -100,9 +113,7 @@ pub fn values_of(dims: &[Dim], combinations: u32, place: u32) -> ArrayVec<i64, 8
     requires below { place < combinations }
     ensures { result.items ≡ values_at dims.now place }
 {
-    if combinations == 1 {
-        least_of(dims)
-    } else {
-        values_among(dims, combinations, place)
-    }
+    let mut values: ArrayVec<i64, 8> = ArrayVec::new();
+    values_into(dims, combinations, place, &mut values);
+    values
 }

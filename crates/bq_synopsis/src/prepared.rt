@@ -11,6 +11,7 @@ ghost use Rattle.bq_model.specs.Admission.{alone, in_range};
 ghost use Rattle.bq_synopsis.specs.Preparing.{IsPrepared, AreTests, class_of, listed, joins};
 
 use crate::admission::is_sign;
+use crate::narrow::witness;
 use crate::values::{dim_of, dims_at, is_same};
 use arrayvec::ArrayVec;
 use bq_model::{Attr, Dim, Element, Pair, PartPlan, Query, Sign};
@@ -24,10 +25,12 @@ struct Tie {
 
 /// What a part is asked of every row: for each of the first eight columns of each stream the place of the dim of the
 /// column's class, where there is one; and the numbers of the pairs whose signs do not follow from the ranges of the dims.
+/// And a hint for walks: by arriving stream and by place, whether known columns fix all dims there.
 #[derive(Drop)]
 pub struct Prepared {
     classes: ArrayVec<ArrayVec<Option<u8>, 8>, 4>,
     tests: ArrayVec<u8, 106>,
+    fixed: ArrayVec<ArrayVec<bool, 4>, 4>,
 }
 
 impl Prepared {
@@ -38,6 +41,14 @@ impl Prepared {
         match self.classes.as_slice().get(usize::from(a.stream)) {
             Some(classes) => classes.as_slice().get(usize::from(a.column)).copied(),
             None => None,
+        }
+    }
+
+    /// Whether known columns may fix all dims of a place. This is a hint, on which no answer rests.
+    pub(crate) fn may_fix(&self, arriving: u8, place: usize) -> bool {
+        match self.fixed.as_slice().get(usize::from(arriving)) {
+            Some(places) => places.as_slice().get(place).copied().unwrap_or(false),
+            None => false,
         }
     }
 
@@ -253,6 +264,39 @@ fn tests_of(pairs: &[Pair], part: &PartPlan) -> ArrayVec<u8, 106>
     tests
 }
 
+// Whether known columns fix all dims of a place.
+fn are_fixed(part: &PartPlan, arriving: u8, place: usize) -> bool {
+    'dims: for dim in dims_at(part, place) {
+        if witness(arriving, place, dim.attr, part.equal.as_slice()).is_none() {
+            return false;
+        }
+    }
+    true
+}
+
+// The same of each place.
+fn fixed_places(part: &PartPlan, arriving: u8) -> ArrayVec<bool, 4> {
+    let mut places: ArrayVec<bool, 4> = ArrayVec::new();
+    let streams = part.streams.as_slice().len();
+    'places: for place in 0..streams {
+        places.push(are_fixed(part, arriving, place));
+    }
+    places
+}
+
+// The same for each arriving stream. Of one stream alone none is asked: there is nothing to walk.
+fn all_fixed(part: &PartPlan) -> ArrayVec<ArrayVec<bool, 4>, 4> {
+    let mut all: ArrayVec<ArrayVec<bool, 4>, 4> = ArrayVec::new();
+    let streams = part.streams.as_slice().len() as u8;
+    if streams == 1 {
+        return all;
+    }
+    'streams: for arriving in 0..streams {
+        all.push(fixed_places(part, arriving));
+    }
+    all
+}
+
 /// What a part is asked of every row.
 pub fn prepare(q: &Query, part: &PartPlan) -> Prepared
     ensures { IsPrepared (pairs q.now) part.now result }
@@ -261,5 +305,6 @@ pub fn prepare(q: &Query, part: &PartPlan) -> Prepared
     Prepared {
         classes: all_classes(pairs, part),
         tests: tests_of(pairs, part),
+        fixed: all_fixed(part),
     }
 }

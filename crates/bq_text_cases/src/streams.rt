@@ -8,6 +8,7 @@ ghost use Rattle.bq_parser.specs.Resolution.{IsTaken};
 use crate::fault::Fault;
 use crate::texts::show_refused;
 use bq_io::{Sink, write_all};
+use bq_model::Row;
 use bq_parser::{LineKind, SelectAst, Statement, classify, parse, print_query, resolve};
 use bq_schema::Catalog;
 use bq_text::Name;
@@ -93,11 +94,9 @@ fn show_read<O: Sink>(
 ) -> Result<(), Fault>
     requires { IsTrue (is_row_line line.now) }
 {
-    match catalog.read_row(line) {
-        Ok(row) => {
-            let (stream, values) = row;
-            show_values(alloc, stream, values.as_slice(), out)
-        }
+    let mut row = Row::new();
+    match catalog.read_row(line, &mut row) {
+        Ok(stream) => show_values(alloc, stream, row.as_slice(), out),
         Err(error) => {
             let text = format!(in alloc; "{error:?}")?;
             write_all(out, text.as_bytes())?;

@@ -1,22 +1,23 @@
-use Rattle.std.proofs.Common.{sym, subst, length, ◌==◌, ◌≡◌, false}
-use Rattle.std.specs.List.{list_any}
-use Rattle.bq_model.specs.Numbers.{parts_of}
+use Rattle.std.proofs.Common.{◌∙◌, sym}
 use Rattle.bq_executor.specs.Executor.{arrival}
-use Rattle.bq_executor.specs.Arriving.{HasTaken, IsPlanReady, AreReady}
+use Rattle.bq_executor.specs.Gate.{IsRefused}
 use Rattle.bq_executor.proofs.InPart.{none_added}
-use Rattle.bq_executor.proofs.Named.{taken_outside, answered_nothing}
+use Rattle.bq_executor.proofs.GateLaws.{refused_answers, refused_taken}
 use Rattle.bq_executor.proofs.arrive.arrive.Goals as goal
 
-pub returns-in-None-clause-table : goal.returns-in-None-clause-table
-returns-in-None-clause-table g c =
-    let none : list_any (λ s. c.args.stream == s) c.args.q.now.from ≡ false = subst (λ xs. list_any (λ s. c.args.stream == s) xs ≡ false) c.from.ensures.value c.in-None.ensures in
-    none_added c.args.q.now.distinct _ c.args.table.now
-    (answered_nothing c.args.q.now c.args.plan.now c.in-Parts.parts c.in-Parts.numbers _ (arrival c.args.stream c.args.row.now.items) c.in-Parts.is none)
-
-pub returns-in-None-clause-pool : goal.returns-in-None-clause-pool
-returns-in-None-clause-pool g c =
+pub returns-then-not-passes-clause-table : goal.returns-then-not-passes-clause-table
+returns-then-not-passes-clause-table g c =
     let r = arrival c.args.stream c.args.row.now.items in
-    let none : list_any (λ s. c.args.stream == s) c.args.q.now.from ≡ false = subst (λ xs. list_any (λ s. c.args.stream == s) xs ≡ false) c.from.ensures.value c.in-None.ensures in
-    let ready : AreReady c.args.q.now c.in-Parts.parts c.args.pool.now c.args.e.now = subst (λ p. IsPlanReady c.args.q.now p c.args.pool.now c.args.e.now) c.in-Parts.is c.requires.ready in
-    subst (λ p. HasTaken c.args.q.now (parts_of p) c.args.e.now r (length (parts_of p)) c.args.pool.now c.args.pool.now) (sym c.in-Parts.is)
-    (taken_outside c.args.q.now c.in-Parts.parts ready.limits ready.plan c.args.e.now r (length c.in-Parts.parts) c.args.pool.now ready.live none)
+    let refused : IsRefused c.args.q.now c.args.plan.now r = c.requires.gate r (sym c.passes.ensures ∙ c.if-not-passes.true) in
+    none_added c.args.q.now.distinct _ c.args.table.now (refused_answers c.args.q.now c.args.plan.now c.args.pool.now c.args.e.now c.requires.ready _ r refused)
+
+pub returns-then-not-passes-clause-pool : goal.returns-then-not-passes-clause-pool
+returns-then-not-passes-clause-pool g c =
+    let r = arrival c.args.stream c.args.row.now.items in
+    refused_taken c.args.q.now c.args.plan.now c.args.pool.now c.args.e.now c.requires.ready r
+    (c.requires.gate r (sym c.passes.ensures ∙ c.if-not-passes.true))
+
+pub returns-then-not-passes-clause-none : goal.returns-then-not-passes-clause-none
+returns-then-not-passes-clause-none g c = λ refused.
+    let r = arrival c.args.stream c.args.row.now.items in
+    refused_answers c.args.q.now c.args.plan.now c.args.pool.now c.args.e.now c.requires.ready _ r (c.requires.gate r (sym c.passes.ensures ∙ c.if-not-passes.true))

@@ -1,34 +1,29 @@
-use Rattle.std.proofs.Common.{◌<◌, sym, subst, length}
+use Rattle.std.proofs.Common.{◌<◌, subst, length}
 use Rattle.bq_model.specs.Combinations.{read_from}
 use Rattle.bq_pool.specs.Extents.{cells_of}
 use Rattle.bq_executor.specs.Taking.{HaveRoom}
-use Rattle.bq_executor.proofs.InPart.{found_admitted, found_refused, own_room, none_added, all_added}
+use Rattle.bq_executor.proofs.InPart.{found_admitted, own_room, all_added}
 use Rattle.bq_executor.proofs.part.take_row.Goals as goal
-
-pub returns-then-not-admits-clause-table : goal.returns-then-not-admits-clause-table
-returns-then-not-admits-clause-table g c =
-    none_added c.args.q.now.distinct _ c.args.table.now
-    (found_refused c.args.q.now c.args.part.now c.from-streams.ensures.limits c.requires.ready.held.walked.plan c.args.pos c.requires.here c.args.row.now.items (read_from (cells_of c.args.pool.now c.args.e.now)) (sym c.if-not-admits.ensures))
 
 pub answer-requires-clause-room : goal.answer-requires-clause-room
 answer-requires-clause-room g c =
     subst (λ fs. HaveRoom c.args.q.now.distinct fs c.args.table.now)
-    (found_admitted c.args.q.now c.args.part.now c.from-streams.ensures.limits c.requires.ready.held.walked.plan c.args.pos c.requires.here c.args.row.now.items (read_from (cells_of c.args.pool.now c.args.e.now)) (sym c.if-not-admits.ensures))
+    (found_admitted c.args.q.now c.args.part.now c.from-streams.ensures.limits c.requires.ready.held.walked.plan c.args.pos c.requires.here c.args.row.now.items (read_from (cells_of c.args.pool.now c.args.e.now)) c.requires.admitted)
     c.requires.room
 
 pub insert-requires-clause-room : goal.insert-requires-clause-room
 insert-requires-clause-room g c =
     own_room c.args.q.now c.args.part.now c.from-streams.ensures.limits c.requires.ready.held.walked.plan c.args.pos c.requires.here c.args.row.now.items
-    (cells_of c.args.pool.now c.args.e.now) c.requires.counts (subst (λ xs. 1 < length xs) c.from-streams.ensures.value c.if-streams-gt1.true) (sym c.if-not-admits.ensures)
+    (cells_of c.args.pool.now c.args.e.now) c.requires.counts (subst (λ xs. 1 < length xs) c.from-streams.ensures.value c.if-streams-gt1.true) c.requires.admitted
 
 pub returns-then-streams-gt1-clause-table : goal.returns-then-streams-gt1-clause-table
 returns-then-streams-gt1-clause-table g c =
     all_added c.args.q.now.distinct _ _ c.args.table.now c.answer.new.table
-    (found_admitted c.args.q.now c.args.part.now c.from-streams.ensures.limits c.requires.ready.held.walked.plan c.args.pos c.requires.here c.args.row.now.items (read_from (cells_of c.args.pool.now c.args.e.now)) (sym c.if-not-admits.ensures))
+    (found_admitted c.args.q.now c.args.part.now c.from-streams.ensures.limits c.requires.ready.held.walked.plan c.args.pos c.requires.here c.args.row.now.items (read_from (cells_of c.args.pool.now c.args.e.now)) c.requires.admitted)
     c.answer.ensures.table
 
 pub returns-else-streams-gt1-clause-table : goal.returns-else-streams-gt1-clause-table
 returns-else-streams-gt1-clause-table g c =
     all_added c.args.q.now.distinct _ _ c.args.table.now c.answer.new.table
-    (found_admitted c.args.q.now c.args.part.now c.from-streams.ensures.limits c.requires.ready.held.walked.plan c.args.pos c.requires.here c.args.row.now.items (read_from (cells_of c.args.pool.now c.args.e.now)) (sym c.if-not-admits.ensures))
+    (found_admitted c.args.q.now c.args.part.now c.from-streams.ensures.limits c.requires.ready.held.walked.plan c.args.pos c.requires.here c.args.row.now.items (read_from (cells_of c.args.pool.now c.args.e.now)) c.requires.admitted)
     c.answer.ensures.table

@@ -1,21 +1,33 @@
-use Rattle.std.proofs.Common.{◌≡◌, suc, ◌+◌, ◌<◌, List, ap, sym, length, take, subst, arith}
+use Rattle.std.proofs.Common.{◌≡◌, suc, ◌+◌, ◌<◌, inl, inr, List, sym, length, take, subst, arith}
 use Rattle.std.specs.List.{flat_map}
-use Rattle.std.proofs.lemmas.List.{take_all}
+use Rattle.bq_io.specs.Sink.{Wrote}
 use Rattle.bq_io.proofs.Writing.{Wrote-nil}
 use Rattle.bq_registry.specs.Live.{Live, live_of}
 use Rattle.bq_registry.specs.Registry.{waiting_text}
 use Rattle.bq_registry.specs.Written.{WroteFirst, WritesNext, WritesSo}
-use Rattle.bq_registry.proofs.Entries.{length_live}
+use Rattle.bq_registry.proofs.Quiet.{wrote_skip, wrote_rest, text_none, text_all}
 use Rattle.bq_registry.proofs.InWriting.{wrote_none, wrote_more, writes_more, writes_all}
 use Rattle.bq_registry.proofs.writing.write_all.Goals as goal
 
 pub loop-place-init : goal.loop-place-init
-loop-place-init g c = record { wrote = wrote_none (live_of c.args.live.now.entries); written = Wrote-nil (g.O.Sink.seen c.args.out.now) }
+loop-place-init g c =
+    let before : List Live = live_of c.args.live.now.entries in
+    record {
+      wrote = wrote_skip 0 c.args.waiting.from before before (wrote_none before) (λ i l a b d. c.requires.quiet i l d d (inl b)) (omega arith);
+      written = subst (λ t. Wrote (g.O.Sink.seen c.args.out.now) (g.O.Sink.seen c.args.out.now) t) (sym (text_none c.args.waiting.from before (λ i l a b. c.requires.quiet i l b b (inl a))))
+          (Wrote-nil (g.O.Sink.seen c.args.out.now));
+    }
+
+pub write_at-written-requires : goal.write_at-written-requires
+write_at-written-requires g c =
+    let to = c.requires.to in
+    let size = c.loop-place.invariant.wrote.size in
+    omega (arith, to, size)
 
 pub loop-place-preserved : goal.loop-place-preserved
 loop-place-preserved g c =
     let before : List Live = live_of c.args.live.now.entries in
-    let within : c.loop-place.place < length before = omega (arith, length_live c.args.live.now.entries) in
+    let within : c.loop-place.place < length before = (let to = c.requires.to in omega (arith, to)) in
     let w = c.write_at-written.ensures.wrote in
     let d : Live = w.live in
     let next : suc c.loop-place.place ≡ c.loop-place.place + 1 = omega arith in
@@ -32,11 +44,9 @@ loop-place-preserved g c =
 pub returns-clause-written : goal.returns-clause-written
 returns-clause-written g c =
     let before : List Live = live_of c.args.live.now.entries in
-    let past : length before ≡ c.loop-place.place = omega (arith, length_live c.args.live.now.entries) in
-    writes_all c.loop-place.written _ _ _ _ (ap (flat_map waiting_text) (take_all c.loop-place.place before (omega (arith, past)))) c.loop-place.invariant.written
+    writes_all c.loop-place.written _ _ _ _ (text_all c.loop-place.place before (λ i l a b. c.requires.quiet i l b b (inr (omega (arith, a))))) c.loop-place.invariant.written
 
 pub returns-clause-wrote : goal.returns-clause-wrote
 returns-clause-wrote g c =
     let before : List Live = live_of c.args.live.now.entries in
-    let all : c.loop-place.place ≡ length before = omega (arith, length_live c.args.live.now.entries) in
-    subst (λ n. WroteFirst n before (live_of c.loop-place.live.entries)) all c.loop-place.invariant.wrote
+    wrote_rest c.loop-place.place before (live_of c.loop-place.live.entries) c.loop-place.invariant.wrote (λ i l a b. c.requires.quiet i l b b (inr (omega (arith, a))))

@@ -18,28 +18,28 @@ some_left n h = grind (arith, nat_tests)
 
 pub returns-then-is_empty-clause-value : goal.returns-then-is_empty-clause-value
 returns-then-is_empty-clause-value c =
-    let rest : c.trim_start-2.result.now ≡ behind_integer c.args.text.now =
-    c.trim_start-2.ensures ∙ ap without_blanks_before (c.leading_i64-value.ensures.behind ∙ ap (λ (t : List ℕ). drop (integer_len t) t) c.trim_start.ensures) in
-    let parts : slice_split is_comma (behind_integer c.args.text.now) ≡ c.cut.result.0.now ∷ parts_behind 44 c.cut.result.1 = ap (slice_split is_comma) (sym rest) ∙ c.cut.ensures.parts in
-    let empty : c.cut.result.0.now ≡ [] = nil_from_length _ (none_left _ (sym c.is_empty.ensures ∙ c.if-is_empty.true)) in
+    let rest : without_blanks_before c.leading_i64-value.result.1.now ≡ behind_integer c.args.text.now =
+    ap without_blanks_before (c.leading_i64-value.ensures.behind ∙ ap (λ (t : List ℕ). drop (integer_len t) t) c.trim_start.ensures) in
+    let parts : slice_split is_comma (behind_integer c.args.text.now) ≡ c.cut_behind.result.0.now ∷ parts_behind 44 c.cut_behind.result.1 = ap (slice_split is_comma) (sym rest) ∙ c.cut_behind.ensures.parts in
+    let empty : c.cut_behind.result.0.now ≡ [] = nil_from_length _ (none_left _ (sym c.is_empty.ensures ∙ c.if-is_empty.true)) in
     c.leading_i64-value.ensures.value
     ∙ ap (λ (t : List ℕ). value_of (take (integer_len t) t)) c.trim_start.ensures
-    ∙ field_value c.args.text.now c.cut.result.0.now (parts_behind 44 c.cut.result.1) parts empty
+    ∙ field_value c.args.text.now c.cut_behind.result.0.now (parts_behind 44 c.cut_behind.result.1) parts empty
 
 pub returns-then-is_empty-clause-parts : goal.returns-then-is_empty-clause-parts
 returns-then-is_empty-clause-parts c =
-    let rest : c.trim_start-2.result.now ≡ behind_integer c.args.text.now =
-    c.trim_start-2.ensures ∙ ap without_blanks_before (c.leading_i64-value.ensures.behind ∙ ap (λ (t : List ℕ). drop (integer_len t) t) c.trim_start.ensures) in
-    field_parts c.args.text.now c.cut.result.0.now (parts_behind 44 c.cut.result.1) (ap (slice_split is_comma) (sym rest) ∙ c.cut.ensures.parts)
+    let rest : without_blanks_before c.leading_i64-value.result.1.now ≡ behind_integer c.args.text.now =
+    ap without_blanks_before (c.leading_i64-value.ensures.behind ∙ ap (λ (t : List ℕ). drop (integer_len t) t) c.trim_start.ensures) in
+    field_parts c.args.text.now c.cut_behind.result.0.now (parts_behind 44 c.cut_behind.result.1) (ap (slice_split is_comma) (sym rest) ∙ c.cut_behind.ensures.parts)
 
 pub returns-else-is_empty-clause-value : goal.returns-else-is_empty-clause-value
 returns-else-is_empty-clause-value c =
-    let rest : c.trim_start-2.result.now ≡ behind_integer c.args.text.now =
-    c.trim_start-2.ensures ∙ ap without_blanks_before (c.leading_i64-value.ensures.behind ∙ ap (λ (t : List ℕ). drop (integer_len t) t) c.trim_start.ensures) in
-    sym (field_no_value c.args.text.now c.cut.result.0.now (parts_behind 44 c.cut.result.1) (ap (slice_split is_comma) (sym rest) ∙ c.cut.ensures.parts) (some_left _ (sym c.is_empty.ensures ∙ c.if-is_empty.false)))
+    let rest : without_blanks_before c.leading_i64-value.result.1.now ≡ behind_integer c.args.text.now =
+    ap without_blanks_before (c.leading_i64-value.ensures.behind ∙ ap (λ (t : List ℕ). drop (integer_len t) t) c.trim_start.ensures) in
+    sym (field_no_value c.args.text.now c.cut_behind.result.0.now (parts_behind 44 c.cut_behind.result.1) (ap (slice_split is_comma) (sym rest) ∙ c.cut_behind.ensures.parts) (some_left _ (sym c.is_empty.ensures ∙ c.if-is_empty.false)))
 
 pub returns-else-is_empty-clause-parts : goal.returns-else-is_empty-clause-parts
 returns-else-is_empty-clause-parts c =
-    let rest : c.trim_start-2.result.now ≡ behind_integer c.args.text.now =
-    c.trim_start-2.ensures ∙ ap without_blanks_before (c.leading_i64-value.ensures.behind ∙ ap (λ (t : List ℕ). drop (integer_len t) t) c.trim_start.ensures) in
-    field_parts c.args.text.now c.cut.result.0.now (parts_behind 44 c.cut.result.1) (ap (slice_split is_comma) (sym rest) ∙ c.cut.ensures.parts)
+    let rest : without_blanks_before c.leading_i64-value.result.1.now ≡ behind_integer c.args.text.now =
+    ap without_blanks_before (c.leading_i64-value.ensures.behind ∙ ap (λ (t : List ℕ). drop (integer_len t) t) c.trim_start.ensures) in
+    field_parts c.args.text.now c.cut_behind.result.0.now (parts_behind 44 c.cut_behind.result.1) (ap (slice_split is_comma) (sym rest) ∙ c.cut_behind.ensures.parts)

@@ -2,20 +2,20 @@ use Rattle.std.proofs.Common.{◌≡◌, length, refl, ap, ◌∙◌}
 use Rattle.std.specs.Option.{unwrap_or}
 use Rattle.std.proofs.lemmas.List.{nil_from_length}
 use Rattle.bq_synopsis.specs.Remaining.{ended, popped}
-use Rattle.bq_synopsis.proofs.BackLaws.{last-there, last-some, none-left, none-more}
+use Rattle.bq_synopsis.proofs.BackLaws.{last-of, last-some, none-left, none-more}
 use Rattle.bq_synopsis.proofs.probe.Probe.back.Goals as goal
 
 pub returns-in-Some : goal.returns-in-Some
 returns-in-Some c =
-    let last = last-there c.args.self.now.room.now.chosen.items c.pop.new.self.items c.args.self.now.room.now.numbers.items c.pop-2.new.self.items c.pop.result c.in-Some.n c.requires.numbers c.in-Some.ensures.items c.pop.ensures.items c.pop.ensures.rest in
-    let size = last-some c.args.self.now.room.now.sizes.items c.pop-size.new.self.items c.args.self.now.room.now.numbers.items c.pop-2.new.self.items c.pop-size.result c.in-Some.n c.requires.sizes c.in-Some.ensures.items c.pop-size.ensures.items c.pop-size.ensures.rest in
-    popped last.0 c.in-Some.n size.0 last.1 c.in-Some.ensures.items refl refl refl refl refl refl size.1 (c.unwrap_or-self.ensures ∙ ap (λ o. unwrap_or o 0) size.2)
+    let last = last-of c.args.self.now.room.now.chosen.items c.drop_last.new.self.items c.args.self.now.room.now.numbers.items c.pop.new.self.items c.in-Some.n c.requires.numbers c.in-Some.ensures.items c.drop_last.ensures in
+    let size = last-some c.args.self.now.room.now.sizes.items c.pop-size.new.self.items c.args.self.now.room.now.numbers.items c.pop.new.self.items c.pop-size.result c.in-Some.n c.requires.sizes c.in-Some.ensures.items c.pop-size.ensures.items c.pop-size.ensures.rest in
+    popped last.0 c.in-Some.n size.0 last.1 c.in-Some.ensures.items refl refl refl refl refl refl size.1 (c.unwrap_or-self.ensures ∙ ap (λ o. unwrap_or o 0) size.2) (record { dims = refl; line = refl; level = refl })
 
 pub returns-in-None : goal.returns-in-None
 returns-in-None c =
-    let none = none-left c.args.self.now.room.now.numbers.items c.pop-2.new.self.items c.in-None.ensures.items c.pop-2.ensures.rest in
+    let none = none-left c.args.self.now.room.now.numbers.items c.pop.new.self.items c.in-None.ensures.items c.pop.ensures.rest in
     let empty : length c.args.self.now.room.now.chosen.items ≡ 0 = c.requires.numbers ∙ ap length none in
     let bare : length c.args.self.now.room.now.sizes.items ≡ 0 = c.requires.sizes ∙ ap length none in
-    ended (nil_from_length _ empty) none (none-more c.args.self.now.room.now.chosen.items c.pop.new.self.items empty c.pop.ensures.rest)
-    (none-more c.args.self.now.room.now.numbers.items c.pop-2.new.self.items (ap length none) c.pop-2.ensures.rest) refl refl refl refl refl
-    (none-more c.args.self.now.room.now.sizes.items c.pop-size.new.self.items bare c.pop-size.ensures.rest)
+    ended (nil_from_length _ empty) none (none-more c.args.self.now.room.now.chosen.items c.drop_last.new.self.items empty c.drop_last.ensures)
+    (none-more c.args.self.now.room.now.numbers.items c.pop.new.self.items (ap length none) c.pop.ensures.rest) refl refl refl refl refl
+    (none-more c.args.self.now.room.now.sizes.items c.pop-size.new.self.items bare c.pop-size.ensures.rest) (record { dims = refl; line = refl; level = refl })

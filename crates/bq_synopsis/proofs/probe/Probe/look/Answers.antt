@@ -1,5 +1,6 @@
-use Rattle.std.proofs.Common.{◌≡◌, ◌∙◌, ap, refl}
+use Rattle.std.proofs.Common.{◌≡◌, ◌∙◌, ap, refl, subst, length}
 use Rattle.bq_model.specs.Boxes.{box_size}
+use Rattle.bq_synopsis.specs.Lined.{StandOn}
 use Rattle.bq_synopsis.specs.Walk.{narrowed_dims}
 use Rattle.bq_synopsis.proofs.probe.Probe.look.Goals as goal
 
@@ -9,9 +10,11 @@ returns c =
     record {
       dims = c.look-self.ensures.dims ∙ same;
       size = c.look-self.ensures.size ∙ ap box_size same;
+      line = subst (λ ds. StandOn c.args.part.now c.args.self.now.arriving (length c.args.self.now.room.now.chosen.items) ds c.look-self.new.self.line) same c.look-self.ensures.line;
       chosen = ap (λ x. x.items) c.look-self.ensures.chosen;
       numbers = ap (λ x. x.items) c.look-self.ensures.numbers;
       sizes = ap (λ x. x.items) c.look-self.ensures.sizes;
+      level = c.len-self.ensures.value;
       next = refl;
       over = refl;
       arriving = refl;

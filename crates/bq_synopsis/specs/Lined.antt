@@ -1,0 +1,47 @@
+-- Cells that stand equally far apart.
+use Rattle.std.specs.Prelude.{◌≡◌, ◌≢◌, ℕ, ◌+◌, ◌*◌, ◌<◌, ◌≤◌, ◌≤ℤ◌, map, List, slice_index_or, Option, IfSome}
+use Rattle.bq_model.specs.Boxes.{dim_size, box_size, place_of, values_at}
+use Rattle.bq_model.specs.declared.cell.Cell.{Cell}
+use Rattle.bq_model.specs.declared.cell.Cell.TheVariants.{Empty}
+use Rattle.bq_model.specs.declared.plan.Dim.{Dim}
+use Rattle.bq_model.specs.declared.plan.PartPlan.{PartPlan}
+use Rattle.bq_model.specs.Plan.{stream_at, dims_at}
+use Rattle.bq_synopsis.specs.declared.lines.Line.{Line}
+use Rattle.bq_synopsis.specs.declared.lines.Filled.{Filled}
+
+-- the cell at a place of a line
+abbrev pub at_line : List Cell → Line → ℕ → Cell
+at_line cells line i = slice_index_or cells (line.first + i * line.stride) Empty
+
+-- in a box whose first cell has this number, the cells for the combinations of these values stand on the line
+abbrev pub IsLine : ℕ → List Dim → List Dim → Line → Type 0
+IsLine base full dims line = (i : ℕ) → i < box_size dims → base + place_of full (values_at dims i) ≡ line.first + i * line.stride
+
+-- the cells for these values at a place of FROM stand on a line, where there is one; the arriving row has none
+abbrev pub StandOn : PartPlan → ℕ → ℕ → List Dim → Option Line → Type 0
+StandOn part arriving place dims line = IfSome line (λ l. (place ≢ arriving) × IsLine (stream_at part place).base (dims_at part place) dims l)
+
+-- the cells of a line from one place up to another are empty
+abbrev pub AllEmpty : List Cell → Line → ℕ → ℕ → Type 0
+AllEmpty cells line from to = (i : ℕ) → from ≤ i → i < to → at_line cells line i ≡ Empty
+
+-- the first cell of a line from a place on that is not empty, among so many
+pub record IsFilled (cells : List Cell) (line : Line) (from size : ℕ) (filled : Filled) : Type 0 where
+  pub after : from ≤ filled.next
+  pub below : filled.next < size
+  pub before : AllEmpty cells line from filled.next
+  pub cell : at_line cells line filled.next ≡ filled.cell
+  pub some : filled.cell ≡ Empty → ⊥
+
+-- a dim with the one value that is left of another one
+pub record IsFixed (whole narrowed fixed : Dim) : Type 0 where
+  pub is : fixed ≡ narrowed
+  pub one : dim_size fixed ≡ 1
+  pub low : whole.lo ≤ℤ fixed.lo
+  pub high : fixed.lo ≤ℤ whole.hi
+
+-- the narrowed dims of a place, one value of each, and the number of the cell for them
+pub record AreFixed (part : PartPlan) (place : ℕ) (narrowed fixed : List Dim) (first : ℕ) : Type 0 where
+  pub are : fixed ≡ narrowed
+  pub one : box_size fixed ≡ 1
+  pub cell : (stream_at part place).base + place_of (dims_at part place) (map (λ d. d.lo) fixed) ≡ first
