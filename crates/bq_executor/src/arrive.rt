@@ -10,10 +10,9 @@ ghost use Rattle.bq_executor.specs.Executor.{arrival};
 ghost use Rattle.bq_executor.specs.Taking.{with_all, HaveRoom};
 ghost use Rattle.bq_executor.specs.Arriving.{answered_by, HasTaken, IsPlanReady};
 ghost use Rattle.bq_executor.specs.Prepared.{IsPreparedPlan};
-ghost use Rattle.bq_executor.specs.Gate.{IsGate};
+ghost use Rattle.bq_executor.specs.Gate.{IsRefused};
 
 use crate::alone::answer_alone;
-use crate::gate::Gate;
 use crate::parts::take_in_all;
 use crate::prepared::PreparedPlan;
 use bq_answers::Answers;
@@ -80,10 +79,10 @@ fn take_by_plan<L: Ledger>(
 }
 
 /// Takes a row by the plan of a query: what it answers comes to wait in the table, and the cells take the row. A filter has
-/// no cells, and a row of a stream outside FROM, or one that does not pass the gate, does nothing. Where it says no, nothing was
+/// no cells, and a row of a stream outside FROM, or one that did not pass the gate, does nothing. Where it says no, nothing was
 /// answered.
 pub fn arrive<L: Ledger>(
-    gate: &Gate,
+    passes: bool,
     pool: &mut Pool,
     e: &Extent,
     q: &Query,
@@ -96,7 +95,7 @@ pub fn arrive<L: Ledger>(
     table: &mut Answers,
     steps: &mut Steps<L>,
 ) -> bool
-    requires gate { IsGate q.now plan.now gate.now }
+    requires gate { passes ≡ false → IsRefused q.now plan.now (arrival stream row.now.items) }
     requires ready { IsPlanReady q.now plan.now pool.old e.now }
     requires prepared { IsPreparedPlan q.now (parts_of plan.now) prepared.old }
     requires room { HaveRoom q.now.distinct (answered_by q.now plan.now (read_from (cells_of pool.old e.now)) (arrival stream row.now.items)) table.old }
@@ -108,7 +107,7 @@ pub fn arrive<L: Ledger>(
     ensures alone { plan.now ≡ plans.Filter → steps.new ≡ steps.old }
     ensures outside { list_any (λ s. stream == s) q.now.from ≡ false → steps.new ≡ steps.old }
 {
-    if !gate.passes(stream, row) {
+    if !passes {
         return false;
     }
     take_by_plan(

@@ -157,8 +157,9 @@ impl Executor {
         let _ascends = self.table.len();
         self.given += 1;
         clear(self.query.distinct(), &mut self.table);
+        let passes = self.gate.passes(stream, row);
         arrive(
-            &self.gate,
+            passes,
             pool,
             &self.extent,
             &self.query,

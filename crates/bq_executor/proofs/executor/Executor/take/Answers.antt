@@ -9,6 +9,9 @@ use Rattle.bq_executor.proofs.Rows.{ready_row, room_clear, table_later, sound_la
 use Rattle.bq_executor.proofs.ClearedNone.{quiet-later}
 use Rattle.bq_executor.proofs.executor.Executor.take.Goals as goal
 
+pub arrive-requires-clause-gate : goal.arrive-requires-clause-gate
+arrive-requires-clause-gate g c = λ no. c.self.invariant.2 (arrival c.args.stream c.args.row.now.items) (sym c.passes-passes.ensures ∙ no)
+
 pub arrive-requires-clause-ready : goal.arrive-requires-clause-ready
 arrive-requires-clause-ready g c =
     let e : ExecutorValue = record { query = c.self.inside.query; plan = c.self.inside.plan; extent = c.self.inside.extent; given = c.self.inside.given; table = c.self.inside.table } in
