@@ -118,7 +118,7 @@ module _ (q : QueryValue) (part : PartPlan) (read : Reading) (r : Arrival) (fitt
       subst (λ (g : Found). 0 < g.count) m.2
       (positive_all 0 q.from (omega arith) m.0 (Has-filter_from (λ chosen. linked part (chosen_values chosen)) (product (choices q part read r 0 q.from)) m.0 m.1))
 
-has-replicate : (n : ℕ) (t : List ℤ) → 0 < n → Has (replicate n t) t
+pub has-replicate : (n : ℕ) (t : List ℤ) → 0 < n → Has (replicate n t) t
 has-replicate zero t l = absurd (omega (arith, l))
 has-replicate (suc n) t l = first
 

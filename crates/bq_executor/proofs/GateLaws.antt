@@ -1,6 +1,6 @@
 -- What a gate says of a row that does not pass it.
-use Rattle.std.proofs.Common.{◌≡◌, ◌≢◌, ℕ, zero, suc, ◌+◌, ◌<◌, ◌==◌, ◌&&◌, ◌||◌, cond, Bool, true, false, ℤ, List, [], ◌∷◌, ◌++◌, map, length, get_or, refl, sym, ap, ◌∙◌, subst, arith, nat_lt, inl, inr, slice_get, Option, Some, None}
-use Rattle.std.specs.List.{flat_map, list_all, list_any}
+use Rattle.std.proofs.Common.{◌≡◌, ◌≢◌, ℕ, zero, suc, ◌+◌, ◌<◌, ◌==◌, ◌&&◌, ◌||◌, cond, Bool, true, false, ℤ, List, [], ◌∷◌, ◌++◌, map, length, get_or, refl, sym, ap, ◌∙◌, subst, arith, nat_lt, inl, inr, slice_get, Option, Some}
+use Rattle.std.specs.List.{flat_map, list_any}
 use Rattle.std.specs.Option.{option_to_list}
 use Rattle.std.proofs.lemmas.Bool.Decides.{nat_tests}
 use Rattle.std.proofs.lemmas.Option.{slice_get-get_or, slice_get_within, get_or_from_slice_get}
@@ -9,8 +9,7 @@ use Rattle.bq_model.specs.declared.plan.Numbers.{Numbers}
 use Rattle.bq_model.specs.declared.plan.Plan.{Plan}
 use Rattle.bq_model.specs.declared.plan.Plan.TheVariants as plan
 use Rattle.bq_model.specs.Query.{QueryValue, IsWithinLimits}
-use Rattle.bq_model.specs.Assignment.{meets, holds}
-use Rattle.bq_model.specs.Meaning.{Arrival, by_column, assignment_of}
+use Rattle.bq_model.specs.Meaning.{Arrival, by_column}
 use Rattle.bq_model.specs.Plan.{IsPlan, stream_at}
 use Rattle.bq_model.specs.Numbers.{parts_of}
 use Rattle.bq_model.specs.Admission.{admits}
@@ -23,7 +22,8 @@ use Rattle.bq_synopsis.proofs.PrepareLaws.{pushed-get, pushed-length}
 use Rattle.bq_pool.specs.declared.pool.Extent.{Extent}
 use Rattle.bq_pool.specs.Extents.{PoolValue, cells_of}
 use Rattle.bq_executor.specs.declared.gate.Entrance.{Entrance}
-use Rattle.bq_executor.specs.Gate.{is_within, comes_in, IsRefused, IsGate, Passes, AreEntrances}
+use Rattle.bq_executor.specs.declared.gate.Gate.{Gate}
+use Rattle.bq_executor.specs.Gate.{lets_in, comes_in, IsRefused, IsGate, Passes, AreEntrances}
 use Rattle.bq_executor.specs.Arriving.{lies, IsInserted, HasTaken, IsPlanReady, answered_by}
 use Rattle.bq_executor.proofs.InPart.{found_refused}
 use Rattle.bq_executor.proofs.Inserting.{part_plan}
@@ -43,29 +43,13 @@ either_order false false = refl
 same_number : (n : ℕ) → (n == n) ≡ true
 same_number n = grind (arith, nat_tests)
 
-unanswered : (b : Bool) (t : List ℤ) → b ≡ false → cond b (Some t) None ≡ None
-unanswered b t e = ap (λ c. cond c (Some t) None) e
-
-comes_first : (r : Arrival) (e : Entrance) (es : List Entrance) → e.stream ≡ r.stream → comes_in r (e ∷ es) ≡ list_all (is_within (by_column r.values)) e.ranges.items
+comes_first : (r : Arrival) (e : Entrance) (es : List Entrance) → e.stream ≡ r.stream → comes_in r (e ∷ es) ≡ lets_in e (by_column r.values)
 comes_first r e es k =
-    ap (λ b. cond b (list_all (is_within (by_column r.values)) e.ranges.items) (comes_in r es)) (ap (λ s. s == r.stream) k ∙ same_number r.stream)
-
--- a stream that a filter is over, and its ranges
-pub alone_gate : (q : QueryValue) (e : Entrance) (before items : List Entrance) → before ≡ [] → items ≡ before ++ e ∷ [] → e.stream ≡ get_or q.from 0 0
-    → ((values : List ℤ) → list_all (meets (assignment_of (values ∷ []))) q.atoms ≡ true → list_all (is_within (by_column values)) e.ranges.items ≡ true)
-    → IsGate q plan.Filter (record { entrances = record { items = items } })
-alone_gate q e before items none is at within r shut = unanswered _ _ (elim (true_or_false ((r.stream == get_or q.from 0 0) && holds q (assignment_of (r.values ∷ [])))) [
-  | inr f ↦ f
-  | inl t ↦ absurd (
-      let k : e.stream ≡ r.stream = at ∙ sym (nat_true r.stream (get_or q.from 0 0) (and-left _ _ t)) in
-      let there : list_all (is_within (by_column r.values)) e.ranges.items ≡ true = within r.values (and-right (r.stream == get_or q.from 0 0) (holds q (assignment_of (r.values ∷ []))) t) in
-      not_both (list_all (is_within (by_column r.values)) e.ranges.items) there
-      (sym (comes_first r e [] k) ∙ sym (ap (comes_in r) (is ∙ ap (λ (xs : List Entrance). xs ++ e ∷ []) none)) ∙ shut))
-])
+    ap (λ b. cond b (lets_in e (by_column r.values)) (comes_in r es)) (ap (λ s. s == r.stream) k ∙ same_number r.stream)
 
 -- the first of its number
 comes_at : (r : Arrival) (es : List Entrance) (i : ℕ) (o : Entrance) → i < length es → (get_or es i o).stream ≡ r.stream
-    → ((j : ℕ) → j < i → (get_or es j o).stream ≢ r.stream) → comes_in r es ≡ list_all (is_within (by_column r.values)) (get_or es i o).ranges.items
+    → ((j : ℕ) → j < i → (get_or es j o).stream ≢ r.stream) → comes_in r es ≡ lets_in (get_or es i o) (by_column r.values)
 comes_at r [] i o l at before = absurd (omega (arith, l))
 comes_at r (e ∷ es) zero o l at before = comes_first r e es at
 comes_at r (e ∷ es) (suc i) o l at before =
@@ -73,15 +57,16 @@ comes_at r (e ∷ es) (suc i) o l at before =
       | inr f ↦ f
       | inl t ↦ absurd (before 0 (omega arith) (nat_true e.stream r.stream t))
     ] in
-    ap (λ b. cond b (list_all (is_within (by_column r.values)) e.ranges.items) (comes_in r es)) other
+    ap (λ b. cond b (lets_in e (by_column r.values)) (comes_in r es)) other
     ∙ comes_at r es i o (omega (arith, l)) at (λ j k. before (suc j) (omega (arith, k)))
 
 -- the streams of FROM with their ranges over all parts
-pub parts_gate : (q : QueryValue) → IsWithinLimits q → (p : Plan) (parts : List PartPlan) (numbers : Numbers) (items : List Entrance) → p ≡ plan.Parts parts numbers
-    → AreEntrances q.from parts items → IsGate q p (record { entrances = record { items = items } })
-parts_gate q limits p parts numbers items is are =
-    subst (λ x. IsGate q x (record { entrances = record { items = items } })) (sym is) (λ r shut n d place l here at.
-    let o : Entrance = record { stream = 0; ranges = record { items = [] } } in
+pub parts_gate : (q : QueryValue) → IsWithinLimits q → (p : Plan) (parts : List PartPlan) (numbers : Numbers) (gate : Gate) → p ≡ plan.Parts parts numbers
+    → AreEntrances q.from parts (gate.front ∷ gate.others.items) → IsGate q p gate
+parts_gate q limits p parts numbers gate is are =
+    subst (λ x. IsGate q x gate) (sym is) (λ r shut n d place l here at.
+    let items : List Entrance = gate.front ∷ gate.others.items in
+    let o : Entrance = gate.front in
     let e : Entrance = get_or items place o in
     let there : (i : ℕ) → i < length q.from → slice_get items i ≡ Some (get_or items i o) = λ i k. slice_get-get_or items i o (let s = are.size in omega (arith, k, s)) in
     let stream : (i : ℕ) → i < length q.from → (get_or items i o).stream ≡ get_or q.from i 0 = λ i k. are.streams i (get_or items i o) (there i k) in
@@ -90,20 +75,20 @@ parts_gate q limits p parts numbers items is are =
     let whole = comes_at r items place o (let s = are.size in omega (arith, here, s)) (stream place here ∙ at) first in
     elim (true_or_false (admits q (get_or parts n d) place (by_column r.values))) [
       | inr f ↦ f
-      | inl t ↦ absurd (not_both (list_all (is_within (by_column r.values)) e.ranges.items) (are.ranges place e (there place here) n d l (by_column r.values) (and-right _ _ t)) (sym whole ∙ shut))
+      | inl t ↦ absurd (not_both (lets_in e (by_column r.values)) (are.ranges place e (there place here) n d l (by_column r.values) (and-right _ _ t)) (sym whole ∙ shut))
     ])
 
 -- one stream more
 pub entrances_more : (from : List ℕ) (parts : List PartPlan) (before items : List Entrance) (e : Entrance) (n : ℕ) → items ≡ before ++ e ∷ [] → length before ≡ n
     → ((place : ℕ) (e : Entrance) → slice_get before place ≡ Some e → e.stream ≡ get_or from place 0)
-    → ((place : ℕ) (e : Entrance) → slice_get before place ≡ Some e → Passes parts place (λ v. list_all (is_within v) e.ranges.items))
-    → e.stream ≡ get_or from n 0 → Passes parts n (λ v. list_all (is_within v) e.ranges.items)
+    → ((place : ℕ) (e : Entrance) → slice_get before place ≡ Some e → Passes parts place (lets_in e))
+    → e.stream ≡ get_or from n 0 → Passes parts n (lets_in e)
     → (length items ≡ n + 1)
     × ((place : ℕ) (e : Entrance) → slice_get items place ≡ Some e → e.stream ≡ get_or from place 0)
-    × ((place : ℕ) (e : Entrance) → slice_get items place ≡ Some e → Passes parts place (λ v. list_all (is_within v) e.ranges.items))
+    × ((place : ℕ) (e : Entrance) → slice_get items place ≡ Some e → Passes parts place (lets_in e))
 entrances_more from parts before items e n is size streams ranges at own =
     let P : ℕ → Entrance → Type 0 = λ place x. x.stream ≡ get_or from place 0 in
-    let R : ℕ → Entrance → Type 0 = λ place x. Passes parts place (λ v. list_all (is_within v) x.ranges.items) in (
+    let R : ℕ → Entrance → Type 0 = λ place x. Passes parts place (lets_in x) in (
       pushed-length before e items n is size,
       subst (λ (xs : List Entrance). (place : ℕ) (x : Entrance) → slice_get xs place ≡ Some x → P place x) (sym is) (pushed-get P before e streams (subst (λ m. P m e) (sym size) at)),
       subst (λ (xs : List Entrance). (place : ℕ) (x : Entrance) → slice_get xs place ≡ Some x → R place x) (sym is) (pushed-get R before e ranges (subst (λ m. R m e) (sym size) own)),

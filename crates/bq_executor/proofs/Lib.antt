@@ -6,6 +6,7 @@ pub mod InPart
 pub mod Founds
 pub mod Inserting
 pub mod Taken
+pub mod Telling
 pub mod Named
 pub mod Answered
 pub mod RowAnswers
@@ -21,4 +22,8 @@ pub mod PreparedParts
 pub mod ClearedNone
 pub mod GateLaws
 pub mod OneTuple
-pub mod SameRows
+pub mod Chained
+pub mod PassedOver
+pub mod FilledLaws
+pub mod InRanges
+pub mod RangeLaws

@@ -4,6 +4,8 @@ pub mod Runs
 pub mod Written
 pub mod Taking
 pub mod Arriving
+pub mod Chains
 pub mod Prepared
 pub mod Gate
 pub mod Known
+pub mod Filled

@@ -10,9 +10,11 @@ ghost use Rattle.bq_executor.specs.Executor.{arrival};
 ghost use Rattle.bq_executor.specs.Taking.{with_all, HaveRoom};
 ghost use Rattle.bq_executor.specs.Arriving.{answered_by, HasTaken, IsPlanReady};
 ghost use Rattle.bq_executor.specs.Prepared.{IsPreparedPlan};
+ghost use Rattle.bq_executor.specs.Filled.{AreFilled};
 ghost use Rattle.bq_executor.specs.Gate.{IsRefused};
 
 use crate::alone::answer_alone;
+use crate::filled::Filled;
 use crate::parts::take_in_all;
 use crate::prepared::PreparedPlan;
 use bq_answers::Answers;
@@ -47,7 +49,8 @@ fn take_by_plan<L: Ledger>(
     e: &Extent,
     q: &Query,
     plan: &Plan,
-    prepared: &mut PreparedPlan,
+    prepared: &PreparedPlan,
+    filled: &mut Filled,
     stream: u8,
     row: &Row,
     room: &mut Room,
@@ -56,9 +59,10 @@ fn take_by_plan<L: Ledger>(
     steps: &mut Steps<L>,
 )
     requires ready { IsPlanReady q.now plan.now pool.old e.now }
-    requires prepared { IsPreparedPlan q.now (parts_of plan.now) prepared.old }
+    requires prepared { IsPreparedPlan q.now (parts_of plan.now) prepared.now }
+    requires filled { AreFilled q.now (parts_of plan.now) filled.old table.old.entries }
     requires room { HaveRoom q.now.distinct (answered_by q.now plan.now (read_from (cells_of pool.old e.now)) (arrival stream row.now.items)) table.old }
-    ensures prepared { IsPreparedPlan q.now (parts_of plan.now) prepared.new }
+    ensures filled { AreFilled q.now (parts_of plan.now) filled.new table.new.entries }
     ensures table { table.new ≡ with_entries table.old (with_all q.now.distinct (answered_by q.now plan.now (read_from (cells_of pool.old e.now)) (arrival stream row.now.items)) table.old.entries) }
     ensures pool { HasTaken q.now (parts_of plan.now) e.now (arrival stream row.now.items) (length (parts_of plan.now)) pool.old pool.new }
     ensures steps { steps.new ≤ steps.old + 3 * work (parts_of plan.now) + 2 * length (parts_of plan.now) }
@@ -70,7 +74,7 @@ fn take_by_plan<L: Ledger>(
         Plan::Parts { parts, .. } => match place_of(q.from(), stream) {
             Some(pos) => {
                 take_in_all(
-                    pool, e, q, parts, prepared, pos, row, room, tuple, table, steps,
+                    pool, e, q, parts, prepared, filled, pos, row, room, tuple, table, steps,
                 )
             },
             None => {}
@@ -87,7 +91,8 @@ pub fn arrive<L: Ledger>(
     e: &Extent,
     q: &Query,
     plan: &Plan,
-    prepared: &mut PreparedPlan,
+    prepared: &PreparedPlan,
+    filled: &mut Filled,
     stream: u8,
     row: &Row,
     room: &mut Room,
@@ -97,9 +102,10 @@ pub fn arrive<L: Ledger>(
 ) -> bool
     requires gate { passes ≡ false → IsRefused q.now plan.now (arrival stream row.now.items) }
     requires ready { IsPlanReady q.now plan.now pool.old e.now }
-    requires prepared { IsPreparedPlan q.now (parts_of plan.now) prepared.old }
+    requires prepared { IsPreparedPlan q.now (parts_of plan.now) prepared.now }
+    requires filled { AreFilled q.now (parts_of plan.now) filled.old table.old.entries }
     requires room { HaveRoom q.now.distinct (answered_by q.now plan.now (read_from (cells_of pool.old e.now)) (arrival stream row.now.items)) table.old }
-    ensures prepared { IsPreparedPlan q.now (parts_of plan.now) prepared.new }
+    ensures filled { AreFilled q.now (parts_of plan.now) filled.new table.new.entries }
     ensures table { table.new ≡ with_entries table.old (with_all q.now.distinct (answered_by q.now plan.now (read_from (cells_of pool.old e.now)) (arrival stream row.now.items)) table.old.entries) }
     ensures none { result ≡ false → answered_by q.now plan.now (read_from (cells_of pool.old e.now)) (arrival stream row.now.items) ≡ [] }
     ensures pool { HasTaken q.now (parts_of plan.now) e.now (arrival stream row.now.items) (length (parts_of plan.now)) pool.old pool.new }
@@ -111,7 +117,7 @@ pub fn arrive<L: Ledger>(
         return false;
     }
     take_by_plan(
-        pool, e, q, plan, prepared, stream, row, room, tuple, table, steps,
+        pool, e, q, plan, prepared, filled, stream, row, room, tuple, table, steps,
     );
     true
 }

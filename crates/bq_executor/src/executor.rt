@@ -15,6 +15,7 @@ ghost use Rattle.bq_executor.specs.Standing.{StandsFor, AreKept, IsReady, TookRo
 ghost use Rattle.bq_executor.specs.Written.{answer_lines};
 
 use crate::arrive::arrive;
+use crate::filled::Filled;
 use crate::gate::{Gate, gate_of};
 use crate::prepared::{PreparedPlan, prepare_all};
 use crate::written::put_waiting;
@@ -36,6 +37,7 @@ pub struct Executor {
     query: Query,
     plan: Plan,
     prepared: PreparedPlan,
+    filled: Filled,
     extent: Extent,
     room: Room,
     tuple: Tuple,
@@ -46,12 +48,13 @@ impl Model for Executor {
     ghost use Rattle.bq_executor.specs.Executor.{ExecutorValue, IsSound};
     ghost use Rattle.bq_executor.specs.Prepared.{IsPreparedPlan};
     ghost use Rattle.bq_executor.specs.Gate.{IsGate};
+    ghost use Rattle.bq_executor.specs.Filled.{AreFilled};
 
     ghost Value = { ExecutorValue };
 
     ghost view = { λ e. record { query = e.query; plan = e.plan; extent = e.extent; given = e.given; table = e.table } };
 
-    ghost invariant = { λ e. IsSound (record { query = e.query; plan = e.plan; extent = e.extent; given = e.given; table = e.table }) × IsPreparedPlan e.query (parts_of e.plan) e.prepared × IsGate e.query e.plan e.gate };
+    ghost invariant = { λ e. IsSound (record { query = e.query; plan = e.plan; extent = e.extent; given = e.given; table = e.table }) × IsPreparedPlan e.query (parts_of e.plan) e.prepared × IsGate e.query e.plan e.gate × AreFilled e.query (parts_of e.plan) e.filled e.table.entries };
 }
 
 // For how many answers a query with this plan has room.
@@ -96,6 +99,10 @@ impl Executor {
             Ok(prepared) => prepared,
             Err(error) => return Err((extent, error)),
         };
+        let filled = match Filled::new(alloc, &query, &plan) {
+            Ok(filled) => filled,
+            Err(error) => return Err((extent, error)),
+        };
         let gate = gate_of(&query, &plan);
         let capacity = most_answers(&plan);
         let width = query.select().len() as u8;
@@ -107,6 +114,7 @@ impl Executor {
                 query,
                 plan,
                 prepared,
+                filled,
                 extent,
                 room: Room::default(),
                 tuple: Tuple::new(),
@@ -164,7 +172,8 @@ impl Executor {
             &self.extent,
             &self.query,
             &self.plan,
-            &mut self.prepared,
+            &self.prepared,
+            &mut self.filled,
             stream,
             row,
             &mut self.room,
@@ -228,6 +237,7 @@ impl Executor {
             query: _query,
             plan: _plan,
             prepared: _prepared,
+            filled: _filled,
             extent,
             room: _room,
             tuple: _tuple,

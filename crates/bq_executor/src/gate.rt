@@ -5,9 +5,9 @@ ghost use Rattle.bq_model.specs.declared.plan.Plan.TheVariants as plans;
 ghost use Rattle.bq_model.specs.Assignment.{meets};
 ghost use Rattle.bq_model.specs.Meaning.{by_column, assignment_of};
 ghost use Rattle.bq_executor.specs.Executor.{arrival};
-ghost use Rattle.bq_executor.specs.Gate.{is_above, is_below, lies_in, is_within, is_within_some, comes_in, passes, IsGate, Passes, AreEntrances};
+ghost use Rattle.bq_executor.specs.Gate.{is_above, is_below, lies_in, is_within, is_within_some, lets_in, comes_in, passes, IsGate, Passes, AreEntrances};
 
-use crate::bounds::{Bounds, bounds_alone, bounds_over};
+use crate::bounds::{Bounds, bounds_alone, bounds_over, no_bounds};
 use arrayvec::ArrayVec;
 use bq_model::{Atom, PartPlans, Plan, Query, Row};
 
@@ -18,17 +18,20 @@ pub struct Range {
     bounds: Bounds,
 }
 
-/// A stream of FROM, and the ranges outside of which a row of it is refused.
+/// A stream of FROM, and the ranges outside of which a row of it is refused. The range that is asked first stands by itself;
+/// where no column is bounded it bounds nothing.
 #[derive(Drop, Default)]
 pub struct Entrance {
     stream: u8,
-    ranges: ArrayVec<Range, 8>,
+    first: Range,
+    others: ArrayVec<Range, 8>,
 }
 
-/// The streams of FROM, each with its ranges.
+/// The streams of FROM, each with its ranges. The first stream stands by itself, since it is the only one of most queries.
 #[derive(Drop)]
 pub struct Gate {
-    entrances: ArrayVec<Entrance, 4>,
+    front: Entrance,
+    others: ArrayVec<Entrance, 4>,
 }
 
 // Whether an integer is not below the least of the bounds.
@@ -60,11 +63,19 @@ fn is_within(row: &[i64], range: &Range) -> bool
     is_above(range.bounds.least, x) && is_below(range.bounds.greatest, x)
 }
 
-// Whether a row lies within all ranges.
+// Whether a row lies within all ranges. It is not inlined, so that a row that the first range refuses pays nothing for it.
+#[inline(never)]
 fn is_within_all(row: &[i64], ranges: &[Range]) -> bool
     ensures { result ≡ list_all (is_within (by_column row.now)) ranges.now }
 {
     ranges.iter().all(|range| is_within(row, range))
+}
+
+// Whether an entrance lets a row in.
+fn lets_in(entrance: &Entrance, row: &[i64]) -> bool
+    ensures { result ≡ lets_in entrance.now (by_column row.now) }
+{
+    is_within(row, &entrance.first) && is_within_all(row, entrance.others.as_slice())
 }
 
 // Whether a row comes in.
@@ -75,7 +86,7 @@ fn comes_in(entrances: &[Entrance], stream: u8, row: &[i64]) -> bool
         [] => false,
         [entrance, others @ ..] => {
             if entrance.stream == stream {
-                is_within_all(row, entrance.ranges.as_slice())
+                lets_in(entrance, row)
             } else {
                 comes_in(others, stream, row)
             }
@@ -88,7 +99,11 @@ impl Gate {
     pub fn passes(&self, stream: u8, row: &Row) -> bool
         ensures { result ≡ passes self.now (arrival stream row.now.items) }
     {
-        comes_in(self.entrances.as_slice(), stream, row.as_slice())
+        if self.front.stream == stream {
+            lets_in(&self.front, row.as_slice())
+        } else {
+            comes_in(self.others.as_slice(), stream, row.as_slice())
+        }
     }
 }
 
@@ -169,6 +184,40 @@ pub fn stream_of(from: &[u8], place: usize) -> u8
     from[place]
 }
 
+// The entrance of a stream with its ranges, of which the first is asked first.
+fn entrance_of(stream: u8, ranges: ArrayVec<Range, 8>) -> Entrance
+    ensures stream { result.stream ≡ stream }
+    ensures ranges { (v : ℕ → ℤ) → lets_in result v ≡ list_all (is_within v) ranges.items }
+{
+    let mut others = ranges;
+    if others.is_empty() {
+        return Entrance {
+            stream,
+            first: Range {
+                column: 0,
+                bounds: no_bounds(),
+            },
+            others,
+        };
+    }
+    let first = others.remove(0);
+    Entrance {
+        stream,
+        first,
+        others,
+    }
+}
+
+// The entrance of the stream at a place of FROM over all parts.
+fn entrance_at(from: &[u8], parts: &PartPlans, place: usize) -> Entrance
+    requires there { place < length from.now }
+    requires few { length from.now ≤ 4 }
+    ensures stream { result.stream ≡ slice_index_or from.now place 0 }
+    ensures ranges { Passes parts.now place (lets_in result) }
+{
+    entrance_of(stream_of(from, place), ranges_at(parts, place as u8))
+}
+
 // The streams of FROM with their ranges over all parts.
 fn entrances_of(from: &[u8], parts: &PartPlans) -> ArrayVec<Entrance, 4>
     requires { length from.now ≤ 4 }
@@ -176,24 +225,30 @@ fn entrances_of(from: &[u8], parts: &PartPlans) -> ArrayVec<Entrance, 4>
 {
     let mut entrances: ArrayVec<Entrance, 4> = ArrayVec::new();
     'places: for place in 0..from.len() {
-        entrances.push(Entrance {
-            stream: stream_of(from, place),
-            ranges: ranges_at(parts, place as u8),
-        });
+        entrances.push(entrance_at(from, parts, place));
     }
     entrances
 }
 
-// The one stream of a filter with its ranges.
-fn entrance_alone(q: &Query) -> ArrayVec<Entrance, 4>
-    ensures { IsGate q.now plans.Filter (record { entrances = result }) }
+// The gate of the streams of FROM over all parts.
+fn gate_over(from: &[u8], parts: &PartPlans) -> Gate
+    requires some { 0 < length from.now }
+    requires few { length from.now ≤ 4 }
+    ensures { AreEntrances from.now parts.now (result.front ∷ result.others.items) }
 {
-    let mut entrances: ArrayVec<Entrance, 4> = ArrayVec::new();
-    entrances.push(Entrance {
-        stream: stream_of(q.from(), 0),
-        ranges: ranges_alone(q.atoms()),
-    });
-    entrances
+    let mut others = entrances_of(from, parts);
+    let front = others.remove(0);
+    Gate { front, others }
+}
+
+// The gate of a filter, which has one stream.
+fn gate_alone(q: &Query) -> Gate
+    ensures { IsGate q.now plans.Filter result }
+{
+    Gate {
+        front: entrance_of(stream_of(q.from(), 0), ranges_alone(q.atoms())),
+        others: ArrayVec::new(),
+    }
 }
 
 /// The gate of a query with a plan.
@@ -201,11 +256,7 @@ pub fn gate_of(q: &Query, plan: &Plan) -> Gate
     ensures { IsGate q.now plan.now result }
 {
     match plan {
-        Plan::Filter => Gate {
-            entrances: entrance_alone(q),
-        },
-        Plan::Parts { parts, .. } => Gate {
-            entrances: entrances_of(q.from(), parts),
-        },
+        Plan::Filter => gate_alone(q),
+        Plan::Parts { parts, .. } => gate_over(q.from(), parts),
     }
 }

@@ -14,6 +14,7 @@ ghost use Rattle.bq_answers.specs.Entries.{with_entries, Fits};
 ghost use Rattle.bq_executor.specs.Taking.{with_found, with_all, HaveRoom};
 ghost use Rattle.bq_executor.specs.Arriving.{arrives, with_row, CanCount};
 ghost use Rattle.bq_executor.specs.Known.{AnswersOne};
+ghost use Rattle.bq_executor.specs.Filled.{IsFull, AreOld};
 
 use crate::known::answers_one;
 use bq_answers::Answers;
@@ -131,10 +132,43 @@ fn answer<L: Ledger>(
     }
 }
 
+// Takes up all that the cells of a part answer to a row that it admits, and nothing where all of it has an entry.
+fn answer_new<L: Ledger>(
+    full: bool,
+    pool: &Pool,
+    e: &Extent,
+    q: &Query,
+    part: &PartPlan,
+    prepared: &Prepared,
+    pos: u8,
+    row: &Row,
+    room: &mut Room,
+    tuple: &mut Tuple,
+    table: &mut Answers,
+    steps: &mut Steps<L>,
+)
+    requires here { pos < length q.now.from }
+    requires ready { IsReady q.now part.now pool.now e.now }
+    requires prepared { IsPrepared (pairs q.now) part.now prepared.now }
+    requires room { HaveRoom q.now.distinct (found_beside q.now part.now (read_from (cells_of pool.now e.now)) pos (by_column row.now.items)) table.old }
+    requires old { full ≡ true → AreOld q.now.distinct (found_beside q.now part.now (read_from (cells_of pool.now e.now)) pos (by_column row.now.items)) table.old.entries }
+    ensures table { table.new ≡ with_entries table.old (with_all q.now.distinct (found_beside q.now part.now (read_from (cells_of pool.now e.now)) pos (by_column row.now.items)) table.old.entries) }
+    ensures steps { steps.new ≤ steps.old + 3 * share part.now }
+{
+    if full {
+        return;
+    }
+    answer(
+        pool, e, q, part, prepared, pos, row, room, tuple, table, steps,
+    );
+}
+
 /// Takes a row into a part that admits it: all that its cells answer to the row waits in the table; and where the query has
-/// several streams, the row's own cell takes it.
+/// several streams, the row's own cell takes it. Where all tuples that the part can answer have an entry, no cell is read for
+/// an answer.
 #[inline(never)]
 pub fn take_row<L: Ledger>(
+    full: bool,
     pool: &mut Pool,
     e: &Extent,
     q: &Query,
@@ -152,14 +186,15 @@ pub fn take_row<L: Ledger>(
     requires prepared { IsPrepared (pairs q.now) part.now prepared.now }
     requires admitted { admits q.now part.now pos (by_column row.now.items) ≡ true }
     requires counts { CanCount part.now (read_from (cells_of pool.old e.now)) }
+    requires full { full ≡ true → IsFull q.now part.now table.old.entries }
     requires room { HaveRoom q.now.distinct (found_in q.now part.now (read_from (cells_of pool.old e.now)) (arrives q.now pos row.now.items)) table.old }
     ensures table { table.new ≡ with_entries table.old (with_all q.now.distinct (found_in q.now part.now (read_from (cells_of pool.old e.now)) (arrives q.now pos row.now.items)) table.old.entries) }
     ensures pool { pool.new ≡ with_row q.now part.now pos row.now.items e.now pool.old }
     ensures steps { steps.new ≤ steps.old + 3 * share part.now + 2 }
 {
     let streams = q.from().len();
-    answer(
-        pool, e, q, part, prepared, pos, row, room, tuple, table, steps,
+    answer_new(
+        full, pool, e, q, part, prepared, pos, row, room, tuple, table, steps,
     );
     if 1 < streams {
         insert(pool, e, q, part, pos, row, steps);

@@ -7,7 +7,9 @@ ghost use Rattle.bq_answers.specs.Entries.{with_entries};
 ghost use Rattle.bq_executor.specs.Taking.{with_all, HaveRoom};
 ghost use Rattle.bq_executor.specs.Arriving.{arrives, all_found, HasTaken, AreReady};
 ghost use Rattle.bq_executor.specs.Prepared.{IsPreparedPlan};
+ghost use Rattle.bq_executor.specs.Filled.{AreFilled};
 
+use crate::filled::Filled;
 use crate::part::take_row;
 use crate::prepared::PreparedPlan;
 use bq_answers::Answers;
@@ -17,14 +19,15 @@ use bq_pool::{Extent, Pool};
 use bq_synopsis::Room;
 use std::sync::ledger::Ledger;
 
-/// Takes a row of the stream at a place of FROM into all parts that admit it. No part reads a cell that an
-/// earlier part wrote, so the answers are those of the cells before the row.
+/// Takes a row of the stream at a place of FROM into all parts that admit it, of which only those of the row's bucket are asked. No
+/// part reads a cell that an earlier part wrote, so the answers are those of the cells before the row.
 pub fn take_in_all<L: Ledger>(
     pool: &mut Pool,
     e: &Extent,
     q: &Query,
     parts: &PartPlans,
-    prepared: &mut PreparedPlan,
+    prepared: &PreparedPlan,
+    filled: &mut Filled,
     pos: u8,
     row: &Row,
     room: &mut Room,
@@ -34,28 +37,27 @@ pub fn take_in_all<L: Ledger>(
 )
     requires here { pos < length q.now.from }
     requires ready { AreReady q.now parts.now pool.old e.now }
-    requires prepared { IsPreparedPlan q.now parts.now prepared.old }
+    requires prepared { IsPreparedPlan q.now parts.now prepared.now }
+    requires filled { AreFilled q.now parts.now filled.old table.old.entries }
     requires room { HaveRoom q.now.distinct (all_found q.now parts.now (read_from (cells_of pool.old e.now)) (arrives q.now pos row.now.items)) table.old }
-    ensures prepared { IsPreparedPlan q.now parts.now prepared.new }
+    ensures filled { AreFilled q.now parts.now filled.new table.new.entries }
     ensures table { table.new ≡ with_entries table.old (with_all q.now.distinct (all_found q.now parts.now (read_from (cells_of pool.old e.now)) (arrives q.now pos row.now.items)) table.old.entries) }
     ensures pool { HasTaken q.now parts.now e.now (arrives q.now pos row.now.items) (length parts.now) pool.old pool.new }
     ensures steps { steps.new ≤ steps.old + 3 * work parts.now + 2 * length parts.now }
 {
-    'parts: for i in 0..parts.len() {
-        if prepared.test(q, parts, i, pos, row) {
+    let chains = prepared.chains(q, parts, pos);
+    let led = chains.first(q, parts, pos, row);
+    let mut i = led.first;
+    'parts: while i < parts.len() {
+        let part = parts.get(i);
+        let known = prepared.part(q, parts, i);
+        if chains.admits(q, parts, part, known, pos, row, led.code, i) {
+            let full = filled.is_full(q, i);
             take_row(
-                pool,
-                e,
-                q,
-                parts.get(i),
-                prepared.part(q, parts, i),
-                pos,
-                row,
-                room,
-                tuple,
-                table,
-                steps,
+                full, pool, e, q, part, known, pos, row, room, tuple, table, steps,
             );
+            filled.advance(full, q, parts, prepared, i, tuple, table);
         }
+        i = chains.after(q, parts, pos, i);
     }
 }

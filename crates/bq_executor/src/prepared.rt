@@ -1,26 +1,23 @@
-//! The parts of a plan, each worked out once, and which of them admit all rows that another does.
-ghost use Rattle.std.specs.Prelude.{◌≡◌, ◌+◌, ◌*◌, ◌<◌, ◌≤◌, length, slice_get, slice_index_or, Some, IfOk};
+//! The parts of a plan, each worked out once, and which of them are asked of a row.
+ghost use Rattle.std.specs.Prelude.{◌≡◌, ◌<◌, length, slice_get, Some, IfOk};
 ghost use Rattle.bq_model.specs.declared.plan.PartPlan.{PartPlan};
-ghost use Rattle.bq_model.specs.Admission.{admits};
-ghost use Rattle.bq_model.specs.Meaning.{by_column};
 ghost use Rattle.bq_model.specs.Parts.{pairs};
 ghost use Rattle.bq_model.specs.Numbers.{parts_of};
 ghost use Rattle.bq_synopsis.specs.Preparing.{IsPrepared};
-ghost use Rattle.bq_executor.specs.Prepared.{ArePrepared, AreLeaders, IsPreparedPlan, AreTested};
+ghost use Rattle.bq_executor.specs.Chains.{AreChains};
+ghost use Rattle.bq_executor.specs.Prepared.{ArePrepared, AreAllChains, IsPreparedPlan};
 
-use crate::alike::leader_of;
-use bq_model::{PartPlans, Plan, Query, Row};
-use bq_synopsis::{Prepared, admits, prepare};
+use crate::chains::{Chains, chains_at};
+use bq_model::{PartPlans, Plan, Query};
+use bq_synopsis::{Prepared, prepare};
 use std::alloc::{AllocError, Global};
 
-/// What the parts of a plan are asked of every row. Each part has four numbers in `leaders`, from four times its own on: for
-/// each place of FROM a part that admits all its rows there, an earlier one or itself. `admitted` says which parts admit
-/// the row that is being taken, so far as they were tested; what it holds between two rows means nothing.
+/// What the parts of a plan are asked of every row, and for each place of FROM the chains that lead a row to the parts that may
+/// admit it.
 #[derive(Drop)]
 pub struct PreparedPlan {
     parts: Vec<Prepared>,
-    leaders: Vec<u32>,
-    admitted: Vec<bool>,
+    chains: Vec<Chains>,
 }
 
 impl PreparedPlan {
@@ -34,49 +31,23 @@ impl PreparedPlan {
         &self.parts[i as usize]
     }
 
-    // The leader of a part at a place of FROM.
-    fn leader(&self, i: u32, pos: u8) -> u32
-        requires { i * 4 + pos < length self.now.leaders.items }
-        ensures { result ≡ slice_index_or self.now.leaders.items (i * 4 + pos) 0 }
-    {
-        self.leaders[i as usize * 4 + usize::from(pos)]
-    }
-
-    // Whether a part admits a row: not where an earlier part that leads it does not.
-    fn answer(&self, q: &Query, parts: &PartPlans, i: u32, pos: u8, row: &Row) -> bool
-        requires inside { i < length parts.now }
+    /// The chains at a place of FROM.
+    pub fn chains(&self, q: &Query, parts: &PartPlans, pos: u8) -> &Chains
         requires here { pos < length q.now.from }
-        requires whole { (part : PartPlan) → slice_get parts.now i ≡ Some part → length part.streams.items ≡ length q.now.from }
         requires prepared { IsPreparedPlan q.now parts.now self.now }
-        requires tested { AreTested q.now parts.now pos (by_column row.now.items) i self.now.admitted.items }
-        ensures { (part : PartPlan) → slice_get parts.now i ≡ Some part → result ≡ admits q.now part pos (by_column row.now.items) }
+        ensures { AreChains q.now parts.now pos result.now }
     {
-        let _from = q.from();
-        let leader = self.leader(i, pos);
-        if leader < i {
-            if !self.admitted[leader as usize] {
-                return false;
-            }
-        }
-        admits(q, parts.get(i), self.part(q, parts, i), pos, row)
+        let _parts = parts.len();
+        chains_of(&self.chains, pos)
     }
+}
 
-    /// Whether a part admits a row, where all earlier parts were tested. It is not asked where its leader does not admit
-    /// the row.
-    pub fn test(&mut self, q: &Query, parts: &PartPlans, i: u32, pos: u8, row: &Row) -> bool
-        requires inside { i < length parts.now }
-        requires here { pos < length q.now.from }
-        requires whole { (part : PartPlan) → slice_get parts.now i ≡ Some part → length part.streams.items ≡ length q.now.from }
-        requires prepared { IsPreparedPlan q.now parts.now self.old }
-        requires tested { AreTested q.now parts.now pos (by_column row.now.items) i self.old.admitted.items }
-        ensures admits { (part : PartPlan) → slice_get parts.now i ≡ Some part → result ≡ admits q.now part pos (by_column row.now.items) }
-        ensures prepared { IsPreparedPlan q.now parts.now self.new }
-        ensures tested { AreTested q.now parts.now pos (by_column row.now.items) (i + 1) self.new.admitted.items }
-    {
-        let admitted = self.answer(q, parts, i, pos, row);
-        self.admitted[i as usize] = admitted;
-        admitted
-    }
+// The chains of a place.
+fn chains_of(all: &Vec<Chains>, place: u8) -> &Chains
+    requires { place < length all.now.items }
+    ensures { slice_get all.now.items place ≡ Some result.now }
+{
+    &all[usize::from(place)]
 }
 
 // What each part is asked of every row.
@@ -90,17 +61,27 @@ fn prepare_parts(alloc: Global, q: &Query, parts: &PartPlans) -> Result<Vec<Prep
     Ok(prepared)
 }
 
-// The leaders of all parts at all places.
-fn find_leaders(alloc: Global, q: &Query, parts: &PartPlans) -> Result<Vec<u32>, AllocError>
-    ensures many { IfOk result (λ leaders. length leaders.items ≡ length parts.now * 4) }
-    ensures leaders { IfOk result (λ leaders. AreLeaders q.now parts.now leaders.items) }
+// The chains at all places of FROM.
+fn chain_parts(alloc: Global, q: &Query, parts: &PartPlans) -> Result<Vec<Chains>, AllocError>
+    ensures many { IfOk result (λ all. length all.items ≡ length q.now.from) }
+    ensures chains { IfOk result (λ all. AreAllChains q.now parts.now all.items) }
 {
-    let count = parts.len() as usize * 4;
-    let mut leaders: Vec<u32> = Vec::with_capacity(alloc, count)?;
-    'leaders: for m in 0..count {
-        leaders.push(leader_of(q, parts, (m / 4) as u32, (m % 4) as u8))?;
+    let places = q.from().len() as u8;
+    let mut all: Vec<Chains> = Vec::with_capacity(alloc, usize::from(places))?;
+    'places: for place in 0..places {
+        all.push(chains_at(alloc, q, parts, place)?)?;
     }
-    Ok(leaders)
+    Ok(all)
+}
+
+// What these parts are asked of every row.
+fn prepare_over(alloc: Global, q: &Query, parts: &PartPlans) -> Result<PreparedPlan, AllocError>
+    ensures { IfOk result (λ prepared. IsPreparedPlan q.now parts.now prepared) }
+{
+    Ok(PreparedPlan {
+        parts: prepare_parts(alloc, q, parts)?,
+        chains: chain_parts(alloc, q, parts)?,
+    })
 }
 
 /// What the parts of a plan are asked of every row; a filter has no parts. An error says that memory was not found.
@@ -108,15 +89,7 @@ pub fn prepare_all(alloc: Global, q: &Query, plan: &Plan) -> Result<PreparedPlan
     ensures { IfOk result (λ prepared. IsPreparedPlan q.now (parts_of plan.now) prepared) }
 {
     match plan {
-        Plan::Filter => Ok(PreparedPlan {
-            parts: Vec::new(alloc),
-            leaders: Vec::new(alloc),
-            admitted: Vec::new(alloc),
-        }),
-        Plan::Parts { parts, .. } => Ok(PreparedPlan {
-            parts: prepare_parts(alloc, q, parts)?,
-            leaders: find_leaders(alloc, q, parts)?,
-            admitted: vec![in alloc; false; parts.len() as usize]?,
-        }),
+        Plan::Filter => prepare_over(alloc, q, &PartPlans::of(Vec::new(alloc))),
+        Plan::Parts { parts, .. } => prepare_over(alloc, q, parts),
     }
 }

@@ -1,23 +1,32 @@
 -- What one more sign means for the closure of a node.
-use Rattle.std.proofs.Common.{◌≡◌, ℕ, ◌<◌, ◌≤◌, ◌+◌, ℤ, List, [], ◌∷◌, ◌++◌, length, length-append, All, pos, slice_index_or, refl, sym, ◌∙◌, subst, arith}
-use Rattle.bq_model.proofs.Split.{IsFeasible}
+use Rattle.std.proofs.Common.{◌≡◌, ℕ, ◌<◌, ◌≤◌, ◌+◌, ℤ, List, [], ◌∷◌, ◌++◌, length, length-append, All, pos, slice_index_or, refl, sym, ◌∙◌, ap, subst, arith}
+use Rattle.bq_model.proofs.Has.{Has, Has-append_right, Contains-from_has}
+use Rattle.bq_model.proofs.Elements.{HasElement}
+use Rattle.bq_model.proofs.Local.{PairIn, pair_in}
+use Rattle.bq_model.proofs.Split.{StartsWith, IsFeasible}
+use Rattle.bq_model.specs.declared.atom.Attr.{Attr}
 use Rattle.bq_model.specs.declared.part.Pair.{Pair}
 use Rattle.bq_model.specs.declared.part.Sign.{Sign}
+use Rattle.bq_model.specs.declared.atom.Element.{Element}
 use Rattle.bq_model.specs.declared.atom.Element.TheVariants as element
-use Rattle.bq_model.specs.Query.{QueryValue, attrs_of, IsWithinLimits}
-use Rattle.bq_model.specs.Parts.{pairs}
+use Rattle.bq_model.specs.Query.{QueryValue, attrs_of, consts_of, IsWithinLimits}
+use Rattle.bq_model.specs.Assignment.{Assignment}
+use Rattle.bq_model.specs.Parts.{pairs, signs_of}
 use Rattle.bq_constraints.specs.declared.constraint.Constraint.{Constraint}
 use Rattle.bq_closure.specs.declared.choosing.Choice.{Choice}
 use Rattle.bq_closure.specs.declared.closure.Closure.{Closure}
 use Rattle.bq_closure.specs.Choices.{IsChoice, AreChoices, chosen}
 use Rattle.bq_closure.specs.Closure.{IsClosureOf, HasRoom}
+use Rattle.bq_constraints.specs.Nodes.{nodes_of}
 use Rattle.bq_constraints.specs.PartConstraints.{AddsSign, of_atoms, of_prefix}
-use Rattle.bq_constraints.specs.Solutions.{IsWithin, Solves, IsSatisfiable}
+use Rattle.bq_constraints.specs.Solutions.{IsWithin, Solves, IsSatisfiable, Implies}
 use Rattle.bq_closure.proofs.Zips.{zip_length, zip_at}
-use Rattle.bq_constraints.proofs.Joined.{solves_left, solves_right, solves_both}
+use Rattle.bq_constraints.proofs.Joined.{solves_left, solves_right, solves_both, solves_implied}
+use Rattle.bq_constraints.proofs.Link.{signs_start}
+use Rattle.bq_constraints.proofs.NodeFacts.{Known, nodes_agree}
 use Rattle.bq_constraints.proofs.Prefix.{adds_sign, of_no_prefix, length-of_atoms}
-use Rattle.bq_constraints.proofs.Feasible.{feasible_if, satisfiable_if}
-use Rattle.bq_lto_split.specs.Tree.{Before}
+use Rattle.bq_constraints.proofs.Feasible.{feasible_if, satisfiable_if, solves_if}
+use Rattle.bq_lto_split.specs.Tree.{Before, AreOf, AreImplied, Follows}
 
 -- ---- the pair of the next sign
 
@@ -30,6 +39,11 @@ adds_choice q ps pre s d cs h l e =
     let k : IsChoice q (slice_index_or (pairs q) (length pre) p) (slice_index_or ps (length pre) d) = zip_at (IsChoice q) (pairs q) ps (length pre) p d h m in
     adds_sign q (pairs q) pre s p (length pre) cs refl refl m (e ∙ k.says s) (subst (All (IsWithin (length (attrs_of q.atoms)))) (sym e) (k.within s))
 
+-- the same, where the pair stands at the number of the signs
+pub adds_here : (q : QueryValue) (ps : List Choice) (pre : List Sign) (s : Sign) (choice : Choice) (i : ℕ) → AreChoices q ps → length pre ≡ i → i < length ps → choice ≡ slice_index_or ps i choice → AddsSign q pre s (chosen choice s)
+adds_here q ps pre s choice i h at l e =
+    adds_choice q ps pre s choice (chosen choice s) h (omega (arith, at, l)) (ap (λ (z : Choice). chosen z s) (e ∙ ap (λ (n : ℕ). slice_index_or ps n choice) (sym at)))
+
 -- there is a pair for one more sign
 pub room_next : (q : QueryValue) (ps : List Choice) (k : Closure) (pre : List Sign) (s : Sign) → Before q ps k pre → length pre < length ps → length (pre ++ s ∷ []) ≤ length (pairs q)
 room_next q ps k pre s b l =
@@ -37,82 +51,116 @@ room_next q ps k pre s b l =
     let m : length ps ≡ length (pairs q) = zip_length (IsChoice q) (pairs q) ps b.choices in
     omega (arith, n, m, l)
 
+-- ---- the constraints with those of the sign
+
+known_from : (xs : List Attr) (ks : List ℤ) (e : Element) → HasElement xs ks e → Known xs e
+known_from xs ks (element.Attr a) h = h
+known_from xs ks (element.Const k) h = tt
+
+pairs_known : (q : QueryValue) (p : Pair) → Has (pairs q) p → Has (attrs_of q.atoms) p.left × Known (attrs_of q.atoms) p.right
+unfolding pairs
+pairs_known q p h = let s : PairIn (attrs_of q.atoms) (consts_of q.atoms) p = pair_in _ _ p h in (s.left, known_from _ (consts_of q.atoms) p.right s.right)
+
+-- an assignment whose integers meet the constraints of some signs has them
+starts_with : (q : QueryValue) (signs : List Sign) (v : Assignment) → length signs ≤ length (pairs q) → Solves (nodes_of (attrs_of q.atoms) v) (of_prefix q signs) → StartsWith signs (signs_of q v)
+starts_with q signs v l m = signs_start (attrs_of q.atoms) _ v (nodes_agree (attrs_of q.atoms) v) (pairs q) signs l (pairs_known q) (λ c h. m.each c (Contains-from_has _ c (Has-append_right _ h)))
+
+module _ (q : QueryValue) (pre : List Sign) (s : Sign) (ks cs : List Constraint) (m : AreOf q pre ks) (a : AddsSign q pre s cs) where
+  solves_more : (x : ℕ → ℤ) → Solves x (ks ++ cs) → Solves x (of_prefix q (pre ++ s ∷ []))
+  solves_more x v = subst (Solves x) (sym a.more) (solves_both x (of_prefix q pre) cs (m.into x (solves_left x ks cs v)) (solves_right x ks cs v))
+
+  solves_back : (x : ℕ → ℤ) → Solves x (of_prefix q (pre ++ s ∷ [])) → Solves x (ks ++ cs)
+  solves_back x v =
+      let w : Solves x (of_prefix q pre ++ cs) = subst (Solves x) a.more v in
+      solves_both x ks cs (m.from x (solves_left x (of_prefix q pre) cs w)) (solves_right x (of_prefix q pre) cs w)
+
+  -- they are those of the signs and the one more
+  pub are_more : AreOf q (pre ++ s ∷ []) (ks ++ cs)
+  are_more = record {
+    into = solves_more;
+    from = solves_back;
+    few = omega (arith, length-append pre (s ∷ []), length-append ks cs, m.few, a.few);
+  }
+
+  module _ (i : All (Implies ks) cs) where
+    -- where those of the sign are implied the others say the same
+    pub are_same : AreOf q (pre ++ s ∷ []) ks
+    are_same = record {
+      into = λ x v. solves_more x (solves_implied x ks cs i v);
+      from = λ x v. solves_left x ks cs (solves_back x v);
+      few = omega (arith, length-append pre (s ∷ []), m.few);
+    }
+
+    -- and each assignment that has the signs has this one too
+    pub follows_one : length (pre ++ s ∷ []) ≤ length (pairs q) → Follows q pre (pre ++ s ∷ [])
+    follows_one l = record {
+      starts = record { rest = s ∷ []; is = refl };
+      all = λ t p w.
+          let h : Solves (nodes_of (attrs_of q.atoms) p.one) (of_prefix q pre) = solves_if q pre p.one p.inside.holds (subst (StartsWith pre) (sym p.inside.signs) w) in
+          let g : StartsWith (pre ++ s ∷ []) (signs_of q p.one) = starts_with q (pre ++ s ∷ []) p.one l (solves_more _ (solves_implied _ ks cs i (m.from _ h))) in
+          subst (StartsWith (pre ++ s ∷ [])) p.inside.signs g;
+    }
+
+feasible_of : (q : QueryValue) (signs : List Sign) (ks : List Constraint) → AreOf q signs ks → length signs ≤ length (pairs q) → IsSatisfiable ks → IsFeasible q signs
+feasible_of q signs ks m l t = feasible_if q signs l (record { at = t.at; solves = m.into t.at t.solves })
+
+satisfiable_of : (q : QueryValue) (signs : List Sign) (ks : List Constraint) → AreOf q signs ks → IsFeasible q signs → IsSatisfiable ks
+satisfiable_of q signs ks m f = let t : IsSatisfiable (of_prefix q signs) = satisfiable_if q signs f in record { at = t.at; solves = m.from t.at t.solves }
+
 -- ---- the closure with the sign
 
 module _ (q : QueryValue) (ps : List Choice) (k : Closure) (pre : List Sign) (s : Sign) (cs : List Constraint) (b : Before q ps k pre) (a : AddsSign q pre s cs) where
-  solves_more : (x : ℕ → ℤ) → Solves x (b.closure.constraints ++ cs) → Solves x (of_prefix q (pre ++ s ∷ []))
-  solves_more x v = subst (Solves x) (sym a.more) (solves_both x (of_prefix q pre) cs (b.closure.into x (solves_left x b.closure.constraints cs v)) (solves_right x b.closure.constraints cs v))
-
-  solves_back : (x : ℕ → ℤ) → Solves x (of_prefix q (pre ++ s ∷ [])) → Solves x (b.closure.constraints ++ cs)
-  solves_back x v =
-      let w : Solves x (of_prefix q pre ++ cs) = subst (Solves x) a.more v in
-      solves_both x b.closure.constraints cs (b.closure.from x (solves_left x (of_prefix q pre) cs w)) (solves_right x (of_prefix q pre) cs w)
-
   -- no assignment has the sign where no integers meet its constraints
   pub not_feasible : ¬ IsSatisfiable (b.closure.constraints ++ cs) → IsFeasible q (pre ++ s ∷ []) → ⊥
-  not_feasible n f =
-      let t : IsSatisfiable (of_prefix q (pre ++ s ∷ [])) = satisfiable_if q (pre ++ s ∷ []) f in
-      n (record { at = t.at; solves = solves_back t.at t.solves })
+  not_feasible n f = n (satisfiable_of q (pre ++ s ∷ []) _ (are_more q pre s b.closure.constraints cs b.closure.are a) f)
 
-  feasible : length pre < length ps → IsSatisfiable (b.closure.constraints ++ cs) → IsFeasible q (pre ++ s ∷ [])
-  feasible l t =
-      let n : length (pre ++ s ∷ []) ≡ length pre + 1 = length-append pre (s ∷ []) in
-      let m : length ps ≡ length (pairs q) = zip_length (IsChoice q) (pairs q) ps b.choices in
-      feasible_if q (pre ++ s ∷ []) (omega (arith, n, m, l)) (record { at = t.at; solves = solves_more t.at t.solves })
+  module _ (l : length pre < length ps) where
+    here : length (pre ++ s ∷ []) ≤ length (pairs q)
+    here = room_next q ps k pre s b l
 
-  -- where the sign says nothing new the closure stays
-  pub before_same : length pre < length ps → ((x : ℕ → ℤ) → Solves x b.closure.constraints → Solves x (b.closure.constraints ++ cs)) → Before q ps k (pre ++ s ∷ [])
-  before_same l f =
-      let n : length (pre ++ s ∷ []) ≡ length pre + 1 = length-append pre (s ∷ []) in
-      let t : IsSatisfiable (of_prefix q pre) = satisfiable_if q pre b.feasible in
-      record {
-        limits = b.limits;
-        choices = b.choices;
-        room = omega (arith, n, l);
-        few = b.few;
-        closure = record {
-          constraints = b.closure.constraints;
-          closure = b.closure.closure;
-          into = λ x v. solves_more x (f x v);
-          from = λ x v. solves_left x b.closure.constraints cs (solves_back x v);
-          few = omega (arith, n, b.closure.few);
-        };
-        feasible = feasible l (record { at = t.at; solves = f t.at (b.closure.from t.at t.solves) });
-      }
+    -- where the sign follows the closure stays
+    pub before_same : AreImplied k cs → Before q ps k (pre ++ s ∷ [])
+    before_same i =
+        let e : All (Implies b.closure.constraints) cs = i _ _ b.closure.closure in
+        let m : AreOf q (pre ++ s ∷ []) b.closure.constraints = are_same q pre s b.closure.constraints cs b.closure.are a e in
+        record {
+          limits = b.limits;
+          choices = b.choices;
+          room = omega (arith, length-append pre (s ∷ []), l);
+          few = b.few;
+          closure = record { constraints = b.closure.constraints; closure = b.closure.closure; are = m };
+          feasible = feasible_of q (pre ++ s ∷ []) _ m here (satisfiable_of q pre _ b.closure.are b.feasible);
+        }
 
-  -- else its constraints are added
-  pub before_added : length pre < length ps → (r : Closure) → IsClosureOf r (length (attrs_of q.atoms)) (b.closure.constraints ++ cs) → IsSatisfiable (b.closure.constraints ++ cs) → Before q ps r (pre ++ s ∷ [])
-  before_added l r h t =
-      let n : length (pre ++ s ∷ []) ≡ length pre + 1 = length-append pre (s ∷ []) in
-      let m : length (b.closure.constraints ++ cs) ≡ length b.closure.constraints + length cs = length-append b.closure.constraints cs in
-      record {
-        limits = b.limits;
-        choices = b.choices;
-        room = omega (arith, n, l);
-        few = b.few;
-        closure = record {
-          constraints = b.closure.constraints ++ cs;
-          closure = h;
-          into = solves_more;
-          from = solves_back;
-          few = omega (arith, n, m, b.closure.few, a.few);
-        };
-        feasible = feasible l t;
-      }
+    pub follows_same : AreImplied k cs → Follows q pre (pre ++ s ∷ [])
+    follows_same i = follows_one q pre s b.closure.constraints cs b.closure.are a (i _ _ b.closure.closure) here
 
-  pub room_more : length pre < length ps → HasRoom k (length cs)
-  room_more l = record {
-    constraints = b.closure.constraints;
-    closure = subst (λ m. IsClosureOf k m b.closure.constraints) (sym b.closure.closure.attrs) b.closure.closure;
-    room = omega (arith, b.closure.few, a.few, b.limits.comparisons, b.few, l);
-  }
+    -- else its constraints are added
+    pub before_added : (r : Closure) → IsClosureOf r (length (attrs_of q.atoms)) (b.closure.constraints ++ cs) → IsSatisfiable (b.closure.constraints ++ cs) → Before q ps r (pre ++ s ∷ [])
+    before_added r h t =
+        let m : AreOf q (pre ++ s ∷ []) (b.closure.constraints ++ cs) = are_more q pre s b.closure.constraints cs b.closure.are a in
+        record {
+          limits = b.limits;
+          choices = b.choices;
+          room = omega (arith, length-append pre (s ∷ []), l);
+          few = b.few;
+          closure = record { constraints = b.closure.constraints ++ cs; closure = h; are = m };
+          feasible = feasible_of q (pre ++ s ∷ []) _ m here t;
+        }
 
-  pub room_here : length pre < length ps → HasRoom k 0
-  room_here l = record {
-    constraints = b.closure.constraints;
-    closure = subst (λ m. IsClosureOf k m b.closure.constraints) (sym b.closure.closure.attrs) b.closure.closure;
-    room = omega (arith, b.closure.few, b.limits.comparisons, b.few, l);
-  }
+    pub room_more : HasRoom k (length cs)
+    room_more = record {
+      constraints = b.closure.constraints;
+      closure = subst (λ m. IsClosureOf k m b.closure.constraints) (sym b.closure.closure.attrs) b.closure.closure;
+      room = omega (arith, b.closure.are.few, a.few, b.limits.comparisons, b.few, l);
+    }
+
+    pub room_here : HasRoom k 0
+    room_here = record {
+      constraints = b.closure.constraints;
+      closure = subst (λ m. IsClosureOf k m b.closure.constraints) (sym b.closure.closure.attrs) b.closure.closure;
+      room = omega (arith, b.closure.are.few, b.limits.comparisons, b.few, l);
+    }
 
   pub within_here : All (IsWithin k.attrs) cs
   within_here = subst (λ m. All (IsWithin m) cs) (sym b.closure.closure.attrs) a.within
@@ -128,9 +176,11 @@ before_root q ps k l e few h t = record {
   closure = record {
     constraints = of_atoms (attrs_of q.atoms) q.atoms;
     closure = h;
-    into = λ x v. subst (Solves x) (sym (of_no_prefix q)) v;
-    from = λ x v. subst (Solves x) (of_no_prefix q) v;
-    few = omega (arith, length-of_atoms (attrs_of q.atoms) q.atoms);
+    are = record {
+      into = λ x v. subst (Solves x) (sym (of_no_prefix q)) v;
+      from = λ x v. subst (Solves x) (of_no_prefix q) v;
+      few = omega (arith, length-of_atoms (attrs_of q.atoms) q.atoms);
+    };
   };
   feasible = feasible_if q [] (omega arith) (subst IsSatisfiable (sym (of_no_prefix q)) t);
 }

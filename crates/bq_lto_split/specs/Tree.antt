@@ -1,5 +1,5 @@
 -- What a walk of the tree of signs adds.
-use Rattle.std.specs.Prelude.{◌≡◌, ℕ, ◌+◌, ◌*◌, ◌<◌, ◌≤◌, ℤ, List, [], ◌∷◌, ◌++◌, length, Result, Ok, Err}
+use Rattle.std.specs.Prelude.{◌≡◌, ℕ, ◌+◌, ◌*◌, ◌<◌, ◌≤◌, ℤ, List, [], ◌∷◌, ◌++◌, length, All, Result, Ok, Err}
 use Rattle.bq_model.specs.declared.part.Sign.{Sign}
 use Rattle.bq_model.specs.declared.part.Part.{Part}
 use Rattle.bq_model.specs.Query.{QueryValue, attrs_of, IsWithinLimits}
@@ -13,18 +13,22 @@ use Rattle.bq_closure.specs.declared.closure.Closure.{Closure}
 use Rattle.bq_closure.specs.Choices.{AreChoices}
 use Rattle.bq_closure.specs.Closure.{IsClosureOf}
 use Rattle.bq_constraints.specs.PartConstraints.{of_prefix}
-use Rattle.bq_constraints.specs.Solutions.{Solves}
+use Rattle.bq_constraints.specs.Solutions.{Solves, Implies}
 use Rattle.bq_lto_split.specs.declared.error.SplitError.{SplitError}
 use Rattle.bq_lto_split.specs.declared.error.SplitError.TheVariants as why
 use Rattle.bq_lto_split.specs.Split.{sign_lists}
 
--- the closure of some constraints that the same integers meet as those of the comparisons and of the signs
+-- the same integers meet the constraints as those of the comparisons and of the signs
+pub record AreOf (q : QueryValue) (signs : List Sign) (cs : List Constraint) : Type 0 where
+  pub into : (x : ℕ → ℤ) → Solves x cs → Solves x (of_prefix q signs)
+  pub from : (x : ℕ → ℤ) → Solves x (of_prefix q signs) → Solves x cs
+  pub few : length cs ≤ 2 * (length q.atoms + length signs)
+
+-- the closure of such constraints
 pub record IsClosureFor (q : QueryValue) (signs : List Sign) (k : Closure) : Type 0 where
   pub constraints : List Constraint
   pub closure : IsClosureOf k (length (attrs_of q.atoms)) constraints
-  pub into : (x : ℕ → ℤ) → Solves x constraints → Solves x (of_prefix q signs)
-  pub from : (x : ℕ → ℤ) → Solves x (of_prefix q signs) → Solves x constraints
-  pub few : length constraints ≤ 2 * (length q.atoms + length signs)
+  pub are : AreOf q signs constraints
 
 -- a node of the tree: some assignment has its signs, and the closure is theirs
 pub record Before (q : QueryValue) (cs : List Choice) (k : Closure) (signs : List Sign) : Type 0 where
@@ -35,14 +39,22 @@ pub record Before (q : QueryValue) (cs : List Choice) (k : Closure) (signs : Lis
   pub closure : IsClosureFor q signs k
   pub feasible : IsFeasible q signs
 
--- the parts that begin with the signs of some pairs were added, there are at most 4,096 in all, and a list stayed as it was
-pub record Walked (q : QueryValue) (signs old new : List Sign) (before after : List Part) : Type 0 where
+-- the constraints that it is the closure of imply each of these
+abbrev pub AreImplied : Closure → List Constraint → Type 0
+AreImplied k cs = (n : ℕ) (ks : List Constraint) → IsClosureOf k n ks → All (Implies ks) cs
+
+-- the longer signs begin with the signs, and each part that begins with the signs begins with the longer ones
+pub record Follows (q : QueryValue) (signs longer : List Sign) : Type 0 where
+  pub starts : StartsWith signs longer
+  pub all : (s : List Sign) → IsPart q s → StartsWith signs s → StartsWith longer s
+
+-- the parts that begin with the signs of some pairs were added, and there are at most 4,096 in all
+pub record Walked (q : QueryValue) (signs : List Sign) (before after : List Part) : Type 0 where
   pub room : length signs ≤ length (pairs q)
   pub more : List (List Sign)
   pub are : ArePartsUnder q signs more
   pub added : sign_lists after ≡ sign_lists before ++ more
   pub few : length after ≤ 4096
-  pub same : new ≡ old
 
 -- some parts that begin with the signs, ascending
 pub record SomePartsUnder (q : QueryValue) (signs : List Sign) (xs : List (List Sign)) : Type 0 where
@@ -57,26 +69,25 @@ pub record IsOver (q : QueryValue) (signs : List Sign) (n : ℕ) : Type 0 where
   pub over : 4096 < n + length some
 
 -- all parts that begin with the signs were added, or there are too many
-abbrev pub Walks : Result (Unit {0}) SplitError → QueryValue → List Sign → List Sign → List Sign → List Part → List Part → Type 0
-Walks (Ok u) q signs old new before after = Walked q signs old new before after
-Walks (Err why.TooManyParts) q signs old new before after = IsOver q signs (length before)
-Walks (Err why.Memory) q signs old new before after = Unit {0}
+abbrev pub Walks : Result (Unit {0}) SplitError → QueryValue → List Sign → List Part → List Part → Type 0
+Walks (Ok u) q signs before after = Walked q signs before after
+Walks (Err why.TooManyParts) q signs before after = IsOver q signs (length before)
+Walks (Err why.Memory) q signs before after = Unit {0}
 
 -- the same of the parts that begin with the signs and then less, and of those that begin with them and then equal
-pub record WalkedTwo (q : QueryValue) (signs new : List Sign) (before after : List Part) : Type 0 where
+pub record WalkedTwo (q : QueryValue) (signs : List Sign) (before after : List Part) : Type 0 where
   pub less : List (List Sign)
   pub equal : List (List Sign)
   pub are_less : ArePartsUnder q (signs ++ Sign.Lt ∷ []) less
   pub are_equal : ArePartsUnder q (signs ++ Sign.Eq ∷ []) equal
   pub added : sign_lists after ≡ (sign_lists before ++ less) ++ equal
   pub few : length after ≤ 4096
-  pub same : new ≡ signs
 
 -- these parts were added, or there are too many
-abbrev pub WalksTwo : Result (Unit {0}) SplitError → QueryValue → List Sign → List Sign → List Part → List Part → Type 0
-WalksTwo (Ok u) q signs new before after = WalkedTwo q signs new before after
-WalksTwo (Err why.TooManyParts) q signs new before after = IsOver q signs (length before)
-WalksTwo (Err why.Memory) q signs new before after = Unit {0}
+abbrev pub WalksTwo : Result (Unit {0}) SplitError → QueryValue → List Sign → List Part → List Part → Type 0
+WalksTwo (Ok u) q signs before after = WalkedTwo q signs before after
+WalksTwo (Err why.TooManyParts) q signs before after = IsOver q signs (length before)
+WalksTwo (Err why.Memory) q signs before after = Unit {0}
 
 -- one part was added, of which there are at most 4,096 in all
 pub record Added (p : Part) (before after : List Part) : Type 0 where

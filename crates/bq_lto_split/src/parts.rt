@@ -31,13 +31,18 @@ pub fn split(alloc: Global, q: &Query) -> Result<Vec<Part>, SplitError>
     ensures over { OnTooMany result (HasMoreParts q.now 4096) }
 {
     let mut parts = Vec::new(alloc);
-    let closure = start(q);
+    let mut closure = start(q);
     if !closure.satisfiable() {
         return Ok(parts);
     }
     let choices = choices(q);
-    let mut signs = Signs::new();
-    match walk(q, choices.as_slice(), &closure, &mut signs, &mut parts) {
+    match walk(
+        q,
+        choices.as_slice(),
+        &mut closure,
+        Signs::new(),
+        &mut parts,
+    ) {
         Ok(()) => Ok(parts),
         Err(why) => Err(why),
     }

@@ -1,8 +1,10 @@
 //! The tree of signs.
-ghost use Rattle.std.specs.Prelude.{◌≡◌, ◌<◌, ◌≤◌, ◌++◌, ◌∷◌, [], length};
-ghost use Rattle.bq_closure.specs.Choices.{AreChoices};
+ghost use Rattle.std.specs.Prelude.{◌≡◌, ◌<◌, ◌≤◌, ◌++◌, ◌∷◌, [], length, All, IsTrue, IfSome};
+ghost use Rattle.bq_closure.specs.Choices.{AreChoices, chosen};
+ghost use Rattle.bq_closure.specs.Closure.{HasRoom};
 ghost use Rattle.bq_constraints.specs.PartConstraints.{AddsSign};
-ghost use Rattle.bq_lto_split.specs.Tree.{Before, Walks, WalksTwo, Adds};
+ghost use Rattle.bq_constraints.specs.Solutions.{IsWithin};
+ghost use Rattle.bq_lto_split.specs.Tree.{Before, AreImplied, Follows, Walks, WalksTwo, Adds};
 
 use crate::error::SplitError;
 use arrayvec::ArrayVec;
@@ -25,134 +27,168 @@ fn next_constraints<'a>(
     choices[signs.len()].by(sign)
 }
 
-/// Adds the parts that begin with these signs, with at most 4,096 in all.
-#[tactic(auto, using(crate::proofs::Walks::last, crate::proofs::Walks::broke_before))]
+// Whether the closure implies the constraints of the sign.
+fn is_implied(closure: &Closure, choice: &Choice, sign: Sign) -> bool
+    requires known { HasRoom closure.now 0 }
+    requires within { All (IsWithin closure.now.attrs) (chosen choice.now sign) }
+    ensures { IsTrue result → AreImplied closure.now (chosen choice.now sign) }
+{
+    closure.implies_each(choice.by(sign))
+}
+
+// The sign that follows, where there is one.
+fn implied(closure: &Closure, choice: &Choice) -> Option<Sign>
+    requires known { HasRoom closure.now 0 }
+    requires within { (s : Sign) → All (IsWithin closure.now.attrs) (chosen choice.now s) }
+    ensures { IfSome result (λ s. AreImplied closure.now (chosen choice.now s)) }
+{
+    if is_implied(closure, choice, Sign::Lt) {
+        Some(Sign::Lt)
+    } else if is_implied(closure, choice, Sign::Gt) {
+        Some(Sign::Gt)
+    } else if is_implied(closure, choice, Sign::Eq) {
+        Some(Sign::Eq)
+    } else {
+        None
+    }
+}
+
+// Adds the signs that follow from these, up to a pair for which none follows.
+fn follow(q: &Query, choices: &[Choice], closure: &Closure, signs: &mut Signs)
+    requires before { Before q.now choices.now closure.now signs.old.items }
+    ensures before { Before q.now choices.now closure.now signs.new.items }
+    ensures follow { Follows q.now signs.old.items signs.new.items }
+{
+    let _query = q;
+    for i in signs.len()..choices.len() {
+        match implied(closure, &choices[i]) {
+            Some(sign) => signs.push(sign),
+            None => return,
+        }
+    }
+}
+
+/// Adds the parts that begin with these signs, with at most 4,096 in all. The closure is given up.
 #[cycle(walk)]
 pub fn walk(
     q: &Query,
     choices: &[Choice],
-    closure: &Closure,
-    signs: &mut Signs,
+    closure: &mut Closure,
+    signs: Signs,
     parts: &mut Vec<Part>,
 ) -> Result<(), SplitError>
-    requires before { Before q.now choices.now closure.now signs.old.items }
+    requires before { Before q.now choices.now closure.old signs.items }
     requires few { length parts.old.items ≤ 4096 }
-    ensures { Walks result q.now signs.old.items signs.old.items signs.new.items parts.old.items parts.new.items }
+    ensures { Walks result q.now signs.items parts.old.items parts.new.items }
 {
-    if signs.len() == choices.len() {
-        return add_part(part_of(signs.as_slice()), parts);
+    let mut longer = signs;
+    follow(q, choices, closure, &mut longer);
+    if longer.len() == choices.len() {
+        return add_part(Part { signs: longer }, parts);
     }
-    match less_or_equal(q, choices, closure, signs, parts) {
-        Ok(()) => branch(q, choices, closure, Sign::Gt, signs, parts),
+    branches(q, choices, closure, longer, parts)
+}
+
+// The same where the next pair has a sign that does not follow.
+#[tactic(auto, using(crate::proofs::Walks::last, crate::proofs::Walks::broke_before))]
+#[cycle(walk)]
+fn branches(
+    q: &Query,
+    choices: &[Choice],
+    closure: &mut Closure,
+    signs: Signs,
+    parts: &mut Vec<Part>,
+) -> Result<(), SplitError>
+    requires before { Before q.now choices.now closure.old signs.items }
+    requires room { length signs.items < length choices.now }
+    requires few { length parts.old.items ≤ 4096 }
+    ensures { Walks result q.now signs.items parts.old.items parts.new.items }
+{
+    match less_or_equal(q, choices, closure, signs.as_slice(), parts) {
+        Ok(()) => deeper(q, choices, closure, signs, Sign::Gt, parts),
         Err(why) => Err(why),
     }
 }
 
-// The same for these signs and then less, and then for these signs and then equal.
+// The same for these signs and then less, and then for these signs and then equal. The closure stays.
 #[tactic(auto, using(crate::proofs::Walks::second, crate::proofs::Walks::broke_first))]
 #[cycle(walk)]
 fn less_or_equal(
     q: &Query,
     choices: &[Choice],
     closure: &Closure,
-    signs: &mut Signs,
+    signs: &[Sign],
     parts: &mut Vec<Part>,
 ) -> Result<(), SplitError>
-    requires before { Before q.now choices.now closure.now signs.old.items }
-    requires room { length signs.old.items < length choices.now }
+    requires before { Before q.now choices.now closure.now signs.now }
+    requires room { length signs.now < length choices.now }
     requires few { length parts.old.items ≤ 4096 }
-    ensures { WalksTwo result q.now signs.old.items signs.new.items parts.old.items parts.new.items }
+    ensures { WalksTwo result q.now signs.now parts.old.items parts.new.items }
 {
-    match branch(q, choices, closure, Sign::Lt, signs, parts) {
-        Ok(()) => branch(q, choices, closure, Sign::Eq, signs, parts),
+    match branch(q, choices, closure, signs, Sign::Lt, parts) {
+        Ok(()) => branch(q, choices, closure, signs, Sign::Eq, parts),
         Err(why) => Err(why),
     }
 }
 
-// The same for these signs and one more.
+// The same for these signs and one more. The closure stays: a copy of it is given up. It is not inlined, so that a level of
+// the tree has one copy on the stack.
+#[inline(never)]
 #[cycle(walk)]
 fn branch(
     q: &Query,
     choices: &[Choice],
     closure: &Closure,
+    signs: &[Sign],
     sign: Sign,
-    signs: &mut Signs,
     parts: &mut Vec<Part>,
 ) -> Result<(), SplitError>
-    requires before { Before q.now choices.now closure.now signs.old.items }
-    requires room { length signs.old.items < length choices.now }
+    requires before { Before q.now choices.now closure.now signs.now }
+    requires room { length signs.now < length choices.now }
     requires few { length parts.old.items ≤ 4096 }
-    ensures { Walks result q.now (signs.old.items ++ sign ∷ []) signs.old.items signs.new.items parts.old.items parts.new.items }
+    ensures { Walks result q.now (signs.now ++ sign ∷ []) parts.old.items parts.new.items }
 {
-    let added = next_constraints(q, choices, signs.as_slice(), sign);
-    if !closure.allows_each(added) {
+    if !closure.allows_each(next_constraints(q, choices, signs, sign)) {
         return Ok(());
     }
-    if closure.implies_each(added) {
-        return deeper(q, choices, closure, sign, signs, parts);
-    }
-    fork(q, choices, closure, added, sign, signs, parts)
-}
-
-// The same where the sign's constraints say something new.
-#[cycle(walk)]
-fn fork(
-    q: &Query,
-    choices: &[Choice],
-    closure: &Closure,
-    added: &[Constraint],
-    sign: Sign,
-    signs: &mut Signs,
-    parts: &mut Vec<Part>,
-) -> Result<(), SplitError>
-    requires before { Before q.now choices.now closure.now signs.old.items }
-    requires room { length signs.old.items < length choices.now }
-    requires added { AddsSign q.now signs.old.items sign added.now }
-    requires few { length parts.old.items ≤ 4096 }
-    ensures { Walks result q.now (signs.old.items ++ sign ∷ []) signs.old.items signs.new.items parts.old.items parts.new.items }
-{
     let mut next = *closure;
-    next.add_all(added);
-    if !next.satisfiable() {
-        return Ok(());
-    }
-    deeper(q, choices, &next, sign, signs, parts)
+    deeper(q, choices, &mut next, copy_of(signs), sign, parts)
 }
 
-// The same with the closure of the signs and the one more.
+// The same for these signs and one more. The closure is given up.
 #[cycle(walk)]
 fn deeper(
     q: &Query,
     choices: &[Choice],
-    closure: &Closure,
+    closure: &mut Closure,
+    signs: Signs,
     sign: Sign,
-    signs: &mut Signs,
     parts: &mut Vec<Part>,
 ) -> Result<(), SplitError>
-    requires before { Before q.now choices.now closure.now (signs.old.items ++ sign ∷ []) }
+    requires before { Before q.now choices.now closure.old signs.items }
+    requires room { length signs.items < length choices.now }
     requires few { length parts.old.items ≤ 4096 }
-    ensures { Walks result q.now (signs.old.items ++ sign ∷ []) signs.old.items signs.new.items parts.old.items parts.new.items }
+    ensures { Walks result q.now (signs.items ++ sign ∷ []) parts.old.items parts.new.items }
 {
-    signs.push(sign);
-    match walk(q, choices, closure, signs, parts) {
-        Ok(()) => {
-            signs.pop();
-            Ok(())
-        }
-        Err(why) => Err(why),
+    let mut longer = signs;
+    closure.add_all(next_constraints(q, choices, longer.as_slice(), sign));
+    if !closure.satisfiable() {
+        return Ok(());
     }
+    longer.push(sign);
+    walk(q, choices, closure, longer, parts)
 }
 
-// A part with these signs.
-fn part_of(signs: &[Sign]) -> Part
+// A copy of these signs.
+fn copy_of(signs: &[Sign]) -> Signs
     requires { length signs.now ≤ 106 }
-    ensures { result.signs.items ≡ signs.now }
+    ensures { result.items ≡ signs.now }
 {
     let mut copy = ArrayVec::new();
-    for sign in signs {
-        copy.push(*sign);
+    match copy.try_extend_from_slice(signs) {
+        Ok(()) => copy,
+        Err(_) => unreachable!(),
     }
-    Part { signs: copy }
 }
 
 // Adds a part where there are fewer than 4,096.

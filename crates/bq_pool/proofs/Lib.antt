@@ -7,3 +7,4 @@ pub mod GivingBack
 pub mod Fresh
 pub mod CallerLemmas
 pub mod Apart
+pub mod Scanning

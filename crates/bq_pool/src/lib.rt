@@ -7,6 +7,8 @@
 
 mod pages;
 mod pool;
+mod scan;
 
 pub use bq_model::Cell;
 pub use pool::{Extent, Pool, PoolError};
+pub use scan::{Filled, Line};

@@ -1,8 +1,12 @@
 //! The page pool: a clause sees how many pages are free and the cells of each live extent.
 ghost use Rattle.std.specs.Prelude.{◌≡◌, ℕ, ◌+◌, ◌*◌, ◌<◌, ◌≤◌, length, slice_index, slice_index_or, slice_set, IfOk, MatchResult};
 ghost use Rattle.bq_pool.specs.Extents.{cells_of, with_cells, IsLive, IsTaken, IsFull, IsGivenBack, live_extents, lent_pages, AreApart, IsFresh};
+ghost use Rattle.bq_pool.specs.Lines.{at_line, Scanned};
+ghost use Rattle.bq_model.specs.declared.cell.Cell.{Cell};
+ghost use Rattle.bq_model.specs.declared.cell.Cell.TheVariants.{Empty as empty};
 
 use crate::pages::{clear_pages, copy_pages, vacant};
+use crate::scan::{Filled, Line, first_along, first_beside};
 use bq_io::Steps;
 use bq_model::Cell;
 use std::alloc::{AllocError, Global};
@@ -125,6 +129,28 @@ impl Pool {
         self.cells[usize::from(page) * CELLS_PER_PAGE + i % CELLS_PER_PAGE]
     }
 
+    /// The first cell of a line of an extent that is not empty, from one place up to another, if one is not. Each cell that is
+    /// seen is one step.
+    pub fn first_filled<L: Ledger>(
+        &self,
+        extent: &Extent,
+        line: Line,
+        from: u32,
+        to: u32,
+        steps: &mut Steps<L>,
+    ) -> Option<Filled>
+        requires live { IsLive self.now extent.now }
+        requires within { (i : ℕ) → i < to → line.first + i * line.stride < 64 * extent.now.pages }
+        requires below { from ≤ to }
+        ensures { Scanned (at_line (cells_of self.now extent.now) line) from to steps.old result steps.new }
+    {
+        let slot = usize::from(extent.slot);
+        if line.stride == 1 && to - from > 1 {
+            return first_beside(&self.cells, &self.places, slot, line.first, from, to, steps);
+        }
+        first_along(&self.cells, &self.places, slot, line, from, to, steps)
+    }
+
     /// Writes the cell of an extent with that number, and no other cell of any extent. This is one step.
     pub fn write<L: Ledger>(
         &mut self,
@@ -144,6 +170,29 @@ impl Pool {
         self.cells[usize::from(page) * CELLS_PER_PAGE + i % CELLS_PER_PAGE] = cell;
     }
 
+    /// Puts into a cell of an extent what a function makes of it, and changes no other cell of any extent. This is two steps,
+    /// one that reads and one that writes.
+    pub fn update<L: Ledger, F: FnOnce(Cell) -> Cell>(
+        &mut self,
+        extent: &Extent,
+        index: u32,
+        change: F,
+        steps: &mut Steps<L>,
+    )
+        requires live { IsLive self.old extent.now }
+        requires within { index < 64 * extent.now.pages }
+        requires callable { F.pre change (slice_index_or (cells_of self.old extent.now) index empty) }
+        ensures cells { (cell : Cell) × F.post change (slice_index_or (cells_of self.old extent.now) index empty) cell × (self.new ≡ with_cells self.old extent.now (slice_set (cells_of self.old extent.now) index cell)) }
+        ensures steps { steps.new ≡ steps.old + 2 }
+    {
+        steps.tick();
+        let i = index as usize;
+        let page = self.places[usize::from(extent.slot) * PAGES_PER_SLOT + i / CELLS_PER_PAGE];
+        let place = usize::from(page) * CELLS_PER_PAGE + i % CELLS_PER_PAGE;
+        self.cells[place] = changed(self.cells[place], change);
+        steps.tick();
+    }
+
     /// Makes the pages of an extent free again.
     pub fn give_back(&mut self, extent: Extent)
         requires { IsLive self.old extent }
@@ -160,6 +209,14 @@ impl Pool {
         self.slots[slot] = None;
         self.free += u32::from(pages);
     }
+}
+
+// What a function makes of a cell.
+fn changed<F: FnOnce(Cell) -> Cell>(cell: Cell, change: F) -> Cell
+    requires { F.pre change cell }
+    ensures { F.post change cell result }
+{
+    change(cell)
 }
 
 /// The slots of a pool in which no extent is live.

@@ -128,8 +128,8 @@ pub fn stream_at(part: &PartPlan, place: usize) -> &StreamPlan
     &part.streams.as_slice()[place]
 }
 
-// Whether a row of the stream at a place of FROM lies in the ranges of its dims.
-fn is_inside(part: &PartPlan, pos: u8, row: &Row) -> bool
+/// Whether a row of the stream at a place of FROM lies in the ranges of its dims.
+pub fn lies_inside(part: &PartPlan, pos: u8, row: &Row) -> bool
     requires { pos < length part.now.streams.items }
     ensures { result ≡ list_all (in_range (by_column row.now.items)) (dims_at part.now pos) }
 {
@@ -159,5 +159,5 @@ pub fn admits(q: &Query, part: &PartPlan, prepared: &Prepared, pos: u8, row: &Ro
     requires prepared { IsPrepared (pairs q.now) part.now prepared.now }
     ensures { result ≡ admits q.now part.now pos (by_column row.now.items) }
 {
-    is_inside(part, pos, row) && is_kept(q, part, prepared, pos, row)
+    lies_inside(part, pos, row) && is_kept(q, part, prepared, pos, row)
 }

@@ -145,8 +145,8 @@ pub fn insert<L: Ledger>(
     ensures steps { steps.new ≡ steps.old + 2 }
 {
     let _query = q;
-    let index = row_cell(part, pos, row.as_slice(), e);
-    let cell = pool.read(e, index, steps);
+    let values = row.as_slice();
+    let index = row_cell(part, pos, values, e);
     let kind = stream_at(part, usize::from(pos)).kind;
-    pool.write(e, index, with_row(kind, row.as_slice(), cell), steps);
+    pool.update(e, index, |cell| with_row(kind, values, cell), steps);
 }

@@ -1,22 +1,39 @@
 //! Levels at which known columns fix every dim: one pass tells the only combination of values and the number of its cell.
-ghost use Rattle.std.specs.Prelude.{◌≡◌, ◌≢◌, ◌+◌, ◌<◌, ◌^◌, length, map, IfSome};
+ghost use Rattle.std.specs.Prelude.{◌≡◌, ◌≢◌, ◌+◌, ◌<◌, ◌^◌, ◌≤ℤ◌, length, map, IfSome};
 ghost use Rattle.bq_model.specs.Boxes.{box_size, place_of};
 ghost use Rattle.bq_model.specs.Plan.{stream_at, dims_at};
 ghost use Rattle.bq_synopsis.specs.Lined.{IsFixed, AreFixed};
 ghost use Rattle.bq_synopsis.specs.Preparing.{IsPrepared};
 ghost use Rattle.bq_synopsis.specs.Premises.{IsLaidOut};
 ghost use Rattle.bq_synopsis.specs.Values.{value_in};
-ghost use Rattle.bq_synopsis.specs.Walk.{narrow, narrowed_dims};
+ghost use Rattle.bq_synopsis.specs.Walk.{narrow, narrowed_to, narrowed_dims};
 
 use crate::admission::stream_at;
 use crate::chosen::Chosen;
 use crate::combination::dim_size;
 use crate::lines::offset_of;
-use crate::narrow::{narrowed_to, witness};
+use crate::lists::Dims;
+use crate::narrow::witness;
 use crate::prepared::Prepared;
 use crate::values::value_in;
-use arrayvec::ArrayVec;
 use bq_model::{Dim, Pair, PartPlan};
+
+// The dim with one value alone, if that is in its range.
+fn pinned(dim: Dim, value: i64) -> Option<Dim>
+    ensures { IfSome result (λ fixed. (fixed ≡ narrowed_to dim value) × (fixed.lo ≤ℤ fixed.hi)) }
+{
+    if value < dim.lo {
+        return None;
+    }
+    if dim.hi < value {
+        return None;
+    }
+    Some(Dim {
+        attr: dim.attr,
+        lo: value,
+        hi: value,
+    })
+}
 
 // The dim with the one value that a known column leaves it, if one does.
 fn fixed_dim(
@@ -34,13 +51,10 @@ fn fixed_dim(
     let Some(column) = witness(arriving, known.len(), dim.attr, part.equal.as_slice()) else {
         return None;
     };
-    let fixed = narrowed_to(
-        dim,
-        value_in(pairs, part, prepared, arriving, row, known, column),
-    );
-    if fixed.hi < fixed.lo {
+    let value = value_in(pairs, part, prepared, arriving, row, known, column);
+    let Some(fixed) = pinned(dim, value) else {
         return None;
-    }
+    };
     Some(fixed)
 }
 
@@ -53,7 +67,7 @@ pub fn fixed_dims(
     arriving: u8,
     row: &[i64],
     known: &[Chosen],
-    dims: &mut ArrayVec<Dim, 8>,
+    dims: &mut Dims,
 ) -> Option<u32>
     requires here { length known.now < length part.now.streams.items }
     requires other { length known.now ≢ arriving }

@@ -15,13 +15,14 @@ mod fixed;
 pub mod laws;
 mod lines;
 mod links;
+mod lists;
 mod narrow;
 mod prepared;
 mod probe;
 mod stack;
 mod values;
 
-pub use admission::admits;
+pub use admission::{admits, lies_inside};
 pub use cells::insert;
-pub use prepared::{Prepared, prepare};
+pub use prepared::{Prepared, class_of, prepare};
 pub use probe::{Probe, Room};

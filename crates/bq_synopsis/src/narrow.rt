@@ -6,9 +6,9 @@ ghost use Rattle.bq_synopsis.specs.Values.{value_in};
 ghost use Rattle.bq_synopsis.specs.Walk.{witness, narrowed_to, below, above, cut_by, cut, narrow, narrowed_dims};
 
 use crate::chosen::Chosen;
+use crate::lists::Dims;
 use crate::prepared::Prepared;
 use crate::values::{is_same, value_in};
-use arrayvec::ArrayVec;
 use bq_model::{Attr, Dim, Link, Pair, PartPlan};
 
 // Whether a walk that has chosen at so many places knows the column.
@@ -33,8 +33,8 @@ pub fn witness(arriving: u8, place: usize, a: Attr, links: &[Link]) -> Option<At
     None
 }
 
-/// The dim with one value alone, or with none where the value is outside its range.
-pub fn narrowed_to(dim: Dim, value: i64) -> Dim
+// The dim with one value alone, or with none where the value is outside its range.
+fn narrowed_to(dim: Dim, value: i64) -> Dim
     ensures { result ≡ narrowed_to dim value }
 {
     if dim.lo <= value && value <= dim.hi {
@@ -179,7 +179,7 @@ pub fn narrowed_dims(
     arriving: u8,
     row: &[i64],
     known: &[Chosen],
-    dims: &mut ArrayVec<Dim, 8>,
+    dims: &mut Dims,
 )
     requires here { length known.now < length part.now.streams.items }
     requires prepared { IsPrepared pairs.now part.now prepared.now }

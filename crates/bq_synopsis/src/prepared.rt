@@ -60,7 +60,8 @@ impl Prepared {
     }
 }
 
-// The place of the dim of the class of a column, searched for.
+// The place of the dim of the class of a column, searched for. It is rarely asked, and so not inlined.
+#[inline(never)]
 fn search_class(pairs: &[Pair], part: &PartPlan, a: Attr) -> Option<u8>
     ensures { result ≡ class_of pairs.now part.now a }
 {

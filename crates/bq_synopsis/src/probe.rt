@@ -23,8 +23,9 @@ use crate::admission::stream_at;
 use crate::chosen::Chosen;
 use crate::combination::values_of;
 use crate::fixed::fixed_dims;
-use crate::lines::{Line, first_filled, is_empty, line_of};
+use crate::lines::{is_empty, line_of};
 use crate::links::{meets_links, tuple_of};
+use crate::lists::Dims;
 use crate::narrow::narrowed_dims;
 use crate::prepared::Prepared;
 use crate::stack::Choices;
@@ -32,7 +33,7 @@ use crate::values::rows_in;
 use arrayvec::ArrayVec;
 use bq_io::Steps;
 use bq_model::{Cell, Dim, Pair, PartPlan, Query, Row, Tuple, cell_index, size_of};
-use bq_pool::{Extent, Pool};
+use bq_pool::{Extent, Line, Pool};
 use std::sync::ledger::Ledger;
 
 /// A level that no walk comes to.
@@ -44,7 +45,7 @@ pub struct Room {
     chosen: Choices,
     numbers: ArrayVec<u32, 4>,
     sizes: ArrayVec<u32, 4>,
-    dims: ArrayVec<Dim, 8>,
+    dims: Dims,
     line: Option<Line>,
 }
 
@@ -108,6 +109,7 @@ impl Room {
     }
 
     // Sees which values there are to try after these choices, one dim after the other.
+    #[inline(never)]
     fn look_all(
         &mut self,
         pairs: &[Pair],
@@ -512,7 +514,7 @@ impl<'a> Probe<'a> {
         ensures reads { steps.new + reads_left part.now self.new ≤ steps.old + reads_left part.now self.old }
         ensures turns { turns_left part.now self.new < turns_left part.now self.old }
     {
-        match first_filled(pool, e, line, self.next, self.size, steps) {
+        match pool.first_filled(e, line, self.next, self.size, steps) {
             Some(filled) => {
                 self.next = filled.next;
                 self.enter(part, filled.cell);

@@ -2,11 +2,13 @@ use Rattle.std.proofs.Common.{◌<◌, subst, length}
 use Rattle.bq_model.specs.Combinations.{read_from}
 use Rattle.bq_pool.specs.Extents.{cells_of}
 use Rattle.bq_executor.specs.Taking.{HaveRoom}
+use Rattle.bq_executor.specs.Arriving.{arrives}
+use Rattle.bq_executor.proofs.FilledLaws.{full-old}
 use Rattle.bq_executor.proofs.InPart.{found_admitted, own_room, all_added}
 use Rattle.bq_executor.proofs.part.take_row.Goals as goal
 
-pub answer-requires-clause-room : goal.answer-requires-clause-room
-answer-requires-clause-room g c =
+pub answer_new-requires-clause-room : goal.answer_new-requires-clause-room
+answer_new-requires-clause-room g c =
     subst (λ fs. HaveRoom c.args.q.now.distinct fs c.args.table.now)
     (found_admitted c.args.q.now c.args.part.now c.from-streams.ensures.limits c.requires.ready.held.walked.plan c.args.pos c.requires.here c.args.row.now.items (read_from (cells_of c.args.pool.now c.args.e.now)) c.requires.admitted)
     c.requires.room
@@ -18,12 +20,18 @@ insert-requires-clause-room g c =
 
 pub returns-then-streams-gt1-clause-table : goal.returns-then-streams-gt1-clause-table
 returns-then-streams-gt1-clause-table g c =
-    all_added c.args.q.now.distinct _ _ c.args.table.now c.answer.new.table
+    all_added c.args.q.now.distinct _ _ c.args.table.now c.answer_new.new.table
     (found_admitted c.args.q.now c.args.part.now c.from-streams.ensures.limits c.requires.ready.held.walked.plan c.args.pos c.requires.here c.args.row.now.items (read_from (cells_of c.args.pool.now c.args.e.now)) c.requires.admitted)
-    c.answer.ensures.table
+    c.answer_new.ensures.table
 
 pub returns-else-streams-gt1-clause-table : goal.returns-else-streams-gt1-clause-table
 returns-else-streams-gt1-clause-table g c =
-    all_added c.args.q.now.distinct _ _ c.args.table.now c.answer.new.table
+    all_added c.args.q.now.distinct _ _ c.args.table.now c.answer_new.new.table
     (found_admitted c.args.q.now c.args.part.now c.from-streams.ensures.limits c.requires.ready.held.walked.plan c.args.pos c.requires.here c.args.row.now.items (read_from (cells_of c.args.pool.now c.args.e.now)) c.requires.admitted)
-    c.answer.ensures.table
+    c.answer_new.ensures.table
+
+pub answer_new-requires-clause-old : goal.answer_new-requires-clause-old
+answer_new-requires-clause-old g c = λ full.
+    full-old c.args.q.now c.args.part.now (read_from (cells_of c.args.pool.now c.args.e.now)) (arrives c.args.q.now c.args.pos c.args.row.now.items) _ c.args.table.now.entries
+    (c.requires.full full) c.requires.ready.fitting
+    (found_admitted c.args.q.now c.args.part.now c.from-streams.ensures.limits c.requires.ready.held.walked.plan c.args.pos c.requires.here c.args.row.now.items (read_from (cells_of c.args.pool.now c.args.e.now)) c.requires.admitted)

@@ -1,96 +1,116 @@
-use Rattle.std.proofs.Common.{◌≡◌, ◌∙◌, false, ap, sym, refl, arith, Some, slice_get}
+use Rattle.std.proofs.Common.{◌≡◌, ◌∙◌, ◌+◌, ap, sym, subst, arith, slice_get, Some}
 use Rattle.std.proofs.lemmas.Option.{slice_get-get_or}
 use Rattle.bq_model.specs.declared.plan.PartPlan.{PartPlan}
-use Rattle.bq_model.specs.Admission.{admits}
-use Rattle.bq_model.specs.Combinations.{read_from}
 use Rattle.bq_model.specs.Meaning.{by_column}
-use Rattle.bq_pool.specs.Extents.{cells_of}
-use Rattle.bq_executor.proofs.Inserting.{part_plan}
-use Rattle.bq_executor.proofs.Taken.{taken_start, taken_step, ready_part, room_part, room_now, table_more, work_more}
-use Rattle.bq_executor.proofs.InPart.{none_added, found_refused, row_refused}
-use Rattle.bq_executor.proofs.SameRows.{part_at}
+use Rattle.bq_model.specs.Parts.{pairs}
+use Rattle.bq_executor.specs.Chains.{buckets_of, row_bucket, IsNext}
+use Rattle.bq_executor.proofs.Taken.{taken_step, ready_part, room_part, room_now, table_more, work_more}
+use Rattle.bq_executor.proofs.Chained.{passed_by, led_within, led_there}
+use Rattle.bq_executor.proofs.PassedOver.{HaveDone, nothing_done, same_state, passed_one, passed_over}
+use Rattle.bq_answers.specs.Entries.{TableValue}
+use Rattle.bq_executor.specs.declared.filled.Filled.{Filled}
+use Rattle.bq_executor.specs.Filled.{AreFilled}
+use Rattle.bq_executor.proofs.FilledLaws.{full-part, filled-later}
 use Rattle.bq_executor.proofs.parts.take_in_all.Goals as goal
-use Rattle.bq_executor.proofs.parts.take_in_all.Goals.{then-test, else-test}
+use Rattle.bq_executor.proofs.parts.take_in_all.Goals.{then-admits, else-admits}
 
 pub parts-init : goal.parts-init
-parts-init g c = record {
-  prepared = c.requires.prepared;
-  tested = λ k part l at_k. absurd (omega (arith, l));
-  pool = taken_start c.args.q.now c.args.parts.now c.args.e.now _ c.args.pool.now c.requires.ready.live;
-  table = none_added c.args.q.now.distinct _ c.args.table.now refl;
-  steps = omega arith;
-}
+parts-init g c =
+    let v = by_column c.args.row.now.items in
+    let within = led_within c.args.q.now c.args.parts.now c.args.pos c.chains-chains.result.now c.chains-chains.ensures v 0 c.first-led.result.first c.first-led.ensures.first in
+    record {
+      done =
+          passed_over c.args.q.now c.args.parts.now c.args.e.now c.args.pos c.requires.here c.args.row.now.items c.args.pool.now c.requires.ready c.args.table.now c.args.steps.now
+          c.args.pool.now c.args.table.now c.args.steps.now 0 c.first-led.result.first (omega arith) within
+          (passed_by c.args.q.now c.args.parts.now c.args.pos c.chains-chains.result.now c.chains-chains.ensures v 0 c.first-led.result.first c.first-led.ensures.first)
+          (nothing_done c.args.q.now c.args.parts.now c.args.e.now c.args.pos c.requires.here c.args.row.now.items c.args.pool.now c.requires.ready c.args.table.now c.args.steps.now);
+      filled = c.requires.filled;
+      within = within;
+      there = led_there c.args.q.now c.args.parts.now c.args.pos c.chains-chains.result.now c.chains-chains.ensures v 0 c.first-led.result.first c.first-led.ensures.first;
+    }
 
-pub test-requires-clause-whole : goal.test-requires-clause-whole
-test-requires-clause-whole g c = λ part at_n. (part_plan c.args.q.now c.args.parts.now c.requires.ready.limits c.requires.ready.plan c.parts.i part at_n).count
+pub admits-requires-clause-prepared : goal.admits-requires-clause-prepared
+admits-requires-clause-prepared g c =
+    let at_n : slice_get c.args.parts.now c.parts.i ≡ Some c.get-part.result.now
+    = slice_get-get_or c.args.parts.now c.parts.i c.get-part.result.now (omega arith) ∙ ap (λ (p : PartPlan). Some p) (sym (c.get-part.ensures c.get-part.result.now)) in
+    c.part-known.ensures c.get-part.result.now at_n
 
 pub take_row-requires-clause-ready : goal.take_row-requires-clause-ready
 take_row-requires-clause-ready g c =
-    let at_n : slice_get c.args.parts.now c.parts.i ≡ Some c.get.result.now
-    = slice_get-get_or c.args.parts.now c.parts.i c.get.result.now (omega arith) ∙ ap (λ (p : PartPlan). Some p) (sym (c.get.ensures c.get.result.now)) in
-    ready_part c.args.q.now c.args.parts.now c.args.e.now c.args.pos c.requires.here c.args.row.now.items c.args.pool.now c.requires.ready c.parts.i c.get.result.now at_n c.parts.pool c.parts.invariant.pool
+    let at_n : slice_get c.args.parts.now c.parts.i ≡ Some c.get-part.result.now
+    = slice_get-get_or c.args.parts.now c.parts.i c.get-part.result.now (omega arith) ∙ ap (λ (p : PartPlan). Some p) (sym (c.get-part.ensures c.get-part.result.now)) in
+    ready_part c.args.q.now c.args.parts.now c.args.e.now c.args.pos c.requires.here c.args.row.now.items c.args.pool.now c.requires.ready c.parts.i c.get-part.result.now at_n c.parts.pool c.parts.invariant.done.taken
 
 pub take_row-requires-clause-prepared : goal.take_row-requires-clause-prepared
 take_row-requires-clause-prepared g c =
-    let at_n : slice_get c.args.parts.now c.parts.i ≡ Some c.get.result.now
-    = slice_get-get_or c.args.parts.now c.parts.i c.get.result.now (omega arith) ∙ ap (λ (p : PartPlan). Some p) (sym (c.get.ensures c.get.result.now)) in
-    c.part.ensures c.get.result.now at_n
-
-pub take_row-requires-clause-admitted : goal.take_row-requires-clause-admitted
-take_row-requires-clause-admitted g c =
-    let at_n : slice_get c.args.parts.now c.parts.i ≡ Some c.get.result.now
-    = slice_get-get_or c.args.parts.now c.parts.i c.get.result.now (omega arith) ∙ ap (λ (p : PartPlan). Some p) (sym (c.get.ensures c.get.result.now)) in
-    sym (c.if-test.ensures.admits c.get.result.now at_n)
+    let at_n : slice_get c.args.parts.now c.parts.i ≡ Some c.get-part.result.now
+    = slice_get-get_or c.args.parts.now c.parts.i c.get-part.result.now (omega arith) ∙ ap (λ (p : PartPlan). Some p) (sym (c.get-part.ensures c.get-part.result.now)) in
+    c.part-known.ensures c.get-part.result.now at_n
 
 pub take_row-requires-clause-counts : goal.take_row-requires-clause-counts
 take_row-requires-clause-counts g c =
-    let at_n : slice_get c.args.parts.now c.parts.i ≡ Some c.get.result.now
-    = slice_get-get_or c.args.parts.now c.parts.i c.get.result.now (omega arith) ∙ ap (λ (p : PartPlan). Some p) (sym (c.get.ensures c.get.result.now)) in
-    room_part c.args.q.now c.args.parts.now c.args.e.now c.args.pos c.requires.here c.args.row.now.items c.args.pool.now c.requires.ready c.parts.i c.get.result.now at_n c.parts.pool c.parts.invariant.pool
+    let at_n : slice_get c.args.parts.now c.parts.i ≡ Some c.get-part.result.now
+    = slice_get-get_or c.args.parts.now c.parts.i c.get-part.result.now (omega arith) ∙ ap (λ (p : PartPlan). Some p) (sym (c.get-part.ensures c.get-part.result.now)) in
+    room_part c.args.q.now c.args.parts.now c.args.e.now c.args.pos c.requires.here c.args.row.now.items c.args.pool.now c.requires.ready c.parts.i c.get-part.result.now at_n c.parts.pool c.parts.invariant.done.taken
 
 pub take_row-requires-clause-room : goal.take_row-requires-clause-room
 take_row-requires-clause-room g c =
-    let at_n : slice_get c.args.parts.now c.parts.i ≡ Some c.get.result.now
-    = slice_get-get_or c.args.parts.now c.parts.i c.get.result.now (omega arith) ∙ ap (λ (p : PartPlan). Some p) (sym (c.get.ensures c.get.result.now)) in
-    room_now c.args.q.now c.args.parts.now c.args.e.now c.args.pos c.requires.here c.args.row.now.items c.args.pool.now c.requires.ready c.parts.i c.get.result.now at_n c.parts.pool c.parts.invariant.pool
-    c.args.q.now.distinct c.args.table.now c.parts.table c.requires.room c.parts.invariant.table
+    let at_n : slice_get c.args.parts.now c.parts.i ≡ Some c.get-part.result.now
+    = slice_get-get_or c.args.parts.now c.parts.i c.get-part.result.now (omega arith) ∙ ap (λ (p : PartPlan). Some p) (sym (c.get-part.ensures c.get-part.result.now)) in
+    room_now c.args.q.now c.args.parts.now c.args.e.now c.args.pos c.requires.here c.args.row.now.items c.args.pool.now c.requires.ready c.parts.i c.get-part.result.now at_n c.parts.pool c.parts.invariant.done.taken
+    c.args.q.now.distinct c.args.table.now c.parts.table c.requires.room c.parts.invariant.done.found
+
+pub take_row-requires-clause-full : goal.take_row-requires-clause-full
+take_row-requires-clause-full g c = λ full.
+    let at_n : slice_get c.args.parts.now c.parts.i ≡ Some c.get-part.result.now
+    = slice_get-get_or c.args.parts.now c.parts.i c.get-part.result.now (omega arith) ∙ ap (λ (p : PartPlan). Some p) (sym (c.get-part.ensures c.get-part.result.now)) in
+    full-part c.args.q.now c.args.parts.now c.parts.filled c.parts.table.entries c.parts.i c.get-part.result.now c.parts.invariant.filled at_n
+    (c.is_full-full.ensures.distinct full) (c.is_full-full.ensures.all full)
+
+pub advance-requires-clause-filled : goal.advance-requires-clause-filled
+advance-requires-clause-filled g c =
+    filled-later c.args.q.now c.args.parts.now c.parts.filled _ c.parts.table c.take_row.new.table c.take_row.ensures.table c.parts.invariant.filled
 
 pub parts-preserved : goal.parts-preserved
-parts-preserved g c = elim c.if-test.branch [
-  | then-test w ↦ (
-      let at_n : slice_get c.args.parts.now c.parts.i ≡ Some w.get.result.now
-      = slice_get-get_or c.args.parts.now c.parts.i w.get.result.now (omega arith) ∙ ap (λ (p : PartPlan). Some p) (sym (w.get.ensures w.get.result.now)) in
-      let more = work_more c.args.q.now c.args.parts.now c.args.e.now c.args.pos c.requires.here c.args.row.now.items c.args.pool.now c.requires.ready c.parts.i w.get.result.now at_n c.parts.pool c.parts.invariant.pool in
-      record {
-        prepared = c.test.ensures.prepared;
-        tested = c.test.ensures.tested;
-        pool =
-            taken_step c.args.q.now c.args.parts.now c.args.e.now c.args.pos c.requires.here c.args.row.now.items c.args.pool.now c.requires.ready c.parts.i w.get.result.now at_n c.parts.pool c.parts.invariant.pool
-            c.if-test.pool (w.pool-is ∙ w.take_row.ensures.pool);
-        table =
-            table_more c.args.q.now c.args.parts.now c.args.e.now c.args.pos c.requires.here c.args.row.now.items c.args.pool.now c.requires.ready c.parts.i w.get.result.now at_n c.parts.pool c.parts.invariant.pool
-            c.args.q.now.distinct c.args.table.now c.parts.table c.if-test.table c.parts.invariant.table (w.table-is ∙ w.take_row.ensures.table);
-        steps = (let a = c.parts.invariant.steps in let b = w.take_row.ensures.steps in let s = w.steps-is in omega (arith, more, a, b, s));
-      })
-  | else-test w ↦ (
-      let there = part_at c.args.parts.now c.parts.i (omega arith) in
-      let part : PartPlan = there.0 in
-      let at_n : slice_get c.args.parts.now c.parts.i ≡ Some part = there.1 in
-      let refused : admits c.args.q.now part c.args.pos (by_column c.args.row.now.items) ≡ false = sym (w.if-test.ensures.admits part at_n) in
-      let plan = part_plan c.args.q.now c.args.parts.now c.requires.ready.limits c.requires.ready.plan c.parts.i part at_n in
-      let more = work_more c.args.q.now c.args.parts.now c.args.e.now c.args.pos c.requires.here c.args.row.now.items c.args.pool.now c.requires.ready c.parts.i part at_n c.parts.pool c.parts.invariant.pool in
-      record {
-        prepared = c.test.ensures.prepared;
-        tested = c.test.ensures.tested;
-        pool =
-            taken_step c.args.q.now c.args.parts.now c.args.e.now c.args.pos c.requires.here c.args.row.now.items c.args.pool.now c.requires.ready c.parts.i part at_n c.parts.pool c.parts.invariant.pool
-            c.if-test.pool (w.pool-is ∙ row_refused c.args.q.now part c.args.pos c.args.row.now.items c.args.e.now c.parts.pool refused);
-        table =
-            table_more c.args.q.now c.args.parts.now c.args.e.now c.args.pos c.requires.here c.args.row.now.items c.args.pool.now c.requires.ready c.parts.i part at_n c.parts.pool c.parts.invariant.pool
-            c.args.q.now.distinct c.args.table.now c.parts.table c.if-test.table c.parts.invariant.table
-            (w.table-is
-            ∙ none_added c.args.q.now.distinct _ c.parts.table
-            (found_refused c.args.q.now part c.requires.ready.limits plan c.args.pos c.requires.here c.args.row.now.items (read_from (cells_of c.parts.pool c.args.e.now)) refused));
-        steps = (let a = c.parts.invariant.steps in let s = w.steps-is in omega (arith, more, a, s));
-      })
-]
+parts-preserved g c =
+    let v = by_column c.args.row.now.items in
+    let at_n : slice_get c.args.parts.now c.parts.i ≡ Some c.get-part.result.now
+    = slice_get-get_or c.args.parts.now c.parts.i c.get-part.result.now (omega arith) ∙ ap (λ (p : PartPlan). Some p) (sym (c.get-part.ensures c.get-part.result.now)) in
+    let next : IsNext (buckets_of c.args.parts.now c.chains-chains.result.now.tests.items c.chains-chains.result.now.greatest) (row_bucket (pairs c.args.q.now) c.chains-chains.result.now v) (c.parts.i + 1) c.after-i.result
+    = subst (λ b. IsNext (buckets_of c.args.parts.now c.chains-chains.result.now.tests.items c.chains-chains.result.now.greatest) b (c.parts.i + 1) c.after-i.result) (c.parts.invariant.there (omega arith)) c.after-i.ensures in
+    let within = led_within c.args.q.now c.args.parts.now c.args.pos c.chains-chains.result.now c.chains-chains.ensures v (c.parts.i + 1) c.after-i.result next in
+    let more = work_more c.args.q.now c.args.parts.now c.args.e.now c.args.pos c.requires.here c.args.row.now.items c.args.pool.now c.requires.ready c.parts.i c.get-part.result.now at_n c.parts.pool c.parts.invariant.done.taken in
+    let one : HaveDone c.args.q.now c.args.parts.now c.args.e.now c.args.pos c.args.row.now.items c.args.pool.now c.args.table.now c.args.steps.now (c.parts.i + 1) c.if-admits.pool c.if-admits.table c.if-admits.steps
+    = elim c.if-admits.branch [
+      | then-admits w ↦ record {
+        taken =
+            taken_step c.args.q.now c.args.parts.now c.args.e.now c.args.pos c.requires.here c.args.row.now.items c.args.pool.now c.requires.ready c.parts.i c.get-part.result.now at_n c.parts.pool c.parts.invariant.done.taken
+            c.if-admits.pool (w.pool-is ∙ w.take_row.ensures.pool);
+        found =
+            table_more c.args.q.now c.args.parts.now c.args.e.now c.args.pos c.requires.here c.args.row.now.items c.args.pool.now c.requires.ready c.parts.i c.get-part.result.now at_n c.parts.pool c.parts.invariant.done.taken
+            c.args.q.now.distinct c.args.table.now c.parts.table c.if-admits.table c.parts.invariant.done.found (w.table-is ∙ w.take_row.ensures.table);
+        cost = (let a = c.parts.invariant.done.cost in let b = w.take_row.ensures.steps in let s = w.steps-is in omega (arith, more, a, b, s));
+      }
+      | else-admits w ↦
+          same_state c.args.q.now c.args.parts.now c.args.e.now c.args.pos c.args.row.now.items c.args.pool.now c.args.table.now c.args.steps.now (c.parts.i + 1) c.parts.pool c.if-admits.pool c.parts.table c.if-admits.table c.parts.steps c.if-admits.steps w.pool-is w.table-is w.steps-is
+          (passed_one c.args.q.now c.args.parts.now c.args.e.now c.args.pos c.requires.here c.args.row.now.items c.args.pool.now c.requires.ready c.args.table.now c.args.steps.now
+          c.parts.pool c.parts.table c.parts.steps c.parts.i c.get-part.result.now at_n (sym c.admits.ensures ∙ w.if-admits.false) c.parts.invariant.done)
+    ] in
+    let filled : AreFilled c.args.q.now c.args.parts.now c.if-admits.filled c.if-admits.table.entries
+    = elim c.if-admits.branch [
+      | then-admits w ↦ subst (λ (t : TableValue). AreFilled c.args.q.now c.args.parts.now c.if-admits.filled t.entries) (sym w.table-is) (subst (λ (f : Filled). AreFilled c.args.q.now c.args.parts.now f w.take_row.new.table.entries) (sym w.filled-is) w.advance.ensures)
+      | else-admits w ↦ subst (λ (t : TableValue). AreFilled c.args.q.now c.args.parts.now c.if-admits.filled t.entries) (sym w.table-is) (subst (λ (f : Filled). AreFilled c.args.q.now c.args.parts.now f c.parts.table.entries) (sym w.filled-is) c.parts.invariant.filled)
+    ] in
+    record {
+      done =
+          passed_over c.args.q.now c.args.parts.now c.args.e.now c.args.pos c.requires.here c.args.row.now.items c.args.pool.now c.requires.ready c.args.table.now c.args.steps.now
+          c.if-admits.pool c.if-admits.table c.if-admits.steps (c.parts.i + 1) c.after-i.result c.after-i.ensures.behind within
+          (passed_by c.args.q.now c.args.parts.now c.args.pos c.chains-chains.result.now c.chains-chains.ensures v (c.parts.i + 1) c.after-i.result next) one;
+      filled = filled;
+      within = within;
+      there = led_there c.args.q.now c.args.parts.now c.args.pos c.chains-chains.result.now c.chains-chains.ensures v (c.parts.i + 1) c.after-i.result next;
+    }
+
+pub admits-requires-clause-part : goal.admits-requires-clause-part
+admits-requires-clause-part g c =
+    slice_get-get_or c.args.parts.now c.parts.i c.get-part.result.now (omega arith) ∙ ap (λ (p : PartPlan). Some p) (sym (c.get-part.ensures c.get-part.result.now))

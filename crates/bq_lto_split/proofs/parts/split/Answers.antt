@@ -9,11 +9,11 @@ returns-then-not-satisfiable-clause-parts c =
 
 pub walk-requires-clause-before : goal.walk-requires-clause-before
 walk-requires-clause-before c =
-    rw c.new-signs.ensures (before_root c.args.q.now _ _ c.start-closure.ensures.limits (rw c.as_slice.ensures.value c.choices-choices.ensures) (omega (arith, c.as_slice.ensures.fits)) c.start-closure.ensures.closure
+    rw c.new.ensures (before_root c.args.q.now _ _ c.start-closure.ensures.limits (rw c.as_slice.ensures.value c.choices-choices.ensures) (omega (arith, c.as_slice.ensures.fits)) c.start-closure.ensures.closure
     ((c.satisfiable.ensures _ _ c.start-closure.ensures.closure).0 c.if-not-satisfiable.false))
 
 pub returns-in-Ok-clause-parts : goal.returns-in-Ok-clause-parts
-returns-in-Ok-clause-parts c = parts_from c.args.q.now _ _ _ (rw (c.new-signs.ensures, c.new-parts.ensures.items) at c.in-Ok.ensures)
+returns-in-Ok-clause-parts c = parts_from c.args.q.now _ (rw (c.new.ensures, c.new-parts.ensures.items) at c.in-Ok.ensures)
 
 pub returns-in-Err-clause-over : goal.returns-in-Err-clause-over
-returns-in-Err-clause-over c = too_many c.in-Err.why (Unit {0}) c.args.q.now _ _ _ (rw (c.new-signs.ensures, c.new-parts.ensures.items) at c.in-Err.ensures)
+returns-in-Err-clause-over c = too_many c.in-Err.why (Unit {0}) c.args.q.now _ (rw (c.new.ensures, c.new-parts.ensures.items) at c.in-Err.ensures)

@@ -9,7 +9,7 @@ use Rattle.bq_synopsis.proofs.cells.insert.Goals as goal
 
 pub row_cell-index-requires-clause-inside : goal.row_cell-index-requires-clause-inside
 row_cell-index-requires-clause-inside g c =
-    subst (λ row. AreInside (dims_at c.args.part.now c.args.pos) (dim_values (dims_at c.args.part.now c.args.pos) (by_column row))) (sym c.as_slice.ensures.value)
+    subst (λ row. AreInside (dims_at c.args.part.now c.args.pos) (dim_values (dims_at c.args.part.now c.args.pos) (by_column row))) (sym c.as_slice-values.ensures.value)
     (admitted-rows-have-places c.args.q.now c.args.part.now c.args.pos (by_column c.args.row.now.items) c.requires.admitted)
 
 pub row_cell-index-requires-clause-laid : goal.row_cell-index-requires-clause-laid

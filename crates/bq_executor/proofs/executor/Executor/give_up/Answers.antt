@@ -4,6 +4,8 @@ use Rattle.bq_model.specs.Meaning.{Arrival}
 use Rattle.bq_answers.specs.Entries.{TableValue}
 use Rattle.bq_executor.specs.Executor.{ExecutorValue, IsSound, tuples_in, waiting_in}
 use Rattle.bq_executor.specs.Standing.{StandsFor}
+use Rattle.bq_model.specs.Numbers.{parts_of}
+use Rattle.bq_executor.proofs.FilledLaws.{filled-settled}
 use Rattle.bq_executor.proofs.Answered.{settled-tuples}
 use Rattle.bq_executor.proofs.Settled.{settled-spelled, written-sound, written-stands}
 use Rattle.bq_executor.proofs.executor.Executor.give_up.Goals as goal
@@ -11,7 +13,7 @@ use Rattle.bq_executor.proofs.executor.Executor.give_up.Goals as goal
 pub invariant_of-self : goal.invariant_of-self
 invariant_of-self c =
     let e : ExecutorValue = record { query = c.self.inside.query; plan = c.self.inside.plan; extent = c.self.inside.extent; given = c.self.inside.given; table = c.self.inside.table } in
-    (subst (λ (t : TableValue). IsSound (let o : ExecutorValue = record { query = c.self.inside.query; plan = c.self.inside.plan; extent = c.self.inside.extent; given = c.self.inside.given; table = t } in o)) (sym c.settle.ensures) (written-sound e c.self.invariant.0), c.self.invariant.1, c.self.invariant.2)
+    (subst (λ (t : TableValue). IsSound (let o : ExecutorValue = record { query = c.self.inside.query; plan = c.self.inside.plan; extent = c.self.inside.extent; given = c.self.inside.given; table = t } in o)) (sym c.settle.ensures) (written-sound e c.self.invariant.0), c.self.invariant.1, c.self.invariant.2, filled-settled c.self.inside.query (parts_of c.self.inside.plan) c.self.inside.filled c.self.inside.table _ c.settle.ensures c.self.invariant.3)
 
 pub returns-clause-none : goal.returns-clause-none
 returns-clause-none c =

@@ -1,27 +1,29 @@
 use Rattle.std.proofs.Common.{ap, refl, ◌∙◌, length}
 use Rattle.bq_answers.specs.Entries.{TableValue}
 use Rattle.bq_model.specs.Numbers.{parts_of}
+use Rattle.bq_executor.proofs.FilledLaws.{filled-empty}
 use Rattle.bq_executor.proofs.Settled.{begins, none_within}
 use Rattle.bq_executor.specs.Executor.{ExecutorValue}
 use Rattle.bq_executor.proofs.executor.Executor.new.Goals as goal
 
 pub invariant_of-result : goal.invariant_of-result
 invariant_of-result c =
-    let is = c.in-Ok-new.ensures in (
+    let is = c.in-Ok-new-2.ensures in (
       record {
         limits = c.select.ensures.limits;
         accepted = c.requires.accepted;
         pages = c.requires.pages;
         width = ap (λ (t : TableValue). t.width) is ∙ ap length c.select.ensures.value;
         capacity = ap (λ (t : TableValue). t.capacity) is ∙ c.most_answers-capacity.ensures;
-        tuples = λ d. none_within c.args.query (parts_of c.args.plan) c.in-Ok-new.table.entries (ap (λ (t : TableValue). t.entries) is);
+        tuples = λ d. none_within c.args.query (parts_of c.args.plan) c.in-Ok-new-2.table.entries (ap (λ (t : TableValue). t.entries) is);
       },
       c.in-Ok.ensures,
       c.gate_of-gate.ensures,
+      filled-empty c.args.query (parts_of c.args.plan) c.in-Ok-new.filled c.in-Ok-new-2.table.entries (ap (λ (t : TableValue). t.entries) is) c.in-Ok-new.ensures,
     )
 
-pub returns-in-Ok-new-clause-history : goal.returns-in-Ok-new-clause-history
-returns-in-Ok-new-clause-history c =
-    let e : ExecutorValue = record { query = c.args.query; plan = c.args.plan; extent = c.args.extent; given = 0; table = c.in-Ok-new.table } in
-    let is = c.in-Ok-new.ensures in
+pub returns-in-Ok-new-2-clause-history : goal.returns-in-Ok-new-2-clause-history
+returns-in-Ok-new-2-clause-history c =
+    let e : ExecutorValue = record { query = c.args.query; plan = c.args.plan; extent = c.args.extent; given = 0; table = c.in-Ok-new-2.table } in
+    let is = c.in-Ok-new-2.ensures in
     begins e (invariant_of-result c).0 refl (ap (λ (t : TableValue). t.entries) is)

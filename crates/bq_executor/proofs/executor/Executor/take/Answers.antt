@@ -5,6 +5,8 @@ use Rattle.bq_laws.specs.Growth.{occurs}
 use Rattle.bq_answers.specs.Entries.{TableValue, waiting_of}
 use Rattle.bq_executor.specs.Executor.{ExecutorValue, arrival, tuples_in, IsSound}
 use Rattle.bq_executor.specs.Standing.{AreKept, IsReady, TookRow, future_in, pool_with}
+use Rattle.bq_model.specs.Numbers.{parts_of}
+use Rattle.bq_executor.proofs.FilledLaws.{filled-cleared}
 use Rattle.bq_executor.proofs.Rows.{ready_row, room_clear, table_later, sound_later, waits, cells, tuples, kept, history}
 use Rattle.bq_executor.proofs.ClearedNone.{quiet-later}
 use Rattle.bq_executor.proofs.executor.Executor.take.Goals as goal
@@ -26,13 +28,17 @@ arrive-requires-clause-room g c =
     let r = arrival c.args.stream c.args.row.now.items in
     room_clear e c.self.invariant.0 c.args.pool.now ready r c.len-ascends.ensures.ascends c.distinct.result c.distinct.ensures c.clear.new.table c.clear.ensures
 
+pub arrive-requires-clause-filled : goal.arrive-requires-clause-filled
+arrive-requires-clause-filled g c =
+    filled-cleared c.self.inside.query (parts_of c.self.inside.plan) c.self.inside.filled c.distinct.result c.self.inside.table c.clear.new.table c.distinct.ensures c.clear.ensures c.self.invariant.3
+
 pub invariant_of-self : goal.invariant_of-self
 invariant_of-self g c =
     let e : ExecutorValue = record { query = c.self.inside.query; plan = c.self.inside.plan; extent = c.self.inside.extent; given = c.self.inside.given; table = c.self.inside.table } in
     let ready : IsReady e c.args.pool.now = subst (λ (x : ExecutorValue). IsReady x c.args.pool.now) (sym c.self.view_is) c.requires.ready in
     let r = arrival c.args.stream c.args.row.now.items in
     let table = table_later e c.self.invariant.0 c.args.pool.now ready r c.len-ascends.ensures.ascends c.distinct.result c.distinct.ensures c.clear.new.table c.arrive.new.table c.clear.ensures c.arrive.ensures.table in
-    (subst (λ (t : TableValue). IsSound (let o : ExecutorValue = record { query = c.self.inside.query; plan = c.self.inside.plan; extent = c.self.inside.extent; given = c.self.inside.given + 1; table = t } in o)) (sym table) (sound_later e c.self.invariant.0 c.args.pool.now ready r c.len-ascends.ensures.ascends), c.arrive.ensures.prepared, c.self.invariant.2)
+    (subst (λ (t : TableValue). IsSound (let o : ExecutorValue = record { query = c.self.inside.query; plan = c.self.inside.plan; extent = c.self.inside.extent; given = c.self.inside.given + 1; table = t } in o)) (sym table) (sound_later e c.self.invariant.0 c.args.pool.now ready r c.len-ascends.ensures.ascends), c.self.invariant.1, c.self.invariant.2, c.arrive.ensures.filled)
 
 pub returns-clause-waits : goal.returns-clause-waits
 returns-clause-waits g c =

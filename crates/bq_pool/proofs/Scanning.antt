@@ -1,0 +1,92 @@
+-- A scan over the cells of a slot is one over the cells of its extent, and may go by pages.
+use Rattle.std.proofs.Common.{◌≡◌, ℕ, ◌+◌, ◌-◌, ◌*◌, ◌<◌, ◌≤◌, ◌^◌, Option, None, Some, List, length, get_or, sym, ap, ◌∙◌, inl, inr, arith}
+use Rattle.std.proofs.lemmas.Bool.{cases_lt}
+use Rattle.bq_model.specs.declared.cell.Cell.{Cell}
+use Rattle.bq_model.specs.declared.cell.Cell.TheVariants.{Empty}
+use Rattle.bq_pool.specs.declared.pool.Extent.{Extent}
+use Rattle.bq_pool.specs.declared.scan.Filled.{Filled}
+use Rattle.bq_pool.specs.Places.{lent, cell_at, extents, IsSound}
+use Rattle.bq_pool.specs.Extents.{cells_of, IsLive}
+use Rattle.bq_pool.specs.Lines.{NoneFilled, IsFirst, Scanned, HasPage}
+use Rattle.bq_pool.proofs.Cells.{get_or-slot_cells}
+use Rattle.bq_pool.proofs.Live.{has_slot, has_room, place_within}
+
+-- a run of empty cells behind empty ones
+pub empty_on : (at : ℕ → Cell) (xs : List Cell) (first from i k : ℕ)
+    → NoneFilled (λ n. at (first + n)) from i
+    → ((j : ℕ) → j < k → get_or xs j Empty ≡ at (first + i + j))
+    → ((j : ℕ) → j < k → get_or xs j Empty ≡ Empty)
+    → NoneFilled (λ n. at (first + n)) from (i + k)
+empty_on at xs first from i k old same empty n a b =
+    elim (cases_lt n i) [
+      | inl h ↦ old n a h
+      | inr h ↦
+          let e : first + n ≡ first + i + (n - i) = omega arith in
+          let below : n - i < k = omega arith in
+          ap at e ∙ sym (same (n - i) below) ∙ empty (n - i) below
+    ]
+
+-- a run in which one cell is not empty, behind empty ones
+pub first_on : (at : ℕ → Cell) (xs : List Cell) (first from to i k : ℕ)
+    → NoneFilled (λ n. at (first + n)) from i
+    → ((j : ℕ) → j < length xs → get_or xs j Empty ≡ at (first + i + j))
+    → ((j : ℕ) → j < k → get_or xs j Empty ≡ Empty)
+    → (get_or xs k Empty ≡ Empty → ⊥)
+    → k < length xs
+    → from ≤ i
+    → i + length xs ≤ to
+    → IsFirst (λ n. at (first + n)) from to (record { next = i + k; cell = get_or xs k Empty })
+first_on at xs first from to i k old same empty filled within a b =
+    record {
+      after = omega arith;
+      below = omega arith;
+      before = empty_on at xs first from i k old (λ j h. same j (omega arith)) empty;
+      cell = (let e : first + (i + k) ≡ first + i + k = omega arith in ap at e ∙ sym (same k within));
+      some = filled;
+    }
+
+-- cells that agree are scanned alike
+pub scanned_same : (at at' : ℕ → Cell) (from to before : ℕ) (found : Option Filled) (after : ℕ)
+    → ((i : ℕ) → i < to → at i ≡ at' i)
+    → Scanned at from to before found after
+    → Scanned at' from to before found after
+scanned_same at at' from to before None after same s = (λ i a b. sym (same i b) ∙ s.0 i a b, s.1)
+scanned_same at at' from to before (Some filled) after same s = (
+  record {
+    after = s.0.after;
+    below = s.0.below;
+    before = λ i a b. sym (same i (omega (arith, b, s.0.below))) ∙ s.0.before i a b;
+    cell = sym (same filled.next s.0.below) ∙ s.0.cell;
+    some = s.0.some;
+  },
+  s.1,
+)
+
+-- what a scan asks of a cell of a live extent, and what it sees there
+pub record IsSeen (cells : List Cell) (places : List ℕ) (slots : List (Option ℕ)) (free pages : ℕ) (e : Extent) (i : ℕ) : Type 0 where
+  pub slot : e.slot < 64
+  pub small : i < 2 ^ 32
+  pub page : HasPage cells places e.slot i
+  pub cell : cell_at cells places e.slot i ≡ get_or (cells_of (record { pages = pages; free = free; lent = lent places slots; extents = extents cells places slots }) e) i Empty
+
+pub is_seen : (cells : List Cell) (places : List ℕ) (slots : List (Option ℕ)) (free pages : ℕ) (e : Extent) (i : ℕ)
+    → IsSound cells places slots free pages
+    → IsLive (record { pages = pages; free = free; lent = lent places slots; extents = extents cells places slots }) e
+    → i < 64 * e.pages
+    → IsSeen cells places slots free pages e i
+is_seen cells places slots free pages e i sound live hi =
+    let has = has_slot cells places slots free pages e live in
+    let room = has_room cells places slots free pages e.slot e.pages sound has.slot in
+    let within = place_within cells places slots free pages e.slot e.pages i sound has.slot hi in
+    let all = sound.all_cells in
+    let small = room.small in
+    record {
+      slot = room.few;
+      small = omega arith;
+      page = record { table = within.0; page = omega arith };
+      cell = sym (get_or-slot_cells cells places e.slot (64 * e.pages) i Empty hi) ∙ ap (λ (xs : List Cell). get_or xs i Empty) (sym has.content);
+    }
+
+-- side by side is one apart
+pub one_apart : (first stride i : ℕ) → stride ≡ 1 → first + i * stride ≡ first + i
+one_apart first stride i e = rw e (omega arith)

@@ -1,0 +1,9 @@
+use Rattle.std.proofs.Common.{◌≡◌, ℕ, ◌+◌, ◌<◌, get_or}
+use Rattle.bq_model.specs.declared.cell.Cell.TheVariants.{Empty}
+use Rattle.bq_pool.proofs.scan.first_among.Given as goal
+
+abbrev pub invariant-loop-k : goal.invariant-loop-k
+invariant-loop-k g l = record {
+  empty : (i : ℕ) → i < l.k → get_or l.cells i Empty ≡ Empty;
+  steps : l.steps ≡ l.fn.steps + l.k;
+}
