@@ -7,6 +7,7 @@ pub mod Founds
 pub mod Inserting
 pub mod Taken
 pub mod Telling
+pub mod Needing
 pub mod Named
 pub mod Answered
 pub mod RowAnswers
@@ -24,6 +25,8 @@ pub mod GateLaws
 pub mod OneTuple
 pub mod Chained
 pub mod PassedOver
+pub mod Refused
 pub mod FilledLaws
 pub mod InRanges
 pub mod RangeLaws
+pub mod PlacedBoxes

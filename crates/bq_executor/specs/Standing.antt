@@ -1,5 +1,7 @@
 -- What an executor stands for, and what it needs of its cells to take a row.
-use Rattle.std.specs.Prelude.{◌≡◌, ℕ, ◌-◌, ◌*◌, ◌<◌, ◌≤◌, ◌^◌, true, ℤ, List, [], ◌∷◌, ◌++◌, length, replicate, Contains}
+use Rattle.std.specs.Prelude.{◌≡◌, ℕ, ◌+◌, ◌-◌, ◌*◌, ◌<◌, ◌≤◌, ◌^◌, min, true, ℤ, List, [], ◌∷◌, ◌++◌, length, replicate, Contains}
+use Rattle.bq_answers.specs.Entries.{waiting_of}
+use Rattle.bq_laws.specs.Growth.{occurs}
 use Rattle.bq_model.specs.declared.cell.Cell.{Cell}
 use Rattle.bq_model.specs.declared.plan.PartPlan.{PartPlan}
 use Rattle.bq_model.specs.Meaning.{Arrival, new_answers}
@@ -7,11 +9,11 @@ use Rattle.bq_model.specs.Plan.{stream_at}
 use Rattle.bq_model.specs.Cells.{synopsis, printed}
 use Rattle.bq_model.specs.Combinations.{read_from}
 use Rattle.bq_model.specs.Future.{future}
-use Rattle.bq_model.specs.Merge.{merge}
+use Rattle.bq_model.specs.Merge.{merge, merged_table}
 use Rattle.bq_model.specs.Numbers.{cell_count}
 use Rattle.bq_pool.specs.Extents.{PoolValue, with_cells, IsLive}
 use Rattle.bq_synopsis.specs.Premises.{AreFitting}
-use Rattle.bq_executor.specs.Executor.{ExecutorValue, parts_in, cells_in, rest_in, tuples_in, waiting_in}
+use Rattle.bq_executor.specs.Executor.{ExecutorValue, parts_in, cells_in, rest_in, tuples_in, waiting_in, with_given}
 
 -- the executor stands for a history of its query: the cells are its synopsis, and with DISTINCT the tuples those printed
 pub record StandsFor (e : ExecutorValue) (pool : PoolValue) (history : List Arrival) : Type 0 where
@@ -54,3 +56,12 @@ abbrev pub TookRow : ExecutorValue → PoolValue → Arrival → ExecutorValue �
 TookRow before pool r after later =
     (history : List Arrival) → StandsFor before pool history
     → (waiting_in after ≡ new_answers before.query history r) × StandsFor after later (history ++ r ∷ [])
+
+-- the executor took a row: what cells and table answer waits, the cells have the row, and with DISTINCT the table has the tuples
+pub record Took (before : ExecutorValue) (pool : PoolValue) (r : Arrival) (after : ExecutorValue) (later : PoolValue) : Type 0 where
+  pub waits : (t : List ℤ) → waiting_of t after.table.entries ≡ min (occurs t (future_in before pool r)) (2 ^ 127)
+  pub cells : later ≡ pool_with before pool r
+  pub tuples : before.query.distinct ≡ true → tuples_in after ≡ merged_table (tuples_in before) (future_in before pool r)
+  pub same : after ≡ with_given before (before.given + 1) after.table.entries
+  pub kept : AreKept after later
+  pub history : TookRow before pool r after later

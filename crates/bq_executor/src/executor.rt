@@ -9,9 +9,10 @@ ghost use Rattle.bq_model.specs.Numbers.{pages_of, work};
 ghost use Rattle.bq_laws.specs.Growth.{occurs};
 ghost use Rattle.bq_io.specs.Sink.{Writes};
 ghost use Rattle.bq_pool.specs.Extents.{PoolValue, cells_of, IsLive, IsGivenBack};
-ghost use Rattle.bq_answers.specs.Entries.{with_entries, waiting_of, settled};
+ghost use Rattle.bq_answers.specs.Entries.{with_entries, waiting_of, settled, Ascends};
 ghost use Rattle.bq_executor.specs.Executor.{IsAccepted, IsSound, arrival, cleared, most_answers, parts_in, tuples_in, waiting_in, with_given};
 ghost use Rattle.bq_executor.specs.Standing.{StandsFor, AreKept, IsReady, TookRow, future_in, pool_with};
+ghost use Rattle.bq_executor.specs.Gate.{IsRefused};
 ghost use Rattle.bq_executor.specs.Written.{answer_lines};
 
 use crate::arrive::arrive;
@@ -99,7 +100,7 @@ impl Executor {
             Ok(prepared) => prepared,
             Err(error) => return Err((extent, error)),
         };
-        let filled = match Filled::new(alloc, &query, &plan) {
+        let filled = match Filled::new(alloc, &query, &plan, &prepared) {
             Ok(filled) => filled,
             Err(error) => return Err((extent, error)),
         };
@@ -142,6 +143,21 @@ impl Executor {
         let _waits = self.take(pool, stream, row, steps);
     }
 
+    // Whether a row passes the gate; one that does not is answered nothing, and no cell takes it.
+    fn passes(&self, stream: u8, row: &Row) -> bool
+        ensures { result ≡ false → IsRefused self.now.query self.now.plan (arrival stream row.now.items) }
+    {
+        self.gate.passes(stream, row)
+    }
+
+    // Whether the table has an entry, which may be given up with the next row.
+    fn has_entries(&self) -> bool
+        ensures none { result ≡ false → self.now.table.entries ≡ [] }
+        ensures ascends { Ascends self.now.table.entries }
+    {
+        self.table.len() != 0
+    }
+
     /// Takes a row as `row` does. Where it says no, no answer waits; where it says yes, some may.
     pub fn take<L: Ledger>(
         &mut self,
@@ -162,10 +178,41 @@ impl Executor {
         ensures outside { list_any (λ s. stream == s) self.old.query.from ≡ false → steps.new ≡ steps.old }
         ensures history { TookRow self.old pool.old (arrival stream row.now.items) self.new pool.new }
     {
+        let passes = self.passes(stream, row);
+        if !passes && !self.has_entries() {
+            self.given += 1;
+            return false;
+        }
+        self.take_up_row(passes, pool, stream, row, steps)
+    }
+
+    // Takes a row as `take` does, of which it is known whether it passes the gate. It is not inlined, so that a row that is refused
+    // pays nothing for it.
+    #[inline(never)]
+    fn take_up_row<L: Ledger>(
+        &mut self,
+        passes: bool,
+        pool: &mut Pool,
+        stream: u8,
+        row: &Row,
+        steps: &mut Steps<L>,
+    ) -> bool
+        requires gate { passes ≡ false → IsRefused self.old.query self.old.plan (arrival stream row.now.items) }
+        requires ready { IsReady self.old pool.old }
+        ensures waits { (t : List ℤ) → waiting_of t self.new.table.entries ≡ min (occurs t (future_in self.old pool.old (arrival stream row.now.items))) (2 ^ 127) }
+        ensures none { result ≡ false → waiting_in self.new ≡ [] }
+        ensures cells { pool.new ≡ pool_with self.old pool.old (arrival stream row.now.items) }
+        ensures tuples { self.old.query.distinct ≡ true → tuples_in self.new ≡ merged_table (tuples_in self.old) (future_in self.old pool.old (arrival stream row.now.items)) }
+        ensures same { self.new ≡ with_given self.old (self.old.given + 1) self.new.table.entries }
+        ensures kept { AreKept self.new pool.new }
+        ensures steps { steps.new ≤ steps.old + 3 * work (parts_in self.old) + 2 * length (parts_in self.old) }
+        ensures alone { IsTrue (is_filter self.old.query) → steps.new ≡ steps.old }
+        ensures outside { list_any (λ s. stream == s) self.old.query.from ≡ false → steps.new ≡ steps.old }
+        ensures history { TookRow self.old pool.old (arrival stream row.now.items) self.new pool.new }
+    {
         let _ascends = self.table.len();
         self.given += 1;
         clear(self.query.distinct(), &mut self.table);
-        let passes = self.gate.passes(stream, row);
         arrive(
             passes,
             pool,

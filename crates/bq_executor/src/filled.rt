@@ -1,29 +1,27 @@
-//! How far the tuples that each part can answer have an entry in the table: a cursor per part over the tuples of its ranges, which
-//! moves on by a few for a row. Where it is at its end, nothing that the part answers is new.
+//! How far the tuples that each part can answer have an entry in the table: a cursor over the tuples of each box, which moves on
+//! by a few for a row in a part with that box. Where it is at its end, nothing that these parts answer is new.
 ghost use Rattle.std.specs.Prelude.{◌≡◌, ◌≤◌, ◌<◌, [], length, true, slice_get, Some, IfSome, IfOk};
-ghost use Rattle.bq_model.specs.Parts.{pairs};
-ghost use Rattle.bq_model.specs.Boxes.{box_size, AreNumbered};
+ghost use Rattle.bq_model.specs.Boxes.{box_size};
 ghost use Rattle.bq_model.specs.Numbers.{parts_of};
-ghost use Rattle.bq_model.specs.Ranges.{different, selected_ranges};
+ghost use Rattle.bq_model.specs.Ranges.{different};
 ghost use Rattle.bq_answers.specs.Entries.{has};
-ghost use Rattle.bq_synopsis.specs.Preparing.{IsPrepared};
 ghost use Rattle.bq_executor.specs.Executor.{IsAccepted};
 ghost use Rattle.bq_executor.specs.Prepared.{IsPreparedPlan};
 ghost use Rattle.bq_executor.specs.declared.filled.Progress.TheVariants as progress;
-ghost use Rattle.bq_executor.specs.Filled.{AreRanges, tuple_in, HaveEntries, Reaches, IsUpto, IsProgress, AreFilled};
+ghost use Rattle.bq_executor.specs.Filled.{place_of, said_at, tuple_in, HaveEntries, Reaches, IsUpto, IsProgress, AreBoxes, AreFilled};
 
+use crate::boxes::Boxes;
 use crate::prepared::PreparedPlan;
-use crate::ranges::{Ranges, different, put_tuple, ranges_of};
+use crate::ranges::{Ranges, different, put_tuple};
 use arrayvec::ArrayVec;
 use bq_answers::Answers;
-use bq_model::{Attr, PartPlan, PartPlans, Plan, Query, Tuple};
-use bq_synopsis::Prepared;
+use bq_model::{Attr, PartPlans, Plan, Query, Tuple};
 use std::alloc::{AllocError, Global};
 
 // How many tuples are looked up for one row at most.
 const MOST_STEPS: u32 = 8;
 
-/// How far the tuples that a part can answer have an entry, in the order of their numbers.
+/// How far the tuples of a box have an entry, in the order of their numbers.
 #[derive(Clone, Copy, Debug, PartialEq, Eq, Drop)]
 pub enum Progress {
     /// Those of numbers below `known`. With as many entries as `tried` the next one had none; this is a hint, on which no
@@ -33,12 +31,14 @@ pub enum Progress {
     All,
 }
 
-/// For each part how far the tuples that it can answer have an entry, and the different selected columns. Without DISTINCT
-/// no part is listed.
+/// The boxes of the parts, for each box how far its tuples have an entry, for each part whether it is noted that all have one,
+/// and the different selected columns. Without DISTINCT no box and no part is listed.
 #[derive(Drop)]
 pub struct Filled {
     columns: ArrayVec<Attr, 8>,
-    parts: Vec<Progress>,
+    boxes: Boxes,
+    progress: Vec<Progress>,
+    full: Vec<bool>,
 }
 
 // Whether the tuple of a number has an entry. It is put into `tuple`.
@@ -51,10 +51,8 @@ fn has_tuple(
     table: &Answers,
 ) -> bool
     requires columns { columns.now ≡ different q.now.select }
-    requires numbered { AreNumbered ranges.now.dims.items }
-    requires size { ranges.now.size ≡ box_size ranges.now.dims.items }
-    requires below { n < ranges.now.size }
-    ensures { result ≡ true → has (tuple_in q.now ranges.now.dims.items n) table.now.entries ≡ true }
+    requires below { n < box_size ranges.now }
+    ensures { result ≡ true → has (tuple_in q.now ranges.now n) table.now.entries ≡ true }
 {
     put_tuple(q, columns, ranges, n, tuple);
     table.has(tuple)
@@ -70,15 +68,13 @@ fn known_from(
     table: &Answers,
 ) -> u32
     requires columns { columns.now ≡ different q.now.select }
-    requires numbered { AreNumbered ranges.now.dims.items }
-    requires size { ranges.now.size ≡ box_size ranges.now.dims.items }
-    requires known { HaveEntries q.now ranges.now.dims.items known table.now.entries }
+    requires known { HaveEntries q.now ranges.now known table.now.entries }
     ensures more { known ≤ result }
-    ensures known { HaveEntries q.now ranges.now.dims.items result table.now.entries }
+    ensures known { HaveEntries q.now ranges.now result table.now.entries }
 {
     let mut next = known;
     'steps: for step in 0..MOST_STEPS {
-        if ranges.size <= next {
+        if ranges.size() <= next {
             return next;
         }
         if !has_tuple(q, columns, ranges, next, tuple, table) {
@@ -89,7 +85,7 @@ fn known_from(
     next
 }
 
-// What is said of a part that can answer `size` tuples, where those of numbers below `next` have an entry.
+// What is said of a box of `size` tuples, where those of numbers below `next` have an entry.
 fn progress_at(size: u32, next: u32, tried: u32) -> Progress
     ensures { Reaches size next result }
 {
@@ -100,50 +96,49 @@ fn progress_at(size: u32, next: u32, tried: u32) -> Progress
     }
 }
 
-// What is said of a part after a few more tuples were tried.
+// What is said of a box after a few more of its tuples were tried.
 #[inline(never)]
 fn advanced(
     q: &Query,
-    part: &PartPlan,
-    prepared: &Prepared,
     columns: &[Attr],
+    ranges: &Ranges,
     known: u32,
     tuple: &mut Tuple,
     table: &Answers,
 ) -> Progress
-    requires prepared { IsPrepared (pairs q.now) part.now prepared.now }
     requires columns { columns.now ≡ different q.now.select }
-    requires few { length columns.now ≤ 8 }
-    requires known { HaveEntries q.now (selected_ranges q.now part.now) known table.now.entries }
-    ensures { IsProgress q.now part.now table.now.entries result }
+    requires known { HaveEntries q.now ranges.now known table.now.entries }
+    ensures { IsProgress q.now ranges.now table.now.entries result }
 {
-    let entries = table.len();
-    match ranges_of(q, part, prepared, columns) {
-        Some(ranges) => {
-            let next = known_from(q, columns, &ranges, known, tuple, table);
-            let tried = if next - known < MOST_STEPS {
-                entries
-            } else {
-                0
-            };
-            progress_at(ranges.size, next, tried)
-        }
-        None => Progress::Upto {
-            known,
-            tried: entries,
-        },
-    }
+    let next = known_from(q, columns, ranges, known, tuple, table);
+    let tried = if next - known < MOST_STEPS {
+        table.len()
+    } else {
+        0
+    };
+    progress_at(ranges.size(), next, tried)
 }
 
-// For how many parts of a plan something is said.
-fn places_of(q: &Query, plan: &Plan) -> usize {
+// The boxes of the parts of a plan, none without DISTINCT.
+fn boxes_of(
+    alloc: Global,
+    q: &Query,
+    plan: &Plan,
+    prepared: &PreparedPlan,
+    columns: &[Attr],
+) -> Result<Boxes, AllocError>
+    requires prepared { IsPreparedPlan q.now (parts_of plan.now) prepared.now }
+    requires columns { columns.now ≡ different q.now.select }
+    requires most { length columns.now ≤ 8 }
+    ensures { IfOk result (λ boxes. AreBoxes q.now (parts_of plan.now) boxes.list.items boxes.places.items) }
+{
     match plan {
-        Plan::Filter => 0,
+        Plan::Filter => Ok(Boxes::none(alloc)),
         Plan::Parts { parts, .. } => {
             if q.distinct() {
-                parts.len() as usize
+                Boxes::of(alloc, q, parts, prepared, columns)
             } else {
-                0
+                Ok(Boxes::none(alloc))
             }
         }
     }
@@ -151,42 +146,72 @@ fn places_of(q: &Query, plan: &Plan) -> usize {
 
 impl Filled {
     /// What is said of the parts of a plan while the table is empty. An error says that memory was not found.
-    pub fn new(alloc: Global, q: &Query, plan: &Plan) -> Result<Filled, AllocError>
-        requires { IsAccepted q.now plan.now }
+    pub fn new(
+        alloc: Global,
+        q: &Query,
+        plan: &Plan,
+        prepared: &PreparedPlan,
+    ) -> Result<Filled, AllocError>
+        requires accepted { IsAccepted q.now plan.now }
+        requires prepared { IsPreparedPlan q.now (parts_of plan.now) prepared.now }
         ensures { IfOk result (λ filled. AreFilled q.now (parts_of plan.now) filled []) }
     {
         let start = Progress::Upto { known: 0, tried: 0 };
         let columns = different(q.select());
-        let parts = vec![in alloc; start; places_of(q, plan)]?;
-        Ok(Filled { columns, parts })
+        let boxes = boxes_of(alloc, q, plan, prepared, columns.as_slice())?;
+        let progress = vec![in alloc; start; boxes.len()]?;
+        let full = vec![in alloc; false; boxes.parts()]?;
+        Ok(Filled {
+            columns,
+            boxes,
+            progress,
+            full,
+        })
     }
 
-    // What is said of a part, where it is listed.
-    fn progress(&self, i: u32) -> Option<Progress>
-        ensures { result ≡ slice_get self.now.parts.items i }
+    // What is said of the box at a place, where there is one.
+    fn progress(&self, place: u32) -> Option<Progress>
+        ensures { result ≡ slice_get self.now.progress.items place }
     {
-        self.parts.get(i as usize).copied()
+        self.progress.get(place as usize).copied()
     }
 
-    /// Whether all tuples that a part can answer have an entry.
+    // What is said of the box of a part, where it has one.
+    fn said(&self, i: u32) -> Option<Progress>
+        ensures { result ≡ said_at self.now.progress.items (place_of (slice_get self.now.boxes.places.items i)) }
+    {
+        match self.boxes.place(i) {
+            Some(place) => self.progress(place),
+            None => None,
+        }
+    }
+
+    // Whether it is noted of a part that all tuples that it can answer have an entry.
+    fn is_noted(&self, i: u32) -> bool
+        ensures { result ≡ true → slice_get self.now.full.items i ≡ Some true }
+    {
+        match self.full.get(i as usize) {
+            Some(full) => *full,
+            None => false,
+        }
+    }
+
+    /// Whether it is known that all tuples that a part can answer have an entry.
     pub fn is_full(&self, q: &Query, i: u32) -> bool
         ensures distinct { result ≡ true → q.now.distinct ≡ true }
-        ensures all { result ≡ true → slice_get self.now.parts.items i ≡ Some progress.All }
+        ensures all { result ≡ true → slice_get self.now.full.items i ≡ Some true }
     {
         if !q.distinct() {
             return false;
         }
-        match self.progress(i) {
-            Some(Progress::All) => true,
-            _ => false,
-        }
+        self.is_noted(i)
     }
 
-    // The number of the tuple of a part to be looked up, where with so many entries it may have one.
-    fn to_try(&self, i: u32, entries: u32) -> Option<u32>
-        ensures { IfSome result (λ known. IsUpto known (slice_get self.now.parts.items i)) }
+    // The number of the tuple of a box to be looked up, where with so many entries it may have one.
+    fn to_try(&self, place: u32, entries: u32) -> Option<u32>
+        ensures { IfSome result (λ known. IsUpto known (slice_get self.now.progress.items place)) }
     {
-        match self.progress(i) {
+        match self.progress(place) {
             Some(Progress::Upto { known, tried }) => {
                 if tried == entries { None } else { Some(known) }
             }
@@ -194,37 +219,77 @@ impl Filled {
         }
     }
 
-    /// Looks a few more tuples of a part up, which may have an entry since the table grew; none of a part that is full.
+    // Looks a few more tuples of a box up, which may have an entry since the table grew.
+    fn advance_box(
+        &mut self,
+        q: &Query,
+        parts: &PartPlans,
+        place: u32,
+        tuple: &mut Tuple,
+        table: &Answers,
+    )
+        requires distinct { q.now.distinct ≡ true }
+        requires filled { AreFilled q.now parts.now self.old table.now.entries }
+        ensures { AreFilled q.now parts.now self.new table.now.entries }
+    {
+        match self.to_try(place, table.len()) {
+            Some(known) => {
+                let progress = advanced(
+                    q,
+                    self.columns.as_slice(),
+                    self.boxes.at(place),
+                    known,
+                    tuple,
+                    table,
+                );
+                self.progress[place as usize] = progress;
+            }
+            None => {}
+        }
+    }
+
+    // Whether it is said of the box of a part that all tuples have an entry.
+    fn is_box_full(&self, i: u32) -> bool
+        ensures { result ≡ true → said_at self.now.progress.items (place_of (slice_get self.now.boxes.places.items i)) ≡ Some progress.All }
+    {
+        match self.said(i) {
+            Some(Progress::All) => true,
+            _ => false,
+        }
+    }
+
+    // Notes of a part that it is full, where its box says so.
+    fn note(&mut self, q: &Query, parts: &PartPlans, i: u32, table: &Answers)
+        requires distinct { q.now.distinct ≡ true }
+        requires filled { AreFilled q.now parts.now self.old table.now.entries }
+        ensures { AreFilled q.now parts.now self.new table.now.entries }
+    {
+        if self.is_box_full(i) {
+            self.full[i as usize] = true;
+        }
+    }
+
+    /// Looks a few more tuples of the box of a part up, which may have an entry since the table grew, and notes where all have
+    /// one; nothing of a part that is full.
     pub fn advance(
         &mut self,
         full: bool,
         q: &Query,
         parts: &PartPlans,
-        prepared: &PreparedPlan,
         i: u32,
         tuple: &mut Tuple,
         table: &Answers,
     )
-        requires inside { i < length parts.now }
-        requires prepared { IsPreparedPlan q.now parts.now prepared.now }
-        requires filled { AreFilled q.now parts.now self.old table.now.entries }
+        requires { AreFilled q.now parts.now self.old table.now.entries }
         ensures { AreFilled q.now parts.now self.new table.now.entries }
     {
         if full || !q.distinct() {
             return;
         }
-        match self.to_try(i, table.len()) {
-            Some(known) => {
-                let progress = advanced(
-                    q,
-                    parts.get(i),
-                    prepared.part(q, parts, i),
-                    self.columns.as_slice(),
-                    known,
-                    tuple,
-                    table,
-                );
-                self.parts[i as usize] = progress;
+        match self.boxes.place(i) {
+            Some(place) => {
+                self.advance_box(q, parts, place, tuple, table);
+                self.note(q, parts, i, table);
             }
             None => {}
         }

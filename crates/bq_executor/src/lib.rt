@@ -2,12 +2,13 @@
 //!
 //! An executor keeps no row. It has the query, its plan, an extent of cells, and one table of answers for all parts. A gate
 //! refuses a row outside the ranges that its columns have over all parts. Any other row of a stream of FROM is led by its signs
-//! to a bucket, a chain of parts that ask for the same signs, and is tested by these. Where the stream has at most 20 pairs, one
-//! number tells all its signs, and these are compared by it alone. Where a part admits the row, what a walk over
-//! the cells of the other streams finds comes to wait in the table, and then the row's own cell takes the row. With DISTINCT
-//! the table keeps every tuple that was ever answered, and a tuple waits only when it is new; where the row alone tells the
-//! one tuple that a part can answer, and it is old, there is no walk; and once all tuples that a part can answer are in the
-//! table, it is not asked for answers any more. Without DISTINCT the table is emptied with each row. A filter has no cells.
+//! to a bucket, a chain of parts that ask for the same signs, and is tested by these. Where at most 20 signs tell parts from each
+//! other or do not follow from their ranges, one number tells all signs, and these are compared by it alone. Where a part admits
+//! the row, what a walk over the cells of the other streams finds comes to wait in the table, and then the row's own cell
+//! takes the row. With DISTINCT the table keeps every tuple that was ever answered, and a tuple waits only when it is new;
+//! where the row alone tells the one tuple that a part can answer, and it is old, there is no walk; and once all tuples that a
+//! part can answer are in the table, it is not asked for answers any more. Without DISTINCT the table is emptied with each
+//! row. A filter has no cells.
 //!
 //! A clause says what a row does for any cells, and then that an executor which stands for a history answers a row with the
 //! new answers of the query, and then stands for the history with that row. A row takes no memory.
@@ -16,12 +17,14 @@
 mod alone;
 mod arrive;
 mod bounds;
+mod boxes;
 mod chains;
 mod executor;
 mod filled;
 mod gate;
 mod known;
 pub mod laws;
+mod needed;
 mod part;
 mod parts;
 mod prepared;

@@ -9,6 +9,7 @@ ghost use Rattle.bq_pool.specs.Extents.{cells_of};
 ghost use Rattle.bq_model.specs.Parts.{pairs};
 ghost use Rattle.bq_synopsis.specs.Premises.{IsReady};
 ghost use Rattle.bq_synopsis.specs.Preparing.{IsPrepared};
+ghost use Rattle.bq_synopsis.specs.Sides.{IsCell};
 ghost use Rattle.bq_synopsis.specs.Remaining.{as_found};
 ghost use Rattle.bq_answers.specs.Entries.{with_entries, Fits};
 ghost use Rattle.bq_executor.specs.Taking.{with_found, with_all, HaveRoom};
@@ -21,7 +22,7 @@ use bq_answers::Answers;
 use bq_io::Steps;
 use bq_model::{PartPlan, Query, Row, Tuple};
 use bq_pool::{Extent, Pool};
-use bq_synopsis::{Prepared, Probe, Room, insert};
+use bq_synopsis::{Prepared, Probe, Room, Spot, insert_at, sees_nothing};
 use std::sync::ledger::Ledger;
 
 /// The most times that one answer waits.
@@ -66,6 +67,9 @@ fn answer_once<L: Ledger>(
     if table.has(tuple) {
         return;
     }
+    if sees_nothing(pool, e, q, part, prepared, pos, row, room, steps) {
+        return;
+    }
     let mut probe = Probe::new(q, part, prepared, pos, row, room);
     match probe.next(pool, e, q, part, tuple, steps) {
         Some(count) => take_up(true, tuple, count, table),
@@ -94,13 +98,17 @@ fn walk<L: Ledger>(
     ensures table { table.new ≡ with_entries table.old (with_all q.now.distinct (found_beside q.now part.now (read_from (cells_of pool.now e.now)) pos (by_column row.now.items)) table.old.entries) }
     ensures steps { steps.new ≤ steps.old + 3 * share part.now }
 {
+    if sees_nothing(pool, e, q, part, prepared, pos, row, room, steps) {
+        return;
+    }
     let mut probe = Probe::new(q, part, prepared, pos, row, room);
     'walk: while let Some(count) = probe.next(pool, e, q, part, tuple, steps) {
         take_up(q.distinct(), tuple, count, table);
     }
 }
 
-// Takes up all that the cells of a part answer to a row that it admits.
+// Takes up all that the cells of a part answer to a row that it admits. It is not inlined: a part that is full does without it.
+#[inline(never)]
 fn answer<L: Ledger>(
     pool: &Pool,
     e: &Extent,
@@ -166,7 +174,6 @@ fn answer_new<L: Ledger>(
 /// Takes a row into a part that admits it: all that its cells answer to the row waits in the table; and where the query has
 /// several streams, the row's own cell takes it. Where all tuples that the part can answer have an entry, no cell is read for
 /// an answer.
-#[inline(never)]
 pub fn take_row<L: Ledger>(
     full: bool,
     pool: &mut Pool,
@@ -176,6 +183,7 @@ pub fn take_row<L: Ledger>(
     prepared: &Prepared,
     pos: u8,
     row: &Row,
+    spot: Spot,
     room: &mut Room,
     tuple: &mut Tuple,
     table: &mut Answers,
@@ -186,6 +194,7 @@ pub fn take_row<L: Ledger>(
     requires prepared { IsPrepared (pairs q.now) part.now prepared.now }
     requires admitted { admits q.now part.now pos (by_column row.now.items) ≡ true }
     requires counts { CanCount part.now (read_from (cells_of pool.old e.now)) }
+    requires spot { IsCell part.now pos row.now.items spot }
     requires full { full ≡ true → IsFull q.now part.now table.old.entries }
     requires room { HaveRoom q.now.distinct (found_in q.now part.now (read_from (cells_of pool.old e.now)) (arrives q.now pos row.now.items)) table.old }
     ensures table { table.new ≡ with_entries table.old (with_all q.now.distinct (found_in q.now part.now (read_from (cells_of pool.old e.now)) (arrives q.now pos row.now.items)) table.old.entries) }
@@ -197,6 +206,6 @@ pub fn take_row<L: Ledger>(
         full, pool, e, q, part, prepared, pos, row, room, tuple, table, steps,
     );
     if 1 < streams {
-        insert(pool, e, q, part, pos, row, steps);
+        insert_at(pool, e, q, part, pos, row, spot, steps);
     }
 }

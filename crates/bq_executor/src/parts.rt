@@ -51,12 +51,13 @@ pub fn take_in_all<L: Ledger>(
     'parts: while i < parts.len() {
         let part = parts.get(i);
         let known = prepared.part(q, parts, i);
-        if chains.admits(q, parts, part, known, pos, row, led.code, i) {
+        let spot = chains.spot_of(q, parts, part, known, pos, row, led.code, i);
+        if spot.is_inside() {
             let full = filled.is_full(q, i);
             take_row(
-                full, pool, e, q, part, known, pos, row, room, tuple, table, steps,
+                full, pool, e, q, part, known, pos, row, spot, room, tuple, table, steps,
             );
-            filled.advance(full, q, parts, prepared, i, tuple, table);
+            filled.advance(full, q, parts, i, tuple, table);
         }
         i = chains.after(q, parts, pos, i);
     }

@@ -1,13 +1,14 @@
 //! The parts of a plan, each worked out once, and which of them are asked of a row.
-ghost use Rattle.std.specs.Prelude.{◌≡◌, ◌<◌, length, slice_get, Some, IfOk};
+ghost use Rattle.std.specs.Prelude.{◌≡◌, ◌<◌, true, length, slice_get, Some, IfOk};
 ghost use Rattle.bq_model.specs.declared.plan.PartPlan.{PartPlan};
 ghost use Rattle.bq_model.specs.Parts.{pairs};
 ghost use Rattle.bq_model.specs.Numbers.{parts_of};
 ghost use Rattle.bq_synopsis.specs.Preparing.{IsPrepared};
-ghost use Rattle.bq_executor.specs.Chains.{AreChains};
+ghost use Rattle.bq_executor.specs.Chains.{AreNeeded, AreChains};
 ghost use Rattle.bq_executor.specs.Prepared.{ArePrepared, AreAllChains, IsPreparedPlan};
 
 use crate::chains::{Chains, chains_at};
+use crate::needed::{Needed, needed_of};
 use bq_model::{PartPlans, Plan, Query};
 use bq_synopsis::{Prepared, prepare};
 use std::alloc::{AllocError, Global};
@@ -62,14 +63,20 @@ fn prepare_parts(alloc: Global, q: &Query, parts: &PartPlans) -> Result<Vec<Prep
 }
 
 // The chains at all places of FROM.
-fn chain_parts(alloc: Global, q: &Query, parts: &PartPlans) -> Result<Vec<Chains>, AllocError>
+fn chain_parts(
+    alloc: Global,
+    q: &Query,
+    parts: &PartPlans,
+    needed: &Needed,
+) -> Result<Vec<Chains>, AllocError>
+    requires { needed.now.enough ≡ true → AreNeeded (pairs q.now) parts.now needed.now.marks }
     ensures many { IfOk result (λ all. length all.items ≡ length q.now.from) }
     ensures chains { IfOk result (λ all. AreAllChains q.now parts.now all.items) }
 {
     let places = q.from().len() as u8;
     let mut all: Vec<Chains> = Vec::with_capacity(alloc, usize::from(places))?;
     'places: for place in 0..places {
-        all.push(chains_at(alloc, q, parts, place)?)?;
+        all.push(chains_at(alloc, q, parts, needed, place)?)?;
     }
     Ok(all)
 }
@@ -78,9 +85,12 @@ fn chain_parts(alloc: Global, q: &Query, parts: &PartPlans) -> Result<Vec<Chains
 fn prepare_over(alloc: Global, q: &Query, parts: &PartPlans) -> Result<PreparedPlan, AllocError>
     ensures { IfOk result (λ prepared. IsPreparedPlan q.now parts.now prepared) }
 {
+    let prepared = prepare_parts(alloc, q, parts)?;
+    let needed = needed_of(q, parts, prepared.as_slice());
+    let chains = chain_parts(alloc, q, parts, &needed)?;
     Ok(PreparedPlan {
-        parts: prepare_parts(alloc, q, parts)?,
-        chains: chain_parts(alloc, q, parts)?,
+        parts: prepared,
+        chains,
     })
 }
 

@@ -1,4 +1,4 @@
-pub mod Entries
+pub mod SideBySide
 pub mod Beside
 pub mod InTurn
 pub mod InWriting

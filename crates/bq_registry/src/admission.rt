@@ -6,18 +6,16 @@ ghost use Rattle.bq_model.specs.declared.cell.Cell.TheVariants as cell;
 ghost use Rattle.bq_model.specs.Numbers.{pages_of};
 ghost use Rattle.bq_pool.specs.Extents.{cells_of, IsLive};
 ghost use Rattle.bq_executor.specs.Executor.{IsAccepted};
-ghost use Rattle.bq_registry.specs.Live.{live_of};
 ghost use Rattle.bq_registry.specs.Registry.{IsSound};
 ghost use Rattle.bq_registry.specs.Admitted.{SettlesIn, Admits, IsDropped};
 
-use crate::live::{add_last, take_out};
+use crate::queries::Queries;
 use crate::refusal::CreateError;
 use crate::verdict::{Verdict, pages_of, verdict_of};
 use bq_executor::Executor;
 use bq_model::{Plan, Query};
 use bq_pool::{Extent, Pool, PoolError};
 use bq_text::Name;
-use indexmap::IndexMap;
 use std::alloc::{AllocError, AllocFailed, Global};
 
 // Takes a query among the live ones whose pages were taken; none of them has its name. For want of memory its pages are given
@@ -25,18 +23,18 @@ use std::alloc::{AllocError, AllocFailed, Global};
 fn settle_in(
     alloc: Global,
     pool: &mut Pool,
-    live: &mut IndexMap<Name, Executor>,
+    live: &mut Queries,
     name: Name,
     query: Query,
     plan: Plan,
     extent: Extent,
 ) -> Result<(), AllocError>
     requires accepted { IsAccepted query plan }
-    requires new { list_any (λ l. bytes_eq l.name name) (live_of live.old.entries) ≡ false }
+    requires new { list_any (λ l. bytes_eq l.name name) live.old ≡ false }
     requires pages { extent.pages ≡ pages_of plan }
     requires there { IsLive pool.old extent }
     requires empty { cells_of pool.old extent ≡ replicate (64 * extent.pages) cell.Empty }
-    ensures { SettlesIn result name query plan extent pool.old (live_of live.old.entries) pool.new (live_of live.new.entries) }
+    ensures { SettlesIn result name query plan extent pool.old live.old pool.new live.new }
 {
     let executor = match Executor::new(alloc, query, plan, extent) {
         Ok(executor) => executor,
@@ -46,7 +44,7 @@ fn settle_in(
         }
     };
     let _sound = executor.plan();
-    match add_last(live, name, executor) {
+    match live.add_last(name, executor) {
         Ok(()) => Ok(()),
         Err(AllocFailed { value }) => {
             value.close(pool);
@@ -59,16 +57,16 @@ fn settle_in(
 pub fn admit(
     alloc: Global,
     pool: &mut Pool,
-    live: &mut IndexMap<Name, Executor>,
+    live: &mut Queries,
     name: Name,
     query: Query,
     plan: Plan,
 ) -> Result<Verdict, CreateError>
     requires accepted { IsAccepted query plan }
-    requires new { list_any (λ l. bytes_eq l.name name) (live_of live.old.entries) ≡ false }
-    requires sound { IsSound pool.old (live_of live.old.entries) }
-    requires room { length (live_of live.old.entries) < 64 }
-    ensures { Admits result name query plan pool.old (live_of live.old.entries) pool.new (live_of live.new.entries) }
+    requires new { list_any (λ l. bytes_eq l.name name) live.old ≡ false }
+    requires sound { IsSound pool.old live.old }
+    requires room { length live.old < 64 }
+    ensures { Admits result name query plan pool.old live.old pool.new live.new }
 {
     let verdict = verdict_of(&plan);
     match pool.take(pages_of(&plan)) {
@@ -81,11 +79,11 @@ pub fn admit(
 }
 
 /// Takes the live query at a place out of the live ones; its pages are free again.
-pub fn drop_at(pool: &mut Pool, live: &mut IndexMap<Name, Executor>, place: usize)
-    requires sound { IsSound pool.old (live_of live.old.entries) }
-    requires there { place < length (live_of live.old.entries) }
-    ensures { IsDropped place pool.old (live_of live.old.entries) pool.new (live_of live.new.entries) }
+pub fn drop_at(pool: &mut Pool, live: &mut Queries, place: usize)
+    requires sound { IsSound pool.old live.old }
+    requires there { place < length live.old }
+    ensures { IsDropped place pool.old live.old pool.new live.new }
 {
-    let executor = take_out(live, place);
+    let executor = live.take_out(place);
     executor.close(pool);
 }

@@ -5,22 +5,20 @@ ghost use Rattle.std.specs.Str.{bytes_eq};
 ghost use Rattle.bq_io.specs.Sink.{Writes};
 ghost use Rattle.bq_model.specs.Numbers.{IsPlanOf};
 ghost use Rattle.bq_executor.specs.Executor.{arrival};
-ghost use Rattle.bq_registry.specs.Live.{Live, LiveQuery, live_of, with_row, without, free_pages};
+ghost use Rattle.bq_registry.specs.Live.{Live, LiveQuery, with_row, without, free_pages};
 ghost use Rattle.bq_registry.specs.Registry.{IsSound, KeepQueries, waiting_text, most_steps};
 
 use crate::admission::{admit, drop_at};
-use crate::live::{executor_at, has_name, place_of};
+use crate::queries::Queries;
 use crate::refusal::CreateError;
 use crate::taking::take_all;
 use crate::verdict::{Verdict, judge};
 use crate::waiting::Places;
 use crate::writing::write_all;
-use bq_executor::Executor;
 use bq_io::{Sink, Steps, WriteFault};
 use bq_model::{Plan, Query, Row};
 use bq_pool::Pool;
 use bq_text::Name;
-use indexmap::IndexMap;
 use std::alloc::{AllocError, Global};
 use std::marker::Model;
 use std::sync::ledger::Ledger;
@@ -33,30 +31,29 @@ const PAGES: u16 = 16_384;
 pub struct Registry {
     alloc: Global,
     pool: Pool,
-    live: IndexMap<Name, Executor>,
+    live: Queries,
     waiting: Places,
 }
 
 impl Model for Registry {
-    ghost use Rattle.bq_registry.specs.Live.{live_of};
     ghost use Rattle.bq_registry.specs.Registry.{RegistryValue, IsSound};
     ghost use Rattle.bq_registry.specs.Waiting.{AreQuiet};
     ghost use Rattle.std.specs.Prelude.{length};
 
     ghost Value = { RegistryValue };
 
-    ghost view = { λ r. record { pool = r.pool; live = live_of r.live.entries } };
+    ghost view = { λ r. record { pool = r.pool; live = r.live } };
 
-    ghost invariant = { λ r. IsSound r.pool (live_of r.live.entries) × AreQuiet (length (live_of r.live.entries)) r.waiting (live_of r.live.entries) };
+    ghost invariant = { λ r. IsSound r.pool r.live × AreQuiet (length r.live) r.waiting r.live };
 }
 
 // Gives back the pages of all live queries.
-fn close_all(pool: Pool, live: IndexMap<Name, Executor>)
-    requires { IsSound pool (live_of live.entries) }
+fn close_all(pool: Pool, live: Queries)
+    requires { IsSound pool live }
 {
     let mut pool = pool;
     let mut live = live;
-    'closing: while !live.is_empty() {
+    'closing: while live.len() > 0 {
         drop_at(&mut pool, &mut live, 0);
     }
     live.destroy_empty();
@@ -76,7 +73,7 @@ impl Registry {
         ensures free { IfOk result (λ r. r.pool.free ≡ 16384) }
     {
         let pool = Pool::new(alloc, PAGES)?;
-        let live = IndexMap::with_capacity(alloc, Registry::MOST_QUERIES)?;
+        let live = Queries::with_capacity(alloc, Registry::MOST_QUERIES)?;
         let waiting = Places { from: 0, to: 0 };
         Ok(Registry {
             alloc,
@@ -106,14 +103,14 @@ impl Registry {
     pub fn find(&self, name: &Name) -> Option<usize>
         ensures place { result ≡ position (λ l. bytes_eq l.name name.now) self.now.live }
     {
-        place_of(&self.live, name)
+        self.live.place_of(name)
     }
 
     /// Whether a live query has this name.
     pub fn has(&self, name: &Name) -> bool
         ensures { result ≡ list_any (λ l. bytes_eq l.name name.now) self.now.live }
     {
-        has_name(&self.live, name)
+        self.live.has(name)
     }
 
     /// The live query at a place.
@@ -121,7 +118,7 @@ impl Registry {
         requires { place < length self.now.live }
         ensures { (d : Live) → result.now ≡ (slice_index_or self.now.live place d).executor.query }
     {
-        executor_at(&self.live, place).query()
+        self.live.executor_at(place).query()
     }
 
     /// The plan of the live query at a place.
@@ -130,7 +127,7 @@ impl Registry {
         ensures value { (d : Live) → result.now ≡ (slice_index_or self.now.live place d).executor.plan }
         ensures plan { (d : Live) → IsPlanOf (slice_index_or self.now.live place d).executor.query result.now }
     {
-        executor_at(&self.live, place).plan()
+        self.live.executor_at(place).plan()
     }
 
     /// Takes a query among the live ones, under a name that none of them has, or says why it is refused: the verdict with the
@@ -192,7 +189,7 @@ impl Registry {
         ensures given { (n : ℕ) → GivenUpto n self.old → GivenUpto n self.new }
         ensures queries { KeepQueries self.old.live self.new.live }
     {
-        match place_of(&self.live, name) {
+        match self.live.place_of(name) {
             Some(place) => {
                 drop_at(&mut self.pool, &mut self.live, place);
                 self.waiting = Places {

@@ -139,8 +139,8 @@ fn waiting_after(call: Call, waited: Option<u128>) -> u128 {
     }
 }
 
-fn row_listed(entry: (Tuple, u128)) -> Listed {
-    match entry.0.as_slice() {
+fn row_listed(entry: (&[i64], u128)) -> Listed {
+    match entry.0 {
         [first, second] => Listed {
             first: *first,
             second: *second,
@@ -157,7 +157,8 @@ fn row_listed(entry: (Tuple, u128)) -> Listed {
 fn entries(alloc: Global, table: &Answers) -> Result<Vec<Listed>, AllocError> {
     let mut rows = Vec::new(alloc);
     for place in 0..table.len() {
-        rows.push(row_listed(table.entry(place)))?;
+        let (tuple, waiting) = table.entry(place);
+        rows.push(row_listed((tuple.as_slice(), waiting)))?;
     }
     Ok(rows)
 }

@@ -1,5 +1,5 @@
 //! Names of streams, columns and queries.
-ghost use Rattle.std.specs.Prelude.{◌≡◌, Some, None, IsTrue, if◌then◌else◌};
+ghost use Rattle.std.specs.Prelude.{◌≡◌, ◌≤◌, Some, None, IsTrue, if◌then◌else◌, length};
 ghost use Rattle.bq_text.specs.Name.{is_name};
 
 use crate::key::key_of;
@@ -56,6 +56,7 @@ impl Name {
     pub fn bytes(&self) -> &[u8]
         ensures bytes { result.now ≡ self.now }
         ensures name { IsTrue (is_name self.now) }
+        ensures short { length self.now ≤ 24 }
     {
         self.bytes.split_at(self.len).0
     }

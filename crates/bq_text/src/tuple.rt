@@ -1,38 +1,53 @@
 //! The line of an answer, as it is printed.
-ghost use Rattle.std.specs.Prelude.{◌≡◌, ◌≤◌, ◌+◌, ◌++◌, ◌∷◌, length};
+ghost use Rattle.std.specs.Prelude.{◌≡◌, ◌≤◌, ◌+◌, ◌++◌, [], ◌∷◌, length};
 ghost use Rattle.std.specs.Fmt.{signed_decimal};
 ghost use Rattle.bq_io.specs.Sink.{Writes};
 ghost use Rattle.bq_text.specs.Tuple.{tuple_text, tuple_line};
 
 use crate::name::Name;
 use arrayvec::ArrayVec;
-use bq_io::{Sink, WriteFault, write_pieces};
+use bq_io::{Sink, WriteFault, write_all};
 use itoa::Buffer;
 
-// Adds a value behind a comma.
-fn push_value(text: &mut ArrayVec<u8, 168>, value: i64)
-    requires { length text.old.items + 21 ≤ 168 }
-    ensures bytes { text.new.items ≡ text.old.items ++ 44 ∷ signed_decimal value }
-    ensures short { length text.new.items ≤ length text.old.items + 21 }
+/// Room for a line: a name, at most eight values behind commas, and LF.
+type Line = ArrayVec<u8, 193>;
+
+// Adds the bytes of a name to an empty line.
+fn put_name(line: &mut Line, name: &Name)
+    requires { line.old.items ≡ [] }
+    ensures bytes { line.new.items ≡ name.now }
+    ensures short { length line.new.items ≤ 24 }
 {
-    text.push(b',');
-    let mut buffer = Buffer::new();
-    match text.try_extend_from_slice(buffer.format(value).as_bytes()) {
+    match line.try_extend_from_slice(name.bytes()) {
         Ok(()) => {}
         Err(_) => unreachable!(),
     }
 }
 
-// The values of a tuple, each behind a comma.
-fn tuple_text(values: &[i64]) -> ArrayVec<u8, 168>
-    requires { length values.now ≤ 8 }
-    ensures { result.items ≡ tuple_text values.now }
+// Adds a value behind a comma.
+fn push_value(line: &mut Line, value: i64)
+    requires { length line.old.items + 21 ≤ 193 }
+    ensures bytes { line.new.items ≡ line.old.items ++ 44 ∷ signed_decimal value }
+    ensures short { length line.new.items ≤ length line.old.items + 21 }
 {
-    let mut text = ArrayVec::new();
-    for value in values {
-        push_value(&mut text, *value);
+    line.push(b',');
+    let mut buffer = Buffer::new();
+    match line.try_extend_from_slice(buffer.format(value).as_bytes()) {
+        Ok(()) => {}
+        Err(_) => unreachable!(),
     }
-    text
+}
+
+// Adds the values of a tuple, each behind a comma.
+fn push_values(line: &mut Line, values: &[i64])
+    requires few { length values.now ≤ 8 }
+    requires short { length line.old.items ≤ 24 }
+    ensures bytes { line.new.items ≡ line.old.items ++ tuple_text values.now }
+    ensures short { length line.new.items ≤ 192 }
+{
+    for value in values {
+        push_value(line, *value);
+    }
 }
 
 /// Writes a tuple of at most 8 values as an answer of the query of this name: `q,v1,v2` and LF, by one call of the sink
@@ -41,7 +56,9 @@ pub fn put_tuple<O: Sink>(out: &mut O, name: &Name, values: &[i64]) -> Result<()
     requires { length values.now ≤ 8 }
     ensures { Writes result (O.seen out.old) (O.seen out.new) (tuple_line name.now values.now) }
 {
-    let text = tuple_text(values);
-    let pieces: [&[u8]; 3] = [name.bytes(), text.as_slice(), b"\n"];
-    write_pieces(out, &pieces)
+    let mut line: Line = ArrayVec::new();
+    put_name(&mut line, name);
+    push_values(&mut line, values);
+    line.push(b'\n');
+    write_all(out, line.as_slice())
 }

@@ -13,8 +13,8 @@ answer_new-requires-clause-room g c =
     (found_admitted c.args.q.now c.args.part.now c.from-streams.ensures.limits c.requires.ready.held.walked.plan c.args.pos c.requires.here c.args.row.now.items (read_from (cells_of c.args.pool.now c.args.e.now)) c.requires.admitted)
     c.requires.room
 
-pub insert-requires-clause-room : goal.insert-requires-clause-room
-insert-requires-clause-room g c =
+pub insert_at-requires-clause-room : goal.insert_at-requires-clause-room
+insert_at-requires-clause-room g c =
     own_room c.args.q.now c.args.part.now c.from-streams.ensures.limits c.requires.ready.held.walked.plan c.args.pos c.requires.here c.args.row.now.items
     (cells_of c.args.pool.now c.args.e.now) c.requires.counts (subst (λ xs. 1 < length xs) c.from-streams.ensures.value c.if-streams-gt1.true) c.requires.admitted
 

@@ -12,7 +12,7 @@ use Rattle.bq_executor.specs.declared.filled.Filled.{Filled}
 use Rattle.bq_executor.specs.Filled.{AreFilled}
 use Rattle.bq_executor.proofs.FilledLaws.{full-part, filled-later}
 use Rattle.bq_executor.proofs.parts.take_in_all.Goals as goal
-use Rattle.bq_executor.proofs.parts.take_in_all.Goals.{then-admits, else-admits}
+use Rattle.bq_executor.proofs.parts.take_in_all.Goals.{then-is_inside, else-is_inside}
 
 pub parts-init : goal.parts-init
 parts-init g c =
@@ -29,8 +29,8 @@ parts-init g c =
       there = led_there c.args.q.now c.args.parts.now c.args.pos c.chains-chains.result.now c.chains-chains.ensures v 0 c.first-led.result.first c.first-led.ensures.first;
     }
 
-pub admits-requires-clause-prepared : goal.admits-requires-clause-prepared
-admits-requires-clause-prepared g c =
+pub spot_of-spot-requires-clause-prepared : goal.spot_of-spot-requires-clause-prepared
+spot_of-spot-requires-clause-prepared g c =
     let at_n : slice_get c.args.parts.now c.parts.i ≡ Some c.get-part.result.now
     = slice_get-get_or c.args.parts.now c.parts.i c.get-part.result.now (omega arith) ∙ ap (λ (p : PartPlan). Some p) (sym (c.get-part.ensures c.get-part.result.now)) in
     c.part-known.ensures c.get-part.result.now at_n
@@ -67,8 +67,8 @@ take_row-requires-clause-full g c = λ full.
     full-part c.args.q.now c.args.parts.now c.parts.filled c.parts.table.entries c.parts.i c.get-part.result.now c.parts.invariant.filled at_n
     (c.is_full-full.ensures.distinct full) (c.is_full-full.ensures.all full)
 
-pub advance-requires-clause-filled : goal.advance-requires-clause-filled
-advance-requires-clause-filled g c =
+pub advance-requires : goal.advance-requires
+advance-requires g c =
     filled-later c.args.q.now c.args.parts.now c.parts.filled _ c.parts.table c.take_row.new.table c.take_row.ensures.table c.parts.invariant.filled
 
 pub parts-preserved : goal.parts-preserved
@@ -80,37 +80,37 @@ parts-preserved g c =
     = subst (λ b. IsNext (buckets_of c.args.parts.now c.chains-chains.result.now.tests.items c.chains-chains.result.now.greatest) b (c.parts.i + 1) c.after-i.result) (c.parts.invariant.there (omega arith)) c.after-i.ensures in
     let within = led_within c.args.q.now c.args.parts.now c.args.pos c.chains-chains.result.now c.chains-chains.ensures v (c.parts.i + 1) c.after-i.result next in
     let more = work_more c.args.q.now c.args.parts.now c.args.e.now c.args.pos c.requires.here c.args.row.now.items c.args.pool.now c.requires.ready c.parts.i c.get-part.result.now at_n c.parts.pool c.parts.invariant.done.taken in
-    let one : HaveDone c.args.q.now c.args.parts.now c.args.e.now c.args.pos c.args.row.now.items c.args.pool.now c.args.table.now c.args.steps.now (c.parts.i + 1) c.if-admits.pool c.if-admits.table c.if-admits.steps
-    = elim c.if-admits.branch [
-      | then-admits w ↦ record {
+    let one : HaveDone c.args.q.now c.args.parts.now c.args.e.now c.args.pos c.args.row.now.items c.args.pool.now c.args.table.now c.args.steps.now (c.parts.i + 1) c.if-is_inside.pool c.if-is_inside.table c.if-is_inside.steps
+    = elim c.if-is_inside.branch [
+      | then-is_inside w ↦ record {
         taken =
             taken_step c.args.q.now c.args.parts.now c.args.e.now c.args.pos c.requires.here c.args.row.now.items c.args.pool.now c.requires.ready c.parts.i c.get-part.result.now at_n c.parts.pool c.parts.invariant.done.taken
-            c.if-admits.pool (w.pool-is ∙ w.take_row.ensures.pool);
+            c.if-is_inside.pool (w.pool-is ∙ w.take_row.ensures.pool);
         found =
             table_more c.args.q.now c.args.parts.now c.args.e.now c.args.pos c.requires.here c.args.row.now.items c.args.pool.now c.requires.ready c.parts.i c.get-part.result.now at_n c.parts.pool c.parts.invariant.done.taken
-            c.args.q.now.distinct c.args.table.now c.parts.table c.if-admits.table c.parts.invariant.done.found (w.table-is ∙ w.take_row.ensures.table);
+            c.args.q.now.distinct c.args.table.now c.parts.table c.if-is_inside.table c.parts.invariant.done.found (w.table-is ∙ w.take_row.ensures.table);
         cost = (let a = c.parts.invariant.done.cost in let b = w.take_row.ensures.steps in let s = w.steps-is in omega (arith, more, a, b, s));
       }
-      | else-admits w ↦
-          same_state c.args.q.now c.args.parts.now c.args.e.now c.args.pos c.args.row.now.items c.args.pool.now c.args.table.now c.args.steps.now (c.parts.i + 1) c.parts.pool c.if-admits.pool c.parts.table c.if-admits.table c.parts.steps c.if-admits.steps w.pool-is w.table-is w.steps-is
+      | else-is_inside w ↦
+          same_state c.args.q.now c.args.parts.now c.args.e.now c.args.pos c.args.row.now.items c.args.pool.now c.args.table.now c.args.steps.now (c.parts.i + 1) c.parts.pool c.if-is_inside.pool c.parts.table c.if-is_inside.table c.parts.steps c.if-is_inside.steps w.pool-is w.table-is w.steps-is
           (passed_one c.args.q.now c.args.parts.now c.args.e.now c.args.pos c.requires.here c.args.row.now.items c.args.pool.now c.requires.ready c.args.table.now c.args.steps.now
-          c.parts.pool c.parts.table c.parts.steps c.parts.i c.get-part.result.now at_n (sym c.admits.ensures ∙ w.if-admits.false) c.parts.invariant.done)
+          c.parts.pool c.parts.table c.parts.steps c.parts.i c.get-part.result.now at_n (sym c.spot_of-spot.ensures.inside ∙ sym c.is_inside.ensures ∙ w.if-is_inside.false) c.parts.invariant.done)
     ] in
-    let filled : AreFilled c.args.q.now c.args.parts.now c.if-admits.filled c.if-admits.table.entries
-    = elim c.if-admits.branch [
-      | then-admits w ↦ subst (λ (t : TableValue). AreFilled c.args.q.now c.args.parts.now c.if-admits.filled t.entries) (sym w.table-is) (subst (λ (f : Filled). AreFilled c.args.q.now c.args.parts.now f w.take_row.new.table.entries) (sym w.filled-is) w.advance.ensures)
-      | else-admits w ↦ subst (λ (t : TableValue). AreFilled c.args.q.now c.args.parts.now c.if-admits.filled t.entries) (sym w.table-is) (subst (λ (f : Filled). AreFilled c.args.q.now c.args.parts.now f c.parts.table.entries) (sym w.filled-is) c.parts.invariant.filled)
+    let filled : AreFilled c.args.q.now c.args.parts.now c.if-is_inside.filled c.if-is_inside.table.entries
+    = elim c.if-is_inside.branch [
+      | then-is_inside w ↦ subst (λ (t : TableValue). AreFilled c.args.q.now c.args.parts.now c.if-is_inside.filled t.entries) (sym w.table-is) (subst (λ (f : Filled). AreFilled c.args.q.now c.args.parts.now f w.take_row.new.table.entries) (sym w.filled-is) w.advance.ensures)
+      | else-is_inside w ↦ subst (λ (t : TableValue). AreFilled c.args.q.now c.args.parts.now c.if-is_inside.filled t.entries) (sym w.table-is) (subst (λ (f : Filled). AreFilled c.args.q.now c.args.parts.now f c.parts.table.entries) (sym w.filled-is) c.parts.invariant.filled)
     ] in
     record {
       done =
           passed_over c.args.q.now c.args.parts.now c.args.e.now c.args.pos c.requires.here c.args.row.now.items c.args.pool.now c.requires.ready c.args.table.now c.args.steps.now
-          c.if-admits.pool c.if-admits.table c.if-admits.steps (c.parts.i + 1) c.after-i.result c.after-i.ensures.behind within
+          c.if-is_inside.pool c.if-is_inside.table c.if-is_inside.steps (c.parts.i + 1) c.after-i.result c.after-i.ensures.behind within
           (passed_by c.args.q.now c.args.parts.now c.args.pos c.chains-chains.result.now c.chains-chains.ensures v (c.parts.i + 1) c.after-i.result next) one;
       filled = filled;
       within = within;
       there = led_there c.args.q.now c.args.parts.now c.args.pos c.chains-chains.result.now c.chains-chains.ensures v (c.parts.i + 1) c.after-i.result next;
     }
 
-pub admits-requires-clause-part : goal.admits-requires-clause-part
-admits-requires-clause-part g c =
+pub spot_of-spot-requires-clause-part : goal.spot_of-spot-requires-clause-part
+spot_of-spot-requires-clause-part g c =
     slice_get-get_or c.args.parts.now c.parts.i c.get-part.result.now (omega arith) ∙ ap (λ (p : PartPlan). Some p) (sym (c.get-part.ensures c.get-part.result.now))
