@@ -186,8 +186,9 @@ impl Executor {
         self.take_up_row(passes, pool, stream, row, steps)
     }
 
-    // Takes a row as `take` does, of which it is known whether it passes the gate. It is not inlined, so that a row that is refused
-    // pays nothing for it.
+    // Takes a row as `take` does, of which it is known whether it passes the gate. It is not inlined, and the way to it is laid aside,
+    // so that a row that is refused pays nothing for it.
+    #[cold]
     #[inline(never)]
     fn take_up_row<L: Ledger>(
         &mut self,
