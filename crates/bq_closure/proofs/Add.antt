@@ -4,25 +4,24 @@ use Rattle.std.proofs.lemmas.Int.{ints}
 use Rattle.std.proofs.lemmas.List.Elements.{Contains-push_cases}
 use Rattle.bq_constraints.specs.declared.constraint.Constraint.{Constraint}
 use Rattle.bq_closure.specs.declared.way.Way.{Way}
-use Rattle.bq_closure.specs.declared.closure.Cycle.{Cycle}
-use Rattle.bq_closure.specs.declared.closure.Closure.{Closure}
-use Rattle.bq_closure.specs.Ways.{path_items, way_bound, IsModest, walked}
+use Rattle.bq_closure.specs.ClosureValue.{ClosureValue}
+use Rattle.bq_closure.specs.Ways.{way_bound, IsModest, walked}
 use Rattle.bq_closure.specs.Cycles.{IsImplied, IsClosing, IsClosingOver, closes, agrees}
 use Rattle.bq_constraints.specs.Table.{AtMost}
-use Rattle.bq_closure.specs.Closure.{Next, Chain, step, HasChain, way_at, bound_at, AreTight, IsNegative, IsSettled, IsClosureOf, Modest}
+use Rattle.bq_closure.specs.Closure.{Next, Chain, step, way_at, bound_at, AreTight, IsNegative, IsSettled, IsClosureOf, Modest}
 use Rattle.bq_closure.proofs.Tighten.{Agrees}
 use Rattle.bq_constraints.proofs.Numbers.{slice_get-append}
 use Rattle.bq_closure.proofs.Chains.{chain_grows, chain_modest, times}
-use Rattle.bq_closure.proofs.Walks.{chain_at, is_short, length-walked}
+use Rattle.bq_closure.proofs.Walks.{HasChain, chain_at, is_short, length-walked}
 use Rattle.bq_closure.proofs.Keep.{last_is}
 use Rattle.bq_constraints.proofs.Options.{some_is}
 
-pub tight_when : (n : ℕ) (cs : List Constraint) (ws : List (Option Way)) (o : Option Cycle) (b : Bool) → IsSettled n cs ws o → is_some o ≡ not b → b ≡ true → AreTight n cs ws
+pub tight_when : (n : ℕ) (cs : List Constraint) (ws : List (Option Way)) (o : Option (List ℕ)) (b : Bool) → IsSettled n cs ws o → b ≡ is_some o → b ≡ false → AreTight n cs ws
 tight_when n cs ws None b k e t = k
 tight_when n cs ws (Some y) true k e t = cc
 tight_when n cs ws (Some y) false k e t = cc
 
-pub broken_when : (n : ℕ) (cs ds : List Constraint) (ws : List (Option Way)) (o : Option Cycle) (b : Bool) → IsSettled n cs ws o → is_some o ≡ not b → b ≡ false → IsSettled n (cs ++ ds) ws o
+pub broken_when : (n : ℕ) (cs ds : List Constraint) (ws : List (Option Way)) (o : Option (List ℕ)) (b : Bool) → IsSettled n cs ws o → b ≡ is_some o → b ≡ true → IsSettled n (cs ++ ds) ws o
 broken_when n cs ds ws None true k e t = cc
 broken_when n cs ds ws None false k e t = cc
 broken_when n cs ds ws (Some y) b k e t = record { node = k.node; nodes = k.nodes; sum = k.sum; chain = chain_grows ds k.chain; negative = k.negative }
@@ -46,31 +45,30 @@ modest_at n few cs ws t m i j li lj = at (way_at ws i j) refl
         let f : times (length (walked ws w.length i j)) (pos 1000000000000000) ≡ pos (length (walked ws w.length i j) * 1000000000000000) = times-is (length (walked ws w.length i j)) 1000000000000000 in
         record { low = omega (arith, ints); high = omega (arith, ints); short = omega (arith, s) }
 
-pub agrees_when : (ws : List (Option Way)) (a b : ℕ) (bound : ℤ) (number : ℕ) (walk : ℕ → List ℕ) (o : Option Cycle) (u : Bool) → IsClosing (way_at ws b a) bound number walk o → is_some o ≡ not u → u ≡ true → Agrees (bound_at ws) a b bound
+pub agrees_when : (ws : List (Option Way)) (a b : ℕ) (bound : ℤ) (number : ℕ) (walk : ℕ → List ℕ) (o : Option (List ℕ)) (u : Bool) → IsClosing (way_at ws b a) bound number walk o → is_some o ≡ not u → u ≡ true → Agrees (bound_at ws) a b bound
 agrees_when ws a b bound number walk o u h e t = record { agrees = λ r f. go (way_at ws b a) r h f }
   where
     over : (w : Way) → IsClosingOver w bound number walk o → pos 0 ≤ℤ (w.bound +ℤ bound)
-    over w (closes y p q n m) = cc
+    over w (closes p q) = cc
     over w (agrees p q) = q
 
     go : (x : Option Way) (r : ℤ) → IsClosing x bound number walk o → way_bound x ≡ Some r → pos 0 ≤ℤ (r +ℤ bound)
     go None r h f = cc
     go (Some w) r h f = let s : w.bound ≡ r = some_is f in let g : pos 0 ≤ℤ (w.bound +ℤ bound) = over w h in omega (arith, ints)
 
-pub negative_when : (n : ℕ) (cs : List Constraint) (ws vs : List (Option Way)) (c : Constraint) → AreTight n cs ws → c.left < n → c.right < n → (o : Option Cycle) (u : Bool) (number : ℕ) → number ≡ suc (length cs) → IsClosing (way_at ws c.right c.left) c.bound number (λ m. walked ws m c.right c.left) o → is_some o ≡ not u → u ≡ false → IsSettled n (cs ++ c ∷ []) vs o
+pub negative_when : (n : ℕ) (cs : List Constraint) (ws vs : List (Option Way)) (c : Constraint) → AreTight n cs ws → c.left < n → c.right < n → (o : Option (List ℕ)) (u : Bool) (number : ℕ) → number ≡ suc (length cs) → IsClosing (way_at ws c.right c.left) c.bound number (λ m. walked ws m c.right c.left) o → is_some o ≡ not u → u ≡ false → IsSettled n (cs ++ c ∷ []) vs o
 negative_when n cs ws vs c k la lb o u number isn h e t = go (way_at ws c.right c.left) refl h
   where
-    over : (w : Way) → way_at ws c.right c.left ≡ Some w → (o : Option Cycle) → is_some o ≡ not u → IsClosingOver w c.bound number (λ m. walked ws m c.right c.left) o → IsSettled n (cs ++ c ∷ []) vs o
+    over : (w : Way) → way_at ws c.right c.left ≡ Some w → (o : Option (List ℕ)) → is_some o ≡ not u → IsClosingOver w c.bound number (λ m. walked ws m c.right c.left) o → IsSettled n (cs ++ c ∷ []) vs o
     over w is None e f = let x : false ≡ true = e ∙ ap not t in cc
     over w is (Some y) e (agrees p q) = cc
-    over w is (Some y) e (closes z p q f m) =
-        let same : z ≡ y = cc in
+    over w is (Some y) e (closes p q) =
+        let same : number ∷ walked ws w.length c.right c.left ≡ y = some_is (sym p) in
         let x : HasChain cs (walked ws w.length c.right c.left) c.right c.left w.bound = chain_at n cs ws k c.right c.left lb la w is in
         let round : Chain (cs ++ c ∷ []) (suc (length cs) ∷ walked ws w.length c.right c.left) c.left c.left (c.left ∷ x.nodes) (c.bound +ℤ w.bound) =
         step c (last_is cs c) refl refl refl (chain_grows (c ∷ []) x.chain) in
-        let first_is : z.first ≡ suc (length cs) = f ∙ isn in
-        let named : Chain (cs ++ c ∷ []) (z.first ∷ path_items z.rest) c.left c.left (c.left ∷ x.nodes) (c.bound +ℤ w.bound) =
-        rw (first_is, m) round in
+        let named : Chain (cs ++ c ∷ []) (number ∷ walked ws w.length c.right c.left) c.left c.left (c.left ∷ x.nodes) (c.bound +ℤ w.bound) =
+        rw isn round in
         subst (λ y. IsNegative (cs ++ c ∷ []) y) same
         record { node = c.left; nodes = c.left ∷ x.nodes; sum = c.bound +ℤ w.bound; chain = named; negative = omega (arith, ints) }
 
@@ -78,7 +76,7 @@ negative_when n cs ws vs c k la lb o u number isn h e t = go (way_at ws c.right 
     go None is f = let x : false ≡ true = ap is_some (sym f) ∙ e ∙ ap not t in cc
     go (Some w) is f = over w is o e f
 
-pub closure_with : (k r : Closure) (n : ℕ) (cs : List Constraint) (c : Constraint) → IsClosureOf k n cs → r.attrs ≡ k.attrs → r.count ≡ k.count + 1 → c.left < suc n → c.right < suc n → neg_ℤ (pos 1000000000000000) ≤ℤ c.bound → c.bound ≤ℤ pos 1000000000000000 → IsSettled (suc n) (cs ++ c ∷ []) r.ways r.cycle → IsClosureOf r n (cs ++ c ∷ [])
+pub closure_with : (k r : ClosureValue) (n : ℕ) (cs : List Constraint) (c : Constraint) → IsClosureOf k n cs → r.attrs ≡ k.attrs → r.count ≡ k.count + 1 → c.left < suc n → c.right < suc n → neg_ℤ (pos 1000000000000000) ≤ℤ c.bound → c.bound ≤ℤ pos 1000000000000000 → IsSettled (suc n) (cs ++ c ∷ []) r.ways r.cycle → IsClosureOf r n (cs ++ c ∷ [])
 closure_with k r n cs c h ea ec la lb lo hi s = record {
   attrs = ea ∙ h.attrs;
   few = h.few;
@@ -95,10 +93,15 @@ closure_with k r n cs c h ea ec la lb lo hi s = record {
     one_of : (P : Constraint → Type 0) → ((d : Constraint) → Contains cs d → P d) → P c → (d : Constraint) → Contains (cs ++ c ∷ []) d → P d
     one_of P f p d h = elim (Contains-push_cases cs c d h) [ inl i ↦ f d i | inr i ↦ subst P i p ]
 
-pub settled_when : (n : ℕ) (cs : List Constraint) (vs : List (Option Way)) (o : Option Cycle) (b : Bool) → is_some o ≡ not b → b ≡ true → AreTight n cs vs → IsSettled n cs vs o
+pub settled_when : (n : ℕ) (cs : List Constraint) (vs : List (Option Way)) (o : Option (List ℕ)) (b : Bool) → is_some o ≡ not b → b ≡ true → AreTight n cs vs → IsSettled n cs vs o
 settled_when n cs vs None b e t k = k
 settled_when n cs vs (Some y) true e t k = cc
 settled_when n cs vs (Some y) false e t k = cc
+
+pub settled_same : (n : ℕ) (cs : List Constraint) (vs : List (Option Way)) (o : Option (List ℕ)) (b : Bool) → b ≡ is_some o → b ≡ false → AreTight n cs vs → IsSettled n cs vs o
+settled_same n cs vs None b e t k = k
+settled_same n cs vs (Some y) true e t k = cc
+settled_same n cs vs (Some y) false e t k = cc
 
 -- a constraint that says nothing new
 pub implied_tight : (n : ℕ) (cs : List Constraint) (ws : List (Option Way)) (c : Constraint) → AreTight n cs ws → c.left < n → c.right < n → IsImplied (way_at ws c.left c.right) c.bound → AreTight n (cs ++ c ∷ []) ws

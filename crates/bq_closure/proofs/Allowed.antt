@@ -4,7 +4,6 @@ use Rattle.std.proofs.lemmas.Int.{ints, by_lt_z}
 use Rattle.std.proofs.lemmas.List.Elements.{Contains-append_left, Contains-append_right, Contains-push_cases}
 use Rattle.bq_constraints.specs.declared.constraint.Constraint.{Constraint}
 use Rattle.bq_closure.specs.declared.way.Way.{Way}
-use Rattle.bq_closure.specs.declared.closure.Cycle.{Cycle}
 use Rattle.bq_closure.specs.Cycles.{IsImplied}
 use Rattle.bq_constraints.specs.Table.{Table, AtMost, IsClosed, Covers}
 use Rattle.bq_closure.specs.Tightened.{tightened}
@@ -20,7 +19,7 @@ use Rattle.bq_closure.proofs.Upper.{tight_if_satisfiable, upper_some, upper_none
 use Rattle.bq_closure.proofs.Walks.{chain_at}
 
 -- no integers meet a constraint that closes a negative chain
-pub not_allowed : (n : ℕ) → n ≤ 13 → (cs : List Constraint) (ws : List (Option Way)) (o : Option Cycle) (c : Constraint) (w : Way) → IsSettled n cs ws o → c.left < n → c.right < n → way_at ws c.right c.left ≡ Some w → (w.bound +ℤ c.bound) <ℤ pos 0 → IsSatisfiable (cs ++ c ∷ []) → ⊥
+pub not_allowed : (n : ℕ) → n ≤ 13 → (cs : List Constraint) (ws : List (Option Way)) (o : Option (List ℕ)) (c : Constraint) (w : Way) → IsSettled n cs ws o → c.left < n → c.right < n → way_at ws c.right c.left ≡ Some w → (w.bound +ℤ c.bound) <ℤ pos 0 → IsSatisfiable (cs ++ c ∷ []) → ⊥
 not_allowed n few cs ws o c w k la lb e l s =
     let old : IsSatisfiable cs = record { at = s.at; solves = record { origin = s.solves.origin; each = λ d h. s.solves.each d (Contains-append_left cs (c ∷ []) d h) } } in
     let t : AreTight n cs ws = tight_if_satisfiable n cs ws o k old in
@@ -28,13 +27,8 @@ not_allowed n few cs ws o c w k la lb e l s =
     let b : s.at c.left ≤ℤ (c.bound +ℤ s.at c.right) = s.solves.each c (Contains-append_right cs (c ∷ []) c (0, omega arith, refl)) in
     omega (arith, ints, a, b, l)
 
-pub tight_when_none : (n : ℕ) (cs : List Constraint) (ws : List (Option Way)) (o : Option Cycle) (b : Bool) → IsSettled n cs ws o → b ≡ is_some o → b ≡ false → AreTight n cs ws
-tight_when_none n cs ws None b k e t = k
-tight_when_none n cs ws (Some y) true k e t = cc
-tight_when_none n cs ws (Some y) false k e t = cc
-
 -- a negative cycle stays one
-pub never_allowed : (n : ℕ) (cs : List Constraint) (ws : List (Option Way)) (o : Option Cycle) (c : Constraint) (b : Bool) → IsSettled n cs ws o → b ≡ is_some o → b ≡ true → Allows cs c → ⊥
+pub never_allowed : (n : ℕ) (cs : List Constraint) (ws : List (Option Way)) (o : Option (List ℕ)) (c : Constraint) (b : Bool) → IsSettled n cs ws o → b ≡ is_some o → b ≡ true → Allows cs c → ⊥
 never_allowed n cs ws None c b k e t s = cc
 never_allowed n cs ws (Some y) c b k e t s = no_solution cs y k (record { at = s.at; solves = record { origin = s.solves.origin; each = λ d h. s.solves.each d (Contains-append_left cs (c ∷ []) d h) } })
 
@@ -70,12 +64,12 @@ allowed n cs ws c k la lb f = solve.satisfiable n t closed (cs ++ c ∷ []) cove
     }
 
 -- each constraint of unsatisfiable ones is implied
-pub all_implied : (n : ℕ) (cs : List Constraint) (ws : List (Option Way)) (o : Option Cycle) (c : Constraint) (b : Bool) → IsSettled n cs ws o → b ≡ is_some o → b ≡ true → Implies cs c
+pub all_implied : (n : ℕ) (cs : List Constraint) (ws : List (Option Way)) (o : Option (List ℕ)) (c : Constraint) (b : Bool) → IsSettled n cs ws o → b ≡ is_some o → b ≡ true → Implies cs c
 all_implied n cs ws None c b k e t = cc
 all_implied n cs ws (Some y) c b k e t = record { met = λ x v. absurd (no_solution cs y k (record { at = x; solves = v })) }
 
 -- what a bound of the table implies
-implied_sound : (n : ℕ) (cs : List Constraint) (ws : List (Option Way)) (o : Option Cycle) (c : Constraint) (x : ℕ → ℤ) → IsSettled n cs ws o → c.left < n → c.right < n → IsImplied (way_at ws c.left c.right) c.bound → Solves x cs → x c.left ≤ℤ (c.bound +ℤ x c.right)
+implied_sound : (n : ℕ) (cs : List Constraint) (ws : List (Option Way)) (o : Option (List ℕ)) (c : Constraint) (x : ℕ → ℤ) → IsSettled n cs ws o → c.left < n → c.right < n → IsImplied (way_at ws c.left c.right) c.bound → Solves x cs → x c.left ≤ℤ (c.bound +ℤ x c.right)
 implied_sound n cs ws o c x k la lb h v = go (way_at ws c.left c.right) refl h
   where
     go : (w : Option Way) → way_at ws c.left c.right ≡ w → IsImplied w c.bound → x c.left ≤ℤ (c.bound +ℤ x c.right)
@@ -85,7 +79,7 @@ implied_sound n cs ws o c x k la lb h v = go (way_at ws c.left c.right) refl h
         let a : x c.left ≤ℤ (w.bound +ℤ x c.right) = chain_sound x v (chain_at n cs ws t c.left c.right la lb w e).chain in
         omega (arith, ints, a, h)
 
-pub implied_if : (n : ℕ) (cs : List Constraint) (ws : List (Option Way)) (o : Option Cycle) (c : Constraint) → IsSettled n cs ws o → c.left < n → c.right < n → IsImplied (way_at ws c.left c.right) c.bound → Implies cs c
+pub implied_if : (n : ℕ) (cs : List Constraint) (ws : List (Option Way)) (o : Option (List ℕ)) (c : Constraint) → IsSettled n cs ws o → c.left < n → c.right < n → IsImplied (way_at ws c.left c.right) c.bound → Implies cs c
 implied_if n cs ws o c k la lb h = record { met = λ x v. implied_sound n cs ws o c x k la lb h v }
 
 -- what is implied has its bound in the table
@@ -104,7 +98,7 @@ bound_if_implied n few cs ws c k m la lb h = go (way_at ws c.left c.right) refl
         omega (arith, ints, a, r)
 
 -- the test of the way back decides
-pub closes_none : (n : ℕ) → n ≤ 13 → (cs : List Constraint) (ws : List (Option Way)) (o : Option Cycle) (c : Constraint) (w : Way) (b : Bool) → IsSettled n cs ws o → AreTight n cs ws → c.left < n → c.right < n → way_at ws c.right c.left ≡ Some w
+pub closes_none : (n : ℕ) → n ≤ 13 → (cs : List Constraint) (ws : List (Option Way)) (o : Option (List ℕ)) (c : Constraint) (w : Way) (b : Bool) → IsSettled n cs ws o → AreTight n cs ws → c.left < n → c.right < n → way_at ws c.right c.left ≡ Some w
     → (IsTrue b → (w.bound +ℤ c.bound) <ℤ pos 0) × ((w.bound +ℤ c.bound) <ℤ pos 0 → IsTrue b) → (IsTrue (not b) → Allows cs c) × (Allows cs c → IsTrue (not b))
 closes_none n few cs ws o c w true k t la lb e f = ((λ y. cc), (λ s. absurd (not_allowed n few cs ws o c w k la lb e (f.0 refl) s)))
 closes_none n few cs ws o c w false k t la lb e f = (

@@ -4,7 +4,7 @@ use Rattle.std.proofs.lemmas.List.{take_more, length-take-le}
 use Rattle.std.proofs.Math.Seq.{take-length}
 use Rattle.std.proofs.lemmas.List.Elements.{All-get_or, All-push}
 use Rattle.bq_constraints.specs.declared.constraint.Constraint.{Constraint}
-use Rattle.bq_closure.specs.declared.closure.Closure.{Closure}
+use Rattle.bq_closure.specs.ClosureValue.{ClosureValue}
 use Rattle.bq_constraints.specs.Solutions.{IsWithin}
 use Rattle.bq_closure.specs.Closure.{IsClosureOf, HasRoom}
 
@@ -18,13 +18,13 @@ whole cs i e = ap (λ z. take z cs) e ∙ take-length cs
 end_of : (ks cs : List Constraint) (i : ℕ) → i ≡ length cs → ks ++ take i cs ≡ ks ++ cs
 end_of ks cs i e = ap (λ z. ks ++ z) (whole cs i e)
 
-pub closure_more : (k : Closure) (n : ℕ) (ks cs : List Constraint) (i : ℕ) (d : Constraint) → i < length cs → IsClosureOf k n ((ks ++ take i cs) ++ get_or cs i d ∷ []) → IsClosureOf k n (ks ++ take (i + 1) cs)
+pub closure_more : (k : ClosureValue) (n : ℕ) (ks cs : List Constraint) (i : ℕ) (d : Constraint) → i < length cs → IsClosureOf k n ((ks ++ take i cs) ++ get_or cs i d ∷ []) → IsClosureOf k n (ks ++ take (i + 1) cs)
 closure_more k n ks cs i d l h = subst (IsClosureOf k n) (sym (more_of ks cs i d l)) h
 
-pub closure_end : (k : Closure) (n : ℕ) (ks cs : List Constraint) (i : ℕ) → i ≡ length cs → IsClosureOf k n (ks ++ take i cs) → IsClosureOf k n (ks ++ cs)
+pub closure_end : (k : ClosureValue) (n : ℕ) (ks cs : List Constraint) (i : ℕ) → i ≡ length cs → IsClosureOf k n (ks ++ take i cs) → IsClosureOf k n (ks ++ cs)
 closure_end k n ks cs i e h = subst (IsClosureOf k n) (end_of ks cs i e) h
 
-pub room_for : (k : Closure) (n : ℕ) (ks cs : List Constraint) (i : ℕ) → i < length cs → IsClosureOf k n (ks ++ take i cs) → length ks + length cs ≤ 268 → HasRoom k 1
+pub room_for : (k : ClosureValue) (n : ℕ) (ks cs : List Constraint) (i : ℕ) → i < length cs → IsClosureOf k n (ks ++ take i cs) → length ks + length cs ≤ 268 → HasRoom k 1
 room_for k n ks cs i l h r = record {
   constraints = ks ++ take i cs;
   closure = subst (λ m. IsClosureOf k m (ks ++ take i cs)) (sym h.attrs) h;
@@ -33,7 +33,7 @@ room_for k n ks cs i l h r = record {
       omega (arith, a, b, r, l));
 }
 
-pub within_for : (k : Closure) (n m : ℕ) (ks cs : List Constraint) (i : ℕ) (d : Constraint) → i < length cs → IsClosureOf k n (ks ++ take i cs) → m ≡ n → All (IsWithin m) cs → IsWithin k.attrs (get_or cs i d)
+pub within_for : (k : ClosureValue) (n m : ℕ) (ks cs : List Constraint) (i : ℕ) (d : Constraint) → i < length cs → IsClosureOf k n (ks ++ take i cs) → m ≡ n → All (IsWithin m) cs → IsWithin k.attrs (get_or cs i d)
 within_for k n m ks cs i d l h e a = subst (λ z. IsWithin z (get_or cs i d)) (e ∙ sym h.attrs) (All-get_or (IsWithin m) cs i d l a)
 
 -- a fact of the first of them and of the next; of all; and not of one

@@ -1,10 +1,9 @@
 -- What the table of bounds says of the solutions.
-use Rattle.std.proofs.Common.{◌≡◌, ◌≢◌, ℕ, suc, ◌<◌, ◌≤◌, ◌+◌, ◌*◌, ◌/◌, ◌%◌, ℤ, pos, ◌+ℤ◌, ◌≤ℤ◌, ◌<ℤ◌, refl, sym, ◌∙◌, ap, arith, Option, Some, None, Bool, true, false, List, [], Contains, is_none, is_some, not}
+use Rattle.std.proofs.Common.{◌≡◌, ◌≢◌, ℕ, suc, ◌<◌, ◌≤◌, ◌+◌, ◌*◌, ◌/◌, ◌%◌, ℤ, pos, ◌+ℤ◌, ◌≤ℤ◌, ◌<ℤ◌, refl, sym, ◌∙◌, ap, arith, Option, Some, None, true, List, [], Contains, is_some, not}
 use Rattle.std.proofs.lemmas.Int.{ints}
 use Rattle.bq_constraints.specs.declared.constraint.Constraint.{Constraint}
 use Rattle.bq_closure.specs.declared.way.Way.{Way}
-use Rattle.bq_closure.specs.declared.closure.Cycle.{Cycle}
-use Rattle.bq_closure.specs.declared.closure.Closure.{Closure}
+use Rattle.bq_closure.specs.ClosureValue.{ClosureValue}
 use Rattle.bq_constraints.specs.Solutions.{IsSatisfiable}
 use Rattle.bq_closure.specs.Ways.{way_bound, IsUnlinked, self, other, IsUnlinkedAt}
 use Rattle.bq_closure.specs.Closure.{way_at, bound_at, AreTight, IsNegative, IsSettled, IsClosureOf}
@@ -12,13 +11,13 @@ use Rattle.bq_closure.proofs.Chains.{chain_sound}
 use Rattle.bq_constraints.proofs.Solve as solve
 use Rattle.bq_constraints.proofs.Options.{some_is, none_is}
 
-pub no_solution : (cs : List Constraint) (y : Cycle) → IsNegative cs y → IsSatisfiable cs → ⊥
+pub no_solution : (cs : List Constraint) (y : List ℕ) → IsNegative cs y → IsSatisfiable cs → ⊥
 no_solution cs y n s =
     let a : s.at n.node ≤ℤ (n.sum +ℤ s.at n.node) = chain_sound s.at s.solves n.chain in
     let b : n.sum <ℤ pos 0 = n.negative in
     omega (arith, ints)
 
-pub satisfiable_is : (n : ℕ) (cs : List Constraint) (ws : List (Option Way)) (cycle : Option Cycle) → IsSettled n cs ws cycle → (is_none cycle ≡ true → IsSatisfiable cs) × (IsSatisfiable cs → is_none cycle ≡ true)
+pub satisfiable_is : (n : ℕ) (cs : List Constraint) (ws : List (Option Way)) (cycle : Option (List ℕ)) → IsSettled n cs ws cycle → (not (is_some cycle) ≡ true → IsSatisfiable cs) × (IsSatisfiable cs → not (is_some cycle) ≡ true)
 satisfiable_is n cs ws None k = (λ _. solve.satisfiable n (bound_at ws) k.closed cs k.covers, λ _. refl)
 satisfiable_is n cs ws (Some y) k = (λ h. cc, λ s. absurd (no_solution cs y k s))
 
@@ -73,13 +72,7 @@ start_tight n few ws f = record {
     apart i j ne w e (self u s o b p) = ne s
     apart i j ne w e (other n o) = none_is (sym o ∙ e)
 
-pub is_none_from : {A : Type 0} (o : Option A) (b : Bool) → is_some o ≡ not b → b ≡ is_none o
-is_none_from None true h = refl
-is_none_from None false h = cc
-is_none_from (Some x) true h = cc
-is_none_from (Some x) false h = refl
-
-pub start_closure : (k : Closure) (n : ℕ) → n < 13 → k.attrs ≡ n → k.count ≡ 0 → k.cycle ≡ None → ((i : ℕ) → i < 169 → IsUnlinkedAt k.ways i) → IsClosureOf k n []
+pub start_closure : (k : ClosureValue) (n : ℕ) → n < 13 → k.attrs ≡ n → k.count ≡ 0 → k.cycle ≡ None → ((i : ℕ) → i < 169 → IsUnlinkedAt k.ways i) → IsClosureOf k n []
 start_closure k n l a z e f = record {
   attrs = a;
   few = l;

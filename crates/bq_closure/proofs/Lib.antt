@@ -1,5 +1,6 @@
 pub mod Tighten
 pub mod Chains
+pub mod Stored
 pub mod Simple
 pub mod Rows
 pub mod Keep

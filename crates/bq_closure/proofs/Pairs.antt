@@ -4,12 +4,12 @@ use Rattle.std.proofs.lemmas.List.{length-take-le}
 use Rattle.std.specs.List.{AllZip}
 use Rattle.bq_model.specs.declared.part.Pair.{Pair}
 use Rattle.bq_model.specs.Query.{QueryValue}
-use Rattle.bq_closure.specs.declared.choosing.Choice.{Choice}
+use Rattle.bq_closure.specs.ChoiceValue.{ChoiceValue}
 use Rattle.bq_closure.specs.Choices.{IsChoice}
 use Rattle.bq_closure.proofs.Zips.{zip_length}
 
 -- as many as the pairs so far
-pub so_many : (q : QueryValue) (ps : List Pair) (cs : List Choice) (i : ℕ) → i < length ps → AllZip (IsChoice q) (take i ps) cs → length cs ≡ i
+pub so_many : (q : QueryValue) (ps : List Pair) (cs : List ChoiceValue) (i : ℕ) → i < length ps → AllZip (IsChoice q) (take i ps) cs → length cs ≡ i
 so_many q ps cs i l h =
     let a : length cs ≡ length (take i ps) = zip_length (IsChoice q) (take i ps) cs h in
     let b : length (take i ps) ≡ i = length-take-le i ps (omega (arith, l)) in

@@ -1,7 +1,11 @@
 -- Lists without an element twice.
 use Rattle.std.proofs.Common.{◌≡◌, ◌≢◌, ℕ, zero, suc, ◌<◌, ◌≤◌, ◌⊎◌, inl, inr, refl, sym, ap, subst, arith, Bool, true, false, cond, eqb, List, [], ◌∷◌, length, le_refl, suc-le-suc}
-use Rattle.bq_closure.specs.Closure.{IsSimple, none, more}
 use Rattle.bq_model.proofs.Has.{Has, first, later}
+
+-- no element stands twice
+pub data IsSimple {A : Type 0} : List A → Type 0 where
+  none : IsSimple []
+  more : {x : A} {xs : List A} → ¬ Has xs x → IsSimple xs → IsSimple (x ∷ xs)
 
 -- xs without n
 without : ℕ → List ℕ → List ℕ

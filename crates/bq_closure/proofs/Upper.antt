@@ -6,8 +6,7 @@ use Rattle.bq_model.specs.declared.atom.Element.{Element}
 use Rattle.bq_model.specs.Query.{QueryValue, attrs_of}
 use Rattle.bq_constraints.specs.declared.constraint.Constraint.{Constraint}
 use Rattle.bq_closure.specs.declared.way.Way.{Way}
-use Rattle.bq_closure.specs.declared.closure.Cycle.{Cycle}
-use Rattle.bq_closure.specs.declared.closure.Closure.{Closure}
+use Rattle.bq_closure.specs.ClosureValue.{ClosureValue}
 use Rattle.bq_closure.specs.BoundsValue.{AreBounds}
 use Rattle.bq_closure.specs.Ways.{way_bound, AreModest, IsModest, walked}
 use Rattle.bq_constraints.specs.Nodes.{node_of, offset_of, element_at, IsAlwaysLess, IsAlwaysEqual, IsAlwaysAbove}
@@ -15,7 +14,7 @@ use Rattle.bq_constraints.specs.Solutions.{Solves, IsSatisfiable, IsUpper, HasNo
 use Rattle.bq_closure.specs.Answers.{IsBelow, IsAbove, IsOutside, below, above, IsPathAnswer, IsCycleAnswer, IsNear, IsSolvedAt, at_nodes}
 use Rattle.bq_constraints.specs.Reach.{reach}
 use Rattle.bq_closure.specs.Pinned.{pinned}
-use Rattle.bq_closure.specs.Closure.{Chain, stop, step, way_at, bound_at, AreTight, IsSettled, IsClosureOf, Modest, cycle_items}
+use Rattle.bq_closure.specs.Closure.{Chain, stop, step, way_at, bound_at, AreTight, IsSettled, IsClosureOf, Modest}
 use Rattle.bq_closure.proofs.Chains.{chain_sound}
 use Rattle.bq_closure.proofs.Pin as pin
 use Rattle.bq_constraints.proofs.Solve as solve
@@ -34,7 +33,7 @@ chain_is {cs} (step {e} {i} {k} {j} {es} {xs} {b} {s} c at l m n rest) =
     let r2 : IsChain cs es c.right j ((b +ℤ s) -ℤ c.bound) = subst (λ z. IsChain cs es c.right j z) sum (subst (λ z. IsChain cs es z j s) (sym m) r) in
     (c, omega arith, subst (λ z. slice_get cs z ≡ Some c) (sym here) at, l, r2)
 
-pub tight_if_satisfiable : (n : ℕ) (cs : List Constraint) (ws : List (Option Way)) (o : Option Cycle) → IsSettled n cs ws o → IsSatisfiable cs → AreTight n cs ws
+pub tight_if_satisfiable : (n : ℕ) (cs : List Constraint) (ws : List (Option Way)) (o : Option (List ℕ)) → IsSettled n cs ws o → IsSatisfiable cs → AreTight n cs ws
 tight_if_satisfiable n cs ws None k s = k
 tight_if_satisfiable n cs ws (Some y) k s = absurd (no_solution cs y k s)
 
@@ -72,14 +71,14 @@ module _ (n : ℕ) (few : n ≤ 13) (cs : List Constraint) (ws : List (Option Wa
   pub path_some : (i j : ℕ) → i < n → j < n → (w : Way) → way_at ws i j ≡ Some w → IsPathAnswer cs i j (Some (walked ws w.length i j))
   path_some i j li lj w e = (w.bound, upper_some i j li lj w e, chain_is (chain_at n cs ws k i j li lj w e).chain)
 
-pub cycle_is : (n : ℕ) (cs : List Constraint) (ws : List (Option Way)) (o : Option Cycle) → IsSettled n cs ws o → (o ≡ None → IsSatisfiable cs) × ((y : Cycle) → o ≡ Some y → IsCycleAnswer cs (Some (cycle_items y)))
+pub cycle_is : (n : ℕ) (cs : List Constraint) (ws : List (Option Way)) (o : Option (List ℕ)) → IsSettled n cs ws o → (o ≡ None → IsSatisfiable cs) × ((y : List ℕ) → o ≡ Some y → IsCycleAnswer cs (Some y))
 cycle_is n cs ws None k = (λ _. solve.satisfiable n (bound_at ws) k.closed cs k.covers, λ y e. cc)
 cycle_is n cs ws (Some z) k = (
   λ e. cc,
   λ y e.
       let same : z ≡ y = cc in
-      let g : IsNegativeCycle cs (cycle_items z) = record { node = k.node; sum = k.sum; chain = chain_is k.chain; negative = k.negative } in
-      subst (λ (y : Cycle). IsCycleAnswer cs (Some (cycle_items y))) same (g, no_solution cs z k),
+      let g : IsNegativeCycle cs z = record { node = k.node; sum = k.sum; chain = chain_is k.chain; negative = k.negative } in
+      subst (λ (y : List ℕ). IsCycleAnswer cs (Some y)) same (g, no_solution cs z k),
 )
 
 -- ---- the least and the greatest value of a node
@@ -222,7 +221,7 @@ above_from_equal q xs cs x y e h = record { above = λ z v. let b = h.equal z v 
 pub above_from_equal_turned : (q : QueryValue) (xs : List Attr) (cs : List Constraint) (x y : Element) → xs ≡ attrs_of q.atoms → IsAlwaysEqual q cs x y → IsAlwaysAbove xs cs y x (pos 0)
 above_from_equal_turned q xs cs x y e h = record { above = λ z v. let b = h.equal z v in rw e (omega (arith, ints, b)) }
 
-pub bounds_with : (k : Closure) (n : ℕ) (cs : List Constraint) (c : Constraint) (ds : List Constraint) → ds ≡ cs ++ c ∷ [] → IsClosureOf k n (cs ++ c ∷ []) → length cs < 268 → AreBounds k ds
+pub bounds_with : (k : ClosureValue) (n : ℕ) (cs : List Constraint) (c : Constraint) (ds : List Constraint) → ds ≡ cs ++ c ∷ [] → IsClosureOf k n (cs ++ c ∷ []) → length cs < 268 → AreBounds k ds
 bounds_with k n cs c ds e h l = rw e record {
   closure = subst (λ m. IsClosureOf k m (cs ++ c ∷ [])) (sym h.attrs) h;
   room = (let a : length (cs ++ c ∷ []) ≡ length cs + 1 = length-append cs (c ∷ []) in omega arith);

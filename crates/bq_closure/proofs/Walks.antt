@@ -5,11 +5,17 @@ use Rattle.bq_model.proofs.Has.{Has, first, later}
 use Rattle.bq_constraints.specs.declared.constraint.Constraint.{Constraint}
 use Rattle.bq_closure.specs.declared.way.Way.{Way}
 use Rattle.bq_closure.specs.Ways.{way_bound, walked, number_of, next_of}
-use Rattle.bq_closure.specs.Closure.{Chain, stop, step, HasChain, IsSimple, none, more, way_at, Next, AreTight}
+use Rattle.bq_closure.specs.Closure.{Chain, stop, step, way_at, Next, AreTight}
 use Rattle.bq_constraints.proofs.Numbers.{contains_at}
 use Rattle.bq_closure.proofs.Chains.{chain_sum_is, length-nodes}
-use Rattle.bq_closure.proofs.Simple.{length-simple}
+use Rattle.bq_closure.proofs.Simple.{IsSimple, none, more, length-simple}
 use Rattle.bq_constraints.proofs.Options.{some_is}
+
+-- a chain of constraints that meets no node twice
+pub record HasChain (cs : List Constraint) (es : List ℕ) (i j : ℕ) (s : ℤ) : Type 0 where
+  pub nodes : List ℕ
+  pub chain : Chain cs es i j nodes s
+  pub simple : IsSimple nodes
 
 -- ---- the loop that walks
 

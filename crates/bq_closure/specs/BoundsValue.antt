@@ -1,7 +1,7 @@
 -- What contracts see of difference bounds.
 use Rattle.std.specs.Prelude.{ℕ, List, ◌<◌, length}
 use Rattle.bq_constraints.specs.declared.constraint.Constraint.{Constraint}
-use Rattle.bq_closure.specs.declared.closure.Closure.{Closure}
+use Rattle.bq_closure.specs.ClosureValue.{ClosureValue}
 use Rattle.bq_closure.specs.Closure.{IsClosureOf}
 
 -- how many attributes there are, and the constraints that were added, in order
@@ -10,6 +10,6 @@ pub record BoundsValue : Type 0 where
   pub constraints : List Constraint
 
 -- the closure is that of the constraints, and they fit their list
-pub record AreBounds (k : Closure) (cs : List Constraint) : Type 0 where
+pub record AreBounds (k : ClosureValue) (cs : List Constraint) : Type 0 where
   pub closure : IsClosureOf k k.attrs cs
   pub room : length cs < 269

@@ -7,21 +7,21 @@ use Rattle.bq_model.specs.declared.part.Sign.{Sign}
 use Rattle.bq_model.specs.Query.{QueryValue, attrs_of}
 use Rattle.bq_model.specs.Parts.{pairs}
 use Rattle.bq_constraints.specs.declared.constraint.Constraint.{Constraint}
-use Rattle.bq_closure.specs.declared.choosing.Choice.{Choice}
+use Rattle.bq_closure.specs.ChoiceValue.{ChoiceValue}
 use Rattle.bq_constraints.specs.Nodes.{constraints_of}
 use Rattle.bq_constraints.specs.Solutions.{IsWithin}
 
 -- the constraints of a sign
-abbrev pub chosen : Choice → Sign → List Constraint
-chosen c Sign.Lt = c.less.items
-chosen c Sign.Eq = c.equal.items
-chosen c Sign.Gt = c.greater.items
+abbrev pub chosen : ChoiceValue → Sign → List Constraint
+chosen c Sign.Lt = c.less
+chosen c Sign.Eq = c.equal
+chosen c Sign.Gt = c.greater
 
 -- the constraints are those of the pair, whatever its sign
-pub record IsChoice (q : QueryValue) (p : Pair) (c : Choice) : Type 0 where
+pub record IsChoice (q : QueryValue) (p : Pair) (c : ChoiceValue) : Type 0 where
   pub says : (s : Sign) → chosen c s ≡ constraints_of (attrs_of q.atoms) (element.Attr p.left) s p.right
   pub within : (s : Sign) → All (IsWithin (length (attrs_of q.atoms))) (chosen c s)
 
 -- there is one for each pair of the query, in order
-abbrev pub AreChoices : QueryValue → List Choice → Type 0
+abbrev pub AreChoices : QueryValue → List ChoiceValue → Type 0
 AreChoices q cs = AllZip (IsChoice q) (pairs q) cs

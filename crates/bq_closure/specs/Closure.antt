@@ -1,12 +1,10 @@
 -- What a table of bounds keeps: it is closed, and each bound is the sum of a chain of constraints.
 use Rattle.std.specs.Prelude.{◌≡◌, ◌≢◌, ℕ, suc, ◌+◌, ◌*◌, ◌<◌, ◌≤◌, ℤ, pos, neg_ℤ, ◌+ℤ◌, ◌≤ℤ◌, ◌<ℤ◌, List, [], ◌∷◌, length, Option, Some, None, Contains, slice_get, slice_index_or}
-use Rattle.bq_model.proofs.Has.{Has}
 use Rattle.bq_constraints.specs.declared.constraint.Constraint.{Constraint}
 use Rattle.bq_closure.specs.declared.way.Way.{Way}
-use Rattle.bq_closure.specs.declared.closure.Cycle.{Cycle}
-use Rattle.bq_closure.specs.declared.closure.Closure.{Closure}
+use Rattle.bq_closure.specs.ClosureValue.{ClosureValue}
 use Rattle.bq_constraints.specs.Table.{Table, IsClosed, Covers}
-use Rattle.bq_closure.specs.Ways.{way_bound, path_items}
+use Rattle.bq_closure.specs.Ways.{way_bound}
 
 -- the constraints with the numbers es, from 1, lead from i to j over the nodes xs, both ends among them, with the sum s
 pub data Chain (cs : List Constraint) : List ℕ → ℕ → ℕ → List ℕ → ℤ → Type 0 where
@@ -17,17 +15,6 @@ pub data Chain (cs : List Constraint) : List ℕ → ℕ → ℕ → List ℕ �
 pub record Modest (cs : List Constraint) (w : ℤ) : Type 0 where
   pub low : (c : Constraint) → Contains cs c → neg_ℤ w ≤ℤ c.bound
   pub high : (c : Constraint) → Contains cs c → c.bound ≤ℤ w
-
--- no element stands twice
-pub data IsSimple {A : Type 0} : List A → Type 0 where
-  none : IsSimple []
-  more : {x : A} {xs : List A} → ¬ Has xs x → IsSimple xs → IsSimple (x ∷ xs)
-
--- a chain of constraints that meets no node twice
-pub record HasChain (cs : List Constraint) (es : List ℕ) (i j : ℕ) (s : ℤ) : Type 0 where
-  pub nodes : List ℕ
-  pub chain : Chain cs es i j nodes s
-  pub simple : IsSimple nodes
 
 -- the way between two nodes, in a table with 13 to a row
 abbrev pub way_at : List (Option Way) → ℕ → ℕ → Option Way
@@ -57,25 +44,21 @@ pub record AreTight (n : ℕ) (cs : List Constraint) (ws : List (Option Way)) : 
   pub still : (i : ℕ) → i < n → (w : Way) → way_at ws i i ≡ Some w → w.length ≡ 0
   pub next : (i j : ℕ) → i < n → j < n → i ≢ j → (w : Way) → way_at ws i j ≡ Some w → Next cs ws i j w
 
--- the numbers of the cycle, of which there is at least one
-abbrev pub cycle_items : Cycle → List ℕ
-cycle_items y = y.first ∷ path_items y.rest
-
--- the numbers of the cycle close a chain with a negative sum
-pub record IsNegative (cs : List Constraint) (y : Cycle) : Type 0 where
+-- the numbers close a chain with a negative sum
+pub record IsNegative (cs : List Constraint) (es : List ℕ) : Type 0 where
   pub node : ℕ
   pub nodes : List ℕ
   pub sum : ℤ
-  pub chain : Chain cs (cycle_items y) node node nodes sum
+  pub chain : Chain cs es node node nodes sum
   pub negative : sum <ℤ pos 0
 
 -- a closed table, or a cycle that shows that there is none
-abbrev pub IsSettled : ℕ → List Constraint → List (Option Way) → Option Cycle → Type 0
+abbrev pub IsSettled : ℕ → List Constraint → List (Option Way) → Option (List ℕ) → Type 0
 IsSettled n cs ws None = AreTight n cs ws
-IsSettled n cs ws (Some y) = IsNegative cs y
+IsSettled n cs ws (Some es) = IsNegative cs es
 
 -- the closure of these constraints between n attributes
-pub record IsClosureOf (k : Closure) (n : ℕ) (cs : List Constraint) : Type 0 where
+pub record IsClosureOf (k : ClosureValue) (n : ℕ) (cs : List Constraint) : Type 0 where
   pub attrs : k.attrs ≡ n
   pub few : n < 13
   pub count : k.count ≡ length cs
@@ -85,7 +68,7 @@ pub record IsClosureOf (k : Closure) (n : ℕ) (cs : List Constraint) : Type 0 w
   pub settled : IsSettled (suc n) cs k.ways k.cycle
 
 -- the closure of some constraints, to which so many more may be added
-pub record HasRoom (k : Closure) (more : ℕ) : Type 0 where
+pub record HasRoom (k : ClosureValue) (more : ℕ) : Type 0 where
   pub constraints : List Constraint
   pub closure : IsClosureOf k k.attrs constraints
   pub room : length constraints + more ≤ 268

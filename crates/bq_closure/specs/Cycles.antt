@@ -1,16 +1,14 @@
 -- When a constraint closes a cycle with a negative sum.
-use Rattle.std.specs.Prelude.{◌≡◌, ℕ, ℤ, pos, ◌+ℤ◌, ◌≤ℤ◌, ◌<ℤ◌, List, Option, Some, None}
+use Rattle.std.specs.Prelude.{◌≡◌, ℕ, ℤ, pos, ◌+ℤ◌, ◌≤ℤ◌, ◌<ℤ◌, List, ◌∷◌, Option, Some, None}
 use Rattle.bq_closure.specs.declared.way.Way.{Way}
-use Rattle.bq_closure.specs.declared.closure.Cycle.{Cycle}
-use Rattle.bq_closure.specs.Ways.{path_items}
 
 -- the cycle over a way back and the new constraint, where its sum is negative
-pub data IsClosingOver (back : Way) (bound : ℤ) (number : ℕ) (walk : ℕ → List ℕ) (result : Option Cycle) : Type 0 where
-  closes : (y : Cycle) → result ≡ Some y → (back.bound +ℤ bound) <ℤ pos 0 → y.first ≡ number → path_items y.rest ≡ walk back.length → IsClosingOver back bound number walk result
+pub data IsClosingOver (back : Way) (bound : ℤ) (number : ℕ) (walk : ℕ → List ℕ) (result : Option (List ℕ)) : Type 0 where
+  closes : result ≡ Some (number ∷ walk back.length) → (back.bound +ℤ bound) <ℤ pos 0 → IsClosingOver back bound number walk result
   agrees : result ≡ None → pos 0 ≤ℤ (back.bound +ℤ bound) → IsClosingOver back bound number walk result
 
 -- the same, where there may be no way back
-abbrev pub IsClosing : Option Way → ℤ → ℕ → (ℕ → List ℕ) → Option Cycle → Type 0
+abbrev pub IsClosing : Option Way → ℤ → ℕ → (ℕ → List ℕ) → Option (List ℕ) → Type 0
 IsClosing None bound number walk result = result ≡ None
 IsClosing (Some back) bound number walk result = IsClosingOver back bound number walk result
 

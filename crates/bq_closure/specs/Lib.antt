@@ -1,8 +1,12 @@
 pub mod Answers
 pub mod Tightened
 pub mod Ways
+pub mod Paths
+pub mod Rounds
+pub mod ClosureValue
 pub mod Closure
 pub mod Cycles
 pub mod Pinned
 pub mod BoundsValue
+pub mod ChoiceValue
 pub mod Choices

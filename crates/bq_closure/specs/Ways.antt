@@ -1,12 +1,7 @@
 -- A bound with the start of the chain that gives it.
-use Rattle.std.specs.Prelude.{◌≡◌, ◌≢◌, ℕ, zero, suc, ◌+◌, ◌<◌, ◌≤◌, ℤ, pos, neg_ℤ, ◌+ℤ◌, ◌≤ℤ◌, ◌<ℤ◌, List, [], ◌∷◌, take, Option, Some, None, ◌*◌, ◌/◌, ◌%◌, slice_index_or, Bool, cond, nat_eq}
-use Rattle.bq_closure.specs.declared.path.Path.{Path}
+use Rattle.std.specs.Prelude.{◌≡◌, ◌≢◌, ℕ, zero, suc, ◌+◌, ◌<◌, ◌≤◌, ℤ, pos, neg_ℤ, ◌+ℤ◌, ◌≤ℤ◌, ◌<ℤ◌, List, [], ◌∷◌, Option, Some, None, ◌*◌, ◌/◌, ◌%◌, slice_index_or, Bool, cond, nat_eq}
 use Rattle.bq_closure.specs.declared.way.Way.{Way}
 use Rattle.bq_constraints.specs.declared.constraint.Constraint.{Constraint}
-
--- the numbers of a path
-abbrev pub path_items : Path → List ℕ
-path_items p = take p.len p.steps
 
 -- the bound of a way
 abbrev pub way_bound : Option Way → Option ℤ

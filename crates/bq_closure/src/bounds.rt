@@ -5,13 +5,9 @@ ghost use Rattle.bq_model.specs.Order.{IsElement};
 ghost use Rattle.bq_constraints.specs.Solutions.{IsWithin, IsSatisfiable};
 ghost use Rattle.bq_constraints.specs.PartConstraints.{of_atoms};
 ghost use Rattle.bq_constraints.specs.Nodes.{node_of, offset_of, IsWithinLimit};
-ghost use Rattle.bq_closure.specs.Closure.{cycle_items};
 ghost use Rattle.bq_closure.specs.Answers.{IsBelow, IsAbove};
 
-use crate::closure::{Closure, Cycle};
-use crate::path::Path;
-use crate::solution::solution;
-use crate::way::way_between;
+use crate::closure::Closure;
 use arrayvec::ArrayVec;
 use bq_constraints::{Constraint, difference, node, of_query};
 use bq_model::{Attr, Element, Query};
@@ -127,7 +123,7 @@ impl Bounds {
         ensures answer { IsUpperAnswer self.now.constraints i j result }
         ensures small { IsSmall result }
     {
-        match way_between(&self.closure.ways, i, j) {
+        match self.closure.way(i, j) {
             Some(way) => Some(i128::from(way.bound)),
             None => None,
         }
@@ -164,8 +160,8 @@ impl Bounds {
         requires satisfiable { IsSatisfiable self.now.constraints }
         ensures { IsPathAnswer self.now.constraints i j (list_of result) }
     {
-        match way_between(&self.closure.ways, i, j) {
-            Some(way) => Some(Path::walk(&self.closure.ways, i, j, way.length).list()),
+        match self.closure.way(i, j) {
+            Some(way) => Some(self.closure.walk(i, j, way.length).list()),
             None => None,
         }
     }
@@ -175,8 +171,8 @@ impl Bounds {
     pub fn cycle(&self) -> Option<ArrayVec<u16, 13>>
         ensures { IsCycleAnswer self.now.constraints (list_of result) }
     {
-        match self.closure.cycle {
-            Some(cycle) => Some(numbers(cycle)),
+        match self.closure.cycle() {
+            Some(cycle) => Some(cycle.list()),
             None => None,
         }
     }
@@ -242,7 +238,7 @@ impl Bounds {
         if is_above(value, self.hi(i)) {
             return None;
         }
-        Some(solution(&self.closure.ways, self.closure.attrs, i, value))
+        Some(self.closure.solution(i, value))
     }
 }
 
@@ -286,17 +282,4 @@ fn limit(x: Element, y: Element, by: i64) -> i128
     ensures { result ≡ offset_of y -ℤ offset_of x +ℤ by }
 {
     i128::from(difference(x, y, by))
-}
-
-// The numbers of a cycle.
-fn numbers(cycle: Cycle) -> ArrayVec<u16, 13>
-    ensures { result.items ≡ cycle_items cycle }
-{
-    let mut list = ArrayVec::new();
-    list.push(cycle.first);
-    let rest = cycle.rest.list();
-    for step in rest.as_slice() {
-        list.push(*step);
-    }
-    list
 }

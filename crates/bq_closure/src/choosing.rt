@@ -7,13 +7,22 @@ ghost use Rattle.bq_closure.specs.Choices.{IsChoice, AreChoices, chosen};
 use arrayvec::ArrayVec;
 use bq_constraints::{Constraint, constraints};
 use bq_model::{Element, Pair, Query, Sign};
+use std::marker::Model;
 
-/// The constraints that a pair adds by each sign that it may have.
+/// The constraints that a pair adds by each sign that it may have. A clause sees three lists.
 #[derive(Drop, Default)]
 pub struct Choice {
     less: ArrayVec<Constraint, 2>,
     equal: ArrayVec<Constraint, 2>,
     greater: ArrayVec<Constraint, 2>,
+}
+
+impl Model for Choice {
+    ghost use Rattle.bq_closure.specs.ChoiceValue.{ChoiceValue};
+
+    ghost Value = { ChoiceValue };
+
+    ghost view = { λ c. record { less = c.less.items; equal = c.equal.items; greater = c.greater.items } };
 }
 
 impl Choice {

@@ -1,32 +1,84 @@
 //! Ways that are kept closed, for constraints that are kept elsewhere.
-ghost use Rattle.std.specs.Prelude.{◌≡◌, ℕ, ◌+◌, ◌<◌, ◌≤◌, [], ◌∷◌, ◌++◌, List, length, pos, neg_ℤ, ◌≤ℤ◌, ◌+ℤ◌, ℤ, IsTrue, IsFalse, ◌↔◌, All, ◌*◌, slice_index_or, Option, suc};
+ghost use Rattle.std.specs.Prelude.{◌≡◌, ℕ, ◌+◌, ◌<◌, ◌≤◌, [], ◌∷◌, ◌++◌, List, length, pos, neg_ℤ, ◌≤ℤ◌, ◌+ℤ◌, ℤ, IsTrue, IsFalse, ◌↔◌, All, ◌*◌, slice_index_or, Option, suc, ◌^◌, nat_abs, is_some};
 ghost use Rattle.bq_constraints.specs.Solutions.{IsWithin, IsSatisfiable, Allows, Implies};
-ghost use Rattle.bq_closure.specs.Ways.{IsModest, path_items, walked};
+ghost use Rattle.bq_closure.specs.Ways.{IsModest, walked};
 ghost use Rattle.bq_constraints.specs.declared.constraint.Constraint.{Constraint};
 
 use crate::path::Path;
+use crate::solution::solution;
 use crate::way::{Way, closes, tighten, unlinked, way_between};
+use arrayvec::ArrayVec;
 use bq_constraints::Constraint;
+use std::marker::Model;
 
-/// The numbers of constraints that close a chain with a negative sum.
+/// The numbers of constraints that close a chain with a negative sum, of which there is at least one. A clause sees them as a
+/// list.
 #[derive(Clone, Copy)]
 pub struct Cycle {
-    pub(crate) first: u16,
-    pub(crate) rest: Path,
+    first: u16,
+    rest: Path,
+}
+
+impl Model for Cycle {
+    ghost use Rattle.std.specs.Prelude.{List, ℕ};
+
+    ghost Value = { List ℕ };
+
+    ghost use Rattle.bq_closure.specs.Rounds.{numbers_of, cycle_of};
+
+    ghost view = { numbers_of };
+
+    ghost inverse = { cycle_of };
+}
+
+impl Cycle {
+    /// Its numbers as a list.
+    pub fn list(&self) -> ArrayVec<u16, 13>
+        ensures { result.items ≡ self.now }
+    {
+        behind(self.first, self.rest.list().as_slice())
+    }
+}
+
+// A number with others behind it.
+fn behind(first: u16, rest: &[u16]) -> ArrayVec<u16, 13>
+    requires { length rest.now ≤ 12 }
+    ensures { result.items ≡ first ∷ rest.now }
+{
+    let mut list = ArrayVec::new();
+    list.push(first);
+    for number in rest {
+        list.push(*number);
+    }
+    list
 }
 
 /// What the constraints that were added imply, without these themselves: of each two nodes the least bound of their
 /// difference, or a cycle that shows that no integers meet all. It stands for each list of constraints with these.
+/// A clause sees the number of attributes, how many constraints were added, the table, and the numbers of the cycle.
 #[derive(Clone, Copy)]
 pub struct Closure {
-    pub(crate) attrs: u8,
-    pub(crate) count: u16,
-    pub(crate) ways: [Option<Way>; 169],
-    pub(crate) cycle: Option<Cycle>,
+    attrs: u8,
+    count: u16,
+    ways: [Option<Way>; 169],
+    cycle: Option<Cycle>,
+}
+
+impl Model for Closure {
+    ghost use Rattle.bq_closure.specs.ClosureValue.{ClosureValue};
+
+    ghost Value = { ClosureValue };
+
+    ghost view = { λ k. record { attrs = k.attrs; count = k.count; ways = k.ways; cycle = k.cycle } };
+
+    ghost inverse = { λ v. record { attrs = v.attrs; count = v.count; ways = v.ways; cycle = v.cycle } };
 }
 
 impl Closure {
-    ghost use Rattle.bq_closure.specs.Closure.{IsClosureOf, HasRoom};
+    ghost use Rattle.bq_closure.specs.Closure.{IsClosureOf, HasRoom, way_at, bound_at};
+    ghost use Rattle.bq_closure.specs.Answers.{at_nodes};
+    ghost use Rattle.bq_closure.specs.Pinned.{pinned};
+    ghost use Rattle.bq_constraints.specs.Reach.{reach};
     ghost use Rattle.bq_closure.specs.Cycles.{IsClosing, IsImplied};
 
     /// No constraint, for at most 12 attributes.
@@ -42,6 +94,13 @@ impl Closure {
         }
     }
 
+    // Whether a cycle shows that no integers meet all constraints.
+    fn is_broken(&self) -> bool
+        ensures { result ≡ is_some self.now.cycle }
+    {
+        self.cycle.is_some()
+    }
+
     // The cycle that the constraint closes, if its sum is negative.
     fn closed_by(&self, c: Constraint) -> Option<Cycle>
         requires modest { IsModest (slice_index_or self.now.ways (13 * c.right + c.left) None) }
@@ -49,12 +108,12 @@ impl Closure {
         requires few { self.now.count < 268 }
         ensures { IsClosing (slice_index_or self.now.ways (13 * c.right + c.left) None) c.bound (self.now.count + 1) (λ n. walked self.now.ways n c.right c.left) result }
     {
-        match way_between(&self.ways, c.right, c.left) {
+        match self.way(c.right, c.left) {
             Some(back) => {
                 if closes(back, c) {
                     Some(Cycle {
                         first: self.count + 1,
-                        rest: Path::walk(&self.ways, c.right, c.left, back.length),
+                        rest: self.walk(c.right, c.left, back.length),
                     })
                 } else {
                     None
@@ -68,7 +127,7 @@ impl Closure {
     fn has_bound(&self, c: Constraint) -> bool
         ensures { IsTrue result ↔ IsImplied (slice_index_or self.now.ways (13 * c.left + c.right) None) c.bound }
     {
-        match way_between(&self.ways, c.left, c.right) {
+        match self.way(c.left, c.right) {
             Some(way) => way.bound <= c.bound,
             None => false,
         }
@@ -80,7 +139,7 @@ impl Closure {
         requires within { IsWithin self.old.attrs c }
         ensures { (n : ℕ) (cs : List Constraint) → IsClosureOf self.old n cs → IsClosureOf self.new n (cs ++ c ∷ []) }
     {
-        if self.cycle.is_none() && !self.has_bound(c) {
+        if !self.is_broken() && !self.has_bound(c) {
             let closed = self.closed_by(c);
             if closed.is_none() {
                 tighten(
@@ -99,7 +158,7 @@ impl Closure {
     pub fn satisfiable(&self) -> bool
         ensures { (n : ℕ) (cs : List Constraint) → IsClosureOf self.now n cs → IsTrue result ↔ IsSatisfiable cs }
     {
-        self.cycle.is_none()
+        !self.is_broken()
     }
 
     /// Whether some integers meet the constraint beside those that were added.
@@ -108,10 +167,10 @@ impl Closure {
         requires within { IsWithin self.now.attrs c }
         ensures { (n : ℕ) (cs : List Constraint) → IsClosureOf self.now n cs → IsTrue result ↔ Allows cs c }
     {
-        if self.cycle.is_some() {
+        if self.is_broken() {
             return false;
         }
-        match way_between(&self.ways, c.right, c.left) {
+        match self.way(c.right, c.left) {
             Some(back) => !closes(back, c),
             None => true,
         }
@@ -123,7 +182,7 @@ impl Closure {
         requires within { IsWithin self.now.attrs c }
         ensures { (n : ℕ) (cs : List Constraint) → IsClosureOf self.now n cs → IsTrue result ↔ Implies cs c }
     {
-        if self.cycle.is_some() {
+        if self.is_broken() {
             return true;
         }
         self.has_bound(c)
@@ -166,5 +225,38 @@ impl Closure {
             }
         }
         true
+    }
+
+    /// The way from one node to another.
+    pub(crate) fn way(&self, left: u8, right: u8) -> Option<Way>
+        ensures { result ≡ way_at self.now.ways left right }
+    {
+        way_between(&self.ways, left, right)
+    }
+
+    /// The numbers of the first constraints of the chain between two nodes, so many as `length` says.
+    pub(crate) fn walk(&self, from: u8, to: u8, length: u8) -> Path
+        requires { length ≤ 12 }
+        ensures { result ≡ walked self.now.ways length from to }
+    {
+        Path::walk(&self.ways, from, to, length)
+    }
+
+    /// The cycle that shows that no integers meet all constraints, where there is one.
+    pub(crate) fn cycle(&self) -> Option<Cycle>
+        ensures { result ≡ self.now.cycle }
+    {
+        self.cycle
+    }
+
+    /// The values of the attributes in a solution that gives node i the value, which is within the bounds of that node.
+    pub(crate) fn solution(&self, i: u8, value: i128) -> ArrayVec<i128, 12>
+        requires attrs { self.now.attrs ≤ 12 }
+        requires low { neg_ℤ (pos (10 ^ 30)) ≤ℤ value }
+        requires high { value ≤ℤ pos (10 ^ 30) }
+        ensures long { length result.items ≡ self.now.attrs }
+        ensures each { (k : ℕ) → k < self.now.attrs → at_nodes result.items (k + 1) ≡ reach (bound_at self.now.ways) (pinned i value (pos 100000000000000000 +ℤ pos (nat_abs value))) (self.now.attrs + 1) (k + 1) }
+    {
+        solution(&self.ways, self.attrs, i, value)
     }
 }

@@ -4,23 +4,38 @@ ghost use Rattle.bq_closure.specs.declared.way.Way.{Way};
 
 use crate::way::{Way, way_between};
 use arrayvec::ArrayVec;
+use std::marker::Model;
 
-/// At most 12 numbers of constraints.
+/// At most 12 numbers of constraints. A clause sees them as a list.
 #[derive(Clone, Copy)]
 pub struct Path {
     steps: [u16; 12],
     len: usize,
-    ghost fits: { len ≤ 12 },
-    ghost full: { length steps ≡ 12 },
+}
+
+impl Model for Path {
+    ghost use Rattle.std.specs.Prelude.{List, ℕ};
+
+    ghost Value = { List ℕ };
+
+    ghost use Rattle.bq_closure.specs.Paths.{shown, IsStored, stored, stored_back};
+
+    ghost view = { shown };
+
+    ghost invariant = { IsStored };
+
+    ghost inverse = { stored };
+
+    ghost inverse_ok = { stored_back };
 }
 
 impl Path {
-    ghost use Rattle.bq_closure.specs.Ways.{path_items, walked};
+    ghost use Rattle.bq_closure.specs.Ways.{walked};
 
     /// The constraints of the chain between two nodes, of which there are `length`.
     pub fn walk(ways: &[Option<Way>; 169], from: u8, to: u8, length: u8) -> Path
         requires { length ≤ 12 }
-        ensures { path_items result ≡ walked ways.now length from to }
+        ensures { result ≡ walked ways.now length from to }
     {
         let mut steps: [u16; 12] = [0; 12];
         let mut at = from;
@@ -44,7 +59,7 @@ impl Path {
 
     /// Its numbers as a list.
     pub fn list(&self) -> ArrayVec<u16, 12>
-        ensures { result.items ≡ path_items self.now }
+        ensures { result.items ≡ self.now }
     {
         let mut list = ArrayVec::new();
         for step in &self.steps[..self.len] {

@@ -13,8 +13,8 @@ use Rattle.bq_model.specs.Query.{QueryValue, attrs_of, consts_of, IsWithinLimits
 use Rattle.bq_model.specs.Assignment.{Assignment}
 use Rattle.bq_model.specs.Parts.{pairs, signs_of}
 use Rattle.bq_constraints.specs.declared.constraint.Constraint.{Constraint}
-use Rattle.bq_closure.specs.declared.choosing.Choice.{Choice}
-use Rattle.bq_closure.specs.declared.closure.Closure.{Closure}
+use Rattle.bq_closure.specs.ChoiceValue.{ChoiceValue}
+use Rattle.bq_closure.specs.ClosureValue.{ClosureValue}
 use Rattle.bq_closure.specs.Choices.{IsChoice, AreChoices, chosen}
 use Rattle.bq_closure.specs.Closure.{IsClosureOf, HasRoom}
 use Rattle.bq_constraints.specs.Nodes.{nodes_of}
@@ -31,7 +31,7 @@ use Rattle.bq_lto_split.specs.Tree.{Before, AreOf, AreImplied, Follows}
 -- ---- the pair of the next sign
 
 -- what the pair of the next sign adds by that sign
-pub adds_choice : (q : QueryValue) (ps : List Choice) (pre : List Sign) (s : Sign) (d : Choice) (cs : List Constraint) → AreChoices q ps → length pre < length ps → cs ≡ chosen (slice_index_or ps (length pre) d) s → AddsSign q pre s cs
+pub adds_choice : (q : QueryValue) (ps : List ChoiceValue) (pre : List Sign) (s : Sign) (d : ChoiceValue) (cs : List Constraint) → AreChoices q ps → length pre < length ps → cs ≡ chosen (slice_index_or ps (length pre) d) s → AddsSign q pre s cs
 adds_choice q ps pre s d cs h l e =
     let p : Pair = record { left = record { stream = 0; column = 0 }; right = element.Const (pos 0) } in
     let n : length ps ≡ length (pairs q) = zip_length (IsChoice q) (pairs q) ps h in
@@ -40,12 +40,12 @@ adds_choice q ps pre s d cs h l e =
     adds_sign q (pairs q) pre s p (length pre) cs refl refl m (e ∙ k.says s) (subst (All (IsWithin (length (attrs_of q.atoms)))) (sym e) (k.within s))
 
 -- the same, where the pair stands at the number of the signs
-pub adds_here : (q : QueryValue) (ps : List Choice) (pre : List Sign) (s : Sign) (choice : Choice) (i : ℕ) → AreChoices q ps → length pre ≡ i → i < length ps → choice ≡ slice_index_or ps i choice → AddsSign q pre s (chosen choice s)
+pub adds_here : (q : QueryValue) (ps : List ChoiceValue) (pre : List Sign) (s : Sign) (choice : ChoiceValue) (i : ℕ) → AreChoices q ps → length pre ≡ i → i < length ps → choice ≡ slice_index_or ps i choice → AddsSign q pre s (chosen choice s)
 adds_here q ps pre s choice i h at l e =
-    adds_choice q ps pre s choice (chosen choice s) h (omega (arith, at, l)) (ap (λ (z : Choice). chosen z s) (e ∙ ap (λ (n : ℕ). slice_index_or ps n choice) (sym at)))
+    adds_choice q ps pre s choice (chosen choice s) h (omega (arith, at, l)) (ap (λ (z : ChoiceValue). chosen z s) (e ∙ ap (λ (n : ℕ). slice_index_or ps n choice) (sym at)))
 
 -- there is a pair for one more sign
-pub room_next : (q : QueryValue) (ps : List Choice) (k : Closure) (pre : List Sign) (s : Sign) → Before q ps k pre → length pre < length ps → length (pre ++ s ∷ []) ≤ length (pairs q)
+pub room_next : (q : QueryValue) (ps : List ChoiceValue) (k : ClosureValue) (pre : List Sign) (s : Sign) → Before q ps k pre → length pre < length ps → length (pre ++ s ∷ []) ≤ length (pairs q)
 room_next q ps k pre s b l =
     let n : length (pre ++ s ∷ []) ≡ length pre + 1 = length-append pre (s ∷ []) in
     let m : length ps ≡ length (pairs q) = zip_length (IsChoice q) (pairs q) ps b.choices in
@@ -109,7 +109,7 @@ satisfiable_of q signs ks m f = let t : IsSatisfiable (of_prefix q signs) = sati
 
 -- ---- the closure with the sign
 
-module _ (q : QueryValue) (ps : List Choice) (k : Closure) (pre : List Sign) (s : Sign) (cs : List Constraint) (b : Before q ps k pre) (a : AddsSign q pre s cs) where
+module _ (q : QueryValue) (ps : List ChoiceValue) (k : ClosureValue) (pre : List Sign) (s : Sign) (cs : List Constraint) (b : Before q ps k pre) (a : AddsSign q pre s cs) where
   -- no assignment has the sign where no integers meet its constraints
   pub not_feasible : ¬ IsSatisfiable (b.closure.constraints ++ cs) → IsFeasible q (pre ++ s ∷ []) → ⊥
   not_feasible n f = n (satisfiable_of q (pre ++ s ∷ []) _ (are_more q pre s b.closure.constraints cs b.closure.are a) f)
@@ -136,7 +136,7 @@ module _ (q : QueryValue) (ps : List Choice) (k : Closure) (pre : List Sign) (s 
     follows_same i = follows_one q pre s b.closure.constraints cs b.closure.are a (i _ _ b.closure.closure) here
 
     -- else its constraints are added
-    pub before_added : (r : Closure) → IsClosureOf r (length (attrs_of q.atoms)) (b.closure.constraints ++ cs) → IsSatisfiable (b.closure.constraints ++ cs) → Before q ps r (pre ++ s ∷ [])
+    pub before_added : (r : ClosureValue) → IsClosureOf r (length (attrs_of q.atoms)) (b.closure.constraints ++ cs) → IsSatisfiable (b.closure.constraints ++ cs) → Before q ps r (pre ++ s ∷ [])
     before_added r h t =
         let m : AreOf q (pre ++ s ∷ []) (b.closure.constraints ++ cs) = are_more q pre s b.closure.constraints cs b.closure.are a in
         record {
@@ -167,7 +167,7 @@ module _ (q : QueryValue) (ps : List Choice) (k : Closure) (pre : List Sign) (s 
 
 -- ---- the root
 
-pub before_root : (q : QueryValue) (ps : List Choice) (k : Closure) → IsWithinLimits q → AreChoices q ps → length ps ≤ 106 → IsClosureOf k (length (attrs_of q.atoms)) (of_atoms (attrs_of q.atoms) q.atoms) → IsSatisfiable (of_atoms (attrs_of q.atoms) q.atoms) → Before q ps k []
+pub before_root : (q : QueryValue) (ps : List ChoiceValue) (k : ClosureValue) → IsWithinLimits q → AreChoices q ps → length ps ≤ 106 → IsClosureOf k (length (attrs_of q.atoms)) (of_atoms (attrs_of q.atoms) q.atoms) → IsSatisfiable (of_atoms (attrs_of q.atoms) q.atoms) → Before q ps k []
 before_root q ps k l e few h t = record {
   limits = l;
   choices = e;

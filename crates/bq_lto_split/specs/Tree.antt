@@ -4,12 +4,11 @@ use Rattle.bq_model.specs.declared.part.Sign.{Sign}
 use Rattle.bq_model.specs.declared.part.Part.{Part}
 use Rattle.bq_model.specs.Query.{QueryValue, attrs_of, IsWithinLimits}
 use Rattle.bq_model.specs.Parts.{pairs, signs_lt, IsPart}
-use Rattle.bq_model.proofs.Has.{Has}
-use Rattle.bq_model.proofs.Unique.{Ascends}
-use Rattle.bq_model.proofs.Split.{StartsWith, IsFeasible, ArePartsUnder}
+use Rattle.bq_model.specs.Members.{Has, Ascends}
+use Rattle.bq_model.specs.Prefixes.{StartsWith, IsFeasible, ArePartsUnder}
 use Rattle.bq_constraints.specs.declared.constraint.Constraint.{Constraint}
-use Rattle.bq_closure.specs.declared.choosing.Choice.{Choice}
-use Rattle.bq_closure.specs.declared.closure.Closure.{Closure}
+use Rattle.bq_closure.specs.ChoiceValue.{ChoiceValue}
+use Rattle.bq_closure.specs.ClosureValue.{ClosureValue}
 use Rattle.bq_closure.specs.Choices.{AreChoices}
 use Rattle.bq_closure.specs.Closure.{IsClosureOf}
 use Rattle.bq_constraints.specs.PartConstraints.{of_prefix}
@@ -25,13 +24,13 @@ pub record AreOf (q : QueryValue) (signs : List Sign) (cs : List Constraint) : T
   pub few : length cs ≤ 2 * (length q.atoms + length signs)
 
 -- the closure of such constraints
-pub record IsClosureFor (q : QueryValue) (signs : List Sign) (k : Closure) : Type 0 where
+pub record IsClosureFor (q : QueryValue) (signs : List Sign) (k : ClosureValue) : Type 0 where
   pub constraints : List Constraint
   pub closure : IsClosureOf k (length (attrs_of q.atoms)) constraints
   pub are : AreOf q signs constraints
 
 -- a node of the tree: some assignment has its signs, and the closure is theirs
-pub record Before (q : QueryValue) (cs : List Choice) (k : Closure) (signs : List Sign) : Type 0 where
+pub record Before (q : QueryValue) (cs : List ChoiceValue) (k : ClosureValue) (signs : List Sign) : Type 0 where
   pub limits : IsWithinLimits q
   pub choices : AreChoices q cs
   pub room : length signs ≤ length cs
@@ -40,7 +39,7 @@ pub record Before (q : QueryValue) (cs : List Choice) (k : Closure) (signs : Lis
   pub feasible : IsFeasible q signs
 
 -- the constraints that it is the closure of imply each of these
-abbrev pub AreImplied : Closure → List Constraint → Type 0
+abbrev pub AreImplied : ClosureValue → List Constraint → Type 0
 AreImplied k cs = (n : ℕ) (ks : List Constraint) → IsClosureOf k n ks → All (Implies ks) cs
 
 -- the longer signs begin with the signs, and each part that begins with the signs begins with the longer ones

@@ -3,7 +3,9 @@ pub mod Assignment
 pub mod Tuples
 pub mod Meaning
 pub mod Filter
+pub mod Members
 pub mod Parts
+pub mod Prefixes
 pub mod Order
 pub mod Links
 pub mod Violation

@@ -1,7 +1,7 @@
 -- The constraints of a part, one after another.
 use Rattle.std.proofs.Common.{◌≡◌, ℕ, ◌+◌, ◌*◌, ◌<◌, ◌≤◌, List, ◌++◌, length, length-append, take, All, slice_get, slice_index_or, pos, Some, refl, sym, ◌∙◌, ap, subst, arith}
 use Rattle.std.proofs.lemmas.List.{take_more, take_all, length-take-le, length-map}
-use Rattle.bq_closure.specs.declared.choosing.Choice.{Choice}
+use Rattle.bq_closure.specs.ChoiceValue.{ChoiceValue}
 use Rattle.bq_closure.specs.Choices.{IsChoice, AreChoices, chosen}
 use Rattle.bq_closure.proofs.Zips.{zip_length, zip_at}
 use Rattle.bq_model.specs.declared.part.Pair.{Pair}
@@ -41,7 +41,7 @@ adds_sign q ps ss i d t cs e l m c w =
     }
 
 -- what the pair of a sign adds by that sign
-pub adds_choice : (q : QueryValue) (ps : List Choice) (ss : List Sign) (i : ℕ) (d : Choice) (t : Sign) (cs : List Constraint) → AreChoices q ps → i + 1 ≤ length ps → i + 1 ≤ length ss → cs ≡ chosen (slice_index_or ps i d) (slice_index_or ss i t) → AddsSign q ss i cs
+pub adds_choice : (q : QueryValue) (ps : List ChoiceValue) (ss : List Sign) (i : ℕ) (d : ChoiceValue) (t : Sign) (cs : List Constraint) → AreChoices q ps → i + 1 ≤ length ps → i + 1 ≤ length ss → cs ≡ chosen (slice_index_or ps i d) (slice_index_or ss i t) → AddsSign q ss i cs
 adds_choice q ps ss i d t cs h l m e =
     let p : Pair = record { left = record { stream = 0; column = 0 }; right = element.Const (pos 0) } in
     let n : length ps ≡ length (pairs q) = zip_length (IsChoice q) (pairs q) ps h in
@@ -50,7 +50,7 @@ adds_choice q ps ss i d t cs h l m e =
     adds_sign q (pairs q) ss i p t cs refl (omega (arith, o)) m (e ∙ k.says (slice_index_or ss i t)) (subst (All (IsWithin (length (attrs_of q.atoms)))) (sym e) (k.within (slice_index_or ss i t)))
 
 -- there is a choice for each sign of a part
-pub choice_there : (q : QueryValue) (ps : List Choice) (ss : List Sign) (i : ℕ) → AreChoices q ps → IsPart q ss → i < length ss → i + 1 ≤ length ps
+pub choice_there : (q : QueryValue) (ps : List ChoiceValue) (ss : List Sign) (i : ℕ) → AreChoices q ps → IsPart q ss → i < length ss → i + 1 ≤ length ps
 choice_there q ps ss i h p l = omega (arith, l, zip_length (IsChoice q) (pairs q) ps h, long q ss p)
 
 pub signs_more : (q : QueryValue) (ss : List Sign) (i : ℕ) (bs cs : List Constraint) → AddsSign q ss i cs → bs ≡ of_prefix q (take i ss) → bs ++ cs ≡ of_prefix q (take (i + 1) ss)

@@ -1,5 +1,4 @@
 pub mod Sifted
-pub mod Pigeonhole
 pub mod AllLinks
 pub mod Room
 pub mod Adding

@@ -10,7 +10,7 @@ use Rattle.bq_model.proofs.Has.{Has, first, later, Has-map, Has-append_left, Has
 use Rattle.bq_model.proofs.Unique.{Ascends, more}
 use Rattle.bq_refs.specs.Sifting.{Sifts, links_among}
 use Rattle.bq_refs.proofs.Sifted.{kept_next, member_from, sift_ascends, Ascends-take, Has-take}
-use Rattle.bq_refs.proofs.Pigeonhole.{AreApart, no_longer}
+use Rattle.bq_model.proofs.Pigeonhole.{AreApart, no_longer}
 use Rattle.bq_refs.proofs.AllLinks.{attr_lt-irreflexive, attr_lt-apart, sides_of, links_ascend}
 
 -- each column with each later one

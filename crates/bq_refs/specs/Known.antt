@@ -8,7 +8,7 @@ use Rattle.bq_closure.specs.BoundsValue.{BoundsValue}
 use Rattle.bq_closure.specs.Choices.{AreChoices}
 use Rattle.bq_constraints.specs.PartConstraints.{of_atoms, of_prefix}
 use Rattle.bq_constraints.specs.Solutions.{IsWithin}
-use Rattle.bq_refs.specs.declared.known.Basis.{Basis}
+use Rattle.bq_refs.specs.BasisValue.{BasisValue}
 use Rattle.bq_refs.specs.Sifting.{links_among}
 
 -- the bounds are those of a part of the query
@@ -19,13 +19,13 @@ pub record IsKnown (q : QueryValue) (s : List Sign) (b : BoundsValue) : Type 0 w
   pub constraints : b.constraints ≡ of_prefix q s
 
 -- the bounds are those of the query's comparisons, there is a choice for each of its pairs, and a link of each attribute with each
-pub record IsBasis (q : QueryValue) (b : Basis) : Type 0 where
+pub record IsBasis (q : QueryValue) (b : BasisValue) : Type 0 where
   pub few : length (attrs_of q.atoms) ≤ 12
   pub attrs : b.bounds.attrs ≡ length (attrs_of q.atoms)
   pub constraints : b.bounds.constraints ≡ of_atoms (attrs_of q.atoms) q.atoms
   pub room : length b.bounds.constraints ≤ 32
-  pub choices : AreChoices q b.choices.items
-  pub links : b.links.items ≡ links_among (attrs_of q.atoms) (attrs_of q.atoms)
+  pub choices : AreChoices q b.choices
+  pub links : b.links ≡ links_among (attrs_of q.atoms) (attrs_of q.atoms)
 
 -- the constraints of one more sign than the first i
 pub record AddsSign (q : QueryValue) (s : List Sign) (i : ℕ) (cs : List Constraint) : Type 0 where

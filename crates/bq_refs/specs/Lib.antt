@@ -1,3 +1,4 @@
+pub mod BasisValue
 pub mod Known
 pub mod Redundant
 pub mod Sifting

@@ -9,14 +9,23 @@ use arrayvec::ArrayVec;
 use bq_closure::{Bounds, Choice, choices};
 use bq_constraints::Constraint;
 use bq_model::{Link, Part, Query, Sign};
+use std::marker::Model;
 
 /// What all parts of a query share: the bounds of its comparisons, what each sign of each pair adds to them, and the links of
-/// each attribute with each.
+/// each attribute with each. A clause sees the bounds' value, and two lists.
 #[derive(Drop)]
 pub struct Basis {
     bounds: Bounds,
     choices: ArrayVec<Choice, 106>,
     links: ArrayVec<Link, 144>,
+}
+
+impl Model for Basis {
+    ghost use Rattle.bq_refs.specs.BasisValue.{BasisValue};
+
+    ghost Value = { BasisValue };
+
+    ghost view = { λ b. record { bounds = b.bounds; choices = b.choices.items; links = b.links.items } };
 }
 
 impl Basis {
@@ -33,7 +42,7 @@ impl Basis {
 
     /// The links of each attribute with each.
     pub fn links(&self) -> &[Link]
-        ensures { result.now ≡ self.now.links.items }
+        ensures { result.now ≡ self.now.links }
     {
         self.links.as_slice()
     }

@@ -126,7 +126,8 @@ fn max_refs(q: &Query, p: &Part, ranges: &[Option<Range>], less: &[Link]) -> Arr
 pub fn refs(q: &Query, p: &Part, basis: &Basis, bounds: &mut Bounds) -> Refs
     requires part { IsPart q.now p.now.signs.items }
     requires basis { IsBasis q.now basis.now }
-    ensures { AreRefs q.now p.now.signs.items result }
+    ensures refs { AreRefs q.now p.now.signs.items result }
+    ensures bounds { IsKnown q.now p.now.signs.items bounds.new }
 {
     set_bounds(q, p, basis, bounds);
     let bounds = &*bounds;

@@ -1,14 +1,20 @@
-use Rattle.std.proofs.Common.{sym, ◌∙◌}
+use Rattle.std.proofs.Common.{◌≡◌, ap, sym, ◌∙◌}
+use Rattle.bq_closure.specs.BoundsValue.{BoundsValue}
 use Rattle.bq_constraints.proofs.Prefix.{of_no_prefix}
+use Rattle.bq_refs.specs.BasisValue.{BasisValue}
 use Rattle.bq_refs.proofs.Adding.{choice_there}
 use Rattle.bq_refs.proofs.known.set_bounds.Goals as goal
 
 pub loop-i-init : goal.loop-i-init
-loop-i-init c = record {
-  attrs = c.set.ensures.attrs ∙ c.requires.basis.attrs;
-  constraints = c.set.ensures.constraints ∙ c.requires.basis.constraints ∙ sym (of_no_prefix c.args.q.now);
-  few = rw c.set.ensures.constraints c.requires.basis.room;
-}
+loop-i-init c =
+    let e : c.basis.inside.bounds ≡ c.args.basis.now.bounds = ap (λ (v : BasisValue). v.bounds) c.basis.view_is in
+    record {
+      attrs = c.set.ensures.attrs ∙ ap (λ (b : BoundsValue). b.attrs) e ∙ c.requires.basis.attrs;
+      constraints = c.set.ensures.constraints ∙ ap (λ (b : BoundsValue). b.constraints) e ∙ c.requires.basis.constraints ∙ sym (of_no_prefix c.args.q.now);
+      few = rw (c.set.ensures.constraints, e) c.requires.basis.room;
+    }
 
 pub of_sign-requires-clause-pair : goal.of_sign-requires-clause-pair
-of_sign-requires-clause-pair c = choice_there c.args.q.now _ _ c.loop-i.i (rw c.as_slice-choices.ensures.value c.requires.basis.choices) c.requires.part (rw c.as_slice-signs.ensures.value at c.loop-i-test.true)
+of_sign-requires-clause-pair c =
+    let e : c.basis.inside.choices.items ≡ c.args.basis.now.choices = ap (λ (v : BasisValue). v.choices) c.basis.view_is in
+    choice_there c.args.q.now _ _ c.loop-i.i (rw (c.as_slice-choices.ensures.value, e) c.requires.basis.choices) c.requires.part (rw c.as_slice-signs.ensures.value at c.loop-i-test.true)

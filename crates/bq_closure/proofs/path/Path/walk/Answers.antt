@@ -1,5 +1,6 @@
 use Rattle.std.proofs.Common.{Some, None, sym, arith}
 use Rattle.std.proofs.Math.ListN.{length-set}
+use Rattle.bq_closure.proofs.Stored.{zeros_more, stored_at}
 use Rattle.bq_closure.proofs.Walks.{walk_step}
 use Rattle.bq_closure.proofs.path.Path.walk.Goals as goal
 use Rattle.bq_closure.proofs.path.Path.walk.Goals.{in-Some, in-None}
@@ -9,9 +10,14 @@ loop-k-preserved c = elim c.match-way_between.branch [
   | in-Some w ↦ (
     rw w.steps-is (omega (arith, length-set c.loop-k.steps c.loop-k.k w.in-Some.way.number, c.loop-k.invariant.0)),
     rw (w.steps-is, w.at-is) (walk_step c.args.ways.now c.loop-k.steps c.loop-k.k c.args.length c.loop-k.at c.args.to _ (Some w.in-Some.way) (omega (arith, c.loop-k.invariant.0)) (omega arith) (sym w.in-Some.ensures) c.loop-k.invariant.1),
+    rw w.steps-is (zeros_more c.loop-k.steps c.loop-k.k w.in-Some.way.number c.loop-k.invariant.2),
   )
   | in-None w ↦ (
     rw w.steps-is (omega (arith, length-set c.loop-k.steps c.loop-k.k 0, c.loop-k.invariant.0)),
     rw (w.steps-is, w.at-is) (walk_step c.args.ways.now c.loop-k.steps c.loop-k.k c.args.length c.loop-k.at c.args.to _ None (omega (arith, c.loop-k.invariant.0)) (omega arith) (sym w.in-None.ensures) c.loop-k.invariant.1),
+    rw w.steps-is (zeros_more c.loop-k.steps c.loop-k.k 0 c.loop-k.invariant.2),
   )
 ]
+
+pub invariant_of-result : goal.invariant_of-result
+invariant_of-result c = stored_at c.loop-k.steps c.loop-k.k _ (omega arith) (omega arith) c.loop-k.invariant.0 c.loop-k.invariant.2
