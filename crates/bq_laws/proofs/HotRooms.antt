@@ -6,10 +6,15 @@ use Rattle.bq_model.specs.Cells.{synopsis}
 use Rattle.bq_model.specs.Combinations.{found_in}
 use Rattle.bq_model.specs.Future.{future}
 use Rattle.bq_laws.specs.HotRooms.{HotRooms}
+use Rattle.bq_laws.proofs.HotRoomsPlan.{hot_rooms-limits, hot_rooms-planned, hot_rooms-keeps, hot_rooms-accepted}
 
 pub hot-rooms : HotRooms
 unfolding pairs synopsis found_in future new_answers
 hot-rooms = record {
+  within = hot_rooms-limits;
+  plan = hot_rooms-planned;
+  violation = hot_rooms-keeps;
+  verdict = hot_rooms-accepted;
   numbers = refl;
   first = refl;
   second = refl;

@@ -42,3 +42,12 @@ pub mod ByPlace
 pub mod ExactExtremes
 pub mod HotRooms
 pub mod CountedParts
+pub mod Tables
+pub mod PartsListed
+pub mod PlanTests
+pub mod PlanTested
+pub mod PlanIs
+pub mod PlanKeeps
+pub mod Limits
+pub mod WorkedPlans
+pub mod HotRoomsPlan

@@ -9,13 +9,16 @@ use Rattle.bq_model.specs.declared.plan.Kind.{Kind}
 use Rattle.bq_model.specs.declared.plan.Link.{Link}
 use Rattle.bq_model.specs.declared.plan.StreamPlan.{StreamPlan}
 use Rattle.bq_model.specs.declared.plan.PartPlan.{PartPlan}
-use Rattle.bq_model.specs.Query.{QueryValue}
+use Rattle.bq_model.specs.Query.{QueryValue, IsWithinLimits}
 use Rattle.bq_model.specs.Meaning.{Arrival, new_answers}
-use Rattle.bq_model.specs.Plan.{link}
+use Rattle.bq_model.specs.Plan.{IsPlan, link}
 use Rattle.bq_model.specs.Cells.{synopsis, printed}
 use Rattle.bq_model.specs.Combinations.{read_from}
 use Rattle.bq_model.specs.Numbers.{numbers_of}
 use Rattle.bq_model.specs.Future.{future}
+use Rattle.bq_model.specs.Verdict.{IsVerdict, accepted}
+use Rattle.bq_model.specs.Violation.{IsViolation}
+use Rattle.std.specs.declared.option.Option.TheVariants.{None}
 use Rattle.bq_laws.specs.Cases.{col, atom, arrival}
 
 -- SELECT DISTINCT R.room FROM R, L WHERE R.room = L.room AND R.room > 0 AND R.room < 4 AND R.temp > L.lim
@@ -174,8 +177,12 @@ fourth_row = arrival 1 (pos 3 ∷ pos 0 ∷ [])
 abbrev pub told : List Arrival → Arrival → List (List ℤ)
 told history r = future hot_rooms hot_rooms_plan (read_from (synopsis hot_rooms hot_rooms_plan history)) (printed hot_rooms history) r
 
--- its numbers, and the answers to four rows: from cells and table, and as they are meant
+-- it is accepted where three pages are free; its plan and numbers, and the answers to four rows: from cells and table, and as they are meant
 pub record HotRooms : Type 0 where
+  pub within : IsWithinLimits hot_rooms
+  pub plan : IsPlan hot_rooms hot_rooms_plan
+  pub violation : IsViolation hot_rooms None
+  pub verdict : IsVerdict hot_rooms 3 (accepted (numbers_of hot_rooms hot_rooms_plan))
   pub numbers : numbers_of hot_rooms hot_rooms_plan ≡ record { parts = 25; cells = 138; answers = 59; work = 35 }
   pub first : told [] first_row ≡ []
   pub second : told (first_row ∷ []) second_row ≡ (pos 2 ∷ []) ∷ []

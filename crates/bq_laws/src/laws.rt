@@ -174,7 +174,7 @@ pub fn premises_are_met()
     ensures { PremisesAreMet }
 {}
 
-/// A worked query whose answers the extremes decide.
+/// A worked query with DISTINCT that meets all that the laws ask, and whose answers the extremes decide.
 pub fn extremes_decide()
     ensures { ExtremesDecide }
 {}
@@ -194,7 +194,7 @@ pub fn numbers_are_these()
     ensures { NumbersAreThese }
 {}
 
-/// A worked query of 25 parts: its numbers, and the answers to four rows.
+/// A worked query of 25 parts: it is accepted with these numbers, and answers four rows so.
 pub fn hot_rooms()
     ensures { HotRooms }
 {}

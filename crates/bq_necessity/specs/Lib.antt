@@ -1,0 +1,6 @@
+pub mod CatalogExact
+pub mod Accepted
+pub mod States
+pub mod Cases
+pub mod Premises
+pub mod Catalog

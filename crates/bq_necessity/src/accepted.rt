@@ -1,0 +1,34 @@
+//! The counterpart of the law on refused queries, and both as one.
+ghost use Rattle.bq_necessity.specs.CatalogExact.{CatalogVerdictIsExact};
+ghost use Rattle.bq_necessity.specs.Accepted.{PolynomiallyManyAreFew, AcceptedHasStates, FewStatesDecide, VerdictIsExact, NoneLacksPlan};
+
+/// Polynomially many states, in the number of rows and the bound on their values, are few.
+pub fn polynomially_many_are_few()
+    ensures { PolynomiallyManyAreFew }
+{}
+
+/// Where no condition is violated and there is a plan, some evaluator is right and has few states, by the announced cells and answers:
+/// without DISTINCT at most (n + 1)^cells after n rows, with it at most (2 bound + 3)^cells 2^answers after rows with values within the bound.
+pub fn accepted_has_states()
+    ensures { AcceptedHasStates }
+{}
+
+/// A query that has a plan has an evaluator that is right and has few states, exactly where no condition is violated.
+pub fn few_states_decide()
+    ensures { FewStatesDecide }
+{}
+
+/// No evaluator that is right on a query has few states, exactly where a condition is violated.
+pub fn verdict_is_exact()
+    ensures { VerdictIsExact }
+{}
+
+/// No query lacks a plan.
+pub fn none_lacks_plan()
+    ensures { NoneLacksPlan }
+{}
+
+/// The same of evaluators that are right only on rows as a catalog has them.
+pub fn catalog_verdict_is_exact()
+    ensures { CatalogVerdictIsExact }
+{}
