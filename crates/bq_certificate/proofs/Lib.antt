@@ -18,6 +18,8 @@ pub mod TightLeaf
 pub mod LeafInPart
 pub mod BehindSigns
 pub mod LeavesInOrder
+pub mod Preorders
+pub mod LeafBounds
 pub mod FirstFaults
 pub mod OneAnswer
 pub mod WorkedCase

@@ -13,10 +13,12 @@ use Rattle.bq_certificate.specs.Standing.{at}
 use Rattle.bq_model.specs.declared.decision.Decision.{Decision}
 use Rattle.bq_model.specs.Verdict.{IsDecision}
 use Rattle.bq_certificate.specs.declared.decision.DecisionSoFar.{DecisionSoFar}
-use Rattle.bq_certificate.specs.Reading.{HasParts}
+use Rattle.bq_certificate.specs.Reading.{HasParts, IsCheckAnswer}
+use Rattle.bq_certificate.specs.declared.answer.CheckAnswer.{CheckAnswer}
+use Rattle.bq_certificate.specs.declared.answer.CheckAnswer.TheVariants.{Yes, No}
 use Rattle.bq_certificate.specs.Leaves.{leaves_of}
 use Rattle.bq_certificate.specs.SoFar.{IsSoFar}
-use Rattle.bq_certificate.specs.Walking.{node_at, leaves, Decides, Steps, IsWrong, StepsOr, Walked}
+use Rattle.bq_certificate.specs.Walking.{node_at, leaves, Decides, Steps, IsWrong, StepsOr, Walked, EndsWith}
 use Rattle.bq_certificate.proofs.LeavesInOrder.{leaves-nil, has_parts}
 use Rattle.bq_certificate.proofs.LeavesDecided.{leaf_decided, other_decided}
 
@@ -114,14 +116,14 @@ few_read_leaves q lines rest w few p = omega (arith, few_nodes q lines rest w fe
 all_read : (q : QueryValue) (lines rest : List Line) (w : Walk) → rest ≡ [] → (p : Progress q lines rest w) → p.read ≡ nodes_of lines
 all_read q lines rest w e p = sym (p.split_is ∙ ap (λ (z : List Line). p.read ++ nodes_of z) e ∙ append-nil p.read)
 
-pub ends_open : (q : QueryValue) (lines rest : List Line) (w : Walk) (place : ℕ) → rest ≡ [] → Progress q lines rest w → w.more ≡ true → place ≡ w.nodes + 1 → IsFirstFault q (nodes_of lines) place reason.Shape
+ends_open : (q : QueryValue) (lines rest : List Line) (w : Walk) (place : ℕ) → rest ≡ [] → Progress q lines rest w → w.more ≡ true → place ≡ w.nodes + 1 → IsFirstFault q (nodes_of lines) place reason.Shape
 ends_open q lines rest w place e p m n =
     let r : p.read ≡ nodes_of lines = all_read q lines rest w e p in
     let g : AreGood q (Some []) p.read (Some w.place.signs.items) = subst (λ (b : Bool). AreGood q (Some []) p.read (at b w.place.signs.items)) m p.walked.good in
     let l : length p.read ≡ length (nodes_of lines) = ap length r in
     unfinished w.place.signs.items (subst (λ (z : List Node). AreGood q (Some []) z (Some w.place.signs.items)) r g) refl (omega (arith, n, p.walked.count, l))
 
-pub ends_whole : (q : QueryValue) (lines rest : List Line) (w : Walk) (d : Decision) → rest ≡ [] → Progress q lines rest w → w.more ≡ false → ((nodes : List Node) → IsGood q nodes → IsSoFar q (leaves_of (Some []) nodes) w.so_far → IsDecision q d) → IsGood q (nodes_of lines) × IsDecision q d × HasParts q w.leaves
+ends_whole : (q : QueryValue) (lines rest : List Line) (w : Walk) (d : Decision) → rest ≡ [] → Progress q lines rest w → w.more ≡ false → ((nodes : List Node) → IsGood q nodes → IsSoFar q (leaves_of (Some []) nodes) w.so_far → IsDecision q d) → IsGood q (nodes_of lines) × IsDecision q d × HasParts q w.leaves
 ends_whole q lines rest w d e p m f =
     let r : p.read ≡ nodes_of lines = all_read q lines rest w e p in
     let g : AreGood q (Some []) p.read None = subst (λ (b : Bool). AreGood q (Some []) p.read (at b w.place.signs.items)) m p.walked.good in
@@ -130,3 +132,11 @@ ends_whole q lines rest w d e p m f =
 
 pub starts : (q : QueryValue) (lines : List Line) (w : Walk) → Walked q [] w → Progress q lines lines w
 starts q lines w h = record { read = []; split_is = refl; walked = h }
+
+-- what is answered where no line follows is right for the nodes of the lines
+pub ends_right : (q : QueryValue) (lines rest : List Line) (w : Walk) (answer : CheckAnswer) → rest ≡ [] → Progress q lines rest w → EndsWith q w answer → IsCheckAnswer q (nodes_of lines) answer
+ends_right q lines rest w (Yes decision parts) e p h =
+    let r : IsGood q (nodes_of lines) × IsDecision q decision × HasParts q w.leaves = ends_whole q lines rest w decision e p h.0 h.2 in
+    (r.0, r.1, subst (HasParts q) (sym h.1) r.2)
+ends_right q lines rest w (No place why) e p h =
+    subst (λ z. IsFirstFault q (nodes_of lines) place z) (sym h.2) (ends_open q lines rest w place e p h.0 h.1)

@@ -1,5 +1,6 @@
 pub mod Nodes
 pub mod Rules
+pub mod Tree
 pub mod Reading
 pub mod Leaves
 pub mod Text
@@ -7,6 +8,7 @@ pub mod Spelling
 pub mod Certificate
 pub mod Laws
 pub mod TreeLaws
+pub mod LeafLaws
 pub mod Chained
 pub mod Bounds
 pub mod Standing

@@ -38,7 +38,7 @@ pub data AreGood (q : QueryValue) : Option (List Sign) → List Node → Option 
   next : {signs : List Sign} {node : Node} {nodes : List Node} {end : Option (List Sign)}
       → IsGoodNode q signs node → AreGood q (after signs node) nodes end → AreGood q (Some signs) (node ∷ nodes) end
 
--- the nodes are one tree, in which each is good
+-- the nodes are one tree, in which each is good. They are exactly those that list a good tree (`Tree`, law `good_is_tree`)
 abbrev pub IsGood : QueryValue → List Node → Type 0
 IsGood q nodes = AreGood q (Some []) nodes None
 

@@ -1,15 +1,29 @@
 -- Laws of the trees of certificates.
-use Rattle.std.specs.Prelude.{◌≡◌, ℕ, List, []}
+use Rattle.std.specs.Prelude.{◌≡◌, ◌↔◌, ℕ, List, [], map}
 use Rattle.std.specs.declared.option.Option.TheVariants.{Some}
 use Rattle.bq_model.specs.Query.{QueryValue}
 use Rattle.bq_model.specs.Parts.{AreParts}
 use Rattle.bq_certificate.specs.declared.answer.CheckAnswer.{CheckAnswer}
 use Rattle.bq_certificate.specs.declared.answer.Reason.{Reason}
 use Rattle.bq_certificate.specs.Nodes.{Node}
+use Rattle.bq_certificate.specs.Tree.{Tree, IsGoodTree, preorder, ListGoodTree, leaves_below}
 use Rattle.bq_certificate.specs.Reading.{IsGood, IsFirstFault, IsCheckAnswer}
 use Rattle.bq_certificate.specs.Leaves.{leaves_of}
 
--- the leaves of a good tree are the parts of the query, in order
+-- nodes that are read as good one behind the other, from the root to the end of the tree, are those of a good tree in preorder, and the
+-- other way round
+abbrev pub GoodIsTree : Type 0
+GoodIsTree = (q : QueryValue) → (nodes : List Node) → IsGood q nodes ↔ ListGoodTree q nodes
+
+-- nodes list one tree at most
+abbrev pub ListOneTree : Type 0
+ListOneTree = (t u : Tree) → preorder t ≡ preorder u → t ≡ u
+
+-- the leaves of a good tree, each by the signs on the way to it, are the parts of the query, in order
+abbrev pub LeavesOfTreeAreParts : Type 0
+LeavesOfTreeAreParts = (q : QueryValue) → (t : Tree) → IsGoodTree q [] t → AreParts q (map (λ l. l.signs) (leaves_below [] t))
+
+-- the leaves of nodes that are read as a good tree are the parts of the query, in order
 abbrev pub LeavesAreParts : Type 0
 LeavesAreParts = (q : QueryValue) → (nodes : List Node) → IsGood q nodes → AreParts q (leaves_of (Some []) nodes)
 

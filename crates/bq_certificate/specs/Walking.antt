@@ -12,7 +12,10 @@ use Rattle.bq_certificate.specs.Rules.{IsGoodNode, IsGoodLeaf, Breaks}
 use Rattle.bq_certificate.specs.Bounds.{Tells}
 use Rattle.bq_constraints.specs.PartConstraints.{of_prefix}
 use Rattle.bq_certificate.specs.declared.line.Path.{Path}
-use Rattle.bq_certificate.specs.Reading.{after, AreGood}
+use Rattle.bq_certificate.specs.Reading.{after, AreGood, IsGood}
+use Rattle.bq_certificate.specs.declared.answer.CheckAnswer.{CheckAnswer}
+use Rattle.bq_certificate.specs.declared.answer.CheckAnswer.TheVariants.{Yes, No}
+use Rattle.bq_model.specs.Verdict.{IsDecision}
 use Rattle.bq_certificate.specs.declared.decision.DecisionSoFar.{DecisionSoFar}
 use Rattle.bq_certificate.specs.Leaves.{leaves_of}
 use Rattle.bq_certificate.specs.SoFar.{IsSoFar, TakesLeaf}
@@ -90,3 +93,9 @@ pub record Walked (q : QueryValue) (nodes : List Node) (w : Walk) : Type 0 where
   pub count : w.nodes ≡ length nodes
   pub leaves_are : w.leaves ≡ leaves nodes
   pub decided : IsSoFar q (leaves_of (Some []) nodes) w.so_far
+
+-- what the walk says where no node follows: the tree is whole, and then it answers with the leaves and with what they decide; or it is
+-- not, and the fault is behind the last node
+abbrev pub EndsWith : QueryValue → Walk → CheckAnswer → Type 0
+EndsWith q w (Yes decision parts) = (w.more ≡ false) × (parts ≡ w.leaves) × ((nodes : List Node) → IsGood q nodes → IsSoFar q (leaves_of (Some []) nodes) w.so_far → IsDecision q decision)
+EndsWith q w (No place why) = (w.more ≡ true) × (place ≡ w.nodes + 1) × (why ≡ reason.Shape)

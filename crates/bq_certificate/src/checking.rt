@@ -2,12 +2,31 @@
 ghost use Rattle.std.specs.Prelude.{◌≡◌, ◌≤◌, length};
 ghost use Rattle.bq_certificate.specs.Nodes.{nodes_of};
 ghost use Rattle.bq_certificate.specs.Reading.{IsCheckAnswer};
+ghost use Rattle.bq_certificate.specs.Walking.{EndsWith};
 
 use crate::answer::{CheckAnswer, Reason};
 use crate::certificate::Certificate;
 use crate::line::Line;
 use crate::walk::Walk;
 use bq_model::Query;
+
+// The answer where no node follows. A walk that has somewhere to go on is not whole, and the fault is behind the last node.
+fn ended(q: &Query, walk: &Walk) -> CheckAnswer
+    requires { walk.now.nodes ≤ 262144 }
+    ensures { EndsWith q.now walk.now result }
+{
+    if walk.more {
+        CheckAnswer::No {
+            place: walk.nodes + 1,
+            reason: Reason::Shape,
+        }
+    } else {
+        CheckAnswer::Yes {
+            decision: walk.so_far.finish(q),
+            parts: walk.leaves,
+        }
+    }
+}
 
 // Checks the nodes of some lines.
 fn check_lines(q: &Query, lines: &[Line]) -> CheckAnswer
@@ -24,17 +43,7 @@ fn check_lines(q: &Query, lines: &[Line]) -> CheckAnswer
             };
         }
     }
-    if walk.more {
-        CheckAnswer::No {
-            place: walk.nodes + 1,
-            reason: Reason::Shape,
-        }
-    } else {
-        CheckAnswer::Yes {
-            decision: walk.so_far.finish(q),
-            parts: walk.leaves,
-        }
-    }
+    ended(q, &walk)
 }
 
 /// Whether a certificate is good for the query, whoever made it: then the number of the query's parts and the decision on it; else

@@ -1,6 +1,7 @@
 //! Laws of the definitions, as public functions without a body: the clause is the law.
 ghost use Rattle.bq_certificate.specs.Laws.{OneLine, LinesAreWhole, PrintsBack, CertificatesPrintBack, CertificatesAreTaken};
-ghost use Rattle.bq_certificate.specs.TreeLaws.{LeavesAreParts, HasOneAnswer, HasOneFault, FaultsAreBad};
+ghost use Rattle.bq_certificate.specs.TreeLaws.{GoodIsTree, ListOneTree, LeavesOfTreeAreParts, LeavesAreParts, HasOneAnswer, HasOneFault, FaultsAreBad};
+ghost use Rattle.bq_certificate.specs.LeafLaws.{LeavesAreTight};
 
 /// No text is two lines.
 pub fn one_line()
@@ -27,7 +28,28 @@ pub fn certificates_are_taken()
     ensures { CertificatesAreTaken }
 {}
 
+/// Nodes are good, read one behind the other, exactly where they are those of a good tree in preorder.
+pub fn good_is_tree()
+    ensures { GoodIsTree }
+{}
+
+/// Nodes list one tree at most.
+pub fn list_one_tree()
+    ensures { ListOneTree }
+{}
+
 /// The leaves of a good tree are the parts of the query, in order.
+pub fn leaves_of_tree_are_parts()
+    ensures { LeavesOfTreeAreParts }
+{}
+
+/// In a good tree the bounds of a leaf are what its part implies: for any two columns or constants how much the one is at most above
+/// the other, or that there is no limit.
+pub fn leaves_are_tight()
+    ensures { LeavesAreTight }
+{}
+
+/// The leaves of nodes that are a good tree are the parts of the query, in order.
 pub fn leaves_are_parts()
     ensures { LeavesAreParts }
 {}

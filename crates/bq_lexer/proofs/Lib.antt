@@ -1,3 +1,4 @@
+pub mod Exactly
 pub mod Longest
 pub mod Standing
 pub mod TextKinds

@@ -14,14 +14,14 @@ use Rattle.bq_lexer.specs.declared.token.TokenKind.TheVariants.{Integer}
 use Rattle.bq_lexer.specs.Tokens.{kind_of, word_kind, symbol_of, symbol_text, longest, longest_within, or_shorter}
 
 -- n is the length of the longest token where no longer front is one
-found_within : (bytes : List ℕ) (kind : TokenKind) (n k : ℕ) → 0 < n → n ≤ k → kind_of (take n bytes) ≡ Some kind → ((m : ℕ) → n < m → m ≤ k → kind_of (take m bytes) ≡ None) → longest_within k bytes ≡ Some (kind, n)
+pub found_within : (bytes : List ℕ) (kind : TokenKind) (n k : ℕ) → 0 < n → n ≤ k → kind_of (take n bytes) ≡ Some kind → ((m : ℕ) → n < m → m ≤ k → kind_of (take m bytes) ≡ None) → longest_within k bytes ≡ Some (kind, n)
 found_within bytes kind n zero p l e none = absurd (omega arith)
 found_within bytes kind n (suc k) p l e none = elim (cases_eq n (suc k)) [
   | inl same ↦ rw (← same) (ap (λ o. or_shorter o n (longest_within k bytes)) e)
   | inr other ↦ ap (λ o. or_shorter o (suc k) (longest_within k bytes)) (none (suc k) (omega arith) (omega arith)) ∙ found_within bytes kind n k p (omega arith) e (λ m a b. none m a (omega arith))
 ]
 
-none_within : (bytes : List ℕ) (k : ℕ) → ((m : ℕ) → 0 < m → m ≤ k → kind_of (take m bytes) ≡ None) → longest_within k bytes ≡ None
+pub none_within : (bytes : List ℕ) (k : ℕ) → ((m : ℕ) → 0 < m → m ≤ k → kind_of (take m bytes) ≡ None) → longest_within k bytes ≡ None
 none_within bytes zero none = refl
 none_within bytes (suc k) none = ap (λ o. or_shorter o (suc k) (longest_within k bytes)) (none (suc k) (omega arith) (omega arith)) ∙ none_within bytes k (λ m a b. none m a (omega arith))
 
@@ -77,7 +77,7 @@ not_same a b h = grind (arith, nat_tests)
 not_letter : (b : ℕ) → b ≤ 64 → is_letter b ≡ false
 not_letter b h = grind (arith, nat_tests)
 
-symbol_text_none : (b : ℕ) (rest : List ℕ) → symbol_of b ≡ None → symbol_text (b ∷ rest) ≡ None
+pub symbol_text_none : (b : ℕ) (rest : List ℕ) → symbol_of b ≡ None → symbol_text (b ∷ rest) ≡ None
 symbol_text_none b [] h = h
 symbol_text_none b (c ∷ rest) h = refl
 
@@ -125,7 +125,7 @@ sign_kind b h rest = elim h [
 ]
 
 -- a text that begins with another byte
-other_kind : (b : ℕ) → is_letter b ≡ false → is_digit b ≡ false → b ≢ 43 → b ≢ 45 → (rest : List ℕ) → kind_of (b ∷ rest) ≡ symbol_text (b ∷ rest)
+pub other_kind : (b : ℕ) → is_letter b ≡ false → is_digit b ≡ false → b ≢ 43 → b ≢ 45 → (rest : List ℕ) → kind_of (b ∷ rest) ≡ symbol_text (b ∷ rest)
 other_kind b l d p m rest = not_word b rest l ∙ ap (λ t. cond t (Some Integer) (symbol_text (b ∷ rest))) (unsigned b rest (not_same b 43 p) (not_same b 45 m) ∙ ap (λ t. t && list_all is_digit rest) d)
 
 -- the longest token, by the first byte: a letter

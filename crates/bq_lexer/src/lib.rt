@@ -4,6 +4,7 @@
 //! between tokens and say nothing else.
 #![tactic(auto)]
 
+pub mod laws;
 mod lexing;
 mod token;
 
