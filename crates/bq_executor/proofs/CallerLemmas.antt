@@ -9,7 +9,7 @@ use Rattle.bq_pool.specs.declared.pool.Extent.{Extent}
 use Rattle.bq_pool.specs.Extents.{PoolValue, cells_of, with_cells, IsLive, IsTaken, IsGivenBack}
 use Rattle.bq_pool.proofs.CallerLemmas.{cells_of_other, live_other, live_beside_taken, live_beside_back}
 use Rattle.bq_executor.specs.Executor.{ExecutorValue, parts_in, cells_in}
-use Rattle.bq_executor.specs.Standing.{StandsFor, CountsUpto, AreKept}
+use Rattle.bq_executor.specs.Standing.{StandsFor, CountsUpto, AreKept, KeepsWithin}
 
 -- another pool in which the extent is live with the same cells
 pub stands_same : (e : ExecutorValue) (p o : PoolValue) (h : List Arrival) → IsLive o e.extent → cells_of o e.extent ≡ cells_of p e.extent → StandsFor e p h → StandsFor e o h
@@ -29,6 +29,16 @@ kept_same e p o live same k =
       fitting = λ part c. subst (λ (cs : List Cell). AreFitting part (read_from cs)) cut (k.fitting part c);
       counts = λ part c place i l s. subst (λ (cs : List Cell). CountsUpto e.given (read_from cs part place i)) cut (k.counts part c place i l s);
     }
+
+pub within_same : (e : ExecutorValue) (p o : PoolValue) → IsLive o e.extent → cells_of o e.extent ≡ cells_of p e.extent → KeepsWithin e p → KeepsWithin e o
+within_same e p o live same w = record {
+  live = live;
+  pages = w.pages;
+  rest = ap (drop (cell_count (parts_in e))) same ∙ w.rest;
+  room = w.room;
+  entries = w.entries;
+  ascends = w.ascends;
+}
 
 -- after a write into an extent at another slot
 pub stands_beside : (e : ExecutorValue) (p : PoolValue) (f : Extent) (xs : List Cell) (h : List Arrival) → e.extent.slot ≢ f.slot → StandsFor e p h → StandsFor e (with_cells p f xs) h

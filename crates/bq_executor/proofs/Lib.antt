@@ -13,6 +13,7 @@ pub mod Answered
 pub mod RowAnswers
 pub mod RowCells
 pub mod PlanFacts
+pub mod Keeping
 pub mod Rows
 pub mod Lines
 pub mod Settled

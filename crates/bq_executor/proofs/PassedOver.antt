@@ -8,6 +8,7 @@ use Rattle.bq_model.specs.Admission.{admits}
 use Rattle.bq_model.specs.Combinations.{read_from}
 use Rattle.bq_pool.specs.declared.pool.Extent.{Extent}
 use Rattle.bq_pool.specs.Extents.{PoolValue, cells_of}
+use Rattle.bq_pool.specs.Counted.{StepsValue}
 use Rattle.bq_answers.specs.Entries.{TableValue, with_entries}
 use Rattle.bq_executor.specs.Taking.{with_all}
 use Rattle.bq_executor.specs.Arriving.{arrives, all_found, HasTaken, AreReady}
@@ -17,30 +18,32 @@ use Rattle.bq_executor.proofs.Taken.{taken_start, taken_step, table_more, work_m
 use Rattle.bq_executor.proofs.PreparedParts.{part_at}
 use Rattle.bq_executor.proofs.Chained.{NoneAdmits}
 
--- the first n parts took the row, the table has what they found, and their work bounds the steps
-pub record HaveDone (q : QueryValue) (plan : List PartPlan) (e : Extent) (pos : ℕ) (values : List ℤ) (before : PoolValue) (start : TableValue) (paid n : ℕ) (now : PoolValue) (table : TableValue) (steps : ℕ) : Type 0 where
+-- the first n parts took the row, the table has what they found, and their work and number bound the reads and the writes
+pub record HaveDone (q : QueryValue) (plan : List PartPlan) (e : Extent) (pos : ℕ) (values : List ℤ) (before : PoolValue) (start : TableValue) (paid : StepsValue) (n : ℕ) (now : PoolValue) (table : TableValue) (steps : StepsValue) : Type 0 where
   pub taken : HasTaken q plan e (arrives q pos values) n before now
   pub found : table ≡ with_entries start (with_all q.distinct (all_found q (take n plan) (read_from (cells_of before e)) (arrives q pos values)) start.entries)
-  pub cost : steps ≤ paid + 3 * work (take n plan) + 2 * n
+  pub reads : steps.reads ≤ paid.reads + 3 * work (take n plan) + n
+  pub writes : steps.writes ≤ paid.writes + n
 
 -- the same of a state that is the same
-pub same_state : (q : QueryValue) (plan : List PartPlan) (e : Extent) (pos : ℕ) (values : List ℤ) (before : PoolValue) (start : TableValue) (paid n : ℕ) (now pool : PoolValue) (table others : TableValue) (steps s : ℕ)
+pub same_state : (q : QueryValue) (plan : List PartPlan) (e : Extent) (pos : ℕ) (values : List ℤ) (before : PoolValue) (start : TableValue) (paid : StepsValue) (n : ℕ) (now pool : PoolValue) (table others : TableValue) (steps s : StepsValue)
     → pool ≡ now → others ≡ table → s ≡ steps → HaveDone q plan e pos values before start paid n now table steps → HaveDone q plan e pos values before start paid n pool others s
 same_state q plan e pos values before start paid n now pool table others steps s is_pool is_table is_steps done =
     subst (λ x. HaveDone q plan e pos values before start paid n x others s) (sym is_pool)
     (subst (λ x. HaveDone q plan e pos values before start paid n now x s) (sym is_table)
     (subst (λ x. HaveDone q plan e pos values before start paid n now table x) (sym is_steps) done))
 
-module _ (q : QueryValue) (plan : List PartPlan) (e : Extent) (pos : ℕ) (here : pos < length q.from) (values : List ℤ) (before : PoolValue) (ready : AreReady q plan before e) (start : TableValue) (paid : ℕ) where
+module _ (q : QueryValue) (plan : List PartPlan) (e : Extent) (pos : ℕ) (here : pos < length q.from) (values : List ℤ) (before : PoolValue) (ready : AreReady q plan before e) (start : TableValue) (paid : StepsValue) where
   -- nothing is done before the first part
   pub nothing_done : HaveDone q plan e pos values before start paid 0 before start paid
   nothing_done = record {
     taken = taken_start q plan e (arrives q pos values) before ready.live;
     found = none_added q.distinct _ start refl;
-    cost = omega arith;
+    reads = omega arith;
+    writes = omega arith;
   }
 
-  module _ (now : PoolValue) (table : TableValue) (steps : ℕ) where
+  module _ (now : PoolValue) (table : TableValue) (steps : StepsValue) where
     -- a part that does not admit the row does nothing
     pub passed_one : (n : ℕ) (part : PartPlan) → slice_get plan n ≡ Some part → admits q part pos (by_column values) ≡ false
         → HaveDone q plan e pos values before start paid n now table steps → HaveDone q plan e pos values before start paid (n + 1) now table steps
@@ -52,7 +55,8 @@ module _ (q : QueryValue) (plan : List PartPlan) (e : Extent) (pos : ℕ) (here 
           found =
               table_more q plan e pos here values before ready n part at_n now done.taken q.distinct start table table done.found
               (none_added q.distinct _ table (found_refused q part ready.limits whole pos here values (read_from (cells_of now e)) refused));
-          cost = (let c = done.cost in omega (arith, more, c));
+          reads = (let c = done.reads in omega (arith, more, c));
+          writes = (let c = done.writes in omega (arith, c));
         }
 
     passed_more : (k n : ℕ) → n + k ≤ length plan → NoneAdmits q plan pos (by_column values) n (n + k)

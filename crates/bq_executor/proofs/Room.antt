@@ -18,7 +18,7 @@ use Rattle.bq_laws.proofs.OnePartFits.{has_cases}
 use Rattle.bq_laws.proofs.Order.{cond_has}
 use Rattle.bq_laws.proofs.Extremes.{flat_map-from}
 use Rattle.bq_laws.proofs.TableRoom.{table-has-room}
-use Rattle.bq_answers.specs.Entries.{Entry, entry_of, TableValue, with_entries, changed, has, Ascends, tuples_of}
+use Rattle.bq_answers.specs.Entries.{Entry, entry_of, TableValue, with_entries, changed, has, Ascends, Fits, tuples_of}
 use Rattle.bq_answers.proofs.Changed.{ascends_changed, ascends_get}
 use Rattle.bq_answers.proofs.Tuples.{before_less, tuples_new, tuples_old}
 use Rattle.bq_executor.specs.Taking.{with_found, with_all, HaveRoom}
@@ -73,6 +73,39 @@ tuples_found true f es a z h = by (has f.tuple es) h
     by true k = inr k
     by false k = tuples_changed f.tuple (λ waiting. waiting + 1) es a z k
 tuples_found false f es a z h = tuples_changed f.tuple (λ waiting. min (waiting + f.count) (2 ^ 127)) es a z h
+
+length-old : (t : List ℤ) (f : ℕ → ℕ) (es : List Entry) → Ascends es → has t es ≡ true → length (changed f t es) ≡ length es
+length-old t f es a e = sym (length-map (changed f t es) (λ x. x.tuple)) ∙ ap length (tuples_old t f es a e) ∙ length-map es (λ x. x.tuple)
+
+length-new : (t : List ℤ) (f : ℕ → ℕ) (es : List Entry) → has t es ≡ false → length (changed f t es) ≡ suc (length es)
+length-new t f es e =
+    sym (length-map (changed f t es) (λ x. x.tuple)) ∙ ap length (tuples_new t f es e) ∙ length-placed t (tuples_of es)
+    ∙ ap (λ n. suc n) (length-map es (λ x. x.tuple))
+
+-- a tuple that fits leaves the entries within the capacity
+changed_within : (t : List ℤ) (f : ℕ → ℕ) (table : TableValue) → Ascends table.entries → Fits t table → length table.entries ≤ table.capacity
+    → length (changed f t table.entries) ≤ table.capacity
+changed_within t f table a fits few = elim (true_or_false (has t table.entries)) [
+  | inl e ↦ (let n = length-old t f table.entries a e in omega (arith, n, few))
+  | inr e ↦ (let n = length-new t f table.entries e in let room = fits e in omega (arith, n, room))
+]
+
+found_within : (d : Bool) (f : Found) (table : TableValue) → Ascends table.entries → Fits f.tuple table → length table.entries ≤ table.capacity
+    → length (with_found d f table.entries) ≤ table.capacity
+found_within true f table a fits few = by (has f.tuple table.entries)
+  where
+    by : (b : Bool) → length (cond b table.entries (changed (λ waiting. waiting + 1) f.tuple table.entries)) ≤ table.capacity
+    by true = few
+    by false = changed_within f.tuple (λ waiting. waiting + 1) table a fits few
+found_within false f table a fits few = changed_within f.tuple (λ waiting. min (waiting + f.count) (2 ^ 127)) table a fits few
+
+-- and so does all that is found
+pub all_within : (d : Bool) (fs : List Found) (table : TableValue) → Ascends table.entries → HaveRoom d fs table → length table.entries ≤ table.capacity
+    → length (with_all d fs table.entries) ≤ table.capacity
+unfolding with_all
+all_within d [] table a room few = few
+all_within d (f ∷ fs) table a room few =
+    all_within d fs (with_entries table (with_found d f table.entries)) (ascends_found d f table.entries a) room.2 (found_within d f table a room.1 few)
 
 -- the tuples of entries in order stand in order
 pairs-ascend : (es : List Entry) → Ascends es → AllPairs (λ t u. IsTrue (is_before t u)) (tuples_of es)

@@ -2,6 +2,7 @@
 use Rattle.std.proofs.Common.{◌≡◌, ℕ, min, ◌+◌, ◌*◌, ◌<◌, ◌≤◌, ◌^◌, ◌==◌, cond, Bool, true, false, ℤ, List, [], ◌∷◌, ◌++◌, length, sym, ap, ◌∙◌, subst, arith, All, Contains, length-append, inl, inr, ◌⊎◌}
 use Rattle.std.specs.List.{list_any}
 use Rattle.std.specs.Option.{option_to_list}
+use Rattle.std.proofs.lemmas.List.{length-map}
 use Rattle.std.proofs.lemmas.List.Elements.{All-contains}
 use Rattle.bq_model.specs.declared.cell.Cell.{Cell}
 use Rattle.bq_model.specs.declared.plan.PartPlan.{PartPlan}
@@ -27,16 +28,18 @@ use Rattle.bq_laws.proofs.Merge.{synopses-merge, printed-grows}
 use Rattle.bq_laws.proofs.Sufficiency.{synopsis-suffices}
 use Rattle.bq_pool.specs.Extents.{PoolValue, cells_of}
 use Rattle.bq_synopsis.specs.Premises.{AreFitting, HasRoom}
-use Rattle.bq_answers.specs.Entries.{Entry, TableValue, with_entries, Ascends, waiting_of, tuples_of}
+use Rattle.bq_answers.specs.Entries.{Entry, TableValue, entry_of, with_entries, Ascends, waiting_of, tuples_of}
 use Rattle.bq_executor.specs.Executor.{ExecutorValue, cells_in, tuples_in, waiting_in, IsSound, with_given, cleared}
-use Rattle.bq_executor.specs.Standing.{StandsFor, CountsUpto, AreKept, IsReady, future_in, pool_with, TookRow}
+use Rattle.bq_executor.specs.Standing.{StandsFor, CountsUpto, AreKept, KeepsWithin, IsReady, future_in, pool_with, TookRow}
 use Rattle.bq_executor.specs.Taking.{with_all, HaveRoom}
 use Rattle.bq_executor.specs.Arriving.{answered_by, HasTaken, IsPlanReady, CanCount}
 use Rattle.bq_executor.proofs.Founds.{Agree}
 use Rattle.bq_executor.proofs.Spelled.{spelled_is}
-use Rattle.bq_executor.proofs.Answered.{future-rises}
+use Rattle.bq_executor.proofs.Answered.{future-rises, cleared-ascends}
+use Rattle.bq_executor.proofs.Room.{all_within}
 use Rattle.bq_executor.proofs.RowAnswers.{answered_ones, waits_row, tuples_row, ascends_row, room_row, lie_row}
 use Rattle.bq_executor.proofs.RowCells.{read_cut, box_of, read_after, merged_is, pool_is, room_kept, kept_by}
+use Rattle.bq_executor.proofs.Keeping.{keeps}
 use Rattle.bq_executor.proofs.PlanFacts.{follow_of, planned_of, cells_of_plan, plan_ready, answered-same}
 
 -- without DISTINCT the future answers do not look at the table
@@ -110,6 +113,16 @@ module _ (e : ExecutorValue) (sound : IsSound e) (pool : PoolValue) (ready : IsR
   pub room_clear : (d : Bool) → d ≡ q.distinct → (clear : TableValue) → clear ≡ with_entries e.table (cleared d e.table.entries) → HaveRoom q.distinct found clear
   room_clear d same clear is = subst (HaveRoom q.distinct found) (sym (is ∙ ap (λ b. with_entries e.table (cleared b e.table.entries)) same)) room
 
+  ascends : Ascends now
+  ascends = ascends_row q e.plan sound.accepted.plan (read_from all_cells) r e.table.entries a
+
+  few_cleared : (d : Bool) → length (cleared d e.table.entries) ≤ e.table.capacity
+  few_cleared true = (let n = length-map e.table.entries (λ (x : Entry). entry_of x.tuple 0) in let f = sound.entries in let c = sound.capacity in omega (arith, n, f, c))
+  few_cleared false = omega arith
+
+  entries : length now ≤ e.table.capacity
+  entries = all_within q.distinct found (with_entries e.table (cleared q.distinct e.table.entries)) (cleared-ascends q.distinct e.table.entries a) room (few_cleared q.distinct)
+
   -- what is true of each executor is true of it
   pub sound_later : IsSound later
   sound_later = record {
@@ -118,6 +131,8 @@ module _ (e : ExecutorValue) (sound : IsSound e) (pool : PoolValue) (ready : IsR
     pages = sound.pages;
     width = sound.width;
     capacity = sound.capacity;
+    entries = (let n = entries in let c = sound.capacity in omega (arith, n, c));
+    ascends = ascends;
     tuples =
         lie_row q sound.limits sound.accepted.violation (read_from all_cells) r e.table sound.width a e.plan sound.accepted.plan sound.tuples
         (λ part k. fitting part (Contains-from_has parts part k));
@@ -153,9 +168,6 @@ module _ (e : ExecutorValue) (sound : IsSound e) (pool : PoolValue) (ready : IsR
       ap (λ fs. tuples_of (with_all q.distinct fs (cleared q.distinct e.table.entries))) same_found
       ∙ tuples_row q e.plan sound.accepted.plan (read_from (cells_in e pool)) r e.table.entries a (subst (All (λ (f : Found). f.count ≡ 1)) same_found (ones d)) d
 
-  ascends : Ascends now
-  ascends = ascends_row q e.plan sound.accepted.plan (read_from all_cells) r e.table.entries a
-
   module _ (after : PoolValue) (taken : HasTaken q parts e.extent r (length parts) pool after) where
     -- the pool
     pub cells : after ≡ pool_with e pool r
@@ -179,6 +191,10 @@ module _ (e : ExecutorValue) (sound : IsSound e) (pool : PoolValue) (ready : IsR
       fitting = λ part c place i l s. (kept_at part c place i l s).0;
       counts = λ part c place i l s. (kept_at part c place i l s).1;
     }
+
+    -- it keeps within its announced numbers where it did
+    pub within : KeepsWithin e pool → KeepsWithin later after
+    within w = keeps later sound_later after taken.live (taken.inserted.rest ∙ w.rest)
 
     -- over a history
     module _ (history : List Arrival) (stands : StandsFor e pool history) where

@@ -1,6 +1,6 @@
 -- An executor whose answers were written, and one to which no row was given.
 use Rattle.std.proofs.Common.{◌≡◌, ℕ, ◌+◌, ◌*◌, ◌<◌, cond, Bool, true, false, List, [], ◌∷◌, map, filter, length, take, drop, replicate, refl, sym, ap, ◌∙◌, subst, arith, All, Contains}
-use Rattle.std.proofs.lemmas.List.{take-replicate, drop-replicate, get_or-replicate, length-replicate}
+use Rattle.std.proofs.lemmas.List.{take-replicate, drop-replicate, get_or-replicate, length-replicate, length-map}
 use Rattle.std.proofs.lemmas.List.Elements.{All-contains}
 use Rattle.bq_model.specs.declared.cell.Cell.{Cell}
 use Rattle.bq_model.specs.declared.plan.Kind.{Kind}
@@ -19,10 +19,10 @@ use Rattle.bq_model.proofs.Has.{Contains-from_has}
 use Rattle.bq_laws.proofs.Numbering.{boxes-are-apart, cells-are-read, synopsis-has-cells}
 use Rattle.bq_laws.proofs.Sufficiency.{synopsis-is-read}
 use Rattle.bq_pool.specs.Extents.{PoolValue, cells_of, IsLive}
-use Rattle.bq_answers.specs.Entries.{Entry, settled, tuples_of}
+use Rattle.bq_answers.specs.Entries.{Entry, entry_of, settled, tuples_of}
 use Rattle.bq_executor.specs.Executor.{ExecutorValue, parts_in, spelled, IsSound, with_given}
 use Rattle.bq_executor.specs.Standing.{StandsFor}
-use Rattle.bq_executor.proofs.Answered.{settled-tuples}
+use Rattle.bq_executor.proofs.Answered.{settled-tuples, cleared-ascends}
 use Rattle.bq_executor.proofs.Inserting.{get_has}
 use Rattle.bq_executor.proofs.PlanFacts.{cells_of_plan}
 
@@ -42,6 +42,8 @@ written-sound e s = record {
   pages = s.pages;
   width = s.width;
   capacity = s.capacity;
+  entries = (let n = length-map e.table.entries (λ (x : Entry). entry_of x.tuple 0) in let f = s.entries in omega (arith, n, f));
+  ascends = cleared-ascends true e.table.entries s.ascends;
   tuples = λ d. subst (All (Contains (all_tuples e.query (parts_in e)))) (sym (settled-tuples e.table.entries)) (s.tuples d);
 }
 

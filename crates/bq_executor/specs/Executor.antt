@@ -1,8 +1,8 @@
 -- What contracts see of an executor, and what is true of each.
-use Rattle.std.specs.Prelude.{◌≡◌, ℕ, Bool, true, if◌then◌else◌, ℤ, List, [], take, drop, replicate, length, Contains, All}
+use Rattle.std.specs.Prelude.{◌≡◌, ◌≤◌, ℕ, Bool, true, if◌then◌else◌, ℤ, List, [], take, drop, replicate, length, Contains, All}
 use Rattle.std.specs.List.{flat_map}
 use Rattle.std.specs.declared.option.Option.TheVariants.{None}
-use Rattle.bq_answers.specs.Entries.{Entry, TableValue, with_entries, settled, tuples_of}
+use Rattle.bq_answers.specs.Entries.{Entry, TableValue, with_entries, settled, tuples_of, Ascends}
 use Rattle.bq_model.specs.declared.cell.Cell.{Cell}
 use Rattle.bq_model.specs.declared.plan.PartPlan.{PartPlan}
 use Rattle.bq_model.specs.declared.plan.Plan.{Plan}
@@ -64,13 +64,16 @@ pub record IsAccepted (q : QueryValue) (p : Plan) : Type 0 where
   pub violation : IsViolation q None
   pub within : IsWithin p
 
--- what is true of each executor: with DISTINCT each tuple of the table lies in the ranges of some part
+-- what is true of each executor: it has just the pages of its plan, and room for just the answers of it; the table has no more
+-- entries than that, in ascending order; and with DISTINCT each of its tuples lies in the ranges of some part
 pub record IsSound (e : ExecutorValue) : Type 0 where
   pub limits : IsWithinLimits e.query
   pub accepted : IsAccepted e.query e.plan
   pub pages : e.extent.pages ≡ pages_of e.plan
   pub width : e.table.width ≡ length e.query.select
   pub capacity : e.table.capacity ≡ most_answers e.plan
+  pub entries : length e.table.entries ≤ most_answers e.plan
+  pub ascends : Ascends e.table.entries
   pub tuples : e.query.distinct ≡ true → All (Contains (all_tuples e.query (parts_in e))) (tuples_in e)
 
 -- a row of a stream, as it arrives

@@ -1,6 +1,6 @@
 -- What an executor stands for, and what it needs of its cells to take a row.
 use Rattle.std.specs.Prelude.{◌≡◌, ℕ, ◌+◌, ◌-◌, ◌*◌, ◌<◌, ◌≤◌, ◌^◌, min, true, ℤ, List, [], ◌∷◌, ◌++◌, length, replicate, Contains}
-use Rattle.bq_answers.specs.Entries.{waiting_of}
+use Rattle.bq_answers.specs.Entries.{waiting_of, Ascends}
 use Rattle.bq_laws.specs.Growth.{occurs}
 use Rattle.bq_model.specs.declared.cell.Cell.{Cell}
 use Rattle.bq_model.specs.declared.plan.PartPlan.{PartPlan}
@@ -10,10 +10,10 @@ use Rattle.bq_model.specs.Cells.{synopsis, printed}
 use Rattle.bq_model.specs.Combinations.{read_from}
 use Rattle.bq_model.specs.Future.{future}
 use Rattle.bq_model.specs.Merge.{merge, merged_table}
-use Rattle.bq_model.specs.Numbers.{cell_count}
+use Rattle.bq_model.specs.Numbers.{cell_count, pages_of}
 use Rattle.bq_pool.specs.Extents.{PoolValue, with_cells, IsLive}
 use Rattle.bq_synopsis.specs.Premises.{AreFitting}
-use Rattle.bq_executor.specs.Executor.{ExecutorValue, parts_in, cells_in, rest_in, tuples_in, waiting_in, with_given}
+use Rattle.bq_executor.specs.Executor.{ExecutorValue, parts_in, cells_in, rest_in, tuples_in, waiting_in, with_given, most_answers}
 
 -- the executor stands for a history of its query: the cells are its synopsis, and with DISTINCT the tuples those printed
 pub record StandsFor (e : ExecutorValue) (pool : PoolValue) (history : List Arrival) : Type 0 where
@@ -36,6 +36,16 @@ pub record AreKept (e : ExecutorValue) (pool : PoolValue) : Type 0 where
   pub fitting : (part : PartPlan) → Contains (parts_in e) part → AreFitting part (read_from (cells_in e pool))
   pub counts : (part : PartPlan) → Contains (parts_in e) part → (place i : ℕ) → place < length part.streams.items → i < (stream_at part place).size
       → CountsUpto e.given (read_from (cells_in e pool) part place i)
+
+-- a query that keeps within the numbers that its plan announces: its cells lie in just so many pages, those behind the announced ones
+-- are empty, and its table has room for just so many answers, holds no more, and no tuple twice
+pub record KeepsWithin (e : ExecutorValue) (pool : PoolValue) : Type 0 where
+  pub live : IsLive pool e.extent
+  pub pages : e.extent.pages ≡ pages_of e.plan
+  pub rest : rest_in e pool ≡ replicate (64 * e.extent.pages - cell_count (parts_in e)) Cell.Empty
+  pub room : e.table.capacity ≡ most_answers e.plan
+  pub entries : length e.table.entries ≤ most_answers e.plan
+  pub ascends : Ascends e.table.entries
 
 -- the executor can take one row more, also where its cells are not those of any history
 pub record IsReady (e : ExecutorValue) (pool : PoolValue) : Type 0 where

@@ -9,9 +9,9 @@ ghost use Rattle.bq_model.specs.Numbers.{pages_of, work};
 ghost use Rattle.bq_laws.specs.Growth.{occurs};
 ghost use Rattle.bq_io.specs.Sink.{Writes};
 ghost use Rattle.bq_pool.specs.Extents.{PoolValue, cells_of, IsLive, IsGivenBack};
-ghost use Rattle.bq_answers.specs.Entries.{with_entries, waiting_of, settled, Ascends};
+ghost use Rattle.bq_answers.specs.Entries.{with_entries, waiting_entries, waiting_of, settled};
 ghost use Rattle.bq_executor.specs.Executor.{IsAccepted, IsSound, arrival, cleared, most_answers, parts_in, tuples_in, waiting_in, with_given};
-ghost use Rattle.bq_executor.specs.Standing.{StandsFor, AreKept, IsReady, TookRow, future_in, pool_with};
+ghost use Rattle.bq_executor.specs.Standing.{StandsFor, AreKept, KeepsWithin, IsReady, TookRow, future_in, pool_with};
 ghost use Rattle.bq_executor.specs.Gate.{IsRefused};
 ghost use Rattle.bq_executor.specs.Written.{answer_lines};
 
@@ -21,9 +21,9 @@ use crate::gate::{Gate, gate_of};
 use crate::prepared::{PreparedPlan, prepare_all};
 use crate::written::put_waiting;
 use bq_answers::Answers;
-use bq_io::{Sink, Steps, WriteFault};
+use bq_io::{Sink, WriteFault};
 use bq_model::{Plan, Query, Row, Tuple};
-use bq_pool::{Extent, Pool};
+use bq_pool::{Extent, Pool, Steps};
 use bq_synopsis::Room;
 use bq_text::Name;
 use std::alloc::{AllocError, Global};
@@ -95,6 +95,7 @@ impl Executor {
         requires pages { extent.pages ≡ pages_of plan }
         ensures value { MatchResult result (λ e. e ≡ record { query = query; plan = plan; extent = extent; given = 0; table = record { width = length query.select; capacity = most_answers plan; entries = [] } }) (λ refused. refused.0 ≡ extent) }
         ensures history { IfOk result (λ e. (pool : PoolValue) → IsLive pool extent → cells_of pool extent ≡ replicate (64 * extent.pages) cell.Empty → StandsFor e pool []) }
+        ensures within { IfOk result (λ e. (pool : PoolValue) → IsLive pool extent → cells_of pool extent ≡ replicate (64 * extent.pages) cell.Empty → KeepsWithin e pool) }
     {
         let prepared = match prepare_all(alloc, &query, &plan) {
             Ok(prepared) => prepared,
@@ -127,7 +128,9 @@ impl Executor {
     /// Takes a row of any stream of at most 2^40 rows in all. What waited before is given up. The answers that cells and
     /// table tell come to wait, each at most 2^127 times; the cells become their merge with the row's own; with DISTINCT
     /// the tuples grow by the answers. Where the executor stood for a history, the new answers wait, and it then stands for
-    /// the history with the row. A filter, and a query that does not name the stream, take no step.
+    /// the history with the row. It keeps within the numbers that its plan announces. It reads at most three cells for each unit of
+    /// announced work and one for each part, and writes at most one for each part; a filter, and a query that does not name the
+    /// stream, read and write none.
     pub fn row<L: Ledger>(&mut self, pool: &mut Pool, stream: u8, row: &Row, steps: &mut Steps<L>)
         requires ready { IsReady self.old pool.old }
         ensures waits { (t : List ℤ) → waiting_of t self.new.table.entries ≡ min (occurs t (future_in self.old pool.old (arrival stream row.now.items))) (2 ^ 127) }
@@ -135,7 +138,9 @@ impl Executor {
         ensures tuples { self.old.query.distinct ≡ true → tuples_in self.new ≡ merged_table (tuples_in self.old) (future_in self.old pool.old (arrival stream row.now.items)) }
         ensures same { self.new ≡ with_given self.old (self.old.given + 1) self.new.table.entries }
         ensures kept { AreKept self.new pool.new }
-        ensures steps { steps.new ≤ steps.old + 3 * work (parts_in self.old) + 2 * length (parts_in self.old) }
+        ensures within { KeepsWithin self.old pool.old → KeepsWithin self.new pool.new }
+        ensures reads { steps.new.reads ≤ steps.old.reads + 3 * work (parts_in self.old) + length (parts_in self.old) }
+        ensures writes { steps.new.writes ≤ steps.old.writes + length (parts_in self.old) }
         ensures alone { IsTrue (is_filter self.old.query) → steps.new ≡ steps.old }
         ensures outside { list_any (λ s. stream == s) self.old.query.from ≡ false → steps.new ≡ steps.old }
         ensures history { TookRow self.old pool.old (arrival stream row.now.items) self.new pool.new }
@@ -150,12 +155,11 @@ impl Executor {
         self.gate.passes(stream, row)
     }
 
-    // Whether the table has an entry, which may be given up with the next row.
-    fn has_entries(&self) -> bool
-        ensures none { result ≡ false → self.now.table.entries ≡ [] }
-        ensures ascends { Ascends self.now.table.entries }
+    // Whether an answer waits, which is given up with the next row.
+    fn has_waiting(&self) -> bool
+        ensures { result ≡ false → waiting_entries self.now.table.entries ≡ [] }
     {
-        self.table.len() != 0
+        self.table.waiting_len() != 0
     }
 
     /// Takes a row as `row` does. Where it says no, no answer waits; where it says yes, some may.
@@ -173,13 +177,15 @@ impl Executor {
         ensures tuples { self.old.query.distinct ≡ true → tuples_in self.new ≡ merged_table (tuples_in self.old) (future_in self.old pool.old (arrival stream row.now.items)) }
         ensures same { self.new ≡ with_given self.old (self.old.given + 1) self.new.table.entries }
         ensures kept { AreKept self.new pool.new }
-        ensures steps { steps.new ≤ steps.old + 3 * work (parts_in self.old) + 2 * length (parts_in self.old) }
+        ensures within { KeepsWithin self.old pool.old → KeepsWithin self.new pool.new }
+        ensures reads { steps.new.reads ≤ steps.old.reads + 3 * work (parts_in self.old) + length (parts_in self.old) }
+        ensures writes { steps.new.writes ≤ steps.old.writes + length (parts_in self.old) }
         ensures alone { IsTrue (is_filter self.old.query) → steps.new ≡ steps.old }
         ensures outside { list_any (λ s. stream == s) self.old.query.from ≡ false → steps.new ≡ steps.old }
         ensures history { TookRow self.old pool.old (arrival stream row.now.items) self.new pool.new }
     {
         let passes = self.passes(stream, row);
-        if !passes && !self.has_entries() {
+        if !passes && !self.has_waiting() {
             self.given += 1;
             return false;
         }
@@ -206,12 +212,13 @@ impl Executor {
         ensures tuples { self.old.query.distinct ≡ true → tuples_in self.new ≡ merged_table (tuples_in self.old) (future_in self.old pool.old (arrival stream row.now.items)) }
         ensures same { self.new ≡ with_given self.old (self.old.given + 1) self.new.table.entries }
         ensures kept { AreKept self.new pool.new }
-        ensures steps { steps.new ≤ steps.old + 3 * work (parts_in self.old) + 2 * length (parts_in self.old) }
+        ensures within { KeepsWithin self.old pool.old → KeepsWithin self.new pool.new }
+        ensures reads { steps.new.reads ≤ steps.old.reads + 3 * work (parts_in self.old) + length (parts_in self.old) }
+        ensures writes { steps.new.writes ≤ steps.old.writes + length (parts_in self.old) }
         ensures alone { IsTrue (is_filter self.old.query) → steps.new ≡ steps.old }
         ensures outside { list_any (λ s. stream == s) self.old.query.from ≡ false → steps.new ≡ steps.old }
         ensures history { TookRow self.old pool.old (arrival stream row.now.items) self.new pool.new }
     {
-        let _ascends = self.table.len();
         self.given += 1;
         clear(self.query.distinct(), &mut self.table);
         arrive(
@@ -239,6 +246,7 @@ impl Executor {
         ensures same { self.new ≡ with_given self.old self.old.given (settled self.old.table.entries) }
         ensures tuples { tuples_in self.new ≡ tuples_in self.old }
         ensures kept { (pool : PoolValue) → AreKept self.old pool → AreKept self.new pool }
+        ensures within { (pool : PoolValue) → KeepsWithin self.old pool → KeepsWithin self.new pool }
         ensures history { (pool : PoolValue) (history : List Arrival) → StandsFor self.old pool history → StandsFor self.new pool history }
     {
         let written = put_waiting(&self.table, name, out);
@@ -252,6 +260,7 @@ impl Executor {
         ensures same { self.new ≡ with_given self.old self.old.given (settled self.old.table.entries) }
         ensures tuples { tuples_in self.new ≡ tuples_in self.old }
         ensures kept { (pool : PoolValue) → AreKept self.old pool → AreKept self.new pool }
+        ensures within { (pool : PoolValue) → KeepsWithin self.old pool → KeepsWithin self.new pool }
         ensures history { (pool : PoolValue) (history : List Arrival) → StandsFor self.old pool history → StandsFor self.new pool history }
     {
         self.table.settle();

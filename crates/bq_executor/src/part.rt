@@ -19,9 +19,8 @@ ghost use Rattle.bq_executor.specs.Filled.{IsFull, AreOld};
 
 use crate::known::answers_one;
 use bq_answers::Answers;
-use bq_io::Steps;
 use bq_model::{PartPlan, Query, Row, Tuple};
-use bq_pool::{Extent, Pool};
+use bq_pool::{Extent, Pool, Steps};
 use bq_synopsis::{Prepared, Probe, Room, Spot, insert_at, sees_nothing};
 use std::sync::ledger::Ledger;
 
@@ -62,7 +61,8 @@ fn answer_once<L: Ledger>(
     requires room { HaveRoom q.now.distinct (found_beside q.now part.now (read_from (cells_of pool.now e.now)) pos (by_column row.now.items)) table.old }
     requires one { AnswersOne q.now part.now pos row.now.items tuple.old.items }
     ensures table { table.new ≡ with_entries table.old (with_all q.now.distinct (found_beside q.now part.now (read_from (cells_of pool.now e.now)) pos (by_column row.now.items)) table.old.entries) }
-    ensures steps { steps.new ≤ steps.old + 3 * share part.now }
+    ensures reads { steps.new.reads ≤ steps.old.reads + 3 * share part.now }
+    ensures writes { steps.new.writes ≡ steps.old.writes }
 {
     if table.has(tuple) {
         return;
@@ -96,7 +96,8 @@ fn walk<L: Ledger>(
     requires prepared { IsPrepared (pairs q.now) part.now prepared.now }
     requires room { HaveRoom q.now.distinct (found_beside q.now part.now (read_from (cells_of pool.now e.now)) pos (by_column row.now.items)) table.old }
     ensures table { table.new ≡ with_entries table.old (with_all q.now.distinct (found_beside q.now part.now (read_from (cells_of pool.now e.now)) pos (by_column row.now.items)) table.old.entries) }
-    ensures steps { steps.new ≤ steps.old + 3 * share part.now }
+    ensures reads { steps.new.reads ≤ steps.old.reads + 3 * share part.now }
+    ensures writes { steps.new.writes ≡ steps.old.writes }
 {
     if sees_nothing(pool, e, q, part, prepared, pos, row, room, steps) {
         return;
@@ -127,7 +128,8 @@ fn answer<L: Ledger>(
     requires prepared { IsPrepared (pairs q.now) part.now prepared.now }
     requires room { HaveRoom q.now.distinct (found_beside q.now part.now (read_from (cells_of pool.now e.now)) pos (by_column row.now.items)) table.old }
     ensures table { table.new ≡ with_entries table.old (with_all q.now.distinct (found_beside q.now part.now (read_from (cells_of pool.now e.now)) pos (by_column row.now.items)) table.old.entries) }
-    ensures steps { steps.new ≤ steps.old + 3 * share part.now }
+    ensures reads { steps.new.reads ≤ steps.old.reads + 3 * share part.now }
+    ensures writes { steps.new.writes ≡ steps.old.writes }
 {
     if answers_one(q, part, pos, row, tuple) {
         answer_once(
@@ -161,7 +163,8 @@ fn answer_new<L: Ledger>(
     requires room { HaveRoom q.now.distinct (found_beside q.now part.now (read_from (cells_of pool.now e.now)) pos (by_column row.now.items)) table.old }
     requires old { full ≡ true → AreOld q.now.distinct (found_beside q.now part.now (read_from (cells_of pool.now e.now)) pos (by_column row.now.items)) table.old.entries }
     ensures table { table.new ≡ with_entries table.old (with_all q.now.distinct (found_beside q.now part.now (read_from (cells_of pool.now e.now)) pos (by_column row.now.items)) table.old.entries) }
-    ensures steps { steps.new ≤ steps.old + 3 * share part.now }
+    ensures reads { steps.new.reads ≤ steps.old.reads + 3 * share part.now }
+    ensures writes { steps.new.writes ≡ steps.old.writes }
 {
     if full {
         return;
@@ -199,7 +202,8 @@ pub fn take_row<L: Ledger>(
     requires room { HaveRoom q.now.distinct (found_in q.now part.now (read_from (cells_of pool.old e.now)) (arrives q.now pos row.now.items)) table.old }
     ensures table { table.new ≡ with_entries table.old (with_all q.now.distinct (found_in q.now part.now (read_from (cells_of pool.old e.now)) (arrives q.now pos row.now.items)) table.old.entries) }
     ensures pool { pool.new ≡ with_row q.now part.now pos row.now.items e.now pool.old }
-    ensures steps { steps.new ≤ steps.old + 3 * share part.now + 2 }
+    ensures reads { steps.new.reads ≤ steps.old.reads + 3 * share part.now + 1 }
+    ensures writes { steps.new.writes ≤ steps.old.writes + 1 }
 {
     let streams = q.from().len();
     answer_new(

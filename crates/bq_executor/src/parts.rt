@@ -13,9 +13,8 @@ use crate::filled::Filled;
 use crate::part::take_row;
 use crate::prepared::PreparedPlan;
 use bq_answers::Answers;
-use bq_io::Steps;
 use bq_model::{PartPlans, Query, Row, Tuple};
-use bq_pool::{Extent, Pool};
+use bq_pool::{Extent, Pool, Steps};
 use bq_synopsis::Room;
 use std::sync::ledger::Ledger;
 
@@ -43,7 +42,8 @@ pub fn take_in_all<L: Ledger>(
     ensures filled { AreFilled q.now parts.now filled.new table.new.entries }
     ensures table { table.new ≡ with_entries table.old (with_all q.now.distinct (all_found q.now parts.now (read_from (cells_of pool.old e.now)) (arrives q.now pos row.now.items)) table.old.entries) }
     ensures pool { HasTaken q.now parts.now e.now (arrives q.now pos row.now.items) (length parts.now) pool.old pool.new }
-    ensures steps { steps.new ≤ steps.old + 3 * work parts.now + 2 * length parts.now }
+    ensures reads { steps.new.reads ≤ steps.old.reads + 3 * work parts.now + length parts.now }
+    ensures writes { steps.new.writes ≤ steps.old.writes + length parts.now }
 {
     let chains = prepared.chains(q, parts, pos);
     let led = chains.first(q, parts, pos, row);

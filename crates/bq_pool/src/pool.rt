@@ -7,7 +7,7 @@ ghost use Rattle.bq_model.specs.declared.cell.Cell.TheVariants.{Empty as empty};
 
 use crate::pages::{clear_pages, copy_pages, vacant};
 use crate::scan::{Filled, Line, first_along, first_beside};
-use bq_io::Steps;
+use crate::steps::Steps;
 use bq_model::Cell;
 use std::alloc::{AllocError, Global};
 use std::marker::Model;
@@ -116,21 +116,22 @@ impl Pool {
         })
     }
 
-    /// The cell of an extent with that number. This is one step.
+    /// The cell of an extent with that number. This is one read.
     pub fn read<L: Ledger>(&self, extent: &Extent, index: u32, steps: &mut Steps<L>) -> Cell
         requires live { IsLive self.now extent.now }
         requires within { index < 64 * extent.now.pages }
         ensures cell { (otherwise : Cell) → result ≡ slice_index_or (cells_of self.now extent.now) index otherwise }
-        ensures steps { steps.new ≡ steps.old + 1 }
+        ensures reads { steps.new.reads ≡ steps.old.reads + 1 }
+        ensures writes { steps.new.writes ≡ steps.old.writes }
     {
-        steps.tick();
+        steps.count_read();
         let i = index as usize;
         let page = self.places[usize::from(extent.slot) * PAGES_PER_SLOT + i / CELLS_PER_PAGE];
         self.cells[usize::from(page) * CELLS_PER_PAGE + i % CELLS_PER_PAGE]
     }
 
     /// The first cell of a line of an extent that is not empty, from one place up to another, if one is not. Each cell that is
-    /// seen is one step.
+    /// seen is one read.
     pub fn first_filled<L: Ledger>(
         &self,
         extent: &Extent,
@@ -142,7 +143,8 @@ impl Pool {
         requires live { IsLive self.now extent.now }
         requires within { (i : ℕ) → i < to → line.first + i * line.stride < 64 * extent.now.pages }
         requires below { from ≤ to }
-        ensures { Scanned (at_line (cells_of self.now extent.now) line) from to steps.old result steps.new }
+        ensures reads { Scanned (at_line (cells_of self.now extent.now) line) from to steps.old.reads result steps.new.reads }
+        ensures writes { steps.new.writes ≡ steps.old.writes }
     {
         let slot = usize::from(extent.slot);
         if line.stride == 1 && to - from > 1 {
@@ -151,7 +153,7 @@ impl Pool {
         first_along(&self.cells, &self.places, slot, line, from, to, steps)
     }
 
-    /// Writes the cell of an extent with that number, and no other cell of any extent. This is one step.
+    /// Writes the cell of an extent with that number, and no other cell of any extent. This is one write.
     pub fn write<L: Ledger>(
         &mut self,
         extent: &Extent,
@@ -162,16 +164,17 @@ impl Pool {
         requires live { IsLive self.old extent.now }
         requires within { index < 64 * extent.now.pages }
         ensures cells { self.new ≡ with_cells self.old extent.now (slice_set (cells_of self.old extent.now) index cell) }
-        ensures steps { steps.new ≡ steps.old + 1 }
+        ensures reads { steps.new.reads ≡ steps.old.reads }
+        ensures writes { steps.new.writes ≡ steps.old.writes + 1 }
     {
-        steps.tick();
+        steps.count_write();
         let i = index as usize;
         let page = self.places[usize::from(extent.slot) * PAGES_PER_SLOT + i / CELLS_PER_PAGE];
         self.cells[usize::from(page) * CELLS_PER_PAGE + i % CELLS_PER_PAGE] = cell;
     }
 
-    /// Puts into a cell of an extent what a function makes of it, and changes no other cell of any extent. This is two steps,
-    /// one that reads and one that writes.
+    /// Puts into a cell of an extent what a function makes of it, and changes no other cell of any extent. This is one read
+    /// and one write.
     pub fn update<L: Ledger, F: FnOnce(Cell) -> Cell>(
         &mut self,
         extent: &Extent,
@@ -183,14 +186,15 @@ impl Pool {
         requires within { index < 64 * extent.now.pages }
         requires callable { F.pre change (slice_index_or (cells_of self.old extent.now) index empty) }
         ensures cells { (cell : Cell) × F.post change (slice_index_or (cells_of self.old extent.now) index empty) cell × (self.new ≡ with_cells self.old extent.now (slice_set (cells_of self.old extent.now) index cell)) }
-        ensures steps { steps.new ≡ steps.old + 2 }
+        ensures reads { steps.new.reads ≡ steps.old.reads + 1 }
+        ensures writes { steps.new.writes ≡ steps.old.writes + 1 }
     {
-        steps.tick();
+        steps.count_read();
         let i = index as usize;
         let page = self.places[usize::from(extent.slot) * PAGES_PER_SLOT + i / CELLS_PER_PAGE];
         let place = usize::from(page) * CELLS_PER_PAGE + i % CELLS_PER_PAGE;
         self.cells[place] = changed(self.cells[place], change);
-        steps.tick();
+        steps.count_write();
     }
 
     /// Makes the pages of an extent free again.

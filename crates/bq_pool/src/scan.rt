@@ -5,7 +5,7 @@ ghost use Rattle.bq_model.specs.declared.cell.Cell.TheVariants.{Empty as empty};
 ghost use Rattle.bq_pool.specs.Places.{cell_at};
 ghost use Rattle.bq_pool.specs.Lines.{Scanned, HasPage};
 
-use bq_io::Steps;
+use crate::steps::Steps;
 use bq_model::Cell;
 use std::sync::ledger::Ledger;
 
@@ -36,13 +36,14 @@ fn is_empty(cell: &Cell) -> bool
     }
 }
 
-// The first of these cells that is not empty. Each cell that is seen is one step.
+// The first of these cells that is not empty. Each cell that is seen is one read.
 fn first_among<L: Ledger>(cells: &[Cell], steps: &mut Steps<L>) -> Option<usize>
     ensures first { MatchOption result ((i : ℕ) → i < length cells.now → slice_index_or cells.now i empty ≡ empty) (λ k. (k < length cells.now) × ((i : ℕ) → i < k → slice_index_or cells.now i empty ≡ empty) × (slice_index_or cells.now k empty ≡ empty → ⊥)) }
-    ensures steps { MatchOption result (steps.new ≡ steps.old + length cells.now) (λ k. steps.new ≡ steps.old + k + 1) }
+    ensures reads { MatchOption result (steps.new.reads ≡ steps.old.reads + length cells.now) (λ k. steps.new.reads ≡ steps.old.reads + k + 1) }
+    ensures writes { steps.new.writes ≡ steps.old.writes }
 {
     for (k, cell) in cells.iter().enumerate() {
-        steps.tick();
+        steps.count_read();
         if !is_empty(cell) {
             return Some(k);
         }
@@ -99,7 +100,8 @@ pub fn first_beside<L: Ledger>(
     requires below { from ≤ to }
     requires fits { (i : ℕ) → i < to → first + i < 2 ^ 32 }
     requires pages { (i : ℕ) → i < to → HasPage cells.now places.now slot (first + i) }
-    ensures { Scanned (λ i. cell_at cells.now places.now slot (first + i)) from to steps.old result steps.new }
+    ensures reads { Scanned (λ i. cell_at cells.now places.now slot (first + i)) from to steps.old.reads result steps.new.reads }
+    ensures writes { steps.new.writes ≡ steps.old.writes }
 {
     let mut i = from;
     'pages: while i < to {
@@ -131,11 +133,12 @@ pub fn first_along<L: Ledger>(
     requires below { from ≤ to }
     requires fits { (i : ℕ) → i < to → line.first + i * line.stride < 2 ^ 32 }
     requires pages { (i : ℕ) → i < to → HasPage cells.now places.now slot (line.first + i * line.stride) }
-    ensures { Scanned (λ i. cell_at cells.now places.now slot (line.first + i * line.stride)) from to steps.old result steps.new }
+    ensures reads { Scanned (λ i. cell_at cells.now places.now slot (line.first + i * line.stride)) from to steps.old.reads result steps.new.reads }
+    ensures writes { steps.new.writes ≡ steps.old.writes }
 {
     let mut i = from;
     'cells: while i < to {
-        steps.tick();
+        steps.count_read();
         let seen = cell_of(cells, places, slot, (line.first + i * line.stride) as usize);
         if !is_empty(seen) {
             return Some(Filled {

@@ -6,7 +6,7 @@ ghost use Rattle.bq_io.specs.Sink.{Writes};
 ghost use Rattle.bq_model.specs.Numbers.{IsPlanOf};
 ghost use Rattle.bq_executor.specs.Executor.{arrival};
 ghost use Rattle.bq_registry.specs.Live.{Live, LiveQuery, with_row, without, free_pages};
-ghost use Rattle.bq_registry.specs.Registry.{IsSound, KeepQueries, waiting_text, most_steps};
+ghost use Rattle.bq_registry.specs.Registry.{IsSound, KeepQueries, waiting_text, most_reads, most_writes};
 
 use crate::admission::{admit, drop_at};
 use crate::queries::Queries;
@@ -15,9 +15,9 @@ use crate::taking::take_all;
 use crate::verdict::{Verdict, judge};
 use crate::waiting::Places;
 use crate::writing::write_all;
-use bq_io::{Sink, Steps, WriteFault};
+use bq_io::{Sink, WriteFault};
 use bq_model::{Plan, Query, Row};
-use bq_pool::Pool;
+use bq_pool::{Pool, Steps};
 use bq_text::Name;
 use std::alloc::{AllocError, Global};
 use std::marker::Model;
@@ -60,7 +60,7 @@ fn close_all(pool: Pool, live: Queries)
 }
 
 impl Registry {
-    ghost use Rattle.bq_registry.specs.Registry.{StandsFor, IsQuiet, GivenUpto, Wait};
+    ghost use Rattle.bq_registry.specs.Registry.{StandsFor, IsQuiet, KeepWithin, GivenUpto, Wait};
     ghost use Rattle.bq_registry.specs.Judged.{TellsVerdict, CarriesWhy, Creates};
 
     /// The most live queries.
@@ -83,10 +83,11 @@ impl Registry {
         })
     }
 
-    /// The number of live queries.
+    /// The number of live queries. Each of them keeps within the numbers that its plan announces.
     pub fn len(&self) -> usize
         ensures value { result ≡ length self.now.live }
         ensures few { result ≤ 64 }
+        ensures within { KeepWithin self.now }
     {
         self.live.len()
     }
@@ -153,14 +154,16 @@ impl Registry {
     }
 
     /// Takes a row of a stream: of each live query the new answers by its own history wait then, and what waited before is
-    /// given up. This takes no memory.
+    /// given up. Each live query keeps within the numbers that its plan announces, whatever its history. This takes no memory.
     pub fn row<L: Ledger>(&mut self, stream: u8, row: &Row, steps: &mut Steps<L>)
         requires { All (λ l. l.executor.given < 2 ^ 40) self.old.live }
         ensures stands { (queries : List LiveQuery) → StandsFor self.old queries → StandsFor self.new (map (with_row (arrival stream row.now.items)) queries) }
         ensures waits { (queries : List LiveQuery) → StandsFor self.old queries → Wait self.new.live queries (arrival stream row.now.items) }
         ensures given { (n : ℕ) → GivenUpto n self.old → GivenUpto (n + 1) self.new }
         ensures queries { KeepQueries self.old.live self.new.live }
-        ensures steps { steps.new ≤ steps.old + most_steps self.old.live }
+        ensures within { KeepWithin self.new }
+        ensures reads { steps.new.reads ≤ steps.old.reads + most_reads self.old.live }
+        ensures writes { steps.new.writes ≤ steps.old.writes + most_writes self.old.live }
     {
         self.waiting = take_all(&mut self.pool, &mut self.live, stream, row, steps);
     }

@@ -8,6 +8,7 @@ use Rattle.bq_executor.proofs.Taken.{taken_step, ready_part, room_part, room_now
 use Rattle.bq_executor.proofs.Chained.{passed_by, led_within, led_there}
 use Rattle.bq_executor.proofs.PassedOver.{HaveDone, nothing_done, same_state, passed_one, passed_over}
 use Rattle.bq_answers.specs.Entries.{TableValue}
+use Rattle.bq_pool.specs.Counted.{StepsValue}
 use Rattle.bq_executor.specs.declared.filled.Filled.{Filled}
 use Rattle.bq_executor.specs.Filled.{AreFilled}
 use Rattle.bq_executor.proofs.FilledLaws.{full-part, filled-later}
@@ -89,7 +90,8 @@ parts-preserved g c =
         found =
             table_more c.args.q.now c.args.parts.now c.args.e.now c.args.pos c.requires.here c.args.row.now.items c.args.pool.now c.requires.ready c.parts.i c.get-part.result.now at_n c.parts.pool c.parts.invariant.done.taken
             c.args.q.now.distinct c.args.table.now c.parts.table c.if-is_inside.table c.parts.invariant.done.found (w.table-is ∙ w.take_row.ensures.table);
-        cost = (let a = c.parts.invariant.done.cost in let b = w.take_row.ensures.steps in let s = w.steps-is in omega (arith, more, a, b, s));
+        reads = (let a = c.parts.invariant.done.reads in let b = w.take_row.ensures.reads in let s = ap (λ (x : StepsValue). x.reads) w.steps-is in omega (arith, more, a, b, s));
+        writes = (let a = c.parts.invariant.done.writes in let b = w.take_row.ensures.writes in let s = ap (λ (x : StepsValue). x.writes) w.steps-is in omega (arith, a, b, s));
       }
       | else-is_inside w ↦
           same_state c.args.q.now c.args.parts.now c.args.e.now c.args.pos c.args.row.now.items c.args.pool.now c.args.table.now c.args.steps.now (c.parts.i + 1) c.parts.pool c.if-is_inside.pool c.parts.table c.if-is_inside.table c.parts.steps c.if-is_inside.steps w.pool-is w.table-is w.steps-is

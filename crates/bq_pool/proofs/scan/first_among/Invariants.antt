@@ -5,5 +5,6 @@ use Rattle.bq_pool.proofs.scan.first_among.Given as goal
 abbrev pub invariant-loop-k : goal.invariant-loop-k
 invariant-loop-k g l = record {
   empty : (i : ℕ) → i < l.k → get_or l.cells i Empty ≡ Empty;
-  steps : l.steps ≡ l.fn.steps + l.k;
+  reads : l.steps.reads ≡ l.fn.steps.reads + l.k;
+  writes : l.steps.writes ≡ l.fn.steps.writes;
 }

@@ -3,7 +3,8 @@ use Rattle.bq_pool.specs.Extents.{PoolValue}
 use Rattle.bq_model.specs.Meaning.{Arrival}
 use Rattle.bq_answers.specs.Entries.{TableValue}
 use Rattle.bq_executor.specs.Executor.{ExecutorValue, IsSound, tuples_in, waiting_in}
-use Rattle.bq_executor.specs.Standing.{StandsFor}
+use Rattle.bq_executor.specs.Standing.{StandsFor, KeepsWithin}
+use Rattle.bq_executor.proofs.Keeping.{written-within}
 use Rattle.bq_model.specs.Numbers.{parts_of}
 use Rattle.bq_executor.proofs.FilledLaws.{filled-settled}
 use Rattle.bq_executor.proofs.Answered.{settled-tuples}
@@ -29,3 +30,9 @@ returns-clause-history c =
     let e : ExecutorValue = record { query = c.self.inside.query; plan = c.self.inside.plan; extent = c.self.inside.extent; given = c.self.inside.given; table = c.self.inside.table } in
     subst (λ (x : ExecutorValue). (pool : PoolValue) (history : List Arrival) → StandsFor x pool history → StandsFor (let o : ExecutorValue = record { query = c.self.inside.query; plan = c.self.inside.plan; extent = c.self.inside.extent; given = c.self.inside.given; table = c.settle.new.self } in o) pool history) c.self.view_is
     (λ pool history h. subst (λ (t : TableValue). StandsFor (let o : ExecutorValue = record { query = c.self.inside.query; plan = c.self.inside.plan; extent = c.self.inside.extent; given = c.self.inside.given; table = t } in o) pool history) (sym c.settle.ensures) (written-stands e pool history h))
+
+pub returns-clause-within : goal.returns-clause-within
+returns-clause-within c =
+    let e : ExecutorValue = record { query = c.self.inside.query; plan = c.self.inside.plan; extent = c.self.inside.extent; given = c.self.inside.given; table = c.self.inside.table } in
+    subst (λ (x : ExecutorValue). (pool : PoolValue) → KeepsWithin x pool → KeepsWithin (let o : ExecutorValue = record { query = c.self.inside.query; plan = c.self.inside.plan; extent = c.self.inside.extent; given = c.self.inside.given; table = c.settle.new.self } in o) pool) c.self.view_is
+    (λ pool w. subst (λ (t : TableValue). KeepsWithin (let o : ExecutorValue = record { query = c.self.inside.query; plan = c.self.inside.plan; extent = c.self.inside.extent; given = c.self.inside.given; table = t } in o) pool) (sym c.settle.ensures) (written-within e c.self.invariant.0 pool w))

@@ -1,7 +1,8 @@
-use Rattle.std.proofs.Common.{ap, refl, ◌∙◌, length}
-use Rattle.bq_answers.specs.Entries.{TableValue}
+use Rattle.std.proofs.Common.{ap, sym, subst, refl, ◌∙◌, length, arith}
+use Rattle.bq_answers.specs.Entries.{TableValue, Ascends}
 use Rattle.bq_model.specs.Numbers.{parts_of}
 use Rattle.bq_executor.proofs.FilledLaws.{filled-empty}
+use Rattle.bq_executor.proofs.Keeping.{keeps}
 use Rattle.bq_executor.proofs.Settled.{begins, none_within}
 use Rattle.bq_executor.specs.Executor.{ExecutorValue}
 use Rattle.bq_executor.proofs.executor.Executor.new.Goals as goal
@@ -15,6 +16,8 @@ invariant_of-result c =
         pages = c.requires.pages;
         width = ap (λ (t : TableValue). t.width) is ∙ ap length c.select.ensures.value;
         capacity = ap (λ (t : TableValue). t.capacity) is ∙ c.most_answers-capacity.ensures;
+        entries = (let none = ap (λ (t : TableValue). length t.entries) is in omega (arith, none));
+        ascends = subst (λ (t : TableValue). Ascends t.entries) (sym is) tt;
         tuples = λ d. none_within c.args.query (parts_of c.args.plan) c.in-Ok-new-2.table.entries (ap (λ (t : TableValue). t.entries) is);
       },
       c.in-Ok.ensures,
@@ -27,3 +30,9 @@ returns-in-Ok-new-2-clause-history c =
     let e : ExecutorValue = record { query = c.args.query; plan = c.args.plan; extent = c.args.extent; given = 0; table = c.in-Ok-new-2.table } in
     let is = c.in-Ok-new-2.ensures in
     begins e (invariant_of-result c).0 refl (ap (λ (t : TableValue). t.entries) is)
+
+pub returns-in-Ok-new-2-clause-within : goal.returns-in-Ok-new-2-clause-within
+returns-in-Ok-new-2-clause-within c = λ pool live empty.
+    let e : ExecutorValue = record { query = c.args.query; plan = c.args.plan; extent = c.args.extent; given = 0; table = c.in-Ok-new-2.table } in
+    let sound = (invariant_of-result c).0 in
+    keeps e sound pool live (begins e sound refl (ap (λ (t : TableValue). t.entries) c.in-Ok-new-2.ensures) pool live empty).rest

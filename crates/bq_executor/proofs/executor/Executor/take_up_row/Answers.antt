@@ -4,11 +4,11 @@ use Rattle.bq_model.specs.Merge.{merged_table}
 use Rattle.bq_laws.specs.Growth.{occurs}
 use Rattle.bq_answers.specs.Entries.{TableValue, waiting_of}
 use Rattle.bq_executor.specs.Executor.{ExecutorValue, arrival, tuples_in, IsSound}
-use Rattle.bq_executor.specs.Standing.{AreKept, IsReady, TookRow, future_in, pool_with}
+use Rattle.bq_executor.specs.Standing.{AreKept, KeepsWithin, IsReady, TookRow, future_in, pool_with}
 use Rattle.bq_model.specs.Numbers.{parts_of}
 use Rattle.bq_executor.specs.Gate.{IsRefused}
 use Rattle.bq_executor.proofs.FilledLaws.{filled-cleared}
-use Rattle.bq_executor.proofs.Rows.{ready_row, room_clear, table_later, sound_later, waits, cells, tuples, kept, history}
+use Rattle.bq_executor.proofs.Rows.{ready_row, room_clear, table_later, sound_later, waits, cells, tuples, kept, within, history}
 use Rattle.bq_executor.proofs.ClearedNone.{quiet-later}
 use Rattle.bq_executor.proofs.executor.Executor.take_up_row.Goals as goal
 
@@ -21,14 +21,14 @@ arrive-requires-clause-ready g c =
     let e : ExecutorValue = record { query = c.self.inside.query; plan = c.self.inside.plan; extent = c.self.inside.extent; given = c.self.inside.given; table = c.self.inside.table } in
     let ready : IsReady e c.args.pool.now = subst (λ (x : ExecutorValue). IsReady x c.args.pool.now) (sym c.self.view_is) c.requires.ready in
     let r = arrival c.args.stream c.args.row.now.items in
-    ready_row e c.self.invariant.0 c.args.pool.now ready r c.len-ascends.ensures.ascends
+    ready_row e c.self.invariant.0 c.args.pool.now ready r c.self.invariant.0.ascends
 
 pub arrive-requires-clause-room : goal.arrive-requires-clause-room
 arrive-requires-clause-room g c =
     let e : ExecutorValue = record { query = c.self.inside.query; plan = c.self.inside.plan; extent = c.self.inside.extent; given = c.self.inside.given; table = c.self.inside.table } in
     let ready : IsReady e c.args.pool.now = subst (λ (x : ExecutorValue). IsReady x c.args.pool.now) (sym c.self.view_is) c.requires.ready in
     let r = arrival c.args.stream c.args.row.now.items in
-    room_clear e c.self.invariant.0 c.args.pool.now ready r c.len-ascends.ensures.ascends c.distinct.result c.distinct.ensures c.clear.new.table c.clear.ensures
+    room_clear e c.self.invariant.0 c.args.pool.now ready r c.self.invariant.0.ascends c.distinct.result c.distinct.ensures c.clear.new.table c.clear.ensures
 
 pub arrive-requires-clause-filled : goal.arrive-requires-clause-filled
 arrive-requires-clause-filled g c =
@@ -39,41 +39,41 @@ invariant_of-self g c =
     let e : ExecutorValue = record { query = c.self.inside.query; plan = c.self.inside.plan; extent = c.self.inside.extent; given = c.self.inside.given; table = c.self.inside.table } in
     let ready : IsReady e c.args.pool.now = subst (λ (x : ExecutorValue). IsReady x c.args.pool.now) (sym c.self.view_is) c.requires.ready in
     let r = arrival c.args.stream c.args.row.now.items in
-    let table = table_later e c.self.invariant.0 c.args.pool.now ready r c.len-ascends.ensures.ascends c.distinct.result c.distinct.ensures c.clear.new.table c.arrive.new.table c.clear.ensures c.arrive.ensures.table in
-    (subst (λ (t : TableValue). IsSound (let o : ExecutorValue = record { query = c.self.inside.query; plan = c.self.inside.plan; extent = c.self.inside.extent; given = c.self.inside.given + 1; table = t } in o)) (sym table) (sound_later e c.self.invariant.0 c.args.pool.now ready r c.len-ascends.ensures.ascends), c.self.invariant.1, c.self.invariant.2, c.arrive.ensures.filled)
+    let table = table_later e c.self.invariant.0 c.args.pool.now ready r c.self.invariant.0.ascends c.distinct.result c.distinct.ensures c.clear.new.table c.arrive.new.table c.clear.ensures c.arrive.ensures.table in
+    (subst (λ (t : TableValue). IsSound (let o : ExecutorValue = record { query = c.self.inside.query; plan = c.self.inside.plan; extent = c.self.inside.extent; given = c.self.inside.given + 1; table = t } in o)) (sym table) (sound_later e c.self.invariant.0 c.args.pool.now ready r c.self.invariant.0.ascends), c.self.invariant.1, c.self.invariant.2, c.arrive.ensures.filled)
 
 pub returns-clause-waits : goal.returns-clause-waits
 returns-clause-waits g c =
     let e : ExecutorValue = record { query = c.self.inside.query; plan = c.self.inside.plan; extent = c.self.inside.extent; given = c.self.inside.given; table = c.self.inside.table } in
     let ready : IsReady e c.args.pool.now = subst (λ (x : ExecutorValue). IsReady x c.args.pool.now) (sym c.self.view_is) c.requires.ready in
     let r = arrival c.args.stream c.args.row.now.items in
-    let table = table_later e c.self.invariant.0 c.args.pool.now ready r c.len-ascends.ensures.ascends c.distinct.result c.distinct.ensures c.clear.new.table c.arrive.new.table c.clear.ensures c.arrive.ensures.table in
+    let table = table_later e c.self.invariant.0 c.args.pool.now ready r c.self.invariant.0.ascends c.distinct.result c.distinct.ensures c.clear.new.table c.arrive.new.table c.clear.ensures c.arrive.ensures.table in
     subst (λ (x : ExecutorValue). (t : List ℤ) → waiting_of t c.arrive.new.table.entries ≡ min (occurs t (future_in x c.args.pool.now r)) (2 ^ 127)) c.self.view_is
-    (λ t. ap (λ (x : TableValue). waiting_of t x.entries) table ∙ waits e c.self.invariant.0 c.args.pool.now ready r c.len-ascends.ensures.ascends t)
+    (λ t. ap (λ (x : TableValue). waiting_of t x.entries) table ∙ waits e c.self.invariant.0 c.args.pool.now ready r c.self.invariant.0.ascends t)
 
 pub returns-clause-cells : goal.returns-clause-cells
 returns-clause-cells g c =
     let e : ExecutorValue = record { query = c.self.inside.query; plan = c.self.inside.plan; extent = c.self.inside.extent; given = c.self.inside.given; table = c.self.inside.table } in
     let ready : IsReady e c.args.pool.now = subst (λ (x : ExecutorValue). IsReady x c.args.pool.now) (sym c.self.view_is) c.requires.ready in
     let r = arrival c.args.stream c.args.row.now.items in
-    cells e c.self.invariant.0 c.args.pool.now ready r c.len-ascends.ensures.ascends c.arrive.new.pool c.arrive.ensures.pool ∙ ap (λ (x : ExecutorValue). pool_with x c.args.pool.now r) c.self.view_is
+    cells e c.self.invariant.0 c.args.pool.now ready r c.self.invariant.0.ascends c.arrive.new.pool c.arrive.ensures.pool ∙ ap (λ (x : ExecutorValue). pool_with x c.args.pool.now r) c.self.view_is
 
 pub returns-clause-tuples : goal.returns-clause-tuples
 returns-clause-tuples g c =
     let e : ExecutorValue = record { query = c.self.inside.query; plan = c.self.inside.plan; extent = c.self.inside.extent; given = c.self.inside.given; table = c.self.inside.table } in
     let ready : IsReady e c.args.pool.now = subst (λ (x : ExecutorValue). IsReady x c.args.pool.now) (sym c.self.view_is) c.requires.ready in
     let r = arrival c.args.stream c.args.row.now.items in
-    let table = table_later e c.self.invariant.0 c.args.pool.now ready r c.len-ascends.ensures.ascends c.distinct.result c.distinct.ensures c.clear.new.table c.arrive.new.table c.clear.ensures c.arrive.ensures.table in
+    let table = table_later e c.self.invariant.0 c.args.pool.now ready r c.self.invariant.0.ascends c.distinct.result c.distinct.ensures c.clear.new.table c.arrive.new.table c.clear.ensures c.arrive.ensures.table in
     subst (λ (x : ExecutorValue). x.query.distinct ≡ true → tuples_in (let o : ExecutorValue = record { query = c.self.inside.query; plan = c.self.inside.plan; extent = c.self.inside.extent; given = c.self.inside.given + 1; table = c.arrive.new.table } in o) ≡ merged_table (tuples_in x) (future_in x c.args.pool.now r)) c.self.view_is
-    (λ d. ap (λ (t : TableValue). tuples_in (let o : ExecutorValue = record { query = c.self.inside.query; plan = c.self.inside.plan; extent = c.self.inside.extent; given = c.self.inside.given + 1; table = t } in o)) table ∙ tuples e c.self.invariant.0 c.args.pool.now ready r c.len-ascends.ensures.ascends d)
+    (λ d. ap (λ (t : TableValue). tuples_in (let o : ExecutorValue = record { query = c.self.inside.query; plan = c.self.inside.plan; extent = c.self.inside.extent; given = c.self.inside.given + 1; table = t } in o)) table ∙ tuples e c.self.invariant.0 c.args.pool.now ready r c.self.invariant.0.ascends d)
 
 pub returns-clause-kept : goal.returns-clause-kept
 returns-clause-kept g c =
     let e : ExecutorValue = record { query = c.self.inside.query; plan = c.self.inside.plan; extent = c.self.inside.extent; given = c.self.inside.given; table = c.self.inside.table } in
     let ready : IsReady e c.args.pool.now = subst (λ (x : ExecutorValue). IsReady x c.args.pool.now) (sym c.self.view_is) c.requires.ready in
     let r = arrival c.args.stream c.args.row.now.items in
-    let table = table_later e c.self.invariant.0 c.args.pool.now ready r c.len-ascends.ensures.ascends c.distinct.result c.distinct.ensures c.clear.new.table c.arrive.new.table c.clear.ensures c.arrive.ensures.table in
-    subst (λ (t : TableValue). AreKept (let o : ExecutorValue = record { query = c.self.inside.query; plan = c.self.inside.plan; extent = c.self.inside.extent; given = c.self.inside.given + 1; table = t } in o) c.arrive.new.pool) (sym table) (kept e c.self.invariant.0 c.args.pool.now ready r c.len-ascends.ensures.ascends c.arrive.new.pool c.arrive.ensures.pool)
+    let table = table_later e c.self.invariant.0 c.args.pool.now ready r c.self.invariant.0.ascends c.distinct.result c.distinct.ensures c.clear.new.table c.arrive.new.table c.clear.ensures c.arrive.ensures.table in
+    subst (λ (t : TableValue). AreKept (let o : ExecutorValue = record { query = c.self.inside.query; plan = c.self.inside.plan; extent = c.self.inside.extent; given = c.self.inside.given + 1; table = t } in o) c.arrive.new.pool) (sym table) (kept e c.self.invariant.0 c.args.pool.now ready r c.self.invariant.0.ascends c.arrive.new.pool c.arrive.ensures.pool)
 
 pub returns-clause-outside : goal.returns-clause-outside
 returns-clause-outside g c none =
@@ -84,10 +84,20 @@ returns-clause-history g c =
     let e : ExecutorValue = record { query = c.self.inside.query; plan = c.self.inside.plan; extent = c.self.inside.extent; given = c.self.inside.given; table = c.self.inside.table } in
     let ready : IsReady e c.args.pool.now = subst (λ (x : ExecutorValue). IsReady x c.args.pool.now) (sym c.self.view_is) c.requires.ready in
     let r = arrival c.args.stream c.args.row.now.items in
-    let table = table_later e c.self.invariant.0 c.args.pool.now ready r c.len-ascends.ensures.ascends c.distinct.result c.distinct.ensures c.clear.new.table c.arrive.new.table c.clear.ensures c.arrive.ensures.table in
+    let table = table_later e c.self.invariant.0 c.args.pool.now ready r c.self.invariant.0.ascends c.distinct.result c.distinct.ensures c.clear.new.table c.arrive.new.table c.clear.ensures c.arrive.ensures.table in
     subst (λ (x : ExecutorValue). TookRow x c.args.pool.now r (let o : ExecutorValue = record { query = c.self.inside.query; plan = c.self.inside.plan; extent = c.self.inside.extent; given = c.self.inside.given + 1; table = c.arrive.new.table } in o) c.arrive.new.pool) c.self.view_is
-    (subst (λ (t : TableValue). TookRow e c.args.pool.now r (let o : ExecutorValue = record { query = c.self.inside.query; plan = c.self.inside.plan; extent = c.self.inside.extent; given = c.self.inside.given + 1; table = t } in o) c.arrive.new.pool) (sym table) (history e c.self.invariant.0 c.args.pool.now ready r c.len-ascends.ensures.ascends c.arrive.new.pool c.arrive.ensures.pool))
+    (subst (λ (t : TableValue). TookRow e c.args.pool.now r (let o : ExecutorValue = record { query = c.self.inside.query; plan = c.self.inside.plan; extent = c.self.inside.extent; given = c.self.inside.given + 1; table = t } in o) c.arrive.new.pool) (sym table) (history e c.self.invariant.0 c.args.pool.now ready r c.self.invariant.0.ascends c.arrive.new.pool c.arrive.ensures.pool))
 
 pub returns-clause-none : goal.returns-clause-none
 returns-clause-none g c = λ refused.
     quiet-later c.distinct.result c.self.inside.query.distinct c.self.inside.table c.clear.new.table c.arrive.new.table _ (c.arrive.ensures.none refused) c.clear.ensures c.arrive.ensures.table
+
+pub returns-clause-within : goal.returns-clause-within
+returns-clause-within g c =
+    let e : ExecutorValue = record { query = c.self.inside.query; plan = c.self.inside.plan; extent = c.self.inside.extent; given = c.self.inside.given; table = c.self.inside.table } in
+    let ready : IsReady e c.args.pool.now = subst (λ (x : ExecutorValue). IsReady x c.args.pool.now) (sym c.self.view_is) c.requires.ready in
+    let r = arrival c.args.stream c.args.row.now.items in
+    let table = table_later e c.self.invariant.0 c.args.pool.now ready r c.self.invariant.0.ascends c.distinct.result c.distinct.ensures c.clear.new.table c.arrive.new.table c.clear.ensures c.arrive.ensures.table in
+    subst (λ (x : ExecutorValue). KeepsWithin x c.args.pool.now → KeepsWithin (let o : ExecutorValue = record { query = c.self.inside.query; plan = c.self.inside.plan; extent = c.self.inside.extent; given = c.self.inside.given + 1; table = c.arrive.new.table } in o) c.arrive.new.pool) c.self.view_is
+    (λ w. subst (λ (t : TableValue). KeepsWithin (let o : ExecutorValue = record { query = c.self.inside.query; plan = c.self.inside.plan; extent = c.self.inside.extent; given = c.self.inside.given + 1; table = t } in o) c.arrive.new.pool) (sym table)
+    (within e c.self.invariant.0 c.args.pool.now ready r c.self.invariant.0.ascends c.arrive.new.pool c.arrive.ensures.pool w))

@@ -33,13 +33,13 @@ first_beside-requires-clause-pages g c i h =
     rw (c.deref.ensures.value, c.deref-then-to-from-gt1.ensures.value, c.from-slot.ensures)
     (subst (λ (n : ℕ). HasPage c.self.inside.cells.items c.self.inside.places.items c.args.extent.now.slot n) (one_apart c.args.line.first c.args.line.stride i c.if-line-eq1.true) seen.page)
 
-pub returns-then-to-from-gt1 : goal.returns-then-to-from-gt1
-returns-then-to-from-gt1 g c =
+pub returns-then-to-from-gt1-clause-reads : goal.returns-then-to-from-gt1-clause-reads
+returns-then-to-from-gt1-clause-reads g c =
     let live = rw (← c.self.view_is) at c.requires.live in
     let at : ℕ → Cell = λ n. cell_at c.self.inside.cells.items c.self.inside.places.items c.args.extent.now.slot n in
-    let found = rw (c.deref.ensures.value, c.deref-then-to-from-gt1.ensures.value, c.from-slot.ensures) at c.first_beside.ensures in
+    let found = rw (c.deref.ensures.value, c.deref-then-to-from-gt1.ensures.value, c.from-slot.ensures) at c.first_beside.ensures.reads in
     rw (← c.self.view_is)
-    (scanned_same (λ i. at (c.args.line.first + i)) _ c.args.from c.args.to c.args.steps.now c.first_beside.result c.first_beside.new.steps
+    (scanned_same (λ i. at (c.args.line.first + i)) _ c.args.from c.args.to c.args.steps.now.reads c.first_beside.result c.first_beside.new.steps.reads
     (λ i h. ap at (sym (one_apart c.args.line.first c.args.line.stride i c.if-line-eq1.true)) ∙ (is_seen c.self.inside.cells.items c.self.inside.places.items c.self.inside.slots.items c.self.inside.free c.self.inside.pages c.args.extent.now (c.args.line.first + i * c.args.line.stride) c.self.invariant live (c.requires.within i h)).cell)
     found)
 
@@ -54,12 +54,12 @@ first_along-requires-clause-pages g c i h =
     let seen = is_seen c.self.inside.cells.items c.self.inside.places.items c.self.inside.slots.items c.self.inside.free c.self.inside.pages c.args.extent.now (c.args.line.first + i * c.args.line.stride) c.self.invariant live (c.requires.within i h) in
     rw (c.deref-2.ensures.value, c.deref-3.ensures.value, c.from-slot.ensures) seen.page
 
-pub returns : goal.returns
-returns g c =
+pub returns-clause-reads : goal.returns-clause-reads
+returns-clause-reads g c =
     let live = rw (← c.self.view_is) at c.requires.live in
     let at : ℕ → Cell = λ n. cell_at c.self.inside.cells.items c.self.inside.places.items c.args.extent.now.slot n in
-    let found = rw (c.deref-2.ensures.value, c.deref-3.ensures.value, c.from-slot.ensures) at c.first_along.ensures in
+    let found = rw (c.deref-2.ensures.value, c.deref-3.ensures.value, c.from-slot.ensures) at c.first_along.ensures.reads in
     rw (← c.self.view_is)
-    (scanned_same (λ i. at (c.args.line.first + i * c.args.line.stride)) _ c.args.from c.args.to c.args.steps.now c.first_along.result c.first_along.new.steps
+    (scanned_same (λ i. at (c.args.line.first + i * c.args.line.stride)) _ c.args.from c.args.to c.args.steps.now.reads c.first_along.result c.first_along.new.steps.reads
     (λ i h. (is_seen c.self.inside.cells.items c.self.inside.places.items c.self.inside.slots.items c.self.inside.free c.self.inside.pages c.args.extent.now (c.args.line.first + i * c.args.line.stride) c.self.invariant live (c.requires.within i h)).cell)
     found)
