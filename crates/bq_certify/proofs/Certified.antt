@@ -1,10 +1,12 @@
 -- What certifying a script comes to.
 use Rattle.std.proofs.Common.{◌≡◌, ℕ, ◌+◌, None, Some, List, [], ◌∷◌, ◌++◌, length, refl, sym, ap, ◌∙◌, subst, append_assoc, append-nil, length-append, arith, Err}
+use Rattle.std.specs.Prelude.{⊤}
 use Rattle.std.proofs.lemmas.List.Elements.{All-from_recursion}
 use Rattle.bq_io.specs.Source.{SourceState}
 use Rattle.bq_model.specs.Query.{QueryValue}
 use Rattle.bq_text.specs.Lines.{lines}
 use Rattle.bq_feed.specs.Reading.{Reading}
+use Rattle.bq_feed.specs.Texts.{ended_part}
 use Rattle.bq_feed.proofs.GivenEnds.{front-lines, took-lines, took-all}
 use Rattle.bq_schema.specs.Streams.{Shape}
 use Rattle.bq_parser.specs.declared.tree.SelectAst.{SelectAst}
@@ -22,13 +24,14 @@ use Rattle.bq_script.specs.declared.end.ScriptEnd.TheVariants.{Refused, ReadFaul
 use Rattle.bq_script.specs.declared.script.Script.{Script}
 use Rattle.bq_script.specs.Script.{Asks, IsBlank, IsMisplaced}
 use Rattle.bq_script.specs.Texts.{script_text}
-use Rattle.bq_script.specs.Ends.{GaveScript, GaveLine, GaveAll, ReadsBlank}
+use Rattle.bq_script.specs.Ends.{GaveScript, GaveLine, GaveAll, GaveLast, IsFull, ReadsBlank}
 use Rattle.bq_io.specs.declared.status.Status.TheVariants as status
-use Rattle.bq_certify.specs.Commands.{Outcome, ComesTo}
-use Rattle.bq_certify.specs.Certifying.{Certifies, refusal}
+use Rattle.bq_certify.specs.Commands.{Outcome, ComesTo, TookUnsettled}
+use Rattle.bq_certify.specs.Certifying.{Certifies, refusal, certified}
 use Rattle.bq_certify.specs.Certifying as certifying
 use Rattle.bq_certify.specs.Ending.{StopsAt}
 use Rattle.bq_certify.specs.Certified.{MakesFor, ends_with}
+use Rattle.bq_certify.proofs.OneCertified.{certifies-alike}
 
 no-more : (xs : List (List ℕ)) → length xs ≡ 0 → xs ≡ []
 no-more [] e = refl
@@ -60,7 +63,7 @@ comes-large script source now reader g large =
     let all : lines g.front ≡ g.given ++ [] = front-lines source now reader g.front g.given g.lines ∙ sym (append-nil g.given) in
     record {
       text = g.front;
-      took = took-lines source now reader g.front g.given g.lines;
+      took = took-lines source now reader g.front g.given (omega (arith, g.last, g.asks.number_is)) g.lines;
       comes = certifying.large script.catalog g.name g.select script.query script.line
           (asks-then g.given [] (lines g.front) script.catalog g.name g.select script.query script.line g.asks none all) large refl;
       needed = omega (arith, ap length (front-lines source now reader g.front g.given g.lines), g.last);
@@ -76,7 +79,7 @@ comes-misplaced script source now now' old new number word g small t =
     let place : number ≡ script.line + length t.blanks + 1 = omega (arith, t.holds.0, g.last, length-append g.given t.blanks) in
     record {
       text = t.front;
-      took = took-lines source now' new t.front (g.given ++ more) t.lines;
+      took = took-lines source now' new t.front (g.given ++ more) (omega (arith, g.last, g.asks.number_is, length-append g.given more)) t.lines;
       comes = certifying.misplaced script.catalog g.name g.select script.query script.line
           (asks-then g.given more (lines t.front) script.catalog g.name g.select script.query script.line g.asks none all) small t.blanks t.line [] word refl
           (All-from_recursion IsBlank t.blanks t.blank) t.holds.1 (ap (λ n. refusal n word) place);
@@ -95,16 +98,33 @@ comes-whole script certificate source now now' old new g small are good t =
       comes = certifying.whole script.catalog g.name g.select script.query script.line
           (asks-then g.given t.blanks (lines t.text) script.catalog g.name g.select script.query script.line g.asks none t.lines.are) small
           (All-from_recursion IsBlank t.blanks t.blank) certificate are good (ap written g.states);
-      needed = t.lines.all;
+      needed = (t.lines.all, t.lines.few);
+    }
+
+-- The reader broke off behind the query. The lines that came whole settle nothing: were they all, the script would be certified.
+unsettled-behind : (script : Script) (certificate : List Line) (source now now' : SourceState) (old new : Reading) (P : List ℕ → Type 0) (g : GaveScript script source now old) → ¬ IsTooLarge script.query
+    → AreLines certificate → IsGood script.query (nodes_of certificate) → GaveLast source now' g.given new P → TookUnsettled Certifies source now' P
+unsettled-behind script certificate source now now' old new P g small are good t =
+    let none = none-behind g.given script.catalog g.name g.select script.query script.line g.asks g.last in
+    let all = lines (ended_part t.text) in
+    let whole : Certifies all (certified script.catalog g.name g.select certificate) =
+    certifying.whole script.catalog g.name g.select script.query script.line
+    (asks-then g.given t.blanks all script.catalog g.name g.select script.query script.line g.asks none t.lines.are) small
+    (All-from_recursion IsBlank t.blanks t.blank) certificate are good refl in
+    record {
+      text = t.text;
+      taken = t.lines.taken;
+      unsettled = λ o is. certifies-alike all o (certified script.catalog g.name g.select certificate) is whole refl;
+      holds = t.holds;
     }
 
 -- reading the lines behind the query stops
-pub stops-behind : (script : Script) (end : ScriptEnd) (source now now' : SourceState) (old new : Reading) (g : GaveScript script source now old) → ¬ IsTooLarge script.query
-    → ReadsBlank (Err end) source now' g.given new → StopsAt Certifies end source now'
-stops-behind script (Refused number word) source now now' old new g small t = record { needs = Some number; comes = comes-misplaced script source now now' old new number word g small t }
-stops-behind script ReadFault source now now' old new g small t = t.0
-stops-behind script ByteLimit source now now' old new g small t = record { text = t.text; taken = t.lines.taken; full = t.holds }
-stops-behind script Memory source now now' old new g small t = absurd t
+pub stops-behind : (script : Script) (certificate : List Line) (end : ScriptEnd) (source now now' : SourceState) (old new : Reading) (g : GaveScript script source now old) → ¬ IsTooLarge script.query
+    → AreLines certificate → IsGood script.query (nodes_of certificate) → ReadsBlank (Err end) source now' g.given new → StopsAt Certifies end source now'
+stops-behind script certificate (Refused number word) source now now' old new g small are good t = record { needs = Some number; comes = comes-misplaced script source now now' old new number word g small t }
+stops-behind script certificate ReadFault source now now' old new g small are good t = (t.0, unsettled-behind script certificate source now now' old new (λ text. ⊤) g small are good t.1)
+stops-behind script certificate ByteLimit source now now' old new g small are good t = unsettled-behind script certificate source now now' old new IsFull g small are good t
+stops-behind script certificate Memory source now now' old new g small are good t = absurd t
 
 -- no certificate was made
 pub stops-unmade : (script : Script) (end : ScriptEnd) (source now : SourceState) (reader : Reading) → GaveScript script source now reader → MakesFor (Err end) script → StopsAt Certifies end source now

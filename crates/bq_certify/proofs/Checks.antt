@@ -1,7 +1,9 @@
 -- What a script with a certificate comes to.
-use Rattle.std.proofs.Common.{◌≡◌, ℕ, suc, ◌+◌, List, [], ◌∷◌, ◌++◌, length, None, Some, refl, sym, ap, ◌∙◌, subst, append_assoc, length-append, arith, Ok, Err}
+use Rattle.std.proofs.Common.{◌≡◌, ℕ, suc, ◌+◌, List, [], ◌∷◌, ◌++◌, length, Some, refl, sym, ap, ◌∙◌, subst, append_assoc, length-append, arith, Ok, Err}
+use Rattle.std.specs.Prelude.{⊤}
 use Rattle.bq_io.specs.Source.{SourceState}
 use Rattle.bq_feed.specs.Reading.{Reading}
+use Rattle.bq_feed.specs.Texts.{ended_part}
 use Rattle.bq_feed.proofs.GivenEnds.{took-all}
 use Rattle.bq_text.specs.Lines.{lines}
 use Rattle.bq_model.specs.Query.{QueryValue}
@@ -10,21 +12,21 @@ use Rattle.bq_parser.specs.declared.tree.SelectAst.{SelectAst}
 use Rattle.bq_session.specs.declared.word.Word.{Word}
 use Rattle.bq_certificate.specs.declared.line.Line.{Line}
 use Rattle.bq_certificate.specs.declared.answer.CheckAnswer.{CheckAnswer}
-use Rattle.bq_certificate.specs.declared.answer.CheckAnswer.TheVariants.{Yes, No}
 use Rattle.bq_certificate.specs.Nodes.{nodes_of}
 use Rattle.bq_certificate.specs.Reading.{IsCheckAnswer}
 use Rattle.bq_script.specs.declared.end.ScriptEnd.{ScriptEnd}
 use Rattle.bq_script.specs.declared.end.ScriptEnd.TheVariants.{Refused, ReadFault, ByteLimit, Memory}
 use Rattle.bq_script.specs.declared.script.Script.{Script}
 use Rattle.bq_script.specs.Script.{Asks}
-use Rattle.bq_script.specs.Ends.{IsRefused, EndsEarly, GaveScript}
+use Rattle.bq_script.specs.Ends.{IsRefused, EndsEarly, GaveScript, GaveStreams, IsFull}
 use Rattle.bq_certify.specs.declared.checking.Checked.{Checked}
-use Rattle.bq_certify.specs.Commands.{AreNeeded}
+use Rattle.bq_certify.specs.Commands.{AreNeeded, TookUnsettled}
 use Rattle.bq_certify.specs.Certifying.{refusal, lines_for}
-use Rattle.bq_certify.proofs.Endings.{early-needed}
+use Rattle.bq_certify.proofs.Endings.{early-needed, unsettled-streams}
+use Rattle.bq_certify.proofs.OneChecked.{answered-needs, checks-alike, collected-unsettled}
 use Rattle.bq_certify.specs.Checking as checking
-use Rattle.bq_certify.specs.Checking.{answered}
-use Rattle.bq_certify.specs.Collecting.{HasGiven, GaveRefused, Refuses, ReadsCertificate, name_of, ReadsAnswer}
+use Rattle.bq_certify.specs.Checking.{answered, Checks}
+use Rattle.bq_certify.specs.Collecting.{HasGiven, GaveLines, GaveRefused, Refuses, ReadsCertificate, name_of, ReadsAnswer}
 
 -- nothing stands behind the last line
 pub none-behind : (before : List (List ℕ)) (line : List ℕ) (behind : List (List ℕ)) (n : ℕ) → n ≡ suc (length before) → n ≡ length (before ++ line ∷ behind) → behind ≡ []
@@ -57,11 +59,15 @@ early source now number word r = record {
   };
 }
 
+-- the reader broke off before the query
+unsettled : (source now : SourceState) (reader : Reading) (P : List ℕ → Type 0) → GaveStreams source now reader P → TookUnsettled Checks source now P
+unsettled source now reader P r = unsettled-streams Checks (λ all number word is. checking.early number word is refl) checks-alike source now reader P r
+
 -- the script is not taken
 pub ends-early : (source now : SourceState) (reader : Reading) (end : ScriptEnd) → EndsEarly end source now reader → ReadsAnswer (Err end) source now
 ends-early source now reader (Refused number word) r = early source now number word r
-ends-early source now reader ReadFault r = r.0
-ends-early source now reader ByteLimit r = record { text = r.text; taken = r.lines.taken; full = r.holds }
+ends-early source now reader ReadFault r = (r.0, unsettled source now reader (λ text. ⊤) r.1)
+ends-early source now reader ByteLimit r = unsettled source now reader IsFull r
 ends-early source now reader Memory r = tt
 
 -- lines were given up to the query
@@ -89,17 +95,24 @@ later script source now now' reader number word g r =
       };
     }
 
+-- the reader broke off behind the query
+unsettled-behind : (script : Script) (source now now' : SourceState) (reader : Reading) (P : List ℕ → Type 0) → (g : GaveScript script source now reader) → GaveLines source now' g.given P → TookUnsettled Checks source now' P
+unsettled-behind script source now now' reader P g r =
+    let all = lines (ended_part r.text) in
+    record {
+      text = r.text;
+      taken = r.taken;
+      unsettled = collected-unsettled all script.catalog g.name g.select script.query script.line
+          (asks-all g.given r.behind all script.catalog g.name g.select script.query script.line g.asks g.last r.are) r.certificate r.collect;
+      holds = r.holds;
+    }
+
 -- the certificate is not read to its end
 pub ends-behind : (script : Script) (source now now' : SourceState) (reader : Reading) (end : ScriptEnd) → (g : GaveScript script source now reader) → ReadsCertificate (Err end) source now' g.given → ReadsAnswer (Err end) source now'
 ends-behind script source now now' reader (Refused number word) g r = later script source now now' reader number word g r
-ends-behind script source now now' reader ReadFault g r = r
-ends-behind script source now now' reader ByteLimit g r = r
+ends-behind script source now now' reader ReadFault g r = (r.0, unsettled-behind script source now now' reader (λ text. ⊤) g r.1)
+ends-behind script source now now' reader ByteLimit g r = unsettled-behind script source now now' reader IsFull g r
 ends-behind script source now now' reader Memory g r = tt
-
--- the answer to a certificate needs all lines
-pub answered-needs : (streams : List Shape) (name : List ℕ) (q : QueryValue) (answer : CheckAnswer) → (answered streams name q answer).needs ≡ None
-answered-needs streams name q (Yes decision parts) = refl
-answered-needs streams name q (No place why) = refl
 
 -- the certificate is checked
 pub ends-whole : (script : Script) (source now now' : SourceState) (reader : Reading) (certificate : List Line) (answer : CheckAnswer) (checked : Checked) → (g : GaveScript script source now reader)
@@ -112,7 +125,7 @@ ends-whole script source now now' reader certificate answer checked g c is e =
         comes = checking.whole script.catalog g.name g.select script.query script.line
             (asks-all g.given c.behind (lines c.text) script.catalog g.name g.select script.query script.line g.asks g.last c.are)
             certificate answer c.collect is (ap (λ n. answered script.catalog n script.query answer) (ap name_of g.states));
-        needed = subst (λ n. AreNeeded n source now' c.text) (sym (answered-needs script.catalog (name_of script.statement) script.query answer)) c.all;
+        needed = subst (λ n. AreNeeded n source now' c.text) (sym (answered-needs script.catalog (name_of script.statement) script.query answer)) (c.all, c.few);
       },
       record { nodes = nodes_of certificate; is = is; named = g.named },
     )

@@ -1,8 +1,8 @@
 -- How far a certificate was read, and how it ends.
 use Rattle.std.proofs.Common.{◌≡◌, ℕ, ◌^◌, ◌<◌, List, [], ◌∷◌, ◌++◌, refl, sym, ap, ◌∙◌, subst, append_assoc, append-nil, length-append, arith, Ok, Err}
+use Rattle.std.specs.Prelude.{⊤}
 use Rattle.std.specs.List.{AllByRecursion}
 use Rattle.bq_io.specs.Source.{SourceState}
-use Rattle.bq_text.specs.Lines.{lines}
 use Rattle.bq_feed.specs.Reading.{Reading}
 use Rattle.bq_feed.specs.GivenLines.{GivenLines}
 use Rattle.bq_feed.proofs.GivenEnds.{front-lines, took-lines}
@@ -15,13 +15,13 @@ use Rattle.bq_certificate.specs.declared.error.CertError.TheVariants as why
 use Rattle.bq_certificate.specs.Text.{IsLine}
 use Rattle.bq_certificate.specs.Certificate.{Adds, IsNoNextText}
 use Rattle.bq_script.specs.declared.end.ScriptEnd.{ScriptEnd}
-use Rattle.bq_script.specs.declared.end.ScriptEnd.TheVariants.{Refused, ByteLimit}
+use Rattle.bq_script.specs.declared.end.ScriptEnd.TheVariants.{Refused, ReadFault, ByteLimit}
 use Rattle.bq_script.specs.declared.texts.TextAnswer.TheVariants as answers
 use Rattle.bq_script.specs.Script.{IsBlank}
-use Rattle.bq_script.specs.Ends.{GaveLine, GivesText}
+use Rattle.bq_script.specs.Ends.{GaveLast, GaveLine, GivesText, IsFull}
 use Rattle.bq_certify.specs.Checking as checking
 use Rattle.bq_certify.specs.Checking.{Collect, IsRefusedLine}
-use Rattle.bq_certify.specs.Collecting.{end_at, GaveRefused, ReadsCertificate}
+use Rattle.bq_certify.specs.Collecting.{end_at, GaveLines, GaveRefused, ReadsCertificate}
 
 -- lines behind lines
 collect-behind : {old between new : List Line} {texts others : List (List ℕ)} → Collect old texts between → Collect between others new → Collect old (texts ++ others) new
@@ -81,7 +81,8 @@ refused-line : (source now now' : SourceState) (old new : Reading) (given : List
     → (t : GaveLine source now' (given ++ c.behind) new P) → IsRefusedLine certificate t.line word → GaveRefused source now' given new.lines word
 refused-line source now now' old new given certificate word P c t refused = record {
   text = t.front;
-  took = took-lines source now' new t.front ((given ++ c.behind) ++ (t.blanks ++ t.line ∷ [])) t.lines;
+  took = took-lines source now' new t.front ((given ++ c.behind) ++ (t.blanks ++ t.line ∷ []))
+      (omega (arith, length-append (given ++ c.behind) (t.blanks ++ t.line ∷ []), length-append t.blanks (t.line ∷ []))) t.lines;
   before = c.behind ++ t.blanks;
   line = t.line;
   are = front-lines source now' new t.front ((given ++ c.behind) ++ (t.blanks ++ t.line ∷ [])) t.lines
@@ -134,11 +135,30 @@ ends-whole source now now' old new given certificate c t = record {
   text = t.text;
   behind = c.behind ++ t.blanks;
   all = t.lines.all;
+  few = t.lines.few;
   are = t.lines.are ∙ append_assoc given c.behind t.blanks;
   collect = collect-then-blank certificate c.behind t.blanks c.collect t.blank;
 }
 
+-- the reader broke off
+breaks-off : (source now now' : SourceState) (old new : Reading) (given : List (List ℕ)) (certificate : List Line) (P : List ℕ → Type 0) → (c : Collected source now given old certificate)
+    → GaveLast source now' (given ++ c.behind) new P → GaveLines source now' given P
+breaks-off source now now' old new given certificate P c t = record {
+  text = t.text;
+  taken = t.lines.taken;
+  behind = c.behind ++ t.blanks;
+  are = t.lines.are ∙ append_assoc given c.behind t.blanks;
+  certificate = certificate;
+  collect = collect-then-blank certificate c.behind t.blanks c.collect t.blank;
+  holds = t.holds;
+}
+
+-- the source failed
+pub ends-fault : (source now now' : SourceState) (old new : Reading) (given : List (List ℕ)) (certificate : List Line) → (c : Collected source now given old certificate)
+    → GivesText answers.ReadFault source now' (given ++ c.behind) new → ReadsCertificate (Err ReadFault) source now' given
+ends-fault source now now' old new given certificate c t = (t.0, breaks-off source now now' old new given certificate (λ text. ⊤) c t.1)
+
 -- as many bytes were taken as can be counted
 pub ends-limit : (source now now' : SourceState) (old new : Reading) (given : List (List ℕ)) (certificate : List Line) → (c : Collected source now given old certificate)
     → GivesText answers.ByteLimit source now' (given ++ c.behind) new → ReadsCertificate (Err ByteLimit) source now' given
-ends-limit source now now' old new given certificate c t = record { text = t.text; taken = t.lines.taken; full = t.holds }
+ends-limit source now now' old new given certificate c t = breaks-off source now now' old new given certificate IsFull c t

@@ -11,7 +11,7 @@ use Rattle.bq_certify.specs.Certifying.{Certifies, early_refusal}
 use Rattle.bq_certify.specs.Checking as checking
 use Rattle.bq_certify.specs.Checking.{Checks, answered}
 use Rattle.bq_certify.specs.Laws.{StaysWhenMoreFollows}
-use Rattle.bq_certify.proofs.Checks.{answered-needs}
+use Rattle.bq_certify.proofs.OneChecked.{answered-needs}
 
 -- more lines behind one
 more-behind : (all before : List (List ℕ)) (line : List ℕ) (behind more : List (List ℕ)) → all ≡ before ++ line ∷ behind → all ++ more ≡ before ++ line ∷ (behind ++ more)

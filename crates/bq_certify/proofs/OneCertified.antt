@@ -1,5 +1,5 @@
 -- The lines determine what `certify` comes to, but for the certificate.
-use Rattle.std.proofs.Common.{◌≡◌, ℕ, suc, List, [], ◌∷◌, ◌++◌, length, refl, sym, ap, ap₂, ◌∙◌, subst, arith}
+use Rattle.std.proofs.Common.{◌≡◌, ℕ, suc, None, List, [], ◌∷◌, ◌++◌, length, refl, sym, ap, ap₂, ◌∙◌, subst, arith}
 use Rattle.std.specs.List.{All, AllByRecursion}
 use Rattle.std.proofs.lemmas.List.Elements.{recursion_from_All}
 use Rattle.bq_schema.specs.Streams.{Shape}
@@ -88,3 +88,11 @@ alike all o p (certifying.whole streams name select q m asks small blank c are g
 alike all o p (certifying.whole streams name select q m asks small blank c are good e) (certifying.whole shapes title choice r n also little bare d lines fine f) =
     let i = (one_end all).0 streams shapes name title select choice q r m n asks also in
     both shapes title choice c d (e ∙ certified-same streams shapes name title select choice c i.0 i.1 i.2) f
+
+-- where one outcome needs all lines, each does
+needs-alike : (o p : Outcome) → AreAlike o p → p.needs ≡ None → o.needs ≡ None
+needs-alike o p (same e) none = ap (λ (x : Outcome). x.needs) e ∙ none
+needs-alike o p (both streams name select c d e f) none = ap (λ (x : Outcome). x.needs) e
+
+pub certifies-alike : (all : List (List ℕ)) (o p : Outcome) → Certifies all o → Certifies all p → p.needs ≡ None → o.needs ≡ None
+certifies-alike all o p a b none = needs-alike o p (alike all o p a b) none

@@ -1,17 +1,21 @@
 -- The lines determine what `check` comes to.
-use Rattle.std.proofs.Common.{◌≡◌, ℕ, List, [], sym, ap, ap₂, ◌∙◌, subst, arith}
+use Rattle.std.proofs.Common.{◌≡◌, ℕ, None, List, [], refl, sym, ap, ap₂, ◌∙◌, subst, arith}
 use Rattle.bq_model.specs.Query.{QueryValue}
 use Rattle.bq_schema.specs.Streams.{Shape}
+use Rattle.bq_parser.specs.declared.tree.SelectAst.{SelectAst}
 use Rattle.bq_session.specs.declared.word.Word.{Word}
 use Rattle.bq_certificate.specs.declared.line.Line.{Line}
 use Rattle.bq_certificate.specs.declared.answer.CheckAnswer.{CheckAnswer}
+use Rattle.bq_certificate.specs.declared.answer.CheckAnswer.TheVariants.{Yes, No}
 use Rattle.bq_certificate.specs.Nodes.{nodes_of}
 use Rattle.bq_certificate.specs.Reading.{IsCheckAnswer}
 use Rattle.bq_certificate.proofs.OneAnswer as answers
+use Rattle.bq_script.specs.Script.{Asks}
 use Rattle.bq_script.proofs.OneEnd.{one_end}
+use Rattle.bq_certify.specs.Commands.{Outcome, SettleNothing}
 use Rattle.bq_certify.specs.Certifying.{refusal}
 use Rattle.bq_certify.specs.Checking as checking
-use Rattle.bq_certify.specs.Checking.{Collect, answered}
+use Rattle.bq_certify.specs.Checking.{Collect, answered, Checks}
 use Rattle.bq_certify.specs.Laws.{HasOneAnswer}
 use Rattle.bq_certify.proofs.OneRefusal.{behind-same, early-same}
 use Rattle.bq_certify.proofs.OneFinding.{one-refused, one-collected, collected-stays}
@@ -46,3 +50,23 @@ one-checked all o p (checking.whole streams name select q m asks c answer collec
     let behind : asks.behind ≡ also.behind = behind-same all streams shapes name title select choice q r m n asks also same.4 in
     let lines : c ≡ d = one-collected also.behind c d (subst (λ l. Collect [] l c) behind collect) gather in
     e ∙ answer-same streams shapes name title q r c d answer other same.0 same.1 same.3 lines is it ∙ sym f
+
+-- where one outcome needs all lines, each does
+pub checks-alike : (all : List (List ℕ)) (o p : Outcome) → Checks all o → Checks all p → p.needs ≡ None → o.needs ≡ None
+checks-alike all o p a b none = ap (λ (x : Outcome). x.needs) (one-checked all o p a b) ∙ none
+
+-- the answer to a certificate needs all lines
+pub answered-needs : (streams : List Shape) (name : List ℕ) (q : QueryValue) (answer : CheckAnswer) → (answered streams name q answer).needs ≡ None
+answered-needs streams name q (Yes decision parts) = refl
+answered-needs streams name q (No place why) = refl
+
+-- lines of a certificate behind a query settle nothing
+pub collected-unsettled : (all : List (List ℕ)) (streams : List Shape) (name : List ℕ) (select : SelectAst) (q : QueryValue) (number : ℕ) (asks : Asks all streams name select q number) (certificate : List Line)
+    → Collect [] asks.behind certificate → SettleNothing Checks all
+collected-unsettled all streams name select q n asks c collect o (checking.early m v a e) = absurd ((one_end all).2 streams name select q n m v asks a)
+collected-unsettled all streams name select q m asks c collect o (checking.later shapes title choice r n also front line more d w it gather denied f) =
+    let same = (one_end all).0 streams shapes name title select choice q r m n asks also in
+    let behind : asks.behind ≡ also.behind = behind-same all streams shapes name title select choice q r m n asks also same.4 in
+    absurd (collected-stays asks.behind front line more d c w (behind ∙ it) gather denied collect)
+collected-unsettled all streams name select q m asks c collect o (checking.whole shapes title choice r n also d answer gather it f) =
+    ap (λ (x : Outcome). x.needs) f ∙ answered-needs shapes title r answer

@@ -1,12 +1,14 @@
 -- How reading a certificate behind a query ends, and what a check finds.
-use Rattle.std.specs.Prelude.{◌≡◌, ℕ, ◌+◌, ⊤, Option, List, [], ◌∷◌, ◌++◌, length}
+use Rattle.std.specs.Prelude.{◌≡◌, ℕ, ◌+◌, ◌-◌, ◌^◌, ◌<◌, ⊤, Option, List, [], ◌∷◌, ◌++◌, length}
 use Rattle.std.specs.declared.result.Result.{Result}
 use Rattle.std.specs.declared.result.Result.TheVariants.{Ok, Err}
+use Rattle.std.specs.Io.KnownBytes.{Consumes}
 use Rattle.bq_io.specs.Counts.{Rose}
 use Rattle.bq_io.specs.declared.status.Status.TheVariants as status
 use Rattle.bq_io.specs.Source.{SourceState}
 use Rattle.bq_text.specs.Lines.{lines}
 use Rattle.bq_feed.specs.Reading.{Reading, TakesAll}
+use Rattle.bq_feed.specs.Texts.{ended_part}
 use Rattle.bq_feed.specs.GivenLines.{GivenLines, TookLines}
 use Rattle.bq_parser.specs.declared.tree.Statement.{Statement}
 use Rattle.bq_parser.specs.declared.tree.Statement.TheVariants as statements
@@ -20,8 +22,9 @@ use Rattle.bq_certificate.specs.Nodes.{Node}
 use Rattle.bq_certificate.specs.Reading.{IsCheckAnswer}
 use Rattle.bq_script.specs.declared.end.ScriptEnd.{ScriptEnd}
 use Rattle.bq_script.specs.declared.end.ScriptEnd.TheVariants.{Refused, ReadFault, ByteLimit, Memory}
+use Rattle.bq_script.specs.Ends.{IsFull}
 use Rattle.bq_certify.specs.declared.checking.Checked.{Checked}
-use Rattle.bq_certify.specs.Commands.{Outcome, ComesTo, TakesMost, error_text}
+use Rattle.bq_certify.specs.Commands.{Outcome, ComesTo, TookUnsettled, error_text}
 use Rattle.bq_certify.specs.Checking.{Collect, IsRefusedLine, answered, Checks}
 
 -- the name in a statement
@@ -44,11 +47,12 @@ end_at number why.Syntax = Refused number words.Syntax
 end_at number why.Limit = Refused number words.Limit
 end_at number why.Memory = Memory
 
--- Behind the lines that were given, those of a certificate were given up to the end of the source.
+-- Behind the lines that were given, those of a certificate were given up to the end of the source, whose bytes can be counted.
 pub record GaveCertificate (source now : SourceState) (given : List (List ℕ)) (certificate : List Line) : Type 0 where
   pub text : List ℕ
   pub behind : List (List ℕ)
   pub all : TakesAll source now text
+  pub few : length text < 2 ^ 64 - 1
   pub are : lines text ≡ given ++ behind
   pub collect : Collect [] behind certificate
 
@@ -64,12 +68,23 @@ pub record GaveRefused (source now : SourceState) (given : List (List ℕ)) (num
   pub refused : IsRefusedLine certificate line word
   pub number_is : number ≡ length given + length before + 1
 
+-- Behind the lines that were given, those of a certificate were given, and then the reader broke off; this holds of all bytes that were
+-- taken.
+pub record GaveLines (source now : SourceState) (given : List (List ℕ)) (P : List ℕ → Type 0) : Type 0 where
+  pub text : List ℕ
+  pub taken : Consumes source.left now.left text
+  pub behind : List (List ℕ)
+  pub are : lines (ended_part text) ≡ given ++ behind
+  pub certificate : List Line
+  pub collect : Collect [] behind certificate
+  pub holds : P text
+
 -- how reading a certificate ends, behind the lines that were given
 abbrev pub ReadsCertificate : Result (List Line) ScriptEnd → SourceState → SourceState → List (List ℕ) → Type 0
 ReadsCertificate (Ok certificate) source now given = GaveCertificate source now given certificate
 ReadsCertificate (Err (Refused number word)) source now given = GaveRefused source now given number word
-ReadsCertificate (Err ReadFault) source now given = Rose source.faults now.faults
-ReadsCertificate (Err ByteLimit) source now given = TakesMost source now
+ReadsCertificate (Err ReadFault) source now given = Rose source.faults now.faults × GaveLines source now given (λ text. ⊤)
+ReadsCertificate (Err ByteLimit) source now given = GaveLines source now given IsFull
 ReadsCertificate (Err Memory) source now given = ⊤
 
 -- The check of a script comes to a refusal of this line, which is known once all lines were read or before.
@@ -91,6 +106,6 @@ pub record IsSound (checked : Checked) : Type 0 where
 abbrev pub ReadsAnswer : Result Checked ScriptEnd → SourceState → SourceState → Type 0
 ReadsAnswer (Ok checked) source now = ComesTo Checks source now (outcome_of checked) × IsSound checked
 ReadsAnswer (Err (Refused number word)) source now = Refuses source now number word
-ReadsAnswer (Err ReadFault) source now = Rose source.faults now.faults
-ReadsAnswer (Err ByteLimit) source now = TakesMost source now
+ReadsAnswer (Err ReadFault) source now = Rose source.faults now.faults × TookUnsettled Checks source now (λ text. ⊤)
+ReadsAnswer (Err ByteLimit) source now = TookUnsettled Checks source now IsFull
 ReadsAnswer (Err Memory) source now = ⊤

@@ -1,5 +1,5 @@
 -- How the commands on certificates end: what was read and written under each status.
-use Rattle.std.specs.Prelude.{◌≡◌, ℕ, ◌-◌, ◌^◌, Option, None, Some, List, [], ◌∷◌, ◌++◌, length, codes, decimal}
+use Rattle.std.specs.Prelude.{◌≡◌, ℕ, ◌-◌, ◌^◌, ◌<◌, ⊤, Option, None, Some, List, [], ◌∷◌, ◌++◌, length, codes, decimal}
 use Rattle.std.specs.Io.KnownBytes.{Consumes, Appends, Keeps}
 use Rattle.bq_io.specs.Counts.{Rose}
 use Rattle.bq_io.specs.declared.status.Status.{Status}
@@ -8,7 +8,9 @@ use Rattle.bq_io.specs.Source.{SourceState}
 use Rattle.bq_io.specs.Sink.{SinkState}
 use Rattle.bq_text.specs.Lines.{lines}
 use Rattle.bq_feed.specs.Reading.{TakesAll}
+use Rattle.bq_feed.specs.Texts.{ended_part}
 use Rattle.bq_feed.specs.GivenLines.{TookLines}
+use Rattle.bq_script.specs.Ends.{IsFull}
 use Rattle.bq_session.specs.Replies.{word_text}
 use Rattle.bq_session.specs.declared.word.Word.{Word}
 
@@ -23,9 +25,9 @@ pub record Outcome : Type 0 where
 abbrev pub error_text : ℕ → Word → List ℕ
 error_text number word = codes "error " ++ decimal number ++ 32 ∷ word_text word ++ 10 ∷ []
 
--- so many lines stand in the text that was taken, or it is all there is
+-- so many lines stand in the text that was taken; or it is all there is, and has fewer bytes than can be counted
 abbrev pub AreNeeded : Option ℕ → SourceState → SourceState → List ℕ → Type 0
-AreNeeded None source now text = TakesAll source now text
+AreNeeded None source now text = TakesAll source now text × (length text < 2 ^ 64 - 1)
 AreNeeded (Some n) source now text = length (lines text) ≡ n
 
 -- The lines of a text were taken, each of them whole and as many as are needed, and over them the command comes to this.
@@ -56,11 +58,16 @@ pub record BreaksOff (IsOutcome : List (List ℕ) → Outcome → Type 0) (sourc
   pub comes : ComesTo IsOutcome source now outcome
   pub broke : WroteFront before after outcome.text
 
--- as many bytes were taken as can be counted
-pub record TakesMost (source now : SourceState) : Type 0 where
+-- These lines settle nothing: what a command comes to over them, it comes to only where no more lines follow.
+abbrev pub SettleNothing : (List (List ℕ) → Outcome → Type 0) → List (List ℕ) → Type 0
+SettleNothing IsOutcome lines = (o : Outcome) → IsOutcome lines o → o.needs ≡ None
+
+-- The bytes of a text were taken, and this holds of it. The lines that ended in it settle nothing, so there was cause to read on.
+pub record TookUnsettled (IsOutcome : List (List ℕ) → Outcome → Type 0) (source now : SourceState) (P : List ℕ → Type 0) : Type 0 where
   pub text : List ℕ
   pub taken : Consumes source.left now.left text
-  pub full : length text ≡ 2 ^ 64 - 1
+  pub unsettled : SettleNothing IsOutcome (lines (ended_part text))
+  pub holds : P text
 
 -- How a command ends, by the status. Nothing is written before it is known what it comes to, so nothing is on a fault of the source,
 -- at the byte limit and for want of memory.
@@ -68,7 +75,7 @@ abbrev pub CommandEnds : (List (List ℕ) → Outcome → Type 0) → Status →
 CommandEnds IsOutcome status.Done source now before after = Finishes IsOutcome status.Done source now before after
 CommandEnds IsOutcome status.Invalid source now before after = Finishes IsOutcome status.Invalid source now before after
 CommandEnds IsOutcome status.Usage source now before after = ⊥
-CommandEnds IsOutcome status.ReadFault source now before after = Rose source.faults now.faults × Keeps before.written after.written
+CommandEnds IsOutcome status.ReadFault source now before after = Rose source.faults now.faults × TookUnsettled IsOutcome source now (λ text. ⊤) × Keeps before.written after.written
 CommandEnds IsOutcome status.WriteFault source now before after = BreaksOff IsOutcome source now before after
 CommandEnds IsOutcome status.Memory source now before after = Keeps before.written after.written
-CommandEnds IsOutcome status.ByteLimit source now before after = TakesMost source now × Keeps before.written after.written
+CommandEnds IsOutcome status.ByteLimit source now before after = TookUnsettled IsOutcome source now IsFull × Keeps before.written after.written

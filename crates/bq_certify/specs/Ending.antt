@@ -11,7 +11,8 @@ use Rattle.bq_io.specs.Sink.{SinkState}
 use Rattle.bq_session.specs.declared.word.Word.{Word}
 use Rattle.bq_script.specs.declared.end.ScriptEnd.{ScriptEnd}
 use Rattle.bq_script.specs.declared.end.ScriptEnd.TheVariants.{Refused, ReadFault, ByteLimit, Memory}
-use Rattle.bq_certify.specs.Commands.{Outcome, ComesTo, TakesMost, WroteFront, error_text}
+use Rattle.bq_script.specs.Ends.{IsFull}
+use Rattle.bq_certify.specs.Commands.{Outcome, ComesTo, TookUnsettled, WroteFront, error_text}
 
 -- it comes to a refusal of this line
 pub record Refuses (IsOutcome : List (List ℕ) → Outcome → Type 0) (number : ℕ) (word : Word) (source now : SourceState) : Type 0 where
@@ -21,8 +22,8 @@ pub record Refuses (IsOutcome : List (List ℕ) → Outcome → Type 0) (number 
 -- What was read where a command stops before it has an answer. A refusal is what it comes to.
 abbrev pub StopsAt : (List (List ℕ) → Outcome → Type 0) → ScriptEnd → SourceState → SourceState → Type 0
 StopsAt IsOutcome (Refused number word) source now = Refuses IsOutcome number word source now
-StopsAt IsOutcome ReadFault source now = Rose source.faults now.faults
-StopsAt IsOutcome ByteLimit source now = TakesMost source now
+StopsAt IsOutcome ReadFault source now = Rose source.faults now.faults × TookUnsettled IsOutcome source now (λ text. ⊤)
+StopsAt IsOutcome ByteLimit source now = TookUnsettled IsOutcome source now IsFull
 StopsAt IsOutcome Memory source now = ⊤
 
 -- A text was written, and the status is the one that goes with it; or the sink failed, and a front of the text was written.

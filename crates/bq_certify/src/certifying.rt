@@ -137,9 +137,9 @@ fn end_done<O: Sink>(certified: &Certified, output: &mut O) -> Status
 ///
 /// The script is one of CREATE STREAM lines and then one CREATE QUERY line, between blank lines and comments. The first line that is
 /// not is refused with `error L Word` and `Invalid`, as is the line of a query of more than 4,096 parts, or whose certificate has more
-/// than 262,144 nodes, with the word `Limit`. Nothing is written before it is known what the command comes to, so nothing is where the
-/// source fails, where it has more bytes than can be counted, and for want of memory. Where the sink fails, a front of the text was
-/// written.
+/// than 262,144 nodes, with the word `Limit`. The source is read no further than the read in which such a line ends, so where it fails, or
+/// has more bytes than can be counted, no line that ended before is refused. Nothing is written before it is known what the command comes
+/// to, so nothing is in these two cases and for want of memory. Where the sink fails, a front of the text was written.
 pub fn certify<I: Source, O: Sink>(alloc: Global, input: &mut I, output: &mut O) -> Status
     ensures ends { CommandEnds Certifies result (I.seen input.old) (I.seen input.new) (O.seen output.old) (O.seen output.new) }
     ensures input_later { (I.seen input.old).faults ≤ (I.seen input.new).faults }

@@ -61,8 +61,9 @@ fn tell_answer<O: Sink>(checked: &Checked, output: &mut O) -> Status
 }
 
 /// Checks the certificate that stands behind the query of a script: reads the script to its end, and then writes what the certificate
-/// says of the query, or the first node at fault, or the first line that is refused, in one line. Nothing is written where the source
-/// fails, has too many bytes, or no memory is found.
+/// says of the query, or the first node at fault, or the first line that is refused, in one line. The source is read no further than the
+/// read in which a refused line ends. Nothing is written where the source fails or has too many bytes, and no line that ended before is
+/// refused then; nor where no memory is found.
 pub fn check_script<I: Source, O: Sink>(alloc: Global, input: &mut I, output: &mut O) -> Status
     ensures ends { CommandEnds Checks result (I.seen input.old) (I.seen input.new) (O.seen output.old) (O.seen output.new) }
     ensures input_later { (I.seen input.old).faults ≤ (I.seen input.new).faults }

@@ -7,7 +7,7 @@ use Rattle.bq_model.specs.Parts.{IsPart, signs_lt}
 use Rattle.bq_model.proofs.Has.{Has-from_contains, Contains-from_has}
 use Rattle.bq_model.proofs.Unique.{signs_strict}
 use Rattle.bq_model.proofs.Split.{pairs_from}
-use Rattle.bq_refs.proofs.Pigeonhole.{AreApart, no_longer}
+use Rattle.bq_model.proofs.Pigeonhole.{AreApart, no_longer}
 use Rattle.bq_certificate.specs.declared.line.Line.{Line}
 use Rattle.bq_certificate.specs.Nodes.{nodes_of}
 use Rattle.bq_certmake.specs.Made.{IsOpen, IsTooLarge, Makes}

@@ -1,7 +1,6 @@
 -- A leaf that is added with its paths.
 use Rattle.std.specs.Prelude.{◌⊎◌, ◌≡◌, ◌≢◌, ℕ, ◌+◌, ◌*◌, ◌<◌, ◌≤◌, ℤ, true, List, [], ◌∷◌, ◌++◌, map, Result, Ok, Err}
-use Rattle.bq_model.proofs.Has.{Has}
-use Rattle.bq_model.proofs.Unique.{Ascends}
+use Rattle.bq_model.specs.Members.{Has, Ascends}
 use Rattle.bq_constraints.specs.declared.constraint.Constraint.{Constraint}
 use Rattle.bq_constraints.specs.Solutions.{IsUpper, HasNoUpper, IsChain}
 use Rattle.bq_certificate.specs.declared.line.Path.{Path}

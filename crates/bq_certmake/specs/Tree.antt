@@ -4,9 +4,8 @@ use Rattle.bq_model.specs.declared.part.Sign.{Sign}
 use Rattle.bq_model.specs.declared.part.Pair.{Pair}
 use Rattle.bq_model.specs.Query.{QueryValue, attrs_of}
 use Rattle.bq_model.specs.Parts.{pairs, signs_lt, IsPart}
-use Rattle.bq_model.proofs.Has.{Has}
-use Rattle.bq_model.proofs.Unique.{Ascends}
-use Rattle.bq_model.proofs.Split.{StartsWith}
+use Rattle.bq_model.specs.Members.{Has, Ascends}
+use Rattle.bq_model.specs.Prefixes.{StartsWith}
 use Rattle.bq_closure.specs.BoundsValue.{BoundsValue}
 use Rattle.bq_constraints.specs.PartConstraints.{of_prefix}
 use Rattle.bq_constraints.specs.Solutions.{IsWithin}
@@ -18,11 +17,11 @@ use Rattle.bq_certmake.specs.Made.{IsOpen}
 use Rattle.bq_certmake.specs.declared.error.MakeError.{MakeError}
 use Rattle.bq_certmake.specs.declared.error.MakeError.TheVariants as why
 
--- what adding a line that may stand behind the others comes to
+-- What adding a line that may stand behind the others comes to. Memory may be short only for a line for which there is room.
 abbrev pub AddsNext : Result (Unit {0}) MakeError → Line → List Line → List Line → Type 0
 AddsNext (Ok u) l old new = HasRoom old l × (new ≡ old ++ l ∷ [])
 AddsNext (Err why.Limit) l old new = IsTooMany old l
-AddsNext (Err why.Memory) l old new = Unit {0}
+AddsNext (Err why.Memory) l old new = HasRoom old l
 
 -- a node of the tree: the bounds are those of the comparisons and of its signs
 pub record IsNode (q : QueryValue) (ps : List Pair) (signs : List Sign) (b : BoundsValue) : Type 0 where

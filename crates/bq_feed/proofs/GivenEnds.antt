@@ -1,5 +1,5 @@
 -- What was given where no more lines come.
-use Rattle.std.proofs.Common.{◌≡◌, ℕ, ◌⊎◌, inl, inr, Bool, true, false, List, [], ◌++◌, length, refl, sym, ap, ◌∙◌, subst, append_assoc, append-nil, length-append, arith, IfSome}
+use Rattle.std.proofs.Common.{◌≡◌, ℕ, ◌<◌, ◌⊎◌, inl, inr, Bool, true, false, List, [], ◌++◌, length, refl, sym, ap, ◌∙◌, subst, append_assoc, append-nil, length-append, arith, IfSome}
 use Rattle.std.specs.Io.KnownBytes.{Consumes}
 use Rattle.std.proofs.KnownBytes.{Consumes-trans}
 use Rattle.std.proofs.lemmas.Bool.{false≢true}
@@ -24,11 +24,11 @@ pub front-lines : (source now : SourceState) (reader : Reading) (front : List �
 front-lines source now reader front given g = ap lines (sym (append-nil front)) ∙ g.cut [] (λ _. refl) ∙ append-nil given
 
 -- the lines that were given are those of a front of the bytes, and the last of them is whole
-pub took-lines : (source now : SourceState) (reader : Reading) (front : List ℕ) (given : List (List ℕ)) → GivenLines source now reader front given → TookLines source now front
-took-lines source now reader front given g = record { ahead = reader.ahead; taken = g.taken; near = g.ahead; ended = by_end reader.ended refl }
+pub took-lines : (source now : SourceState) (reader : Reading) (front : List ℕ) (given : List (List ℕ)) → 0 < length given → GivenLines source now reader front given → TookLines source now front
+took-lines source now reader front given some g = record { ahead = reader.ahead; taken = g.taken; near = g.ahead; ended = by_end reader.ended refl }
   where
-    by_end : (b : Bool) → reader.ended ≡ b → (front ≡ text_of (lines front)) ⊎ TakesAll source now front
-    by_end false open-yet = inl (g.whole open-yet ∙ ap text_of (sym (front-lines source now reader front given g)))
+    by_end : (b : Bool) → reader.ended ≡ b → ((front ≡ text_of (lines front)) × (length reader.ahead < now.last)) ⊎ TakesAll source now front
+    by_end false open-yet = inl (g.whole open-yet ∙ ap text_of (sym (front-lines source now reader front given g)), g.strict open-yet some)
     by_end true over = inr record {
       taken = subst (Consumes source.left now.left) (ap (λ l. front ++ l) (g.over over).0 ∙ append-nil front) g.taken;
       whole = (g.over over).2;

@@ -132,6 +132,7 @@ given-none source = record {
   count = refl;
   ahead = omega arith;
   recent = omega arith;
+  strict = λ _ some. absurd (omega (arith, some));
   cut = λ rest _. refl;
   whole = λ _. refl;
   size = omega arith;
@@ -167,6 +168,7 @@ given-line long old new source now now' front given g step =
       count = omega (arith, step.count, g.count, ap length moved, length-append (front ++ old.ahead) step.got);
       ahead = step.near g.ahead;
       recent = recent-line long old new now now' step g.recent;
+      strict = λ open-yet _. step.recent g.recent open-yet;
       cut = λ rest none.
           ap lines (append_assoc front step.given rest) ∙ g.cut (step.given ++ rest) (λ ended. absurd (false≢true (sym step.unended ∙ ended)))
           ∙ ap (λ l. given ++ l) (lines-given step.given step.line new.ended step.form step.plain rest none)

@@ -14,6 +14,8 @@ pub record GivenLines (source now : SourceState) (reader : Reading) (front : Lis
   pub ahead : length reader.ahead ≤ 4096
   -- what is ahead came by the last read that gave some bytes
   pub recent : length reader.ahead ≤ now.last
+  -- and so did the LF of the last line
+  pub strict : reader.ended ≡ false → 0 < length given → length reader.ahead < now.last
   -- whatever follows, these are the first lines
   pub cut : (rest : List ℕ) → (reader.ended ≡ true → rest ≡ []) → lines (front ++ rest) ≡ given ++ lines rest
   pub whole : reader.ended ≡ false → front ≡ text_of given
@@ -24,13 +26,13 @@ pub record GivenLines (source now : SourceState) (reader : Reading) (front : Lis
   pub numbered : reader.lines ≡ length given
   pub counted : (reader.lines ≤ reader.taken) × (reader.taken < 2 ^ 64)
 
--- This text is a front of the bytes that were taken, at most 4,096 of which lie beyond it, and the last of its lines is whole: it ends
--- in LF, or nothing follows.
+-- This text is a front of the bytes that were taken, at most 4,096 of which lie beyond it, and the last of its lines is whole. Either it
+-- ends in LF, which came by the last read of the source that gave some bytes: fewer lie beyond it than that read gave. Or nothing follows.
 pub record TookLines (source now : SourceState) (text : List ℕ) : Type 0 where
   pub ahead : List ℕ
   pub taken : Consumes source.left now.left (text ++ ahead)
   pub near : length ahead ≤ 4096
-  pub ended : (text ≡ text_of (lines text)) ⊎ TakesAll source now text
+  pub ended : ((text ≡ text_of (lines text)) × (length ahead < now.last)) ⊎ TakesAll source now text
 
 -- The source was read to its end, and these are the lines of all its bytes, which are fewer than can be counted.
 pub record AllGiven (source now : SourceState) (reader : Reading) (text : List ℕ) (given : List (List ℕ)) : Type 0 where

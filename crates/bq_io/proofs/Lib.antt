@@ -1,3 +1,4 @@
 pub mod Gathering
 pub mod KnownReads
+pub mod KnownWrites
 pub mod Writing

@@ -11,7 +11,6 @@ mod sink;
 mod source;
 mod standard;
 mod status;
-mod steps;
 mod write;
 
 pub use gathered::Gathered;
@@ -20,5 +19,4 @@ pub use sink::{Sink, WriteAnswer, WriteFault};
 pub use source::{ReadAnswer, Source};
 pub use standard::{StdSink, StdSource};
 pub use status::Status;
-pub use steps::Steps;
 pub use write::{write_all, write_pieces};

@@ -1,11 +1,16 @@
 //! The trusted edge: a reader and a writer of the process. Those tell no bytes, so a contract speaks of their faults alone. A
-//! source over a reader that tells its bytes, as a slice, tells them too.
-ghost use Rattle.std.specs.Prelude.{◌≡◌, ◌≤◌, length, IfSome};
-ghost use Rattle.bq_io.specs.Standard.{ReadsUpTo};
+//! source over a reader that tells its bytes, as a slice, tells them too, and a sink over a writer that tells its bytes, as a
+//! vector, says at each write which were added.
+ghost use Rattle.std.specs.Prelude.{◌≡◌, ◌<◌, length};
+ghost use Rattle.bq_io.specs.Sink.{WritesSome};
+ghost use Rattle.bq_io.specs.Standard.{ReadsUpTo, WritesUpTo, PassesOn, sink_inner, sink_seen};
 
 use crate::sink::{Sink, WriteAnswer};
 use crate::source::{ReadAnswer, Source};
 use std::io::{ErrorKind, Read, Write};
+
+#[cfg(test)]
+mod tests;
 
 // Reads, and again where a signal interrupts the read. A read that fails gives nothing.
 fn read_again<R: Read>(inner: &mut R, buffer: &mut [u8]) -> Option<usize>
@@ -23,7 +28,7 @@ fn read_again<R: Read>(inner: &mut R, buffer: &mut [u8]) -> Option<usize>
 
 // Writes, and again where a signal interrupts the write. A write that fails gives nothing.
 fn write_again<W: Write>(inner: &mut W, piece: &[u8]) -> Option<usize>
-    ensures { IfSome result (λ n. n ≤ length piece.now) }
+    ensures { WritesUpTo result piece.now (W.contents inner.old) (W.contents inner.new) }
 {
     for _ in 0..u64::MAX {
         match inner.write(piece) {
@@ -89,23 +94,27 @@ pub struct StdSink<W: Write + Drop> {
 }
 
 impl<W: Write + Drop> StdSink<W> {
-    ghost use Rattle.bq_io.specs.Standard.{sink_faults};
+    ghost use Rattle.bq_io.specs.Standard.{sink_faults, sink_inner};
 
     /// No write has failed yet.
     pub fn new(inner: W) -> StdSink<W>
-        ensures { sink_faults result ≡ 0 }
+        ensures faults { sink_faults result ≡ 0 }
+        ensures inner { sink_inner result ≡ inner }
     {
         StdSink { inner, failed: 0 }
     }
 }
 
 impl<W: Write + Drop> Sink for StdSink<W> {
-    ghost use Rattle.bq_io.specs.Sink.{SinkState};
-    ghost use Rattle.std.specs.Prelude.{None};
+    ghost seen = { sink_seen };
 
-    ghost seen = { λ s. record { written = None; faults = s.failed; below = 0; passed = 0 } };
+    fn write(&mut self, piece: &[u8]) -> WriteAnswer
+        requires { 0 < length piece.now }
+        ensures some { WritesSome result piece.now (sink_seen self.old) (sink_seen self.new) }
 
-    fn write(&mut self, piece: &[u8]) -> WriteAnswer {
+        // What the writer holds then, where it tells its bytes.
+        ensures passes { PassesOn result piece.now (W.contents (sink_inner self.old)) (W.contents (sink_inner self.new)) }
+    {
         match write_again(&mut self.inner, piece) {
             Some(n) => {
                 if n > 0 && self.inner.flush().is_ok() {

@@ -1,7 +1,6 @@
 -- How far a script was read, and how it ends.
 use Rattle.std.proofs.Common.{◌≡◌, ℕ, suc, ◌+◌, ◌^◌, ◌<◌, List, [], ◌∷◌, ◌++◌, length, refl, sym, ap, ◌∙◌, subst, append_assoc, append-nil, length-append, arith, Ok, Err}
 use Rattle.bq_io.specs.Source.{SourceState}
-use Rattle.bq_text.specs.Lines.{lines}
 use Rattle.bq_feed.specs.Reading.{Reading, fresh}
 use Rattle.bq_feed.specs.GivenLines.{GivenLines}
 use Rattle.bq_feed.proofs.GivenLines.{given-none}
@@ -93,7 +92,7 @@ refused-line : (source now now' : SourceState) (old new : Reading) (streams : Li
     → IsRefused new.lines word source now'
 refused-line source now now' old new streams word P p t is = record {
   text = t.front;
-  took = took-lines source now' new t.front (p.given ++ (t.blanks ++ t.line ∷ [])) t.lines;
+  took = took-lines source now' new t.front (p.given ++ (t.blanks ++ t.line ∷ [])) (omega (arith, length-grouped p.given t.blanks t.line)) t.lines;
   refused = at_line (p.given ++ t.blanks) t.line [] streams
       (front-lines source now' new t.front (p.given ++ (t.blanks ++ t.line ∷ [])) t.lines ∙ sym (append-nil (p.given ++ (t.blanks ++ t.line ∷ []))) ∙ grouped p.given t.blanks t.line [])
       (create-then-blank [] streams p.given t.blanks p.create t.blank)
@@ -126,7 +125,7 @@ ends-before source now now' old new streams end p t e =
       took = took-all source now' t.text t.lines.all;
       refused = at_end streams (subst (λ l. CreateStreams [] l streams) (sym t.lines.are) here) refl (omega (arith, t.lines.numbered, ap length t.lines.are));
       last = tt;
-      all = t.lines.all;
+      all = (t.lines.all, t.lines.few);
     }
 
 -- the source failed

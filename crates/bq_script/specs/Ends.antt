@@ -100,13 +100,14 @@ abbrev pub IsLast : {all : List (List ℕ)} {number : ℕ} {word : Word} → IsR
 IsLast (at_line before line behind streams whole create is number_is) = behind ≡ []
 IsLast (at_end streams create word_is number_is) = ⊤
 
--- The lines of a text were taken, each of them whole, and the last of them is refused. A script that ends before its query was read to its end.
+-- The lines of a text were taken, each of them whole, and the last of them is refused. A script that ends before its query was read to
+-- its end, and has fewer bytes than can be counted.
 pub record IsRefused (number : ℕ) (word : Word) (source now : SourceState) : Type 0 where
   pub text : List ℕ
   pub took : TookLines source now text
   pub refused : IsRefusedAt (lines text) number word
   pub last : IsLast refused
-  pub all : IfAtEnd refused (TakesAll source now text)
+  pub all : IfAtEnd refused (TakesAll source now text × (length text < 2 ^ 64 - 1))
 
 -- The reader broke off. All lines that ended in the bytes that were taken create streams, and this holds of these bytes.
 pub record GaveStreams (source now : SourceState) (reader : Reading) (P : List ℕ → Type 0) : Type 0 where

@@ -1,3 +1,4 @@
+pub mod CommandForms
 pub mod Endings
 pub mod Exits
 pub mod LoadForms

@@ -1,12 +1,13 @@
 -- Words ask for one thing at most.
-use Rattle.std.proofs.Common.{◌≡◌, ℕ, List, String, [], ◌∷◌, map, codes, refl, sym, ap, ◌∙◌, arith}
+use Rattle.std.proofs.Common.{◌≡◌, ℕ, List, String, [], ◌∷◌, map, codes, refl, sym, ap, ◌∙◌, arith, ◌⊎◌, inl, inr, get_or}
 use Rattle.std.specs.declared.alloc.Global.{Global}
 use Rattle.std.specs.String.{string_bytes}
 use Rattle.std.proofs.lemmas.Fmt.{decimal_injective}
-use Rattle.bq_top.specs.declared.command.Command.TheVariants.{Run, Load, Certify, Check}
+use Rattle.bq_top.specs.declared.command.Command.TheVariants.{Run, Load, Certify, Check, Help, Version}
 use Rattle.bq_top.specs.Words.{AreRunTexts, alone, limited}
 use Rattle.bq_top.specs.LoadWords.{AreLoadTexts}
 use Rattle.bq_top.specs.CertificateWords.{AreCertify, AreCheck}
+use Rattle.bq_top.specs.HelpWords.{AreHelp, AreVersion}
 use Rattle.bq_top.specs.Laws.{AskForOne}
 
 one_limit : (texts : List (List ℕ)) (m n : ℕ) → AreRunTexts texts m → AreRunTexts texts n → m ≡ n
@@ -44,6 +45,45 @@ check_or_run e = cc
 certify_or_check : (words : List (String Global)) → AreCertify words → AreCheck words → ⊥
 certify_or_check words p q = let bad : codes "certify" ∷ [] ≡ codes "check" ∷ [] = sym p ∙ q in cc
 
+-- the one word is one text
+never : (texts : List (List ℕ)) (v w : List ℕ) → texts ≡ v ∷ [] → texts ≡ w ∷ [] → (v ≡ w → ⊥) → ⊥
+never texts v w p q differ = let same : v ∷ [] ≡ w ∷ [] = sym p ∙ q in differ cc
+
+-- the one word is one of two texts, and neither is the other one
+neither : (texts : List (List ℕ)) (u v w : List ℕ) → (texts ≡ u ∷ []) ⊎ (texts ≡ v ∷ []) → texts ≡ w ∷ [] → (u ≡ w → ⊥) → (v ≡ w → ⊥) → ⊥
+neither texts u v w (inl p) q first second = never texts u w p q first
+neither texts u v w (inr p) q first second = never texts v w p q second
+
+neither_run : (texts : List (List ℕ)) (u v : List ℕ) (n : ℕ) → (texts ≡ u ∷ []) ⊎ (texts ≡ v ∷ []) → AreRunTexts texts n → (u ≡ codes "run" → ⊥) → (v ≡ codes "run" → ⊥) → ⊥
+neither_run texts u v n (inl p) q first second = other_word texts u n p first q
+neither_run texts u v n (inr p) q first second = other_word texts v n p second q
+
+neither_load : (texts : List (List ℕ)) (u v : List ℕ) (n : ℕ) → (texts ≡ u ∷ []) ⊎ (texts ≡ v ∷ []) → AreLoadTexts texts n → ⊥
+neither_load texts u v n (inl p) q = no_size texts u n p q
+neither_load texts u v n (inr p) q = no_size texts v n p q
+
+help_or_run : (words : List (String Global)) (n : ℕ) → AreHelp words → AreRunTexts (map string_bytes words) n → ⊥
+help_or_run words n p q = neither_run (map string_bytes words) (codes "--help") (codes "-h") n p q (λ e. cc) (λ e. cc)
+
+version_or_run : (words : List (String Global)) (n : ℕ) → AreVersion words → AreRunTexts (map string_bytes words) n → ⊥
+version_or_run words n p q = neither_run (map string_bytes words) (codes "--version") (codes "-V") n p q (λ e. cc) (λ e. cc)
+
+help_or_certify : (words : List (String Global)) → AreHelp words → AreCertify words → ⊥
+help_or_certify words p q = neither (map string_bytes words) (codes "--help") (codes "-h") (codes "certify") p q (λ e. cc) (λ e. cc)
+
+help_or_check : (words : List (String Global)) → AreHelp words → AreCheck words → ⊥
+help_or_check words p q = neither (map string_bytes words) (codes "--help") (codes "-h") (codes "check") p q (λ e. cc) (λ e. cc)
+
+version_or_certify : (words : List (String Global)) → AreVersion words → AreCertify words → ⊥
+version_or_certify words p q = neither (map string_bytes words) (codes "--version") (codes "-V") (codes "certify") p q (λ e. cc) (λ e. cc)
+
+version_or_check : (words : List (String Global)) → AreVersion words → AreCheck words → ⊥
+version_or_check words p q = neither (map string_bytes words) (codes "--version") (codes "-V") (codes "check") p q (λ e. cc) (λ e. cc)
+
+help_or_version : (words : List (String Global)) → AreHelp words → AreVersion words → ⊥
+help_or_version words p (inl q) = neither (map string_bytes words) (codes "--help") (codes "-h") (codes "--version") p q (λ e. cc) (λ e. cc)
+help_or_version words p (inr q) = neither (map string_bytes words) (codes "--help") (codes "-h") (codes "-V") p q (λ e. cc) (λ e. omega (arith, ap (λ l. get_or l 1 0) e))
+
 pub one_command : AskForOne
 one_command words (Run m) (Run n) p q = ap Run (one_limit (map string_bytes words) m n p q)
 one_command words (Run m) (Load n) p q = absurd (never_both (map string_bytes words) m n p q)
@@ -61,3 +101,23 @@ one_command words Check (Run n) p q = absurd (other_word (map string_bytes words
 one_command words Check (Load n) p q = absurd (no_size (map string_bytes words) (codes "check") n p q)
 one_command words Check Certify p q = absurd (certify_or_check words q p)
 one_command words Check Check p q = refl
+one_command words Help Help p q = refl
+one_command words Version Version p q = refl
+one_command words Help Version p q = absurd (help_or_version words p q)
+one_command words Version Help p q = absurd (help_or_version words q p)
+one_command words Help (Run n) p q = absurd (help_or_run words n p q)
+one_command words (Run n) Help p q = absurd (help_or_run words n q p)
+one_command words Version (Run n) p q = absurd (version_or_run words n p q)
+one_command words (Run n) Version p q = absurd (version_or_run words n q p)
+one_command words Help (Load n) p q = absurd (neither_load (map string_bytes words) (codes "--help") (codes "-h") n p q)
+one_command words (Load n) Help p q = absurd (neither_load (map string_bytes words) (codes "--help") (codes "-h") n q p)
+one_command words Version (Load n) p q = absurd (neither_load (map string_bytes words) (codes "--version") (codes "-V") n p q)
+one_command words (Load n) Version p q = absurd (neither_load (map string_bytes words) (codes "--version") (codes "-V") n q p)
+one_command words Help Certify p q = absurd (help_or_certify words p q)
+one_command words Certify Help p q = absurd (help_or_certify words q p)
+one_command words Help Check p q = absurd (help_or_check words p q)
+one_command words Check Help p q = absurd (help_or_check words q p)
+one_command words Version Certify p q = absurd (version_or_certify words p q)
+one_command words Certify Version p q = absurd (version_or_certify words q p)
+one_command words Version Check p q = absurd (version_or_check words p q)
+one_command words Check Version p q = absurd (version_or_check words q p)

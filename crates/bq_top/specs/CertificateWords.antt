@@ -5,7 +5,7 @@ use Rattle.std.specs.declared.alloc.Global.{Global}
 use Rattle.std.specs.declared.option.Option.{Option}
 use Rattle.std.specs.declared.option.Option.TheVariants.{None, Some}
 use Rattle.bq_top.specs.declared.command.Command.{Command}
-use Rattle.bq_top.specs.declared.command.Command.TheVariants.{Run, Load, Certify, Check}
+use Rattle.bq_top.specs.declared.command.Command.TheVariants.{Run, Load, Certify, Check, Help, Version}
 
 -- the one word `certify`
 abbrev pub AreCertify : List (String Global) → Type 0
@@ -22,3 +22,5 @@ CertificateCommand words (Some (Run limit)) = ⊥
 CertificateCommand words (Some (Load rows)) = ⊥
 CertificateCommand words (Some Certify) = AreCertify words
 CertificateCommand words (Some Check) = AreCheck words
+CertificateCommand words (Some Help) = ⊥
+CertificateCommand words (Some Version) = ⊥

@@ -2,10 +2,11 @@
 use Rattle.std.specs.Prelude.{◌<◌, ◌≤◌, ◌^◌, ⊤, List, String}
 use Rattle.std.specs.declared.alloc.Global.{Global}
 use Rattle.bq_top.specs.declared.command.Command.{Command}
-use Rattle.bq_top.specs.declared.command.Command.TheVariants.{Run, Load, Certify, Check}
+use Rattle.bq_top.specs.declared.command.Command.TheVariants.{Run, Load, Certify, Check, Help, Version}
 use Rattle.bq_top.specs.Words.{AreRun}
 use Rattle.bq_top.specs.LoadWords.{AreLoad}
 use Rattle.bq_top.specs.CertificateWords.{AreCertify, AreCheck}
+use Rattle.bq_top.specs.HelpWords.{AreHelp, AreVersion}
 
 -- the words ask for this
 abbrev pub Asks : List (String Global) → Command → Type 0
@@ -13,6 +14,8 @@ Asks words (Run limit) = AreRun words limit
 Asks words (Load rows) = AreLoad words rows
 Asks words Certify = AreCertify words
 Asks words Check = AreCheck words
+Asks words Help = AreHelp words
+Asks words Version = AreVersion words
 
 -- the number of a command is one that it may have
 abbrev pub IsAllowed : Command → Type 0
@@ -20,6 +23,8 @@ IsAllowed (Run limit) = (0 < limit) × (limit ≤ 2 ^ 40)
 IsAllowed (Load rows) = (0 < rows) × (rows ≤ 100000)
 IsAllowed Certify = ⊤
 IsAllowed Check = ⊤
+IsAllowed Help = ⊤
+IsAllowed Version = ⊤
 
 -- the words ask for a command, and this holds of it
 pub record Runs (words : List (String Global)) (P : Command → Type 0) : Type 0 where

@@ -2,6 +2,8 @@ pub mod CertificateWords
 pub mod Commands
 pub mod Ends
 pub mod Fetched
+pub mod Help
+pub mod HelpWords
 pub mod Laws
 pub mod Load
 pub mod LoadWords

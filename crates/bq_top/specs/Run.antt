@@ -1,6 +1,6 @@
 -- What a run over the lines of a source comes to.
 use Rattle.std.specs.Prelude.{◌≡◌, ℕ, ◌-◌, ◌^◌, ◌<◌, ◌≤◌, ◌⊎◌, ⊤, List, [], ◌∷◌, ◌++◌, length, IfSome, IsTrue}
-use Rattle.std.specs.Io.KnownBytes.{Consumes, Appends, Keeps}
+use Rattle.std.specs.Io.KnownBytes.{Consumes, Appends}
 use Rattle.bq_io.specs.Counts.{Rose}
 use Rattle.bq_io.specs.declared.status.Status.{Status}
 use Rattle.bq_io.specs.declared.status.Status.TheVariants as status
@@ -95,7 +95,7 @@ pub record Streamed (ending : Ending) (s : State) (source source' : SourceState)
 
 -- nothing was read or written
 abbrev pub DidNothing : SourceState → SourceState → SinkState → SinkState → Type 0
-DidNothing source source' sink sink' = Keeps source.left source'.left × Keeps sink.written sink'.written
+DidNothing source source' sink sink' = (source' ≡ source) × (sink' ≡ sink)
 
 -- the status that an ending leads to
 abbrev pub status_of : Ending → Status

@@ -4,6 +4,7 @@ ghost use Rattle.bq_top.specs.declared.command.Command.{Command};
 ghost use Rattle.bq_top.specs.Commands.{Asks, IsAllowed};
 
 use crate::certificate_words::certificate_command;
+use crate::help_words::help_command;
 use crate::load_words::load_rows;
 use crate::words::row_limit;
 
@@ -18,6 +19,10 @@ pub enum Command {
     Certify,
     /// The check of the certificate behind a script.
     Check,
+    /// How the program is used.
+    Help,
+    /// Which version of the program this is.
+    Version,
 }
 
 /// What the words ask for; nothing where they are none of the forms.
@@ -29,7 +34,10 @@ pub fn command_of(words: &[String]) -> Option<Command>
         Some(limit) => Some(Command::Run(limit)),
         None => match load_rows(words) {
             Some(rows) => Some(Command::Load(rows)),
-            None => certificate_command(words),
+            None => match certificate_command(words) {
+                Some(command) => Some(command),
+                None => help_command(words),
+            },
         },
     }
 }

@@ -8,6 +8,8 @@ mod certificate_words;
 mod command;
 mod ending;
 mod fetch;
+mod help;
+mod help_words;
 pub mod laws;
 mod load;
 mod load_words;

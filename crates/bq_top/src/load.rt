@@ -7,7 +7,8 @@ ghost use Rattle.bq_top.specs.Loading.{Counted, AnsweredScript};
 
 use crate::summary::{line_count, summary};
 use bq_gen::Script;
-use bq_io::{MemSink, Sink, Status, Steps, write_all};
+use bq_io::{MemSink, Sink, Status, write_all};
+use bq_pool::Steps;
 use bq_session::{LineOutcome, Session};
 use std::alloc::Global;
 use std::marker::Brand;
@@ -68,7 +69,7 @@ fn answer_script<L: Ledger>(
     requires few { length script.old ≤ 2 ^ 33 }
     requires name { blank.name ≡ L.name }
     requires parts { blank.parts ≡ L.parts }
-    requires some { 0 < L.parts }
+    requires two { 2 ≤ L.parts }
     ensures { IfSome result (λ lines. AnsweredScript script.old session.new lines) }
 {
     let mut steps = Steps::<L>::new(blank);
@@ -85,7 +86,7 @@ pub fn load<O: Sink>(alloc: Global, rows: u32, output: &mut O) -> Status
         return Status::Memory;
     };
     let mut script = Script::new(rows);
-    let answered = answer_script::<Brand>(alloc, &mut script, &mut session, Blank::new(1));
+    let answered = answer_script::<Brand>(alloc, &mut script, &mut session, Blank::new(2));
     let announced = session.announced();
     session.close();
     match answered {

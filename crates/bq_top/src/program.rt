@@ -9,11 +9,13 @@ ghost use Rattle.bq_top.specs.Ends.{Ends};
 
 use crate::command::{Command, command_of};
 use crate::ending::Ending;
+use crate::help::{help, version};
 use crate::load::load;
 use crate::stream::stream;
 use bq_certify::{certify, check_script};
 use bq_feed::LineReader;
-use bq_io::{Gathered, Sink, Source, Status, Steps};
+use bq_io::{Gathered, Sink, Source, Status};
+use bq_pool::Steps;
 use bq_session::Session;
 use std::alloc::Global;
 use std::marker::Brand;
@@ -32,7 +34,7 @@ fn gather<I: Source, O: Sink, L: Ledger>(
     requires lines { session.old.lines ≡ 0 }
     requires name { blank.name ≡ L.name }
     requires parts { blank.parts ≡ L.parts }
-    requires some { 0 < L.parts }
+    requires two { 2 ≤ L.parts }
     ensures { (s : State) → StandsFor session.old s → Streamed result s (I.seen input.old) (I.seen input.new) (O.seen output.old) (O.seen output.new) }
 {
     let mut steps = Steps::<L>::new(blank);
@@ -56,7 +58,7 @@ fn answer_all<I: Source, O: Sink>(
     requires lines { session.old.lines ≡ 0 }
     ensures { (s : State) → StandsFor session.old s → Streamed result s (I.seen input.old) (I.seen input.new) (O.seen output.old) (O.seen output.new) }
 {
-    gather::<I, O, Brand>(reader, session, input, output, Blank::new(1))
+    gather::<I, O, Brand>(reader, session, input, output, Blank::new(2))
 }
 
 // The status that an ending leads to.
@@ -113,8 +115,13 @@ fn run_session<I: Source, O: Sink>(
 /// reads such a text, and writes what the certificate shows, or its first fault. Both write when all is known, and end with `Invalid`
 /// where a line is refused or the certificate has a fault. For `ReadFault`, `ByteLimit` and `Memory` nothing was written.
 ///
-/// `Usage` comes exactly where the words are none of these forms. `ReadFault` and `WriteFault` come only where the count of faults
-/// of that object rose in this call.
+/// `--help` or `-h`, alone, writes how the program is used, and `--version` or `-V`, alone, its version. Nothing is read.
+///
+/// `Usage` comes exactly where the words are none of these forms, and then nothing was read or written. `ReadFault` and `WriteFault`
+/// come only where the count of faults of that object rose in this call.
+///
+/// No query outgrows what its line announced: that is the clause `within` of `Registry::row`, and of `Session::line`, whose clause
+/// `announced` bounds the reads and writes of each line.
 pub fn run<I: Source, O: Sink>(
     alloc: Global,
     words: &[String],
@@ -133,6 +140,8 @@ pub fn run<I: Source, O: Sink>(
         Some(Command::Load(rows)) => load(alloc, rows, output),
         Some(Command::Certify) => certify(alloc, input, output),
         Some(Command::Check) => check_script(alloc, input, output),
+        Some(Command::Help) => help(output),
+        Some(Command::Version) => version(output),
         None => Status::Usage,
     }
 }

@@ -9,7 +9,8 @@ ghost use Rattle.bq_top.specs.Run.{HasState, Streamed};
 use crate::ending::Ending;
 use crate::fetch::{Fetched, fetch};
 use bq_feed::LineReader;
-use bq_io::{Gathered, Sink, Source, Steps};
+use bq_io::{Gathered, Sink, Source};
+use bq_pool::Steps;
 use bq_session::{LineOutcome, Session};
 use std::sync::ledger::Ledger;
 

@@ -1,5 +1,5 @@
 //! The words after the program's name.
-ghost use Rattle.std.specs.Prelude.{◌≡◌, ℕ, ◌<◌, ◌≤◌, ◌^◌, IfSome, MatchOption, decimal};
+ghost use Rattle.std.specs.Prelude.{◌≡◌, ◌↔◌, ℕ, ◌<◌, ◌≤◌, ◌^◌, IsTrue, IfSome, MatchOption, decimal, [], ◌∷◌, map};
 ghost use Rattle.std.specs.Str.{bytes_eq};
 ghost use Rattle.std.specs.String.{string_bytes};
 ghost use Rattle.bq_top.specs.Words.{IsRowLimit, AreRun};
@@ -50,6 +50,16 @@ pub fn is_word(word: &String, text: &str) -> bool
     ensures { result ≡ bytes_eq (string_bytes word.now) text.now }
 {
     word.as_str() == text
+}
+
+/// Whether the words are this one alone.
+pub fn is_alone(words: &[String], text: &str) -> bool
+    ensures { IsTrue result ↔ map string_bytes words.now ≡ text.now ∷ [] }
+{
+    match words {
+        [word] => is_word(word, text),
+        _ => false,
+    }
 }
 
 /// How many rows a session may take, where the words are `run` or `run --rows N`; nothing for all other words.

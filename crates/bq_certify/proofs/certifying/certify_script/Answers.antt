@@ -8,7 +8,8 @@ returns-in-Ok-read_blank-clause-reads g c = λ source gave.
 
 pub returns-in-Err-read_blank-clause-reads : goal.returns-in-Err-read_blank-clause-reads
 returns-in-Err-read_blank-clause-reads g c = λ source gave.
-    stops-behind c.args.script c.in-Err-read_blank.stop source _ _ _ _ gave c.in-Ok.ensures.2 (c.in-Err-read_blank.ensures.blank source gave.front gave.given gave.lines)
+    stops-behind c.args.script c.in-Ok.certificate c.in-Err-read_blank.stop source _ _ _ _ gave c.in-Ok.ensures.2 c.in-Ok.ensures.0 c.in-Ok.ensures.1
+    (c.in-Err-read_blank.ensures.blank source gave.front gave.given gave.lines)
 
 pub returns-in-Err-clause-reads : goal.returns-in-Err-clause-reads
 returns-in-Err-clause-reads g c = λ source gave. stops-unmade c.args.script c.in-Err.end source _ _ gave c.in-Err.ensures

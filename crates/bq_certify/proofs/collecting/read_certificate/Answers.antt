@@ -1,5 +1,5 @@
 use Rattle.std.proofs.Common.{arith}
-use Rattle.bq_certify.proofs.Collected.{collected-none, counts, goes-on, ends-refused, ends-long, ends-whole, ends-limit}
+use Rattle.bq_certify.proofs.Collected.{collected-none, counts, goes-on, ends-refused, ends-long, ends-whole, ends-fault, ends-limit}
 use Rattle.bq_certify.proofs.collecting.read_certificate.Goals as goal
 
 pub reading-init : goal.reading-init
@@ -41,7 +41,7 @@ returns-in-End-clause-reads g c = λ source front given lines.
 pub returns-in-ReadFault-clause-reads : goal.returns-in-ReadFault-clause-reads
 returns-in-ReadFault-clause-reads g c = λ source front given lines.
     let p = c.reading.invariant.collected source front given lines in
-    (c.in-ReadFault.ensures.gives _ _ _ p.lines).0
+    ends-fault source _ _ _ _ given _ p (c.in-ReadFault.ensures.gives _ _ _ p.lines)
 
 pub returns-in-ByteLimit-clause-reads : goal.returns-in-ByteLimit-clause-reads
 returns-in-ByteLimit-clause-reads g c = λ source front given lines.

@@ -1,0 +1,26 @@
+-- The words that ask what the program is.
+use Rattle.std.specs.Prelude.{◌≡◌, ◌⊎◌, List, String, [], ◌∷◌, map, codes}
+use Rattle.std.specs.String.{string_bytes}
+use Rattle.std.specs.declared.alloc.Global.{Global}
+use Rattle.std.specs.declared.option.Option.{Option}
+use Rattle.std.specs.declared.option.Option.TheVariants.{None, Some}
+use Rattle.bq_top.specs.declared.command.Command.{Command}
+use Rattle.bq_top.specs.declared.command.Command.TheVariants.{Run, Load, Certify, Check, Help, Version}
+
+-- the one word `--help`, or `-h`
+abbrev pub AreHelp : List (String Global) → Type 0
+AreHelp words = (map string_bytes words ≡ codes "--help" ∷ []) ⊎ (map string_bytes words ≡ codes "-h" ∷ [])
+
+-- the one word `--version`, or `-V`
+abbrev pub AreVersion : List (String Global) → Type 0
+AreVersion words = (map string_bytes words ≡ codes "--version" ∷ []) ⊎ (map string_bytes words ≡ codes "-V" ∷ [])
+
+-- one of the two that the words ask for, or none
+abbrev pub HelpCommand : List (String Global) → Option Command → Type 0
+HelpCommand words None = (¬ AreHelp words) × (¬ AreVersion words)
+HelpCommand words (Some (Run limit)) = ⊥
+HelpCommand words (Some (Load rows)) = ⊥
+HelpCommand words (Some Certify) = ⊥
+HelpCommand words (Some Check) = ⊥
+HelpCommand words (Some Help) = AreHelp words
+HelpCommand words (Some Version) = AreVersion words

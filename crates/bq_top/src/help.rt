@@ -1,0 +1,63 @@
+//! What the program says of itself.
+ghost use Rattle.std.specs.Prelude.{◌≤◌};
+ghost use Rattle.bq_top.specs.Help.{TextEnds, help_text, version_text};
+
+use bq_io::{Sink, Status, write_all};
+
+/// What `--help` writes.
+const HELP: &str = "\
+bq answers select-project-join queries over endless streams, in fixed memory.
+
+bq run [--rows N]  read a script and rows on standard input, and answer each
+                   line at once; at most N rows are taken:
+                   bq run < examples/temperature-alert.bq
+bq certify         read a script of one query, and write it with a certificate
+                   of the decision on it:    bq certify < script > certified
+bq check           read such a text, and write what its certificate shows:
+                   bq certify < script | bq check
+bq load N          answer N generated rows, and write one line of sums:
+                   bq load 1000
+bq --help          write this text; also -h
+bq --version       write the version; also -V
+
+Status 0  done
+       1  certify or check refuses a line, or the certificate has a fault
+       2  the words are none of these forms; nothing was read or written
+       4  the input failed
+       5  the output failed
+       6  no memory was found
+       7  the input has more bytes than can be counted, 2^64 - 1 or more
+
+To read on: README.md; docs/QUERIES.md, on what a query may say and why one
+is refused; docs/OPERATING.md, on running it; or man bq.
+";
+
+/// What `--version` writes.
+const VERSION: &str = "bq 0.1.0\n";
+
+// Writes a text, and gives the status.
+fn tell<O: Sink>(text: &str, output: &mut O) -> Status
+    ensures ends { TextEnds result text.now (O.seen output.old) (O.seen output.new) }
+    ensures later { (O.seen output.old).faults ≤ (O.seen output.new).faults }
+{
+    match write_all(output, text.as_bytes()) {
+        Ok(()) => Status::Done,
+        Err(_) => Status::WriteFault,
+    }
+}
+
+/// Writes how the program is used.
+pub fn help<O: Sink>(output: &mut O) -> Status
+    ensures ends { TextEnds result help_text (O.seen output.old) (O.seen output.new) }
+    ensures output_later { (O.seen output.old).faults ≤ (O.seen output.new).faults }
+{
+    tell(HELP, output)
+}
+
+/// Writes which version of the program this is.
+pub fn version<O: Sink>(output: &mut O) -> Status
+    ensures ends { TextEnds result version_text (O.seen output.old) (O.seen output.new) }
+    ensures output_later { (O.seen output.old).faults ≤ (O.seen output.new).faults }
+{
+    tell(VERSION, output)
+}
