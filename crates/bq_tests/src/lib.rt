@@ -6,9 +6,13 @@ mod certificate_faults;
 #[cfg(test)]
 mod certificates;
 #[cfg(test)]
+mod comments;
+#[cfg(test)]
 mod edge;
 #[cfg(test)]
 mod faults;
+#[cfg(test)]
+mod join_faults;
 #[cfg(test)]
 mod load;
 #[cfg(test)]

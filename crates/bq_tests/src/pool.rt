@@ -1,9 +1,8 @@
 //! The page pool: an extent over gaps, and a pool with no free page.
-ghost use Rattle.std.specs.Prelude.{◌≡◌, ◌+◌, ◌*◌, ◌<◌};
+ghost use Rattle.std.specs.Prelude.{◌≡◌, ◌+◌, ◌*◌, ◌<◌, ◌≤◌};
 ghost use Rattle.bq_pool.specs.Extents.{IsLive, live_extents};
 
-use bq_io::Steps;
-use bq_pool::{Cell, Extent, Pool, PoolError};
+use bq_pool::{Cell, Extent, Pool, PoolError, Steps};
 use std::marker::Brand;
 use std::sync::ledger::{Blank, Ledger};
 use std::test::Fail;
@@ -72,7 +71,7 @@ fn six_beside<L: Ledger>(
 fn across_a_gap<L: Ledger>(pool: &mut Pool, blank: Blank) -> Option<Seen>
     requires name { blank.name ≡ L.name }
     requires parts { blank.parts ≡ L.parts }
-    requires some { 0 < L.parts }
+    requires two { 2 ≤ L.parts }
     requires few { live_extents pool.old ≡ 0 }
 {
     let mut steps = Steps::<L>::new(blank);
@@ -107,7 +106,7 @@ fn across_a_gap<L: Ledger>(pool: &mut Pool, blank: Blank) -> Option<Seen>
 #[test]
 fn an_extent_spans_gaps(rt: HostRuntime) -> Result<(), Fail> {
     let mut pool = Pool::new(rt.alloc(), 12)?;
-    let seen = across_a_gap::<Brand>(&mut pool, Blank::new(1));
+    let seen = across_a_gap::<Brand>(&mut pool, Blank::new(2));
     let wanted = Seen {
         six: (Cell::Empty, Cell::Empty),
         three: (Cell::Count(3), Cell::Count(3)),

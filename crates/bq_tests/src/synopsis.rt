@@ -10,11 +10,10 @@ ghost use Rattle.bq_synopsis.specs.Premises.{IsHeld, IsReady, IsWalked};
 ghost use Rattle.bq_synopsis.specs.Values.{rows_in};
 
 use arrayvec::ArrayVec;
-use bq_io::Steps;
 use bq_model::{
     Atom, Attr, Dim, Element, Kind, Link, Op, PartPlan, Query, Row, Sign, StreamPlan, Tuple,
 };
-use bq_pool::{Extent, Pool};
+use bq_pool::{Extent, Pool, Steps};
 use bq_synopsis::{Probe, Room, admits, insert, prepare};
 use std::alloc::{AllocError, Global};
 use std::marker::Brand;
@@ -48,7 +47,8 @@ fn take_row<L: Ledger>(
     requires few { (i : ℕ) → rows_in (slice_index_or (cells_of pool.old e.now) i Empty) < 2 ^ 40 }
     ensures held { IsHeld q.now part.now pool.new e.now }
     ensures counts { (i : ℕ) → FitsKind kinds.Count (slice_index_or (cells_of pool.new e.now) i Empty) }
-    ensures steps { steps.new ≤ steps.old + 2 }
+    ensures reads { steps.new.reads ≤ steps.old.reads + 1 }
+    ensures writes { steps.new.writes ≤ steps.old.writes + 1 }
     ensures upto { (n : ℕ) → ((i : ℕ) → rows_in (slice_index_or (cells_of pool.old e.now) i Empty) ≤ n) → (i : ℕ) → rows_in (slice_index_or (cells_of pool.new e.now) i Empty) ≤ n + 1 }
 {
     if usize::from(pos) >= q.from().len() {
@@ -76,7 +76,8 @@ fn take_rows<L: Ledger>(
     requires fresh { cells_of pool.old e.now ≡ replicate (64 * e.now.pages) Empty }
     requires few { length rows.now < 1000 }
     ensures ready { IsReady q.now part.now pool.new e.now }
-    ensures steps { steps.new ≤ steps.old + 2 * length rows.now }
+    ensures reads { steps.new.reads ≤ steps.old.reads + length rows.now }
+    ensures writes { steps.new.writes ≤ steps.old.writes + length rows.now }
 {
     'rows: for given in rows {
         take_row(pool, e, q, part, given.0, &row_of(given.1), steps);
@@ -96,7 +97,8 @@ fn walk<L: Ledger>(
 ) -> Result<Vec<i64>, AllocError>
     requires here { pos < length q.now.from }
     requires ready { IsReady q.now part.now pool.now e.now }
-    ensures steps { steps.new ≤ steps.old + 3 * share part.now }
+    ensures reads { steps.new.reads ≤ steps.old.reads + 3 * share part.now }
+    ensures writes { steps.new.writes ≡ steps.old.writes }
 {
     let mut told = Vec::new(alloc);
     let prepared = prepare(q, part);
@@ -110,7 +112,8 @@ fn walk<L: Ledger>(
     Ok(told)
 }
 
-// Takes rows into an extent of five pages, and tells what its cells then answer to a row.
+// Takes rows into an extent of five pages, and tells what its cells then answer to a row: of a place behind the query's streams, or
+// without the pages, a list that no walk gives.
 fn answers<L: Ledger>(
     alloc: Global,
     q: &Query,
@@ -124,14 +127,15 @@ fn answers<L: Ledger>(
     requires plain { q.now.distinct ≡ false }
     requires walked { (w : IsWalked q.now part.now) × (w.cells ≤ 320) }
     requires few { length rows.now < 1000 }
-    ensures steps { steps.new ≤ steps.old + 2 * length rows.now + 3 * share part.now }
+    ensures reads { steps.new.reads ≤ steps.old.reads + length rows.now + 3 * share part.now }
+    ensures writes { steps.new.writes ≤ steps.old.writes + length rows.now }
 {
     let mut pool = Pool::new(alloc, 5)?;
     if usize::from(pos) >= q.from().len() {
-        return Ok(Vec::new(alloc));
+        return Vec::from_slice(alloc, &[i64::MIN]);
     }
     let Ok(e) = pool.take(5) else {
-        return Ok(Vec::new(alloc));
+        return Vec::from_slice(alloc, &[i64::MIN]);
     };
     take_rows(&mut pool, &e, q, part, rows, steps);
     let told = walk(alloc, &pool, &e, q, part, pos, &row_of(values), steps);
@@ -219,7 +223,7 @@ fn of_two_streams<L: Ledger>(
 ) -> Result<Vec<i64>, AllocError>
     requires name { blank.name ≡ L.name }
     requires parts { blank.parts ≡ L.parts }
-    requires some { 0 < L.parts }
+    requires two { 2 ≤ L.parts }
     requires few { length rows.now < 1000 }
 {
     let atoms = [
@@ -282,7 +286,7 @@ fn an_equality_and_an_inequality(rt: HostRuntime) -> Result<(), Fail> {
         (0, &[4, 5], &[]),
     ];
     for (pos, values, wanted) in cases {
-        let told = of_two_streams::<Brand>(rt.alloc(), Blank::new(1), &rows, pos, values)?;
+        let told = of_two_streams::<Brand>(rt.alloc(), Blank::new(2), &rows, pos, values)?;
         assert_eq!(rt; told.as_slice(), wanted, "{values:?} at {pos}");
     }
     Ok(())
@@ -297,7 +301,8 @@ fn of_a_chain<L: Ledger>(
     steps: &mut Steps<L>,
 ) -> Result<Vec<i64>, AllocError>
     requires few { length rows.now < 1000 }
-    ensures steps { steps.new ≤ steps.old + 2 * length rows.now + 3 }
+    ensures reads { steps.new.reads ≤ steps.old.reads + length rows.now + 3 }
+    ensures writes { steps.new.writes ≤ steps.old.writes + length rows.now }
 {
     let atoms = [
         compared(R_A, Op::Eq, Element::Attr(S_A)),
@@ -328,7 +333,7 @@ fn told_of_a_chain<L: Ledger>(
 ) -> Result<Vec<i64>, AllocError>
     requires name { blank.name ≡ L.name }
     requires parts { blank.parts ≡ L.parts }
-    requires some { 0 < L.parts }
+    requires two { 2 ≤ L.parts }
     requires few { length rows.now < 1000 }
 {
     let mut steps = Steps::<L>::new(blank);
@@ -362,7 +367,7 @@ fn a_chain_of_equalities(rt: HostRuntime) -> Result<(), Fail> {
         (2, &[1], &[]),
     ];
     for (pos, values, wanted) in cases {
-        let told = told_of_a_chain::<Brand>(rt.alloc(), Blank::new(1), &rows, pos, values)?;
+        let told = told_of_a_chain::<Brand>(rt.alloc(), Blank::new(2), &rows, pos, values)?;
         assert_eq!(rt; told.as_slice(), wanted, "{values:?} at {pos}");
     }
     Ok(())

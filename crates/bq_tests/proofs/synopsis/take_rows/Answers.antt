@@ -8,7 +8,8 @@ rows-init g c = record {
   held = c.requires.held;
   counts = counts_fresh (64 * c.args.e.now.pages) _ c.requires.fresh;
   upto = upto_fresh (64 * c.args.e.now.pages) _ c.requires.fresh;
-  steps = omega arith;
+  reads = omega arith;
+  writes = omega arith;
 }
 
 pub take_row-requires-clause-few : goal.take_row-requires-clause-few
@@ -19,7 +20,8 @@ rows-preserved g c = record {
   held = c.take_row.ensures.held;
   counts = c.take_row.ensures.counts;
   upto = c.take_row.ensures.upto c.rows.given-index c.rows.invariant.upto;
-  steps = omega arith;
+  reads = omega arith;
+  writes = omega arith;
 }
 
 pub returns-clause-ready : goal.returns-clause-ready

@@ -1,4 +1,4 @@
-use Rattle.std.proofs.Common.{◌≤◌, ◌+◌, ◌*◌}
+use Rattle.std.proofs.Common.{◌≤◌, ◌+◌}
 use Rattle.bq_pool.specs.Extents.{cells_of}
 use Rattle.bq_synopsis.specs.Premises.{IsHeld}
 use Rattle.bq_tests.proofs.CellCalls.{AreCounts, AreUpto}
@@ -9,5 +9,6 @@ invariant-rows g l = record {
   held : IsHeld l.q l.part l.pool l.e;
   counts : AreCounts (cells_of l.pool l.e);
   upto : AreUpto l.given-index (cells_of l.pool l.e);
-  steps : l.steps ≤ l.fn.steps + 2 * l.given-index;
+  reads : l.steps.reads ≤ l.fn.steps.reads + l.given-index;
+  writes : l.steps.writes ≤ l.fn.steps.writes + l.given-index;
 }

@@ -1,4 +1,4 @@
-use Rattle.std.proofs.Common.{◌≤◌, ◌+◌, ◌*◌, length}
+use Rattle.std.proofs.Common.{◌≡◌, ◌≤◌, ◌+◌, ◌*◌, length}
 use Rattle.bq_model.specs.Combinations.{read_from}
 use Rattle.bq_model.specs.Numbers.{share}
 use Rattle.bq_pool.specs.Extents.{cells_of}
@@ -8,7 +8,8 @@ use Rattle.bq_tests.proofs.synopsis.walk.Given as goal
 abbrev pub invariant-walk : goal.invariant-walk
 invariant-walk g l = record {
   underway : IsUnderway l.part l.probe;
-  reads : l.steps + reads_left l.part l.probe ≤ l.fn.steps + 3 * share l.part;
+  reads : l.steps.reads + reads_left l.part l.probe ≤ l.fn.steps.reads + 3 * share l.part;
+  writes : l.steps.writes ≡ l.fn.steps.writes;
 }
 
 abbrev pub decreases-walk : goal.decreases-walk
