@@ -3,6 +3,9 @@
 A query is given with its columns numbered: an attribute is a pair (place in FROM, column), a
 constant an integer. Node 0 stands for the number 0, node i for the i-th attribute from 1.
 `Bounds.at[i][j]` is the least bound of i - j, or None where there is none.
+
+The comparisons `<=`, `>=` and `<>` are soft: what they compare is a pair of its own, and a part
+is one sign of it. Each sign of which an operator is written is one that meets it.
 """
 from collections import namedtuple
 from itertools import combinations
@@ -13,6 +16,8 @@ MOST_ANSWERS = 65_536
 MOST_WORK = 4_194_304
 CELLS_OF_PAGE = 64
 SIGNS = "<=>"
+SOFT = ("<=", ">=", "<>")
+TURNED = {"<": ">", "=": "=", ">": "<", "<=": ">=", ">=": "<=", "<>": "<>"}
 
 # atoms are triples (left, operator, right) of attributes and integers
 Query = namedtuple("Query", "distinct places select atoms")
@@ -37,21 +42,65 @@ def constants_of(query):
                    if is_constant(it)})
 
 
+def turned(atom):
+    """The comparison with its attribute before its constant, or the earlier attribute first."""
+    left, operator, right = atom
+    if is_constant(left) or (not is_constant(right) and right < left):
+        return right, TURNED[operator], left
+    return atom
+
+
+def hard_atoms(query):
+    return [it for it in query.atoms if it[1] not in SOFT]
+
+
+def soft_atoms(query):
+    """The soft comparisons of different elements, each turned as its pair stands."""
+    return [turned(it) for it in query.atoms if it[1] in SOFT and it[0] != it[2]]
+
+
+def is_void(query):
+    """Whether a soft comparison of an element with itself is false."""
+    return any(left == right and operator == "<>" for left, operator, right in query.atoms)
+
+
+def soft_pairs(query):
+    """What the soft comparisons compare, in their order, each pair once."""
+    return list(dict.fromkeys((left, right) for left, _, right in soft_atoms(query)))
+
+
 def pairs_of(query):
-    """Each attribute with each constant, then with each later attribute of its stream."""
+    """The soft pairs; then each attribute with each constant and each later one of its stream."""
     attributes, constants = attributes_of(query), constants_of(query)
-    pairs = []
+    pairs = soft_pairs(query)
+    soft = set(pairs)
     for attribute in attributes:
-        pairs += [(attribute, it) for it in constants]
-        pairs += [(attribute, it) for it in attributes
-                  if it[0] == attribute[0] and it > attribute]
+        others = constants + [it for it in attributes
+                              if it[0] == attribute[0] and it > attribute]
+        pairs += [(attribute, it) for it in others if (attribute, it) not in soft]
     return pairs
 
 
+def is_local(pair, place):
+    """Whether the attributes of a pair are all of this stream."""
+    return all(is_constant(it) or it[0] == place for it in pair)
+
+
+def signs_of_pairs(query, pairs):
+    """For each pair the signs that meet all soft comparisons of it."""
+    signs = dict.fromkeys(pairs, SIGNS)
+    for left, operator, right in soft_atoms(query):
+        signs[left, right] = "".join(it for it in signs[left, right] if it in operator)
+    return [signs[it] for it in pairs]
+
+
 def constraints_of(left, operator, right, nodes):
-    """The constraints of one comparison: triples (i, j, bound) say that i - j <= bound."""
+    """The constraints of a sign or of a comparison that is not soft.
+
+    A triple (i, j, bound) says that i - j <= bound.
+    """
     if is_constant(left):
-        left, operator, right = right, {"<": ">", "=": "=", ">": "<"}[operator], left
+        left, operator, right = right, TURNED[operator], left
     i = nodes[left]
     j, shift = (0, right) if is_constant(right) else (nodes[right], 0)
     if operator == "<":
@@ -207,38 +256,47 @@ def work_of(query, facts, dims):
     return most
 
 
-def walk_parts(query, most):
-    """All sign vectors that some assignment has, ascending, each with its closed table."""
+def walk(query, most):
+    """The open fronts of sign vectors, ascending, each with its closed table.
+
+    A front is open where some assignment has these signs and meets the comparisons that are not
+    soft, and no soft comparison is false under its sign.
+    """
     nodes = {it: i for i, it in enumerate(attributes_of(query), 1)}
     pairs = pairs_of(query)
+    signs_of = signs_of_pairs(query, pairs)
     root = Bounds(len(nodes) + 1)
-    for left, operator, right in query.atoms:
+    for left, operator, right in hard_atoms(query):
         for constraint in constraints_of(left, operator, right, nodes):
             root.add(constraint)
-    found, waiting = [], [("", root)] if root.possible else []
+    whole, waiting = 0, [("", root)] if root.possible and not is_void(query) else []
     while waiting:
         signs, bounds = waiting.pop()
+        yield signs, bounds.at
         if len(signs) == len(pairs):
-            found.append((signs, bounds.at))
-            if len(found) > most:
+            whole += 1
+            if whole > most:
                 raise TooManyParts
             continue
         left, right = pairs[len(signs)]
-        for sign in reversed(SIGNS):
+        for sign in reversed(signs_of[len(signs)]):
             child = bounds.copy()
             for constraint in constraints_of(left, sign, right, nodes):
                 child.add(constraint)
             if child.possible:
                 waiting.append((signs + sign, child))
-    return found
 
 
-def nodes_of(query, parts):
+def walk_parts(query, most):
+    """All sign vectors that some assignment of the query has, each with its closed table."""
+    length = len(pairs_of(query))
+    return [it for it in walk(query, most) if len(it[0]) == length]
+
+
+def nodes_of(query, most):
     """How many nodes the tree of a certificate has."""
-    if not parts or not pairs_of(query):
-        return 1
-    fronts = {signs[:length] for signs in parts for length in range(len(signs))}
-    return 1 + 3 * len(fronts)
+    length = len(pairs_of(query))
+    return 1 + 3 * sum(len(signs) < length for signs, _ in walk(query, most))
 
 
 def part_of(query, signs, at):

@@ -5,6 +5,7 @@ from collections import Counter
 import checker
 import evaluator
 import language
+import maker
 import worked
 from common import Part, compare, first_other_line, run as run_program, scaled
 from generator import Writer
@@ -15,7 +16,8 @@ RANDOM_QUERIES = 400
 REFUSED_SCRIPTS = 1500
 CHANGED_CERTIFICATES = 10
 TWICE_CHANGED = 1500
-WORDS = [b"split", b"infeasible", b"leaf", b"path"]
+OWN_CERTIFICATES = 600
+MOST_OWN_PARTS = 60
 NUMBER = re.compile(rb"[0-9]+")
 
 
@@ -79,14 +81,16 @@ def changes(lines):
                 number = b"%d" % (int(found.group()) + step)
                 yield front + [line[:found.start()] + number + line[found.end():]] + back
         word = line.split(b" ")[0]
-        if word in WORDS:
-            yield from (front + [it + line[len(word):]] + back for it in WORDS if it != word)
+        if word in checker.WORDS:
+            yield from (front + [it + line[len(word):]] + back for it in checker.WORDS if it != word)
 
 
 def try_changed(part, program, lines):
     """Both checkers must agree on a changed certificate."""
     text = b"\n".join(lines) + b"\n"
     wanted, status = checker.certificate_reply(text)
+    if status == 0 and wanted != wanted_decision(checker.read_script(text, True)):
+        part.differs(f"own checker: {wanted!r} of a changed certificate is not so", text)
     words = wanted.split()
     part.count({b"no": "changed, no", b"error": "changed, error"}.get(words[0], "changed, still yes"))
     compare(part, program, text, wanted, status, ("check",))
@@ -100,7 +104,7 @@ def choose(part, certificates):
     kinds = Counter()
     for text in middle:
         kind = checker.certificate_reply(text)[0].split()
-        kind = kind[4] if kind[2] == b"part" else kind[2]
+        kind = kind[4] if kind[2] == b"part" else kind[2], b"against" in text
         if kinds[kind] < 3 or len(middle) <= CHANGED_CERTIFICATES:
             kinds[kind] += 1
             yield text
@@ -162,10 +166,33 @@ def change_certificates(part, program, certificates, scale):
         try_changed(part, program, part.random.choice(list(changes(once))))
 
 
+def small_query(part):
+    """A random one-query script with its query, or None where it has many parts or is refused."""
+    head = random_query(part)
+    try:
+        script = checker.read_script(head, False)
+        checker.analysis.walk_parts(script.query, MOST_OWN_PARTS)
+        return head, script
+    except (Refused, checker.analysis.TooManyParts):
+        return None
+
+
+def judge_own_certificates(part, program, scale):
+    """Certificates of the campaign's own making, some of them with strays, must be judged alike."""
+    for _ in range(scaled(OWN_CERTIFICATES, scale)):
+        found = small_query(part)
+        if found:
+            strays = part.random.choice([0, 0.02, 0.1, 0.25])
+            lines = maker.certificate(found[1].query, part.random, strays)
+            part.count("own certificates")
+            try_changed(part, program, found[0].split(b"\n")[:-1] + lines)
+
+
 def run(program, seed, scale):
     part = Part("certificates", seed)
     certificates = judge_queries(part, program, scale)
     for _ in range(scaled(REFUSED_SCRIPTS, scale)):
         judge(part, program, refused_script(part))
     change_certificates(part, program, certificates, scale)
+    judge_own_certificates(part, program, scale)
     return part

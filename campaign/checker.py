@@ -13,7 +13,8 @@ MOST_NODES = 262_144
 LARGEST_NUMBER = 65_535
 LEAST_COUNT = {"infeasible": 1, "path": 3}
 GREATEST_COUNT = {"infeasible": 13, "path": 14}
-LINE = re.compile(rb"(split|infeasible|leaf|path)((?: [0-9]+)*)\Z")
+WORDS = [b"split", b"infeasible", b"leaf", b"path"] + [b"against"] * bool(language.SOFT_OPERATORS)
+LINE = re.compile(rb"(" + b"|".join(WORDS) + rb")((?: [0-9]+)*)\Z")
 
 
 class Fault(Exception):
@@ -84,7 +85,7 @@ def counts_fit(word, count):
     """Whether a certificate line with this word may have so many numbers."""
     if word in LEAST_COUNT:
         return LEAST_COUNT[word] <= count <= GREATEST_COUNT[word]
-    return count == (1 if word == "split" else 0)
+    return count == (0 if word == "leaf" else 1)
 
 
 class Tree:
@@ -100,11 +101,12 @@ class Tree:
     def walk(self):
         """Goes through the whole tree; Fault at the first place that breaks a rule."""
         base = []
-        for left, operator, right in self.query.atoms:
+        for left, operator, right in analysis.hard_atoms(self.query):
             base += analysis.constraints_of(left, operator, right, self.numbers)
-        waiting, place = [(0, base)], 0
+        waiting, place = [("", base)], 0
         while waiting:
-            depth, constraints = waiting.pop()
+            signs, constraints = waiting.pop()
+            depth = len(signs)
             place += 1
             if place > len(self.nodes):
                 raise Fault(place, "Shape")
@@ -115,11 +117,13 @@ class Tree:
                 left, right = self.pairs[depth]
                 for sign in reversed(analysis.SIGNS):
                     more = analysis.constraints_of(left, sign, right, self.numbers)
-                    waiting.append((depth + 1, constraints + more))
+                    waiting.append((signs + sign, constraints + more))
             elif word == "infeasible":
                 self.try_cycle(place, numbers, constraints)
+            elif word == "against":
+                self.try_against(place, numbers[0], signs)
             else:
-                self.try_leaf(place, depth, numbers, constraints)
+                self.try_leaf(place, signs, numbers, constraints)
         if place < len(self.nodes):
             raise Fault(place + 1, "Shape")
 
@@ -132,8 +136,25 @@ class Tree:
         if not closes or sum(it[2] for it in chain) >= 0:
             raise Fault(place, "Cycle")
 
-    def try_leaf(self, place, depth, paths, constraints):
-        if depth != len(self.pairs):
+    def is_false(self, atom, signs):
+        """Whether a soft comparison is false under the sign of its pair, where that has one."""
+        if atom[0] == atom[2]:
+            return atom[1] == "<>"
+        left, operator, right = analysis.turned(atom)
+        place = self.pairs.index((left, right))
+        return place < len(signs) and signs[place] not in operator
+
+    def try_against(self, place, number, signs):
+        """A node that names the comparison, by its number among all, that is false there."""
+        if not 1 <= number <= len(self.query.atoms):
+            raise Fault(place, "Cycle")
+        atom = self.query.atoms[number - 1]
+        if atom[1] not in analysis.SOFT or not self.is_false(atom, signs):
+            raise Fault(place, "Cycle")
+
+    def try_leaf(self, place, signs, paths, constraints):
+        soft = [it for it in self.query.atoms if it[1] in analysis.SOFT]
+        if len(signs) != len(self.pairs) or any(self.is_false(it, signs) for it in soft):
             raise Fault(place, "Shape")
         at = [[0 if i == j else None for j in range(self.size)] for i in range(self.size)]
         before = (-1, -1)
@@ -224,10 +245,9 @@ def certificate_reply(text):
 def too_large(query):
     """Whether `certify` refuses a query for its size."""
     try:
-        vectors = analysis.walk_parts(query, analysis.MOST_PARTS)
+        return analysis.nodes_of(query, analysis.MOST_PARTS) > MOST_NODES
     except analysis.TooManyParts:
         return True
-    return analysis.nodes_of(query, [signs for signs, _ in vectors]) > MOST_NODES
 
 
 def certify_refusal(text):

@@ -3,6 +3,7 @@
 The answers to a row are the nested product over the rows kept, filtered and projected. Equal
 rows are kept once with a count. The only thing left out is want of memory.
 """
+import operator
 from collections import Counter
 
 import analysis
@@ -14,7 +15,8 @@ MOST_QUERIES = 64
 POOL_PAGES = 16_384
 MOST_ROWS = 2**40
 
-COMPARE = {"<": lambda x, y: x < y, "=": lambda x, y: x == y, ">": lambda x, y: x > y}
+COMPARE = {"<": operator.lt, "=": operator.eq, ">": operator.gt,
+           "<=": operator.le, ">=": operator.ge, "<>": operator.ne}
 VERDICTS = {}
 
 
@@ -64,9 +66,9 @@ class LiveQuery:
     def atoms_by_step(self, order):
         """For each step of a product in this order, the atoms that can be tried from then on."""
         steps = [[] for _ in order]
-        for left, operator, right in self.query.atoms:
+        for left, op, right in self.query.atoms:
             last = max(order.index(it[0]) for it in (left, right) if not isinstance(it, int))
-            steps[last].append((left, COMPARE[operator], right))
+            steps[last].append((left, COMPARE[op], right))
         return steps
 
     def combine(self, order, chosen):

@@ -1,8 +1,13 @@
 """Random scripts. The writer asks the evaluator for the reply to each line that it writes.
 
-So it knows which queries live, and drops those whose answers become too many.
+So it knows which queries live, and drops those whose answers become too many. What share of the
+comparisons is soft the environment sets; where there are none, the scripts are what they were
+before there were any.
 """
+import re
+
 from evaluator import Session
+from language import MOST_SOFT, SOFT_SHARE
 
 MOST_ANSWER_BYTES = 4000
 STREAM_NAMES = [b"S", b"T", b"U", b"W", b"R", b"L", b"s", b"_x", b"temp_1", b"reading", b"Q1", b"Zz",
@@ -20,6 +25,17 @@ LINES = [b"", b"   ", b"\t", b"-- nothing", b"  -- S,1", b"--", b"-", b"- -", b"
          b"S," + b"0" * 1023, b" " * 1024, b" " * 1025, b"create stream K (a);;", b"\r", b" \r", b"\r\r",
          b"CHECKPOINT", b"RESUME 1", b"CREATE STREAM i (a IN 1 TO 5)", b"drop query nobody", b"nobody,1",
          b"n" * 25 + b",1", b"CREATE STREAM " + b"n" * 25 + b" (a)", b"\xef\xbb\xbfS,1", b"S\x00,1"]
+COMPARISON = re.compile(rb" ([<=>]) ")
+SOFTER = {b"<": [b"<=", b"<=", b"<>"], b">": [b">=", b">=", b"<>"], b"=": [b"<=", b">=", b"<>"]}
+SPOILED = [(b"FROM ", b"FROM nobody, "), (b"SELECT ", b"SELECT nobody.a, "), (b".a", b".zz"),
+           (b"WHERE", b"WHERE 1 < 2 AND"), (b" AND ", b" OR "), (b"SELECT ", b"SELECT * "),
+           (b"WHERE", b"WHERE S.a <= 2 AND"), (b"FROM ", b"FROM S, S, "), (b"AND", b"AND AND"),
+           (b"WHERE ", b"WHERE " + b"S.a = S.a AND " * 16), (b"> ", b"> 1000000000000000"),
+           (b"SELECT ", b"SELECT " + b"S.a, " * 8), (b"FROM ", b"FROM S, T, U, W, R, ")]
+SPOILED_SOFT = [(b"<=", b"< ="), (b"<=", b"=<"), (b">=", b"> ="), (b">=", b"=>"), (b"<>", b"!="),
+                (b"<>", b"< >"), (b"<>", b"><"), (b"<", b"<<"), (b"=", b"=="), (b"<=", b"<=>"),
+                (b"<=", b"<=+"), (b">= ", b">=-"), (b"<> ", b"<>"), (b"<> ", b"<> 1000000000000000"),
+                (b"WHERE", b"WHERE 1 <> 2 AND")]
 
 
 class Writer:
@@ -74,6 +90,37 @@ class Writer:
     def columns_of(self, stream):
         return [stream + b"." + it for it in self.session.streams[stream]]
 
+    # comparisons
+
+    def softened(self, atoms):
+        """The comparisons, some of them made soft, and now and then more of them."""
+        if not SOFT_SHARE:
+            return atoms
+        kept = []
+        for atom in atoms:
+            operator = COMPARISON.search(atom).group(1)
+            if operator != b"=" and self.chance(SOFT_SHARE):
+                softer = b" %s " % self.random.choice(SOFTER[operator])
+                kept.append(COMPARISON.sub(softer, atom))
+                if self.chance(0.3):
+                    kept.append(COMPARISON.sub(b" <> ", atom))
+            elif self.chance(SOFT_SHARE / 8):
+                kept.append(COMPARISON.sub(b" %s " % self.random.choice(SOFTER[operator]), atom))
+            else:
+                kept.append(atom)
+        if kept and self.chance(0.04):
+            kept += self.many_soft(kept)
+        return kept
+
+    def many_soft(self, atoms):
+        """Further soft comparisons, with which there are about as many as there may be."""
+        soft = sum(not COMPARISON.search(it) for it in atoms)
+        column = next(it for it in atoms[0].split() if b"." in it)
+        operators = [b" <= ", b" >= ", b" <= ", b" >= ", b" <= ", b" >= ", b" <> "]
+        sides = [column, column, column, b"0", b"2"]
+        return [column + self.random.choice(operators) + self.random.choice(sides)
+                for _ in range(soft, MOST_SOFT + self.random.choice([0, 0, 1]))]
+
     def bound(self, column, base, width):
         """Comparisons that bound a column, or one that does so on one side, or a single value."""
         low, high = base, base + width + 1
@@ -104,6 +151,7 @@ class Writer:
             atoms.append(self.any_atom(chosen))
         if self.chance(0.15):
             atoms.append(self.any_atom([first]))
+        atoms = self.softened(atoms)
         self.random.shuffle(atoms)
         text = b"SELECT " + (b"DISTINCT " if self.chance(0.5) else b"") + b", ".join(select)
         text += b" FROM " + b", ".join(chosen)
@@ -148,12 +196,8 @@ class Writer:
 
     def spoiled(self, text):
         """A query with a fault of its own kind."""
-        old, new = self.random.choice([
-            (b"FROM ", b"FROM nobody, "), (b"SELECT ", b"SELECT nobody.a, "), (b".a", b".zz"),
-            (b"WHERE", b"WHERE 1 < 2 AND"), (b" AND ", b" OR "), (b"SELECT ", b"SELECT * "),
-            (b"WHERE", b"WHERE S.a <= 2 AND"), (b"FROM ", b"FROM S, S, "), (b"AND", b"AND AND"),
-            (b"WHERE ", b"WHERE " + b"S.a = S.a AND " * 16), (b"> ", b"> 1000000000000000"),
-            (b"SELECT ", b"SELECT " + b"S.a, " * 8), (b"FROM ", b"FROM S, T, U, W, R, ")])
+        fitting = [it for it in SPOILED_SOFT if it[0] in text] if SOFT_SHARE else []
+        old, new = self.random.choice(SPOILED + fitting)
         return text.replace(old, new, 1)
 
     # rows
@@ -240,6 +284,7 @@ class Writer:
             atoms.append(chosen[0] + b".w " + self.random.choice([b"<", b"=", b">"]) + b" %d" % low)
         if self.chance(0.2):
             atoms.append(chosen[-1] + b".w = " + chosen[-1] + b".v")
+        atoms = self.softened(atoms)
         text = b"SELECT DISTINCT " + b", ".join(select) + b" FROM " + b", ".join(chosen)
         return text + b" WHERE " + b" AND ".join(atoms)
 

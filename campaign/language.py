@@ -1,7 +1,11 @@
 """The script language: kinds of lines, tokens, statements, rows and the printed form.
 
 Everything here works on bytes. A statement that is refused raises Refused with its word.
+
+The comparisons `<=`, `>=` and `<>` are called soft. Where the environment has no CAMPAIGN_SOFT,
+the language has none of them, nor the certificates what belongs to them.
 """
+import os
 import re
 from collections import namedtuple
 
@@ -11,16 +15,25 @@ MOST_COLUMNS = 8
 MOST_SELECTED = 8
 MOST_FROM = 4
 MOST_ATOMS = 16
+MOST_SOFT = 8
 MOST_ATTRIBUTES = 12
 MOST_CONSTANTS = 6
 LARGEST_INTEGER = 999_999_999_999_999
 LEAST_VALUE, GREATEST_VALUE = -(2**63), 2**63 - 1
 
+# the share of soft comparisons in random queries; 0 is the language without them
+SOFT_SHARE = float(os.environ.get("CAMPAIGN_SOFT") or 0)
+HARD_OPERATORS = ("<", "=", ">")
+SOFT_OPERATORS = ("<=", ">=", "<>") if SOFT_SHARE > 0 else ()
+OPERATORS = HARD_OPERATORS + SOFT_OPERATORS
+
 RESERVED = {
     b"CREATE", b"STREAM", b"QUERY", b"AS", b"SELECT", b"DISTINCT", b"FROM", b"WHERE", b"AND",
     b"EXPLAIN", b"DROP", b"IN", b"SHARED", b"CHECKPOINT", b"RESUME",
 }
-TOKEN = re.compile(rb"[ \t]*(?:([A-Za-z_][A-Za-z0-9_]*)|([+-]?[0-9]+)|([,.()<=>;]))")
+# the longest token first
+MARK = b"|".join([it.encode() for it in SOFT_OPERATORS] + [rb"[,.()<=>;]"])
+TOKEN = re.compile(rb"[ \t]*(?:([A-Za-z_][A-Za-z0-9_]*)|([+-]?[0-9]+)|(" + MARK + rb"))")
 ROW = re.compile(rb"([A-Za-z_][A-Za-z0-9_]*)[ \t]*,")
 VALUE = re.compile(rb"[+-]?[0-9]+\Z")
 
@@ -123,7 +136,7 @@ class Reader:
         """A comparison: one side at least is a column."""
         left = int(self.take("integer")) if self.kind() == "integer" else self.column()
         operator = self.kind()
-        if operator not in ("<", "=", ">"):
+        if operator not in OPERATORS:
             raise Refused("Syntax")
         self.place += 1
         if isinstance(left, tuple) and self.kind() == "integer":
@@ -172,10 +185,12 @@ def read_statement(reader):
 def query_passes_limit(query):
     """Whether a query passes a limit of the language other than that of names."""
     operands = [it for atom in query.atoms for it in (atom.left, atom.right)]
+    soft = [it for it in query.atoms if it.operator in SOFT_OPERATORS]
     integers = {it for it in operands if isinstance(it, int)}
     columns = {it for it in operands if not isinstance(it, int)}
     return (len(query.select) > MOST_SELECTED or len(query.streams) > MOST_FROM
-            or len(query.atoms) > MOST_ATOMS or len(columns) > MOST_ATTRIBUTES
+            or len(query.atoms) > MOST_ATOMS or len(soft) > MOST_SOFT
+            or len(columns) > MOST_ATTRIBUTES
             or any(abs(it) > LARGEST_INTEGER for it in integers)
             or len(integers) > MOST_CONSTANTS)
 

@@ -3,7 +3,9 @@
 A refused query is given n rows of one stream and, for each of them, a row of each other stream,
 so that after any two different sets of the n rows one of these continuations is answered
 differently. So there is a state for each of the 2^n sets. The construction is that of
-docs/WHY-IT-WORKS.md, for each condition; the answers are those of the evaluator.
+docs/WHY-IT-WORKS.md, for each condition; the answers are those of the evaluator. Soft comparisons
+between streams are tried where an unbounded selected column is at fault; for the other conditions
+nothing of the kind is claimed with them.
 """
 from collections import Counter, namedtuple
 from copy import copy
@@ -13,6 +15,7 @@ import language
 from analysis import Query, is_constant
 from common import Part, compare, scaled
 from evaluator import COMPARE, LiveQuery, session_text
+from language import SOFT_OPERATORS, SOFT_SHARE
 
 QUERIES = 3000
 OF_SCRIPT = 60
@@ -30,11 +33,17 @@ Link = namedtuple("Link", "side left right")
 
 # queries
 
+def random_operator(random, operators):
+    """One of the operators, or with the share that the environment sets a soft one."""
+    soft = SOFT_SHARE and random.random() < SOFT_SHARE
+    return random.choice(SOFT_OPERATORS if soft else operators)
+
+
 def random_comparison(random, columns, constants):
     """A comparison of two columns, or of a column and a constant."""
     left = random.choice(columns)
     right = random.choice(constants if random.random() < 0.3 else columns)
-    return left, random.choice("<<=>>"), right
+    return left, random_operator(random, "<<=>>"), right
 
 
 def random_query(random):
@@ -65,7 +74,7 @@ def query_of_two_links(random):
         if end:
             atoms += [(it, end[1], end[0]) for it in (column, other)]
     if random.random() < 0.4:
-        atoms.append((own[0], random.choice("<=>"), own[1]))
+        atoms.append((own[0], random_operator(random, "<=>"), own[1]))
     return Query(True, places, ((0, 3),), tuple(atoms))
 
 
@@ -94,8 +103,14 @@ def refusal_of(query):
         facts = analysis.part_of(query, signs, at).facts
         violation = analysis.violation_of(query, facts)
         if violation:
-            return Refusal(query, number, *violation, facts, signs)
+            telling = violation[0] == "C1" or softly_within_streams(query)
+            return Refusal(query, number, *violation, facts, signs) if telling else None
     return None
+
+
+def softly_within_streams(query):
+    """Whether all soft comparisons are of columns of one stream, or of a column and a constant."""
+    return all(analysis.is_local(it, it[0][0]) for it in analysis.soft_pairs(query))
 
 
 # assignments of a part

@@ -1,10 +1,12 @@
 """The worked cases of the repository, and of further folders, as scripts for the other parts.
 
-As a part it tries the evaluator itself: its replies must be those that stand beside the cases,
-and its analysis must agree with the enumeration of assignments.
+As a part it tries the campaign's own files: the replies of the evaluator and of the checker must
+be those that stand beside the cases, and the analysis must agree with the enumeration of
+assignments.
 """
 import os
 
+import checker
 import enumeration
 import language
 from common import Part, scaled
@@ -79,20 +81,33 @@ def most_rows(words):
     return None
 
 
-def run(program, seed, scale):
-    part = Part("worked", seed)
+def try_cases(part):
+    """The evaluator and the checker must say of each case what stands beside it."""
     for path, words, given, wanted in cases():
         rows = most_rows(words)
+        if words == ["check"]:
+            part.count("checked certificates")
+            if checker.certificate_reply(given)[0] != wanted:
+                part.differs(f"the checker differs from {path}")
         if not rows or not 1 <= rows <= MOST_ROWS or words[-1].startswith("0"):
             continue
         part.count("sessions")
         part.count("lines", len(language.lines_of(given)))
         if session_text(given, rows) != wanted:
             part.differs(f"the evaluator differs from {path}")
+
+
+def try_enumeration(part, scale):
     for _ in range(scaled(ENUMERATED, scale)):
         query = enumeration.random_query(part.random)
         part.count("queries by enumeration")
         fault = enumeration.fault_of(query)
         if fault:
             part.differs(f"the analysis differs from enumeration: {fault} of {query}")
+
+
+def run(program, seed, scale):
+    part = Part("worked", seed)
+    try_cases(part)
+    try_enumeration(part, scale)
     return part

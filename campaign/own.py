@@ -1,0 +1,102 @@
+"""The campaign's own files tried on each other; no program is run.
+
+The checker must take certificates of the campaign's own making, and say nothing wrong of changed
+ones. An evaluator over cells must answer each row as the evaluator over rows does.
+"""
+import analysis
+import checker
+import language
+import maker
+from certificates import MOST_OWN_PARTS, changes, small_query, wanted_decision
+from common import Part, scaled
+from generator import Writer
+from synopsis import Synopsis
+
+CERTIFIED = 300
+CHANGED_OF_EACH = 40
+STRAYS = [0.05, 0.1, 0.2, 0.3]
+OVER_CELLS = 150
+ROWS_OVER_CELLS = 60
+
+
+def judge_own(part, head, lines):
+    """What the checker says of a script with a certificate, where it takes it at all.
+
+    A yes must carry the right decision and the right number of parts.
+    """
+    text = head + b"\n".join(lines) + b"\n"
+    reply, status = checker.certificate_reply(text)
+    if status == 0 and reply != wanted_decision(checker.read_script(text, True)):
+        part.differs(f"the checker says {reply!r} and should not", text)
+    return reply, status
+
+
+def try_certificates(part, scale):
+    """Own certificates must be taken, and no yes to a changed one may be wrong."""
+    for _ in range(scaled(CERTIFIED, scale)):
+        found = small_query(part)
+        if not found:
+            continue
+        head, script = found
+        statement, lines = script.statement, maker.certificate(script.query)
+        if language.parse(language.print_statement(statement)) != statement:
+            part.differs("the printed form of a query reads otherwise", head)
+        part.count("own certificates")
+        part.count("with against", int(any(it.startswith(b"against") for it in lines)))
+        reply, status = judge_own(part, head, lines)
+        if status != 0:
+            part.differs(f"the checker refuses a certificate: {reply!r}", head)
+        nodes = sum(not it.startswith(b"path") for it in lines)
+        if nodes != analysis.nodes_of(script.query, analysis.MOST_PARTS):
+            part.differs("a certificate of another number of nodes", head)
+        others = list(changes(lines))
+        others = part.random.sample(others, min(len(others), CHANGED_OF_EACH))
+        others += [maker.certificate(script.query, part.random, it) for it in STRAYS]
+        for other in others:
+            _, status = judge_own(part, head, other)
+            part.count("changed, refused" if status else "changed, still yes")
+
+
+def try_cells(part, scale):
+    """The evaluator over cells must answer each row as the one over rows."""
+    for number in range(scaled(OVER_CELLS, scale)):
+        writer = Writer(part.random)
+        if number % 2:
+            writer.extremes(3)
+        while len(writer.session.streams) < 3:
+            writer.stream(3)
+        for _ in range(6):
+            text = writer.extreme_query() if number % 2 else writer.query_text()
+            writer.query(text=text)
+        for live in list(writer.session.queries.values()):
+            if live.found.verdict[0] == "ok" and len(live.found.parts) <= MOST_OWN_PARTS:
+                compare_over_cells(part, writer, live)
+
+
+def compare_over_cells(part, writer, live):
+    """Gives some rows to one query in both ways."""
+    cells = Synopsis(live.query, live.found.parts)
+    part.count("queries over cells")
+    part.count("of them with an extreme", int(any(any(it.extremes) for it in live.found.parts)))
+    part.count("with a soft comparison between streams", int(any(
+        not analysis.is_local(it, it[0][0]) for it in analysis.soft_pairs(live.query))))
+    streams = live.statement.streams
+    for _ in range(ROWS_OVER_CELLS):
+        stream = writer.random.choice(streams)
+        row = [writer.random.randint(-3, 9) for _ in writer.session.streams[stream]]
+        wanted = live.answers(stream, row)
+        part.count("answers over cells", len(wanted))
+        if cells.answers(streams.index(stream), row) != wanted:
+            part.differs(f"cells answer {stream},{row} otherwise: "
+                         f"{language.print_statement(live.statement)}")
+            return
+    _, _, announced, answers, _ = live.found.verdict
+    if cells.in_use() > announced or len(cells.printed) > answers:
+        part.differs(f"too many cells or answers: {language.print_statement(live.statement)}")
+
+
+def run(program, seed, scale):
+    part = Part("own", seed)
+    try_certificates(part, scale)
+    try_cells(part, scale)
+    return part
