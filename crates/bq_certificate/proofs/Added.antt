@@ -14,10 +14,12 @@ use Rattle.bq_certificate.proofs.Spelled.{one_line}
 pub nodes_added : (lines : List Line) (l : Line) → length (nodes_of (lines ++ l ∷ [])) ≡ length (nodes_of lines) + count_of l
 nodes_added [] (line.Split pair) = refl
 nodes_added [] (line.Infeasible numbers) = refl
+nodes_added [] (line.Against comparison) = refl
 nodes_added [] line.Leaf = refl
 nodes_added [] (line.Path p) = refl
 nodes_added (line.Split pair ∷ lines) l = omega (arith, nodes_added lines l)
 nodes_added (line.Infeasible numbers ∷ lines) l = omega (arith, nodes_added lines l)
+nodes_added (line.Against comparison ∷ lines) l = omega (arith, nodes_added lines l)
 nodes_added (line.Leaf ∷ lines) l = omega (arith, nodes_added lines l)
 nodes_added (line.Path p ∷ lines) l = nodes_added lines l
 
@@ -44,6 +46,7 @@ lines_added lines l are is room = let P : Option Line → Type 0 = λ before. Is
 count_small : (l : Line) → count_of l ≤ 1
 count_small (line.Split pair) = omega arith
 count_small (line.Infeasible numbers) = omega arith
+count_small (line.Against comparison) = omega arith
 count_small line.Leaf = omega arith
 count_small (line.Path p) = omega arith
 

@@ -4,7 +4,7 @@ use Rattle.std.proofs.Common.{◌≡◌, ℕ, ◌-◌, ℤ, pos, ◌+ℤ◌, ◌
 use Rattle.std.proofs.lemmas.Int.{ints}
 use Rattle.bq_model.specs.declared.part.Sign.{Sign}
 use Rattle.bq_model.specs.Query.{QueryValue}
-use Rattle.bq_model.proofs.Split.{StartsWith, IsFeasible}
+use Rattle.bq_model.proofs.Split.{StartsWith, IsFeasible, feasible_where}
 use Rattle.bq_model.specs.Parts.{IsPart}
 use Rattle.bq_constraints.specs.declared.constraint.Constraint.{Constraint}
 use Rattle.bq_constraints.specs.Solutions.{Solves, IsSatisfiable, IsChain, IsNegativeCycle}
@@ -37,7 +37,7 @@ no_assignment q signs numbers h f = no_solution (of_prefix q signs) numbers h (s
 
 -- no part begins with the signs at an infeasible node
 pub no_part_begins : (q : QueryValue) (signs : List Sign) (numbers : List ℕ) → IsNegativeCycle (of_prefix q signs) numbers → (s : List Sign) → IsPart q s → ¬ StartsWith signs s
-no_part_begins q signs numbers h s p w = no_assignment q signs numbers h record { one = p.one; holds = p.inside.holds; starts = record { rest = w.rest; is = p.inside.signs ∙ w.is } }
+no_part_begins q signs numbers h s p w = no_assignment q signs numbers h (feasible_where q signs p.one p.inside.holds p.inside.domains record { rest = w.rest; is = p.inside.signs ∙ w.is })
 
 -- what a constraint that may not be there adds to a sum
 abbrev pub bound_or : Option Constraint → ℤ

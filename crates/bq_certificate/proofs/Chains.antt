@@ -5,7 +5,7 @@ use Rattle.std.specs.Option.{option_and_then, option_map, is_some}
 use Rattle.std.proofs.lemmas.Bool.Decides.{nat_tests}
 use Rattle.std.proofs.lemmas.List.Splits.{length-slice_split}
 use Rattle.bq_text.specs.Lines.{parts_behind}
-use Rattle.bq_certificate.specs.Spelling.{number_of, numbers_of, up_to, chain_of, split_of, leaf_of}
+use Rattle.bq_certificate.specs.Spelling.{number_of, numbers_of, up_to, chain_of, split_of, against_of, leaf_of}
 
 -- a word stands behind a space
 pub some_behind : (behind : Option (Bor (List ℕ))) → is_some behind ≡ true → 0 < length (parts_behind 32 behind)
@@ -21,6 +21,11 @@ no_leaf (word ∷ ws) h = refl
 pub no_split : (word : List ℕ) (ws : List (List ℕ)) → 0 < length ws → split_of (word ∷ ws) ≡ None
 no_split word [] h = absurd (omega arith)
 no_split word (other ∷ ws) h = refl
+
+-- and so has a branch that a comparison closes
+pub no_against : (word : List ℕ) (ws : List (List ℕ)) → 0 < length ws → against_of (word ∷ ws) ≡ None
+no_against word [] h = absurd (omega arith)
+no_against word (other ∷ ws) h = refl
 
 no_more : (a : Bool) (x : Option (List ℕ)) → cond (a && false) x None ≡ None
 no_more true x = refl

@@ -6,7 +6,7 @@ use Rattle.bq_model.specs.declared.condition.Condition.{Condition}
 use Rattle.bq_model.specs.declared.condition.Condition.TheVariants.{C1, C2, C3}
 use Rattle.bq_model.specs.declared.decision.Decision.{Decision}
 use Rattle.bq_model.specs.declared.decision.Decision.TheVariants as decision
-use Rattle.bq_model.specs.Query.{QueryValue, attrs_of, is_filter}
+use Rattle.bq_model.specs.Query.{QueryValue, attrs_of, is_filter, IsWithinLimits}
 use Rattle.bq_model.specs.Violation.{Breaks, condition_lt, IsFirstFailure}
 use Rattle.bq_model.specs.Verdict.{IsDecision}
 use Rattle.bq_certificate.specs.declared.breaking.Break.{Break}
@@ -86,6 +86,6 @@ module _ (q : QueryValue) (s : List Sign) where
   takes_none number old n = λ xs e h. still old.decision xs n h
 
 -- where all leaves were read
-pub decided : (q : QueryValue) (d : Decision) → is_filter q ≡ false → (nodes : List Node) → IsGood q nodes → IsFirstFailure q (leaves_of (Some []) nodes) (failure_of d) → IsDecision q d
-decided q decision.Bounded f nodes g h = violation_by_leaves q nodes None f g h
-decided q (decision.Violation part condition attr) f nodes g h = violation_by_leaves q nodes (Some record { part = part; condition = condition; attr = attr }) f g h
+pub decided : (q : QueryValue) → IsWithinLimits q → (d : Decision) → is_filter q ≡ false → (nodes : List Node) → IsGood q nodes → IsFirstFailure q (leaves_of (Some []) nodes) (failure_of d) → IsDecision q d
+decided q l decision.Bounded f nodes g h = violation_by_leaves q l nodes None f g h
+decided q l (decision.Violation part condition attr) f nodes g h = violation_by_leaves q l nodes (Some record { part = part; condition = condition; attr = attr }) f g h

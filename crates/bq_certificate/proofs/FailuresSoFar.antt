@@ -8,7 +8,7 @@ use Rattle.bq_model.specs.declared.atom.Attr.{Attr}
 use Rattle.bq_model.specs.declared.condition.Condition.{Condition}
 use Rattle.bq_model.specs.declared.condition.Condition.TheVariants.{C1, C2, C3}
 use Rattle.bq_model.specs.declared.part.Sign.{Sign}
-use Rattle.bq_model.specs.Query.{QueryValue, attr_lt, is_filter}
+use Rattle.bq_model.specs.Query.{QueryValue, attr_lt, is_filter, IsWithinLimits}
 use Rattle.bq_model.specs.Violation.{Breaks, Failure, failure_lt, condition_lt, condition_index, Fails, IsFirstFailure, IsViolation, first}
 use Rattle.bq_constraints.proofs.Numbers.{slice_get-append}
 use Rattle.bq_certificate.specs.Nodes.{Node}
@@ -113,5 +113,5 @@ module _ (q : QueryValue) where
   )
 
   -- the first failure among the leaves of a good tree is the violation of the query
-  pub violation_by_leaves : (nodes : List Node) (r : Option Failure) → IsFalse (is_filter q) → IsGood q nodes → IsFirstFailure q (leaves_of (Some []) nodes) r → IsViolation q r
-  violation_by_leaves nodes r f g h = first f (leaves_of (Some []) nodes) (leaves_are_parts q nodes g) h
+  pub violation_by_leaves : IsWithinLimits q → (nodes : List Node) (r : Option Failure) → IsFalse (is_filter q) → IsGood q nodes → IsFirstFailure q (leaves_of (Some []) nodes) r → IsViolation q r
+  violation_by_leaves l nodes r f g h = first f (leaves_of (Some []) nodes) (leaves_are_parts q l nodes g) h

@@ -4,15 +4,16 @@ use Rattle.bq_model.specs.declared.part.Sign.{Sign}
 use Rattle.bq_model.specs.Query.{QueryValue}
 use Rattle.bq_certificate.specs.declared.answer.Reason.{Reason}
 use Rattle.bq_certificate.specs.declared.answer.Reason.TheVariants as reason
-use Rattle.bq_certificate.specs.Nodes.{Node, split, infeasible, leaf}
-use Rattle.bq_certificate.specs.Rules.{IsGoodNode, Breaks, no_split, no_cycle, no_part, no_paths, not_closed}
+use Rattle.bq_certificate.specs.Nodes.{Node, split, infeasible, against, leaf}
+use Rattle.bq_certificate.specs.Rules.{IsGoodNode, Breaks, no_split, no_cycle, no_refuted, no_part, no_paths, not_closed}
 use Rattle.bq_certificate.specs.Reading.{after, AreGood, done, next, IsGood, IsFirstFault, broken, unfinished, left_over}
 
 -- a node that breaks a rule is not good
 pub breaks_is_bad : (q : QueryValue) (signs : List Sign) (node : Node) (why : Reason) → Breaks q signs node why → ¬ IsGoodNode q signs node
 breaks_is_bad q signs (split pair) why (no_split n) g = n g
 breaks_is_bad q signs (infeasible numbers) why (no_cycle n) g = n g
-breaks_is_bad q signs (leaf paths) why (no_part n) g = n g.whole
+breaks_is_bad q signs (against comparison) why (no_refuted n) g = n g
+breaks_is_bad q signs (leaf paths) why (no_part n) g = n g.place
 breaks_is_bad q signs (leaf paths) why (no_paths l n) g = n g.are_paths
 breaks_is_bad q signs (leaf paths) why (not_closed l a n) g = n g.closed
 
@@ -20,6 +21,7 @@ breaks_is_bad q signs (leaf paths) why (not_closed l a n) g = n g.closed
 pub one_reason : (q : QueryValue) (signs : List Sign) (node : Node) (r s : Reason) → Breaks q signs node r → Breaks q signs node s → r ≡ s
 one_reason q signs (split pair) r s (no_split n) (no_split m) = refl
 one_reason q signs (infeasible numbers) r s (no_cycle n) (no_cycle m) = refl
+one_reason q signs (against comparison) r s (no_refuted n) (no_refuted m) = refl
 one_reason q signs (leaf paths) r s (no_part n) (no_part m) = refl
 one_reason q signs (leaf paths) r s (no_part n) (no_paths l m) = absurd (n l)
 one_reason q signs (leaf paths) r s (no_part n) (not_closed l a m) = absurd (n l)

@@ -1,5 +1,5 @@
 -- The rules of a node, over what its tests say.
-use Rattle.std.proofs.Common.{◌≡◌, ℕ, suc, ◌<◌, ◌≤◌, ℤ, Option, Some, None, List, length, All, sym, ◌∙◌, ap, subst, arith}
+use Rattle.std.proofs.Common.{◌≡◌, ℕ, suc, ◌<◌, ◌≤◌, ℤ, Option, Some, None, List, length, All, sym, ◌∙◌, subst, arith}
 use Rattle.bq_model.specs.declared.part.Pair.{Pair}
 use Rattle.bq_model.specs.declared.part.Sign.{Sign}
 use Rattle.bq_model.specs.Query.{QueryValue, attrs_of}
@@ -11,8 +11,8 @@ use Rattle.bq_certificate.specs.declared.line.Path.{Path}
 use Rattle.bq_certificate.specs.declared.answer.Reason.{Reason}
 use Rattle.bq_certificate.specs.declared.answer.Reason.TheVariants as reason
 use Rattle.bq_certificate.specs.declared.place.Place.{Place}
-use Rattle.bq_certificate.specs.Nodes.{split, infeasible, leaf}
-use Rattle.bq_certificate.specs.Rules.{ArePaths, AreClosed, IsNextPair, IsGoodLeaf, Breaks, no_split, no_cycle, no_part, no_paths, not_closed}
+use Rattle.bq_certificate.specs.Nodes.{split, infeasible, against, leaf}
+use Rattle.bq_certificate.specs.Rules.{ArePaths, AreClosed, IsNextPair, IsRefuted, MayBePart, IsGoodLeaf, Breaks, no_split, no_cycle, no_refuted, no_part, no_paths, not_closed}
 use Rattle.bq_certificate.specs.Bounds.{KeepsEach, Tells, ReadsBounds}
 use Rattle.bq_certificate.specs.Standing.{Stands}
 use Rattle.bq_certificate.proofs.Keeping.{closed_from, keeps_from}
@@ -22,16 +22,21 @@ cycle_wrong q p cs numbers why s e h =
     let n : ¬ IsNegativeCycle (of_prefix q p.signs.items) numbers = subst (λ (z : List Constraint). ¬ IsNegativeCycle z numbers) (e ∙ s.constraints) h.1 in
     subst (λ (w : Reason). Breaks q p.signs.items (infeasible numbers) w) (sym h.0) (no_cycle n)
 
-module _ (q : QueryValue) (p : Place) (ps : List Pair) (paths : List Path) (s : Stands q p) (e : ps ≡ pairs q) where
-  pub leaf_above : ¬ (length p.signs.items ≡ length ps) → Breaks q p.signs.items (leaf paths) reason.Shape
-  leaf_above n = no_part (λ h. n (h ∙ sym (ap length e)))
+pub against_wrong : (q : QueryValue) (signs here : List Sign) (number : ℕ) (why : Reason) → here ≡ signs → (why ≡ reason.Cycle) × ¬ IsRefuted q here number → Breaks q signs (against number) why
+against_wrong q signs here number why e h =
+    let n : ¬ IsRefuted q signs number = subst (λ (z : List Sign). ¬ IsRefuted q z number) e h.1 in
+    subst (λ (w : Reason). Breaks q signs (against number) w) (sym h.0) (no_refuted n)
 
-  module _ (n : ℕ) (cs : List Constraint) (en : n ≡ length (attrs_of q.atoms)) (ec : cs ≡ p.constraints.items) (here : length p.signs.items ≡ length ps) where
-    whole : length p.signs.items ≡ length (pairs q)
-    whole = here ∙ ap length e
+module _ (q : QueryValue) (p : Place) (paths : List Path) (s : Stands q p) (signs : List Sign) (e : signs ≡ p.signs.items) where
+  pub leaf_above : ¬ MayBePart q signs → Breaks q p.signs.items (leaf paths) reason.Shape
+  leaf_above n = no_part (subst (λ (z : List Sign). ¬ MayBePart q z) e n)
+
+  module _ (n : ℕ) (cs : List Constraint) (en : n ≡ length (attrs_of q.atoms)) (ec : cs ≡ p.constraints.items) (here : MayBePart q signs) where
+    whole : MayBePart q p.signs.items
+    whole = subst (MayBePart q) e here
 
     few : n ≤ 12
-    few = omega (arith, en, s.few_attrs)
+    few = omega (arith, en, s.limits.few_attrs)
 
     within : All (IsWithin 12) cs
     within = subst (All (IsWithin 12)) (sym ec) s.within
@@ -52,7 +57,7 @@ module _ (q : QueryValue) (p : Place) (ps : List Pair) (paths : List Path) (s : 
 
     pub leaf_good : (bounds : List (Option ℤ)) → ReadsBounds n cs paths (Some bounds) → All (KeepsEach n bounds) cs → IsGoodLeaf q p.signs.items paths
     leaf_good bounds h k = record {
-      whole = whole;
+      place = whole;
       are_paths = moved (λ m ds. ArePaths m ds paths) h.0;
       closed = moved (λ m ds. AreClosed m ds paths) (closed_from n cs paths bounds few within h.1 k);
     }

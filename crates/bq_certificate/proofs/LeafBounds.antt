@@ -4,9 +4,9 @@ use Rattle.std.proofs.lemmas.Int.{ints}
 use Rattle.bq_model.specs.declared.atom.Element.{Element}
 use Rattle.bq_model.specs.declared.atom.Element.TheVariants as element
 use Rattle.bq_model.specs.declared.part.Sign.{Sign}
-use Rattle.bq_model.specs.Query.{QueryValue, attrs_of}
+use Rattle.bq_model.specs.Query.{QueryValue, attrs_of, IsWithinLimits}
 use Rattle.bq_model.specs.Assignment.{Assignment, value, IsAmong}
-use Rattle.bq_model.specs.Parts.{InPart}
+use Rattle.bq_model.specs.Parts.{InPart, IsPart}
 use Rattle.bq_model.proofs.Has.{Has-from_contains}
 use Rattle.bq_constraints.specs.Nodes.{node_of, offset_of, nodes_of, assignment_of}
 use Rattle.bq_constraints.specs.PartConstraints.{of_prefix}
@@ -18,7 +18,7 @@ use Rattle.bq_certificate.specs.Tree.{PlacedLeaf, leaves_below}
 use Rattle.bq_certificate.specs.LeafLaws.{IsMostAbove, IsFreeAbove, SaysMost, IsTold, LeavesAreTight}
 use Rattle.bq_certificate.proofs.LeafTable.{table_of}
 use Rattle.bq_certificate.proofs.PrefixNodes.{node_known}
-use Rattle.bq_certificate.proofs.TightLeaf.{IsTight, IsBoundAnswer, table_answers, leaf_is_tight}
+use Rattle.bq_certificate.proofs.TightLeaf.{IsTight, IsBoundAnswer, table_answers, leaf_is_part, leaf_is_tight}
 use Rattle.bq_certificate.proofs.Preorders.{leaf_is_good}
 
 known : (q : QueryValue) (x : Element) → IsAmong (attrs_of q.atoms) x → Known (attrs_of q.atoms) x
@@ -41,7 +41,10 @@ not_both q s x y m h k =
     let b : (m +ℤ value y w.0) <ℤ value x w.0 = w.2 in
     absurd (omega (arith, ints, a, b))
 
-module _ (q : QueryValue) (l : PlacedLeaf) (g : IsGoodLeaf q l.signs l.paths) (x y : Element) (hx : IsAmong (attrs_of q.atoms) x) (hy : IsAmong (attrs_of q.atoms) y) where
+module _ (q : QueryValue) (w : IsWithinLimits q) (l : PlacedLeaf) (g : IsGoodLeaf q l.signs l.paths) (x y : Element) (hx : IsAmong (attrs_of q.atoms) x) (hy : IsAmong (attrs_of q.atoms) y) where
+  part : IsPart q l.signs
+  part = leaf_is_part q w l.signs l.paths g
+
   abbrev from : ℕ
   from = node_of (attrs_of q.atoms) x
 
@@ -65,11 +68,11 @@ module _ (q : QueryValue) (l : PlacedLeaf) (g : IsGoodLeaf q l.signs l.paths) (x
         let b = value_is (attrs_of q.atoms) (nodes_of (attrs_of q.atoms) v) v (nodes_agree (attrs_of q.atoms) v) y (known q y hy) in
         let c : nodes_of (attrs_of q.atoms) v from ≤ℤ (u +ℤ nodes_of (attrs_of q.atoms) v to) = h.bound (nodes_of (attrs_of q.atoms) v) (solves_in_part q l.signs v p) in
         omega (arith, ints, a, b, c, e);
-    at = assignment_of (attrs_of q.atoms) h.at;
-    inside = in_part_from_solves q l.signs g.whole h.at h.solves;
+    at = assignment_of (attrs_of q.atoms) q.domains h.at;
+    inside = in_part_from_solves q l.signs w part h.at h.solves;
     reached =
-        let a = value_is (attrs_of q.atoms) h.at (assignment_of (attrs_of q.atoms) h.at) (assignment_agrees (attrs_of q.atoms) h.at h.solves.origin) x (known q x hx) in
-        let b = value_is (attrs_of q.atoms) h.at (assignment_of (attrs_of q.atoms) h.at) (assignment_agrees (attrs_of q.atoms) h.at h.solves.origin) y (known q y hy) in
+        let a = value_is (attrs_of q.atoms) h.at (assignment_of (attrs_of q.atoms) q.domains h.at) (assignment_agrees (attrs_of q.atoms) q.domains h.at h.solves.origin) x (known q x hx) in
+        let b = value_is (attrs_of q.atoms) h.at (assignment_of (attrs_of q.atoms) q.domains h.at) (assignment_agrees (attrs_of q.atoms) q.domains h.at h.solves.origin) y (known q y hy) in
         let c : h.at from ≡ u +ℤ h.at to = h.reached in
         omega (arith, ints, a, b, c, e);
   }
@@ -77,12 +80,12 @@ module _ (q : QueryValue) (l : PlacedLeaf) (g : IsGoodLeaf q l.signs l.paths) (x
   free_from_none : HasNoUpper (of_prefix q l.signs) from to → IsFreeAbove q l.signs x y
   free_from_none h = record {
     passed = λ most.
-        let w : (z : ℕ → ℤ) × Solves z (of_prefix q l.signs) × (((offset_of y -ℤ offset_of x +ℤ most) +ℤ z to) <ℤ z from) = h.passed (offset_of y -ℤ offset_of x +ℤ most) in
-        let v : Assignment = assignment_of (attrs_of q.atoms) w.0 in
-        let a = value_is (attrs_of q.atoms) w.0 v (assignment_agrees (attrs_of q.atoms) w.0 w.1.origin) x (known q x hx) in
-        let b = value_is (attrs_of q.atoms) w.0 v (assignment_agrees (attrs_of q.atoms) w.0 w.1.origin) y (known q y hy) in
-        let c : ((offset_of y -ℤ offset_of x +ℤ most) +ℤ w.0 to) <ℤ w.0 from = w.2 in
-        (v, in_part_from_solves q l.signs g.whole w.0 w.1, omega (arith, ints, a, b, c));
+        let z : (n : ℕ → ℤ) × Solves n (of_prefix q l.signs) × (((offset_of y -ℤ offset_of x +ℤ most) +ℤ n to) <ℤ n from) = h.passed (offset_of y -ℤ offset_of x +ℤ most) in
+        let v : Assignment = assignment_of (attrs_of q.atoms) q.domains z.0 in
+        let a = value_is (attrs_of q.atoms) z.0 v (assignment_agrees (attrs_of q.atoms) q.domains z.0 z.1.origin) x (known q x hx) in
+        let b = value_is (attrs_of q.atoms) z.0 v (assignment_agrees (attrs_of q.atoms) q.domains z.0 z.1.origin) y (known q y hy) in
+        let c : ((offset_of y -ℤ offset_of x +ℤ most) +ℤ z.0 to) <ℤ z.0 from = z.2 in
+        (v, in_part_from_solves q l.signs w part z.0 z.1, omega (arith, ints, a, b, c));
   }
 
   most_told : (most : ℤ) → SaysMost q l x y most → IsMostAbove q l.signs x y most
@@ -118,4 +121,4 @@ module _ (q : QueryValue) (l : PlacedLeaf) (g : IsGoodLeaf q l.signs l.paths) (x
   }
 
 pub leaves_are_tight : LeavesAreTight
-leaves_are_tight q t g l h x y hx hy = told q l (leaf_is_good q [] t g l (Has-from_contains (leaves_below [] t) l h)) x y hx hy
+leaves_are_tight q w t g l h x y hx hy = told q w l (leaf_is_good q [] t g l (Has-from_contains (leaves_below [] t) l h)) x y hx hy

@@ -16,7 +16,7 @@ use Rattle.bq_certificate.specs.Bounds.{bound_at, IsAtMost}
 use Rattle.bq_certificate.specs.OnLeaf.{IsLeafTable, SaysAbove}
 use Rattle.bq_certificate.proofs.TightLeaf.{leaf_is_part}
 use Rattle.bq_certificate.proofs.LeafInPart.{Enclose, less_by_bound, equal_by_bounds, bounded_by_bounds}
-use Rattle.bq_certificate.proofs.Unnamed.{unnamed_is_unbounded}
+use Rattle.bq_certificate.proofs.Unnamed.{unnamed_is_unbounded, no_domain}
 
 -- ---- columns among columns
 
@@ -55,11 +55,11 @@ module _ (q : QueryValue) (s : List Sign) (b : List (Option ℤ)) (t : IsLeafTab
   bound_from i j li lj u h = go (bound_at b i j) refl h
     where
       go : (o : Option ℤ) → bound_at b i j ≡ o → IsAtMost o u → HasBound (of_prefix q s) t.paths i j u
-      go (Some d) e h = record { bound = d; is = t.tells.true i j (omega (arith, li, t.few)) (omega (arith, lj, t.few)) d e; small = h }
+      go (Some d) e h = record { bound = d; is = t.tells.true i j (omega (arith, li, t.limits.few_attrs)) (omega (arith, lj, t.limits.few_attrs)) d e; small = h }
       go None e h = absurd h
 
   bound_to : (i j : ℕ) → i ≤ length (attrs_of q.atoms) → j ≤ length (attrs_of q.atoms) → (u : ℤ) → HasBound (of_prefix q s) t.paths i j u → IsAtMost (bound_at b i j) u
-  bound_to i j li lj u h = subst (λ (o : Option ℤ). IsAtMost o u) (sym (t.tells.told i j (omega (arith, li, t.few)) (omega (arith, lj, t.few)) h.bound h.is)) h.small
+  bound_to i j li lj u h = subst (λ (o : Option ℤ). IsAtMost o u) (sym (t.tells.told i j (omega (arith, li, t.limits.few_attrs)) (omega (arith, lj, t.limits.few_attrs)) h.bound h.is)) h.small
 
   module _ (x y : Element) (hx : IsElement q x) (hy : IsElement q y) where
     above_from : (by : ℤ) → SaysAbove q b x y by → HasBound (of_prefix q s) t.paths (node_of (attrs_of q.atoms) x) (node_of (attrs_of q.atoms) y) (offset_of y -ℤ offset_of x +ℤ by)
@@ -69,19 +69,19 @@ module _ (q : QueryValue) (s : List Sign) (b : List (Option ℤ)) (t : IsLeafTab
     above_to by h = bound_to (node_of (attrs_of q.atoms) x) (node_of (attrs_of q.atoms) y) (node_in q x hx) (node_in q y hy) (offset_of y -ℤ offset_of x +ℤ by) h
 
   pub less_from : (x y : Element) → IsElement q x → IsElement q y → SaysAbove q b x y (neg_ℤ (pos 1)) → IsLess q s x y
-  less_from x y hx hy h = (less_by_bound q s t.paths t.good x y hx hy).1 (above_from x y hx hy (neg_ℤ (pos 1)) h)
+  less_from x y hx hy h = (less_by_bound q t.limits s t.paths t.good x y hx hy).1 (above_from x y hx hy (neg_ℤ (pos 1)) h)
 
   pub less_to : (x y : Element) → IsElement q x → IsElement q y → IsLess q s x y → SaysAbove q b x y (neg_ℤ (pos 1))
-  less_to x y hx hy h = above_to x y hx hy (neg_ℤ (pos 1)) ((less_by_bound q s t.paths t.good x y hx hy).0 h)
+  less_to x y hx hy h = above_to x y hx hy (neg_ℤ (pos 1)) ((less_by_bound q t.limits s t.paths t.good x y hx hy).0 h)
 
   pub equal_from : (x y : Element) → IsElement q x → IsElement q y → SaysAbove q b x y (pos 0) → SaysAbove q b y x (pos 0) → IsEqual q s x y
-  equal_from x y hx hy h k = (equal_by_bounds q s t.paths t.good x y hx hy).1 (above_from x y hx hy (pos 0) h, above_from y x hy hx (pos 0) k)
+  equal_from x y hx hy h k = (equal_by_bounds q t.limits s t.paths t.good x y hx hy).1 (above_from x y hx hy (pos 0) h, above_from y x hy hx (pos 0) k)
 
   pub equal_to : (x y : Element) → IsElement q x → IsElement q y → IsEqual q s x y → SaysAbove q b x y (pos 0)
-  equal_to x y hx hy h = above_to x y hx hy (pos 0) ((equal_by_bounds q s t.paths t.good x y hx hy).0 h).0
+  equal_to x y hx hy h = above_to x y hx hy (pos 0) ((equal_by_bounds q t.limits s t.paths t.good x y hx hy).0 h).0
 
   pub equal_back : (x y : Element) → IsElement q x → IsElement q y → IsEqual q s x y → SaysAbove q b y x (pos 0)
-  equal_back x y hx hy h = above_to y x hy hx (pos 0) ((equal_by_bounds q s t.paths t.good x y hx hy).0 h).1
+  equal_back x y hx hy h = above_to y x hy hx (pos 0) ((equal_by_bounds q t.limits s t.paths t.good x y hx hy).0 h).1
 
   -- ---- bounded columns
 
@@ -89,11 +89,11 @@ module _ (q : QueryValue) (s : List Sign) (b : List (Option ℤ)) (t : IsLeafTab
   there_from i j li lj n = go (bound_at b i j) refl n
     where
       go : (o : Option ℤ) → bound_at b i j ≡ o → ¬ (o ≡ None) → (u : ℤ) × IsBound (of_prefix q s) t.paths i j u
-      go (Some d) e n = (d, t.tells.true i j (omega (arith, li, t.few)) (omega (arith, lj, t.few)) d e)
+      go (Some d) e n = (d, t.tells.true i j (omega (arith, li, t.limits.few_attrs)) (omega (arith, lj, t.limits.few_attrs)) d e)
       go None e n = absurd (n refl)
 
   there_to : (i j : ℕ) (u : ℤ) → i ≤ length (attrs_of q.atoms) → j ≤ length (attrs_of q.atoms) → IsBound (of_prefix q s) t.paths i j u → ¬ (bound_at b i j ≡ None)
-  there_to i j u li lj h e = let f = t.tells.told i j (omega (arith, li, t.few)) (omega (arith, lj, t.few)) u h in cc
+  there_to i j u li lj h e = let f = t.tells.told i j (omega (arith, li, t.limits.few_attrs)) (omega (arith, lj, t.limits.few_attrs)) u h in cc
 
   module _ (a : Attr) (h : Contains (attrs_of q.atoms) a) (n : ℕ) (e : n ≡ node_of (attrs_of q.atoms) (element.Attr a)) where
     low_enough : n ≤ length (attrs_of q.atoms)
@@ -103,7 +103,7 @@ module _ (q : QueryValue) (s : List Sign) (b : List (Option ℤ)) (t : IsLeafTab
     bounded_from k l =
         let above : (u : ℤ) × IsBound (of_prefix q s) t.paths n 0 u = there_from n 0 low_enough (omega arith) k in
         let below : (u : ℤ) × IsBound (of_prefix q s) t.paths 0 n u = there_from 0 n (omega arith) low_enough l in
-        (bounded_by_bounds q s t.paths t.good a h).1 record {
+        (bounded_by_bounds q t.limits s t.paths t.good a h).1 record {
           high = above.0;
           above = subst (λ (z : ℕ). IsBound (of_prefix q s) t.paths z 0 above.0) e above.1;
           low = below.0;
@@ -111,7 +111,7 @@ module _ (q : QueryValue) (s : List Sign) (b : List (Option ℤ)) (t : IsLeafTab
         }
 
     enclosed : IsBounded q s a → Enclose q s t.paths a
-    enclosed w = (bounded_by_bounds q s t.paths t.good a h).0 w
+    enclosed w = (bounded_by_bounds q t.limits s t.paths t.good a h).0 w
 
     pub above_if_bounded : IsBounded q s a → ¬ (bound_at b n 0 ≡ None)
     above_if_bounded w = there_to n 0 (enclosed w).high low_enough (omega arith) (subst (λ (z : ℕ). IsBound (of_prefix q s) t.paths z 0 (enclosed w).high) (sym e) (enclosed w).above)
@@ -120,4 +120,4 @@ module _ (q : QueryValue) (s : List Sign) (b : List (Option ℤ)) (t : IsLeafTab
     below_if_bounded w = there_to 0 n (enclosed w).low (omega arith) low_enough (subst (λ (z : ℕ). IsBound (of_prefix q s) t.paths 0 z (enclosed w).low) (sym e) (enclosed w).below)
 
   pub unnamed_unbounded : (a : Attr) → ¬ Contains (attrs_of q.atoms) a → ¬ IsBounded q s a
-  unnamed_unbounded a n = unnamed_is_unbounded q s (leaf_is_part q s t.paths t.good) a n
+  unnamed_unbounded a n = unnamed_is_unbounded q s (leaf_is_part q t.limits s t.paths t.good) a n (λ d h. absurd (no_domain q.domains t.limits.few_domains d h))

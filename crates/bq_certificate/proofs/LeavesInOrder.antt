@@ -2,12 +2,12 @@
 use Rattle.std.proofs.Common.{◌≡◌, ℕ, ◌+◌, ◌<◌, true, inl, inr, refl, sym, ◌∙◌, ap, subst, arith, Option, Some, None, List, [], ◌∷◌, ◌++◌, length, append_assoc, append-nil, length-append, slice_get}
 use Rattle.std.proofs.lemmas.List.{length-map}
 use Rattle.bq_model.specs.declared.part.Sign.{Sign}
-use Rattle.bq_model.specs.Query.{QueryValue}
+use Rattle.bq_model.specs.Query.{QueryValue, IsWithinLimits}
 use Rattle.bq_model.specs.Parts.{pairs, signs_lt, IsPart, AreParts}
 use Rattle.bq_model.proofs.Has.{Has, first, later}
 use Rattle.bq_model.proofs.Unique.{Ascends, none, more, one_list_of_parts}
-use Rattle.bq_model.proofs.Split.{StartsWith, IsFeasible, parts_from_root}
-use Rattle.bq_certificate.specs.Nodes.{Node, split, infeasible, leaf}
+use Rattle.bq_model.proofs.Split.{StartsWith, IsFeasible, feasible_where, parts_from_root}
+use Rattle.bq_certificate.specs.Nodes.{Node, split, infeasible, against, leaf}
 use Rattle.bq_certificate.specs.Rules.{IsNextPair, IsGoodNode}
 use Rattle.bq_certificate.specs.Reading.{following, after, AreGood, done, next, IsGood, HasParts}
 use Rattle.bq_certificate.specs.declared.line.Path.{Path}
@@ -15,6 +15,7 @@ use Rattle.bq_constraints.proofs.Numbers.{slice_get-append}
 use Rattle.bq_certificate.specs.Leaves.{leaf_at, leaves_of}
 use Rattle.bq_certificate.specs.TreeLaws.{LeavesAreParts}
 use Rattle.bq_certificate.proofs.ChainSums.{no_assignment}
+use Rattle.bq_certificate.proofs.Refuted.{none_against}
 use Rattle.bq_certificate.proofs.TightLeaf.{leaf_is_part}
 use Rattle.bq_certificate.proofs.BehindSigns.{reaches, reaches_deeper, reaches_earlier, starts_or_behind, reaches_own, below_behind}
 
@@ -61,13 +62,13 @@ from_split q signs pair xs n a = record {
         let m : length signs < length (pairs q) = n.left in
         reaches_deeper signs s (omega (arith, l, m))
 
-from_infeasible : (q : QueryValue) (signs : List Sign) (xs : List (List Sign)) → ¬ IsFeasible q signs → ArePartsFrom q (following signs) xs → ArePartsFrom q (Some signs) xs
-from_infeasible q signs xs n a = record {
+from_closed : (q : QueryValue) (signs : List Sign) (xs : List (List Sign)) → ¬ IsFeasible q signs → ArePartsFrom q (following signs) xs → ArePartsFrom q (Some signs) xs
+from_closed q signs xs n a = record {
   ascends = a.ascends;
   parts = a.parts;
   behind = λ s h. reaches_earlier signs s (a.behind s h);
   all = λ s p h. elim (starts_or_behind signs s h) [
-    | inl w ↦ absurd (n record { one = p.one; holds = p.inside.holds; starts = record { rest = w.rest; is = p.inside.signs ∙ w.is } })
+    | inl w ↦ absurd (n (feasible_where q signs p.one p.inside.holds p.inside.domains record { rest = w.rest; is = p.inside.signs ∙ w.is }))
     | inr r ↦ a.all s p r
   ];
 }
@@ -92,25 +93,26 @@ from_leaf q signs xs p a = record {
     behind s (later h) = reaches_earlier signs s (a.behind s h)
 
 -- a good node adds its leaf to the parts behind it
-pub from_node : (q : QueryValue) (signs : List Sign) (node : Node) (xs : List (List Sign)) → IsGoodNode q signs node → ArePartsFrom q (after signs node) xs → ArePartsFrom q (Some signs) (leaf_at signs node ++ xs)
-from_node q signs (split pair) xs g a = from_split q signs pair xs g a
-from_node q signs (infeasible numbers) xs g a = from_infeasible q signs xs (no_assignment q signs numbers g) a
-from_node q signs (leaf paths) xs g a = from_leaf q signs xs (leaf_is_part q signs paths g) a
+pub from_node : (q : QueryValue) → IsWithinLimits q → (signs : List Sign) (node : Node) (xs : List (List Sign)) → IsGoodNode q signs node → ArePartsFrom q (after signs node) xs → ArePartsFrom q (Some signs) (leaf_at signs node ++ xs)
+from_node q l signs (split pair) xs g a = from_split q signs pair xs g a
+from_node q l signs (infeasible numbers) xs g a = from_closed q signs xs (no_assignment q signs numbers g) a
+from_node q l signs (against comparison) xs g a = from_closed q signs xs (none_against q signs comparison g) a
+from_node q l signs (leaf paths) xs g a = from_leaf q signs xs (leaf_is_part q l signs paths g) a
 
 pub leaves-nil : (at : Option (List Sign)) → leaves_of at [] ≡ []
 leaves-nil None = refl
 leaves-nil (Some signs) = refl
 
 -- the leaves of good nodes, and the parts that stand behind them, are the parts from where the nodes begin
-pub parts_from : (q : QueryValue) {at end : Option (List Sign)} {nodes : List Node} (xs : List (List Sign)) → AreGood q at nodes end → ArePartsFrom q end xs → ArePartsFrom q at (leaves_of at nodes ++ xs)
-parts_from q xs (done {at}) a = subst (λ z. ArePartsFrom q at (z ++ xs)) (sym (leaves-nil at)) a
-parts_from q xs (next {signs} {node} {nodes} g rest) a =
-    subst (λ z. ArePartsFrom q (Some signs) z) (sym (append_assoc (leaf_at signs node) (leaves_of (after signs node) nodes) xs)) (from_node q signs node (leaves_of (after signs node) nodes ++ xs) g (parts_from q xs rest a))
+pub parts_from : (q : QueryValue) → IsWithinLimits q → {at end : Option (List Sign)} {nodes : List Node} (xs : List (List Sign)) → AreGood q at nodes end → ArePartsFrom q end xs → ArePartsFrom q at (leaves_of at nodes ++ xs)
+parts_from q l xs (done {at}) a = subst (λ z. ArePartsFrom q at (z ++ xs)) (sym (leaves-nil at)) a
+parts_from q l xs (next {signs} {node} {nodes} g rest) a =
+    subst (λ z. ArePartsFrom q (Some signs) z) (sym (append_assoc (leaf_at signs node) (leaves_of (after signs node) nodes) xs)) (from_node q l signs node (leaves_of (after signs node) nodes ++ xs) g (parts_from q l xs rest a))
 
 -- the leaves of a good tree are the parts of the query, in order
 pub leaves_are_parts : LeavesAreParts
-leaves_are_parts q nodes g =
-    let a : ArePartsFrom q (Some []) (leaves_of (Some []) nodes) = subst (λ z. ArePartsFrom q (Some []) z) (append-nil (leaves_of (Some []) nodes)) (parts_from q [] g (none_behind q)) in
+leaves_are_parts q l nodes g =
+    let a : ArePartsFrom q (Some []) (leaves_of (Some []) nodes) = subst (λ z. ArePartsFrom q (Some []) z) (append-nil (leaves_of (Some []) nodes)) (parts_from q l [] g (none_behind q)) in
     parts_from_root q (leaves_of (Some []) nodes) record {
       ascends = a.ascends;
       parts = a.parts;
@@ -156,11 +158,11 @@ leaves_keep_numbers {at = at} {mid = mid} {nodes = nodes} others k signs g h =
     ap (λ z. slice_get z k) (leaves_joined others g) ∙ slice_get-append (leaves_of at nodes) (leaves_of mid others) k signs h
 
 -- the leaf that stands behind so many others in a good tree is the part with this number
-pub leaf_is_part_number : (q : QueryValue) (before : List Node) (signs : List Sign) (paths : List Path) (behind : List Node) (parts : List (List Sign)) → IsGood q (before ++ leaf paths ∷ behind) → AreGood q (Some []) before (Some signs) → AreParts q parts → slice_get parts (length (leaves_of (Some []) before)) ≡ Some signs
-leaf_is_part_number q before signs paths behind parts g h a =
-    let e : parts ≡ leaves_of (Some []) (before ++ leaf paths ∷ behind) = one_list_of_parts q parts (leaves_of (Some []) (before ++ leaf paths ∷ behind)) a (leaves_are_parts q (before ++ leaf paths ∷ behind) g) in
+pub leaf_is_part_number : (q : QueryValue) → IsWithinLimits q → (before : List Node) (signs : List Sign) (paths : List Path) (behind : List Node) (parts : List (List Sign)) → IsGood q (before ++ leaf paths ∷ behind) → AreGood q (Some []) before (Some signs) → AreParts q parts → slice_get parts (length (leaves_of (Some []) before)) ≡ Some signs
+leaf_is_part_number q l before signs paths behind parts g h a =
+    let e : parts ≡ leaves_of (Some []) (before ++ leaf paths ∷ behind) = one_list_of_parts q parts (leaves_of (Some []) (before ++ leaf paths ∷ behind)) a (leaves_are_parts q l (before ++ leaf paths ∷ behind) g) in
     ap (λ z. slice_get z (length (leaves_of (Some []) before))) e ∙ leaf_has_number paths behind h
 
 -- a good tree has as many leaves as the query has parts
-pub has_parts : (q : QueryValue) (nodes : List Node) → IsGood q nodes → HasParts q (length (leaves_of (Some []) nodes))
-has_parts q nodes g = record { parts = leaves_of (Some []) nodes; are = leaves_are_parts q nodes g; count_is = refl }
+pub has_parts : (q : QueryValue) → IsWithinLimits q → (nodes : List Node) → IsGood q nodes → HasParts q (length (leaves_of (Some []) nodes))
+has_parts q l nodes g = record { parts = leaves_of (Some []) nodes; are = leaves_are_parts q l nodes g; count_is = refl }

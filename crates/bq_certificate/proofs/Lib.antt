@@ -12,6 +12,7 @@ pub mod Standing
 pub mod Judging
 pub mod Trees
 pub mod ChainSums
+pub mod Refuted
 pub mod PrefixNodes
 pub mod LeafTable
 pub mod TightLeaf
@@ -23,6 +24,7 @@ pub mod LeafBounds
 pub mod FirstFaults
 pub mod OneAnswer
 pub mod WorkedCase
+pub mod WorkedSoft
 pub mod FailuresSoFar
 pub mod Searching
 pub mod Unnamed

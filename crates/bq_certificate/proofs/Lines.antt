@@ -21,6 +21,7 @@ none_ahead lines i l = ap (λ (z : List Line). (grouped z).paths) (drop_of_lengt
 no_path : (l : Line) (lines : List Line) → ((p : Path) → l ≡ line.Path p → ⊥) → (grouped (l ∷ lines)).paths ≡ []
 no_path (line.Split pair) lines n = refl
 no_path (line.Infeasible numbers) lines n = refl
+no_path (line.Against comparison) lines n = refl
 no_path line.Leaf lines n = refl
 no_path (line.Path p) lines n = absurd (n p refl)
 

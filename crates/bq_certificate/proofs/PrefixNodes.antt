@@ -1,7 +1,10 @@
 -- The constraints of a query's comparisons and first signs lead between nodes of its attributes.
-use Rattle.std.proofs.Common.{ℕ, ◌≤◌, ℤ, List, [], ◌∷◌, length, inl, inr, arith}
+use Rattle.std.proofs.Common.{◌≡◌, ℕ, ◌≤◌, ℤ, Bool, true, false, cond, List, [], ◌∷◌, length, inl, inr, refl, arith}
+use Rattle.std.specs.List.{flat_map}
 use Rattle.bq_model.specs.declared.atom.Attr.{Attr}
 use Rattle.bq_model.specs.declared.atom.Atom.{Atom}
+use Rattle.bq_model.specs.declared.atom.Domain.{Domain}
+use Rattle.bq_model.specs.declared.atom.Op.{Op}
 use Rattle.bq_model.specs.declared.atom.Element.{Element}
 use Rattle.bq_model.specs.declared.atom.Element.TheVariants as element
 use Rattle.bq_model.specs.declared.part.Pair.{Pair}
@@ -10,12 +13,12 @@ use Rattle.bq_model.specs.Query.{QueryValue, attrs_of}
 use Rattle.bq_model.specs.Parts.{pairs}
 use Rattle.bq_model.proofs.Has.{Has, first, later, Has-append_cases}
 use Rattle.bq_constraints.specs.declared.constraint.Constraint.{Constraint}
-use Rattle.bq_constraints.specs.Nodes.{node_of, between, constraints_of, turned}
-use Rattle.bq_constraints.specs.PartConstraints.{sign_of, of_atoms, of_signs, of_prefix}
-use Rattle.bq_constraints.proofs.NodeFacts.{Known, place_below}
+use Rattle.bq_constraints.specs.Nodes.{has_node, node_of, between, constraints_of, turned}
+use Rattle.bq_constraints.specs.PartConstraints.{of_op, of_atoms, at_least, at_most, of_domain, of_base, of_signs, of_prefix}
+use Rattle.bq_constraints.proofs.NodeFacts.{Known, node_has, place_below}
 use Rattle.bq_model.specs.Query.{consts_of}
 use Rattle.bq_model.proofs.Elements.{SidesIn, sides_in, HasElement}
-use Rattle.bq_model.proofs.Local.{PairIn, pair_in}
+use Rattle.bq_model.proofs.Local.{PairIn, pair_named}
 
 -- both nodes exist
 pub record LeadsWithin (attrs : ℕ) (c : Constraint) : Type 0 where
@@ -37,9 +40,8 @@ atoms_known q t h =
     (known_of (attrs_of q.atoms) (consts_of q.atoms) t.left s.left, known_of (attrs_of q.atoms) (consts_of q.atoms) t.right s.right)
 
 pairs_known : (q : QueryValue) (p : Pair) → Has (pairs q) p → Has (attrs_of q.atoms) p.left × Known (attrs_of q.atoms) p.right
-unfolding pairs
 pairs_known q p h =
-    let s : PairIn (attrs_of q.atoms) (consts_of q.atoms) p = pair_in _ _ p h in
+    let s : PairIn (attrs_of q.atoms) (consts_of q.atoms) p = pair_named q p h in
     (s.left, known_of (attrs_of q.atoms) (consts_of q.atoms) p.right s.right)
 
 between_leads : (xs : List Attr) (x : Element) (s : Sign) (y : Element) → node_of xs x ≤ length xs → node_of xs y ≤ length xs → (c : Constraint) → Has (between xs x s y) c → LeadsWithin (length xs) c
@@ -56,10 +58,39 @@ pub constraints_lead : (xs : List Attr) (x : Element) (s : Sign) (y : Element) �
 constraints_lead xs (element.Attr a) s y h k c i = between_leads xs (element.Attr a) s y (node_known xs (element.Attr a) h) (node_known xs y k) c i
 constraints_lead xs (element.Const n) s y h k c i = between_leads xs y (turned s) (element.Const n) (node_known xs y k) (node_known xs (element.Const n) h) c i
 
+-- and so do those of a comparison
+op_leads : (xs : List Attr) (x : Element) (o : Op) (y : Element) → Known xs x → Known xs y → (c : Constraint) → Has (of_op xs x o y) c → LeadsWithin (length xs) c
+op_leads xs x Op.Lt y h k c i = constraints_lead xs x Sign.Lt y h k c i
+op_leads xs x Op.Eq y h k c i = constraints_lead xs x Sign.Eq y h k c i
+op_leads xs x Op.Gt y h k c i = constraints_lead xs x Sign.Gt y h k c i
+op_leads xs x Op.Le y h k c i = elim i [ ]
+op_leads xs x Op.Ge y h k c i = elim i [ ]
+op_leads xs x Op.Ne y h k c i = elim i [ ]
+
+one_of_two : (P : Constraint → Type 0) (a b c : Constraint) → Has (a ∷ b ∷ []) c → P a → P b → P c
+one_of_two P a b c first p r = p
+one_of_two P a b c (later first) p r = r
+one_of_two P a b c (later (later h)) p r = elim h [ ]
+
+-- and those of a domain
+domain_leads : (xs : List Attr) (d : Domain) (c : Constraint) → Has (of_domain xs d) c → LeadsWithin (length xs) c
+domain_leads xs d c i = by (has_node xs d.attr) refl i
+  where
+    by : (b : Bool) → has_node xs d.attr ≡ b → Has (cond b (at_least xs d ∷ at_most xs d ∷ []) []) c → LeadsWithin (length xs) c
+    by true e j = one_of_two (LeadsWithin (length xs)) (at_least xs d) (at_most xs d) c j (record { left = omega arith; right = place_below xs d.attr (node_has xs d.attr e) }) (record { left = place_below xs d.attr (node_has xs d.attr e); right = omega arith })
+    by false e j = elim j [ ]
+
+domains_lead : (xs : List Attr) (ds : List Domain) (c : Constraint) → Has (flat_map (of_domain xs) ds) c → LeadsWithin (length xs) c
+domains_lead xs [] c i = elim i [ ]
+domains_lead xs (d ∷ ds) c i = elim (Has-append_cases (of_domain xs d) (flat_map (of_domain xs) ds) c i) [
+  | inl j ↦ domain_leads xs d c j
+  | inr j ↦ domains_lead xs ds c j
+]
+
 atoms_lead : (xs : List Attr) (ts : List Atom) → ((t : Atom) → Has ts t → Known xs t.left × Known xs t.right) → (c : Constraint) → Has (of_atoms xs ts) c → LeadsWithin (length xs) c
 atoms_lead xs [] k c i = elim i [ ]
-atoms_lead xs (t ∷ ts) k c i = elim (Has-append_cases (constraints_of xs t.left (sign_of t.op) t.right) (of_atoms xs ts) c i) [
-  | inl j ↦ constraints_lead xs t.left (sign_of t.op) t.right (k t first).0 (k t first).1 c j
+atoms_lead xs (t ∷ ts) k c i = elim (Has-append_cases (of_op xs t.left t.op t.right) (of_atoms xs ts) c i) [
+  | inl j ↦ op_leads xs t.left t.op t.right (k t first).0 (k t first).1 c j
   | inr j ↦ atoms_lead xs ts (λ u l. k u (later l)) c j
 ]
 
@@ -73,7 +104,10 @@ signs_lead xs (p ∷ ps) (s ∷ ss) k c i = elim (Has-append_cases (constraints_
 
 -- the constraints of a prefix lead between nodes that exist
 pub prefix_leads : (q : QueryValue) (pre : List Sign) (c : Constraint) → Has (of_prefix q pre) c → LeadsWithin (length (attrs_of q.atoms)) c
-prefix_leads q pre c i = elim (Has-append_cases (of_atoms (attrs_of q.atoms) q.atoms) (of_signs (attrs_of q.atoms) (pairs q) pre) c i) [
-  | inl j ↦ atoms_lead (attrs_of q.atoms) q.atoms (atoms_known q) c j
+prefix_leads q pre c i = elim (Has-append_cases (of_base q) (of_signs (attrs_of q.atoms) (pairs q) pre) c i) [
+  | inl j ↦ elim (Has-append_cases (of_atoms (attrs_of q.atoms) q.atoms) (flat_map (of_domain (attrs_of q.atoms)) q.domains) c j) [
+    | inl k ↦ atoms_lead (attrs_of q.atoms) q.atoms (atoms_known q) c k
+    | inr k ↦ domains_lead (attrs_of q.atoms) q.domains c k
+  ]
   | inr j ↦ signs_lead (attrs_of q.atoms) (pairs q) pre (pairs_known q) c j
 ]

@@ -8,7 +8,7 @@ use Rattle.bq_constraints.proofs.Options.{none_is}
 use Rattle.bq_certificate.specs.Nodes as nodes
 use Rattle.bq_certificate.specs.Nodes.{Node}
 use Rattle.bq_certificate.specs.Rules.{IsGoodLeaf}
-use Rattle.bq_certificate.specs.Tree.{Tree, split, closed, leaf, IsGoodTree, preorder, ListGoodTree, PlacedLeaf, leaves_below}
+use Rattle.bq_certificate.specs.Tree.{Tree, split, closed, against, leaf, IsGoodTree, preorder, ListGoodTree, PlacedLeaf, leaves_below}
 use Rattle.bq_certificate.specs.Reading.{advanced, following, AreGood, done, next, IsGood}
 use Rattle.bq_certificate.specs.Leaves.{leaves_of}
 use Rattle.bq_certificate.specs.TreeLaws.{GoodIsTree, ListOneTree, LeavesOfTreeAreParts}
@@ -45,6 +45,7 @@ tree_is_read q signs (split pair less equal greater) g =
     let c : AreGood q (Some (signs ++ Sign.Gt ∷ [])) (preorder greater) (following signs) = subst (λ z. AreGood q (Some (signs ++ Sign.Gt ∷ [])) (preorder greater) z) (behind_greater signs) (tree_is_read q (signs ++ Sign.Gt ∷ []) greater g.3) in
     next g.0 (good_joined (good_joined a b) c)
 tree_is_read q signs (closed numbers) g = next g done
+tree_is_read q signs (against comparison) g = next g done
 tree_is_read q signs (leaf paths) g = next g done
 
 -- ---- nodes that are good one behind the other begin with a good tree
@@ -61,6 +62,7 @@ pub begins : (n : ℕ) (q : QueryValue) (signs : List Sign) (listed : List Node)
 begins n q signs [] end l e done = absurd (none_is (sym e))
 begins zero q signs (node ∷ listed) end l e (next g r) = absurd (omega arith)
 begins (suc n) q signs (nodes.infeasible numbers ∷ listed) end l e (next g r) = record { tree = closed numbers; good = g; rest = listed; listed_is = refl; rest_good = subst (AreGood q (following signs) listed) e r }
+begins (suc n) q signs (nodes.against comparison ∷ listed) end l e (next g r) = record { tree = against comparison; good = g; rest = listed; listed_is = refl; rest_good = subst (AreGood q (following signs) listed) e r }
 begins (suc n) q signs (nodes.leaf paths ∷ listed) end l e (next g r) = record { tree = leaf paths; good = g; rest = listed; listed_is = refl; rest_good = subst (AreGood q (following signs) listed) e r }
 begins (suc n) q signs (nodes.split pair ∷ listed) end l e (next g r) =
     let a : Begins q (signs ++ Sign.Lt ∷ []) listed = begins n q (signs ++ Sign.Lt ∷ []) listed end (omega arith) e r in
@@ -107,12 +109,19 @@ pub record AreOne (t u : Tree) (xs ys : List Node) : Type 0 where
 
 one_front : (t u : Tree) (xs ys : List Node) → preorder t ++ xs ≡ preorder u ++ ys → AreOne t u xs ys
 one_front (closed numbers) (closed others) xs ys e = record { trees = cc; rests = cc }
+one_front (closed numbers) (against comparison) xs ys e = cc
 one_front (closed numbers) (leaf paths) xs ys e = cc
 one_front (closed numbers) (split pair a b c) xs ys e = cc
+one_front (against comparison) (closed numbers) xs ys e = cc
+one_front (against comparison) (against other) xs ys e = record { trees = cc; rests = cc }
+one_front (against comparison) (leaf paths) xs ys e = cc
+one_front (against comparison) (split pair a b c) xs ys e = cc
 one_front (leaf paths) (closed numbers) xs ys e = cc
+one_front (leaf paths) (against comparison) xs ys e = cc
 one_front (leaf paths) (leaf others) xs ys e = record { trees = cc; rests = cc }
 one_front (leaf paths) (split pair a b c) xs ys e = cc
 one_front (split pair a b c) (closed numbers) xs ys e = cc
+one_front (split pair a b c) (against comparison) xs ys e = cc
 one_front (split pair a b c) (leaf paths) xs ys e = cc
 one_front (split pair a b c) (split other d f g) xs ys e =
     let pairs : pair ≡ other = cc in
@@ -141,6 +150,7 @@ signs-append (k ∷ ks) ls = ap (λ z. k.signs ∷ z) (signs-append ks ls)
 -- the leaves of a tree at the front of some nodes, and those of the nodes behind it
 leaves_listed : (signs : List Sign) (t : Tree) (rest : List Node) → leaves_of (Some signs) (preorder t ++ rest) ≡ signs_at (leaves_below signs t) ++ leaves_of (following signs) rest
 leaves_listed signs (closed numbers) rest = refl
+leaves_listed signs (against comparison) rest = refl
 leaves_listed signs (leaf paths) rest = refl
 leaves_listed signs (split pair less equal greater) rest =
     let xs = leaves_below (signs ++ Sign.Lt ∷ []) less in
@@ -157,13 +167,14 @@ leaves_listed signs (split pair less equal greater) rest =
     ∙ ap (λ z. z ++ leaves_of (following signs) rest) (sym (signs-append (xs ++ ys) zs ∙ ap (λ z. z ++ signs_at zs) (signs-append xs ys)))
 
 pub leaves_of_tree_are_parts : LeavesOfTreeAreParts
-leaves_of_tree_are_parts q t g =
+leaves_of_tree_are_parts q w t g =
     let same : leaves_of (Some []) (preorder t) ≡ signs_at (leaves_below [] t) = ap (leaves_of (Some [])) (sym (append-nil (preorder t))) ∙ leaves_listed [] t [] ∙ append-nil (signs_at (leaves_below [] t)) in
-    subst (AreParts q) same (leaves_are_parts q (preorder t) (tree_is_read q [] t g))
+    subst (AreParts q) same (leaves_are_parts q w (preorder t) (tree_is_read q [] t g))
 
 -- each leaf of a good tree is good
 pub leaf_is_good : (q : QueryValue) (signs : List Sign) (t : Tree) → IsGoodTree q signs t → (l : PlacedLeaf) → Has (leaves_below signs t) l → IsGoodLeaf q l.signs l.paths
 leaf_is_good q signs (closed numbers) g l h = elim h [ ]
+leaf_is_good q signs (against comparison) g l h = elim h [ ]
 leaf_is_good q signs (leaf paths) g l first = g
 leaf_is_good q signs (leaf paths) g l (later h) = elim h [ ]
 leaf_is_good q signs (split pair less equal greater) g l h = elim (Has-append_cases (leaves_below (signs ++ Sign.Lt ∷ []) less ++ leaves_below (signs ++ Sign.Eq ∷ []) equal) (leaves_below (signs ++ Sign.Gt ∷ []) greater) l h) [

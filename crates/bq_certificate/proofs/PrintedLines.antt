@@ -85,6 +85,7 @@ keyword_words front (n ∷ ns) h small =
 pub line_back : (l : Line) → IsWhole l → IsLine (line_text l) l
 line_back (line.Split pair) h = record { word = decimal pair; whole = keyword_words (codes "split") (pair ∷ []) refl (All-cons is_small pair [] h (All-nil is_small)); number = decimal_number pair h }
 line_back (line.Infeasible numbers) h = record { behind = map decimal numbers.items; whole = keyword_words (codes "infeasible") numbers.items refl h.small; numbers = are_numbers 13 numbers.items h }
+line_back (line.Against n) h = record { word = decimal n; whole = keyword_words (codes "against") (n ∷ []) refl (All-cons is_small n [] h (All-nil is_small)); number = decimal_number n h }
 line_back line.Leaf h = refl
 line_back (line.Path p) h = record {
   from_word = decimal p.from;
@@ -109,6 +110,7 @@ words_inner front ns h small = list_all-append is_inner front (numbers_text ns) 
 line_inner : (l : Line) → IsWhole l → list_all is_inner (line_text l) ≡ true
 line_inner (line.Split pair) h = words_inner (codes "split") (pair ∷ []) refl (All-cons is_small pair [] h (All-nil is_small))
 line_inner (line.Infeasible numbers) h = words_inner (codes "infeasible") numbers.items refl h.small
+line_inner (line.Against n) h = words_inner (codes "against") (n ∷ []) refl (All-cons is_small n [] h (All-nil is_small))
 line_inner line.Leaf h = refl
 line_inner (line.Path p) h = words_inner (codes "path") (p.from ∷ p.to ∷ p.numbers.items) refl (All-cons is_small p.from (p.to ∷ p.numbers.items) h.from (All-cons is_small p.to p.numbers.items h.to h.numbers.small))
 
@@ -139,5 +141,6 @@ has_numbers most ws ns are = record { some = are.some; few = are.few; small = al
 pub line_whole : (ws : List (List ℕ)) (l : Line) → Spells ws l → IsWhole l
 line_whole ws (line.Split pair) h = h.number.small
 line_whole ws (line.Infeasible numbers) h = has_numbers 13 h.behind numbers.items h.numbers
+line_whole ws (line.Against n) h = h.number.small
 line_whole ws line.Leaf h = tt
 line_whole ws (line.Path p) h = record { from = h.from.small; to = h.to.small; numbers = has_numbers 12 h.behind p.numbers.items h.numbers }

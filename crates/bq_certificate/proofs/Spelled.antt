@@ -13,7 +13,7 @@ use Rattle.bq_certificate.specs.declared.line.Line.TheVariants as line
 use Rattle.bq_certificate.specs.declared.reading.Keyword.{Keyword}
 use Rattle.bq_certificate.specs.declared.reading.Keyword.TheVariants as keyword
 use Rattle.bq_certificate.specs.Text.{IsNumber, AreNumbers, Spells, IsReading, words}
-use Rattle.bq_certificate.specs.Spelling.{number_of, numbers_of, up_to, chain_of, keyword_of, split_of, infeasible_of, leaf_of, path_of, line_behind, line_of}
+use Rattle.bq_certificate.specs.Spelling.{number_of, numbers_of, up_to, chain_of, keyword_of, split_of, infeasible_of, against_of, leaf_of, path_of, line_behind, line_of}
 
 -- numbers
 number_found : (word : List ℕ) (n : ℕ) → IsNumber word n → number_of word ≡ Some n
@@ -73,6 +73,7 @@ chain_meant most ws ns e = option_and_then_some (up_to most) (numbers_of ws) ns 
 abbrev text_of : Keyword → List ℕ
 text_of keyword.Split = codes "split"
 text_of keyword.Infeasible = codes "infeasible"
+text_of keyword.Against = codes "against"
 text_of keyword.Leaf = codes "leaf"
 text_of keyword.Path = codes "path"
 
@@ -85,13 +86,15 @@ unfolding keyword_of
 keyword_meant word k =
     choice _ word keyword.Split k _ refl
     (choice _ word keyword.Infeasible k _ refl
+    (choice _ word keyword.Against k _ refl
     (choice _ word keyword.Leaf k _ refl
-    (choice _ word keyword.Path k None refl (λ e. absurd cc))))
+    (choice _ word keyword.Path k None refl (λ e. absurd cc)))))
 
 keyword_found : (k : Keyword) → keyword_of (text_of k) ≡ Some k
 unfolding keyword_of
 keyword_found keyword.Split = refl
 keyword_found keyword.Infeasible = refl
+keyword_found keyword.Against = refl
 keyword_found keyword.Leaf = refl
 keyword_found keyword.Path = refl
 
@@ -107,6 +110,7 @@ line_found ws (line.Split pair) is = ap line_of is.whole ∙ behind_found keywor
 line_found ws (line.Infeasible numbers) is =
     ap line_of is.whole ∙ behind_found keyword.Infeasible is.behind
     ∙ ap (option_map (λ ns. line.Infeasible record { items = ns })) (chain_found 13 is.behind numbers.items is.numbers)
+line_found ws (line.Against n) is = ap line_of is.whole ∙ behind_found keyword.Against (is.word ∷ []) ∙ ap (option_map line.Against) (number_found is.word n is.number)
 line_found ws line.Leaf is = ap line_of is ∙ behind_found keyword.Leaf []
 line_found ws (line.Path p) is =
     ap line_of is.whole ∙ behind_found keyword.Path (is.from_word ∷ is.to_word ∷ is.behind)
@@ -131,6 +135,15 @@ infeasible_meant ws l e = by (chain_of 13 ws) refl e
     by None p h = absurd cc
     by (Some ns) p h = let P : Line → Type 0 = λ m. Spells (codes "infeasible" ∷ ws) m in subst P (same_Some (line.Infeasible record { items = ns }) l h) (record { behind = ws; whole = refl; numbers = chain_meant 13 ws ns p })
 
+against_meant : (ws : List (List ℕ)) (l : Line) → against_of ws ≡ Some l → Spells (codes "against" ∷ ws) l
+against_meant [] l e = absurd cc
+against_meant (word ∷ []) l e = by (number_of word) refl e
+  where
+    by : (o : Option ℕ) → number_of word ≡ o → option_map line.Against o ≡ Some l → Spells (codes "against" ∷ word ∷ []) l
+    by None p h = absurd cc
+    by (Some n) p h = let P : Line → Type 0 = λ m. Spells (codes "against" ∷ word ∷ []) m in subst P (same_Some (line.Against n) l h) (record { word = word; whole = refl; number = number_meant word n p })
+against_meant (word ∷ other ∷ ws) l e = absurd cc
+
 leaf_meant : (ws : List (List ℕ)) (l : Line) → leaf_of ws ≡ Some l → Spells (codes "leaf" ∷ ws) l
 leaf_meant [] l e = let P : Line → Type 0 = λ m. Spells (codes "leaf" ∷ []) m in subst P (same_Some line.Leaf l e) refl
 leaf_meant (word ∷ ws) l e = absurd cc
@@ -153,6 +166,7 @@ path_meant (from_word ∷ to_word ∷ ws) l e = by (number_of from_word) (number
 behind_meant : (k : Keyword) (ws : List (List ℕ)) (l : Line) → line_behind k ws ≡ Some l → Spells (text_of k ∷ ws) l
 behind_meant keyword.Split ws l e = split_meant ws l e
 behind_meant keyword.Infeasible ws l e = infeasible_meant ws l e
+behind_meant keyword.Against ws l e = against_meant ws l e
 behind_meant keyword.Leaf ws l e = leaf_meant ws l e
 behind_meant keyword.Path ws l e = path_meant ws l e
 

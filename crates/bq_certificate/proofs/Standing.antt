@@ -7,11 +7,12 @@ use Rattle.bq_model.specs.declared.part.Pair.{Pair}
 use Rattle.bq_model.specs.declared.part.Sign.{Sign}
 use Rattle.bq_model.specs.declared.atom.Element.{Element}
 use Rattle.bq_model.specs.declared.atom.Element.TheVariants as element
-use Rattle.bq_model.specs.Query.{QueryValue, attrs_of}
+use Rattle.bq_model.proofs.FewPairs.{few_with_soft}
+use Rattle.bq_model.specs.Query.{QueryValue, attrs_of, IsWithinLimits}
 use Rattle.bq_model.specs.Parts.{pairs}
 use Rattle.bq_constraints.specs.declared.constraint.Constraint.{Constraint}
 use Rattle.bq_constraints.specs.Nodes.{constraints_of, between}
-use Rattle.bq_constraints.specs.PartConstraints.{of_atoms, of_prefix, AddsSign}
+use Rattle.bq_constraints.specs.PartConstraints.{of_base, of_prefix, AddsSign}
 use Rattle.bq_constraints.specs.Solutions.{IsWithin}
 use Rattle.bq_constraints.proofs.Prefix.{prefix_more, of_no_prefix, length-of_prefix}
 use Rattle.bq_certificate.specs.declared.place.Place.{Place}
@@ -35,7 +36,7 @@ length-between xs x y Sign.Gt = refl
 pub room_more : (q : QueryValue) (p : Place) (s : Sign) (cs : List Constraint) → Stands q p → length p.signs.items < length (pairs q) → AddsSign q p.signs.items s cs → length p.constraints.items + length cs ≤ 268
 room_more q p s cs h l a =
     let n : length p.constraints.items ≡ length (of_prefix q p.signs.items) = ap length h.constraints in
-    omega (arith, n, a.few, h.few_atoms, h.few_pairs, length-of_prefix q p.signs.items, l)
+    omega (arith, n, a.few, few_with_soft q h.limits, length-of_prefix q h.limits p.signs.items, l)
 
 pub stands_deeper : (q : QueryValue) (p r : Place) (s : Sign) (cs : List Constraint) → Stands q p → length p.signs.items < length (pairs q) → AddsSign q p.signs.items s cs
     → r.signs.items ≡ p.signs.items ++ s ∷ [] → r.constraints.items ≡ p.constraints.items ++ cs → Stands q r
@@ -43,11 +44,9 @@ stands_deeper q p r s cs h l a es ec =
     let n : length r.signs.items ≡ length p.signs.items + 1 = ap length es ∙ length-append p.signs.items (s ∷ []) in
     record {
       constraints = ec ∙ ap (λ (z : List Constraint). z ++ cs) h.constraints ∙ sym a.more ∙ ap (of_prefix q) (sym es);
-      within = subst (All (IsWithin 12)) (sym ec) (All-append (IsWithin 12) p.constraints.items cs h.within (within_12 (length (attrs_of q.atoms)) cs h.few_attrs a.within));
+      within = subst (All (IsWithin 12)) (sym ec) (All-append (IsWithin 12) p.constraints.items cs h.within (within_12 (length (attrs_of q.atoms)) cs h.limits.few_attrs a.within));
       room = omega (arith, n, l);
-      few_pairs = h.few_pairs;
-      few_atoms = h.few_atoms;
-      few_attrs = h.few_attrs;
+      limits = h.limits;
     }
 
 -- ---- one sign less
@@ -78,9 +77,7 @@ stands_above q old new s h d =
       constraints = d.1 ∙ ap (λ (z : List Constraint). take (length z - width s) z) e ∙ front_of (of_prefix q new.signs.items) (constraints_of (attrs_of q.atoms) (element.Attr p.0.left) s p.0.right) (width s) (length-between (attrs_of q.atoms) (element.Attr p.0.left) p.0.right s);
       within = subst (All (IsWithin 12)) (sym d.1) (All-take (IsWithin 12) (length old.constraints.items - width s) old.constraints.items h.within);
       room = omega (arith, r);
-      few_pairs = h.few_pairs;
-      few_atoms = h.few_atoms;
-      few_attrs = h.few_attrs;
+      limits = h.limits;
     }
 
 -- ---- what follows
@@ -106,16 +103,12 @@ drops_on begin old mid s e d n = sym (following_same mid.signs.items s n) ∙ sy
 pub ends_here : (begin : List Sign) (old mid : Place) → following old.signs.items ≡ following begin → Drops None old mid → at false mid.signs.items ≡ following begin
 ends_here begin old mid e d = sym (ap following d.0) ∙ e
 
-pub stands_root : (q : QueryValue) (ps : List Pair) (p : Place) → p.signs.items ≡ [] → p.constraints.items ≡ of_atoms (attrs_of q.atoms) q.atoms → All (IsWithin 12) p.constraints.items → ps ≡ pairs q → length ps ≤ 106
-    → length q.atoms ≤ 16 → length (attrs_of q.atoms) ≤ 12 → Stands q p
-stands_root q ps p es ec w e few fa fb =
+pub stands_root : (q : QueryValue) (p : Place) → p.signs.items ≡ [] → p.constraints.items ≡ of_base q → All (IsWithin 12) p.constraints.items → IsWithinLimits q → Stands q p
+stands_root q p es ec w l =
     let n : length p.signs.items ≡ 0 = ap length es in
-    let m : length ps ≡ length (pairs q) = ap length e in
     record {
       constraints = ec ∙ sym (of_no_prefix q) ∙ ap (of_prefix q) (sym es);
       within = w;
       room = omega (arith, n);
-      few_pairs = omega (arith, m, few);
-      few_atoms = fa;
-      few_attrs = fb;
+      limits = l;
     }

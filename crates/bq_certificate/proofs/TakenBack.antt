@@ -15,10 +15,12 @@ use Rattle.bq_certificate.proofs.Added.{last_behind, last_is}
 nodes_more : (before : List Line) (l : Line) (behind : List Line) → length (nodes_of (before ++ l ∷ [])) ≤ length (nodes_of (before ++ l ∷ behind))
 nodes_more [] (line.Split pair) behind = omega arith
 nodes_more [] (line.Infeasible numbers) behind = omega arith
+nodes_more [] (line.Against comparison) behind = omega arith
 nodes_more [] line.Leaf behind = omega arith
 nodes_more [] (line.Path p) behind = omega arith
 nodes_more (line.Split pair ∷ before) l behind = omega (arith, nodes_more before l behind)
 nodes_more (line.Infeasible numbers ∷ before) l behind = omega (arith, nodes_more before l behind)
+nodes_more (line.Against comparison ∷ before) l behind = omega (arith, nodes_more before l behind)
 nodes_more (line.Leaf ∷ before) l behind = omega (arith, nodes_more before l behind)
 nodes_more (line.Path p ∷ before) l behind = nodes_more before l behind
 

@@ -3,7 +3,7 @@
 use Rattle.std.proofs.Common.{◌≡◌, ℕ, suc, ◌≤◌, ℤ, pos, ◌+ℤ◌, ◌≤ℤ◌, refl, sym, ◌∙◌, arith, Option, Some, None, List, length}
 use Rattle.std.proofs.lemmas.Int.{ints}
 use Rattle.bq_model.specs.declared.part.Sign.{Sign}
-use Rattle.bq_model.specs.Query.{QueryValue, attrs_of}
+use Rattle.bq_model.specs.Query.{QueryValue, attrs_of, IsWithinLimits}
 use Rattle.bq_model.specs.Parts.{pairs, IsPart}
 use Rattle.bq_model.proofs.Has.{Has, first}
 use Rattle.bq_model.proofs.Split.{IsFeasible, one_under}
@@ -16,6 +16,7 @@ use Rattle.bq_constraints.proofs.Solve as solve
 use Rattle.bq_certificate.specs.declared.line.Path.{Path}
 use Rattle.bq_certificate.specs.Rules.{ArePaths, IsBound, same, of_path, AreClosed, IsGoodLeaf}
 use Rattle.bq_certificate.proofs.ChainSums.{sum_sound}
+use Rattle.bq_certificate.proofs.Refuted.{soft_hold}
 use Rattle.bq_certificate.proofs.PrefixNodes.{LeadsWithin, prefix_leads}
 use Rattle.bq_certificate.proofs.LeafTable.{table_of, width, bound_from_table, table_from_bound, table_within, table_closed, table_covers}
 
@@ -70,10 +71,10 @@ pub leaf_is_satisfiable : (q : QueryValue) (signs : List Sign) (paths : List Pat
 leaf_is_satisfiable q signs paths g = closed_is_satisfiable (length (attrs_of q.atoms)) (of_prefix q signs) paths g.are_paths g.closed (prefix_leads q signs)
 
 -- the signs of a good leaf are a part
-pub leaf_is_part : (q : QueryValue) (signs : List Sign) (paths : List Path) → IsGoodLeaf q signs paths → IsPart q signs
-leaf_is_part q signs paths g =
-    let l : length signs ≡ length (pairs q) = g.whole in
-    let f : IsFeasible q signs = feasible_if q signs (omega (arith, l)) (leaf_is_satisfiable q signs paths g) in
+pub leaf_is_part : (q : QueryValue) → IsWithinLimits q → (signs : List Sign) (paths : List Path) → IsGoodLeaf q signs paths → IsPart q signs
+leaf_is_part q w signs paths g =
+    let l : length signs ≡ length (pairs q) = g.place.whole in
+    let f : IsFeasible q signs = feasible_if q signs w (soft_hold q signs w g.place.agree) (omega (arith, l)) (leaf_is_satisfiable q signs paths g) in
     (one_under q signs l f).parts signs first
 
 -- the bounds of a good leaf are tight

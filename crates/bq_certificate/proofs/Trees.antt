@@ -7,7 +7,7 @@ use Rattle.bq_certificate.specs.declared.line.Line.TheVariants as line
 use Rattle.bq_certificate.specs.declared.answer.Reason.{Reason}
 use Rattle.bq_certificate.specs.declared.answer.Reason.TheVariants as reason
 use Rattle.bq_certificate.specs.declared.walk.Walk.{Walk}
-use Rattle.bq_certificate.specs.Nodes.{Node, split, infeasible, leaf, grouped, nodes_of}
+use Rattle.bq_certificate.specs.Nodes.{Node, split, infeasible, against, leaf, grouped, nodes_of}
 use Rattle.bq_certificate.specs.Reading.{after, AreGood, done, next, IsGood, IsFirstFault, broken, unfinished, left_over}
 use Rattle.bq_certificate.specs.Standing.{at}
 use Rattle.bq_model.specs.declared.decision.Decision.{Decision}
@@ -30,12 +30,14 @@ leaves-append : (xs ys : List Node) → leaves (xs ++ ys) ≡ leaves xs + leaves
 leaves-append [] ys = omega arith
 leaves-append (split pair ∷ xs) ys = leaves-append xs ys
 leaves-append (infeasible numbers ∷ xs) ys = leaves-append xs ys
+leaves-append (against comparison ∷ xs) ys = leaves-append xs ys
 leaves-append (leaf paths ∷ xs) ys = let r : leaves (xs ++ ys) ≡ leaves xs + leaves ys = leaves-append xs ys in omega arith
 
 pub few_leaves : (xs : List Node) → leaves xs ≤ length xs
 few_leaves [] = omega arith
 few_leaves (split pair ∷ xs) = let r : leaves xs ≤ length xs = few_leaves xs in omega arith
 few_leaves (infeasible numbers ∷ xs) = let r : leaves xs ≤ length xs = few_leaves xs in omega arith
+few_leaves (against comparison ∷ xs) = let r : leaves xs ≤ length xs = few_leaves xs in omega arith
 few_leaves (leaf paths ∷ xs) = let r : leaves xs ≤ length xs = few_leaves xs in omega arith
 
 -- the leaves are as many as the nodes that are leaves
@@ -43,11 +45,13 @@ pub count_leaves : {q : QueryValue} {at end : Option (List Sign)} {nodes : List 
 count_leaves (done {at}) = ap length (leaves-nil at)
 count_leaves (next {node = split pair} g r) = count_leaves r
 count_leaves (next {node = infeasible numbers} g r) = count_leaves r
+count_leaves (next {node = against comparison} g r) = count_leaves r
 count_leaves (next {node = leaf paths} g r) = let e = count_leaves r in omega (arith, e)
 
 decided_more : (q : QueryValue) (read : List Node) (node : Node) {signs : List Sign} → AreGood q (Some []) read (Some signs) → (number : ℕ) (old new : DecisionSoFar) → number ≡ suc (length (leaves_of (Some []) read)) → Decides q signs node number old new → IsSoFar q (leaves_of (Some []) read) old → IsSoFar q (leaves_of (Some []) (read ++ node ∷ [])) new
 decided_more q read (split pair) g number old new n d h = other_decided q g (split pair) new refl (subst (IsSoFar q (leaves_of (Some []) read)) (sym d) h)
 decided_more q read (infeasible numbers) g number old new n d h = other_decided q g (infeasible numbers) new refl (subst (IsSoFar q (leaves_of (Some []) read)) (sym d) h)
+decided_more q read (against comparison) g number old new n d h = other_decided q g (against comparison) new refl (subst (IsSoFar q (leaves_of (Some []) read)) (sym d) h)
 decided_more q read (leaf paths) g number old new n d h = leaf_decided q g paths number old new n d h
 
 -- the nodes before the rest of the lines were read, and are good
@@ -78,6 +82,7 @@ node_more q lines behind read node old new e w s = record {
 line_more : (q : QueryValue) (lines : List Line) (l : Line) (behind : List Line) (old new : Walk) (u : Unit {0}) → Progress q lines (l ∷ behind) old → StepsOr q (node_at l behind) old new (Ok u) → Progress q lines behind new
 line_more q lines (line.Split pair) behind old new u p s = node_more q lines behind p.read (split pair) old new p.split_is p.walked s
 line_more q lines (line.Infeasible numbers) behind old new u p s = node_more q lines behind p.read (infeasible numbers.items) old new p.split_is p.walked s
+line_more q lines (line.Against comparison) behind old new u p s = node_more q lines behind p.read (against comparison) old new p.split_is p.walked s
 line_more q lines line.Leaf behind old new u p s = node_more q lines behind p.read (leaf (grouped behind).paths) old new p.split_is p.walked s
 line_more q lines (line.Path path) behind old new u p s = record { read = p.read; split_is = p.split_is; walked = subst (Walked q p.read) (sym s) p.walked }
 
@@ -95,6 +100,7 @@ node_fault q nodes read node others old new why e w h =
 line_fault : (q : QueryValue) (lines : List Line) (l : Line) (behind : List Line) (old new : Walk) (why : Reason) → Progress q lines (l ∷ behind) old → StepsOr q (node_at l behind) old new (Err why) → IsFirstFault q (nodes_of lines) new.nodes why
 line_fault q lines (line.Split pair) behind old new why p s = node_fault q (nodes_of lines) p.read (split pair) (nodes_of behind) old new why p.split_is p.walked s
 line_fault q lines (line.Infeasible numbers) behind old new why p s = node_fault q (nodes_of lines) p.read (infeasible numbers.items) (nodes_of behind) old new why p.split_is p.walked s
+line_fault q lines (line.Against comparison) behind old new why p s = node_fault q (nodes_of lines) p.read (against comparison) (nodes_of behind) old new why p.split_is p.walked s
 line_fault q lines line.Leaf behind old new why p s = node_fault q (nodes_of lines) p.read (leaf (grouped behind).paths) (nodes_of behind) old new why p.split_is p.walked s
 line_fault q lines (line.Path path) behind old new why p s = absurd s
 
@@ -128,7 +134,7 @@ ends_whole q lines rest w d e p m f =
     let r : p.read ≡ nodes_of lines = all_read q lines rest w e p in
     let g : AreGood q (Some []) p.read None = subst (λ (b : Bool). AreGood q (Some []) p.read (at b w.place.signs.items)) m p.walked.good in
     let n : length (leaves_of (Some []) p.read) ≡ w.leaves = count_leaves g ∙ sym p.walked.leaves_are in
-    (subst (λ (z : List Node). AreGood q (Some []) z None) r g, f p.read g p.walked.decided, subst (HasParts q) n (has_parts q p.read g))
+    (subst (λ (z : List Node). AreGood q (Some []) z None) r g, f p.read g p.walked.decided, subst (HasParts q) n (has_parts q p.walked.stands.limits p.read g))
 
 pub starts : (q : QueryValue) (lines : List Line) (w : Walk) → Walked q [] w → Progress q lines lines w
 starts q lines w h = record { read = []; split_is = refl; walked = h }

@@ -1,18 +1,19 @@
 -- A certificate that is good: that of SELECT DISTINCT S.a FROM S WHERE S.a > 5 AND S.a < 7, which has one part.
-use Rattle.std.proofs.Common.{◌≡◌, ℕ, zero, suc, ◌<◌, ◌≤◌, ◌-◌, ℤ, pos, neg_ℤ, ◌+ℤ◌, ◌<ℤ◌, true, refl, sym, subst, arith, Some, List, [], ◌∷◌, length, slice_get}
+use Rattle.std.proofs.Common.{◌≡◌, ℕ, zero, suc, ◌<◌, ◌≤◌, ◌-◌, ℤ, pos, neg_ℤ, ◌+ℤ◌, ◌<ℤ◌, true, inl, refl, sym, subst, arith, Some, List, [], ◌∷◌, length, slice_get}
 use Rattle.std.proofs.lemmas.Int.{ints}
 use Rattle.bq_model.specs.declared.atom.Attr.{Attr}
 use Rattle.bq_model.specs.declared.atom.Element.TheVariants as element
 use Rattle.bq_model.specs.declared.atom.Op.{Op}
 use Rattle.bq_model.specs.declared.part.Sign.{Sign}
-use Rattle.bq_model.specs.Query.{QueryValue}
+use Rattle.bq_model.specs.declared.atom.Atom.{Atom}
+use Rattle.bq_model.specs.Query.{QueryValue, HasAttr, IsColumn, IsShort, IsDomain, IsWithinLimits}
 use Rattle.bq_model.specs.Parts.{pairs, AreParts}
 use Rattle.bq_constraints.specs.declared.constraint.Constraint.{Constraint}
 use Rattle.bq_constraints.specs.Solutions.{IsNegativeCycle}
 use Rattle.bq_constraints.specs.PartConstraints.{of_prefix}
 use Rattle.bq_certificate.specs.declared.line.Path.{Path}
 use Rattle.bq_certificate.specs.Nodes.{Node, split, infeasible, leaf}
-use Rattle.bq_certificate.specs.Rules.{IsPath, path_lt, ArePaths, IsBound, same, of_path, HasBound, AreClosed, IsGoodLeaf}
+use Rattle.bq_certificate.specs.Rules.{IsPath, path_lt, ArePaths, IsBound, same, of_path, HasBound, AreClosed, MayBePart, IsGoodLeaf}
 use Rattle.bq_certificate.proofs.LeafTable.{table_from_bound}
 use Rattle.bq_certificate.proofs.LeavesInOrder.{leaves_are_parts}
 use Rattle.bq_model.proofs.Has.{Has, first, later, Has-from_contains}
@@ -33,6 +34,7 @@ query = record {
   from = 0 ∷ [];
   select = column ∷ [];
   atoms = record { left = element.Attr column; op = Op.Gt; right = element.Const (pos 5) } ∷ record { left = element.Attr column; op = Op.Lt; right = element.Const (pos 7) } ∷ [];
+  domains = [];
 }
 
 -- the certificate
@@ -63,7 +65,7 @@ unfolding pairs
 two_pairs = refl
 
 -- two constraints that lead back and forth with a negative sum
-cycle_of_two : (cs : List Constraint) (e f : ℕ) (c d : Constraint) → 0 < e → 0 < f → slice_get cs (e - 1) ≡ Some c → slice_get cs (f - 1) ≡ Some d → d.left ≡ c.right → d.right ≡ c.left → (c.bound +ℤ d.bound) <ℤ pos 0 → IsNegativeCycle cs (e ∷ f ∷ [])
+pub cycle_of_two : (cs : List Constraint) (e f : ℕ) (c d : Constraint) → 0 < e → 0 < f → slice_get cs (e - 1) ≡ Some c → slice_get cs (f - 1) ≡ Some d → d.left ≡ c.right → d.right ≡ c.left → (c.bound +ℤ d.bound) <ℤ pos 0 → IsNegativeCycle cs (e ∷ f ∷ [])
 cycle_of_two cs e f c d le lf g h l r n = record {
   node = c.left;
   sum = c.bound +ℤ d.bound;
@@ -153,9 +155,13 @@ closed_at c (later (later (later (later i)))) j l u h = elim i [ ]
 are_closed : AreClosed 1 at_leaf (up ∷ down ∷ [])
 are_closed = record { closed = λ c m j l u h. closed_at c (Has-from_contains at_leaf c m) j l u h }
 
+may_be_part : MayBePart query (Sign.Gt ∷ Sign.Lt ∷ [])
+unfolding pairs
+may_be_part = record { whole = refl; agree = refl }
+
 leaf_is_good : IsGoodLeaf query (Sign.Gt ∷ Sign.Lt ∷ []) (up ∷ down ∷ [])
 leaf_is_good = record {
-  whole = sym two_pairs;
+  place = may_be_part;
   are_paths = subst (λ cs. ArePaths 1 cs (up ∷ down ∷ [])) (sym prefix_of_leaf) are_paths;
   closed = subst (λ cs. AreClosed 1 cs (up ∷ down ∷ [])) (sym prefix_of_leaf) are_closed;
 }
@@ -178,6 +184,38 @@ certificate_is_good =
     )
     )
 
+in_limits : IsWithinLimits query
+in_limits = record {
+  streams = (omega arith, omega arith);
+  different = λ i j d l m. absurd (omega arith);
+  selected = (omega arith, omega arith);
+  select = All-from_has (IsColumn 1) (column ∷ []) one_column;
+  comparisons = omega arith;
+  few_soft = omega arith;
+  sides = All-from_has HasAttr query.atoms sides;
+  few_attrs = omega arith;
+  attrs = All-from_has (IsColumn 1) (column ∷ []) one_column;
+  few_consts = omega arith;
+  consts = All-from_has IsShort (pos 5 ∷ pos 7 ∷ []) short;
+  few_domains = omega arith;
+  domains = All-from_has (IsDomain query) [] (λ d h. elim h [ ]);
+  ascending = λ i j d l m. absurd (omega arith);
+}
+  where
+    one_column : (a : Attr) → Has (column ∷ []) a → IsColumn 1 a
+    one_column a first = record { stream = omega arith; column = omega arith }
+    one_column a (later h) = elim h [ ]
+
+    sides : (t : Atom) → Has query.atoms t → HasAttr t
+    sides t first = inl refl
+    sides t (later first) = inl refl
+    sides t (later (later h)) = elim h [ ]
+
+    short : (k : ℤ) → Has (pos 5 ∷ pos 7 ∷ []) k → IsShort k
+    short k first = record { low = omega (arith, ints); high = omega (arith, ints) }
+    short k (later first) = record { low = omega (arith, ints); high = omega (arith, ints) }
+    short k (later (later h)) = elim h [ ]
+
 -- the query has one part
 pub one_part : AreParts query ((Sign.Gt ∷ Sign.Lt ∷ []) ∷ [])
-one_part = leaves_are_parts query certificate certificate_is_good
+one_part = leaves_are_parts query in_limits certificate certificate_is_good

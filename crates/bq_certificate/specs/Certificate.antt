@@ -16,6 +16,7 @@ abbrev pub takes_path : Option Line → Bool
 takes_path None = false
 takes_path (Some (line.Split pair)) = false
 takes_path (Some (line.Infeasible numbers)) = false
+takes_path (Some (line.Against comparison)) = false
 takes_path (Some line.Leaf) = true
 takes_path (Some (line.Path p)) = true
 
@@ -23,6 +24,7 @@ takes_path (Some (line.Path p)) = true
 abbrev pub MayFollow : Option Line → Line → Type 0
 MayFollow before (line.Split pair) = Unit {0}
 MayFollow before (line.Infeasible numbers) = Unit {0}
+MayFollow before (line.Against comparison) = Unit {0}
 MayFollow before line.Leaf = Unit {0}
 MayFollow before (line.Path p) = takes_path before ≡ true
 
@@ -49,6 +51,7 @@ last_of lines = slice_get lines (length lines - 1)
 abbrev pub count_of : Line → ℕ
 count_of (line.Split pair) = 1
 count_of (line.Infeasible numbers) = 1
+count_of (line.Against comparison) = 1
 count_of line.Leaf = 1
 count_of (line.Path p) = 0
 

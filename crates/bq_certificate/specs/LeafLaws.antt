@@ -2,7 +2,7 @@
 use Rattle.std.specs.Prelude.{◌≡◌, ◌↔◌, ℤ, ◌+ℤ◌, ◌-ℤ◌, ◌≤ℤ◌, ◌<ℤ◌, List, [], Contains}
 use Rattle.bq_model.specs.declared.atom.Element.{Element}
 use Rattle.bq_model.specs.declared.part.Sign.{Sign}
-use Rattle.bq_model.specs.Query.{QueryValue, attrs_of}
+use Rattle.bq_model.specs.Query.{QueryValue, attrs_of, IsWithinLimits}
 use Rattle.bq_model.specs.Assignment.{Assignment, value, IsAmong}
 use Rattle.bq_model.specs.Parts.{InPart}
 use Rattle.bq_constraints.specs.Nodes.{node_of, offset_of}
@@ -30,9 +30,9 @@ pub record IsTold (q : QueryValue) (l : PlacedLeaf) (x y : Element) : Type 0 whe
   pub most : (most : ℤ) → SaysMost q l x y most ↔ IsMostAbove q l.signs x y most
   pub free : ((most : ℤ) → ¬ SaysMost q l x y most) ↔ IsFreeAbove q l.signs x y
 
--- in a good tree the bounds of a leaf are what its part implies of any two columns that the comparisons name, or constants
+-- in a tree that is good for a query within the limits the bounds of a leaf are what its part implies of any two columns that the comparisons name, or constants
 abbrev pub LeavesAreTight : Type 0
 LeavesAreTight =
-    (q : QueryValue) → (t : Tree) → IsGoodTree q [] t
+    (q : QueryValue) → IsWithinLimits q → (t : Tree) → IsGoodTree q [] t
     → (l : PlacedLeaf) → Contains (leaves_below [] t) l
     → (x y : Element) → IsAmong (attrs_of q.atoms) x → IsAmong (attrs_of q.atoms) y → IsTold q l x y

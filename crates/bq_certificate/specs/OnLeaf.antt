@@ -1,10 +1,10 @@
 -- What is read off the bounds of a good leaf.
-use Rattle.std.specs.Prelude.{◌≡◌, ◌≢◌, ◌≤◌, ℤ, ◌+ℤ◌, ◌-ℤ◌, Option, List, length}
+use Rattle.std.specs.Prelude.{◌≡◌, ◌≢◌, ℤ, ◌+ℤ◌, ◌-ℤ◌, Option, List}
 use Rattle.bq_model.specs.declared.atom.Attr.{Attr}
 use Rattle.bq_model.specs.declared.atom.Element.{Element}
 use Rattle.bq_model.specs.declared.atom.Element.TheVariants as element
 use Rattle.bq_model.specs.declared.part.Sign.{Sign}
-use Rattle.bq_model.specs.Query.{QueryValue, attrs_of}
+use Rattle.bq_model.specs.Query.{QueryValue, attrs_of, IsWithinLimits}
 use Rattle.bq_model.specs.Order.{IsLess, IsEqual}
 use Rattle.bq_model.specs.Links.{IsInequality, IsMinRef, IsMaxRef}
 use Rattle.bq_constraints.specs.Nodes.{node_of, offset_of}
@@ -17,7 +17,7 @@ use Rattle.bq_certificate.specs.Bounds.{bound_at, IsAtMost, Tells}
 
 -- there is a good leaf at these signs, and the table tells all bounds that its paths give
 pub record IsLeafTable (q : QueryValue) (signs : List Sign) (bounds : List (Option ℤ)) : Type 0 where
-  pub few : length (attrs_of q.atoms) ≤ 12
+  pub limits : IsWithinLimits q
   pub paths : List Path
   pub good : IsGoodLeaf q signs paths
   pub tells : Tells (of_prefix q signs) paths bounds

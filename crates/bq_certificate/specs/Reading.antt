@@ -10,7 +10,7 @@ use Rattle.bq_certificate.specs.declared.answer.Reason.{Reason}
 use Rattle.bq_certificate.specs.declared.answer.Reason.TheVariants as reason
 use Rattle.bq_certificate.specs.declared.answer.CheckAnswer.{CheckAnswer}
 use Rattle.bq_certificate.specs.declared.answer.CheckAnswer.TheVariants.{Yes, No}
-use Rattle.bq_certificate.specs.Nodes.{Node, split, infeasible, leaf}
+use Rattle.bq_certificate.specs.Nodes.{Node, split, infeasible, against, leaf}
 use Rattle.bq_certificate.specs.Rules.{IsGoodNode, Breaks}
 
 -- the first of the three signs is less, then comes equal, then greater: signs with another first one, where the others have none
@@ -30,6 +30,7 @@ following (s ∷ signs) = advanced s (following signs)
 abbrev pub after : List Sign → Node → Option (List Sign)
 after signs (split pair) = Some (signs ++ Sign.Lt ∷ [])
 after signs (infeasible numbers) = following signs
+after signs (against comparison) = following signs
 after signs (leaf paths) = following signs
 
 -- good nodes, one behind the other: where the first stands, and where the next one would

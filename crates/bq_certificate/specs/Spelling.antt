@@ -37,8 +37,9 @@ unfoldable pub keyword_of : List ℕ → Option Keyword
 keyword_of word =
     if bytes_eq word (codes "split") then Some keyword.Split else
     (if bytes_eq word (codes "infeasible") then Some keyword.Infeasible else
+    (if bytes_eq word (codes "against") then Some keyword.Against else
     (if bytes_eq word (codes "leaf") then Some keyword.Leaf else
-    (if bytes_eq word (codes "path") then Some keyword.Path else None)))
+    (if bytes_eq word (codes "path") then Some keyword.Path else None))))
 
 -- the split that words behind its keyword spell
 abbrev pub split_of : List (List ℕ) → Option Line
@@ -49,6 +50,12 @@ split_of (word ∷ other ∷ ws) = None
 -- the infeasible node
 abbrev pub infeasible_of : List (List ℕ) → Option Line
 infeasible_of ws = option_map (λ ns. line.Infeasible record { items = ns }) (chain_of 13 ws)
+
+-- the branch that a comparison closes
+abbrev pub against_of : List (List ℕ) → Option Line
+against_of [] = None
+against_of (word ∷ []) = option_map line.Against (number_of word)
+against_of (word ∷ other ∷ ws) = None
 
 -- the leaf, behind whose keyword no word stands
 abbrev pub leaf_of : List (List ℕ) → Option Line
@@ -66,6 +73,7 @@ path_of (from_word ∷ to_word ∷ ws) =
 abbrev pub line_behind : Keyword → List (List ℕ) → Option Line
 line_behind keyword.Split ws = split_of ws
 line_behind keyword.Infeasible ws = infeasible_of ws
+line_behind keyword.Against ws = against_of ws
 line_behind keyword.Leaf ws = leaf_of ws
 line_behind keyword.Path ws = path_of ws
 

@@ -1,7 +1,7 @@
 -- Where the walk over the nodes of a certificate stands.
 use Rattle.std.specs.Prelude.{◌≡◌, ℕ, ◌-◌, ◌≤◌, Bool, cond, Option, Some, None, List, [], ◌∷◌, ◌++◌, length, take, All}
 use Rattle.bq_model.specs.declared.part.Sign.{Sign}
-use Rattle.bq_model.specs.Query.{QueryValue, attrs_of}
+use Rattle.bq_model.specs.Query.{QueryValue, IsWithinLimits}
 use Rattle.bq_model.specs.Parts.{pairs}
 use Rattle.bq_constraints.specs.PartConstraints.{of_prefix}
 use Rattle.bq_constraints.specs.Solutions.{IsWithin}
@@ -18,9 +18,7 @@ pub record Stands (q : QueryValue) (p : Place) : Type 0 where
   pub constraints : p.constraints.items ≡ of_prefix q p.signs.items
   pub within : All (IsWithin 12) p.constraints.items
   pub room : length p.signs.items ≤ length (pairs q)
-  pub few_pairs : length (pairs q) ≤ 106
-  pub few_atoms : length q.atoms ≤ 16
-  pub few_attrs : length (attrs_of q.atoms) ≤ 12
+  pub limits : IsWithinLimits q
 
 -- the last sign and its constraints are taken away, or there is none
 abbrev pub Drops : Option Sign → Place → Place → Type 0

@@ -36,6 +36,12 @@ pub record IsInfeasible (ws : List (List ℕ)) (ns : List ℕ) : Type 0 where
   pub whole : ws ≡ codes "infeasible" ∷ behind
   pub numbers : AreNumbers 13 behind ns
 
+-- `against A`
+pub record IsAgainst (ws : List (List ℕ)) (comparison : ℕ) : Type 0 where
+  pub word : List ℕ
+  pub whole : ws ≡ codes "against" ∷ word ∷ []
+  pub number : IsNumber word comparison
+
 -- `path I J E1 E2 ..`, with at most 12 numbers behind I and J
 pub record IsPathFrom (ws : List (List ℕ)) (p : Path) : Type 0 where
   pub from_word : List ℕ
@@ -50,6 +56,7 @@ pub record IsPathFrom (ws : List (List ℕ)) (p : Path) : Type 0 where
 abbrev pub Spells : List (List ℕ) → Line → Type 0
 Spells ws (line.Split pair) = IsSplit ws pair
 Spells ws (line.Infeasible numbers) = IsInfeasible ws numbers.items
+Spells ws (line.Against comparison) = IsAgainst ws comparison
 Spells ws line.Leaf = ws ≡ codes "leaf" ∷ []
 Spells ws (line.Path p) = IsPathFrom ws p
 
@@ -78,6 +85,7 @@ pub record IsWholePath (p : Path) : Type 0 where
 abbrev pub IsWhole : Line → Type 0
 IsWhole (line.Split pair) = pair < 65536
 IsWhole (line.Infeasible numbers) = HasNumbers 13 numbers.items
+IsWhole (line.Against comparison) = comparison < 65536
 IsWhole line.Leaf = Unit {0}
 IsWhole (line.Path p) = IsWholePath p
 
@@ -89,6 +97,7 @@ numbers_text numbers = flat_map (λ n. 32 ∷ decimal n) numbers
 abbrev pub line_text : Line → List ℕ
 line_text (line.Split pair) = codes "split" ++ numbers_text (pair ∷ [])
 line_text (line.Infeasible numbers) = codes "infeasible" ++ numbers_text numbers.items
+line_text (line.Against comparison) = codes "against" ++ numbers_text (comparison ∷ [])
 line_text line.Leaf = codes "leaf"
 line_text (line.Path p) = codes "path" ++ numbers_text (p.from ∷ p.to ∷ p.numbers.items)
 

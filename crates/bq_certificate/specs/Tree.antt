@@ -7,13 +7,14 @@ use Rattle.bq_constraints.specs.PartConstraints.{of_prefix}
 use Rattle.bq_certificate.specs.declared.line.Path.{Path}
 use Rattle.bq_certificate.specs.Nodes as nodes
 use Rattle.bq_certificate.specs.Nodes.{Node}
-use Rattle.bq_certificate.specs.Rules.{IsNextPair, IsGoodLeaf}
+use Rattle.bq_certificate.specs.Rules.{IsNextPair, IsRefuted, IsGoodLeaf}
 
 -- a split at a pair, by its number from 1, into the trees of less, equal and greater; a branch that is closed by constraints that make a
--- negative cycle, by their numbers from 1; or a leaf, which is a part, with its paths
+-- negative cycle, by their numbers from 1, or against a soft comparison, by its number from 1; or a leaf, which is a part, with its paths
 pub data Tree : Type 0 where
   split : ℕ → Tree → Tree → Tree → Tree
   closed : List ℕ → Tree
+  against : ℕ → Tree
   leaf : List Path → Tree
 
 -- a tree is good below some signs where each of its nodes meets its rule at the signs on the way to it
@@ -24,12 +25,14 @@ IsGoodTree q signs (split pair less equal greater) =
     × IsGoodTree q (signs ++ Sign.Eq ∷ []) equal
     × IsGoodTree q (signs ++ Sign.Gt ∷ []) greater
 IsGoodTree q signs (closed numbers) = IsNegativeCycle (of_prefix q signs) numbers
+IsGoodTree q signs (against comparison) = IsRefuted q signs comparison
 IsGoodTree q signs (leaf paths) = IsGoodLeaf q signs paths
 
 -- the nodes of a tree in preorder: each before those below it, and less before equal before greater
 abbrev pub preorder : Tree → List Node
 preorder (split pair less equal greater) = nodes.split pair ∷ (preorder less ++ preorder equal ++ preorder greater)
 preorder (closed numbers) = nodes.infeasible numbers ∷ []
+preorder (against comparison) = nodes.against comparison ∷ []
 preorder (leaf paths) = nodes.leaf paths ∷ []
 
 -- the nodes are those of a good tree in preorder
@@ -47,4 +50,5 @@ pub record PlacedLeaf : Type 0 where
 abbrev pub leaves_below : List Sign → Tree → List PlacedLeaf
 leaves_below signs (split pair less equal greater) = leaves_below (signs ++ Sign.Lt ∷ []) less ++ leaves_below (signs ++ Sign.Eq ∷ []) equal ++ leaves_below (signs ++ Sign.Gt ∷ []) greater
 leaves_below signs (closed numbers) = []
+leaves_below signs (against comparison) = []
 leaves_below signs (leaf paths) = record { signs = signs; paths = paths } ∷ []

@@ -1,7 +1,7 @@
 -- Laws of the trees of certificates.
 use Rattle.std.specs.Prelude.{◌≡◌, ◌↔◌, ℕ, List, [], map}
 use Rattle.std.specs.declared.option.Option.TheVariants.{Some}
-use Rattle.bq_model.specs.Query.{QueryValue}
+use Rattle.bq_model.specs.Query.{QueryValue, IsWithinLimits}
 use Rattle.bq_model.specs.Parts.{AreParts}
 use Rattle.bq_certificate.specs.declared.answer.CheckAnswer.{CheckAnswer}
 use Rattle.bq_certificate.specs.declared.answer.Reason.{Reason}
@@ -19,13 +19,13 @@ GoodIsTree = (q : QueryValue) → (nodes : List Node) → IsGood q nodes ↔ Lis
 abbrev pub ListOneTree : Type 0
 ListOneTree = (t u : Tree) → preorder t ≡ preorder u → t ≡ u
 
--- the leaves of a good tree, each by the signs on the way to it, are the parts of the query, in order
+-- the leaves of a tree that is good for a query within the limits, each by the signs on the way to it, are the parts of the query, in order
 abbrev pub LeavesOfTreeAreParts : Type 0
-LeavesOfTreeAreParts = (q : QueryValue) → (t : Tree) → IsGoodTree q [] t → AreParts q (map (λ l. l.signs) (leaves_below [] t))
+LeavesOfTreeAreParts = (q : QueryValue) → IsWithinLimits q → (t : Tree) → IsGoodTree q [] t → AreParts q (map (λ l. l.signs) (leaves_below [] t))
 
--- the leaves of nodes that are read as a good tree are the parts of the query, in order
+-- the leaves of nodes that are read as a good tree of a query within the limits are the parts of the query, in order
 abbrev pub LeavesAreParts : Type 0
-LeavesAreParts = (q : QueryValue) → (nodes : List Node) → IsGood q nodes → AreParts q (leaves_of (Some []) nodes)
+LeavesAreParts = (q : QueryValue) → IsWithinLimits q → (nodes : List Node) → IsGood q nodes → AreParts q (leaves_of (Some []) nodes)
 
 -- nodes have one answer at most
 abbrev pub HasOneAnswer : Type 0

@@ -7,7 +7,7 @@ use Rattle.bq_certificate.specs.declared.line.Line.TheVariants as line
 use Rattle.bq_certificate.specs.declared.answer.Reason.{Reason}
 use Rattle.bq_certificate.specs.declared.answer.Reason.TheVariants as reason
 use Rattle.bq_certificate.specs.declared.walk.Walk.{Walk}
-use Rattle.bq_certificate.specs.Nodes.{Node, split, infeasible, leaf, grouped}
+use Rattle.bq_certificate.specs.Nodes.{Node, split, infeasible, against, leaf, grouped}
 use Rattle.bq_certificate.specs.Rules.{IsGoodNode, IsGoodLeaf, Breaks}
 use Rattle.bq_certificate.specs.Bounds.{Tells}
 use Rattle.bq_constraints.specs.PartConstraints.{of_prefix}
@@ -25,6 +25,7 @@ use Rattle.bq_certificate.specs.Standing.{Stands, at}
 abbrev pub node_at : Line → List Line → Option Node
 node_at (line.Split pair) behind = Some (split pair)
 node_at (line.Infeasible numbers) behind = Some (infeasible numbers.items)
+node_at (line.Against comparison) behind = Some (against comparison)
 node_at line.Leaf behind = Some (leaf (grouped behind).paths)
 node_at (line.Path p) behind = None
 
@@ -33,6 +34,7 @@ abbrev pub leaves : List Node → ℕ
 leaves [] = 0
 leaves (split pair ∷ nodes) = leaves nodes
 leaves (infeasible numbers ∷ nodes) = leaves nodes
+leaves (against comparison ∷ nodes) = leaves nodes
 leaves (leaf paths ∷ nodes) = leaves nodes + 1
 
 -- a fact holds, or else a rule is broken
@@ -49,6 +51,7 @@ JudgesLeaf q signs paths (Err why) = Breaks q signs (leaf paths) why
 abbrev pub Decides : QueryValue → List Sign → Node → ℕ → DecisionSoFar → DecisionSoFar → Type 0
 Decides q signs (split pair) number old new = new ≡ old
 Decides q signs (infeasible numbers) number old new = new ≡ old
+Decides q signs (against comparison) number old new = new ≡ old
 Decides q signs (leaf paths) number old new = TakesLeaf q signs number old new
 
 -- a good node is passed

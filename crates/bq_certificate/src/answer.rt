@@ -4,10 +4,11 @@ use bq_model::Decision;
 /// The rule that a node breaks. Where it breaks several, it is the first of these.
 #[derive(Clone, Copy, Debug, PartialEq, Eq)]
 pub enum Reason {
-    /// The nodes are no tree here: a split is not at the next pair, a leaf not below all pairs, the nodes end too soon, or
-    /// some stand behind the tree.
+    /// The nodes are no tree here: a split is not at the next pair, a leaf not below all pairs, or a soft comparison
+    /// is false at it, the nodes end too soon, or some stand behind the tree.
     Shape,
-    /// The constraints of an infeasible node are not there, do not close a chain, or have no negative sum.
+    /// The constraints of an infeasible node are not there, do not close a chain, or have no negative sum; or the comparison that
+    /// closes a branch is not there, is not soft, or is not false there.
     Cycle,
     /// The paths of a leaf do not ascend, or one does not lead from a node to another.
     Path,

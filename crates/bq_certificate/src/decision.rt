@@ -59,6 +59,7 @@ impl DecisionSoFar {
     pub fn finish(self, q: &Query) -> Decision
         ensures { (nodes : List Node) → IsGood q.now nodes → IsSoFar q.now (leaves_of (Some []) nodes) self → IsDecision q.now result }
     {
+        let _columns = q.select();
         if q.is_filter() {
             Decision::Bounded
         } else {

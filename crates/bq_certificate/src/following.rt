@@ -47,6 +47,10 @@ fn is_whole(line: &Line) -> bool
             true
         }
         Line::Infeasible(numbers) => has_numbers(numbers.as_slice()),
+        Line::Against(comparison) => {
+            let _comparison = *comparison;
+            true
+        }
         Line::Leaf => true,
         Line::Path(path) => {
             let _from = path.from;

@@ -38,18 +38,18 @@ pub fn list_one_tree()
     ensures { ListOneTree }
 {}
 
-/// The leaves of a good tree are the parts of the query, in order.
+/// The leaves of a tree that is good for a query within the limits are the parts of the query, in order.
 pub fn leaves_of_tree_are_parts()
     ensures { LeavesOfTreeAreParts }
 {}
 
-/// In a good tree the bounds of a leaf are what its part implies: for any two columns or constants how much the one is at most above
+/// In a tree that is good for a query within the limits the bounds of a leaf are what its part implies: for any two columns or constants how much the one is at most above
 /// the other, or that there is no limit.
 pub fn leaves_are_tight()
     ensures { LeavesAreTight }
 {}
 
-/// The leaves of nodes that are a good tree are the parts of the query, in order.
+/// The leaves of nodes that are a good tree of a query within the limits are the parts of the query, in order.
 pub fn leaves_are_parts()
     ensures { LeavesAreParts }
 {}

@@ -2,7 +2,8 @@
 //! found.
 //!
 //! A certificate is a tree of nodes in preorder. A split goes on with each sign of the next pair of the query; at an infeasible
-//! node some constraints are named that no integers meet; a leaf is a part, and its paths tell all that its constraints imply.
+//! node some constraints are named that no integers meet, and at one against a comparison a soft one that is false there; a leaf is a
+//! part, and its paths tell all that its constraints imply.
 #![tactic(auto)]
 
 mod answer;
@@ -23,6 +24,7 @@ mod order;
 mod place;
 mod printing;
 mod reading;
+mod refuting;
 mod rules;
 mod walk;
 

@@ -16,6 +16,9 @@ pub enum Line {
     Split(u16),
     /// No assignment gets here: the constraints with these numbers, from 1, close a chain with a negative sum.
     Infeasible(ArrayVec<u16, 13>),
+    /// No assignment gets here: the soft comparison with this number, from 1, is false under the sign of its pair, or says that an
+    /// element is not itself.
+    Against(u16),
     /// A part of the query. The paths behind it tell what its constraints imply.
     Leaf,
     Path(Path),

@@ -41,7 +41,7 @@ impl Place {
     /// Where the first node stands: there is no sign yet.
     pub fn root(q: &Query, pairs: &[Pair]) -> Place
         requires pairs { pairs.now ≡ pairs_of q.now }
-        requires few { length pairs.now ≤ 106 }
+        requires few { length pairs.now ≤ 114 }
         ensures stands { Stands q.now result }
         ensures signs { result.signs.items ≡ [] }
     {

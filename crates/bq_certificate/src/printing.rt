@@ -57,6 +57,7 @@ pub fn put_line<O: Sink>(out: &mut O, line: &Line) -> Result<(), WriteFault>
     match line {
         Line::Split(pair) => put_words(out, b"split", &[*pair], &[]),
         Line::Infeasible(numbers) => put_words(out, b"infeasible", &[], numbers.as_slice()),
+        Line::Against(comparison) => put_words(out, b"against", &[*comparison], &[]),
         Line::Leaf => put_words(out, b"leaf", &[], &[]),
         Line::Path(path) => put_words(out, b"path", &[path.from, path.to], path.numbers.as_slice()),
     }

@@ -6,7 +6,7 @@ ghost use Rattle.bq_text.specs.Word.{is_digit};
 ghost use Rattle.bq_text.specs.Lines.{parts_behind};
 ghost use Rattle.bq_certificate.specs.Text.{words, IsReading};
 ghost use Rattle.bq_certificate.specs.Spelling as spelling;
-ghost use Rattle.bq_certificate.specs.Spelling.{small, number_of, chain_of, split_of, infeasible_of, leaf_of, path_of, line_of};
+ghost use Rattle.bq_certificate.specs.Spelling.{small, number_of, chain_of, split_of, infeasible_of, against_of, leaf_of, path_of, line_of};
 
 use crate::line::{Line, Path};
 use arrayvec::ArrayVec;
@@ -17,6 +17,7 @@ use bq_text::{cut, read_i64};
 enum Keyword {
     Split,
     Infeasible,
+    Against,
     Leaf,
     Path,
 }
@@ -31,6 +32,9 @@ fn keyword_of(word: &[u8]) -> Option<Keyword>
     }
     if *word == *b"infeasible".as_slice() {
         return Some(Keyword::Infeasible);
+    }
+    if *word == *b"against".as_slice() {
+        return Some(Keyword::Against);
     }
     if *word == *b"leaf".as_slice() {
         return Some(Keyword::Leaf);
@@ -104,6 +108,17 @@ fn read_infeasible(behind: Option<&[u8]>) -> Option<Line>
     Some(Line::Infeasible(read_numbers(behind)?))
 }
 
+// The branch closed by the comparison whose number is what stands behind its keyword.
+fn read_against(behind: Option<&[u8]>) -> Option<Line>
+    ensures { result ≡ against_of (parts_behind 32 behind.entry) }
+{
+    let (word, others) = cut(behind?, b' ');
+    if others.is_some() {
+        return None;
+    }
+    Some(Line::Against(read_number(word)?))
+}
+
 // The leaf, behind whose keyword nothing stands.
 fn read_leaf(behind: Option<&[u8]>) -> Option<Line>
     ensures { result ≡ leaf_of (parts_behind 32 behind.entry) }
@@ -136,6 +151,7 @@ pub fn read_line(text: &[u8]) -> Option<Line>
     match keyword_of(word)? {
         Keyword::Split => read_split(behind),
         Keyword::Infeasible => read_infeasible(behind),
+        Keyword::Against => read_against(behind),
         Keyword::Leaf => read_leaf(behind),
         Keyword::Path => read_path(behind),
     }

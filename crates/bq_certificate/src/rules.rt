@@ -1,8 +1,9 @@
 //! Whether a node of a certificate meets its rules.
-ghost use Rattle.std.specs.Prelude.{◌≡◌, suc, ◌<◌, ◌≤◌, length, All};
+ghost use Rattle.std.specs.Prelude.{◌≡◌, ◌↔◌, suc, ◌<◌, ◌≤◌, IsTrue, length, All};
 ghost use Rattle.bq_model.specs.Parts.{pairs as pairs_of};
 ghost use Rattle.bq_constraints.specs.Solutions.{IsWithin, IsNegativeCycle};
 ghost use Rattle.bq_certificate.specs.Nodes.{grouped};
+ghost use Rattle.bq_certificate.specs.Rules.{IsRefuted, MayBePart};
 ghost use Rattle.bq_certificate.specs.Standing.{Stands};
 ghost use Rattle.bq_certificate.specs.Walking.{IsUnless, JudgesLeaf};
 
@@ -11,6 +12,7 @@ use crate::bounds::{bounds_of, is_closed};
 use crate::chain::is_negative_cycle;
 use crate::line::Line;
 use crate::place::Place;
+use crate::refuting::{any_refuted, refutes};
 use bq_constraints::Constraint;
 use bq_model::{Pair, Query, Sign};
 
@@ -38,6 +40,26 @@ pub fn judge_cycle(cs: &[Constraint], numbers: &[u16]) -> Result<(), Reason>
     }
 }
 
+/// The rule of a branch that a comparison closes: there is one with this number, and it is refuted.
+pub fn judge_against(q: &Query, pairs: &[Pair], signs: &[Sign], number: u16) -> Result<(), Reason>
+    requires { pairs.now ≡ pairs_of q.now }
+    ensures { IsUnless (IsRefuted q.now signs.now number) Reason.Cycle result }
+{
+    if refutes(q.atoms(), pairs, signs, number) {
+        Ok(())
+    } else {
+        Err(Reason::Cycle)
+    }
+}
+
+// The first rules of a leaf: each pair has its sign, and no comparison is refuted.
+fn may_be_part(q: &Query, pairs: &[Pair], signs: &[Sign]) -> bool
+    requires { pairs.now ≡ pairs_of q.now }
+    ensures { IsTrue result ↔ MayBePart q.now signs.now }
+{
+    signs.len() == pairs.len() && !any_refuted(q.atoms(), pairs, signs)
+}
+
 /// The rules of a leaf, with the paths at the front of the lines behind it: the bounds that the paths give, or the first rule
 /// that is broken.
 pub fn judge_leaf(
@@ -50,7 +72,7 @@ pub fn judge_leaf(
     requires stands { Stands q.now place.now }
     ensures { JudgesLeaf q.now place.now.signs.items (grouped behind.now).paths result }
 {
-    if place.signs.len() != pairs.len() {
+    if !may_be_part(q, pairs, place.signs.as_slice()) {
         return Err(Reason::Shape);
     }
     let attrs = q.attrs().len() as u8;

@@ -1,7 +1,7 @@
 //! The walk over the nodes of a certificate.
 ghost use Rattle.std.specs.Prelude.{◌≡◌, ◌≤◌, true, [], length};
 ghost use Rattle.bq_model.specs.Parts.{pairs as pairs_of};
-ghost use Rattle.bq_certificate.specs.Nodes.{split as split_at, infeasible as infeasible_by, leaf as leaf_with, grouped};
+ghost use Rattle.bq_certificate.specs.Nodes.{split as split_at, infeasible as infeasible_by, against as against_by, leaf as leaf_with, grouped};
 ghost use Rattle.bq_certificate.specs.Standing.{Stands};
 ghost use Rattle.bq_certificate.specs.OnLeaf.{IsLeafTable};
 ghost use Rattle.bq_certificate.specs.SoFar.{TakesLeaf};
@@ -12,7 +12,7 @@ use crate::decision::DecisionSoFar;
 use crate::leaf::Leaf;
 use crate::line::Line;
 use crate::place::Place;
-use crate::rules::{judge_cycle, judge_leaf, judge_split};
+use crate::rules::{judge_against, judge_cycle, judge_leaf, judge_split};
 use bq_model::{Pair, Query, Sign};
 
 /// How far the nodes were read: where the next one stands, whether one may follow, how many nodes and leaves there
@@ -30,7 +30,7 @@ impl Walk {
     /// Before the first node.
     pub fn new(q: &Query, pairs: &[Pair]) -> Walk
         requires pairs { pairs.now ≡ pairs_of q.now }
-        requires few { length pairs.now ≤ 106 }
+        requires few { length pairs.now ≤ 114 }
         ensures { Walked q.now [] result }
     {
         Walk {
@@ -62,6 +62,17 @@ impl Walk {
         ensures { PassesOr q.now (infeasible_by numbers.now) self.old self.new result }
     {
         judge_cycle(self.place.constraints.as_slice(), numbers)?;
+        self.more = self.place.go_on(q, pairs);
+        Ok(())
+    }
+
+    // Reads a branch that a comparison closes.
+    fn against(&mut self, q: &Query, pairs: &[Pair], number: u16) -> Result<(), Reason>
+        requires pairs { pairs.now ≡ pairs_of q.now }
+        requires stands { Stands q.now self.old.place }
+        ensures { PassesOr q.now (against_by number) self.old self.new result }
+    {
+        judge_against(q, pairs, self.place.signs.as_slice(), number)?;
         self.more = self.place.go_on(q, pairs);
         Ok(())
     }
@@ -117,6 +128,7 @@ impl Walk {
         match line {
             Line::Split(pair) => self.split(q, pairs, *pair),
             Line::Infeasible(numbers) => self.infeasible(q, pairs, numbers.as_slice()),
+            Line::Against(number) => self.against(q, pairs, *number),
             Line::Leaf => self.leaf(q, pairs, behind),
             Line::Path(_) => Ok(()),
         }

@@ -7,7 +7,6 @@ use Rattle.std.proofs.lemmas.Option.{slice_get_within}
 use Rattle.std.proofs.lemmas.List.Elements.{Contains-get_or, All-contains}
 use Rattle.bq_model.specs.declared.part.Sign.{Sign}
 use Rattle.bq_model.specs.Query.{QueryValue, attrs_of}
-use Rattle.bq_model.specs.Parts.{pairs}
 use Rattle.bq_model.proofs.Has.{Has, first, later, Has-from_contains, Contains-from_has}
 use Rattle.bq_model.proofs.Split.{pairs_from}
 use Rattle.bq_constraints.specs.declared.constraint.Constraint.{Constraint}
@@ -15,7 +14,7 @@ use Rattle.bq_constraints.specs.PartConstraints.{of_prefix}
 use Rattle.bq_constraints.specs.Solutions.{IsWithin, Solves, IsSatisfiable, IsChain, IsNegativeCycle}
 use Rattle.bq_constraints.proofs.Numbers.{contains_at}
 use Rattle.bq_certificate.specs.declared.line.Path.{Path}
-use Rattle.bq_certificate.specs.Rules.{IsPath, ArePaths, path_lt, IsBound, same, of_path, HasBound, AreClosed, IsGoodLeaf}
+use Rattle.bq_certificate.specs.Rules.{IsPath, ArePaths, path_lt, IsBound, same, of_path, HasBound, AreClosed, MayBePart, IsGoodLeaf}
 use Rattle.bq_certificate.specs.declared.line.Line.{Line}
 use Rattle.bq_certificate.specs.declared.line.Line.TheVariants as line
 use Rattle.bq_certificate.specs.Text.{HasNumbers}
@@ -110,10 +109,10 @@ are_paths attrs cs ps a = record {
     is_path : (p : Path) → Has ps p → IsPath attrs cs p
     is_path p h = record { from = a.from p h; to = a.to p h; differ = a.differ p h; sum = (a.least p h).sum; chain = (a.least p h).chain }
 
-pub good_leaf : (q : QueryValue) (pre : List Sign) (ps : List Path) → length pre ≡ length (pairs q) → length (attrs_of q.atoms) ≤ 12 → All (IsWithin (length (attrs_of q.atoms))) (of_prefix q pre) → IsSatisfiable (of_prefix q pre)
+pub good_leaf : (q : QueryValue) (pre : List Sign) (ps : List Path) → MayBePart q pre → length (attrs_of q.atoms) ≤ 12 → All (IsWithin (length (attrs_of q.atoms))) (of_prefix q pre) → IsSatisfiable (of_prefix q pre)
     → ArePathsTo (length (attrs_of q.atoms)) (of_prefix q pre) 169 ps → IsGoodLeaf q pre ps
 good_leaf q pre ps l few within t a = record {
-  whole = l;
+  place = l;
   are_paths = are_paths _ _ ps a;
   closed = closed _ _ ps few within t a;
 }

@@ -1,3 +1,4 @@
+pub mod Closing
 pub mod AtNode
 pub mod Lines
 pub mod Preorder

@@ -3,7 +3,7 @@ use Rattle.std.proofs.Common.{◌≡◌, ◌+◌, ◌-◌, List, [], ◌∷◌, 
 use Rattle.bq_certificate.specs.declared.line.Path.{Path}
 use Rattle.bq_certificate.specs.declared.line.Line.{Line}
 use Rattle.bq_certificate.specs.declared.line.Line.TheVariants as line
-use Rattle.bq_certificate.specs.Nodes.{Node, split, infeasible, leaf, grouped, nodes_of}
+use Rattle.bq_certificate.specs.Nodes.{Node, split, infeasible, against, leaf, grouped, nodes_of}
 use Rattle.bq_certificate.specs.Certificate.{last_of}
 
 -- lines of which neither begins with a path
@@ -11,6 +11,7 @@ pub heads-append : (xs ys : List Line) → (grouped xs).paths ≡ [] → (groupe
 heads-append [] ys a b = b
 heads-append (line.Split pair ∷ xs) ys a b = refl
 heads-append (line.Infeasible numbers ∷ xs) ys a b = refl
+heads-append (line.Against comparison ∷ xs) ys a b = refl
 heads-append (line.Leaf ∷ xs) ys a b = refl
 heads-append (line.Path p ∷ xs) ys a b = cc
 
@@ -18,6 +19,7 @@ paths-append : (xs ys : List Line) → (grouped ys).paths ≡ [] → (grouped (x
 paths-append [] ys b = b
 paths-append (line.Split pair ∷ xs) ys b = refl
 paths-append (line.Infeasible numbers ∷ xs) ys b = refl
+paths-append (line.Against comparison ∷ xs) ys b = refl
 paths-append (line.Leaf ∷ xs) ys b = refl
 paths-append (line.Path p ∷ xs) ys b = ap (λ z. p ∷ z) (paths-append xs ys b)
 
@@ -29,6 +31,7 @@ pub nodes-append : (xs ys : List Line) → (grouped ys).paths ≡ [] → nodes_o
 nodes-append [] ys b = refl
 nodes-append (line.Split pair ∷ xs) ys b = ap (λ z. split pair ∷ z) (nodes-append xs ys b)
 nodes-append (line.Infeasible numbers ∷ xs) ys b = ap (λ z. infeasible numbers.items ∷ z) (nodes-append xs ys b)
+nodes-append (line.Against comparison ∷ xs) ys b = ap (λ z. against comparison ∷ z) (nodes-append xs ys b)
 nodes-append (line.Leaf ∷ xs) ys b = leaf_same _ _ _ _ (paths-append xs ys b) (nodes-append xs ys b)
 nodes-append (line.Path p ∷ xs) ys b = nodes-append xs ys b
 
@@ -37,6 +40,7 @@ pub length-nodes : (xs ys : List Line) → length (nodes_of (xs ++ ys)) ≡ leng
 length-nodes [] ys = omega arith
 length-nodes (line.Split pair ∷ xs) ys = omega (arith, length-nodes xs ys)
 length-nodes (line.Infeasible numbers ∷ xs) ys = omega (arith, length-nodes xs ys)
+length-nodes (line.Against comparison ∷ xs) ys = omega (arith, length-nodes xs ys)
 length-nodes (line.Leaf ∷ xs) ys = omega (arith, length-nodes xs ys)
 length-nodes (line.Path p ∷ xs) ys = length-nodes xs ys
 

@@ -1,9 +1,8 @@
 -- Lists of signs that begin with some signs, from those that have one more.
-use Rattle.std.proofs.Common.{◌≡◌, ◌<◌, ◌+◌, List, [], ◌∷◌, ◌++◌, length, length-append, append_assoc, append-nil, refl, sym, ◌∙◌, ap, subst, arith, true, false, inl, inr}
+use Rattle.std.proofs.Common.{◌≡◌, ℕ, zero, suc, ◌<◌, ◌≤◌, ◌+◌, take, List, [], ◌∷◌, ◌++◌, length, length-append, append_assoc, append-nil, refl, sym, ◌∙◌, ap, subst, arith, true, false, inl, inr}
 use Rattle.bq_model.specs.declared.part.Sign.{Sign}
 use Rattle.bq_model.specs.Query.{QueryValue}
-use Rattle.bq_model.specs.Assignment.{Assignment, Holds}
-use Rattle.bq_model.specs.Parts.{pairs, signs_of, sign_lt, signs_lt, IsPart}
+use Rattle.bq_model.specs.Parts.{pairs, sign_lt, signs_lt, IsPart}
 use Rattle.bq_model.proofs.Has.{Has, first, later, Has-append_left, Has-append_right, Has-append_cases}
 use Rattle.bq_model.proofs.Unique.{none, more}
 use Rattle.bq_model.proofs.Split.{StartsWith, IsFeasible, ArePartsUnder, none_under, one_under, ascends_joined, below_starts, shorten}
@@ -98,34 +97,35 @@ one_part q pre l f = parts_all q pre (pre ∷ []) (one_under q pre l f)
 pub not_part : (q : QueryValue) (pre : List Sign) → length pre < length (pairs q) → IsPart q pre → ⊥
 not_part q pre l p = omega (arith, long q pre p, l)
 
--- ---- beginnings of parts
+-- ---- open prefixes
 
-feasible_from : (q : QueryValue) (pre s : List Sign) → IsOpen q s → StartsWith pre s → IsFeasible q pre
-feasible_from q pre s o w = record {
-  one = o.part.one;
-  holds = o.part.inside.holds;
-  starts = record { rest = w.rest ++ o.next ∷ o.rest; is = o.part.inside.signs ∙ ap (λ z. z ++ o.next ∷ o.rest) w.is ∙ append_assoc pre w.rest (o.next ∷ o.rest) };
-}
+taken_longer : {A : Type 0} (n m : ℕ) (xs : List A) (x : A) → n ≤ m → Has (take n xs) x → Has (take m xs) x
+taken_longer zero m [] x l h = elim h [ ]
+taken_longer (suc n) m [] x l h = elim h [ ]
+taken_longer zero m (y ∷ xs) x l h = elim h [ ]
+taken_longer (suc n) zero (y ∷ xs) x l h = absurd (omega (arith, l))
+taken_longer (suc n) (suc m) (y ∷ xs) x l first = first
+taken_longer (suc n) (suc m) (y ∷ xs) x l (later h) = later (taken_longer n m xs x (omega (arith, l)) h)
+
+-- what feasible signs begin with is feasible: there are fewer soft comparisons to meet
+feasible_from : (q : QueryValue) (pre s : List Sign) → IsFeasible q s → StartsWith pre s → IsFeasible q pre
+feasible_from q pre s f w =
+    let long : length s ≡ length pre + length w.rest = ap length w.is ∙ length-append pre w.rest in
+    record {
+      one = f.one;
+      hard = f.hard;
+      soft = λ t i e d. f.soft t i e (λ p h. taken_longer (length pre) (length s) (pairs q) p (omega (arith, long)) (d p h));
+      domains = f.domains;
+      starts = record { rest = w.rest ++ f.starts.rest; is = f.starts.is ∙ ap (λ z. z ++ f.starts.rest) w.is ∙ append_assoc pre w.rest f.starts.rest };
+    }
 
 pub no_fronts : (q : QueryValue) (pre : List Sign) → ¬ IsFeasible q pre → AllUnder (IsOpen q) pre []
-no_fronts q pre n = record { some = none_some (IsOpen q) pre; all = λ s o w. absurd (n (feasible_from q pre s o w)) }
+no_fronts q pre n = record { some = none_some (IsOpen q) pre; all = λ s o w. absurd (n (feasible_from q pre s o.feasible w)) }
 
 too_long : (q : QueryValue) (pre s : List Sign) → length pre ≡ length (pairs q) → IsOpen q s → StartsWith pre s → ⊥
 too_long q pre s l o w =
-    let a : length (s ++ o.next ∷ o.rest) ≡ length (pairs q) = long q _ o.part in
     let b : length s ≡ length pre + length w.rest = ap length w.is ∙ length-append pre w.rest in
-    omega (arith, a, b, l, length-append s (o.next ∷ o.rest))
+    omega (arith, o.left, b, l)
 
 pub whole_fronts : (q : QueryValue) (pre : List Sign) → length pre ≡ length (pairs q) → AllUnder (IsOpen q) pre []
 whole_fronts q pre l = record { some = none_some (IsOpen q) pre; all = λ s o w. absurd (too_long q pre s l o w) }
-
-open_with : (q : QueryValue) (pre : List Sign) (v : Assignment) → Holds q v → length pre < length (pairs q) → (rest : List Sign) → signs_of q v ≡ pre ++ rest → IsOpen q pre
-open_with q pre v h l [] e =
-    let a : length (signs_of q v) ≡ length (pairs q) = long q (signs_of q v) (record { one = v; inside = record { holds = h; signs = refl } }) in
-    let b : length (signs_of q v) ≡ length pre = ap length (e ∙ append-nil pre) in
-    absurd (omega (arith, a, b, l))
-open_with q pre v h l (c ∷ rest) e = record { next = c; rest = rest; part = record { one = v; inside = record { holds = h; signs = e } } }
-
--- the signs of some assignment, of fewer pairs than there are
-pub open_if : (q : QueryValue) (pre : List Sign) → length pre < length (pairs q) → IsFeasible q pre → IsOpen q pre
-open_if q pre l f = open_with q pre f.one f.holds l f.starts.rest f.starts.is

@@ -13,7 +13,8 @@ use Rattle.bq_constraints.proofs.Feasible.{feasible_if, satisfiable_if}
 use Rattle.bq_certificate.specs.declared.line.Line.{Line}
 use Rattle.bq_certificate.specs.declared.line.Line.TheVariants as line
 use Rattle.bq_certificate.specs.Nodes.{Node, leaf as leaf_node, grouped, nodes_of}
-use Rattle.bq_certificate.specs.Rules.{IsNextPair}
+use Rattle.bq_certificate.specs.Rules.{IsNextPair, IsRefuted}
+use Rattle.bq_certificate.proofs.Refuted.{soft_hold, none_against}
 use Rattle.bq_certificate.specs.Reading.{AreGood, done, next, following}
 use Rattle.bq_certmake.specs.Made.{IsOpen}
 use Rattle.bq_certmake.specs.Leaf.{ArePathsTo, AddedLeaf, IsLeafTooMany, AddsLeaf}
@@ -22,7 +23,7 @@ use Rattle.bq_certmake.specs.declared.error.MakeError.{MakeError}
 use Rattle.bq_certmake.specs.declared.error.MakeError.TheVariants as why
 use Rattle.bq_certmake.proofs.Lines.{heads-append, nodes-append, length-nodes, leaf_alone}
 use Rattle.bq_certmake.proofs.Preorder.{three_good}
-use Rattle.bq_certmake.proofs.Under.{none_some, three_some, front_some, three_all, front_all, no_parts, one_part, not_part, no_fronts, whole_fronts, open_if}
+use Rattle.bq_certmake.proofs.Under.{none_some, three_some, front_some, three_all, front_all, no_parts, one_part, not_part, no_fronts, whole_fronts}
 use Rattle.bq_certmake.proofs.AtLeaf.{good_leaf}
 
 -- ---- a node
@@ -32,12 +33,30 @@ pub full : (w : MakeError) (l : Line) (q : QueryValue) (pre : List Sign) (old mi
 full why.Limit l q pre old mid new before after h = of_nodes [] (none_some (IsOpen q) pre) (omega (arith, h.full))
 full why.Memory l q pre old mid new before after h = tt
 
+-- a comparison closes the branch
+pub against : (q : QueryValue) (pre : List Sign) (r : Result (Unit {0}) MakeError) (number : ℕ) (old new : List Line) (count : ℕ) → IsRefuted q pre number → count ≤ 4096 → AddsNext r (line.Against number) old new → Walks r q pre old new count count
+against q pre (Ok u) number old new count y few h = record {
+  added = line.Against number ∷ [];
+  lines = h.1;
+  head = refl;
+  good = next y done;
+  parts = [];
+  are_parts = no_parts q pre (none_against q pre number y);
+  counted = omega arith;
+  few = few;
+  fronts = [];
+  are_fronts = no_fronts q pre (none_against q pre number y);
+  sized = omega arith;
+  fit = rw h.1 h.0;
+}
+against q pre (Err w) number old new count y few h = full w (line.Against number) q pre old new new count count h
+
 module _ (q : QueryValue) (ps : List Pair) (pre : List Sign) (b : BoundsValue) (n : IsNode q ps pre b) where
   room : length pre ≤ length (pairs q)
   room = let e : length ps ≡ length (pairs q) = ap length n.pairs in omega (arith, e, n.room)
 
   feasible : IsSatisfiable b.constraints → IsFeasible q pre
-  feasible t = feasible_if q pre room (subst IsSatisfiable n.constraints t)
+  feasible t = feasible_if q pre n.limits (soft_hold q pre n.limits n.agree) room (subst IsSatisfiable n.constraints t)
 
   not_feasible : ¬ IsSatisfiable b.constraints → ¬ IsFeasible q pre
   not_feasible t f = t (subst IsSatisfiable (sym n.constraints) (satisfiable_if q pre f))
@@ -68,7 +87,7 @@ module _ (q : QueryValue) (ps : List Pair) (pre : List Sign) (b : BoundsValue) (
       let whole : length pre ≡ length (pairs q) = l ∙ ap length n.pairs in
       let nodes : nodes_of (line.Leaf ∷ map line.Path h.paths) ≡ leaf_node h.paths ∷ [] = leaf_alone h.paths in
       let good : AreGood q (Some pre) (leaf_node h.paths ∷ []) (following pre) =
-      next (good_leaf q pre h.paths whole n.few_attrs n.within (subst IsSatisfiable n.constraints t) (subst (λ (z : List Constraint). ArePathsTo (length (attrs_of q.atoms)) z 169 h.paths) n.constraints are)) done in
+      next (good_leaf q pre h.paths (record { whole = whole; agree = n.agree }) n.limits.few_attrs n.within (subst IsSatisfiable n.constraints t) (subst (λ (z : List Constraint). ArePathsTo (length (attrs_of q.atoms)) z 169 h.paths) n.constraints are)) done in
       record {
         added = line.Leaf ∷ map line.Path h.paths;
         lines = h.lines;
@@ -102,7 +121,7 @@ module _ (q : QueryValue) (ps : List Pair) (pre : List Sign) (b : BoundsValue) (
   short = let f : length ps ≡ length (pairs q) = ap length n.pairs in omega (arith, f, l)
 
   front : IsOpen q pre
-  front = open_if q pre short (feasible q ps pre b n t)
+  front = record { left = short; feasible = feasible q ps pre b n t }
 
   size_one : length (nodes_of one) ≡ length (nodes_of old) + 1
   size_one = let a : length (nodes_of one) ≡ length (nodes_of (old ++ line.Split pair ∷ [])) = ap (λ z. length (nodes_of z)) e in omega (arith, a, length-nodes old (line.Split pair ∷ []))

@@ -1,21 +1,21 @@
 -- What is made for a query.
-use Rattle.std.specs.Prelude.{◌≢◌, ℕ, ◌+◌, ◌*◌, ◌<◌, ◌⊎◌, List, ◌∷◌, ◌++◌, length, All, AllPairs, Result, Ok, Err}
+use Rattle.std.specs.Prelude.{◌≢◌, ℕ, ◌+◌, ◌*◌, ◌<◌, ◌⊎◌, List, length, All, AllPairs, Result, Ok, Err}
 use Rattle.bq_model.specs.declared.part.Sign.{Sign}
 use Rattle.bq_model.specs.Query.{QueryValue}
-use Rattle.bq_model.specs.Parts.{IsPart, HasMoreParts}
+use Rattle.bq_model.specs.Parts.{pairs, HasMoreParts}
+use Rattle.bq_model.specs.Prefixes.{IsFeasible}
 use Rattle.bq_certificate.specs.declared.line.Line.{Line}
 use Rattle.bq_certificate.specs.Nodes.{nodes_of}
 use Rattle.bq_certificate.specs.Reading.{IsGood}
 use Rattle.bq_certmake.specs.declared.error.MakeError.{MakeError}
 use Rattle.bq_certmake.specs.declared.error.MakeError.TheVariants as why
 
--- some part begins with these signs, and has more
+-- some assignment has these signs and meets all comparisons but the soft ones whose pairs have no sign yet, and some pairs have none
 pub record IsOpen (q : QueryValue) (signs : List Sign) : Type 0 where
-  pub next : Sign
-  pub rest : List Sign
-  pub part : IsPart q (signs ++ next ∷ rest)
+  pub left : length signs < length (pairs q)
+  pub feasible : IsFeasible q signs
 
--- a tree of the query has more than n nodes: the root, and three below each beginning of a part
+-- a tree of the query has more than n nodes: the root, and three below each open prefix
 pub record HasMoreNodes (q : QueryValue) (n : ℕ) : Type 0 where
   pub some : List (List Sign)
   pub differ : AllPairs (λ s t. s ≢ t) some

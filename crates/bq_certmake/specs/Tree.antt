@@ -1,8 +1,8 @@
 -- What a walk of the tree of signs adds.
-use Rattle.std.specs.Prelude.{◌≡◌, ℕ, ◌+◌, ◌*◌, ◌<◌, ◌≤◌, List, [], ◌∷◌, ◌++◌, length, All, Some, Result, Ok, Err}
+use Rattle.std.specs.Prelude.{◌≡◌, ℕ, ◌+◌, ◌*◌, ◌<◌, ◌≤◌, List, [], ◌∷◌, ◌++◌, length, All, IsFalse, Option, None, Some, Result, Ok, Err}
 use Rattle.bq_model.specs.declared.part.Sign.{Sign}
 use Rattle.bq_model.specs.declared.part.Pair.{Pair}
-use Rattle.bq_model.specs.Query.{QueryValue, attrs_of}
+use Rattle.bq_model.specs.Query.{QueryValue, attrs_of, IsWithinLimits}
 use Rattle.bq_model.specs.Parts.{pairs, signs_lt, IsPart}
 use Rattle.bq_model.specs.Members.{Has, Ascends}
 use Rattle.bq_model.specs.Prefixes.{StartsWith}
@@ -11,6 +11,7 @@ use Rattle.bq_constraints.specs.PartConstraints.{of_prefix}
 use Rattle.bq_constraints.specs.Solutions.{IsWithin}
 use Rattle.bq_certificate.specs.declared.line.Line.{Line}
 use Rattle.bq_certificate.specs.Nodes.{grouped, nodes_of}
+use Rattle.bq_certificate.specs.Rules.{some_refuted, IsRefuted}
 use Rattle.bq_certificate.specs.Reading.{AreGood, following}
 use Rattle.bq_certificate.specs.Certificate.{HasRoom, IsTooMany}
 use Rattle.bq_certmake.specs.Made.{IsOpen}
@@ -23,16 +24,23 @@ AddsNext (Ok u) l old new = HasRoom old l × (new ≡ old ++ l ∷ [])
 AddsNext (Err why.Limit) l old new = IsTooMany old l
 AddsNext (Err why.Memory) l old new = HasRoom old l
 
--- a node of the tree: the bounds are those of the comparisons and of its signs
+-- the number of a comparison that closes the branch at these signs; or no comparison is refuted there
+abbrev pub ClosesAgainst : QueryValue → List Sign → Option ℕ → Type 0
+ClosesAgainst q signs None = IsFalse (some_refuted (pairs q) signs q.atoms)
+ClosesAgainst q signs (Some number) = IsRefuted q signs number
+
+-- a node of the tree: the bounds are those of the comparisons, domains and signs, no comparison is refuted by the signs, and there is
+-- room for the constraints of the signs of the pairs that are left
 pub record IsNode (q : QueryValue) (ps : List Pair) (signs : List Sign) (b : BoundsValue) : Type 0 where
   pub pairs : ps ≡ pairs q
   pub room : length signs ≤ length ps
-  pub few : length ps ≤ 106
-  pub few_attrs : length (attrs_of q.atoms) ≤ 12
+  pub few : length ps ≤ 114
+  pub limits : IsWithinLimits q
+  pub agree : ClosesAgainst q signs None
   pub attrs : b.attrs ≡ length (attrs_of q.atoms)
   pub constraints : b.constraints ≡ of_prefix q signs
   pub within : All (IsWithin (length (attrs_of q.atoms))) (of_prefix q signs)
-  pub short : length (of_prefix q signs) ≤ 32 + 2 * length signs
+  pub short : length (of_prefix q signs) + 2 * length ps ≤ 268 + 2 * length signs
 
 -- some lists of signs of which P holds, ascending, that begin with these
 pub record SomeUnder (P : List Sign → Type 0) (signs : List Sign) (xs : List (List Sign)) : Type 0 where
@@ -46,7 +54,7 @@ pub record AllUnder (P : List Sign → Type 0) (signs : List Sign) (xs : List (L
   pub all : (s : List Sign) → P s → StartsWith signs s → Has xs s
 
 -- the nodes of the tree below some signs were added, with the parts that begin with the signs, and with three nodes below each
--- beginning of a part
+-- open prefix
 pub record Walked (q : QueryValue) (signs : List Sign) (old new : List Line) (before after : ℕ) : Type 0 where
   pub added : List Line
   pub lines : new ≡ old ++ added

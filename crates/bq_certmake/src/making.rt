@@ -2,10 +2,9 @@
 ghost use Rattle.bq_certmake.specs.Made.{Makes};
 
 use crate::error::MakeError;
-use crate::tree::walk;
+use crate::tree::whole;
 use bq_certificate::Certificate;
-use bq_closure::Bounds;
-use bq_model::{Query, Signs};
+use bq_model::Query;
 use std::alloc::Global;
 
 /// A certificate of the query. `Limit` exactly where the query has more than 4,096 parts, or its certificate more than 262,144
@@ -14,17 +13,8 @@ pub fn make(alloc: Global, q: &Query) -> Result<Certificate, MakeError>
     ensures { Makes q.now result }
 {
     let mut certificate = Certificate::new(alloc);
-    let bounds = Bounds::of_query(q);
     let pairs = q.pairs();
-    let signs = Signs::new();
     let mut parts = 0;
-    walk(
-        q,
-        pairs.as_slice(),
-        &bounds,
-        signs.as_slice(),
-        &mut certificate,
-        &mut parts,
-    )?;
+    whole(q, pairs.as_slice(), &mut certificate, &mut parts)?;
     Ok(certificate)
 }

@@ -1,5 +1,7 @@
 //! The difference bounds of a node of the tree.
-ghost use Rattle.std.specs.Prelude.{◌≡◌, ◌<◌, ◌++◌, [], ◌∷◌, length};
+ghost use Rattle.std.specs.Prelude.{◌≡◌, ◌<◌, ◌++◌, [], ◌∷◌, IsFalse, length};
+ghost use Rattle.bq_model.specs.Parts.{pairs as pairs_of};
+ghost use Rattle.bq_certificate.specs.Rules.{some_refuted};
 ghost use Rattle.bq_certmake.specs.Tree.{IsNode};
 
 use arrayvec::ArrayVec;
@@ -12,6 +14,7 @@ use bq_model::{Pair, Query, Sign, Signs};
 pub fn deeper(q: &Query, pairs: &[Pair], bounds: &Bounds, signs: &[Sign], sign: Sign) -> Bounds
     requires node { IsNode q.now pairs.now signs.now bounds.now }
     requires room { length signs.now < length pairs.now }
+    requires agree { IsFalse (some_refuted (pairs_of q.now) (signs.now ++ sign ∷ []) q.now.atoms) }
     ensures { IsNode q.now pairs.now (signs.now ++ sign ∷ []) result }
 {
     let added = of_next_sign(q, pairs, signs, sign);
@@ -22,7 +25,7 @@ pub fn deeper(q: &Query, pairs: &[Pair], bounds: &Bounds, signs: &[Sign], sign: 
 
 /// These signs and one more.
 pub fn with_sign(signs: &[Sign], sign: Sign) -> Signs
-    requires { length signs.now < 106 }
+    requires { length signs.now < 114 }
     ensures { result.items ≡ signs.now ++ sign ∷ [] }
 {
     let mut longer = ArrayVec::new();

@@ -1,17 +1,19 @@
 //! The tree of signs.
 ghost use Rattle.std.specs.Prelude.{◌≡◌, ◌<◌, ◌≤◌, ◌++◌, ◌∷◌, [], length};
+ghost use Rattle.bq_model.specs.Parts.{pairs as pairs_of};
 ghost use Rattle.bq_constraints.specs.Solutions.{IsSatisfiable};
 ghost use Rattle.bq_certificate.specs.declared.line.Line.TheVariants as line;
 ghost use Rattle.bq_certmake.specs.Tree.{IsNode, Walks};
 
 use crate::adding::add;
+use crate::against::{next_against, root_against};
 use crate::error::MakeError;
 use crate::leaf::add_leaf;
 use crate::node::{deeper, with_sign};
 use arrayvec::ArrayVec;
 use bq_certificate::{Certificate, Line};
 use bq_closure::Bounds;
-use bq_model::{Pair, Query, Sign};
+use bq_model::{Pair, Query, Sign, Signs};
 
 // The line of a node that no integers meet. It has at most as many numbers as there is room for.
 fn cycle_line(numbers: ArrayVec<u16, 13>) -> Line
@@ -84,7 +86,34 @@ fn subtree(
     requires few { parts.old ≤ 4096 }
     ensures { Walks result q.now (signs.now ++ sign ∷ []) certificate.old certificate.new parts.old parts.new }
 {
-    let next = deeper(q, pairs, bounds, signs, sign);
-    let longer = with_sign(signs, sign);
-    walk(q, pairs, &next, longer.as_slice(), certificate, parts)
+    match next_against(q, pairs, bounds, signs, sign) {
+        Some(number) => add(Line::Against(number), certificate),
+        None => {
+            let next = deeper(q, pairs, bounds, signs, sign);
+            let longer = with_sign(signs, sign);
+            walk(q, pairs, &next, longer.as_slice(), certificate, parts)
+        }
+    }
+}
+
+/// Adds the nodes of the whole tree. `parts` counts the parts that were met.
+pub fn whole(
+    q: &Query,
+    pairs: &[Pair],
+    certificate: &mut Certificate,
+    parts: &mut u32,
+) -> Result<(), MakeError>
+    requires pairs { pairs.now ≡ pairs_of q.now }
+    requires few_pairs { length pairs.now ≤ 114 }
+    requires few { parts.old ≤ 4096 }
+    ensures { Walks result q.now [] certificate.old certificate.new parts.old parts.new }
+{
+    match root_against(q) {
+        Some(number) => add(Line::Against(number), certificate),
+        None => {
+            let bounds = Bounds::of_query(q);
+            let signs = Signs::new();
+            walk(q, pairs, &bounds, signs.as_slice(), certificate, parts)
+        }
+    }
 }

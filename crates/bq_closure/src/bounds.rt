@@ -1,9 +1,9 @@
 //! Difference bounds that are kept closed.
-ghost use Rattle.std.specs.Prelude.{◌≡◌, ℕ, ◌+◌, ◌<◌, ◌≤◌, [], ◌∷◌, ◌++◌, List, length, map, pos, neg_ℤ, ◌≤ℤ◌, ◌<ℤ◌, ◌+ℤ◌, ◌-ℤ◌, ℤ, ◌^◌, IsTrue, IsFalse, ◌↔◌, MatchOption, Some, None, take, All};
-ghost use Rattle.bq_model.specs.Query.{attrs_of};
+ghost use Rattle.std.specs.Prelude.{◌≡◌, ℕ, ◌+◌, ◌<◌, ◌≤◌, [], ◌∷◌, ◌++◌, List, length, map, pos, neg_ℤ, ◌≤ℤ◌, ◌<ℤ◌, ◌+ℤ◌, ◌-ℤ◌, ℤ, ◌^◌, ◌*◌, filter, IsTrue, IsFalse, ◌↔◌, MatchOption, Some, None, take, All};
+ghost use Rattle.bq_model.specs.Query.{attrs_of, is_soft};
 ghost use Rattle.bq_model.specs.Order.{IsElement};
 ghost use Rattle.bq_constraints.specs.Solutions.{IsWithin, IsSatisfiable};
-ghost use Rattle.bq_constraints.specs.PartConstraints.{of_atoms};
+ghost use Rattle.bq_constraints.specs.PartConstraints.{of_base};
 ghost use Rattle.bq_constraints.specs.Nodes.{node_of, offset_of, IsWithinLimit};
 ghost use Rattle.bq_closure.specs.Answers.{IsBelow, IsAbove};
 
@@ -48,12 +48,12 @@ impl Bounds {
         }
     }
 
-    /// The constraints of the query's comparisons, between its attributes.
+    /// The constraints of the query's comparisons and domains, between its attributes.
     pub fn of_query(q: &Query) -> Bounds
         ensures attrs { result.attrs ≡ length (attrs_of q.now.atoms) }
-        ensures constraints { result.constraints ≡ of_atoms (attrs_of q.now.atoms) q.now.atoms }
+        ensures constraints { result.constraints ≡ of_base q.now }
         ensures within { All (IsWithin (length (attrs_of q.now.atoms))) result.constraints }
-        ensures few { length result.constraints ≤ 32 }
+        ensures few { length result.constraints + 2 * length (filter (λ t. is_soft t.op) q.now.atoms) ≤ 56 }
         ensures few_attrs { length (attrs_of q.now.atoms) ≤ 12 }
     {
         let mut bounds = Bounds::new(q.attrs().len() as u8);

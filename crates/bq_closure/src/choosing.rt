@@ -53,7 +53,7 @@ fn choice_of(q: &Query, pair: Pair) -> Choice
 }
 
 /// What each pair of the query adds, in order.
-pub fn choices(q: &Query) -> ArrayVec<Choice, 106>
+pub fn choices(q: &Query) -> ArrayVec<Choice, 114>
     ensures { AreChoices q.now result.items }
 {
     let pairs = q.pairs();

@@ -10,3 +10,5 @@ pub mod Feasible
 pub mod InPart
 pub mod Sides
 pub mod Prefix
+pub mod OfDomains
+pub mod Softly

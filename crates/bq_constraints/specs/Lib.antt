@@ -1,5 +1,6 @@
 pub mod Solutions
 pub mod Nodes
 pub mod PartConstraints
+pub mod Soft
 pub mod Table
 pub mod Reach

@@ -71,8 +71,8 @@ fn above(attrs: &[Attr], left: Element, right: Element, by: i64) -> Constraint
     }
 }
 
-// The sign read from the right.
-fn turn(sign: Sign) -> Sign
+/// The sign read from the right.
+pub fn turn(sign: Sign) -> Sign
     ensures { result ≡ turned sign }
 {
     match sign {

@@ -18,6 +18,7 @@ stands_same e p o h live same s = record {
   cells = ap (take (cell_count (parts_in e))) same ∙ s.cells;
   rest = ap (drop (cell_count (parts_in e))) same ∙ s.rest;
   given = s.given;
+  rows = s.rows;
   tuples = s.tuples;
 }
 

@@ -26,6 +26,8 @@ use Rattle.bq_laws.proofs.Order.{Rises}
 use Rattle.bq_laws.proofs.Interleaving.{occurs-is, counts-fit}
 use Rattle.bq_laws.proofs.Merge.{synopses-merge, printed-grows}
 use Rattle.bq_laws.proofs.Sufficiency.{synopsis-suffices}
+use Rattle.bq_laws.proofs.Keeping.{rows-more-keep}
+use Rattle.bq_model.specs.Domains.{RowKeeps}
 use Rattle.bq_pool.specs.Extents.{PoolValue, cells_of}
 use Rattle.bq_synopsis.specs.Premises.{AreFitting, HasRoom}
 use Rattle.bq_answers.specs.Entries.{Entry, TableValue, entry_of, with_entries, Ascends, waiting_of, tuples_of}
@@ -197,7 +199,7 @@ module _ (e : ExecutorValue) (sound : IsSound e) (pool : PoolValue) (ready : IsR
     within w = keeps later sound_later after taken.live (taken.inserted.rest ∙ w.rest)
 
     -- over a history
-    module _ (history : List Arrival) (stands : StandsFor e pool history) where
+    module _ (history : List Arrival) (stands : StandsFor e pool history) (keeps : RowKeeps q r) where
       table : List (List ℤ)
       table = tuples_in e
 
@@ -205,7 +207,7 @@ module _ (e : ExecutorValue) (sound : IsSound e) (pool : PoolValue) (ready : IsR
       future_is =
           ap (λ cs. future q parts (read_from cs) (tuples_in e) r) stands.cells
           ∙ by (true_or_false q.distinct)
-          ∙ synopsis-suffices q parts sound.limits (planned_of q e.plan sound.accepted.plan) sound.accepted.violation history r
+          ∙ synopsis-suffices q parts sound.limits (planned_of q e.plan sound.accepted.plan) sound.accepted.violation history r stands.rows keeps
         where
           by : (q.distinct ≡ true) ⊎ (q.distinct ≡ false)
               → future q parts (read_from (synopsis q parts history)) (tuples_in e) r ≡ future q parts (read_from (synopsis q parts history)) (printed q history) r
@@ -235,9 +237,10 @@ module _ (e : ExecutorValue) (sound : IsSound e) (pool : PoolValue) (ready : IsR
             ∙ sym (synopses-merge q parts history (r ∷ []));
         rest = taken.inserted.rest ∙ stands.rest;
         given = (let g = stands.given in let n : length (history ++ r ∷ []) ≡ length history + 1 = length-append history (r ∷ []) in omega (arith, g, n));
+        rows = rows-more-keep q history r stands.rows keeps;
         tuples =
             λ d. tuples d ∙ (λ j. merged_table (stands.tuples d j) (future_is j)) ∙ sym (printed-grows q history r sound.limits d);
       }
 
     pub history : TookRow e pool r later after
-    history h stands = (waiting_is h stands, stands_later h stands)
+    history h stands keeps = (waiting_is h stands keeps, stands_later h stands keeps)

@@ -54,6 +54,7 @@ written-stands e pool h s = record {
   cells = s.cells;
   rest = s.rest;
   given = s.given;
+  rows = s.rows;
   tuples = λ d. settled-tuples e.table.entries ∙ s.tuples d;
 }
 
@@ -108,6 +109,7 @@ begins e s given none pool live empty =
           ∙ synopsis-none e.query e.plan s.accepted.plan;
       rest = ap (drop (cell_count (parts_in e))) empty ∙ drop-replicate (cell_count (parts_in e)) (64 * e.extent.pages) Cell.Empty;
       given = given;
+      rows = λ k d l. absurd (omega (arith, l));
       tuples = λ d. ap tuples_of none ∙ printed-none e.query s.limits;
     }
 

@@ -5,6 +5,7 @@ use Rattle.bq_laws.specs.Growth.{occurs}
 use Rattle.bq_model.specs.declared.cell.Cell.{Cell}
 use Rattle.bq_model.specs.declared.plan.PartPlan.{PartPlan}
 use Rattle.bq_model.specs.Meaning.{Arrival, new_answers}
+use Rattle.bq_model.specs.Domains.{RowKeeps, RowsKeep}
 use Rattle.bq_model.specs.Plan.{stream_at}
 use Rattle.bq_model.specs.Cells.{synopsis, printed}
 use Rattle.bq_model.specs.Combinations.{read_from}
@@ -21,6 +22,7 @@ pub record StandsFor (e : ExecutorValue) (pool : PoolValue) (history : List Arri
   pub cells : cells_in e pool ≡ synopsis e.query (parts_in e) history
   pub rest : rest_in e pool ≡ replicate (64 * e.extent.pages - cell_count (parts_in e)) Cell.Empty
   pub given : e.given ≡ length history
+  pub rows : RowsKeep e.query history
   pub tuples : e.query.distinct ≡ true → tuples_in e ≡ printed e.query history
 
 -- a cell counts at most so many rows
@@ -64,7 +66,7 @@ pool_with e pool r =
 -- whatever history it stood for, the new answers to the row wait, and it stands for the history with the row
 abbrev pub TookRow : ExecutorValue → PoolValue → Arrival → ExecutorValue → PoolValue → Type 0
 TookRow before pool r after later =
-    (history : List Arrival) → StandsFor before pool history
+    (history : List Arrival) → StandsFor before pool history → RowKeeps before.query r
     → (waiting_in after ≡ new_answers before.query history r) × StandsFor after later (history ++ r ∷ [])
 
 -- the executor took a row: what cells and table answer waits, the cells have the row, and with DISTINCT the table has the tuples

@@ -1,9 +1,13 @@
 -- The columns of the plan of a query are columns of its streams.
-use Rattle.std.proofs.Common.{◌≡◌, ℕ, ◌<◌, List, [], ◌∷◌, length, map, filter, get_or, ℤ, sym, ap, ◌∙◌, subst, arith, All, Contains}
+use Rattle.std.proofs.Common.{◌≡◌, ℕ, ◌<◌, List, length, map, get_or, sym, ap, ◌∙◌, subst, arith, All, Contains, inl, inr}
 use Rattle.std.proofs.lemmas.List.{length-map, get_or-map, get_or_default}
-use Rattle.std.proofs.lemmas.List.Elements.{All-nil, All-head, All-tail, All-append, All-map, All-filter, All-weaker}
+use Rattle.std.proofs.lemmas.List.Elements.{All-weaker, All-contains}
 use Rattle.bq_model.specs.declared.atom.Attr.{Attr}
+use Rattle.bq_model.specs.declared.atom.Element.{Element}
 use Rattle.bq_model.specs.declared.atom.Element.TheVariants as element
+use Rattle.bq_model.proofs.Elements.{HasElement}
+use Rattle.bq_model.proofs.Has.{Has-from_contains, Contains-from_has}
+use Rattle.bq_model.proofs.Local.{PairIn, pair_named}
 use Rattle.bq_model.specs.declared.part.Pair.{Pair}
 use Rattle.bq_model.specs.declared.part.Sign.{Sign}
 use Rattle.bq_model.specs.declared.plan.Kind.{Kind}
@@ -11,11 +15,11 @@ use Rattle.bq_model.specs.declared.plan.Link.{Link}
 use Rattle.bq_model.specs.declared.plan.PartPlan.{PartPlan}
 use Rattle.bq_model.specs.declared.plan.StreamPlan.{StreamPlan}
 use Rattle.bq_model.specs.Query.{QueryValue, attrs_of, consts_of}
-use Rattle.bq_model.specs.Parts.{same_stream, pairs_among, pairs, sign_at, IsPart}
+use Rattle.bq_model.specs.Parts.{pairs, sign_at, IsPart}
 use Rattle.bq_model.specs.Links.{AreAcross}
-use Rattle.bq_model.specs.Plan.{IsDim, IsKind, IsPartPlan, IsStreamPlan, IsPlan, stream_at}
+use Rattle.bq_model.specs.Plan.{NamesClass, IsDim, IsKind, IsPartPlan, IsStreamPlan, IsPlan, stream_at}
 use Rattle.bq_schema.specs.Streams.{Shape}
-use Rattle.bq_parser.specs.Resolution.{IsColumnOf, HasNamed}
+use Rattle.bq_parser.specs.Resolution.{IsColumnOf, HasSide, HasNamed}
 use Rattle.bq_parser.proofs.NamedAttrs.{attributes_are_named}
 use Rattle.bq_explain.specs.Named.{HasPair, HasDim, HasKind, HasStream, HasPart}
 
@@ -23,43 +27,42 @@ use Rattle.bq_explain.specs.Named.{HasPair, HasDim, HasKind, HasStream, HasPart}
 inside : {X : Type 0} (xs : List X) (k : ℕ) (d : X) → k < length xs → Contains xs (get_or xs k d)
 inside xs k d lt = (k, lt, get_or_default xs k _ d lt)
 
--- all attributes are there
-attrs_named : (streams : List Shape) (q : QueryValue) → HasNamed streams q → All (IsColumnOf streams q.from) (attrs_of q.atoms)
-attrs_named streams q h k d lt = attributes_are_named streams q h (get_or (attrs_of q.atoms) k d) (inside (attrs_of q.atoms) k d lt)
+-- an attribute or a constant is there as a side
+side_named : (streams : List Shape) (q : QueryValue) (x : Element) → HasNamed streams q → HasElement (attrs_of q.atoms) (consts_of q.atoms) x → HasSide streams q.from x
+side_named streams q (element.Attr a) h i = attributes_are_named streams q h a (Contains-from_has (attrs_of q.atoms) a i)
+side_named streams q (element.Const k) h i = tt
 
--- what holds of the attributes holds of the sides of their pairs
-pairs_among_named : (streams : List Shape) (from : List ℕ) (attrs : List Attr) (consts : List ℤ) → All (IsColumnOf streams from) attrs → All (HasPair streams from) (pairs_among attrs consts)
-pairs_among_named streams from [] consts h = All-nil (HasPair streams from)
-pairs_among_named streams from (a ∷ others) consts h =
-    let head : IsColumnOf streams from a = All-head (IsColumnOf streams from) a others h in
-    let tail : All (IsColumnOf streams from) others = All-tail (IsColumnOf streams from) a others h in
-    let column : Attr → Pair = λ b. record { left = a; right = element.Attr b } in
-    let constant : ℤ → Pair = λ k. record { left = a; right = element.Const k } in
-    let columns : All (HasPair streams from) (map column (filter (same_stream a) others)) =
-    All-map (HasPair streams from) column (filter (same_stream a) others) (All-weaker (IsColumnOf streams from) (λ b. HasPair streams from (column b)) (λ b i. (head, i)) _ (All-filter (same_stream a) (IsColumnOf streams from) others tail)) in
-    let constants : All (HasPair streams from) (map constant consts) = All-map (HasPair streams from) constant consts (λ k d lt. (head, tt)) in
-    All-append (HasPair streams from) _ _ (All-append (HasPair streams from) _ _ constants columns) (pairs_among_named streams from others consts tail)
+pair_has : (streams : List Shape) (q : QueryValue) (p : Pair) → HasNamed streams q → PairIn (attrs_of q.atoms) (consts_of q.atoms) p → HasPair streams q.from p
+pair_has streams q p h i = (attributes_are_named streams q h p.left (Contains-from_has (attrs_of q.atoms) p.left i.left), side_named streams q p.right h i.right)
 
 -- the sides of all pairs are there
 pub pairs_named : (streams : List Shape) (q : QueryValue) → HasNamed streams q → All (HasPair streams q.from) (pairs q)
-unfolding pairs
-pairs_named streams q h = pairs_among_named streams q.from (attrs_of q.atoms) (consts_of q.atoms) (attrs_named streams q h)
+pairs_named streams q h k d lt =
+    let p : Pair = get_or (pairs q) k d in
+    pair_has streams q p h (pair_named q p (Has-from_contains (pairs q) p (inside (pairs q) k d lt)))
 
 -- a part has a sign for each pair
 signs_fit : (q : QueryValue) (s : List Sign) → IsPart q s → length (pairs q) ≡ length s
 signs_fit q s p = sym (length-map (pairs q) (sign_at p.one)) ∙ ap length p.inside.signs
 
+-- a column that names a class is there
+class_named : (streams : List Shape) (q : QueryValue) (s : List Sign) (a : Attr) → HasNamed streams q → NamesClass q s a → IsColumnOf streams q.from a
+class_named streams q s a h n = elim n.named [
+  | inl i ↦ attributes_are_named streams q h a i
+  | inr i ↦ All-contains (IsColumnOf streams q.from) q.select a h.select i
+]
+
 -- the column of which a cell keeps an extreme value is there
 kind_named : (streams : List Shape) (q : QueryValue) (s : List Sign) (place : ℕ) (kind : Kind) → HasNamed streams q → IsKind q s place kind → HasKind streams q.from kind
 kind_named streams q s place Kind.Count h k = tt
 kind_named streams q s place Kind.Present h k = tt
-kind_named streams q s place (Kind.Least a) h k = attributes_are_named streams q h a k.2.named
-kind_named streams q s place (Kind.Greatest a) h k = attributes_are_named streams q h a k.2.named
+kind_named streams q s place (Kind.Least a) h k = class_named streams q s a h k.2
+kind_named streams q s place (Kind.Greatest a) h k = class_named streams q s a h k.2
 
 -- the columns of what is kept of a stream are there
 stream_named : (streams : List Shape) (q : QueryValue) (s : List Sign) (place : ℕ) (kept : StreamPlan) → HasNamed streams q → IsStreamPlan q s place kept → HasStream streams q.from kept
 stream_named streams q s place kept h p = record {
-  dims = All-weaker (IsDim q s place) (HasDim streams q.from) (λ d i. attributes_are_named streams q h d.attr i.name.named) kept.dims.items p.dims.each;
+  dims = All-weaker (IsDim q s place) (HasDim streams q.from) (λ d i. class_named streams q s d.attr h i.name) kept.dims.items p.dims.each;
   kind = kind_named streams q s place kept.kind h p.kind;
 }
 

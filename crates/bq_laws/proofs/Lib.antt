@@ -6,6 +6,7 @@ pub mod OnePartFits
 pub mod Sums
 pub mod Weights
 pub mod Counts
+pub mod Keeping
 pub mod Places
 pub mod Classes
 pub mod Order
@@ -51,3 +52,5 @@ pub mod PlanKeeps
 pub mod Limits
 pub mod WorkedPlans
 pub mod HotRoomsPlan
+pub mod SoftCases
+pub mod DomainCases

@@ -1,5 +1,6 @@
 -- That a list has all parts of a query, by going through the signs of its pairs with a table of bounds.
-use Rattle.std.proofs.Common.{◌≡◌, inl, inr, List, [], ◌∷◌, ◌++◌, map, cond, Bool, true, false, ◌&&◌, ◌||◌, not, refl, subst, ℤ}
+use Rattle.std.proofs.Common.{◌≡◌, inl, inr, List, [], ◌∷◌, ◌++◌, map, cond, Bool, true, false, ◌&&◌, ◌||◌, not, refl, subst, arith, ℤ, pos, ◌+ℤ◌, ◌≤ℤ◌}
+use Rattle.std.proofs.lemmas.Int.{ints}
 use Rattle.std.specs.List.{list_all, list_any}
 use Rattle.bq_model.proofs.Has.{Has, first, later}
 use Rattle.bq_model.proofs.Holding.{Compares-from_test}
@@ -16,21 +17,32 @@ use Rattle.bq_model.specs.Assignment.{Assignment, value, compares, meets}
 use Rattle.bq_model.specs.Parts.{pairs, sign, sign_at, InPart}
 use Rattle.bq_laws.proofs.Tests.{and-left, and-right, sign_eq-is}
 use Rattle.bq_laws.proofs.OnePartFits.{has_cases}
-use Rattle.bq_laws.proofs.Tables.{Bound, TableHolds, first_table, first_table-holds, Stands, with_sign, with_sign-holds, possible, possible-if}
+use Rattle.bq_laws.proofs.Tables.{Bound, TableHolds, first_table, first_table-holds, Stands, with_bound, with_bound-holds, with_sign, with_sign-holds, possible, possible-if}
 
 -- the attributes of a query and then its constants
 abbrev pub elements_of : QueryValue → List Element
 elements_of q = map element.Attr (attrs_of q.atoms) ++ map element.Const (consts_of q.atoms)
 
-abbrev pub op_sign : Op → Sign
-op_sign Op.Lt = Sign.Lt
-op_sign Op.Eq = Sign.Eq
-op_sign Op.Gt = Sign.Gt
+-- the table where a comparison of two elements holds: that they are unequal bounds neither
+abbrev pub with_op : List Element → List (List Bound) → Op → Element → Element → List (List Bound)
+with_op all table Op.Lt x y = with_sign all table Sign.Lt x y
+with_op all table Op.Eq x y = with_sign all table Sign.Eq x y
+with_op all table Op.Gt x y = with_sign all table Sign.Gt x y
+with_op all table Op.Le x y = with_bound all table x y (pos 0)
+with_op all table Op.Ge x y = with_bound all table y x (pos 0)
+with_op all table Op.Ne x y = table
 
-stands-compared : (o : Op) (x y : ℤ) → compares o x y ≡ true → Stands (op_sign o) x y
-stands-compared Op.Lt x y h = Compares-from_test Op.Lt x y h
-stands-compared Op.Eq x y h = Compares-from_test Op.Eq x y h
-stands-compared Op.Gt x y h = Compares-from_test Op.Gt x y h
+no_more : (x y : ℤ) → compares Op.Le x y ≡ true → x ≤ℤ (y +ℤ pos 0)
+no_more x y h = grind (arith, ints, h)
+
+with_op-holds : (v : Assignment) (all : List Element) (table : List (List Bound)) (o : Op) (x y : Element)
+    → compares o (value x v) (value y v) ≡ true → TableHolds v all all table → TableHolds v all all (with_op all table o x y)
+with_op-holds v all table Op.Lt x y h t = with_sign-holds v all table Sign.Lt x y (Compares-from_test Op.Lt (value x v) (value y v) h) t
+with_op-holds v all table Op.Eq x y h t = with_sign-holds v all table Sign.Eq x y (Compares-from_test Op.Eq (value x v) (value y v) h) t
+with_op-holds v all table Op.Gt x y h t = with_sign-holds v all table Sign.Gt x y (Compares-from_test Op.Gt (value x v) (value y v) h) t
+with_op-holds v all table Op.Le x y h t = with_bound-holds v all table x y (pos 0) (no_more (value x v) (value y v) h) t
+with_op-holds v all table Op.Ge x y h t = with_bound-holds v all table y x (pos 0) (no_more (value y v) (value x v) h) t
+with_op-holds v all table Op.Ne x y h t = t
 
 stands-signed : (s : Sign) (x y : ℤ) → sign x y ≡ s → Stands s x y
 stands-signed Sign.Lt x y h = lt_from_sign x y h
@@ -40,15 +52,14 @@ stands-signed Sign.Gt x y h = gt_from_sign x y h
 -- the table with the bounds of all atoms
 abbrev pub with_atoms : List Element → List (List Bound) → List Atom → List (List Bound)
 with_atoms all table [] = table
-with_atoms all table (t ∷ ts) = with_atoms all (with_sign all table (op_sign t.op) t.left t.right) ts
+with_atoms all table (t ∷ ts) = with_atoms all (with_op all table t.op t.left t.right) ts
 
 with_atoms-holds : (v : Assignment) (all : List Element) (table : List (List Bound)) (ts : List Atom)
     → list_all (meets v) ts ≡ true → TableHolds v all all table → TableHolds v all all (with_atoms all table ts)
 with_atoms-holds v all table [] h t = t
 with_atoms-holds v all table (a ∷ ts) h t =
-    with_atoms-holds v all (with_sign all table (op_sign a.op) a.left a.right) ts (and-right (meets v a) (list_all (meets v) ts) h)
-    (with_sign-holds v all table (op_sign a.op) a.left a.right
-    (stands-compared a.op (value a.left v) (value a.right v) (and-left (meets v a) (list_all (meets v) ts) h)) t)
+    with_atoms-holds v all (with_op all table a.op a.left a.right) ts (and-right (meets v a) (list_all (meets v) ts) h)
+    (with_op-holds v all table a.op a.left a.right (and-left (meets v a) (list_all (meets v) ts) h) t)
 
 -- and of signs of pairs
 abbrev pub with_signs : List Element → List (List Bound) → List Pair → List Sign → List (List Bound)

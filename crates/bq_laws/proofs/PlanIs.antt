@@ -8,7 +8,7 @@ use Rattle.bq_model.specs.declared.plan.StreamPlan.{StreamPlan}
 use Rattle.bq_model.specs.declared.plan.PartPlan.{PartPlan}
 use Rattle.bq_model.specs.Admission.{sign_eq}
 use Rattle.bq_model.specs.Query.{QueryValue}
-use Rattle.bq_model.specs.Assignment.{Assignment, holds}
+use Rattle.bq_model.specs.Assignment.{Assignment, holds, keeps_domains}
 use Rattle.bq_model.specs.Parts.{pairs, signs_of, signs_lt, InPart, IsPart}
 use Rattle.bq_model.specs.Plan.{IsPartPlan, IsPlan, Follow, FollowIn}
 use Rattle.bq_laws.proofs.Tests.{and-left, and-right, all_at, nat_true, sign_eq-is}
@@ -33,10 +33,12 @@ same_signs-is (c ∷ s) (d ∷ t) h =
 
 -- the assignment is in the part
 abbrev pub is_inside : QueryValue → List Sign → Assignment → Bool
-is_inside q s w = holds q w && same_signs (signs_of q w) s
+is_inside q s w = holds q w && (keeps_domains q w && same_signs (signs_of q w) s)
 
 pub inside-if : (q : QueryValue) (s : List Sign) (w : Assignment) → is_inside q s w ≡ true → InPart q s w
-inside-if q s w h = record { holds = and-left _ _ h; signs = same_signs-is (signs_of q w) s (and-right (holds q w) _ h) }
+inside-if q s w h =
+    let r = and-right (holds q w) _ h in
+    record { holds = and-left _ _ h; domains = and-left _ _ r; signs = same_signs-is (signs_of q w) s (and-right (keeps_domains q w) _ r) }
 
 -- each part passes, with some assignments of its own
 abbrev pub parts_test : QueryValue → List PartPlan → List (List Assignment) → Bool

@@ -18,6 +18,7 @@ use Rattle.bq_model.specs.declared.plan.PartPlan.{PartPlan}
 use Rattle.bq_model.specs.Query.{QueryValue, attrs_of, consts_of, attr_lt, attr_eq}
 use Rattle.bq_model.specs.Assignment.{Assignment, value}
 use Rattle.bq_model.specs.Parts.{same_stream, InPart}
+use Rattle.bq_model.specs.Laws.{ends_of}
 use Rattle.bq_model.specs.Order.{IsElement, IsLess, IsEqual, IsBounded, IsLeast, IsGreatest}
 use Rattle.bq_model.specs.Links.{AreAcross, IsEquality, IsInequality, IsRedundant, between, equal_left, equal_right, IsMinRef, IsMaxRef}
 use Rattle.bq_model.specs.Plan.{IsWanted, selected, left_equal, right_equal, left_less, right_less, AreOneClass, NamesClass, IsDim, IsKind, IsStreamPlan, IsPartPlan, link, link_lt, stream_at}
@@ -289,23 +290,28 @@ module _ (q : QueryValue) (s : List Sign) (ws : List Assignment) (inside : (w : 
 
     names-if : (a : Attr) → names_class q table ws a ≡ true → NamesClass q s a
     names-if a h = record {
-      named = Contains-from_has attrs a (among-has a attrs (and-left _ _ h));
-      first = λ b c l. elim (three-or _ _ _ (all_at (λ b. not (attr_lt b a) || not (same_stream b a) || not_equal q table ws (element.Attr b) (element.Attr a)) attrs b (and-right (among a attrs) _ h) (Has-from_contains attrs b c.left))) [
-        | inl n ↦ not_both (attr_lt b a) l (not-true (attr_lt b a) n)
-        | inr o ↦ elim o [
-          | inl n ↦ streams_differ b a (not-true (same_stream b a) n) c.stream
-          | inr n ↦ no-equal (element.Attr b) (element.Attr a) n c.equal
-        ]
-      ];
+      named = inl (Contains-from_has attrs a (among-has a attrs (and-left _ _ h)));
+      first = λ b c l. elim c.named [ inl e ↦ not-before-itself b a e l | inr n ↦ first-named a h b n.0 c l ];
     }
+      where
+        not-before-itself : (b a : Attr) → b ≡ a → attr_lt b a ≡ true → ⊥
+        not-before-itself b a e l = grind (arith, l, e)
+
+        first-named : (a : Attr) → names_class q table ws a ≡ true → (b : Attr) → Contains attrs b → AreOneClass q s b a → attr_lt b a ≡ true → ⊥
+        first-named a h b n c l = elim (three-or _ _ _ (all_at (λ b. not (attr_lt b a) || not (same_stream b a) || not_equal q table ws (element.Attr b) (element.Attr a)) attrs b (and-right (among a attrs) _ h) (Has-from_contains attrs b n))) [
+          | inl n ↦ not_both (attr_lt b a) l (not-true (attr_lt b a) n)
+          | inr o ↦ elim o [
+            | inl n ↦ streams_differ b a (not-true (same_stream b a) n) c.stream
+            | inr n ↦ no-equal (element.Attr b) (element.Attr a) n c.equal
+          ]
+        ]
 
     class-if : (a b : Attr) → in_class q table ws a b ≡ true → AreOneClass q s a b
     class-if a b h =
         let r = and-right (among a attrs) _ h in
         let t = and-right (among b attrs) _ r in
         record {
-          left = Contains-from_has attrs a (among-has a attrs (and-left _ _ h));
-          right = Contains-from_has attrs b (among-has b attrs (and-left _ _ r));
+          named = inr (Contains-from_has attrs a (among-has a attrs (and-left _ _ h)), Contains-from_has attrs b (among-has b attrs (and-left _ _ r)));
           stream = nat_true a.stream b.stream (and-left _ _ t);
           equal = equal-if (element.Attr a) (element.Attr b) (and-right (same_stream a b) _ t);
         }
@@ -351,11 +357,11 @@ module _ (q : QueryValue) (s : List Sign) (ws : List Assignment) (inside : (w : 
     unbounded-if : (a : Attr) → unbounded_by q table ws a ≡ true → ¬ IsBounded q s a
     unbounded-if a h b = elim (or-cases _ _ h) [
       | inl i ↦ (
-          let r = any_from (λ (w : Assignment). list_all (λ k. int_lt k (w a)) (consts_of q.atoms)) ws i in
-          unbounded_over_all q s record { one = r.0; inside = inside r.0 r.1 } a (λ k c. int_lt-is k (r.0 a) (all_at (λ k. int_lt k (r.0 a)) (consts_of q.atoms) k r.2 (Has-from_contains _ k c))) b)
+          let r = any_from (λ (w : Assignment). list_all (λ k. int_lt k (w a)) (ends_of q)) ws i in
+          unbounded_over_all q s record { one = r.0; inside = inside r.0 r.1 } a (λ k c. int_lt-is k (r.0 a) (all_at (λ k. int_lt k (r.0 a)) (ends_of q) k r.2 (Has-from_contains _ k c))) b)
       | inr i ↦ (
-          let r = any_from (λ (w : Assignment). list_all (λ k. int_lt (w a) k) (consts_of q.atoms)) ws i in
-          unbounded_under_all q s record { one = r.0; inside = inside r.0 r.1 } a (λ k c. int_lt-is (r.0 a) k (all_at (λ k. int_lt (r.0 a) k) (consts_of q.atoms) k r.2 (Has-from_contains _ k c))) b)
+          let r = any_from (λ (w : Assignment). list_all (λ k. int_lt (w a) k) (ends_of q)) ws i in
+          unbounded_under_all q s record { one = r.0; inside = inside r.0 r.1 } a (λ k c. int_lt-is (r.0 a) k (all_at (λ k. int_lt (r.0 a) k) (ends_of q) k r.2 (Has-from_contains _ k c))) b)
     ]
 
     -- dims

@@ -18,6 +18,7 @@ use Rattle.bq_model.specs.Boxes.{box_size}
 use Rattle.bq_model.specs.Query.{QueryValue, attrs_of, consts_of, attr_lt, attr_eq}
 use Rattle.bq_model.specs.Assignment.{Assignment, value}
 use Rattle.bq_model.specs.Parts.{same_stream}
+use Rattle.bq_model.specs.Laws.{ends_of}
 use Rattle.bq_model.specs.Plan.{link, link_lt, stream_at}
 use Rattle.bq_laws.proofs.Tests.{and-left, and-right, all_at, any_from, any_if, attr_eq-is, attr_eq-itself}
 use Rattle.bq_laws.proofs.Tables.{Bound, bound, at_most}
@@ -132,8 +133,8 @@ module _ (q : QueryValue) (table : List (List Bound)) (ws : List Assignment) whe
 
   abbrev pub unbounded_by : Attr → Bool
   unbounded_by a =
-      list_any (λ w. list_all (λ k. int_lt k (w a)) (consts_of q.atoms)) ws
-      || list_any (λ w. list_all (λ k. int_lt (w a) k) (consts_of q.atoms)) ws
+      list_any (λ w. list_all (λ k. int_lt k (w a)) (ends_of q)) ws
+      || list_any (λ w. list_all (λ k. int_lt (w a) k) (ends_of q)) ws
 
   abbrev pub names_class : Attr → Bool
   names_class a =

@@ -5,6 +5,8 @@ ghost use Rattle.bq_laws.specs.Plans.{PartsAreCounted, HasOnePlan, HasOneVerdict
 ghost use Rattle.bq_laws.specs.Probing.{PlansAreWalkable, ChoicesGoByValues, WalksFindAll};
 ghost use Rattle.bq_laws.specs.Cases.{PremisesAreMet, ExtremesDecide, CountsMultiply, OneTableForAllParts, NumbersAreThese};
 ghost use Rattle.bq_laws.specs.HotRooms.{HotRooms};
+ghost use Rattle.bq_laws.specs.SoftCases.{SoftComparisons};
+ghost use Rattle.bq_laws.specs.DomainCases.{DomainsBound};
 ghost use Rattle.bq_laws.specs.Sufficiency.{ReadingsSuffice, SynopsisIsRead, SynopsisSuffices, FutureIsDetermined, ExtremesAreExact, ExtremesAreAttained};
 ghost use Rattle.bq_laws.specs.Growth.{InsertsRow, SynopsesMerge, RowsMerge, PrintedGrows, AnyInterleaving};
 ghost use Rattle.bq_laws.specs.Rooms.{TableHasRoom, WaitingFits, CountsFit, WaitingCountsFit, CellsFit, AnswersAreCounted};
@@ -197,4 +199,14 @@ pub fn numbers_are_these()
 /// A worked query of 25 parts: it is accepted with these numbers, and answers four rows so.
 pub fn hot_rooms()
     ensures { HotRooms }
+{}
+
+/// Worked queries with soft comparisons, within one stream and between streams.
+pub fn soft_comparisons()
+    ensures { SoftComparisons }
+{}
+
+/// Worked queries over a stream whose column has a domain.
+pub fn domains_bound()
+    ensures { DomainsBound }
 {}

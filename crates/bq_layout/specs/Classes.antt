@@ -1,9 +1,10 @@
 -- The classes of a stream, by their names: those that are dims, and those of references.
-use Rattle.std.specs.Prelude.{◌≡◌, ℕ, List, [], ◌∷◌, Contains, Option, None, Some}
+use Rattle.std.specs.Prelude.{◌≡◌, ℕ, ◌<◌, Bool, List, Contains, Option, None, Some}
+use Rattle.bq_model.specs.Members.{Has, Ascends}
 use Rattle.bq_model.specs.declared.atom.Attr.{Attr}
 use Rattle.bq_model.specs.declared.part.Sign.{Sign}
 use Rattle.bq_model.specs.declared.plan.Dim.{Dim}
-use Rattle.bq_model.specs.Query.{QueryValue}
+use Rattle.bq_model.specs.Query.{QueryValue, attr_lt}
 use Rattle.bq_model.specs.Plan.{AreOneClass, NamesClass, IsWanted, IsDim}
 
 -- the second attribute is of the class of the first, and answers read it
@@ -28,11 +29,15 @@ abbrev pub IsDimAt : QueryValue → List Sign → ℕ → Attr → Option Dim �
 IsDimAt q s place a None = (d : Dim) → d.attr ≡ a → ¬ IsDim q s place d
 IsDimAt q s place a (Some d) = (d.attr ≡ a) × IsDim q s place d
 
--- the second list has, for each attribute of the first that names a dim of the stream, that dim, in their order
-pub data AreDimsOf (q : QueryValue) (s : List Sign) (place : ℕ) : List Attr → List Dim → Type 0 where
-  done : AreDimsOf q s place [] []
-  named : {a : Attr} {d : Dim} {attrs : List Attr} {dims : List Dim} → IsDimAt q s place a (Some d) → AreDimsOf q s place attrs dims → AreDimsOf q s place (a ∷ attrs) (d ∷ dims)
-  unnamed : {a : Attr} {attrs : List Attr} {dims : List Dim} → IsDimAt q s place a None → AreDimsOf q s place attrs dims → AreDimsOf q s place (a ∷ attrs) dims
+-- dims are ordered by their names
+abbrev pub dim_lt : Dim → Dim → Bool
+dim_lt d e = attr_lt d.attr e.attr
+
+-- the dims of the stream that its columns before a column name, ascending
+pub record AreDimsBelow (q : QueryValue) (s : List Sign) (place column : ℕ) (dims : List Dim) : Type 0 where
+  pub ascends : Ascends dim_lt dims
+  pub each : (d : Dim) → Has dims d → IsDim q s place d × (d.attr.column < column)
+  pub all : (d : Dim) → IsDim q s place d → d.attr.column < column → (e : Dim) × Has dims e × (e.attr ≡ d.attr)
 
 -- the attribute is one of these columns, and names a class of the stream at a place of FROM
 abbrev pub IsNameAmong : QueryValue → List Sign → List Attr → ℕ → Attr → Type 0

@@ -1,5 +1,5 @@
 -- The longest token at the front of a text, by its first byte.
-use Rattle.std.proofs.Common.{◌≡◌, ◌≢◌, ℕ, zero, suc, ◌+◌, ◌<◌, ◌≤◌, Bool, true, false, cond, ◌&&◌, ◌||◌, List, [], ◌∷◌, length, take, Option, Some, None, refl, ap, sym, ◌∙◌, arith, nat_lt, lt-ltb, inl, inr, ◌⊎◌, get_or, drop, one-add, add-one, lit<, IfSome}
+use Rattle.std.proofs.Common.{◌≡◌, ◌≢◌, ℕ, zero, suc, ◌+◌, ◌<◌, ◌≤◌, Bool, true, false, cond, ◌&&◌, ◌||◌, List, [], ◌∷◌, length, take, Option, Some, None, refl, subst, ap, sym, ◌∙◌, arith, nat_lt, lt-ltb, inl, inr, ◌⊎◌, get_or, drop, one-add, add-one, lit<, IfSome}
 use Rattle.std.specs.Prelude.{nat_le, ◌==◌}
 use Rattle.std.specs.List.{list_all, prefix_len}
 use Rattle.std.proofs.lemmas.Bool.{cases_eq}
@@ -10,8 +10,8 @@ use Rattle.bq_text.specs.Word.{is_digit, is_letter, is_word_byte}
 use Rattle.bq_text.specs.Key.{key_of}
 use Rattle.bq_text.specs.Value.{is_integer, is_digits}
 use Rattle.bq_lexer.specs.declared.token.TokenKind.{TokenKind}
-use Rattle.bq_lexer.specs.declared.token.TokenKind.TheVariants.{Integer}
-use Rattle.bq_lexer.specs.Tokens.{kind_of, word_kind, symbol_of, symbol_text, longest, longest_within, or_shorter}
+use Rattle.bq_lexer.specs.declared.token.TokenKind.TheVariants.{Integer, Less, Greater}
+use Rattle.bq_lexer.specs.Tokens.{kind_of, word_kind, symbol_of, symbol_pair, symbol_text, front_pair, longest, longest_within, or_shorter}
 
 -- n is the length of the longest token where no longer front is one
 pub found_within : (bytes : List ℕ) (kind : TokenKind) (n k : ℕ) → 0 < n → n ≤ k → kind_of (take n bytes) ≡ Some kind → ((m : ℕ) → n < m → m ≤ k → kind_of (take m bytes) ≡ None) → longest_within k bytes ≡ Some (kind, n)
@@ -77,9 +77,19 @@ not_same a b h = grind (arith, nat_tests)
 not_letter : (b : ℕ) → b ≤ 64 → is_letter b ≡ false
 not_letter b h = grind (arith, nat_tests)
 
+-- a byte that is no symbol begins none
+pair_none : (b c : ℕ) → b ≢ 60 → b ≢ 62 → symbol_pair b c ≡ None
+pair_none b c less greater =
+    let l : (b == 60) ≡ false = not_same b 60 less in
+    let g : (b == 62) ≡ false = not_same b 62 greater in
+    simp (l, g)
+
 pub symbol_text_none : (b : ℕ) (rest : List ℕ) → symbol_of b ≡ None → symbol_text (b ∷ rest) ≡ None
 symbol_text_none b [] h = h
-symbol_text_none b (c ∷ rest) h = refl
+symbol_text_none b (c ∷ []) h =
+    let P : ℕ → Type 0 = λ n. symbol_of n ≡ None in
+    pair_none b c (λ e. let none : Some Less ≡ None = subst P e h in cc) (λ e. let none : Some Greater ≡ None = subst P e h in cc)
+symbol_text_none b (c ∷ d ∷ rest) h = refl
 
 -- bytes from 63 on, and digits, are no symbols
 high_no_symbol : (b : ℕ) → 63 ≤ b → symbol_of b ≡ None
@@ -173,25 +183,37 @@ pub sign_alone : (b : ℕ) (bs : List ℕ) → (b ≡ 43) ⊎ (b ≡ 45) → pre
 unfolding longest
 sign_alone b bs s none = none_within (b ∷ bs) (suc (length bs)) (sign_short b bs s none)
 
--- another byte
-symbol_long : (b : ℕ) (bs : List ℕ) → ((rest : List ℕ) → kind_of (b ∷ rest) ≡ symbol_text (b ∷ rest)) → (m : ℕ) → 1 < m → m ≤ suc (length bs) → kind_of (take m (b ∷ bs)) ≡ None
-symbol_long b bs by zero low high = absurd (omega arith)
-symbol_long b bs by (suc zero) low high = absurd (omega arith)
-symbol_long b [] by (suc (suc m)) low high = absurd (omega arith)
-symbol_long b (c ∷ bs) by (suc (suc m)) low high = by (c ∷ take m bs)
+-- another byte: no text of three bytes is a symbol, and one of two where the first two are
+triple_long : (b c : ℕ) (bs : List ℕ) → ((rest : List ℕ) → kind_of (b ∷ rest) ≡ symbol_text (b ∷ rest)) → (m : ℕ) → 2 < m → m ≤ suc (suc (length bs)) → kind_of (take m (b ∷ c ∷ bs)) ≡ None
+triple_long b c bs by zero low high = absurd (omega arith)
+triple_long b c bs by (suc zero) low high = absurd (omega arith)
+triple_long b c bs by (suc (suc zero)) low high = absurd (omega arith)
+triple_long b c [] by (suc (suc (suc m))) low high = absurd (omega arith)
+triple_long b c (d ∷ bs) by (suc (suc (suc m))) low high = by (c ∷ d ∷ take m bs)
 
-pub symbol_longest : (b : ℕ) (bs : List ℕ) (kind : TokenKind) → is_letter b ≡ false → is_digit b ≡ false → b ≢ 43 → b ≢ 45 → symbol_of b ≡ Some kind → longest (b ∷ bs) ≡ Some (kind, 1)
+pair_longest : (b c : ℕ) (bs : List ℕ) (kind : TokenKind) → ((rest : List ℕ) → kind_of (b ∷ rest) ≡ symbol_text (b ∷ rest)) → symbol_pair b c ≡ Some kind → longest (b ∷ c ∷ bs) ≡ Some (kind, 2)
 unfolding longest
-symbol_longest b bs kind l d p m e = found_within (b ∷ bs) kind 1 (suc (length bs)) (lit< tt) (omega arith) (other_kind b l d p m [] ∙ e) (symbol_long b bs (other_kind b l d p m))
+pair_longest b c bs kind by e = found_within (b ∷ c ∷ bs) kind 2 (suc (suc (length bs))) (lit< tt) (omega arith) (by (c ∷ []) ∙ e) (triple_long b c bs by)
 
-symbol_short : (b : ℕ) (bs : List ℕ) → ((rest : List ℕ) → kind_of (b ∷ rest) ≡ symbol_text (b ∷ rest)) → symbol_of b ≡ None → (m : ℕ) → 0 < m → m ≤ suc (length bs) → kind_of (take m (b ∷ bs)) ≡ None
-symbol_short b bs by none zero low high = absurd (omega arith)
-symbol_short b bs by none (suc zero) low high = by [] ∙ none
-symbol_short b bs by none (suc (suc m)) low high = symbol_long b bs by (suc (suc m)) (omega arith) high
+symbol_long : (b : ℕ) (bs : List ℕ) → ((rest : List ℕ) → kind_of (b ∷ rest) ≡ symbol_text (b ∷ rest)) → front_pair (b ∷ bs) ≡ None → (m : ℕ) → 1 < m → m ≤ suc (length bs) → kind_of (take m (b ∷ bs)) ≡ None
+symbol_long b bs by none zero low high = absurd (omega arith)
+symbol_long b bs by none (suc zero) low high = absurd (omega arith)
+symbol_long b [] by none (suc (suc m)) low high = absurd (omega arith)
+symbol_long b (c ∷ bs) by none (suc (suc zero)) low high = by (c ∷ []) ∙ none
+symbol_long b (c ∷ bs) by none (suc (suc (suc m))) low high = triple_long b c bs by (suc (suc (suc m))) (omega arith) high
 
-pub no_symbol : (b : ℕ) (bs : List ℕ) → is_letter b ≡ false → is_digit b ≡ false → b ≢ 43 → b ≢ 45 → symbol_of b ≡ None → longest (b ∷ bs) ≡ None
+symbol_longest : (b : ℕ) (bs : List ℕ) (kind : TokenKind) → ((rest : List ℕ) → kind_of (b ∷ rest) ≡ symbol_text (b ∷ rest)) → front_pair (b ∷ bs) ≡ None → symbol_of b ≡ Some kind → longest (b ∷ bs) ≡ Some (kind, 1)
 unfolding longest
-no_symbol b bs l d p m e = none_within (b ∷ bs) (suc (length bs)) (symbol_short b bs (other_kind b l d p m) e)
+symbol_longest b bs kind by none e = found_within (b ∷ bs) kind 1 (suc (length bs)) (lit< tt) (omega arith) (by [] ∙ e) (symbol_long b bs by none)
+
+symbol_short : (b : ℕ) (bs : List ℕ) → ((rest : List ℕ) → kind_of (b ∷ rest) ≡ symbol_text (b ∷ rest)) → front_pair (b ∷ bs) ≡ None → symbol_of b ≡ None → (m : ℕ) → 0 < m → m ≤ suc (length bs) → kind_of (take m (b ∷ bs)) ≡ None
+symbol_short b bs by pair none zero low high = absurd (omega arith)
+symbol_short b bs by pair none (suc zero) low high = by [] ∙ none
+symbol_short b bs by pair none (suc (suc m)) low high = symbol_long b bs by pair (suc (suc m)) (omega arith) high
+
+no_symbol : (b : ℕ) (bs : List ℕ) → ((rest : List ℕ) → kind_of (b ∷ rest) ≡ symbol_text (b ∷ rest)) → front_pair (b ∷ bs) ≡ None → symbol_of b ≡ None → longest (b ∷ bs) ≡ None
+unfolding longest
+no_symbol b bs by pair e = none_within (b ∷ bs) (suc (length bs)) (symbol_short b bs by pair e)
 
 -- the same of a text that is not empty
 pub signed_longest : (bytes : List ℕ) → 0 < length bytes → (get_or bytes 0 0 ≡ 43) ⊎ (get_or bytes 0 0 ≡ 45) → 0 < prefix_len is_digit (drop 1 bytes) → longest bytes ≡ Some (Integer, prefix_len is_digit (drop 1 bytes) + 1)
@@ -202,18 +224,30 @@ pub signed_alone : (bytes : List ℕ) → 0 < length bytes → (get_or bytes 0 0
 signed_alone [] h s none = absurd (omega arith)
 signed_alone (b ∷ bs) h s none = sign_alone b bs s none
 
-abbrev pub one_byte : Option TokenKind → Option (TokenKind × ℕ)
-one_byte None = None
-one_byte (Some kind) = Some (kind, 1)
+-- a symbol of two bytes, or else one of one byte, with how many bytes it has
+abbrev pub two_or_one : Option TokenKind → Option TokenKind → Option (TokenKind × ℕ)
+two_or_one (Some kind) one = Some (kind, 2)
+two_or_one None (Some kind) = Some (kind, 1)
+two_or_one None None = None
 
-other_by : (b : ℕ) (bs : List ℕ) → is_letter b ≡ false → is_digit b ≡ false → b ≢ 43 → b ≢ 45 → (o : Option TokenKind) → symbol_of b ≡ o → longest (b ∷ bs) ≡ one_byte o
-other_by b bs l d p m None e = no_symbol b bs l d p m e
-other_by b bs l d p m (Some kind) e = symbol_longest b bs kind l d p m e
+other_one : (b : ℕ) (bs : List ℕ) → ((rest : List ℕ) → kind_of (b ∷ rest) ≡ symbol_text (b ∷ rest)) → front_pair (b ∷ bs) ≡ None → (o : Option TokenKind) → symbol_of b ≡ o → longest (b ∷ bs) ≡ two_or_one None o
+other_one b bs by pair None e = no_symbol b bs by pair e
+other_one b bs by pair (Some kind) e = symbol_longest b bs kind by pair e
+
+other_by : (b : ℕ) (bs : List ℕ) → ((rest : List ℕ) → kind_of (b ∷ rest) ≡ symbol_text (b ∷ rest)) → (two : Option TokenKind) → front_pair (b ∷ bs) ≡ two → longest (b ∷ bs) ≡ two_or_one two (symbol_of b)
+other_by b bs by None e = other_one b bs by e (symbol_of b) refl
+other_by b [] by (Some kind) e = cc
+other_by b (c ∷ bs) by (Some kind) e = pair_longest b c bs kind by e
 
 -- no letter, digit or sign
-pub other_longest : (bytes : List ℕ) → 0 < length bytes → is_letter (get_or bytes 0 0) ≡ false → is_digit (get_or bytes 0 0) ≡ false → get_or bytes 0 0 ≢ 43 → get_or bytes 0 0 ≢ 45 → longest bytes ≡ one_byte (symbol_of (get_or bytes 0 0))
+pub other_longest : (bytes : List ℕ) → 0 < length bytes → is_letter (get_or bytes 0 0) ≡ false → is_digit (get_or bytes 0 0) ≡ false → get_or bytes 0 0 ≢ 43 → get_or bytes 0 0 ≢ 45 → longest bytes ≡ two_or_one (front_pair bytes) (symbol_of (get_or bytes 0 0))
 other_longest [] h l d p m = absurd (omega arith)
-other_longest (b ∷ bs) h l d p m = other_by b bs l d p m (symbol_of b) refl
+other_longest (b ∷ bs) h l d p m = other_by b bs (other_kind b l d p m) (front_pair (b ∷ bs)) refl
+
+-- a byte that is neither `<` nor `>` begins no symbol of two
+pub no_front_pair : (b : ℕ) (bs : List ℕ) → b ≢ 60 → b ≢ 62 → front_pair (b ∷ bs) ≡ None
+no_front_pair b [] less greater = refl
+no_front_pair b (c ∷ bs) less greater = pair_none b c less greater
 
 fits_or : (o : Option TokenKind) (bytes : List ℕ) (k : ℕ) → suc k ≤ length bytes → IfSome (longest_within k bytes) (λ found. (0 < found.1) × (found.1 ≤ length bytes)) → IfSome (or_shorter o (suc k) (longest_within k bytes)) (λ found. (0 < found.1) × (found.1 ≤ length bytes))
 fits_or None bytes k h rest = rest

@@ -1,12 +1,12 @@
 -- What the kind of a text says of it.
-use Rattle.std.proofs.Common.{◌≡◌, ℕ, Bool, true, false, cond, List, [], ◌∷◌, Option, Some, None, refl, ◌==◌}
+use Rattle.std.proofs.Common.{◌≡◌, ℕ, Bool, true, false, cond, List, [], ◌∷◌, Option, Some, None, refl, ◌==◌, ◌&&◌}
 use Rattle.bq_text.specs.Word.{is_word}
 use Rattle.bq_text.specs.Key.{key_of}
 use Rattle.bq_text.specs.Value.{is_integer}
 use Rattle.bq_text.specs.declared.key.Key.{Key}
 use Rattle.bq_lexer.specs.declared.token.TokenKind.{TokenKind}
-use Rattle.bq_lexer.specs.declared.token.TokenKind.TheVariants.{Word, Integer, Comma, Point, Open, Close, Less, Equal, Greater, Semi}
-use Rattle.bq_lexer.specs.Tokens.{kind_of, word_kind, symbol_of, symbol_text}
+use Rattle.bq_lexer.specs.declared.token.TokenKind.TheVariants.{Word, Integer, Comma, Point, Open, Close, Less, Equal, Greater, LessEqual, GreaterEqual, Unequal, Semi}
+use Rattle.bq_lexer.specs.Tokens.{kind_of, word_kind, symbol_of, symbol_pair, symbol_text}
 
 -- a kind that no symbol has
 abbrev pub IsOther : TokenKind → Type 0
@@ -23,10 +23,16 @@ no_symbol_kind Word b h e = not_one (b == 44) Word Comma _ (λ f. cc) (not_one (
 no_symbol_kind Integer b h e = not_one (b == 44) Integer Comma _ (λ f. cc) (not_one (b == 46) Integer Point _ (λ f. cc) (not_one (b == 40) Integer Open _ (λ f. cc) (not_one (b == 41) Integer Close _ (λ f. cc) (not_one (b == 60) Integer Less _ (λ f. cc) (not_one (b == 61) Integer Equal _ (λ f. cc) (not_one (b == 62) Integer Greater _ (λ f. cc) (not_one (b == 59) Integer Semi None (λ f. cc) (λ f. cc)))))))) e
 no_symbol_kind _ b h e = absurd h
 
+no_pair_kind : (k : TokenKind) (b c : ℕ) → IsOther k → symbol_pair b c ≡ Some k → ⊥
+no_pair_kind Word b c h e = not_one ((b == 60) && (c == 61)) Word LessEqual _ (λ f. cc) (not_one ((b == 62) && (c == 61)) Word GreaterEqual _ (λ f. cc) (not_one ((b == 60) && (c == 62)) Word Unequal None (λ f. cc) (λ f. cc))) e
+no_pair_kind Integer b c h e = not_one ((b == 60) && (c == 61)) Integer LessEqual _ (λ f. cc) (not_one ((b == 62) && (c == 61)) Integer GreaterEqual _ (λ f. cc) (not_one ((b == 60) && (c == 62)) Integer Unequal None (λ f. cc) (λ f. cc))) e
+no_pair_kind _ b c h e = absurd h
+
 no_symbol_text : (k : TokenKind) (w : List ℕ) → IsOther k → symbol_text w ≡ Some k → ⊥
 no_symbol_text k [] h e = cc
 no_symbol_text k (b ∷ []) h e = no_symbol_kind k b h e
-no_symbol_text k (b ∷ c ∷ w) h e = cc
+no_symbol_text k (b ∷ c ∷ []) h e = no_pair_kind k b c h e
+no_symbol_text k (b ∷ c ∷ d ∷ w) h e = cc
 
 integer_if : (w i : Bool) (k : Option Key) (o : Option TokenKind) → (o ≡ Some Integer → ⊥) → cond w (Some (word_kind k)) (cond i (Some Integer) o) ≡ Some Integer → i ≡ true
 integer_if w true k o none e = refl

@@ -1,12 +1,12 @@
 -- The tokens of a line: at each place the longest text that is a token.
 pub use Rattle.bq_text.specs.Blank.{is_blank}
-use Rattle.std.specs.Prelude.{ℕ, zero, suc, ◌+◌, ◌-◌, ◌==◌, if◌then◌else◌, List, [], ◌∷◌, length, take, Option, Some, None, Result, Ok, Err}
+use Rattle.std.specs.Prelude.{ℕ, zero, suc, ◌+◌, ◌-◌, ◌==◌, ◌&&◌, if◌then◌else◌, List, [], ◌∷◌, length, take, Option, Some, None, Result, Ok, Err}
 use Rattle.bq_text.specs.Word.{is_word}
 use Rattle.bq_text.specs.Key.{key_of}
 use Rattle.bq_text.specs.Value.{is_integer}
 use Rattle.bq_text.specs.declared.key.Key.{Key}
 use Rattle.bq_lexer.specs.declared.token.TokenKind.{TokenKind}
-use Rattle.bq_lexer.specs.declared.token.TokenKind.TheVariants.{Word, Reserved, Integer, Comma, Point, Open, Close, Less, Equal, Greater, Semi}
+use Rattle.bq_lexer.specs.declared.token.TokenKind.TheVariants.{Word, Reserved, Integer, Comma, Point, Open, Close, Less, Equal, Greater, LessEqual, GreaterEqual, Unequal, Semi}
 use Rattle.bq_lexer.specs.declared.token.Token.{Token}
 
 -- the symbol that a byte is
@@ -21,11 +21,25 @@ symbol_of b =
     (if b == 62 then Some Greater else
     (if b == 59 then Some Semi else None)))))))
 
--- the symbol that a text of one byte is
+-- the symbol that two bytes are
+abbrev pub symbol_pair : ℕ → ℕ → Option TokenKind
+symbol_pair b c =
+    if (b == 60) && (c == 61) then Some LessEqual else
+    (if (b == 62) && (c == 61) then Some GreaterEqual else
+    (if (b == 60) && (c == 62) then Some Unequal else None))
+
+-- the symbol that a text is
 abbrev pub symbol_text : List ℕ → Option TokenKind
 symbol_text [] = None
 symbol_text (b ∷ []) = symbol_of b
-symbol_text (b ∷ c ∷ bs) = None
+symbol_text (b ∷ c ∷ []) = symbol_pair b c
+symbol_text (b ∷ c ∷ d ∷ bs) = None
+
+-- the symbol that the first two bytes are
+abbrev pub front_pair : List ℕ → Option TokenKind
+front_pair [] = None
+front_pair (b ∷ []) = None
+front_pair (b ∷ c ∷ bs) = symbol_pair b c
 
 -- a word that is reserved is that key
 abbrev pub word_kind : Option Key → TokenKind

@@ -2,7 +2,7 @@
 ghost use Rattle.std.specs.Prelude.{◌≡◌, ◌≤◌, ◌<◌, ◌↔◌, ◌⊎◌, Option, Result, Ok, Err, Some, length, MatchResult, IfOk, IsTrue, IfSome};
 ghost use Rattle.std.specs.List.{prefix_len};
 ghost use Rattle.bq_text.specs.Word.{is_word_byte, is_digit};
-ghost use Rattle.bq_lexer.specs.Tokens.{longest, tokens, symbol_of, word_kind};
+ghost use Rattle.bq_lexer.specs.Tokens.{longest, tokens, symbol_of, symbol_pair, front_pair, word_kind};
 ghost use Rattle.bq_lexer.specs.Standing.{StandFrom};
 ghost use Rattle.bq_text.specs.Key.{key_of};
 
@@ -25,6 +25,28 @@ fn symbol(byte: u8) -> Option<TokenKind>
         b';' => Some(TokenKind::Semi),
         _ => None,
     }
+}
+
+// The symbol that two bytes are.
+fn double_symbol(first: u8, second: u8) -> Option<TokenKind>
+    ensures { result ≡ symbol_pair first second }
+{
+    match (first, second) {
+        (b'<', b'=') => Some(TokenKind::LessEqual),
+        (b'>', b'=') => Some(TokenKind::GreaterEqual),
+        (b'<', b'>') => Some(TokenKind::Unequal),
+        _ => None,
+    }
+}
+
+// The symbol that the first two bytes are.
+fn front_double(bytes: &[u8]) -> Option<TokenKind>
+    ensures { result ≡ front_pair bytes.now }
+{
+    if bytes.len() < 2 {
+        return None;
+    }
+    double_symbol(bytes[0], bytes[1])
 }
 
 // How many bytes from the front on belong to a word.
@@ -83,9 +105,12 @@ fn first_token(bytes: &[u8]) -> Option<(TokenKind, usize)>
             Some((TokenKind::Integer, len + 1))
         };
     }
-    match symbol(first) {
-        Some(kind) => Some((kind, 1)),
-        None => None,
+    match front_double(bytes) {
+        Some(kind) => Some((kind, 2)),
+        None => match symbol(first) {
+            Some(kind) => Some((kind, 1)),
+            None => None,
+        },
     }
 }
 

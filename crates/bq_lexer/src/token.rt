@@ -16,6 +16,9 @@ pub enum TokenKind {
     Less,
     Equal,
     Greater,
+    LessEqual,
+    GreaterEqual,
+    Unequal,
     Semi,
 }
 

@@ -1,3 +1,4 @@
+pub mod Failing
 pub mod Steps
 pub mod Walks
 pub mod Root

@@ -5,7 +5,7 @@ use Rattle.bq_closure.specs.ClosureValue.{ClosureValue}
 use Rattle.bq_closure.specs.Closure.{IsClosureOf, HasRoom}
 
 -- there is room for the comparisons where there is no constraint yet
-pub room_root : (k : ClosureValue) (n : ℕ) (cs ds : List Constraint) → IsClosureOf k n [] → ds ≡ cs → length cs ≤ 32 → HasRoom k (length ds)
+pub room_root : (k : ClosureValue) (n : ℕ) (cs ds : List Constraint) → IsClosureOf k n [] → ds ≡ cs → length cs ≤ 56 → HasRoom k (length ds)
 room_root k n cs ds h e few = record {
   constraints = [];
   closure = subst (λ m. IsClosureOf k m []) (sym h.attrs) h;

@@ -1,15 +1,17 @@
 -- What one more sign means for the closure of a node.
-use Rattle.std.proofs.Common.{◌≡◌, ℕ, ◌<◌, ◌≤◌, ◌+◌, ℤ, List, [], ◌∷◌, ◌++◌, length, length-append, All, pos, slice_index_or, refl, sym, ◌∙◌, ap, subst, arith}
+use Rattle.std.proofs.Common.{◌≡◌, ℕ, ◌<◌, ◌≤◌, ◌+◌, ℤ, false, true, List, [], ◌∷◌, ◌++◌, filter, slice_get, length, length-append, All, pos, slice_index_or, refl, sym, ◌∙◌, ap, subst, arith}
 use Rattle.bq_model.proofs.Has.{Has, Has-append_right, Contains-from_has}
 use Rattle.bq_model.proofs.Elements.{HasElement}
-use Rattle.bq_model.proofs.Local.{PairIn, pair_in}
+use Rattle.bq_model.proofs.FewPairs.{few_with_soft}
+use Rattle.bq_model.proofs.Holding.{Holds-each}
+use Rattle.bq_model.proofs.Local.{PairIn, pair_named}
 use Rattle.bq_model.proofs.Split.{StartsWith, IsFeasible}
 use Rattle.bq_model.specs.declared.atom.Attr.{Attr}
 use Rattle.bq_model.specs.declared.part.Pair.{Pair}
 use Rattle.bq_model.specs.declared.part.Sign.{Sign}
 use Rattle.bq_model.specs.declared.atom.Element.{Element}
 use Rattle.bq_model.specs.declared.atom.Element.TheVariants as element
-use Rattle.bq_model.specs.Query.{QueryValue, attrs_of, consts_of, IsWithinLimits}
+use Rattle.bq_model.specs.Query.{QueryValue, attrs_of, consts_of, is_soft, IsWithinLimits}
 use Rattle.bq_model.specs.Assignment.{Assignment}
 use Rattle.bq_model.specs.Parts.{pairs, signs_of}
 use Rattle.bq_constraints.specs.declared.constraint.Constraint.{Constraint}
@@ -18,15 +20,18 @@ use Rattle.bq_closure.specs.ClosureValue.{ClosureValue}
 use Rattle.bq_closure.specs.Choices.{IsChoice, AreChoices, chosen}
 use Rattle.bq_closure.specs.Closure.{IsClosureOf, HasRoom}
 use Rattle.bq_constraints.specs.Nodes.{nodes_of}
-use Rattle.bq_constraints.specs.PartConstraints.{AddsSign, of_atoms, of_prefix}
+use Rattle.bq_constraints.specs.PartConstraints.{AddsSign, of_base, of_prefix}
 use Rattle.bq_constraints.specs.Solutions.{IsWithin, Solves, IsSatisfiable, Implies}
 use Rattle.bq_closure.proofs.Zips.{zip_length, zip_at}
 use Rattle.bq_constraints.proofs.Joined.{solves_left, solves_right, solves_both, solves_implied}
 use Rattle.bq_constraints.proofs.Link.{signs_start}
 use Rattle.bq_constraints.proofs.NodeFacts.{Known, nodes_agree}
-use Rattle.bq_constraints.proofs.Prefix.{adds_sign, of_no_prefix, length-of_atoms}
+use Rattle.bq_constraints.proofs.Prefix.{adds_sign, of_no_prefix, length-of_base}
 use Rattle.bq_constraints.proofs.Feasible.{feasible_if, satisfiable_if, solves_if}
+use Rattle.std.specs.List.{list_any}
+use Rattle.bq_constraints.specs.Soft.{next_fails, denies_itself, SoftHold}
 use Rattle.bq_lto_split.specs.Tree.{Before, AreOf, AreImplied, Follows}
+use Rattle.bq_constraints.proofs.Softly.{agree_more, soft_root, denied}
 
 -- ---- the pair of the next sign
 
@@ -58,8 +63,7 @@ known_from xs ks (element.Attr a) h = h
 known_from xs ks (element.Const k) h = tt
 
 pairs_known : (q : QueryValue) (p : Pair) → Has (pairs q) p → Has (attrs_of q.atoms) p.left × Known (attrs_of q.atoms) p.right
-unfolding pairs
-pairs_known q p h = let s : PairIn (attrs_of q.atoms) (consts_of q.atoms) p = pair_in _ _ p h in (s.left, known_from _ (consts_of q.atoms) p.right s.right)
+pairs_known q p h = let s : PairIn (attrs_of q.atoms) (consts_of q.atoms) p = pair_named q p h in (s.left, known_from _ (consts_of q.atoms) p.right s.right)
 
 -- an assignment whose integers meet the constraints of some signs has them
 starts_with : (q : QueryValue) (signs : List Sign) (v : Assignment) → length signs ≤ length (pairs q) → Solves (nodes_of (attrs_of q.atoms) v) (of_prefix q signs) → StartsWith signs (signs_of q v)
@@ -96,13 +100,13 @@ module _ (q : QueryValue) (pre : List Sign) (s : Sign) (ks cs : List Constraint)
     follows_one l = record {
       starts = record { rest = s ∷ []; is = refl };
       all = λ t p w.
-          let h : Solves (nodes_of (attrs_of q.atoms) p.one) (of_prefix q pre) = solves_if q pre p.one p.inside.holds (subst (StartsWith pre) (sym p.inside.signs) w) in
+          let h : Solves (nodes_of (attrs_of q.atoms) p.one) (of_prefix q pre) = solves_if q pre p.one (λ u i e. Holds-each q p.one p.inside.holds u i) p.inside.domains (subst (StartsWith pre) (sym p.inside.signs) w) in
           let g : StartsWith (pre ++ s ∷ []) (signs_of q p.one) = starts_with q (pre ++ s ∷ []) p.one l (solves_more _ (solves_implied _ ks cs i (m.from _ h))) in
           subst (StartsWith (pre ++ s ∷ [])) p.inside.signs g;
     }
 
-feasible_of : (q : QueryValue) (signs : List Sign) (ks : List Constraint) → AreOf q signs ks → length signs ≤ length (pairs q) → IsSatisfiable ks → IsFeasible q signs
-feasible_of q signs ks m l t = feasible_if q signs l (record { at = t.at; solves = m.into t.at t.solves })
+feasible_of : (q : QueryValue) (signs : List Sign) (ks : List Constraint) → AreOf q signs ks → IsWithinLimits q → SoftHold q signs → length signs ≤ length (pairs q) → IsSatisfiable ks → IsFeasible q signs
+feasible_of q signs ks m w f l t = feasible_if q signs w f l (record { at = t.at; solves = m.into t.at t.solves })
 
 satisfiable_of : (q : QueryValue) (signs : List Sign) (ks : List Constraint) → AreOf q signs ks → IsFeasible q signs → IsSatisfiable ks
 satisfiable_of q signs ks m f = let t : IsSatisfiable (of_prefix q signs) = satisfiable_if q signs f in record { at = t.at; solves = m.from t.at t.solves }
@@ -118,9 +122,12 @@ module _ (q : QueryValue) (ps : List ChoiceValue) (k : ClosureValue) (pre : List
     here : length (pre ++ s ∷ []) ≤ length (pairs q)
     here = room_next q ps k pre s b l
 
+    soft_here : next_fails q.atoms (slice_get (pairs q) (length pre)) s ≡ false → SoftHold q (pre ++ s ∷ [])
+    soft_here n = agree_more q pre s (slice_get (pairs q) (length pre)) refl (let m : length ps ≡ length (pairs q) = zip_length (IsChoice q) (pairs q) ps b.choices in omega (arith, m, l)) b.soft n
+
     -- where the sign follows the closure stays
-    pub before_same : AreImplied k cs → Before q ps k (pre ++ s ∷ [])
-    before_same i =
+    pub before_same : next_fails q.atoms (slice_get (pairs q) (length pre)) s ≡ false → AreImplied k cs → Before q ps k (pre ++ s ∷ [])
+    before_same n i =
         let e : All (Implies b.closure.constraints) cs = i _ _ b.closure.closure in
         let m : AreOf q (pre ++ s ∷ []) b.closure.constraints = are_same q pre s b.closure.constraints cs b.closure.are a e in
         record {
@@ -129,15 +136,16 @@ module _ (q : QueryValue) (ps : List ChoiceValue) (k : ClosureValue) (pre : List
           room = omega (arith, length-append pre (s ∷ []), l);
           few = b.few;
           closure = record { constraints = b.closure.constraints; closure = b.closure.closure; are = m };
-          feasible = feasible_of q (pre ++ s ∷ []) _ m here (satisfiable_of q pre _ b.closure.are b.feasible);
+          soft = soft_here n;
+          feasible = feasible_of q (pre ++ s ∷ []) _ m b.limits (soft_here n) here (satisfiable_of q pre _ b.closure.are b.feasible);
         }
 
     pub follows_same : AreImplied k cs → Follows q pre (pre ++ s ∷ [])
     follows_same i = follows_one q pre s b.closure.constraints cs b.closure.are a (i _ _ b.closure.closure) here
 
     -- else its constraints are added
-    pub before_added : (r : ClosureValue) → IsClosureOf r (length (attrs_of q.atoms)) (b.closure.constraints ++ cs) → IsSatisfiable (b.closure.constraints ++ cs) → Before q ps r (pre ++ s ∷ [])
-    before_added r h t =
+    pub before_added : next_fails q.atoms (slice_get (pairs q) (length pre)) s ≡ false → (r : ClosureValue) → IsClosureOf r (length (attrs_of q.atoms)) (b.closure.constraints ++ cs) → IsSatisfiable (b.closure.constraints ++ cs) → Before q ps r (pre ++ s ∷ [])
+    before_added n r h t =
         let m : AreOf q (pre ++ s ∷ []) (b.closure.constraints ++ cs) = are_more q pre s b.closure.constraints cs b.closure.are a in
         record {
           limits = b.limits;
@@ -145,21 +153,25 @@ module _ (q : QueryValue) (ps : List ChoiceValue) (k : ClosureValue) (pre : List
           room = omega (arith, length-append pre (s ∷ []), l);
           few = b.few;
           closure = record { constraints = b.closure.constraints ++ cs; closure = h; are = m };
-          feasible = feasible_of q (pre ++ s ∷ []) _ m here t;
+          soft = soft_here n;
+          feasible = feasible_of q (pre ++ s ∷ []) _ m b.limits (soft_here n) here t;
         }
+
+    few_choices : length ps ≤ 106 + length (filter (λ t. is_soft t.op) q.atoms)
+    few_choices = let m : length ps ≡ length (pairs q) = zip_length (IsChoice q) (pairs q) ps b.choices in omega (arith, m, few_with_soft q b.limits)
 
     pub room_more : HasRoom k (length cs)
     room_more = record {
       constraints = b.closure.constraints;
       closure = subst (λ m. IsClosureOf k m b.closure.constraints) (sym b.closure.closure.attrs) b.closure.closure;
-      room = omega (arith, b.closure.are.few, a.few, b.limits.comparisons, b.few, l);
+      room = omega (arith, b.closure.are.few, a.few, l, few_choices);
     }
 
     pub room_here : HasRoom k 0
     room_here = record {
       constraints = b.closure.constraints;
       closure = subst (λ m. IsClosureOf k m b.closure.constraints) (sym b.closure.closure.attrs) b.closure.closure;
-      room = omega (arith, b.closure.are.few, b.limits.comparisons, b.few, l);
+      room = omega (arith, b.closure.are.few, l, few_choices);
     }
 
   pub within_here : All (IsWithin k.attrs) cs
@@ -167,23 +179,27 @@ module _ (q : QueryValue) (ps : List ChoiceValue) (k : ClosureValue) (pre : List
 
 -- ---- the root
 
-pub before_root : (q : QueryValue) (ps : List ChoiceValue) (k : ClosureValue) → IsWithinLimits q → AreChoices q ps → length ps ≤ 106 → IsClosureOf k (length (attrs_of q.atoms)) (of_atoms (attrs_of q.atoms) q.atoms) → IsSatisfiable (of_atoms (attrs_of q.atoms) q.atoms) → Before q ps k []
-before_root q ps k l e few h t = record {
+pub before_root : (q : QueryValue) (ps : List ChoiceValue) (k : ClosureValue) → IsWithinLimits q → AreChoices q ps → length ps ≤ 114 → list_any (λ t. denies_itself t) q.atoms ≡ false → IsClosureOf k (length (attrs_of q.atoms)) (of_base q) → IsSatisfiable (of_base q) → Before q ps k []
+before_root q ps k l e few n h t = record {
   limits = l;
   choices = e;
   room = omega arith;
   few = few;
   closure = record {
-    constraints = of_atoms (attrs_of q.atoms) q.atoms;
+    constraints = of_base q;
     closure = h;
     are = record {
       into = λ x v. subst (Solves x) (sym (of_no_prefix q)) v;
       from = λ x v. subst (Solves x) (of_no_prefix q) v;
-      few = omega (arith, length-of_atoms (attrs_of q.atoms) q.atoms);
+      few = omega (arith, length-of_base q l);
     };
   };
-  feasible = feasible_if q [] (omega arith) (subst IsSatisfiable (sym (of_no_prefix q)) t);
+  soft = soft_root q l n;
+  feasible = feasible_if q [] l (soft_root q l n) (omega arith) (subst IsSatisfiable (sym (of_no_prefix q)) t);
 }
 
-pub not_feasible_root : (q : QueryValue) → ¬ IsSatisfiable (of_atoms (attrs_of q.atoms) q.atoms) → IsFeasible q [] → ⊥
+pub not_feasible_root : (q : QueryValue) → ¬ IsSatisfiable (of_base q) → IsFeasible q [] → ⊥
 not_feasible_root q n f = n (subst IsSatisfiable (of_no_prefix q) (satisfiable_if q [] f))
+
+pub denied_root : (q : QueryValue) → list_any (λ t. denies_itself t) q.atoms ≡ true → IsFeasible q [] → ⊥
+denied_root q n f = denied q n f

@@ -2,6 +2,7 @@ pub mod Query
 pub mod Assignment
 pub mod Tuples
 pub mod Meaning
+pub mod Domains
 pub mod Filter
 pub mod Members
 pub mod Parts

@@ -18,12 +18,12 @@ few-over width e h b =
     }
 
 pub catalog-verdict-is-exact : CatalogVerdictIsExact
-catalog-verdict-is-exact q within width over r violation = (from r violation, into r violation)
+catalog-verdict-is-exact q within plain width over r violation = (from r violation, into r violation)
   where
     from : (r : Option Failure) → IsViolation q r → ((e : Evaluator) → IsRightOver width q e → ¬ ((b : ℕ) → HasFewOverFor width e b)) → r ≢ None
-    from None v n e = some-right q within v (λ (h : HasRight q). n h.0 (λ history row rows is. h.1 history row) (few-over width h.0 h.2))
+    from None v n e = some-right q within plain.domains v (λ (h : HasRight q). n h.0 (λ history row rows is. h.1 history row) (few-over width h.0 h.2))
     from (Some f) v n e = cc
 
     into : (r : Option Failure) → IsViolation q r → r ≢ None → (e : Evaluator) → IsRightOver width q e → ¬ ((b : ℕ) → HasFewOverFor width e b)
     into None v n = absurd (n refl)
-    into (Some f) v n = catalog-needs-states q within f v width over
+    into (Some f) v n = catalog-needs-states q within plain f v width over

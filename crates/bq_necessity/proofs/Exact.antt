@@ -5,6 +5,7 @@ use Rattle.bq_model.specs.Query.{QueryValue, IsWithinLimits}
 use Rattle.bq_model.specs.Violation.{Failure, IsViolation, filter, first}
 use Rattle.bq_model.specs.Plan.{IsPlanned}
 use Rattle.bq_model.specs.Plan as planned
+use Rattle.bq_necessity.specs.Plain.{HasNoDomains, IsPlain}
 use Rattle.bq_necessity.specs.States.{Evaluator, IsRight, HasFewStates, NeedsStates}
 use Rattle.bq_necessity.specs.Accepted.{FewStatesDecide, VerdictIsExact, NoneLacksPlan}
 use Rattle.bq_necessity.proofs.Possible.{Possible, possible, followed}
@@ -16,41 +17,41 @@ use Rattle.bq_necessity.proofs.Refused.{refused-needs-states}
 abbrev pub HasRight : QueryValue → Type 0
 HasRight q = (e : Evaluator) × IsRight q e × HasFewStates e
 
-has-right : (q : QueryValue) (plan : List PartPlan) → IsWithinLimits q → IsPlanned q plan → IsViolation q None → HasRight q
-has-right q plan within is violation =
-    let o = accepted-has-states q plan within is violation in
+has-right : (q : QueryValue) (plan : List PartPlan) → IsWithinLimits q → HasNoDomains q → IsPlanned q plan → IsViolation q None → HasRight q
+has-right q plan within none is violation =
+    let o = accepted-has-states q plan within none is violation in
     (o.0, o.1, polynomially-many-are-few o.0 (told-are-polynomial o.0 q plan o.2))
 
 -- where there is one, no condition is violated
-none_violated : (q : QueryValue) → IsWithinLimits q → (r : Option Failure) → IsViolation q r → HasRight q → r ≡ None
-none_violated q within None violation h = refl
-none_violated q within (Some f) violation h = absurd (refused-needs-states q within f violation h.0 h.1 h.2)
+none_violated : (q : QueryValue) → IsWithinLimits q → IsPlain q → (r : Option Failure) → IsViolation q r → HasRight q → r ≡ None
+none_violated q within plain None violation h = refl
+none_violated q within plain (Some f) violation h = absurd (refused-needs-states q within plain f violation h.0 h.1 h.2)
 
 pub few-states-decide : FewStatesDecide
-few-states-decide q plan within is r violation = (none_violated q within r violation, at r violation)
+few-states-decide q plan within plain is r violation = (none_violated q within plain r violation, at r violation)
   where
     at : (r : Option Failure) → IsViolation q r → r ≡ None → HasRight q
-    at None v e = has-right q plan within is v
+    at None v e = has-right q plan within plain.domains is v
     at (Some f) v e = absurd cc
 
-some_planned : (q : QueryValue) (r : Option Failure) → IsViolation q r → Possible ((plan : List PartPlan) × IsPlanned q plan)
-some_planned q r (filter f e) = possible ([], planned.filter f refl)
-some_planned q r (first plain parts are firsts) = followed (some_plan q parts are) (λ o. possible (o.0, planned.parts plain o.1))
+some_planned : (q : QueryValue) → HasNoDomains q → (r : Option Failure) → IsViolation q r → Possible ((plan : List PartPlan) × IsPlanned q plan)
+some_planned q none r (filter f e) = possible ([], planned.filter f refl)
+some_planned q none r (first joins parts are firsts) = followed (some_plan q none parts are) (λ o. possible (o.0, planned.parts joins o.1))
 
 pub none-lacks-plan : NoneLacksPlan
-none-lacks-plan q r violation n = some_planned q r violation (λ o. n o.0 o.1)
+none-lacks-plan q none r violation n = some_planned q none r violation (λ o. n o.0 o.1)
 
 -- where no condition is violated, that there is no such evaluator is absurd
-pub some-right : (q : QueryValue) → IsWithinLimits q → IsViolation q None → Possible (HasRight q)
-some-right q within violation = followed (some_planned q None violation) (λ o. possible (has-right q o.0 within o.1 violation))
+pub some-right : (q : QueryValue) → IsWithinLimits q → HasNoDomains q → IsViolation q None → Possible (HasRight q)
+some-right q within none violation = followed (some_planned q none None violation) (λ o. possible (has-right q o.0 within none o.1 violation))
 
 pub verdict-is-exact : VerdictIsExact
-verdict-is-exact q within r violation = (from r violation, into r violation)
+verdict-is-exact q within plain r violation = (from r violation, into r violation)
   where
     from : (r : Option Failure) → IsViolation q r → NeedsStates q → r ≢ None
-    from None v n e = some-right q within v (λ h. n h.0 h.1 h.2)
+    from None v n e = some-right q within plain.domains v (λ h. n h.0 h.1 h.2)
     from (Some f) v n e = cc
 
     into : (r : Option Failure) → IsViolation q r → r ≢ None → NeedsStates q
     into None v n = absurd (n refl)
-    into (Some f) v n = refused-needs-states q within f v
+    into (Some f) v n = refused-needs-states q within plain f v

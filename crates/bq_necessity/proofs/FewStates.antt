@@ -94,14 +94,14 @@ module _ (q : QueryValue) (plan : List PartPlan) (n bound : ℕ) where
           has-below (cond q.distinct 2 1) x (subst (λ (y : ℕ). y < cond q.distinct 2 1) s.2 (mark-below q h s.0))
 
 pub accepted-has-states : AcceptedHasStates
-accepted-has-states q plan within is violation = (
+accepted-has-states q plan within none is violation = (
   evaluator q plan,
-  evaluates q plan within is violation,
+  evaluates q plan within none is violation,
   λ n bound. record {
     states = states q plan n bound;
     size = omega (arith, states-size q plan n bound);
     all = λ h few near. Contains-from_has (states q plan n bound) (after (evaluator q plan) (evaluator q plan).start h)
-        (subst (Has (states q plan n bound)) (sym (comes-to q plan within is violation h)) (state-among q plan n bound is h few near));
+        (subst (Has (states q plan n bound)) (sym (comes-to q plan within none is violation h)) (state-among q plan n bound is h few near));
   },
 )
 

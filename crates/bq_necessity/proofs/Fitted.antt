@@ -161,5 +161,5 @@ module _ (width : ℕ → ℕ) where
     }
 
 pub catalog-needs-states : CatalogNeedsStates
-catalog-needs-states q within f violation width over e right few =
-    refused-needs-states q within f violation (fitted width q within over e) (fitted-right width q within over e right) (λ b. fitted-few width q within over e b (few b))
+catalog-needs-states q within plain f violation width over e right few =
+    refused-needs-states q within plain f violation (fitted width q within over e) (fitted-right width q within over e right) (λ b. fitted-few width q within over e b (few b))

@@ -30,6 +30,7 @@ use Rattle.bq_laws.proofs.PlanIs.{is_inside, inside-if}
 use Rattle.bq_laws.proofs.PlanKeeps.{unbroken, none-broken}
 use Rattle.bq_laws.proofs.Tests.{all_at, and-left, and-right, or-cases, nat_true}
 use Rattle.bq_necessity.specs.Cases.{hot_counted, IsRefused}
+use Rattle.bq_necessity.proofs.Plainly.{plain-if}
 use Rattle.bq_necessity.proofs.Refused.{refused-needs-states}
 
 abbrev parts : List (List Sign)
@@ -38,11 +39,11 @@ parts = map (λ part. part.signs.items) hot_rooms_plan
 -- its parts are those of hot-rooms
 counted-inside : (s : List Sign) (v : Assignment) → InPart hot_rooms s v → InPart hot_counted s v
 unfolding pairs
-counted-inside s v i = record { holds = i.holds; signs = i.signs }
+counted-inside s v i = record { holds = i.holds; domains = i.domains; signs = i.signs }
 
 inside-counted : (s : List Sign) (v : Assignment) → InPart hot_counted s v → InPart hot_rooms s v
 unfolding pairs
-inside-counted s v i = record { holds = i.holds; signs = i.signs }
+inside-counted s v i = record { holds = i.holds; domains = i.domains; signs = i.signs }
 
 are_parts : AreParts hot_counted parts
 are_parts =
@@ -175,6 +176,7 @@ violated = Violation.first refl parts are_parts (
 pub counted-refused : IsRefused hot_counted failure
 counted-refused = record {
   limits = within-limits hot_counted refl;
+  plain = plain-if hot_counted refl refl;
   violation = violated;
-  needs = refused-needs-states hot_counted (within-limits hot_counted refl) failure violated;
+  needs = refused-needs-states hot_counted (within-limits hot_counted refl) (plain-if hot_counted refl refl) failure violated;
 }

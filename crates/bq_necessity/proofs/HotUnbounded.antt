@@ -17,6 +17,7 @@ use Rattle.bq_laws.proofs.PartsListed.{elements_of, covers, root_table, all-part
 use Rattle.bq_laws.proofs.PlanTests.{pairs-ascend}
 use Rattle.bq_laws.proofs.PlanIs.{is_inside, inside-if}
 use Rattle.bq_necessity.specs.Cases.{s_a, hot_unbounded, at_first, IsRefused}
+use Rattle.bq_necessity.proofs.Plainly.{plain-if}
 use Rattle.bq_necessity.proofs.OnePart.{earlier}
 use Rattle.bq_necessity.proofs.Refused.{refused-needs-states}
 
@@ -74,6 +75,7 @@ violated = Violation.first refl parts are_parts (
 pub hot-refused : IsRefused hot_unbounded (at_first C1)
 hot-refused = record {
   limits = within-limits hot_unbounded refl;
+  plain = plain-if hot_unbounded refl refl;
   violation = violated;
-  needs = refused-needs-states hot_unbounded (within-limits hot_unbounded refl) record { part = 1; condition = C1; attr = s_a } violated;
+  needs = refused-needs-states hot_unbounded (within-limits hot_unbounded refl) (plain-if hot_unbounded refl refl) record { part = 1; condition = C1; attr = s_a } violated;
 }

@@ -3,6 +3,8 @@ pub mod Pigeons
 pub mod Separated
 pub mod Tallies
 pub mod OneLong
+pub mod Plainly
+pub mod Changing
 pub mod Mixing
 pub mod Ranges
 pub mod Families

@@ -18,6 +18,8 @@ use Rattle.bq_laws.proofs.Order.{Rises, rises_nil, same-itself, same-is, ascendi
 use Rattle.bq_laws.proofs.NewAnswers.{none-times}
 use Rattle.bq_laws.proofs.Merge.{times-printed-is}
 use Rattle.bq_laws.proofs.TableRoom.{table-has-room}
+use Rattle.bq_necessity.specs.Plain.{HasNoDomains}
+use Rattle.bq_necessity.proofs.Plainly.{rows-none}
 
 -- 1 at a tuple of the table, 0 at others
 unfoldable pub mark : List (List ℤ) → List ℤ → ℕ
@@ -89,11 +91,11 @@ plain-is : (q : QueryValue) → is_filter q ≡ true → q.distinct ≡ false
 plain-is q h = grind (arith, h)
 
 -- the printed tuples are such a table
-pub printed-is : (q : QueryValue) (plan : List PartPlan) → IsWithinLimits q → IsPlanned q plan → IsViolation q None → (h : List Arrival)
+pub printed-is : (q : QueryValue) (plan : List PartPlan) → IsWithinLimits q → HasNoDomains q → IsPlanned q plan → IsViolation q None → (h : List Arrival)
     → IsTable (all_tuples q plan) (printed q h)
-printed-is q plan within (of_filter f e) violation h =
+printed-is q plan within none (of_filter f e) violation h =
     no-table (all_tuples q plan) (printed q h) (ap (λ b. cond b (ascending (once (answers q h))) []) (plain-is q f))
-printed-is q plan within (parts n is) violation h = by q.distinct refl
+printed-is q plan within none (parts n is) violation h = by q.distinct refl
   where
     at_most_one : (n m : ℕ) → n ≡ min 1 m → n ≤ 1
     at_most_one n m e = omega (arith, e)
@@ -103,7 +105,7 @@ printed-is q plan within (parts n is) violation h = by q.distinct refl
       rises = subst Rises (sym (ap (λ b. cond b (ascending (once (answers q h))) []) d)) (ascending-rises (once (answers q h)));
       single = λ z. at_most_one _ _ (times-printed-is q h z d);
       among = λ z k. has-times z (all_tuples q plan) (Has-from_contains (all_tuples q plan) z
-          ((table-has-room q plan within n is violation).0 h z (Contains-from_has (answers q h) z
+          ((table-has-room q plan within n is violation).0 h (rows-none q none h) z (Contains-from_has (answers q h) z
           (any-has z (answers q h) (times-any z (answers q h) (omega (arith, k, times-printed-is q h z d)))))));
     }
     by false d = no-table (all_tuples q plan) (printed q h) (ap (λ b. cond b (ascending (once (answers q h))) []) d)

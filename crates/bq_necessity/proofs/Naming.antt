@@ -6,7 +6,9 @@ use Rattle.bq_model.proofs.Unique.{Ascends, more}
 use Rattle.bq_model.proofs.Ascending.{Ascends-attrs_of}
 use Rattle.bq_laws.proofs.Tests.{true_or_false, nat_true}
 use Rattle.bq_laws.proofs.OnePartFits.{has_cases}
-use Rattle.bq_laws.proofs.NoViolation.{changed, changed-there, still_inside, named_or_free, equal_or_not}
+use Rattle.bq_laws.proofs.NoViolation.{equal_or_not}
+use Rattle.bq_necessity.specs.Plain.{HasNoDomains}
+use Rattle.bq_necessity.proofs.Changing.{changed, changed-there, still_inside, named_or_free}
 use Rattle.bq_model.specs.declared.atom.Attr.{Attr}
 use Rattle.bq_model.specs.declared.atom.Element.{Element}
 use Rattle.bq_model.specs.declared.atom.Element.TheVariants as element
@@ -33,27 +35,38 @@ same_or_not m n = elim (true_or_false (m == n)) [
 ]
 
 module _ (q : QueryValue) (s : List Sign) (p : IsPart q s) where
-  -- a bounded column is named
-  pub bounded-named : (a : Attr) → IsBounded q s a → Has (attrs_of q.atoms) a
-  bounded-named a b = elim (named_or_free (attrs_of q.atoms) a) [
+  -- where no column has a domain, a bounded column is named
+  pub bounded-named : HasNoDomains q → (a : Attr) → IsBounded q s a → Has (attrs_of q.atoms) a
+  bounded-named none a b = elim (named_or_free (attrs_of q.atoms) a) [
     | inl h ↦ h
     | inr free ↦ (
         let z : ℤ = b.high +ℤ pos 1 in
-        let l : changed p.one a z a ≤ℤ b.high = b.below (changed p.one a z) (still_inside q s p.one p.inside a free z) in
+        let l : changed p.one a z a ≤ℤ b.high = b.below (changed p.one a z) (still_inside q none s p.one p.inside a free z) in
         let e : changed p.one a z a ≡ z = changed-there p.one a z in
         absurd (omega (arith, ints, l, e)))
   ]
 
-  pub class_itself : (a : Attr) → Contains (attrs_of q.atoms) a → AreOneClass q s a a
-  class_itself a h = record { left = h; right = h; stream = refl; equal = record { equal = λ v i. refl } }
+  pub class_itself : (a : Attr) → AreOneClass q s a a
+  class_itself a = record { named = inl refl; stream = refl; equal = record { equal = λ v i. refl } }
 
   pub class_turned : (a b : Attr) → AreOneClass q s a b → AreOneClass q s b a
   class_turned a b c =
-      record { left = c.right; right = c.left; stream = sym c.stream; equal = record { equal = λ v i. sym (c.equal.equal v i) } }
+      record { named = elim c.named [ inl e ↦ inl (sym e) | inr n ↦ inr (n.1, n.0) ]; stream = sym c.stream; equal = record { equal = λ v i. sym (c.equal.equal v i) } }
+
+  -- what is of one class with an attribute is one
+  pub class-named : (a b : Attr) → AreOneClass q s a b → Contains (attrs_of q.atoms) b → Contains (attrs_of q.atoms) a
+  class-named a b c h = elim c.named [ inl e ↦ subst (λ z. Contains (attrs_of q.atoms) z) (sym e) h | inr n ↦ n.0 ]
 
   pub class_then : (a b c : Attr) → AreOneClass q s a b → AreOneClass q s b c → AreOneClass q s a c
   class_then a b c x y =
-      record { left = x.left; right = y.right; stream = x.stream ∙ y.stream; equal = record { equal = λ v i. x.equal.equal v i ∙ y.equal.equal v i } }
+      record { named = both-named a b c x.named y.named; stream = x.stream ∙ y.stream; equal = record { equal = λ v i. x.equal.equal v i ∙ y.equal.equal v i } }
+    where
+      both-named : (a b c : Attr) → (a ≡ b) ⊎ (Contains (attrs_of q.atoms) a × Contains (attrs_of q.atoms) b) → (b ≡ c) ⊎ (Contains (attrs_of q.atoms) b × Contains (attrs_of q.atoms) c)
+          → (a ≡ c) ⊎ (Contains (attrs_of q.atoms) a × Contains (attrs_of q.atoms) c)
+      both-named a b c (inl e) (inl f) = inl (e ∙ f)
+      both-named a b c (inl e) (inr n) = inr (subst (λ z. Contains (attrs_of q.atoms) z) (sym e) n.0, n.1)
+      both-named a b c (inr m) (inl f) = inr (m.0, subst (λ z. Contains (attrs_of q.atoms) z) f m.1)
+      both-named a b c (inr m) (inr n) = inr (m.0, n.1)
 
   class_or_not : (a b : Attr) → Contains (attrs_of q.atoms) a → Contains (attrs_of q.atoms) b → AreOneClass q s a b ⊎ (AreOneClass q s a b → ⊥)
   class_or_not a b h k = elim (same_or_not a.stream b.stream) [
@@ -95,7 +108,7 @@ module _ (q : QueryValue) (s : List Sign) (p : IsPart q s) where
   first_of a k (x ∷ xs) (more f o) into h = elim (class_or_not x a (Contains-from_has (attrs_of q.atoms) x (into x first)) k) [
     | inl c ↦ here x xs a f c
     | inr n ↦ elim (has_cases x a xs h) [
-      | inl e ↦ absurd (n (subst (λ z. AreOneClass q s z a) (sym e) (class_itself a k)))
+      | inl e ↦ absurd (n (subst (λ z. AreOneClass q s z a) (sym e) (class_itself a)))
       | inr i ↦ there x xs a n (first_of a k xs o (λ b j. into b (later j)) i)
     ]
   ]
@@ -104,6 +117,7 @@ module _ (q : QueryValue) (s : List Sign) (p : IsPart q s) where
   pub record Name (a : Attr) : Type 0 where
     pub name : Attr
     pub names : NamesClass q s name
+    pub among : Has (attrs_of q.atoms) name
     pub same : AreOneClass q s name a
 
   pub name_of : (a : Attr) → Contains (attrs_of q.atoms) a → Name a
@@ -112,9 +126,10 @@ module _ (q : QueryValue) (s : List Sign) (p : IsPart q s) where
       record {
         name = r.name;
         names = record {
-          named = Contains-from_has (attrs_of q.atoms) r.name r.among;
-          first = λ b c l. r.least b (Has-from_contains (attrs_of q.atoms) b c.left) (class_then b r.name a c r.same) l;
+          named = inl (Contains-from_has (attrs_of q.atoms) r.name r.among);
+          first = λ b c l. r.least b (Has-from_contains (attrs_of q.atoms) b (class-named b r.name c (Contains-from_has (attrs_of q.atoms) r.name r.among))) (class_then b r.name a c r.same) l;
         };
+        among = r.among;
         same = r.same;
       }
 
@@ -151,7 +166,7 @@ module _ (q : QueryValue) (s : List Sign) (p : IsPart q s) where
     unbounded = λ b. m.unbounded (bounded-along n a c b);
     other = m.other;
     inequality = record {
-      across = record { left = c.left; right = m.inequality.across.right; across = λ e. m.inequality.across.across (sym c.stream ∙ e) };
+      across = record { left = class-named n a c m.inequality.across.left; right = m.inequality.across.right; across = λ e. m.inequality.across.across (sym c.stream ∙ e) };
       less = less-left a n (element.Attr m.other) (class_turned n a c) m.inequality.less;
       needed = λ r. m.inequality.needed (redundant-left n a (element.Attr m.other) c r);
     };
@@ -162,7 +177,7 @@ module _ (q : QueryValue) (s : List Sign) (p : IsPart q s) where
     unbounded = λ b. m.unbounded (bounded-along n a c b);
     other = m.other;
     inequality = record {
-      across = record { left = m.inequality.across.left; right = c.left; across = λ e. m.inequality.across.across (e ∙ c.stream) };
+      across = record { left = m.inequality.across.left; right = class-named n a c m.inequality.across.right; across = λ e. m.inequality.across.across (e ∙ c.stream) };
       less = less-right a n (element.Attr m.other) (class_turned n a c) m.inequality.less;
       needed = λ r. m.inequality.needed (redundant-right n a (element.Attr m.other) c r);
     };

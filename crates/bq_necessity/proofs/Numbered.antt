@@ -19,6 +19,8 @@ use Rattle.bq_laws.proofs.Sufficiency.{synopsis-suffices}
 use Rattle.bq_laws.proofs.Merge.{synopses-merge, printed-grows}
 use Rattle.bq_laws.proofs.Numbering.{synopsis-has-cells}
 use Rattle.bq_laws.proofs.Interleaving.{appended, ended}
+use Rattle.bq_necessity.specs.Plain.{HasNoDomains}
+use Rattle.bq_necessity.proofs.Plainly.{row-none, rows-none}
 use Rattle.bq_necessity.specs.States.{Evaluator, after, IsRight}
 use Rattle.bq_necessity.proofs.Pairing.{paired, parted, parted-paired, coded, numbers, numbers-coded}
 use Rattle.bq_necessity.proofs.Numbering.{cell_at, number, cells-numbered}
@@ -64,7 +66,7 @@ cells-again q plan h =
     ∙ ap (λ (k : ℕ). map cell_at (numbers k (coded (map number cells)))) n
     ∙ ap (map cell_at) (numbers-coded (map number cells)) ∙ cells-numbered cells
 
-module _ (q : QueryValue) (plan : List PartPlan) (within : IsWithinLimits q) (is : IsPlanned q plan) (violation : IsViolation q None) where
+module _ (q : QueryValue) (plan : List PartPlan) (within : IsWithinLimits q) (none : HasNoDomains q) (is : IsPlanned q plan) (violation : IsViolation q None) where
   table-stands : (h : List Arrival) → table_of q plan (standing q plan h) ≡ printed q h
   unfolding state table_of
   table-stands h =
@@ -73,12 +75,12 @@ module _ (q : QueryValue) (plan : List PartPlan) (within : IsWithinLimits q) (is
       let n : length ts ≡ length marks = sym (length-map ts (mark (printed q h))) in
       ap (λ (p : ℕ × ℕ). ascending (once (marked (numbers (length ts) p.1) ts))) (parted-paired (coded (map number (synopsis q plan h))) (coded marks))
       ∙ ap (λ (k : ℕ). ascending (once (marked (numbers k (coded marks)) ts))) n
-      ∙ ap (λ (ms : List ℕ). ascending (once (marked ms ts))) (numbers-coded marks) ∙ table-again ts (printed q h) (printed-is q plan within is violation h)
+      ∙ ap (λ (ms : List ℕ). ascending (once (marked ms ts))) (numbers-coded marks) ∙ table-again ts (printed q h) (printed-is q plan within none is violation h)
 
   says-right : (h : List Arrival) (r : Arrival) → (evaluator q plan).says (standing q plan h) r ≡ new_answers q h r
   says-right h r =
       ap (λ (cells : List Cell). said q plan cells (table_of q plan (standing q plan h)) r) (cells-again q plan h)
-      ∙ ap (λ (table : List (List ℤ)). said q plan (synopsis q plan h) table r) (table-stands h) ∙ synopsis-suffices q plan within is violation h r
+      ∙ ap (λ (table : List (List ℤ)). said q plan (synopsis q plan h) table r) (table-stands h) ∙ synopsis-suffices q plan within is violation h r (rows-none q none h) (row-none q none r)
 
   printed-next : (h : List Arrival) (r : Arrival) → cond q.distinct (merged_table (printed q h) (new_answers q h r)) [] ≡ printed q (h ++ r ∷ [])
   printed-next h r = by q.distinct refl
@@ -93,7 +95,7 @@ module _ (q : QueryValue) (plan : List PartPlan) (within : IsWithinLimits q) (is
   steps-right h r =
       ap (λ (cells : List Cell). grown q plan cells (table_of q plan (standing q plan h)) r) (cells-again q plan h)
       ∙ ap (λ (table : List (List ℤ)). grown q plan (synopsis q plan h) table r) (table-stands h)
-      ∙ ap (λ (new : List (List ℤ)). state q plan (merge plan (synopsis q plan h) (synopsis q plan (r ∷ []))) (cond q.distinct (merged_table (printed q h) new) [])) (synopsis-suffices q plan within is violation h r)
+      ∙ ap (λ (new : List (List ℤ)). state q plan (merge plan (synopsis q plan h) (synopsis q plan (r ∷ []))) (cond q.distinct (merged_table (printed q h) new) [])) (synopsis-suffices q plan within is violation h r (rows-none q none h) (row-none q none r))
       ∙ ap₂ (state q plan) (sym (synopses-merge q plan h (r ∷ []))) (printed-next h r)
 
   comes : (done h : List Arrival) → after (evaluator q plan) (standing q plan done) h ≡ standing q plan (done ++ h)

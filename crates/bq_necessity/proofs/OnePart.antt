@@ -22,6 +22,8 @@ use Rattle.bq_model.specs.Order.{IsBounded}
 use Rattle.bq_model.specs.Links.{IsEquality, IsRedundant, between, equal_left, equal_right}
 use Rattle.bq_model.specs.Violation as Violation
 use Rattle.bq_model.specs.Violation.{condition_lt, Failure, failure_lt, Breaks, Fails, IsViolation}
+use Rattle.bq_necessity.specs.Plain.{HasNoDomains}
+use Rattle.bq_necessity.proofs.Plainly.{over-ends}
 use Rattle.bq_necessity.specs.Cases.{s_a, s_b}
 
 before-first : (b : Attr) → attr_lt b s_a ≡ true → ⊥
@@ -62,13 +64,13 @@ module _ (q : QueryValue) (s : List Sign) (p : IsPart q s) (alone : (t : List Si
         (subst (λ t. Breaks q t g.condition g.attr) (sym (only_one (g.part - 1) s k.signs k.at)) k.breaks),
   )
 
-module _ (q : QueryValue) (s : List Sign) (p : IsPart q s) (fives : consts_of q.atoms ≡ pos 5 ∷ []) where
+module _ (q : QueryValue) (s : List Sign) (p : IsPart q s) (none : HasNoDomains q) (fives : consts_of q.atoms ≡ pos 5 ∷ []) where
   five : (k : ℤ) → Contains (consts_of q.atoms) k → pos 5 ≡ k
   five k h = elim (has_cases (pos 5) k [] (Has-from_contains (pos 5 ∷ []) k (subst (λ ks. Contains ks k) fives h))) [ inl e ↦ e | inr i ↦ Has-nil i ]
 
   -- what is above the constant in one assignment is unbounded
   pub unbounded : (a : Attr) → pos 5 <ℤ p.one a → IsBounded q s a → ⊥
-  unbounded a l b = unbounded_over_all q s p a (λ k h. (let e : pos 5 ≡ k = five k h in omega (arith, ints, e, l))) b
+  unbounded a l b = unbounded_over_all q s p a (over-ends q none (λ k. k <ℤ p.one a) (λ k h. (let e : pos 5 ≡ k = five k h in omega (arith, ints, e, l)))) b
 
   -- nothing lies between the sides of an inequality that are next to each other in one assignment
   pub needed : (x y : Attr) → p.one y ≡ p.one x +ℤ pos 1 → pos 5 <ℤ p.one x → ¬ IsRedundant q s (element.Attr x) (element.Attr y)

@@ -7,12 +7,13 @@ use Rattle.bq_laws.proofs.Limits.{within-limits}
 use Rattle.bq_necessity.specs.States.{Evaluator, after, AreWithin}
 use Rattle.bq_necessity.specs.Premises.{PremisesAreNeeded}
 use Rattle.bq_necessity.specs.Cases.{s_a, seen}
+use Rattle.bq_necessity.proofs.Plainly.{plain-if}
 use Rattle.bq_necessity.proofs.OneState.{filters-need-few-states}
 use Rattle.bq_necessity.proofs.WorkedRefusals.{refusals-are-these}
 
 -- SELECT S.a FROM S
 abbrev all_rows : QueryValue
-all_rows = record { distinct = false; from = 0 ∷ []; select = s_a ∷ []; atoms = [] }
+all_rows = record { distinct = false; from = 0 ∷ []; select = s_a ∷ []; atoms = []; domains = [] }
 
 no_row : (e : Evaluator) (bound : ℕ) (history : List Arrival) → length history ≤ 0 → AreWithin bound history → Contains (e.start ∷ []) (after e e.start history)
 no_row e bound [] l w = (0, omega arith, refl)
@@ -22,12 +23,12 @@ pub premises-are-needed : PremisesAreNeeded
 premises-are-needed = record {
   violation = λ f. (
       let one = filters-need-few-states all_rows refl in
-      f all_rows (within-limits all_rows refl) one.0 one.1 one.2
+      f all_rows (within-limits all_rows refl) (plain-if all_rows refl refl) one.0 one.1 one.2
       );
   right = λ f. (
       let one = filters-need-few-states all_rows refl in
       let refused = refusals-are-these.selected true in
-      f (seen true) refused.limits record { part = 1; condition = C1; attr = s_a } refused.violation one.0 one.2
+      f (seen true) refused.limits refused.plain record { part = 1; condition = C1; attr = s_a } refused.violation one.0 one.2
       );
   fewer = λ e bound. record { states = e.start ∷ []; size = omega arith; all = no_row e bound };
 }

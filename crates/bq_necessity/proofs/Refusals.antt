@@ -13,9 +13,12 @@ use Rattle.bq_model.specs.Query.{QueryValue, IsColumn, IsWithinLimits, attrs_of,
 use Rattle.bq_model.specs.Assignment.{Assignment}
 use Rattle.bq_model.specs.Parts.{InPart, IsPart}
 use Rattle.bq_model.specs.Order.{IsBounded}
+use Rattle.bq_model.specs.Laws.{ends_of}
 use Rattle.bq_model.specs.Links.{AreAcross, IsInequality, between}
 use Rattle.bq_model.specs.Violation.{Breaks}
+use Rattle.bq_necessity.specs.Plain.{IsPlain}
 use Rattle.bq_necessity.specs.States.{NeedsStates}
+use Rattle.bq_necessity.proofs.Plainly.{over-ends}
 use Rattle.bq_necessity.proofs.Families.{IsFamily, upward-needs, downward-needs, alone-needs, single-needs}
 use Rattle.bq_necessity.proofs.OneLong.{mixed}
 use Rattle.bq_necessity.proofs.Mixing.{score, score-fails, score-other, mixed-here, mixed-other, mixed-fails}
@@ -40,7 +43,7 @@ not_filter : (d : Bool) (n : ℕ) → (not d && nat_eq n 1) ≡ false → n ≡ 
 not_filter true n h e = refl
 not_filter false n h e = absurd (grind (arith, h, e))
 
-module _ (q : QueryValue) (within : IsWithinLimits q) (s : List Sign) (p : IsPart q s) where
+module _ (q : QueryValue) (within : IsWithinLimits q) (plain : IsPlain q) (s : List Sign) (p : IsPart q s) where
   pub named_place : (a : Attr) → Contains (attrs_of q.atoms) a → a.stream < length q.from
   named_place a h = (All-contains (IsColumn (length q.from)) (attrs_of q.atoms) a within.attrs h).stream
 
@@ -58,7 +61,7 @@ module _ (q : QueryValue) (within : IsWithinLimits q) (s : List Sign) (p : IsPar
   ]
     where
       g : Spread q s a
-      g = spread q s p a n
+      g = spread q plain.domains s p a n
 
       family : IsFamily q a.stream g.w
       family = record {
@@ -76,22 +79,22 @@ module _ (q : QueryValue) (within : IsWithinLimits q) (s : List Sign) (p : IsPar
       alone-needs q within a.stream g.w family (two_streams a b across) g.base 1 (near_spread g) (λ i j l. off i j (differ_if_less i j l)) (λ i j l. off i j (differ_if_more i j l))
     where
       g : Spread q s a
-      g = spread q s p a n
+      g = spread q plain.domains s p a n
 
       family : IsFamily q a.stream g.w
       family = record { at = named_place a across.left; each = λ i. (g.inside i).holds }
 
       off : (i j : ℕ) → i ≢ j → score q a.stream (g.w j) (g.w i) ≡ 0
-      off i j d = score-fails q a.stream (g.w j) (g.w i) (mixed-fails q s a.stream (g.w j) (g.w i) (g.inside j) (g.inside i) (λ m.
+      off i j d = score-fails q a.stream (g.w j) (g.w i) (mixed-fails q plain s a.stream (g.w j) (g.w i) (g.inside j) (g.inside i) (λ m.
           g.apart i j d (equal (g.w i) (g.inside i)
           ∙ sym (mixed-other a.stream (g.w j) (g.w i) b (λ e. across.across (sym e)))
           ∙ sym (equal (mixed a.stream (g.w j) (g.w i)) m)
           ∙ mixed-here a.stream (g.w j) (g.w i) a refl)))
 
-  -- both sides of x < y above all constants, or both below all
+  -- both sides of x < y above all ends, or both below all
   pub data SameEnd (x y : Attr) : Type 0 where
-    both_up : ((k : ℤ) → Contains (consts_of q.atoms) k → k <ℤ p.one x) → SameEnd x y
-    both_down : ((k : ℤ) → Contains (consts_of q.atoms) k → p.one y <ℤ k) → SameEnd x y
+    both_up : ((k : ℤ) → Contains (ends_of q) k → k <ℤ p.one x) → SameEnd x y
+    both_down : ((k : ℤ) → Contains (ends_of q) k → p.one y <ℤ k) → SameEnd x y
 
   -- no constant parts the sides of a nonredundant inequality
   no_constant : (x y : Attr) → IsInequality q s x y → (k : ℤ) → Contains (consts_of q.atoms) k → p.one x <ℤ k → k <ℤ p.one y → ⊥
@@ -101,16 +104,16 @@ module _ (q : QueryValue) (within : IsWithinLimits q) (s : List Sign) (p : IsPar
   pub same-end : (x y : Attr) → IsInequality q s x y → ¬ IsBounded q s x → ¬ IsBounded q s y → SameEnd x y
   same-end x y i n m = elim (standing q s p x) [
     | enclosed low high g h l o ↦ absurd (n (bounded_between q s p x low high i.across.left g h l o))
-    | too_high f ↦ both_up f
+    | too_high f ↦ both_up (over-ends q plain.domains (λ k. k <ℤ p.one x) f)
     | too_low f ↦ elim (standing q s p y) [
       | enclosed low high g h l o ↦ absurd (m (bounded_between q s p y low high i.across.right g h l o))
-      | too_low g ↦ both_down g
-      | too_high g ↦ both_up (λ k h. absurd (no_constant x y i k h (f k h) (g k h)))
+      | too_low g ↦ both_down (over-ends q plain.domains (λ k. p.one y <ℤ k) g)
+      | too_high g ↦ both_up (over-ends q plain.domains (λ k. k <ℤ p.one x) (λ k h. absurd (no_constant x y i k h (f k h) (g k h))))
     ]
   ]
 
   pub unbounded-both : (x y : Attr) → IsInequality q s x y → (¬ IsBounded q s x) ⊎ (¬ IsBounded q s y) → (¬ IsBounded q s x) × (¬ IsBounded q s y)
-  unbounded-both x y i o = elim (sides_are_bounded_together q s p x y i) [
+  unbounded-both x y i o = elim (sides_are_bounded_together q plain.domains s p x y i) [
     | inl b ↦ absurd (elim o [ inl n ↦ n b.0 | inr n ↦ n b.1 ])
     | inr b ↦ b
   ]
@@ -125,7 +128,7 @@ module _ (q : QueryValue) (within : IsWithinLimits q) (s : List Sign) (p : IsPar
 
     -- a mixture in which x is not below y fails
     fails_if : (place : ℕ) (v u : Assignment) → InPart q s v → InPart q s u → mixed place v u y ≤ℤ mixed place v u x → score q place v u ≡ 0
-    fails_if place v u a b l = score-fails q place v u (mixed-fails q s place v u a b (λ m.
+    fails_if place v u a b l = score-fails q place v u (mixed-fails q plain s place v u a b (λ m.
         let k : mixed place v u x <ℤ mixed place v u y = i.less.less (mixed place v u) m in omega (arith, ints, l, k)))
 
     near_steps : (z m j n f : ℕ) → j < n → z ≤ m + j * f → z ≤ m + f * n
@@ -155,11 +158,11 @@ module _ (q : QueryValue) (within : IsWithinLimits q) (s : List Sign) (p : IsPar
         → (b -ℤ pos (n * nat_abs (b -ℤ a))) ≤ℤ (a -ℤ pos (m * nat_abs (b -ℤ a)))
     far_down a b m n l h = omega (arith, ints, l, h)
 
-    rising : ((k : ℤ) → Contains (consts_of q.atoms) k → k <ℤ p.one x) → (w : ℕ → Assignment) × Moves w
+    rising : ((k : ℤ) → Contains (ends_of q) k → k <ℤ p.one x) → (w : ℕ → Assignment) × Moves w
     unfolding far
     rising f =
         let c : ℤ = p.one x -ℤ pos 1 in
-        let over : (k : ℤ) → Contains (consts_of q.atoms) k → k ≤ℤ c = λ k h. (let l : k <ℤ p.one x = f k h in omega (arith, ints, l)) in
+        let over : (k : ℤ) → Contains (ends_of q) k → k ≤ℤ c = λ k h. (let l : k <ℤ p.one x = f k h in omega (arith, ints, l)) in
         let lx : c <ℤ p.one x = omega (arith, ints) in
         let ly : c <ℤ p.one y = omega (arith, ints, less) in (
           (λ n. raised_by q s p.one p.inside c over (n * far)),
@@ -171,11 +174,11 @@ module _ (q : QueryValue) (within : IsWithinLimits q) (s : List Sign) (p : IsPar
           },
         )
 
-    falling : ((k : ℤ) → Contains (consts_of q.atoms) k → p.one y <ℤ k) → (w : ℕ → Assignment) × Falls w
+    falling : ((k : ℤ) → Contains (ends_of q) k → p.one y <ℤ k) → (w : ℕ → Assignment) × Falls w
     unfolding far
     falling f =
         let c : ℤ = p.one y +ℤ pos 1 in
-        let under : (k : ℤ) → Contains (consts_of q.atoms) k → c ≤ℤ k = λ k h. (let l : p.one y <ℤ k = f k h in omega (arith, ints, l)) in
+        let under : (k : ℤ) → Contains (ends_of q) k → c ≤ℤ k = λ k h. (let l : p.one y <ℤ k = f k h in omega (arith, ints, l)) in
         let lx : p.one x <ℤ c = omega (arith, ints, less) in
         let ly : p.one y <ℤ c = omega (arith, ints) in (
           (λ n. lowered_by q s p.one p.inside c under (n * far)),
@@ -233,12 +236,12 @@ module _ (q : QueryValue) (within : IsWithinLimits q) (s : List Sign) (p : IsPar
 
   -- whichever condition the part breaks
   pub breaks-need : is_filter q ≡ false → (c : Condition) (a : Attr) → Breaks q s c a → (c ≡ C3 → q.distinct ≡ false) → NeedsStates q
-  breaks-need plain C1 a b d = first-needs plain a b.0 b.1
-  breaks-need plain C2 a b d = elim b.2 [
+  breaks-need joins C1 a b d = first-needs joins a b.0 b.1
+  breaks-need joins C2 a b d = elim b.2 [
     | inl e ↦ second-needs a b.1 b.0 e.across (λ v i. e.equal.equal v i)
     | inr e ↦ second-needs a b.1 b.0 record { left = e.across.right; right = e.across.left; across = λ f. e.across.across (sym f) } (λ v i. sym (e.equal.equal v i))
   ]
-  breaks-need plain C3 a b d = elim b.0 [
+  breaks-need joins C3 a b d = elim b.0 [
     | inl m ↦ (let u = unbounded-both a m.other m.inequality (inl m.unbounded) in
         third-left a m.other m.inequality (d refl) (same-end a m.other m.inequality u.0 u.1))
     | inr m ↦ (let u = unbounded-both m.other a m.inequality (inr m.unbounded) in

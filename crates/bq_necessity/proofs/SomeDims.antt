@@ -14,6 +14,7 @@ use Rattle.bq_model.specs.Parts.{IsPart}
 use Rattle.bq_model.specs.Order.{IsBounded, IsLeast, IsGreatest}
 use Rattle.bq_model.specs.Links.{IsEquality, IsInequality}
 use Rattle.bq_model.specs.Plan.{IsWanted, AreOneClass, NamesClass, IsDim, AreDims, link, link_lt}
+use Rattle.bq_necessity.specs.Plain.{HasNoDomains}
 use Rattle.bq_necessity.proofs.Possible.{Possible, possible, followed, Sifted, sifted, sifted-from, sifted-into, sifted-ascends, Paired, paired-all, paired-from, paired-into, paired-ascends, all-from-has, pairs-ascend}
 use Rattle.bq_necessity.proofs.Naming.{not-itself, bounded-named, class_turned, bounded-along, Name, name_of, some_least, some_greatest}
 
@@ -94,7 +95,7 @@ some_links q R named = followed (sifted P all) (λ r. possible (
     P : Link → Type 0
     P l = R l.left l.right
 
-module _ (q : QueryValue) (s : List Sign) (p : IsPart q s) (place : ℕ) where
+module _ (q : QueryValue) (none : HasNoDomains q) (s : List Sign) (p : IsPart q s) (place : ℕ) where
   -- an attribute that names a dim of the place
   record NamesDim (a : Attr) : Type 0 where
     here : a.stream ≡ place
@@ -129,9 +130,9 @@ module _ (q : QueryValue) (s : List Sign) (p : IsPart q s) (place : ℕ) where
   -- the dim that a bounded column answers by
   dim_name : (a : Attr) → a.stream ≡ place → IsWanted q s a → IsBounded q s a → (n : Attr) × Has (attrs_of q.atoms) n × NamesDim n × AreOneClass q s n a
   dim_name a e w b =
-      let r : Name q s p a = name_of q s p a (Contains-from_has (attrs_of q.atoms) a (bounded-named q s p a b)) in (
+      let r : Name q s p a = name_of q s p a (Contains-from_has (attrs_of q.atoms) a (bounded-named q s p none a b)) in (
         r.name,
-        Has-from_contains (attrs_of q.atoms) r.name r.names.named,
+        r.among,
         record {
           here = r.same.stream ∙ e;
           name = r.names;

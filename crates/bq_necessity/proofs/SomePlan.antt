@@ -1,4 +1,4 @@
--- It cannot be refuted that a query has a plan.
+-- It cannot be refuted that a query without domains has a plan.
 use Rattle.std.proofs.Common.{◌≡◌, ℕ, zero, suc, ◌+◌, ◌<◌, inl, inr, List, [], ◌∷◌, map, length, cond, nat_eq, refl, sym, ap, ◌∙◌, subst, arith, slice_index_or}
 use Rattle.std.specs.Prelude.{IsTrue}
 use Rattle.std.proofs.lemmas.List.Elements.{All-contains}
@@ -15,6 +15,7 @@ use Rattle.bq_model.specs.Parts.{IsPart, AreParts}
 use Rattle.bq_model.specs.Links.{IsEquality, IsInequality}
 use Rattle.bq_model.specs.Boxes.{box_size}
 use Rattle.bq_model.specs.Plan.{AreDims, IsKind, IsStreamPlan, IsPartPlan, IsPlan, FollowIn, Follow}
+use Rattle.bq_necessity.specs.Plain.{HasNoDomains}
 use Rattle.bq_necessity.proofs.Possible.{Possible, possible, followed, Paired, nil, cons, paired-all, paired-from, all-from-has}
 use Rattle.bq_necessity.proofs.Naming.{some_kind}
 use Rattle.bq_necessity.proofs.SomeDims.{some_dims, AreLinks, some_equal, some_less}
@@ -31,7 +32,7 @@ record Bare : Type 0 where
   equal : List Link
   less : List Link
 
-module _ (q : QueryValue) where
+module _ (q : QueryValue) (none : HasNoDomains q) where
   size_of : Kept → ℕ
   size_of k = cond (nat_eq (length q.from) 1) 0 (box_size k.dims)
 
@@ -92,7 +93,7 @@ module _ (q : QueryValue) where
   some_kept : (s : List Sign) → IsPart q s → (place n : ℕ) → Possible (SomeKept s place n)
   some_kept s p place zero = possible record { streams = []; size = refl; all = tt }
   some_kept s p place (suc n) =
-      followed (some_dims q s p place) (λ d. followed (some_kind q s p place) (λ k. followed (some_kept s p (suc place) n) (λ o.
+      followed (some_dims q none s p place) (λ d. followed (some_kind q s p place) (λ k. followed (some_kept s p (suc place) n) (λ o.
       possible record {
         streams = record { dims = d.0; kind = k.0 } ∷ o.streams;
         size = ap suc o.size;

@@ -4,13 +4,16 @@ use Rattle.std.proofs.lemmas.Int.{ints}
 use Rattle.bq_model.proofs.Has.{Contains-from_has}
 use Rattle.bq_model.proofs.Shift.{raised, raised-rises, raised-same, raised-above, lowered, lowered-rises, lowered-same, lowered-below, moved, InPart-moved}
 use Rattle.bq_model.proofs.Bounded.{enclosed, too_high, too_low, standing, bounded_between}
-use Rattle.bq_laws.proofs.NoViolation.{changed, changed-there, still_inside, named_or_free}
+use Rattle.bq_necessity.proofs.Changing.{changed, changed-there, still_inside, named_or_free}
+use Rattle.bq_necessity.proofs.Plainly.{over-ends}
+use Rattle.bq_necessity.specs.Plain.{HasNoDomains}
 use Rattle.bq_model.specs.declared.atom.Attr.{Attr}
 use Rattle.bq_model.specs.declared.part.Sign.{Sign}
-use Rattle.bq_model.specs.Query.{QueryValue, attrs_of, consts_of, attr_eq}
+use Rattle.bq_model.specs.Query.{QueryValue, attrs_of, attr_eq}
 use Rattle.bq_model.specs.Assignment.{Assignment}
 use Rattle.bq_model.specs.Parts.{InPart, IsPart}
 use Rattle.bq_model.specs.Order.{IsBounded}
+use Rattle.bq_model.specs.Laws.{ends_of}
 
 raised_size : (c z : ℤ) (t : ℕ) → nat_abs (raised c t z) ≤ nat_abs z + t
 unfolding raised
@@ -37,7 +40,7 @@ changed_size v a b i = by (attr_eq a b)
     by false = omega (arith, ints)
 
 -- an assignment with all values above a bound raised by a number
-module _ (q : QueryValue) (s : List Sign) (u : Assignment) (inside : InPart q s u) (c : ℤ) (over : (k : ℤ) → Contains (consts_of q.atoms) k → k ≤ℤ c) (t : ℕ) where
+module _ (q : QueryValue) (s : List Sign) (u : Assignment) (inside : InPart q s u) (c : ℤ) (over : (k : ℤ) → Contains (ends_of q) k → k ≤ℤ c) (t : ℕ) where
   pub raised_by : Assignment
   raised_by = moved q s (raised c t) (raised-rises c t) (λ k i. raised-same c t k (over k i)) u inside
 
@@ -58,7 +61,7 @@ module _ (q : QueryValue) (s : List Sign) (u : Assignment) (inside : InPart q s 
   raised-near a = raised_size c (u a) t
 
 -- an assignment with all values below a bound lowered by a number
-module _ (q : QueryValue) (s : List Sign) (u : Assignment) (inside : InPart q s u) (c : ℤ) (under : (k : ℤ) → Contains (consts_of q.atoms) k → c ≤ℤ k) (t : ℕ) where
+module _ (q : QueryValue) (s : List Sign) (u : Assignment) (inside : InPart q s u) (c : ℤ) (under : (k : ℤ) → Contains (ends_of q) k → c ≤ℤ k) (t : ℕ) where
   pub lowered_by : Assignment
   lowered_by = moved q s (lowered c t) (lowered-rises c t) (λ k i. lowered-same c t k (under k i)) u inside
 
@@ -86,11 +89,11 @@ pub record Spread (q : QueryValue) (s : List Sign) (a : Attr) : Type 0 where
   pub base : Assignment
   pub size : (i : ℕ) (b : Attr) → nat_abs (w i b) ≤ nat_abs (base b) + i
 
-spread_named : (q : QueryValue) (s : List Sign) (p : IsPart q s) (a : Attr) → Contains (attrs_of q.atoms) a → ¬ IsBounded q s a → Spread q s a
-spread_named q s p a h n = elim (standing q s p a) [
+spread_named : (q : QueryValue) → HasNoDomains q → (s : List Sign) (p : IsPart q s) (a : Attr) → Contains (attrs_of q.atoms) a → ¬ IsBounded q s a → Spread q s a
+spread_named q none s p a h n = elim (standing q s p a) [
   | enclosed low high i j l m ↦ absurd (n (bounded_between q s p a low high h i j l m))
-  | too_high f ↦ up f
-  | too_low f ↦ down f
+  | too_high f ↦ up (over-ends q none (λ k. k <ℤ p.one a) f)
+  | too_low f ↦ down (over-ends q none (λ k. p.one a <ℤ k) f)
 ]
   where
     above : (x c : ℤ) (i j : ℕ) → x +ℤ pos i ≡ x +ℤ pos j → i ≡ j
@@ -99,10 +102,10 @@ spread_named q s p a h n = elim (standing q s p a) [
     below : (x c : ℤ) (i j : ℕ) → x -ℤ pos i ≡ x -ℤ pos j → i ≡ j
     below x c i j e = omega (arith, ints, e)
 
-    up : ((k : ℤ) → Contains (consts_of q.atoms) k → k <ℤ p.one a) → Spread q s a
+    up : ((k : ℤ) → Contains (ends_of q) k → k <ℤ p.one a) → Spread q s a
     up f =
         let c : ℤ = p.one a -ℤ pos 1 in
-        let over : (k : ℤ) → Contains (consts_of q.atoms) k → k ≤ℤ c = λ k i. (let l : k <ℤ p.one a = f k i in omega (arith, ints, l)) in
+        let over : (k : ℤ) → Contains (ends_of q) k → k ≤ℤ c = λ k i. (let l : k <ℤ p.one a = f k i in omega (arith, ints, l)) in
         let l : c <ℤ p.one a = omega (arith, ints) in
         record {
           w = λ i. raised_by q s p.one p.inside c over i;
@@ -112,10 +115,10 @@ spread_named q s p a h n = elim (standing q s p a) [
           size = λ i b. raised-near q s p.one p.inside c over i b;
         }
 
-    down : ((k : ℤ) → Contains (consts_of q.atoms) k → p.one a <ℤ k) → Spread q s a
+    down : ((k : ℤ) → Contains (ends_of q) k → p.one a <ℤ k) → Spread q s a
     down f =
         let c : ℤ = p.one a +ℤ pos 1 in
-        let under : (k : ℤ) → Contains (consts_of q.atoms) k → c ≤ℤ k = λ k i. (let l : p.one a <ℤ k = f k i in omega (arith, ints, l)) in
+        let under : (k : ℤ) → Contains (ends_of q) k → c ≤ℤ k = λ k i. (let l : p.one a <ℤ k = f k i in omega (arith, ints, l)) in
         let l : p.one a <ℤ c = omega (arith, ints) in
         record {
           w = λ i. lowered_by q s p.one p.inside c under i;
@@ -126,12 +129,12 @@ spread_named q s p a h n = elim (standing q s p a) [
         }
 
 -- an unbounded column has them, whether or not an atom names it
-pub spread : (q : QueryValue) (s : List Sign) → IsPart q s → (a : Attr) → ¬ IsBounded q s a → Spread q s a
-spread q s p a n = elim (named_or_free (attrs_of q.atoms) a) [
-  | inl h ↦ spread_named q s p a (Contains-from_has (attrs_of q.atoms) a h) n
+pub spread : (q : QueryValue) → HasNoDomains q → (s : List Sign) → IsPart q s → (a : Attr) → ¬ IsBounded q s a → Spread q s a
+spread q none s p a n = elim (named_or_free (attrs_of q.atoms) a) [
+  | inl h ↦ spread_named q none s p a (Contains-from_has (attrs_of q.atoms) a h) n
   | inr free ↦ record {
     w = λ i. changed p.one a (pos i);
-    inside = λ i. still_inside q s p.one p.inside a free (pos i);
+    inside = λ i. still_inside q none s p.one p.inside a free (pos i);
     apart = λ i j d e. d (same i j (sym (changed-there p.one a (pos i)) ∙ e ∙ changed-there p.one a (pos j)));
     base = p.one;
     size = λ i b. changed_size p.one a b i;

@@ -22,6 +22,8 @@ use Rattle.bq_laws.specs.Cases.{dim, one_cell}
 use Rattle.bq_laws.proofs.Limits.{within-limits}
 use Rattle.bq_laws.proofs.PlanIs.{plan_test}
 use Rattle.bq_laws.proofs.PlanKeeps.{unbroken, no-violation}
+use Rattle.bq_necessity.specs.Plain.{IsPlain}
+use Rattle.bq_necessity.proofs.Plainly.{plain-if}
 use Rattle.bq_necessity.proofs.OnePart.{refused-by, unbounded, needed, all_apart, no_equality, selects-bounded}
 use Rattle.bq_necessity.proofs.HotUnbounded.{hot-refused}
 use Rattle.bq_necessity.proofs.HotCounted.{counted-refused}
@@ -31,14 +33,14 @@ use Rattle.bq_necessity.proofs.Refused.{refused-needs-states}
 at : ℤ → ℤ → ℤ → Assignment
 at a c d x = cond (nat_eq x.stream 0) (cond (nat_eq x.column 0) a (pos 5)) (cond (nat_eq x.column 0) c d)
 
-abbrev is_refused : (q : QueryValue) (c : Condition) → IsWithinLimits q → IsViolation q (Some (at_first c)) → IsRefused q (at_first c)
-is_refused q c w v = record { limits = w; violation = v; needs = refused-needs-states q w (at_first c) v }
+abbrev is_refused : (q : QueryValue) (c : Condition) → IsWithinLimits q → IsPlain q → IsViolation q (Some (at_first c)) → IsRefused q (at_first c)
+is_refused q c w p v = record { limits = w; plain = p; violation = v; needs = refused-needs-states q w p (at_first c) v }
 
 -- S.a is selected, and unbounded
 module _ (distinct : Bool) where
   seen_part : IsPart (seen distinct) (Sign.Gt ∷ [])
   unfolding at pairs
-  seen_part = record { one = at (pos 6) (pos 6) (pos 6); inside = record { holds = refl; signs = refl } }
+  seen_part = record { one = at (pos 6) (pos 6) (pos 6); inside = record { holds = refl; domains = refl; signs = refl } }
 
   seen_alone : (t : List Sign) → IsPart (seen distinct) t → (Sign.Gt ∷ []) ≡ t
   unfolding pairs
@@ -51,7 +53,7 @@ module _ (distinct : Bool) where
   six-above = omega (arith, ints)
 
   seen_breaks : Breaks (seen distinct) (Sign.Gt ∷ []) C1 s_a
-  seen_breaks = ((0, omega arith, refl), unbounded (seen distinct) (Sign.Gt ∷ []) seen_part refl s_a six-above)
+  seen_breaks = ((0, omega arith, refl), unbounded (seen distinct) (Sign.Gt ∷ []) seen_part refl refl s_a six-above)
 
   no_filter : is_filter (seen distinct) ≡ false
   no_filter = by distinct
@@ -62,7 +64,7 @@ module _ (distinct : Bool) where
 
   seen-refused : IsRefused (seen distinct) (at_first C1)
   seen-refused =
-      is_refused (seen distinct) C1 (within-limits (seen distinct) refl)
+      is_refused (seen distinct) C1 (within-limits (seen distinct) refl) (plain-if (seen distinct) refl refl)
       (refused-by (seen distinct) (Sign.Gt ∷ []) seen_part seen_alone C1 no_filter seen_breaks first_condition)
     where
       first_condition : (d : Condition) → condition_lt d C1 ≡ true → (b : Attr) → Breaks (seen distinct) (Sign.Gt ∷ []) d b → ⊥
@@ -96,7 +98,7 @@ module _ (distinct : Bool) where
 
   paid_part : IsPart q three_signs
   unfolding at pairs
-  paid_part = record { one = at (pos 6) (pos 6) (pos 6); inside = record { holds = refl; signs = refl } }
+  paid_part = record { one = at (pos 6) (pos 6) (pos 6); inside = record { holds = refl; domains = refl; signs = refl } }
 
   paid_shape : (v : Assignment) → signs_of q v ≡ shape (v s_a) (v s_b) (v t_c)
   unfolding pairs shape
@@ -138,8 +140,8 @@ module _ (distinct : Bool) where
 
   paid-refused : IsRefused q (at_first C2)
   paid-refused =
-      is_refused q C2 (within-limits q refl)
-      (refused-by q three_signs paid_part paid_alone C2 paid_filter (unbounded q three_signs paid_part refl s_a paid_six, t_c, inl paid_equal) first_condition)
+      is_refused q C2 (within-limits q refl) (plain-if q refl refl)
+      (refused-by q three_signs paid_part paid_alone C2 paid_filter (unbounded q three_signs paid_part refl refl s_a paid_six, t_c, inl paid_equal) first_condition)
     where
       first_condition : (d : Condition) → condition_lt d C2 ≡ true → (b : Attr) → Breaks q three_signs d b → ⊥
       first_condition C1 l b h = h.1 (selects-bounded q three_signs (λ v i. paid_five v i.holds) refl b h.0)
@@ -152,7 +154,7 @@ u = under false
 
 under_part : IsPart u three_signs
 unfolding at pairs
-under_part = record { one = at (pos 6) (pos 7) (pos 7); inside = record { holds = refl; signs = refl } }
+under_part = record { one = at (pos 6) (pos 7) (pos 7); inside = record { holds = refl; domains = refl; signs = refl } }
 
 under_shape : (v : Assignment) → signs_of u v ≡ shape (v s_a) (v s_b) (v t_c)
 unfolding pairs shape
@@ -189,18 +191,18 @@ under_apart = refl
 
 under_link : IsMinRef u three_signs s_a
 under_link = record {
-  unbounded = unbounded u three_signs under_part refl s_a under_six;
+  unbounded = unbounded u three_signs under_part refl refl s_a under_six;
   other = t_c;
   inequality = record {
     across = record { left = (0, omega arith, refl); right = (2, omega arith, refl); across = λ e. omega (arith, e) };
     less = record { less = λ v i. under_less v i.holds };
-    needed = needed u three_signs under_part refl s_a t_c under_next under_six;
+    needed = needed u three_signs under_part refl refl s_a t_c under_next under_six;
   };
 }
 
 under-refused : IsRefused u (at_first C3)
 under-refused =
-    is_refused u C3 (within-limits u refl)
+    is_refused u C3 (within-limits u refl) (plain-if u refl refl)
     (refused-by u three_signs under_part under_alone C3 refl (inl under_link, (λ e. absurd cc)) first_condition)
   where
     first_condition : (d : Condition) → condition_lt d C3 ≡ true → (b : Attr) → Breaks u three_signs d b → ⊥
@@ -232,7 +234,7 @@ module _ (distinct : Bool) where
 
   window_part : IsPart w four_signs
   unfolding at pairs
-  window_part = record { one = at (pos 7) (pos 6) (pos 8); inside = record { holds = refl; signs = refl } }
+  window_part = record { one = at (pos 7) (pos 6) (pos 8); inside = record { holds = refl; domains = refl; signs = refl } }
 
   window_shape : (v : Assignment) → signs_of w v ≡ shape_of_four (v s_a) (v s_b) (v t_c) (v t_d)
   unfolding pairs shape_of_four
@@ -278,23 +280,23 @@ module _ (distinct : Bool) where
 
   window_min : IsMinRef w four_signs s_a
   window_min = record {
-    unbounded = unbounded w four_signs window_part refl s_a window_seven;
+    unbounded = unbounded w four_signs window_part refl refl s_a window_seven;
     other = t_d;
     inequality = record {
       across = record { left = (0, omega arith, refl); right = (3, omega arith, refl); across = λ e. omega (arith, e) };
       less = record { less = λ v i. window_right v i.holds };
-      needed = needed w four_signs window_part refl s_a t_d window_last window_seven;
+      needed = needed w four_signs window_part refl refl s_a t_d window_last window_seven;
     };
   }
 
   window_max : IsMaxRef w four_signs s_a
   window_max = record {
-    unbounded = unbounded w four_signs window_part refl s_a window_seven;
+    unbounded = unbounded w four_signs window_part refl refl s_a window_seven;
     other = t_c;
     inequality = record {
       across = record { left = (2, omega arith, refl); right = (0, omega arith, refl); across = λ e. omega (arith, e) };
       less = record { less = λ v i. window_left v i.holds };
-      needed = needed w four_signs window_part refl t_c s_a window_next window_six;
+      needed = needed w four_signs window_part refl refl t_c s_a window_next window_six;
     };
   }
 
@@ -310,7 +312,7 @@ module _ (distinct : Bool) where
 
   window-refused : IsRefused w (at_first C3)
   window-refused =
-      is_refused w C3 (within-limits w refl)
+      is_refused w C3 (within-limits w refl) (plain-if w refl refl)
       (refused-by w four_signs window_part window_alone C3 window_filter (inl window_min, (λ e. two_refs)) first_condition)
     where
       first_condition : (d : Condition) → condition_lt d C3 ≡ true → (b : Attr) → Breaks w four_signs d b → ⊥

@@ -1,4 +1,4 @@
--- The counterpart: a query of which no condition is violated has an evaluator that is right and has few states.
+-- The counterpart: a query without domains of which no condition is violated has an evaluator that is right and has few states.
 use Rattle.std.specs.Prelude.{◌≡◌, ◌≢◌, ◌↔◌, ℕ, ◌+◌, ◌*◌, ◌^◌, if◌then◌else◌, List}
 use Rattle.std.specs.declared.option.Option.{Option}
 use Rattle.std.specs.declared.option.Option.TheVariants.{None}
@@ -7,6 +7,7 @@ use Rattle.bq_model.specs.Query.{QueryValue, IsWithinLimits}
 use Rattle.bq_model.specs.Violation.{Failure, IsViolation}
 use Rattle.bq_model.specs.Plan.{IsPlanned}
 use Rattle.bq_model.specs.Numbers.{cell_count, answer_bound}
+use Rattle.bq_necessity.specs.Plain.{HasNoDomains, IsPlain}
 use Rattle.bq_necessity.specs.States.{Evaluator, IsRight, HasStates, HasFewStates, NeedsStates}
 
 -- so many states for the announced cells and answers, after n rows with values within a bound: without DISTINCT a cell is a count of rows;
@@ -14,10 +15,10 @@ use Rattle.bq_necessity.specs.States.{Evaluator, IsRight, HasStates, HasFewState
 abbrev pub states_of : QueryValue → List PartPlan → ℕ → ℕ → ℕ
 states_of q plan n bound = if q.distinct then (2 * bound + 3) ^ cell_count plan * 2 ^ answer_bound q plan else (n + 1) ^ cell_count plan
 
--- where no condition is violated and there is a plan, some evaluator is right and has no more states than that
+-- where no column has a domain, no condition is violated and there is a plan, some evaluator is right and has no more states than that
 abbrev pub AcceptedHasStates : Type 0
 AcceptedHasStates =
-    (q : QueryValue) (plan : List PartPlan) → IsWithinLimits q → IsPlanned q plan → IsViolation q None
+    (q : QueryValue) (plan : List PartPlan) → IsWithinLimits q → HasNoDomains q → IsPlanned q plan → IsViolation q None
     → (e : Evaluator) × IsRight q e × ((n bound : ℕ) → HasStates e n bound (states_of q plan n bound))
 
 -- the number of states is at most a power of a multiple of the number of rows and the bound on their values
@@ -30,22 +31,22 @@ pub record HasPolynomiallyManyStates (e : Evaluator) : Type 0 where
 abbrev pub PolynomiallyManyAreFew : Type 0
 PolynomiallyManyAreFew = (e : Evaluator) → HasPolynomiallyManyStates e → HasFewStates e
 
--- where there is a plan, some evaluator is right and has few states, exactly where no condition is violated
+-- where a plain query has a plan, some evaluator is right and has few states, exactly where no condition is violated
 abbrev pub FewStatesDecide : Type 0
 FewStatesDecide =
-    (q : QueryValue) (plan : List PartPlan) → IsWithinLimits q → IsPlanned q plan
+    (q : QueryValue) (plan : List PartPlan) → IsWithinLimits q → IsPlain q → IsPlanned q plan
     → (violation : Option Failure) → IsViolation q violation
     → ((e : Evaluator) × IsRight q e × HasFewStates e) ↔ (violation ≡ None)
 
 -- the same whether or not a plan is known: no evaluator that is right has few states, exactly where a condition is violated
 abbrev pub VerdictIsExact : Type 0
 VerdictIsExact =
-    (q : QueryValue) → IsWithinLimits q
+    (q : QueryValue) → IsWithinLimits q → IsPlain q
     → (violation : Option Failure) → IsViolation q violation
     → NeedsStates q ↔ (violation ≢ None)
 
--- no query lacks a plan, whether or not a condition is violated: that none is its plan is absurd
+-- no query without domains lacks a plan, whether or not a condition is violated: that none is its plan is absurd
 abbrev pub NoneLacksPlan : Type 0
 NoneLacksPlan =
-    (q : QueryValue) (violation : Option Failure) → IsViolation q violation
+    (q : QueryValue) → HasNoDomains q → (violation : Option Failure) → IsViolation q violation
     → ¬ ((plan : List PartPlan) → ¬ IsPlanned q plan)

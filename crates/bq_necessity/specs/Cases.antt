@@ -11,6 +11,7 @@ use Rattle.bq_model.specs.Query.{QueryValue, IsWithinLimits}
 use Rattle.bq_model.specs.Violation.{Failure, IsViolation}
 use Rattle.bq_laws.specs.Cases.{col, atom}
 use Rattle.bq_laws.specs.HotRooms.{hot_rooms}
+use Rattle.bq_necessity.specs.Plain.{IsPlain}
 use Rattle.bq_necessity.specs.States.{NeedsStates}
 
 -- the columns S.a, S.b, T.c and T.d
@@ -36,7 +37,7 @@ above_five a = atom (element.Attr a) Op.Gt (element.Const (pos 5))
 
 -- a query over S and T
 abbrev pub over_two : Bool → Attr → List Atom → QueryValue
-over_two distinct selected atoms = record { distinct = distinct; from = 0 ∷ 1 ∷ []; select = selected ∷ []; atoms = atoms }
+over_two distinct selected atoms = record { distinct = distinct; from = 0 ∷ 1 ∷ []; select = selected ∷ []; atoms = atoms; domains = [] }
 
 -- SELECT [DISTINCT] S.a FROM S, T WHERE S.a > 5
 abbrev pub seen : Bool → QueryValue
@@ -72,9 +73,10 @@ hot_counted = record hot_rooms { distinct = false }
 abbrev pub at_first : Condition → Failure
 at_first condition = record { part = 1; condition = condition; attr = s_a }
 
--- the query is within limits, and this is its violation: so it needs many states
+-- the query is within limits and plain, and this is its violation: so it needs many states
 pub record IsRefused (q : QueryValue) (f : Failure) : Type 0 where
   pub limits : IsWithinLimits q
+  pub plain : IsPlain q
   pub violation : IsViolation q (Some f)
   pub needs : NeedsStates q
 

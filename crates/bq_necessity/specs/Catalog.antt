@@ -6,6 +6,7 @@ use Rattle.bq_model.specs.declared.atom.Attr.{Attr}
 use Rattle.bq_model.specs.Query.{QueryValue, IsWithinLimits, attrs_of}
 use Rattle.bq_model.specs.Meaning.{Arrival, new_answers}
 use Rattle.bq_model.specs.Violation.{Failure, IsViolation}
+use Rattle.bq_necessity.specs.Plain.{IsPlain}
 use Rattle.bq_necessity.specs.States.{Evaluator, after, AreWithin}
 
 -- the query names columns that its streams have
@@ -38,8 +39,8 @@ pub record HasFewOverFor (width : ℕ → ℕ) (e : Evaluator) (b : ℕ) : Type 
   pub states : HasStatesOver width e n (b * suc n) most
   pub few : most < 2 ^ n
 
--- a query over a catalog that is refused has no evaluator of few states, even if it is right only on rows of the catalog
+-- a plain query over a catalog that is refused has no evaluator of few states, even if it is right only on rows of the catalog
 abbrev pub CatalogNeedsStates : Type 0
 CatalogNeedsStates =
-    (q : QueryValue) → IsWithinLimits q → (f : Failure) → IsViolation q (Some f) → (width : ℕ → ℕ) → IsOver width q
+    (q : QueryValue) → IsWithinLimits q → IsPlain q → (f : Failure) → IsViolation q (Some f) → (width : ℕ → ℕ) → IsOver width q
     → (e : Evaluator) → IsRightOver width q e → ¬ ((b : ℕ) → HasFewOverFor width e b)

@@ -4,6 +4,7 @@ use Rattle.std.specs.declared.option.Option.TheVariants.{Some}
 use Rattle.bq_model.specs.Query.{QueryValue, IsWithinLimits, is_filter}
 use Rattle.bq_model.specs.Meaning.{Arrival, new_answers}
 use Rattle.bq_model.specs.Violation.{Failure, IsViolation}
+use Rattle.bq_necessity.specs.Plain.{IsPlain}
 
 -- an evaluator whose states are numbers: the first state, the state after one more row, and what is answered to a row
 pub record Evaluator : Type 0 where
@@ -51,9 +52,9 @@ HasFewStates e = (b : ℕ) → HasFewFor e b
 abbrev pub NeedsStates : QueryValue → Type 0
 NeedsStates q = (e : Evaluator) → IsRight q e → ¬ HasFewStates e
 
--- a query that is refused has no evaluator of few states
+-- a plain query that is refused has no evaluator of few states
 abbrev pub RefusedNeedsStates : Type 0
-RefusedNeedsStates = (q : QueryValue) → IsWithinLimits q → (f : Failure) → IsViolation q (Some f) → NeedsStates q
+RefusedNeedsStates = (q : QueryValue) → IsWithinLimits q → IsPlain q → (f : Failure) → IsViolation q (Some f) → NeedsStates q
 
 -- different histories lead to different states
 abbrev pub KeepsHistories : Evaluator → Type 0

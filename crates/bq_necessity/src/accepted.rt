@@ -7,23 +7,23 @@ pub fn polynomially_many_are_few()
     ensures { PolynomiallyManyAreFew }
 {}
 
-/// Where no condition is violated and there is a plan, some evaluator is right and has few states, by the announced cells and answers:
+/// Where no column has a domain, no condition is violated and there is a plan, some evaluator is right and has few states, by the announced cells and answers:
 /// without DISTINCT at most (n + 1)^cells after n rows, with it at most (2 bound + 3)^cells 2^answers after rows with values within the bound.
 pub fn accepted_has_states()
     ensures { AcceptedHasStates }
 {}
 
-/// A query that has a plan has an evaluator that is right and has few states, exactly where no condition is violated.
+/// A query without soft comparisons and domains that has a plan has an evaluator that is right and has few states, exactly where no condition is violated.
 pub fn few_states_decide()
     ensures { FewStatesDecide }
 {}
 
-/// No evaluator that is right on a query has few states, exactly where a condition is violated.
+/// No evaluator that is right on a query without soft comparisons and domains has few states, exactly where a condition is violated.
 pub fn verdict_is_exact()
     ensures { VerdictIsExact }
 {}
 
-/// No query lacks a plan.
+/// No query without domains lacks a plan.
 pub fn none_lacks_plan()
     ensures { NoneLacksPlan }
 {}

@@ -10,7 +10,7 @@ use Rattle.bq_parser.specs.declared.tree.OperandAst.TheVariants.{Column, Integer
 use Rattle.bq_parser.specs.declared.tree.AtomAst.{AtomAst}
 use Rattle.bq_parser.specs.declared.tree.Statement.{Statement}
 use Rattle.bq_model.specs.declared.atom.Op.{Op}
-use Rattle.bq_model.specs.declared.atom.Op.TheVariants.{Lt, Eq, Gt}
+use Rattle.bq_model.specs.declared.atom.Op.TheVariants.{Lt, Eq, Gt, Le, Ge, Ne}
 use Rattle.bq_parser.specs.Grammar.{Lexeme, word, key, comma, closing, semicolon, separated, name_tokens, column_tokens, atom_tokens, where_tokens, distinct_tokens, statement_tokens, IsColumn, HasColumn, IsWhole, Spells}
 use Rattle.bq_parser.specs.declared.draft.Form.TheVariants as forms
 use Rattle.bq_parser.specs.Reading.{Parts, no_parts, built, finished, walk}
@@ -55,6 +55,18 @@ atom_walk p (Column c) Gt (Column d) h = (record p { stream = d.stream; left = C
 atom_walk p (Column c) Gt (Integer y) h = (record p { stream = c.stream; left = Column c; op = Gt; atoms = p.atoms ++ (record { left = Column c; op = Gt; right = Integer y }) ∷ [] }, refl, refl)
 atom_walk p (Integer z) Gt (Column d) h = (record p { stream = d.stream; left = Integer z; op = Gt; atoms = p.atoms ++ (record { left = Integer z; op = Gt; right = Column d }) ∷ [] }, refl, refl)
 atom_walk p (Integer z) Gt (Integer y) h = absurd (elim h [ inl e ↦ e | inr e ↦ e ])
+atom_walk p (Column c) Le (Column d) h = (record p { stream = d.stream; left = Column c; op = Le; atoms = p.atoms ++ (record { left = Column c; op = Le; right = Column d }) ∷ [] }, refl, refl)
+atom_walk p (Column c) Le (Integer y) h = (record p { stream = c.stream; left = Column c; op = Le; atoms = p.atoms ++ (record { left = Column c; op = Le; right = Integer y }) ∷ [] }, refl, refl)
+atom_walk p (Integer z) Le (Column d) h = (record p { stream = d.stream; left = Integer z; op = Le; atoms = p.atoms ++ (record { left = Integer z; op = Le; right = Column d }) ∷ [] }, refl, refl)
+atom_walk p (Integer z) Le (Integer y) h = absurd (elim h [ inl e ↦ e | inr e ↦ e ])
+atom_walk p (Column c) Ge (Column d) h = (record p { stream = d.stream; left = Column c; op = Ge; atoms = p.atoms ++ (record { left = Column c; op = Ge; right = Column d }) ∷ [] }, refl, refl)
+atom_walk p (Column c) Ge (Integer y) h = (record p { stream = c.stream; left = Column c; op = Ge; atoms = p.atoms ++ (record { left = Column c; op = Ge; right = Integer y }) ∷ [] }, refl, refl)
+atom_walk p (Integer z) Ge (Column d) h = (record p { stream = d.stream; left = Integer z; op = Ge; atoms = p.atoms ++ (record { left = Integer z; op = Ge; right = Column d }) ∷ [] }, refl, refl)
+atom_walk p (Integer z) Ge (Integer y) h = absurd (elim h [ inl e ↦ e | inr e ↦ e ])
+atom_walk p (Column c) Ne (Column d) h = (record p { stream = d.stream; left = Column c; op = Ne; atoms = p.atoms ++ (record { left = Column c; op = Ne; right = Column d }) ∷ [] }, refl, refl)
+atom_walk p (Column c) Ne (Integer y) h = (record p { stream = c.stream; left = Column c; op = Ne; atoms = p.atoms ++ (record { left = Column c; op = Ne; right = Integer y }) ∷ [] }, refl, refl)
+atom_walk p (Integer z) Ne (Column d) h = (record p { stream = d.stream; left = Integer z; op = Ne; atoms = p.atoms ++ (record { left = Integer z; op = Ne; right = Column d }) ∷ [] }, refl, refl)
+atom_walk p (Integer z) Ne (Integer y) h = absurd (elim h [ inl e ↦ e | inr e ↦ e ])
 
 atoms_walk : (p : Parts) (a : AtomAst) (atoms : List AtomAst) → AllByRecursion HasColumn (a ∷ atoms) → (q : Parts) × (walk AtomLeft p (separated (key AndKey) atom_tokens (a ∷ atoms)) ≡ Ok (AfterAtom, q)) × WithAtoms p (p.atoms ++ a ∷ atoms) q
 atoms_walk p a [] h = atom_walk p a.left a.op a.right h.0

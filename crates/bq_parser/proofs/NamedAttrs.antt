@@ -1,5 +1,5 @@
 -- The columns that the atoms of a query name are there where their sides are.
-use Rattle.std.proofs.Common.{◌≡◌, ℕ, ◌<◌, List, [], ◌∷◌, cond, Bool, true, false, Contains, All, arith, subst, sym}
+use Rattle.std.proofs.Common.{ℕ, List, [], ◌∷◌, cond, Bool, true, false}
 use Rattle.std.proofs.lemmas.List.Elements.{All-contains}
 use Rattle.bq_model.proofs.Has.{Has, first, later, Has-from_contains, Contains-from_has}
 use Rattle.bq_model.specs.declared.atom.Attr.{Attr}
@@ -8,7 +8,7 @@ use Rattle.bq_model.specs.declared.atom.Element.{Element}
 use Rattle.bq_model.specs.declared.atom.Element.TheVariants as element
 use Rattle.bq_model.specs.Query.{attr_lt, with_new, attrs_with, attrs_of}
 use Rattle.bq_schema.specs.Streams.{Shape}
-use Rattle.bq_parser.specs.Resolution.{IsColumnOf, HasSide, HasSides, HasNamed}
+use Rattle.bq_parser.specs.Resolution.{IsColumnOf, HasSide, HasSides}
 use Rattle.bq_parser.specs.Laws.{AttributesAreNamed}
 
 one_more : {X : Type 0} (P : X → Type 0) (y : X) (xs : List X) → P y → ((z : X) → Has xs z → P z) → (z : X) → Has (y ∷ xs) z → P z

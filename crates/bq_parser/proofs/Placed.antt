@@ -1,5 +1,5 @@
 -- The streams and columns of a resolved query are there, also after more streams were added.
-use Rattle.std.proofs.Common.{◌≡◌, ℕ, zero, suc, ◌<◌, Bool, true, false, cond, nat_lt, List, [], ◌∷◌, ◌++◌, length, map, get_or, Option, Some, None, is_some, unwrap_or, option_and_then, ap, sym, ◌∙◌, subst, arith}
+use Rattle.std.proofs.Common.{◌≡◌, ℕ, zero, suc, ◌<◌, Bool, true, false, cond, nat_lt, List, [], ◌∷◌, ◌++◌, length, map, get_or, Option, Some, None, is_some, unwrap_or, option_and_then, ap, sym, ◌∙◌, subst, arith, refl}
 use Rattle.std.specs.List.{list_all, All, AllByRecursion}
 use Rattle.std.specs.Str.{bytes_eq}
 use Rattle.std.proofs.lemmas.List.{get_or-map, length-map}
@@ -88,6 +88,7 @@ has_named streams s h k =
       from = All-map (λ n. n < length streams) (number_for streams) from (All-from_recursion _ from (streams_there streams from from (both_left _ _ h)));
       select = All-map (IsColumnOf streams (numbers streams from)) (attr_for streams from) s.select.items (All-from_recursion _ s.select.items selected);
       atoms = All-map (HasSides streams (numbers streams from)) (atom_for streams from) s.atoms.items (All-from_recursion _ s.atoms.items (sides_there streams from s.atoms.items compared));
+      domains = refl;
     }
 
 -- what holds where less is known
@@ -127,6 +128,7 @@ stays_named streams more q there = record {
   from = still _ _ (stream_stays streams more) q.from there.from;
   select = still _ _ (attr_stays streams more q.from) q.select there.select;
   atoms = still _ _ (sides_stay streams more q.from) q.atoms there.atoms;
+  domains = there.domains;
 }
 
 -- what a query names is there after a stream was added or refused

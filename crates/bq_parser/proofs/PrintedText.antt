@@ -2,14 +2,14 @@
 use Rattle.std.proofs.Common.{◌≡◌, ℕ, Bool, true, false, cond, ◌||◌, List, [], ◌∷◌, ◌++◌, flat_map, codes, refl, ap, sym, ◌∙◌, append_assoc, append-nil}
 use Rattle.bq_text.specs.declared.key.Key.TheVariants.{SelectKey, DistinctKey, FromKey, WhereKey, AndKey}
 use Rattle.bq_model.specs.declared.atom.Op.{Op}
-use Rattle.bq_model.specs.declared.atom.Op.TheVariants.{Lt, Eq, Gt}
+use Rattle.bq_model.specs.declared.atom.Op.TheVariants.{Lt, Eq, Gt, Le, Ge, Ne}
 use Rattle.bq_parser.specs.declared.tree.ColumnAst.{ColumnAst}
 use Rattle.bq_parser.specs.declared.tree.OperandAst.{OperandAst}
 use Rattle.bq_parser.specs.declared.tree.OperandAst.TheVariants.{Column, Integer}
 use Rattle.bq_parser.specs.declared.tree.AtomAst.{AtomAst}
 use Rattle.bq_parser.specs.declared.tree.SelectAst.{SelectAst}
 use Rattle.bq_parser.specs.declared.tree.Statement.TheVariants.{CreateStream, CreateQuery}
-use Rattle.bq_parser.specs.Grammar.{Lexeme, word, number, key, comma, opening, closing, less, equal, greater, separated, name_tokens, column_tokens, operand_tokens, op_token, atom_tokens, where_tokens, distinct_tokens, select_tokens}
+use Rattle.bq_parser.specs.Grammar.{Lexeme, word, number, key, comma, opening, closing, less, equal, greater, less_equal, greater_equal, unequal, separated, name_tokens, column_tokens, operand_tokens, op_token, atom_tokens, where_tokens, distinct_tokens, select_tokens}
 use Rattle.bq_parser.specs.Printed.{text_for, joins_next, joins_last, gap, printed, printed_form}
 use Rattle.bq_parser.specs.PrintedParts.{each_behind, listed, name_text, column_text, operand_text, op_text, atom_text, names_text, columns_text, atoms_text, distinct_text, sources_text, selection_text, select_text, query_text, stream_text}
 use Rattle.bq_parser.proofs.Said.{select_grouped}
@@ -91,6 +91,9 @@ op_behind : (op : Op) (o : OperandAst) (rest : List Lexeme) → behind_name (op_
 op_behind Lt o rest = ap (λ bs. 32 ∷ bs) (printed_first less (operand_tokens o ++ rest)) ∙ ap (λ bs. 32 ∷ 60 ∷ bs) (operand_behind less refl o rest)
 op_behind Eq o rest = ap (λ bs. 32 ∷ bs) (printed_first equal (operand_tokens o ++ rest)) ∙ ap (λ bs. 32 ∷ 61 ∷ bs) (operand_behind equal refl o rest)
 op_behind Gt o rest = ap (λ bs. 32 ∷ bs) (printed_first greater (operand_tokens o ++ rest)) ∙ ap (λ bs. 32 ∷ 62 ∷ bs) (operand_behind greater refl o rest)
+op_behind Le o rest = ap (λ bs. 32 ∷ bs) (printed_first less_equal (operand_tokens o ++ rest)) ∙ ap (λ bs. 32 ∷ 60 ∷ 61 ∷ bs) (operand_behind less_equal refl o rest)
+op_behind Ge o rest = ap (λ bs. 32 ∷ bs) (printed_first greater_equal (operand_tokens o ++ rest)) ∙ ap (λ bs. 32 ∷ 62 ∷ 61 ∷ bs) (operand_behind greater_equal refl o rest)
+op_behind Ne o rest = ap (λ bs. 32 ∷ bs) (printed_first unequal (operand_tokens o ++ rest)) ∙ ap (λ bs. 32 ∷ 60 ∷ 62 ∷ bs) (operand_behind unequal refl o rest)
 
 atom_behind : (l : Lexeme) → joins_next l ≡ false → (a : AtomAst) (rest : List Lexeme) → behind l (atom_tokens a ++ rest) ≡ 32 ∷ (atom_text a ++ behind_name rest)
 atom_behind l h a rest =

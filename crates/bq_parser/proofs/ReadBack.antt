@@ -1,13 +1,13 @@
 -- A printed list of tokens is read as these tokens.
-use Rattle.std.proofs.Common.{◌≡◌, ℕ, ◌+◌, ◌-◌, Bool, true, false, cond, ◌||◌, List, [], ◌∷◌, ◌++◌, length, take, drop, Result, Ok, refl, ap, sym, ◌∙◌, append_assoc, append-nil, length-append, arith, subst, Option, Some, inl}
+use Rattle.std.proofs.Common.{◌≡◌, ℕ, ◌+◌, ◌-◌, Bool, true, false, cond, ◌||◌, List, [], ◌∷◌, ◌++◌, length, take, drop, Result, Ok, refl, ap, sym, ◌∙◌, append_assoc, append-nil, length-append, arith, subst, Option, Some, None, inl}
 use Rattle.std.specs.Prelude.{slice_range}
 use Rattle.std.specs.List.{AllByRecursion}
 use Rattle.std.proofs.lemmas.List.{take_at, drop_at}
 use Rattle.bq_text.specs.Word.{is_word_byte}
 use Rattle.bq_lexer.specs.declared.token.Token.{Token}
-use Rattle.bq_lexer.specs.Tokens.{tokens, tokens_from, with_first}
+use Rattle.bq_lexer.specs.Tokens.{tokens, tokens_from, with_first, front_pair}
 use Rattle.bq_lexer.proofs.TokenLists.{token_front, blank_front}
-use Rattle.bq_parser.specs.Grammar.{Lexeme, word, number, key, comma, point, opening, closing, less, equal, greater, semicolon}
+use Rattle.bq_parser.specs.Grammar.{Lexeme, word, number, key, comma, point, opening, closing, less, equal, greater, less_equal, greater_equal, unequal, semicolon}
 use Rattle.bq_parser.specs.Reading.{kind_at}
 use Rattle.bq_parser.specs.Syntax.{lexeme_as, lexemes}
 use Rattle.bq_parser.specs.Printed.{text_for, joins_next, joins_last, gap, printed}
@@ -38,6 +38,9 @@ says_itself closing h = refl
 says_itself less h = refl
 says_itself equal h = refl
 says_itself greater h = refl
+says_itself less_equal h = refl
+says_itself greater_equal h = refl
+says_itself unequal h = refl
 says_itself semicolon h = refl
 
 -- the text of a token is cut out of the line
@@ -85,16 +88,39 @@ stops_behind closing [] = refl
 stops_behind closing (x ∷ ls) = refl
 stops_behind _ ls = refl
 
+-- nor does it make another symbol with `<` or `>`
+less_behind : (m : Lexeme) (ls : List Lexeme) → front_pair (60 ∷ (cond (joins_last m) [] (32 ∷ []) ++ printed (m ∷ ls))) ≡ None
+less_behind comma [] = refl
+less_behind comma (x ∷ ls) = refl
+less_behind point [] = refl
+less_behind point (x ∷ ls) = refl
+less_behind closing [] = refl
+less_behind closing (x ∷ ls) = refl
+less_behind _ ls = refl
+
+greater_behind : (m : Lexeme) (ls : List Lexeme) → front_pair (62 ∷ (cond (joins_last m) [] (32 ∷ []) ++ printed (m ∷ ls))) ≡ None
+greater_behind comma [] = refl
+greater_behind comma (x ∷ ls) = refl
+greater_behind point [] = refl
+greater_behind point (x ∷ ls) = refl
+greater_behind closing [] = refl
+greater_behind closing (x ∷ ls) = refl
+greater_behind _ ls = refl
+
 may_follow : (l m : Lexeme) (ls : List Lexeme) → MayFollow l (gap l m ++ printed (m ∷ ls))
 may_follow (word w) m ls = stops_behind m ls
 may_follow (number z) m ls = stops_behind m ls
 may_follow (key k) m ls = stops_behind m ls
+may_follow less m ls = less_behind m ls
+may_follow greater m ls = greater_behind m ls
 may_follow _ _ _ = tt
 
 may_end_line : (l : Lexeme) → MayFollow l []
 may_end_line (word w) = tt
 may_end_line (number z) = tt
 may_end_line (key k) = tt
+may_end_line less = refl
+may_end_line greater = refl
 may_end_line _ = tt
 
 spaced : (o : Bool) (before : List ℕ) (m : Lexeme) (ls : List Lexeme) → ((b : List ℕ) → Said (b ++ printed (m ∷ ls)) (length b) (printed (m ∷ ls)) (m ∷ ls)) → Said (before ++ (cond o [] (32 ∷ []) ++ printed (m ∷ ls))) (length before) (cond o [] (32 ∷ []) ++ printed (m ∷ ls)) (m ∷ ls)

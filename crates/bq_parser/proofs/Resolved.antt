@@ -1,5 +1,5 @@
 -- What a query is named with stands for this query.
-use Rattle.std.proofs.Common.{◌≡◌, ◌≢◌, ℕ, zero, suc, ◌<◌, inl, inr, Bool, true, false, cond, not, ◌&&◌, ◌||◌, nat_lt, List, [], ◌∷◌, ◌++◌, length, map, get_or, Option, Some, None, is_some, unwrap_or, option_and_then, Result, Ok, Err, refl, ap, ap₂, sym, ◌∙◌, subst, arith}
+use Rattle.std.proofs.Common.{◌≡◌, ◌≢◌, ℕ, zero, suc, ◌<◌, ◌≤◌, inl, inr, Bool, true, false, cond, not, ◌&&◌, ◌||◌, nat_lt, List, [], ◌∷◌, ◌++◌, length, map, get_or, Option, Some, None, is_some, unwrap_or, option_and_then, Result, Ok, Err, refl, ap, ap₂, sym, ◌∙◌, subst, arith}
 use Rattle.std.specs.List.{list_any, list_all, position, position_or_len, All, AllPairs, AllByRecursion}
 use Rattle.std.specs.Str.{bytes_eq}
 use Rattle.std.proofs.lemmas.Bool.Decides.{nat_tests}
@@ -8,6 +8,7 @@ use Rattle.std.proofs.lemmas.List.Elements.{recursion_from_All, All-get_or}
 use Rattle.std.proofs.lemmas.List.Folds.{list_all-append}
 use Rattle.std.proofs.lemmas.List.Sums.{position_or_len_is}
 use Rattle.bq_model.specs.declared.atom.Attr.{Attr}
+use Rattle.bq_model.specs.declared.atom.Domain.{Domain}
 use Rattle.bq_model.specs.declared.atom.Element.{Element}
 use Rattle.bq_model.specs.declared.atom.Element.TheVariants as element
 use Rattle.bq_model.specs.declared.atom.Atom.{Atom}
@@ -144,6 +145,11 @@ module _ (streams : List Shape) (is : IsCatalog streams) where
           list_all-append p (map (column_named streams from) attrs) (columns_in (map (atom_named streams from) atoms))
           ∙ both (list_all p (map (column_named streams from) attrs)) _ (all_selected attrs (recursion_from_All (IsColumnOf streams from) attrs h)) (all_compared atoms (recursion_from_All (HasSides streams from) atoms k))
 
+-- no more than none is none
+no_domains : (ds : List Domain) → length ds ≤ 0 → ds ≡ []
+no_domains [] h = refl
+no_domains (d ∷ ds) h = absurd (omega (arith, h))
+
 resolves : (a b c : Bool) (q : QueryValue) → a ≡ true → b ≡ true → c ≡ true → cond {A = Result QueryValue ResolveError} (not a) (Err UnknownStream) (cond (not b) (Err UnknownColumn) (cond (not c) (Err SelfJoin) (Ok q))) ≡ Ok q
 resolves true true true q h k l = refl
 resolves true true false q h k l = cc
@@ -163,8 +169,9 @@ resolves_back streams q is limits there =
     let attrs_back = map_same (IsColumnOf streams from) (column_named streams from) (attr_for streams s.from.items) (attr_back streams is from there.from apart) q.select (recursion_from_All (IsColumnOf streams from) q.select there.select) in
     let atoms_back = map_same (HasSides streams from) (atom_named streams from) (atom_for streams s.from.items) (atom_back streams is from there.from apart) q.atoms (recursion_from_All (HasSides streams from) q.atoms there.atoms) in
     let same : query_for streams s ≡ q =
-    ap (λ (f : List ℕ). let r : QueryValue = record { distinct = q.distinct; from = f; select = (query_for streams s).select; atoms = (query_for streams s).atoms } in r) numbers_back
-    ∙ ap₂ (λ (a : List Attr) (t : List Atom). let r : QueryValue = record { distinct = q.distinct; from = from; select = a; atoms = t } in r) attrs_back atoms_back in
+    ap (λ (f : List ℕ). let r : QueryValue = record { distinct = q.distinct; from = f; select = (query_for streams s).select; atoms = (query_for streams s).atoms; domains = [] } in r) numbers_back
+    ∙ ap₂ (λ (a : List Attr) (t : List Atom). let r : QueryValue = record { distinct = q.distinct; from = from; select = a; atoms = t; domains = [] } in r) attrs_back atoms_back
+    ∙ ap (λ (d : List Domain). let r : QueryValue = record { distinct = q.distinct; from = from; select = q.select; atoms = q.atoms; domains = d } in r) (sym (no_domains q.domains limits.few_domains)) in
     resolves (has_streams streams s) (has_columns streams s) (all_differ s.from.items) (query_for streams s)
     (both (list_all (λ name. is_some (stream_number streams name)) s.from.items) _ (all_known streams is from numbers) placed)
     under

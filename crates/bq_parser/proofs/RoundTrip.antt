@@ -5,7 +5,7 @@ use Rattle.bq_text.specs.Name.{is_name}
 use Rattle.bq_lexer.specs.declared.token.Token.{Token}
 use Rattle.bq_lexer.specs.Tokens.{tokens}
 use Rattle.bq_parser.specs.declared.tree.Statement.{Statement}
-use Rattle.bq_parser.specs.Grammar.{Lexeme, word, number, key, comma, point, opening, closing, less, equal, greater, semicolon, statement_tokens, Spells}
+use Rattle.bq_parser.specs.Grammar.{Lexeme, word, number, key, comma, point, opening, closing, less, equal, greater, less_equal, greater_equal, unequal, semicolon, statement_tokens, Spells}
 use Rattle.bq_parser.specs.Syntax.{lexemes, lexeme_of, IsFaultOf, StopsAt}
 use Rattle.bq_parser.specs.Limits.{word_in, number_in, is_far}
 use Rattle.bq_parser.specs.Laws.{PrintsBack, FaultsAreNone}
@@ -32,6 +32,9 @@ sound (closing ∷ ls) n z = (tt, sound ls n z)
 sound (less ∷ ls) n z = (tt, sound ls n z)
 sound (equal ∷ ls) n z = (tt, sound ls n z)
 sound (greater ∷ ls) n z = (tt, sound ls n z)
+sound (less_equal ∷ ls) n z = (tt, sound ls n z)
+sound (greater_equal ∷ ls) n z = (tt, sound ls n z)
+sound (unequal ∷ ls) n z = (tt, sound ls n z)
 sound (semicolon ∷ ls) n z = (tt, sound ls n z)
 
 pub prints_back : PrintsBack

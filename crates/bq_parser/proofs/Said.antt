@@ -15,7 +15,7 @@ use Rattle.bq_lexer.proofs.TextKinds.{word_text}
 use Rattle.bq_text.specs.Name.{is_name}
 use Rattle.bq_text.specs.declared.key.Key.TheVariants.{SelectKey, AndKey, FromKey}
 use Rattle.bq_model.specs.declared.atom.Op.{Op}
-use Rattle.bq_model.specs.declared.atom.Op.TheVariants.{Lt, Eq, Gt}
+use Rattle.bq_model.specs.declared.atom.Op.TheVariants.{Lt, Eq, Gt, Le, Ge, Ne}
 use Rattle.bq_parser.specs.declared.tree.ColumnAst.{ColumnAst}
 use Rattle.bq_parser.specs.declared.tree.OperandAst.{OperandAst}
 use Rattle.bq_parser.specs.declared.tree.OperandAst.TheVariants.{Column, Integer}
@@ -63,6 +63,9 @@ long_as kinds.Close w from to le e = refl
 long_as kinds.Less w from to le e = refl
 long_as kinds.Equal w from to le e = refl
 long_as kinds.Greater w from to le e = refl
+long_as kinds.LessEqual w from to le e = refl
+long_as kinds.GreaterEqual w from to le e = refl
+long_as kinds.Unequal w from to le e = refl
 long_as kinds.Semi w from to le e = refl
 
 cut_length : (line : List ℕ) (t : Token) → IsCut line t → length (slice_range line t.from t.to) ≡ t.to - t.from
@@ -106,6 +109,9 @@ named_as kinds.Close w k h = tt
 named_as kinds.Less w k h = tt
 named_as kinds.Equal w k h = tt
 named_as kinds.Greater w k h = tt
+named_as kinds.LessEqual w k h = tt
+named_as kinds.GreaterEqual w k h = tt
+named_as kinds.Unequal w k h = tt
 named_as kinds.Semi w k h = tt
 
 -- where no name is too long, each word is a name
@@ -166,6 +172,9 @@ number_op : (op : Op) → number_in (op_token op) ≡ []
 number_op Lt = refl
 number_op Eq = refl
 number_op Gt = refl
+number_op Le = refl
+number_op Ge = refl
+number_op Ne = refl
 
 numbers_operand : (o : OperandAst) → flat_map number_in (operand_tokens o) ≡ integer_in o
 numbers_operand (Column c) = refl

@@ -1,5 +1,5 @@
 -- A printed list of tokens is read as these tokens.
-use Rattle.std.proofs.Common.{◌≡◌, ◌≢◌, ℕ, suc, ◌+◌, ◌<◌, ◌^◌, Bool, true, false, cond, ◌&&◌, ◌||◌, List, [], ◌∷◌, ◌++◌, length, take, Some, refl, ap, ◌∙◌, arith, get_or, inl, inr, ◌⊎◌, subst, ℤ, lit<, one-add, pos, negsuc, neg_ℤ, ltb-true}
+use Rattle.std.proofs.Common.{◌≡◌, ◌≢◌, ℕ, suc, ◌+◌, ◌<◌, ◌^◌, Bool, true, false, cond, ◌&&◌, ◌||◌, List, [], ◌∷◌, ◌++◌, length, take, Option, Some, None, refl, ap, ◌∙◌, arith, get_or, inl, inr, ◌⊎◌, subst, ℤ, lit<, one-add, pos, negsuc, neg_ℤ, ltb-true}
 use Rattle.std.proofs.lemmas.Bool.{false≢true}
 use Rattle.std.specs.Fmt.{decimal}
 use Rattle.std.proofs.lemmas.Fmt.{decimal_nonempty, digits_decimal, digits_value-decimal}
@@ -13,13 +13,13 @@ use Rattle.bq_text.specs.Name.{is_name}
 use Rattle.bq_text.specs.Value.{integer, fits_i64, amount}
 use Rattle.bq_lexer.specs.declared.token.TokenKind.{TokenKind}
 use Rattle.bq_lexer.specs.declared.token.TokenKind.TheVariants as kinds
-use Rattle.bq_lexer.specs.Tokens.{longest, is_blank, word_kind, symbol_of}
+use Rattle.bq_lexer.specs.Tokens.{longest, is_blank, word_kind, symbol_of, symbol_pair, front_pair}
 use Rattle.bq_text.specs.declared.key.Key.TheVariants.{CreateKey, StreamKey, QueryKey, AsKey, SelectKey, DistinctKey, FromKey, WhereKey, AndKey, ExplainKey, DropKey, InKey, SharedKey, CheckpointKey, ResumeKey}
 use Rattle.std.specs.Prelude.{codes}
 use Rattle.std.proofs.lemmas.Bool.Decides.{nat_tests}
-use Rattle.bq_lexer.proofs.Longest.{letter_longest, digit_longest, sign_longest, symbol_longest}
+use Rattle.bq_lexer.proofs.Longest.{letter_longest, digit_longest, sign_longest, two_or_one, other_longest, no_front_pair}
 use Rattle.bq_parser.proofs.Names.{name_facts}
-use Rattle.bq_parser.specs.Grammar.{Lexeme, word, number, key, comma, point, opening, closing, less, equal, greater, semicolon}
+use Rattle.bq_parser.specs.Grammar.{Lexeme, word, number, key, comma, point, opening, closing, less, equal, greater, less_equal, greater_equal, unequal, semicolon}
 use Rattle.bq_parser.specs.Reading.{kind_at}
 use Rattle.bq_parser.specs.Printed.{text_for}
 
@@ -53,6 +53,8 @@ abbrev pub MayFollow : Lexeme → List ℕ → Type 0
 MayFollow (word w) rest = StopsFor is_word_byte rest
 MayFollow (number z) rest = StopsFor is_word_byte rest
 MayFollow (key k) rest = StopsFor is_word_byte rest
+MayFollow less rest = front_pair (60 ∷ rest) ≡ None
+MayFollow greater rest = front_pair (62 ∷ rest) ≡ None
 MayFollow _ rest = Unit {0}
 
 -- the tokens that a line can have
@@ -80,8 +82,17 @@ word_front b t rest kind l all is s =
       letter_high b l,
     )
 
-symbol_front : (b : ℕ) (kind : TokenKind) (rest : List ℕ) → is_letter b ≡ false → is_digit b ≡ false → b ≢ 43 → b ≢ 45 → symbol_of b ≡ Some kind → is_blank b ≡ false → (longest (b ∷ rest) ≡ Some (kind, 1)) × (0 < 1) × (is_blank b ≡ false)
-symbol_front b kind rest l d p m e blank = (symbol_longest b rest kind l d p m e, lit< tt, blank)
+-- a symbol of one byte is read, where the next byte makes none with it
+symbol_front : (b : ℕ) (kind : TokenKind) (rest : List ℕ) → is_letter b ≡ false → is_digit b ≡ false → b ≢ 43 → b ≢ 45 → front_pair (b ∷ rest) ≡ None → symbol_of b ≡ Some kind → is_blank b ≡ false → (longest (b ∷ rest) ≡ Some (kind, 1)) × (0 < 1) × (is_blank b ≡ false)
+symbol_front b kind rest l d p m none e blank =
+    let found : longest (b ∷ rest) ≡ two_or_one (front_pair (b ∷ rest)) (symbol_of b) = other_longest (b ∷ rest) (omega arith) l d p m in
+    (found ∙ ap (λ (o : Option TokenKind). two_or_one o (symbol_of b)) none ∙ ap (two_or_one None) e, lit< tt, blank)
+
+-- a symbol of two bytes is read whole
+pair_front : (b c : ℕ) (kind : TokenKind) (rest : List ℕ) → is_letter b ≡ false → is_digit b ≡ false → b ≢ 43 → b ≢ 45 → symbol_pair b c ≡ Some kind → is_blank b ≡ false → (longest (b ∷ c ∷ rest) ≡ Some (kind, 2)) × (0 < 2) × (is_blank b ≡ false)
+pair_front b c kind rest l d p m e blank =
+    let found : longest (b ∷ c ∷ rest) ≡ two_or_one (symbol_pair b c) (symbol_of b) = other_longest (b ∷ c ∷ rest) (omega arith) l d p m in
+    (found ∙ ap (λ (o : Option TokenKind). two_or_one o (symbol_of b)) e, lit< tt, blank)
 
 or_right : (a b : Bool) → (a || b) ≡ false → b ≡ false
 or_right true b h = cc
@@ -150,11 +161,14 @@ front (key InKey) rest h s = word_front 73 (codes "N") rest (kinds.Reserved InKe
 front (key SharedKey) rest h s = word_front 83 (codes "HARED") rest (kinds.Reserved SharedKey) refl refl refl s
 front (key CheckpointKey) rest h s = word_front 67 (codes "HECKPOINT") rest (kinds.Reserved CheckpointKey) refl refl refl s
 front (key ResumeKey) rest h s = word_front 82 (codes "ESUME") rest (kinds.Reserved ResumeKey) refl refl refl s
-front comma rest h s = symbol_front 44 kinds.Comma rest refl refl (λ e. omega arith) (λ e. omega arith) refl refl
-front point rest h s = symbol_front 46 kinds.Point rest refl refl (λ e. omega arith) (λ e. omega arith) refl refl
-front opening rest h s = symbol_front 40 kinds.Open rest refl refl (λ e. omega arith) (λ e. omega arith) refl refl
-front closing rest h s = symbol_front 41 kinds.Close rest refl refl (λ e. omega arith) (λ e. omega arith) refl refl
-front less rest h s = symbol_front 60 kinds.Less rest refl refl (λ e. omega arith) (λ e. omega arith) refl refl
-front equal rest h s = symbol_front 61 kinds.Equal rest refl refl (λ e. omega arith) (λ e. omega arith) refl refl
-front greater rest h s = symbol_front 62 kinds.Greater rest refl refl (λ e. omega arith) (λ e. omega arith) refl refl
-front semicolon rest h s = symbol_front 59 kinds.Semi rest refl refl (λ e. omega arith) (λ e. omega arith) refl refl
+front comma rest h s = symbol_front 44 kinds.Comma rest refl refl (λ e. omega arith) (λ e. omega arith) (no_front_pair 44 rest (λ e. omega arith) (λ e. omega arith)) refl refl
+front point rest h s = symbol_front 46 kinds.Point rest refl refl (λ e. omega arith) (λ e. omega arith) (no_front_pair 46 rest (λ e. omega arith) (λ e. omega arith)) refl refl
+front opening rest h s = symbol_front 40 kinds.Open rest refl refl (λ e. omega arith) (λ e. omega arith) (no_front_pair 40 rest (λ e. omega arith) (λ e. omega arith)) refl refl
+front closing rest h s = symbol_front 41 kinds.Close rest refl refl (λ e. omega arith) (λ e. omega arith) (no_front_pair 41 rest (λ e. omega arith) (λ e. omega arith)) refl refl
+front less rest h s = symbol_front 60 kinds.Less rest refl refl (λ e. omega arith) (λ e. omega arith) s refl refl
+front equal rest h s = symbol_front 61 kinds.Equal rest refl refl (λ e. omega arith) (λ e. omega arith) (no_front_pair 61 rest (λ e. omega arith) (λ e. omega arith)) refl refl
+front greater rest h s = symbol_front 62 kinds.Greater rest refl refl (λ e. omega arith) (λ e. omega arith) s refl refl
+front less_equal rest h s = pair_front 60 61 kinds.LessEqual rest refl refl (λ e. omega arith) (λ e. omega arith) refl refl
+front greater_equal rest h s = pair_front 62 61 kinds.GreaterEqual rest refl refl (λ e. omega arith) (λ e. omega arith) refl refl
+front unequal rest h s = pair_front 60 62 kinds.Unequal rest refl refl (λ e. omega arith) (λ e. omega arith) refl refl
+front semicolon rest h s = symbol_front 59 kinds.Semi rest refl refl (λ e. omega arith) (λ e. omega arith) (no_front_pair 59 rest (λ e. omega arith) (λ e. omega arith)) refl refl

@@ -1,5 +1,5 @@
 -- The query that a statement asks for is within the limits of a query.
-use Rattle.std.proofs.Common.{◌≡◌, ◌≢◌, ℕ, zero, suc, ◌<◌, ◌≤◌, inl, inr, Bool, true, false, cond, not, ◌&&◌, ◌||◌, ℤ, int_lt, int_eq, nat_lt, List, [], ◌∷◌, ◌++◌, length, map, get_or, Option, Some, None, is_some, unwrap_or, option_and_then, IsTrue, refl, ap, ap₂, sym, ◌∙◌, append_assoc, arith}
+use Rattle.std.proofs.Common.{◌≡◌, ◌≢◌, ℕ, zero, suc, ◌<◌, ◌≤◌, inl, inr, Bool, true, false, cond, not, ◌&&◌, ◌||◌, ℤ, int_lt, int_eq, nat_lt, List, [], ◌∷◌, ◌++◌, length, map, filter, get_or, Option, Some, None, is_some, unwrap_or, option_and_then, IsTrue, refl, subst, ap, ap₂, sym, ◌∙◌, append_assoc, arith}
 use Rattle.std.specs.List.{list_any, list_all, AllPairs, AllByRecursion}
 use Rattle.std.specs.Str.{bytes_eq}
 use Rattle.std.proofs.lemmas.Bool.Decides.{nat_tests, Decides-int_eq}
@@ -10,7 +10,8 @@ use Rattle.std.proofs.lemmas.List.Folds.{list_all-append}
 use Rattle.std.proofs.lemmas.List.Quantifiers.{position-Some}
 use Rattle.std.proofs.lemmas.Slice.Eq.{bytes_eq-Decides}
 use Rattle.bq_model.specs.declared.atom.Attr.{Attr}
-use Rattle.bq_model.specs.Query.{attr_lt, attrs_with, consts_with, attrs_of, consts_of, is_attr, HasAttr, IsShort, IsWithinLimits}
+use Rattle.bq_model.specs.declared.atom.Atom.{Atom}
+use Rattle.bq_model.specs.Query.{attr_lt, attrs_with, consts_with, attrs_of, consts_of, is_attr, is_soft, HasAttr, IsShort, IsWithinLimits}
 use Rattle.bq_model.specs.Query as query
 use Rattle.bq_model.proofs.WithNew.{attr_lt-asymmetric, int_lt-asymmetric}
 use Rattle.bq_schema.specs.Streams.{Shape, IsShape, IsCatalog, stream_number, column_place, shape_at, all_differ}
@@ -23,9 +24,10 @@ use Rattle.bq_parser.specs.declared.tree.Statement.TheVariants.{CreateQuery}
 use Rattle.bq_parser.specs.declared.parsing.What.TheVariants as limits
 use Rattle.bq_parser.specs.Grammar.{IsColumn, HasColumn}
 use Rattle.bq_parser.specs.DraftLimits.{integer_in, integers_in}
-use Rattle.bq_parser.specs.Limits.{names_of, integers_of, column_in, columns_in, same_column, number_of_different, is_long, is_far}
+use Rattle.bq_parser.specs.Limits.{names_of, integers_of, soft_in, column_in, columns_in, same_column, number_of_different, is_long, is_far}
 use Rattle.bq_parser.specs.Resolution.{IsTaken, named_columns, place_in, place_under, number_for, has_streams, has_columns, attr_for, element_for, atom_for, query_for}
 use Rattle.bq_parser.proofs.Said.{numbers_select}
+use Rattle.bq_parser.proofs.Within.{kept_length}
 use Rattle.bq_parser.proofs.Different.{IsOrder, put_all, length-put_all, all_put}
 
 -- FROM order, and then column order
@@ -94,6 +96,7 @@ record Few (s : SelectAst) : Type 0 where
   select : length s.select.items ≤ 8
   from : length s.from.items ≤ 4
   atoms : length s.atoms.items ≤ 16
+  soft : length (soft_in s.atoms.items) ≤ 8
   attrs : number_of_different same_column (columns_in s.atoms.items) ≤ 12
   near : list_any is_far (integers_in s.atoms.items) ≡ false
   consts : number_of_different int_eq (integers_in s.atoms.items) ≤ 6
@@ -106,13 +109,15 @@ few s t =
     let b = not_passed (nat_lt 8 (length s.select.items)) limits.Select _ a.1 in
     let c = not_passed (nat_lt 4 (length s.from.items)) limits.From _ b.1 in
     let d = not_passed (nat_lt 16 (length s.atoms.items)) limits.Atoms _ c.1 in
-    let e = not_passed (nat_lt 12 (number_of_different same_column (columns_in s.atoms.items))) limits.Attrs _ d.1 in
+    let h = not_passed (nat_lt 8 (length (soft_in s.atoms.items))) limits.Soft _ d.1 in
+    let e = not_passed (nat_lt 12 (number_of_different same_column (columns_in s.atoms.items))) limits.Attrs _ h.1 in
     let f = not_passed (list_any is_far (integers_of q)) limits.Value _ e.1 in
     let g = not_passed (nat_lt 6 (number_of_different int_eq (integers_of q))) limits.Consts _ f.1 in
     record {
       select = not_more _ 8 b.0;
       from = not_more _ 4 c.0;
       atoms = not_more _ 16 d.0;
+      soft = not_more _ 8 h.0;
       attrs = not_more _ 12 e.0;
       near = ap (list_any is_far) (sym z) ∙ f.0;
       consts = not_more _ 6 (ap (λ zs. nat_lt 6 (number_of_different int_eq zs)) (sym z) ∙ g.0);
@@ -163,6 +168,11 @@ module _ (streams : List Shape) (from : List (List ℕ)) where
   side : (o : OperandAst) → IsColumn o → IsTrue (is_attr (element_for streams from o))
   side (Column c) h = refl
   side (Integer z) h = absurd h
+
+  -- as many comparisons are soft
+  soft_named : (atoms : List AtomAst) → length (filter (λ (t : Atom). is_soft t.op) (map (atom_for streams from) atoms)) ≡ length (soft_in atoms)
+  soft_named [] = refl
+  soft_named (a ∷ atoms) = kept_length (is_soft a.op) (atom_for streams from a) (filter (λ (t : Atom). is_soft t.op) (map (atom_for streams from) atoms)) a (soft_in atoms) (soft_named atoms)
 
   -- each comparison has a column
   sides : (atoms : List AtomAst) → AllByRecursion HasColumn atoms → AllByRecursion (λ a. HasAttr (atom_for streams from a)) atoms
@@ -243,9 +253,13 @@ within_limits streams s is taken h k differ =
       selected = (omega (arith, length-map s.select.items (attr_for streams from), taken.whole.0), omega (arith, length-map s.select.items (attr_for streams from), least.select));
       select = All-map (query.IsColumn n) (attr_for streams from) s.select.items (All-from_recursion _ s.select.items selected);
       comparisons = omega (arith, length-map atoms (atom_for streams from), least.atoms);
+      few_soft = subst (λ (m : ℕ). m ≤ 8) (sym (soft_named streams from atoms)) least.soft;
       sides = All-map HasAttr (atom_for streams from) atoms (All-from_recursion _ atoms (sides streams from atoms taken.whole.2));
       few_attrs = omega (arith, ap length (attrs_named streams from atoms), length-put_all attr_lt attr_order same_column (attr_for streams from) (alike streams from) (columns_in atoms), least.attrs);
       attrs = rw (attrs_named streams from atoms) (All-from_recursion (query.IsColumn n) _ (all_put (query.IsColumn n) attr_lt (attr_for streams from) (columns_in atoms) compared));
       few_consts = omega (arith, ap length (consts_named streams from atoms), length-put_all int_lt int_order int_eq (λ z. z) (λ y z e. (Decides-int_eq y z).0 e) (integers_in atoms), least.consts);
       consts = rw (consts_named streams from atoms) (All-from_recursion IsShort _ (all_put IsShort int_lt (λ z. z) (integers_in atoms) (all_short (integers_in atoms) least.near)));
+      few_domains = omega arith;
+      domains = λ k d l. absurd (omega (arith, l));
+      ascending = λ i j d l m. absurd (omega (arith, m));
     }

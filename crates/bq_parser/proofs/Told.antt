@@ -7,7 +7,7 @@ use Rattle.bq_parser.specs.declared.places.Place.TheVariants.{Start, AfterCreate
 use Rattle.bq_parser.specs.declared.tree.OperandAst.TheVariants.{Column, Integer}
 use Rattle.bq_parser.specs.declared.tree.AtomAst.{AtomAst}
 use Rattle.bq_parser.specs.Steps.{step}
-use Rattle.bq_parser.specs.Grammar.{Lexeme, word, number, key, comma, point, opening, closing, less, equal, greater, semicolon, separated, name_tokens, column_tokens, operand_tokens, op_token, atom_tokens, where_tokens, distinct_tokens, statement_tokens, IsColumn, HasColumn, IsWhole}
+use Rattle.bq_parser.specs.Grammar.{Lexeme, word, number, key, comma, point, opening, closing, less, equal, greater, less_equal, greater_equal, unequal, semicolon, separated, name_tokens, column_tokens, operand_tokens, op_token, atom_tokens, where_tokens, distinct_tokens, statement_tokens, IsColumn, HasColumn, IsWhole}
 use Rattle.bq_parser.specs.declared.draft.Form.{Form}
 use Rattle.bq_parser.specs.declared.draft.Form.TheVariants as forms
 use Rattle.bq_parser.specs.Reading.{Parts, act, kind_at, built}
@@ -196,9 +196,15 @@ told_step LeftColumn p (word w) f = (simp append_assoc, (record { form = f.form;
 told_step ColumnOp p less f = (refl, (record { form = f.0.form; select = f.0.select; from = f.0.from; atoms = f.0.atoms }, f.1))
 told_step ColumnOp p equal f = (refl, (record { form = f.0.form; select = f.0.select; from = f.0.from; atoms = f.0.atoms }, f.1))
 told_step ColumnOp p greater f = (refl, (record { form = f.0.form; select = f.0.select; from = f.0.from; atoms = f.0.atoms }, f.1))
+told_step ColumnOp p less_equal f = (refl, (record { form = f.0.form; select = f.0.select; from = f.0.from; atoms = f.0.atoms }, f.1))
+told_step ColumnOp p greater_equal f = (refl, (record { form = f.0.form; select = f.0.select; from = f.0.from; atoms = f.0.atoms }, f.1))
+told_step ColumnOp p unequal f = (refl, (record { form = f.0.form; select = f.0.select; from = f.0.from; atoms = f.0.atoms }, f.1))
 told_step IntegerOp p less f = (refl, record { form = f.form; select = f.select; from = f.from; atoms = f.atoms })
 told_step IntegerOp p equal f = (refl, record { form = f.form; select = f.select; from = f.from; atoms = f.atoms })
 told_step IntegerOp p greater f = (refl, record { form = f.form; select = f.select; from = f.from; atoms = f.atoms })
+told_step IntegerOp p less_equal f = (refl, record { form = f.form; select = f.select; from = f.from; atoms = f.atoms })
+told_step IntegerOp p greater_equal f = (refl, record { form = f.form; select = f.select; from = f.from; atoms = f.atoms })
+told_step IntegerOp p unequal f = (refl, record { form = f.form; select = f.select; from = f.from; atoms = f.atoms })
 told_step RightAny p (word w) f = (simp append_assoc, record { form = f.0.form; select = f.0.select; from = f.0.from; atoms = f.0.atoms })
 told_step RightAny p (number z) f =
     let a : AtomAst = record { left = p.left; op = p.op; right = Integer z } in (

@@ -1,7 +1,7 @@
 -- The place after a line's tokens tells whether the line is a statement.
 use Rattle.std.proofs.Common.{◌≡◌, ℕ, true, false, List, [], ◌∷◌, ◌++◌, length, Option, Some, None, Result, Ok, Err, refl, ap, sym, ◌∙◌, append_assoc, subst}
 use Rattle.bq_lexer.specs.declared.token.TokenKind.{TokenKind}
-use Rattle.bq_lexer.specs.declared.token.TokenKind.TheVariants.{Word, Reserved, Integer, Comma, Point, Open, Close, Less, Equal, Greater, Semi}
+use Rattle.bq_lexer.specs.declared.token.TokenKind.TheVariants.{Word, Reserved, Integer, Comma, Point, Open, Close, Less, Equal, Greater, LessEqual, GreaterEqual, Unequal, Semi}
 use Rattle.bq_lexer.specs.declared.token.Token.{Token}
 use Rattle.bq_parser.specs.declared.places.Place.{Place}
 use Rattle.bq_parser.specs.declared.places.Place.TheVariants.{Start, AfterFrom, AfterAtom, Complete, Ended}
@@ -27,6 +27,9 @@ kind_same Close w = refl
 kind_same Less w = refl
 kind_same Equal w = refl
 kind_same Greater w = refl
+kind_same LessEqual w = refl
+kind_same GreaterEqual w = refl
+kind_same Unequal w = refl
 kind_same Semi w = refl
 
 -- a walk that stops at a token

@@ -10,6 +10,7 @@ use Rattle.bq_text.specs.declared.key.Key.TheVariants.{FromKey}
 use Rattle.bq_lexer.specs.declared.token.Token.{Token}
 use Rattle.bq_lexer.specs.Tokens.{tokens}
 use Rattle.bq_lexer.specs.Standing.{StandFrom}
+use Rattle.bq_model.specs.Query.{is_soft}
 use Rattle.bq_parser.specs.declared.places.Place.{Place}
 use Rattle.bq_parser.specs.declared.places.Place.TheVariants.{Start, AfterFrom, AfterAtom, Complete, Ended}
 use Rattle.bq_parser.specs.declared.tree.ColumnAst.{ColumnAst}
@@ -30,7 +31,7 @@ use Rattle.bq_parser.specs.Grammar.{Lexeme, key, comma, closing, semicolon, sepa
 use Rattle.bq_parser.specs.Reading.{Parts, no_parts, built, finished, may_end}
 use Rattle.bq_parser.specs.Syntax.{lexemes, IsStatement}
 use Rattle.bq_parser.specs.Keeping.{kept_column, kept_number, kept_operand, kept_atom, kept_parts, IsRead}
-use Rattle.bq_parser.specs.Limits.{word_in, number_in, names_of, integers_of, columns_of, selected_by, streams_of, atoms_of, column_in, columns_in, same_column, number_of_different, is_long, is_far, limit_of}
+use Rattle.bq_parser.specs.Limits.{word_in, number_in, names_of, integers_of, columns_of, selected_by, streams_of, atoms_of, soft_in, column_in, columns_in, same_column, number_of_different, is_long, is_far, limit_of}
 use Rattle.bq_parser.proofs.Told.{Fine}
 use Rattle.bq_parser.proofs.WalkLaws.{walk_told, finished_spells}
 use Rattle.bq_parser.proofs.Verdict.{is_finished}
@@ -80,6 +81,16 @@ columns_nearer (a ∷ atoms) =
     ap (λ cs. (cs ++ column_in (nearer a.right)) ++ columns_in (map nearer_atom atoms)) (column_nearer a.left)
     ∙ ap (λ cs. (column_in a.left ++ cs) ++ columns_in (map nearer_atom atoms)) (column_nearer a.right)
     ∙ ap (λ cs. (column_in a.left ++ column_in a.right) ++ cs) (columns_nearer atoms)
+
+-- as many elements pass, where each is told by the same test
+pub kept_length : {X Y : Type 0} (b : Bool) (x : X) (xs : List X) (y : Y) (ys : List Y) → length xs ≡ length ys → length (cond b (x ∷ xs) xs) ≡ length (cond b (y ∷ ys) ys)
+kept_length true x xs y ys e = omega (arith, e)
+kept_length false x xs y ys e = e
+
+-- as many atoms are soft
+soft_nearer : (atoms : List AtomAst) → length (soft_in (map nearer_atom atoms)) ≡ length (soft_in atoms)
+soft_nearer [] = refl
+soft_nearer (a ∷ atoms) = kept_length (is_soft a.op) (nearer_atom a) (soft_in (map nearer_atom atoms)) a (soft_in atoms) (soft_nearer atoms)
 
 integer_nearer : (o : OperandAst) → integer_in (nearer o) ≡ map kept_number (integer_in o)
 integer_nearer (Column c) = refl
@@ -143,21 +154,24 @@ unless false x y z h = h refl
 few : (m n : ℕ) → nat_lt n m ≡ false → m ≤ n
 few m n h = grind (arith, nat_tests)
 
-abbrev pub limit_at_end : List ColumnAst → List ℤ → Option What
-limit_at_end columns integers =
-    cond (nat_lt 12 (number_of_different same_column columns)) (Some limits.Attrs)
-    (cond (list_any is_far integers) (Some limits.Value) (cond (nat_lt 6 (number_of_different int_eq integers)) (Some limits.Consts) None))
+abbrev pub limit_at_end : ℕ → List ColumnAst → List ℤ → Option What
+limit_at_end soft columns integers =
+    cond (nat_lt 8 soft) (Some limits.Soft)
+    (cond (nat_lt 12 (number_of_different same_column columns)) (Some limits.Attrs)
+    (cond (list_any is_far integers) (Some limits.Value) (cond (nat_lt 6 (number_of_different int_eq integers)) (Some limits.Consts) None)))
 
 -- the limits of the atoms that are kept
-kept_limit : (atoms : List AtomAst) → length atoms ≤ 16 → AllByRecursion (λ a. AllByRecursion IsNamed (atom_tokens a)) atoms → limit_in_atoms (take 16 (map kept_atom atoms)) ≡ limit_at_end (columns_in atoms) (integers_in atoms)
+kept_limit : (atoms : List AtomAst) → length atoms ≤ 16 → AllByRecursion (λ a. AllByRecursion IsNamed (atom_tokens a)) atoms → limit_in_atoms (take 16 (map kept_atom atoms)) ≡ limit_at_end (length (soft_in atoms)) (columns_in atoms) (integers_in atoms)
 kept_limit atoms room named =
     let zs = integers_in atoms in
     ap limit_in_atoms (take_all 16 (map kept_atom atoms) (omega (arith, length-map atoms kept_atom)) ∙ atoms_kept atoms named)
-    ∙ ap (λ cs. limit_at_end cs (integers_in (map nearer_atom atoms))) (columns_nearer atoms)
-    ∙ ap (λ ys. limit_at_end (columns_in atoms) ys) (integers_nearer atoms)
-    ∙ unless (nat_lt 12 (number_of_different same_column (columns_in atoms))) (Some limits.Attrs) _ _ (λ attrs.
+    ∙ ap (λ n. limit_at_end n (columns_in (map nearer_atom atoms)) (integers_in (map nearer_atom atoms))) (soft_nearer atoms)
+    ∙ ap (λ cs. limit_at_end (length (soft_in atoms)) cs (integers_in (map nearer_atom atoms))) (columns_nearer atoms)
+    ∙ ap (λ ys. limit_at_end (length (soft_in atoms)) (columns_in atoms) ys) (integers_nearer atoms)
+    ∙ unless (nat_lt 8 (length (soft_in atoms))) (Some limits.Soft) _ _ (λ soft.
+    unless (nat_lt 12 (number_of_different same_column (columns_in atoms))) (Some limits.Attrs) _ _ (λ attrs.
     ap (λ b. cond b (Some limits.Value) (cond (nat_lt 6 (number_of_different int_eq (map kept_number zs))) (Some limits.Consts) None)) (any_far_kept zs)
-    ∙ unless (list_any is_far zs) (Some limits.Value) _ _ (λ near. ap (λ ys. cond (nat_lt 6 (number_of_different int_eq ys)) (Some limits.Consts) None) (all_near_kept zs near)))
+    ∙ unless (list_any is_far zs) (Some limits.Value) _ _ (λ near. ap (λ ys. cond (nat_lt 6 (number_of_different int_eq ys)) (Some limits.Consts) None) (all_near_kept zs near))))
 
 -- what the tokens of a query say of its names
 pub record NamedSelect (s : SelectAst) : Type 0 where
@@ -190,7 +204,7 @@ limit_of_lists s =
     cond (nat_lt 8 (length (columns_of s))) (Some limits.Columns)
     (cond (nat_lt 8 (length (selected_by s))) (Some limits.Select)
     (cond (nat_lt 4 (length (streams_of s))) (Some limits.From)
-    (cond (nat_lt 16 (length (atoms_of s))) (Some limits.Atoms) (limit_at_end (columns_in (atoms_of s)) (integers_of s)))))
+    (cond (nat_lt 16 (length (atoms_of s))) (Some limits.Atoms) (limit_at_end (length (soft_in (atoms_of s))) (columns_in (atoms_of s)) (integers_of s)))))
 
 same_limit : (m : Form) (p : Parts) → AllByRecursion IsNamed (statement_tokens (built m p)) → limit_by m (kept_parts p) ≡ limit_of_lists (built m p)
 same_limit forms.Stream p h = ap (λ zs. cond (nat_lt 8 (length p.columns)) (Some limits.Columns) (cond (list_any is_far zs) (Some limits.Value) (cond (nat_lt 6 (number_of_different int_eq zs)) (Some limits.Consts) None))) (sym (stream_limit p.name p.columns))
@@ -201,7 +215,7 @@ same_limit forms.Query p h =
     unless (nat_lt 4 (length p.from)) (Some limits.From) _ _ (λ streams.
     unless (nat_lt 16 (length p.atoms)) (Some limits.Atoms) _ _ (λ atoms.
     kept_limit p.atoms (few (length p.atoms) 16 atoms) n.atoms
-    ∙ ap (λ zs. limit_at_end (columns_in p.atoms) zs) (sym (numbers_select s)))))
+    ∙ ap (λ zs. limit_at_end (length (soft_in p.atoms)) (columns_in p.atoms) zs) (sym (numbers_select s)))))
 same_limit forms.Explain p h = refl
 same_limit forms.Drop p h = refl
 
@@ -239,7 +253,8 @@ same_statement forms.Query p f h e =
     let a = not_passed (nat_lt 8 (length p.select)) limits.Select _ e in
     let b = not_passed (nat_lt 4 (length p.from)) limits.From _ a.1 in
     let c = not_passed (nat_lt 16 (length p.atoms)) limits.Atoms _ b.1 in
-    let d = not_passed (nat_lt 12 (number_of_different same_column (columns_in p.atoms))) limits.Attrs _ c.1 in
+    let soft = not_passed (nat_lt 8 (length (soft_in p.atoms))) limits.Soft _ c.1 in
+    let d = not_passed (nat_lt 12 (number_of_different same_column (columns_in p.atoms))) limits.Attrs _ soft.1 in
     let near = not_passed (list_any is_far (integers_of (CreateQuery p.name s))) limits.Value _ d.1 in
     ap (λ w. CreateQuery w (record { distinct = p.distinct; select = record { items = take 8 (map kept_column p.select) }; from = record { items = take 4 (map kept p.from) }; atoms = record { items = take 16 (map kept_atom p.atoms) } })) (kept_name p.name h.1.1.0)
     ∙ ap (λ xs. CreateQuery p.name (record { distinct = p.distinct; select = record { items = xs }; from = record { items = take 4 (map kept p.from) }; atoms = record { items = take 16 (map kept_atom p.atoms) } })) (kept_list kept_column 8 p.select a.0 (columns_kept p.select n.select))
@@ -317,5 +332,6 @@ not_far s e =
     let b = not_passed (nat_lt 8 (length (selected_by s))) limits.Select _ a.1 in
     let c = not_passed (nat_lt 4 (length (streams_of s))) limits.From _ b.1 in
     let d = not_passed (nat_lt 16 (length (atoms_of s))) limits.Atoms _ c.1 in
-    let f = not_passed (nat_lt 12 (number_of_different same_column (columns_in (atoms_of s)))) limits.Attrs _ d.1 in
+    let soft = not_passed (nat_lt 8 (length (soft_in (atoms_of s)))) limits.Soft _ d.1 in
+    let f = not_passed (nat_lt 12 (number_of_different same_column (columns_in (atoms_of s)))) limits.Attrs _ soft.1 in
     (not_passed (list_any is_far (integers_of s)) limits.Value _ f.1).0

@@ -1,5 +1,5 @@
 -- The first limit that a draft passes, found by its tokens and its lists.
-use Rattle.std.specs.Prelude.{◌+◌, ℤ, Bool, true, false, ◌&&◌, nat_lt, if◌then◌else◌, List, [], ◌∷◌, ◌++◌, Option, Some, None}
+use Rattle.std.specs.Prelude.{◌+◌, ℤ, Bool, true, false, ◌&&◌, nat_lt, if◌then◌else◌, List, [], ◌∷◌, ◌++◌, length, Option, Some, None}
 use Rattle.std.specs.List.{flat_map, list_any}
 use Rattle.std.specs.Ordering.{int_eq}
 use Rattle.bq_lexer.specs.declared.token.TokenKind.{TokenKind}
@@ -13,7 +13,7 @@ use Rattle.bq_parser.specs.declared.tree.AtomAst.{AtomAst}
 use Rattle.bq_parser.specs.declared.draft.Draft.{Draft}
 use Rattle.bq_parser.specs.declared.draft.Form.{Form}
 use Rattle.bq_parser.specs.declared.draft.Form.TheVariants as forms
-use Rattle.bq_parser.specs.Limits.{columns_in, same_column, number_of_different, is_far}
+use Rattle.bq_parser.specs.Limits.{soft_in, columns_in, same_column, number_of_different, is_far}
 
 -- whether a token is a word
 abbrev pub is_word_kind : TokenKind → Bool
@@ -36,9 +36,10 @@ integers_in atoms = flat_map (λ a. integer_in a.left ++ integer_in a.right) ato
 -- the first limit that the atoms pass, where there are not too many
 abbrev pub limit_in_atoms : List AtomAst → Option What
 limit_in_atoms atoms =
-    if nat_lt 12 (number_of_different same_column (columns_in atoms)) then Some limits.Attrs else
+    if nat_lt 8 (length (soft_in atoms)) then Some limits.Soft else
+    (if nat_lt 12 (number_of_different same_column (columns_in atoms)) then Some limits.Attrs else
     (if list_any is_far (integers_in atoms) then Some limits.Value else
-    (if nat_lt 6 (number_of_different int_eq (integers_in atoms)) then Some limits.Consts else None))
+    (if nat_lt 6 (number_of_different int_eq (integers_in atoms)) then Some limits.Consts else None)))
 
 -- the first limit that the lists of a draft pass, by its form
 abbrev pub limit_by : Form → Draft → Option What

@@ -2,7 +2,7 @@
 use Rattle.std.specs.Prelude.{ℕ, ℤ, pos, true, false, nat_lt, List, [], ◌∷◌, ◌++◌, length, Option, Some, None, if◌then◌else◌}
 use Rattle.bq_text.specs.Name.{is_name}
 use Rattle.bq_text.specs.Value.{value_of}
-use Rattle.bq_model.specs.declared.atom.Op.TheVariants.{Lt, Eq, Gt}
+use Rattle.bq_model.specs.declared.atom.Op.TheVariants.{Lt, Eq, Gt, Le, Ge, Ne}
 use Rattle.bq_parser.specs.declared.places.Action.{Action}
 use Rattle.bq_parser.specs.declared.places.Action.TheVariants as actions
 use Rattle.bq_parser.specs.declared.tree.ColumnAst.{ColumnAst}
@@ -62,6 +62,9 @@ drafted actions.LeftColumnIs w d = record d { left = Column (column_with d w) }
 drafted actions.OpLess w d = record d { op = Lt }
 drafted actions.OpEqual w d = record d { op = Eq }
 drafted actions.OpGreater w d = record d { op = Gt }
+drafted actions.OpLessEqual w d = record d { op = Le }
+drafted actions.OpGreaterEqual w d = record d { op = Ge }
+drafted actions.OpUnequal w d = record d { op = Ne }
 drafted actions.AddIntegerAtom w d = record d { atoms = put 16 (atom_with d (Integer (or_far (value_of w)))) d.atoms }
 drafted actions.AddColumnAtom w d = record d { atoms = put 16 (atom_with d (Column (column_with d w))) d.atoms }
 

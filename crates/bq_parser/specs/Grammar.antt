@@ -4,7 +4,7 @@ use Rattle.std.specs.List.{AllByRecursion}
 use Rattle.bq_text.specs.declared.key.Key.{Key}
 use Rattle.bq_text.specs.declared.key.Key.TheVariants.{CreateKey, StreamKey, QueryKey, AsKey, SelectKey, DistinctKey, FromKey, WhereKey, AndKey, ExplainKey, DropKey}
 use Rattle.bq_model.specs.declared.atom.Op.{Op}
-use Rattle.bq_model.specs.declared.atom.Op.TheVariants.{Lt, Eq, Gt}
+use Rattle.bq_model.specs.declared.atom.Op.TheVariants.{Lt, Eq, Gt, Le, Ge, Ne}
 use Rattle.bq_parser.specs.declared.tree.ColumnAst.{ColumnAst}
 use Rattle.bq_parser.specs.declared.tree.OperandAst.{OperandAst}
 use Rattle.bq_parser.specs.declared.tree.OperandAst.TheVariants.{Column, Integer}
@@ -25,6 +25,9 @@ pub data Lexeme : Type 0 where
   less : Lexeme
   equal : Lexeme
   greater : Lexeme
+  less_equal : Lexeme
+  greater_equal : Lexeme
+  unequal : Lexeme
   semicolon : Lexeme
 
 -- each of xs as its tokens, and a separator between two
@@ -46,11 +49,14 @@ abbrev pub operand_tokens : OperandAst → List Lexeme
 operand_tokens (Column c) = column_tokens c
 operand_tokens (Integer z) = number z ∷ []
 
--- op = "<" | "=" | ">"
+-- op = "<" | "=" | ">" | "<=" | ">=" | "<>"
 abbrev pub op_token : Op → Lexeme
 op_token Lt = less
 op_token Eq = equal
 op_token Gt = greater
+op_token Le = less_equal
+op_token Ge = greater_equal
+op_token Ne = unequal
 
 -- atom = column op ( column | integer ) | integer op column
 abbrev pub atom_tokens : AtomAst → List Lexeme

@@ -1,8 +1,9 @@
 -- The limits of a statement, in their order.
-use Rattle.std.specs.Prelude.{ℕ, ◌+◌, ℤ, pos, neg_ℤ, int_lt, Bool, ◌||◌, ◌&&◌, nat_lt, nat_eq, if◌then◌else◌, List, [], ◌∷◌, ◌++◌, length, Option, Some, None}
+use Rattle.std.specs.Prelude.{ℕ, ◌+◌, ℤ, pos, neg_ℤ, int_lt, Bool, ◌||◌, ◌&&◌, nat_lt, nat_eq, if◌then◌else◌, List, [], ◌∷◌, ◌++◌, filter, length, Option, Some, None}
 use Rattle.std.specs.List.{flat_map, list_any}
 use Rattle.std.specs.Ordering.{int_eq}
 use Rattle.std.specs.Cmp.Lexicographic.{pointwise}
+use Rattle.bq_model.specs.Query.{is_soft}
 use Rattle.bq_parser.specs.declared.parsing.What.{What}
 use Rattle.bq_parser.specs.declared.parsing.What.TheVariants as limits
 use Rattle.bq_parser.specs.declared.tree.ColumnAst.{ColumnAst}
@@ -51,6 +52,10 @@ abbrev pub atoms_of : Statement → List AtomAst
 atoms_of (CreateQuery name select) = select.atoms.items
 atoms_of _ = []
 
+-- the soft ones among atoms: those with `<=`, `>=` or `<>`
+abbrev pub soft_in : List AtomAst → List AtomAst
+soft_in atoms = filter (λ a. is_soft a.op) atoms
+
 -- the column that a side of an atom is
 abbrev pub column_in : OperandAst → List ColumnAst
 column_in (Column c) = c ∷ []
@@ -85,6 +90,7 @@ limit_of s =
     (if nat_lt 8 (length (selected_by s)) then Some limits.Select else
     (if nat_lt 4 (length (streams_of s)) then Some limits.From else
     (if nat_lt 16 (length (atoms_of s)) then Some limits.Atoms else
+    (if nat_lt 8 (length (soft_in (atoms_of s))) then Some limits.Soft else
     (if nat_lt 12 (number_of_different same_column (columns_in (atoms_of s))) then Some limits.Attrs else
     (if list_any is_far (integers_of s) then Some limits.Value else
-    (if nat_lt 6 (number_of_different int_eq (integers_of s)) then Some limits.Consts else None)))))))
+    (if nat_lt 6 (number_of_different int_eq (integers_of s)) then Some limits.Consts else None))))))))

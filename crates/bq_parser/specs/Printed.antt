@@ -4,7 +4,7 @@ use Rattle.std.specs.Fmt.{signed_decimal}
 use Rattle.bq_text.specs.declared.key.Key.{Key}
 use Rattle.bq_text.specs.declared.key.Key.TheVariants.{CreateKey, StreamKey, QueryKey, AsKey, SelectKey, DistinctKey, FromKey, WhereKey, AndKey, ExplainKey, DropKey, InKey, SharedKey, CheckpointKey, ResumeKey}
 use Rattle.bq_parser.specs.declared.tree.Statement.{Statement}
-use Rattle.bq_parser.specs.Grammar.{Lexeme, word, number, key, comma, point, opening, closing, less, equal, greater, semicolon, statement_tokens}
+use Rattle.bq_parser.specs.Grammar.{Lexeme, word, number, key, comma, point, opening, closing, less, equal, greater, less_equal, greater_equal, unequal, semicolon, statement_tokens}
 
 -- reserved words are printed in capitals
 abbrev pub key_text : Key → List ℕ
@@ -36,6 +36,9 @@ text_for closing = 41 ∷ []
 text_for less = 60 ∷ []
 text_for equal = 61 ∷ []
 text_for greater = 62 ∷ []
+text_for less_equal = 60 ∷ 61 ∷ []
+text_for greater_equal = 62 ∷ 61 ∷ []
+text_for unequal = 60 ∷ 62 ∷ []
 text_for semicolon = 59 ∷ []
 
 -- no space stands behind a point or an opening bracket

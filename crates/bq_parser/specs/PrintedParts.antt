@@ -3,7 +3,7 @@ use Rattle.std.specs.Prelude.{ℕ, Bool, List, [], ◌∷◌, ◌++◌, codes, i
 use Rattle.std.specs.List.{flat_map}
 use Rattle.std.specs.Fmt.{signed_decimal}
 use Rattle.bq_model.specs.declared.atom.Op.{Op}
-use Rattle.bq_model.specs.declared.atom.Op.TheVariants.{Lt, Eq, Gt}
+use Rattle.bq_model.specs.declared.atom.Op.TheVariants.{Lt, Eq, Gt, Le, Ge, Ne}
 use Rattle.bq_parser.specs.declared.tree.ColumnAst.{ColumnAst}
 use Rattle.bq_parser.specs.declared.tree.OperandAst.{OperandAst}
 use Rattle.bq_parser.specs.declared.tree.OperandAst.TheVariants.{Column, Integer}
@@ -37,6 +37,9 @@ abbrev pub op_text : Op → List ℕ
 op_text Lt = codes " < "
 op_text Eq = codes " = "
 op_text Gt = codes " > "
+op_text Le = codes " <= "
+op_text Ge = codes " >= "
+op_text Ne = codes " <> "
 
 -- an atom
 abbrev pub atom_text : AtomAst → List ℕ

@@ -7,7 +7,7 @@ use Rattle.bq_parser.specs.declared.places.Place.TheVariants as places
 use Rattle.bq_parser.specs.declared.places.Action.{Action}
 use Rattle.bq_parser.specs.declared.places.Action.TheVariants as actions
 use Rattle.bq_model.specs.declared.atom.Op.{Op}
-use Rattle.bq_model.specs.declared.atom.Op.TheVariants.{Lt, Eq, Gt}
+use Rattle.bq_model.specs.declared.atom.Op.TheVariants.{Lt, Eq, Gt, Le, Ge, Ne}
 use Rattle.bq_parser.specs.declared.tree.ColumnAst.{ColumnAst}
 use Rattle.bq_parser.specs.declared.tree.OperandAst.{OperandAst}
 use Rattle.bq_parser.specs.declared.tree.OperandAst.TheVariants.{Column, Integer}
@@ -16,7 +16,7 @@ use Rattle.bq_parser.specs.declared.tree.Statement.{Statement}
 use Rattle.bq_parser.specs.declared.tree.Statement.TheVariants.{CreateStream, CreateQuery, Explain, DropQuery}
 use Rattle.bq_parser.specs.declared.draft.Form.{Form}
 use Rattle.bq_parser.specs.declared.draft.Form.TheVariants as forms
-use Rattle.bq_parser.specs.Grammar.{Lexeme, word, number, key, comma, point, opening, closing, less, equal, greater, semicolon}
+use Rattle.bq_parser.specs.Grammar.{Lexeme, word, number, key, comma, point, opening, closing, less, equal, greater, less_equal, greater_equal, unequal, semicolon}
 use Rattle.bq_parser.specs.Steps.{step}
 
 -- the statement so far
@@ -58,6 +58,9 @@ kind_at closing = kinds.Close
 kind_at less = kinds.Less
 kind_at equal = kinds.Equal
 kind_at greater = kinds.Greater
+kind_at less_equal = kinds.LessEqual
+kind_at greater_equal = kinds.GreaterEqual
+kind_at unequal = kinds.Unequal
 kind_at semicolon = kinds.Semi
 
 -- the column of this name in the stream that was named last
@@ -85,6 +88,9 @@ act actions.LeftColumnIs l p = record p { left = Column (column_of p l) }
 act actions.OpLess l p = record p { op = Lt }
 act actions.OpEqual l p = record p { op = Eq }
 act actions.OpGreater l p = record p { op = Gt }
+act actions.OpLessEqual l p = record p { op = Le }
+act actions.OpGreaterEqual l p = record p { op = Ge }
+act actions.OpUnequal l p = record p { op = Ne }
 act actions.AddIntegerAtom l p = record p { atoms = p.atoms ++ (record { left = p.left; op = p.op; right = Integer (number_of l) }) ∷ [] }
 act actions.AddColumnAtom l p = record p { atoms = p.atoms ++ (record { left = p.left; op = p.op; right = Column (column_of p l) }) ∷ [] }
 

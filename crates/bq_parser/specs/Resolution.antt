@@ -1,5 +1,5 @@
 -- What the names of a query stand for over the streams of a catalog.
-use Rattle.std.specs.Prelude.{◌≡◌, ℕ, ◌<◌, Bool, not, ◌&&◌, List, ◌++◌, length, map, slice_index, if◌then◌else◌, is_some, unwrap_or, option_and_then, Option, None, Result, Ok, Err}
+use Rattle.std.specs.Prelude.{◌≡◌, ℕ, ◌<◌, Bool, not, ◌&&◌, List, [], ◌++◌, length, map, slice_index, if◌then◌else◌, is_some, unwrap_or, option_and_then, Option, None, Result, Ok, Err}
 use Rattle.std.specs.List.{All, list_all, position}
 use Rattle.std.specs.Str.{bytes_eq}
 use Rattle.bq_model.specs.declared.atom.Attr.{Attr}
@@ -62,13 +62,14 @@ element_for streams from (Integer z) = element.Const z
 abbrev pub atom_for : List Shape → List (List ℕ) → AtomAst → Atom
 atom_for streams from a = record { left = element_for streams from a.left; op = a.op; right = element_for streams from a.right }
 
--- the query whose names are all there
+-- the query whose names are all there; no column has a domain yet
 abbrev pub query_for : List Shape → SelectAst → QueryValue
 query_for streams s = record {
   distinct = s.distinct;
   from = map (number_for streams) s.from.items;
   select = map (attr_for streams s.from.items) s.select.items;
   atoms = map (atom_for streams s.from.items) s.atoms.items;
+  domains = [];
 }
 
 -- The query that is asked for, or the first reason why there is none: a name in FROM is no stream, or a column's stream is not in
@@ -93,11 +94,12 @@ HasSide streams from (element.Const k) = Unit {0}
 abbrev pub HasSides : List Shape → List ℕ → Atom → Type 0
 HasSides streams from t = HasSide streams from t.left × HasSide streams from t.right
 
--- the streams and the columns that a query names are there
+-- the streams and the columns that a query names are there, and no column has a domain, as none of a catalog has one
 pub record HasNamed (streams : List Shape) (q : QueryValue) : Type 0 where
   pub from : All (λ n. n < length streams) q.from
   pub select : All (IsColumnOf streams q.from) q.select
   pub atoms : All (HasSides streams q.from) q.atoms
+  pub domains : q.domains ≡ []
 
 -- the name of the stream of this number
 abbrev pub stream_named : List Shape → ℕ → List ℕ

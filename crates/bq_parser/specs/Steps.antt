@@ -2,11 +2,11 @@
 use Rattle.std.specs.Prelude.{Option, Some, None}
 use Rattle.bq_text.specs.declared.key.Key.TheVariants.{CreateKey, StreamKey, QueryKey, AsKey, SelectKey, DistinctKey, FromKey, WhereKey, AndKey, ExplainKey, DropKey}
 use Rattle.bq_lexer.specs.declared.token.TokenKind.{TokenKind}
-use Rattle.bq_lexer.specs.declared.token.TokenKind.TheVariants.{Word, Reserved, Integer, Comma, Point, Open, Close, Less, Equal, Greater, Semi}
+use Rattle.bq_lexer.specs.declared.token.TokenKind.TheVariants.{Word, Reserved, Integer, Comma, Point, Open, Close, Less, Equal, Greater, LessEqual, GreaterEqual, Unequal, Semi}
 use Rattle.bq_parser.specs.declared.places.Place.{Place}
 use Rattle.bq_parser.specs.declared.places.Place.TheVariants.{Start, AfterCreate, StreamName, OpenColumns, ColumnName, AfterColumn, QueryName, QueryAs, QuerySelect, FirstSelected, SelectedStream, SelectedPoint, SelectedColumn, AfterSelected, FromName, AfterFrom, AtomLeft, LeftPoint, LeftColumn, ColumnOp, RightAny, IntegerOp, RightStream, RightPoint, RightColumn, AfterAtom, ExplainName, AfterDrop, DropName, Complete, Ended}
 use Rattle.bq_parser.specs.declared.places.Action.{Action}
-use Rattle.bq_parser.specs.declared.places.Action.TheVariants.{Nothing, BeginExplain, BeginDrop, BeginStream, BeginQuery, Named, BeginColumns, AddColumn, BeginSelect, SetDistinct, StreamIs, AddSelected, BeginFrom, AddFrom, LeftInteger, LeftColumnIs, OpLess, OpEqual, OpGreater, AddIntegerAtom, AddColumnAtom}
+use Rattle.bq_parser.specs.declared.places.Action.TheVariants.{Nothing, BeginExplain, BeginDrop, BeginStream, BeginQuery, Named, BeginColumns, AddColumn, BeginSelect, SetDistinct, StreamIs, AddSelected, BeginFrom, AddFrom, LeftInteger, LeftColumnIs, OpLess, OpEqual, OpGreater, OpLessEqual, OpGreaterEqual, OpUnequal, AddIntegerAtom, AddColumnAtom}
 
 -- the place behind a token of this kind, and what the token adds; nothing, where no statement goes on so
 abbrev pub step : Place → TokenKind → Option (Place × Action)
@@ -41,11 +41,17 @@ step LeftColumn Word = Some (ColumnOp, LeftColumnIs)
 step ColumnOp Less = Some (RightAny, OpLess)
 step ColumnOp Equal = Some (RightAny, OpEqual)
 step ColumnOp Greater = Some (RightAny, OpGreater)
+step ColumnOp LessEqual = Some (RightAny, OpLessEqual)
+step ColumnOp GreaterEqual = Some (RightAny, OpGreaterEqual)
+step ColumnOp Unequal = Some (RightAny, OpUnequal)
 step RightAny Word = Some (RightPoint, StreamIs)
 step RightAny Integer = Some (AfterAtom, AddIntegerAtom)
 step IntegerOp Less = Some (RightStream, OpLess)
 step IntegerOp Equal = Some (RightStream, OpEqual)
 step IntegerOp Greater = Some (RightStream, OpGreater)
+step IntegerOp LessEqual = Some (RightStream, OpLessEqual)
+step IntegerOp GreaterEqual = Some (RightStream, OpGreaterEqual)
+step IntegerOp Unequal = Some (RightStream, OpUnequal)
 step RightStream Word = Some (RightPoint, StreamIs)
 step RightPoint Point = Some (RightColumn, Nothing)
 step RightColumn Word = Some (AfterAtom, AddColumnAtom)

@@ -2,13 +2,13 @@
 use Rattle.std.specs.Prelude.{◌≡◌, ℕ, ◌⊎◌, List, [], ◌∷◌, ◌++◌, length, map, slice_range, Option, Some, None, Result, Ok, Err}
 use Rattle.bq_text.specs.Value.{integer}
 use Rattle.bq_lexer.specs.declared.token.TokenKind.{TokenKind}
-use Rattle.bq_lexer.specs.declared.token.TokenKind.TheVariants.{Word, Reserved, Integer, Comma, Point, Open, Close, Less, Equal, Greater, Semi}
+use Rattle.bq_lexer.specs.declared.token.TokenKind.TheVariants.{Word, Reserved, Integer, Comma, Point, Open, Close, Less, Equal, Greater, LessEqual, GreaterEqual, Unequal, Semi}
 use Rattle.bq_lexer.specs.declared.token.Token.{Token}
 use Rattle.bq_lexer.specs.Tokens.{tokens}
 use Rattle.bq_parser.specs.declared.tree.Statement.{Statement}
 use Rattle.bq_parser.specs.declared.places.Place.{Place}
 use Rattle.bq_parser.specs.declared.places.Action.{Action}
-use Rattle.bq_parser.specs.Grammar.{Lexeme, word, number, key, comma, point, opening, closing, less, equal, greater, semicolon, Spells, Begins}
+use Rattle.bq_parser.specs.Grammar.{Lexeme, word, number, key, comma, point, opening, closing, less, equal, greater, less_equal, greater_equal, unequal, semicolon, Spells, Begins}
 use Rattle.bq_parser.specs.Steps.{step}
 
 -- what a text of a kind says
@@ -23,6 +23,9 @@ lexeme_as Close w = closing
 lexeme_as Less w = less
 lexeme_as Equal w = equal
 lexeme_as Greater w = greater
+lexeme_as LessEqual w = less_equal
+lexeme_as GreaterEqual w = greater_equal
+lexeme_as Unequal w = unequal
 lexeme_as Semi w = semicolon
 
 -- what a token of a line says

@@ -136,6 +136,9 @@ impl Draft {
             Action::OpLess => self.op = Op::Lt,
             Action::OpEqual => self.op = Op::Eq,
             Action::OpGreater => self.op = Op::Gt,
+            Action::OpLessEqual => self.op = Op::Le,
+            Action::OpGreaterEqual => self.op = Op::Ge,
+            Action::OpUnequal => self.op = Op::Ne,
             Action::AddIntegerAtom => {
                 let atom = self.atom(OperandAst::Integer(kept_integer(text)));
                 self.atoms.put(atom);

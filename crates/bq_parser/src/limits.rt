@@ -3,7 +3,7 @@ ghost use Rattle.std.specs.Prelude.{◌≡◌, ◌≤◌, ◌<◌, ◌+◌, ◌+
 ghost use Rattle.std.specs.List.{list_any};
 ghost use Rattle.std.specs.Ordering.{int_eq};
 ghost use Rattle.bq_parser.specs.Limits as limits;
-ghost use Rattle.bq_parser.specs.Limits.{column_in, columns_in, number_of_different};
+ghost use Rattle.bq_parser.specs.Limits.{soft_in, column_in, columns_in, number_of_different};
 ghost use Rattle.bq_parser.specs.DraftLimits.{is_long_token, integer_in, integers_in, limit_in_atoms, limit_by, limit_in};
 
 use crate::draft::{Draft, Form};
@@ -15,6 +15,9 @@ use bq_text::Name;
 
 /// The greatest integer that a statement may name; the least one is its negative.
 const FARTHEST: i64 = 999_999_999_999_999;
+
+/// The most atoms of a statement that may be soft.
+const MOST_SOFT: usize = 8;
 
 /// The most columns that the atoms of a statement may name.
 const MOST_ATTRS: usize = 12;
@@ -104,6 +107,13 @@ fn different_integers(integers: &[i64]) -> usize
     count
 }
 
+// How many atoms are soft.
+fn soft_comparisons(atoms: &[AtomAst]) -> usize
+    ensures { result ≡ length (soft_in atoms.now) }
+{
+    atoms.iter().filter(|atom| atom.op.is_soft()).count()
+}
+
 // Adds the column that a side of an atom is.
 fn put_column(columns: &mut ArrayVec<ColumnAst, 32>, operand: OperandAst)
     requires { length columns.old.items < 32 }
@@ -159,6 +169,9 @@ fn atoms_limit(atoms: &[AtomAst]) -> Option<What>
     requires { length atoms.now ≤ 16 }
     ensures { result ≡ limit_in_atoms atoms.now }
 {
+    if MOST_SOFT < soft_comparisons(atoms) {
+        return Some(What::Soft);
+    }
     let columns = columns_named(atoms);
     if MOST_ATTRS < different_columns(columns.as_slice()) {
         return Some(What::Attrs);

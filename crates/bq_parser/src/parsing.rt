@@ -20,6 +20,7 @@ pub enum What {
     Select,
     From,
     Atoms,
+    Soft,
     Attrs,
     Value,
     Consts,

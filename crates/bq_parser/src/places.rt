@@ -63,6 +63,9 @@ pub enum Action {
     OpLess,
     OpEqual,
     OpGreater,
+    OpLessEqual,
+    OpGreaterEqual,
+    OpUnequal,
     AddIntegerAtom,
     AddColumnAtom,
 }
@@ -170,6 +173,9 @@ pub fn next(place: Place, kind: TokenKind) -> Option<(Place, Action)>
             TokenKind::Less => Some((Place::RightAny, Action::OpLess)),
             TokenKind::Equal => Some((Place::RightAny, Action::OpEqual)),
             TokenKind::Greater => Some((Place::RightAny, Action::OpGreater)),
+            TokenKind::LessEqual => Some((Place::RightAny, Action::OpLessEqual)),
+            TokenKind::GreaterEqual => Some((Place::RightAny, Action::OpGreaterEqual)),
+            TokenKind::Unequal => Some((Place::RightAny, Action::OpUnequal)),
             _ => None,
         },
         Place::RightAny => match kind {
@@ -181,6 +187,9 @@ pub fn next(place: Place, kind: TokenKind) -> Option<(Place, Action)>
             TokenKind::Less => Some((Place::RightStream, Action::OpLess)),
             TokenKind::Equal => Some((Place::RightStream, Action::OpEqual)),
             TokenKind::Greater => Some((Place::RightStream, Action::OpGreater)),
+            TokenKind::LessEqual => Some((Place::RightStream, Action::OpLessEqual)),
+            TokenKind::GreaterEqual => Some((Place::RightStream, Action::OpGreaterEqual)),
+            TokenKind::Unequal => Some((Place::RightStream, Action::OpUnequal)),
             _ => None,
         },
         Place::RightStream => match kind {

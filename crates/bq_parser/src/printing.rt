@@ -106,6 +106,9 @@ fn op_text(op: Op) -> &'static [u8]
         Op::Lt => b" < ",
         Op::Eq => b" = ",
         Op::Gt => b" > ",
+        Op::Le => b" <= ",
+        Op::Ge => b" >= ",
+        Op::Ne => b" <> ",
     }
 }
 

@@ -186,7 +186,7 @@ fn atoms_for(atoms: &[AtomAst], from: &[Name], catalog: &Catalog) -> ArrayVec<At
     comparisons
 }
 
-// The query whose names are all there.
+// The query whose names are all there. No column has a domain yet.
 fn query_for(select: &SelectAst, catalog: &Catalog) -> Query
     requires { IsWithinLimits (names.query_for catalog.now select.now) }
     ensures { result ≡ names.query_for catalog.now select.now }
@@ -200,6 +200,7 @@ fn query_for(select: &SelectAst, catalog: &Catalog) -> Query
         numbers.as_slice(),
         attrs.as_slice(),
         atoms.as_slice(),
+        &[],
     )
 }
 

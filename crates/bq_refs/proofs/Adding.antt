@@ -1,13 +1,14 @@
 -- The constraints of a part, one after another.
-use Rattle.std.proofs.Common.{◌≡◌, ℕ, ◌+◌, ◌*◌, ◌<◌, ◌≤◌, List, ◌++◌, length, length-append, take, All, slice_get, slice_index_or, pos, Some, refl, sym, ◌∙◌, ap, subst, arith}
+use Rattle.std.proofs.Common.{◌≡◌, ℕ, ◌+◌, ◌*◌, ◌<◌, ◌≤◌, List, ◌++◌, filter, length, length-append, take, All, slice_get, slice_index_or, pos, Some, refl, sym, ◌∙◌, ap, subst, arith}
 use Rattle.std.proofs.lemmas.List.{take_more, take_all, length-take-le, length-map}
 use Rattle.bq_closure.specs.ChoiceValue.{ChoiceValue}
 use Rattle.bq_closure.specs.Choices.{IsChoice, AreChoices, chosen}
 use Rattle.bq_closure.proofs.Zips.{zip_length, zip_at}
+use Rattle.bq_model.proofs.FewPairs.{few_with_soft}
 use Rattle.bq_model.specs.declared.part.Pair.{Pair}
 use Rattle.bq_model.specs.declared.part.Sign.{Sign}
 use Rattle.bq_model.specs.declared.atom.Element.TheVariants as element
-use Rattle.bq_model.specs.Query.{QueryValue, attrs_of}
+use Rattle.bq_model.specs.Query.{QueryValue, attrs_of, is_soft, IsWithinLimits}
 use Rattle.bq_model.specs.Parts.{pairs, signs_of, IsPart}
 use Rattle.bq_constraints.specs.declared.constraint.Constraint.{Constraint}
 use Rattle.bq_closure.specs.BoundsValue.{BoundsValue}
@@ -56,8 +57,12 @@ choice_there q ps ss i h p l = omega (arith, l, zip_length (IsChoice q) (pairs q
 pub signs_more : (q : QueryValue) (ss : List Sign) (i : ℕ) (bs cs : List Constraint) → AddsSign q ss i cs → bs ≡ of_prefix q (take i ss) → bs ++ cs ≡ of_prefix q (take (i + 1) ss)
 signs_more q ss i bs cs a e = ap (λ z. z ++ cs) e ∙ sym a.more
 
-pub two_more_of : (q : QueryValue) (ss : List Sign) (i : ℕ) (bs cs : List Constraint) → AddsSign q ss i cs → length bs ≤ 32 + 2 * i → length (bs ++ cs) ≤ 32 + 2 * (i + 1)
+pub two_more_of : (q : QueryValue) (ss : List Sign) (i : ℕ) (bs cs : List Constraint) → AddsSign q ss i cs → length bs + 2 * length (filter (λ t. is_soft t.op) q.atoms) ≤ 56 + 2 * i → length (bs ++ cs) + 2 * length (filter (λ t. is_soft t.op) q.atoms) ≤ 56 + 2 * (i + 1)
 two_more_of q ss i bs cs a h = omega (arith, a.few, h, length-append bs cs)
 
-pub known_if : (q : QueryValue) (ss : List Sign) (i : ℕ) (b : BoundsValue) → IsPart q ss → length (attrs_of q.atoms) ≤ 12 → length ss ≤ i → b.attrs ≡ length (attrs_of q.atoms) → b.constraints ≡ of_prefix q (take i ss) → IsKnown q ss b
-known_if q ss i b p few l e f = record { part = p; few = few; attrs = e; constraints = f ∙ ap (of_prefix q) (take_all i ss l) }
+pub known_if : (q : QueryValue) (ss : List Sign) (i : ℕ) (b : BoundsValue) → IsPart q ss → IsWithinLimits q → length (attrs_of q.atoms) ≤ 12 → length ss ≤ i → b.attrs ≡ length (attrs_of q.atoms) → b.constraints ≡ of_prefix q (take i ss) → IsKnown q ss b
+known_if q ss i b p w few l e f = record { part = p; within = w; few = few; attrs = e; constraints = f ∙ ap (of_prefix q) (take_all i ss l) }
+
+-- there is room for the constraints of one sign more
+pub room_for : (q : QueryValue) (ss : List Sign) (i n m : ℕ) → IsPart q ss → IsWithinLimits q → i < length ss → n + 2 * length (filter (λ t. is_soft t.op) q.atoms) ≤ 56 + 2 * i → m ≤ 2 → n + m ≤ 268
+room_for q ss i n m p w l h k = omega (arith, l, h, k, long q ss p, few_with_soft q w)

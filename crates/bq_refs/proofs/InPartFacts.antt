@@ -10,7 +10,6 @@ use Rattle.bq_constraints.specs.Nodes.{IsAlwaysLess, IsAlwaysEqual, nodes_of}
 use Rattle.bq_constraints.specs.Solutions.{IsSatisfiable}
 use Rattle.bq_constraints.proofs.InPart.{solves_in_part, less_in_part, less_from_part, equal_in_part, equal_from_part}
 use Rattle.bq_refs.specs.Known.{IsKnown}
-use Rattle.bq_refs.proofs.Adding.{long}
 
 module _ (q : QueryValue) (s : List Sign) (b : BoundsValue) (k : IsKnown q s b) where
   pub satisfiable : IsSatisfiable b.constraints
@@ -18,13 +17,13 @@ module _ (q : QueryValue) (s : List Sign) (b : BoundsValue) (k : IsKnown q s b) 
 
   module _ (x y : Element) (hx : IsElement q x) (hy : IsElement q y) where
     pub less_if : IsAlwaysLess q b.constraints x y → IsLess q s x y
-    less_if h = less_in_part q s (long q s k.part) x y hx hy (subst (λ (cs : List Constraint). IsAlwaysLess q cs x y) k.constraints h)
+    less_if h = less_in_part q s k.within k.part x y hx hy (subst (λ (cs : List Constraint). IsAlwaysLess q cs x y) k.constraints h)
 
     pub less_only : IsLess q s x y → IsAlwaysLess q b.constraints x y
-    less_only h = subst (λ (cs : List Constraint). IsAlwaysLess q cs x y) (sym k.constraints) (less_from_part q s (long q s k.part) x y hx hy h)
+    less_only h = subst (λ (cs : List Constraint). IsAlwaysLess q cs x y) (sym k.constraints) (less_from_part q s k.within k.part x y hx hy h)
 
     pub equal_if : IsAlwaysEqual q b.constraints x y → IsEqual q s x y
-    equal_if h = equal_in_part q s (long q s k.part) x y hx hy (subst (λ (cs : List Constraint). IsAlwaysEqual q cs x y) k.constraints h)
+    equal_if h = equal_in_part q s k.within k.part x y hx hy (subst (λ (cs : List Constraint). IsAlwaysEqual q cs x y) k.constraints h)
 
     pub equal_only : IsEqual q s x y → IsAlwaysEqual q b.constraints x y
-    equal_only h = subst (λ (cs : List Constraint). IsAlwaysEqual q cs x y) (sym k.constraints) (equal_from_part q s (long q s k.part) x y hx hy h)
+    equal_only h = subst (λ (cs : List Constraint). IsAlwaysEqual q cs x y) (sym k.constraints) (equal_from_part q s k.within k.part x y hx hy h)

@@ -11,12 +11,12 @@ use bq_constraints::Constraint;
 use bq_model::{Link, Part, Query, Sign};
 use std::marker::Model;
 
-/// What all parts of a query share: the bounds of its comparisons, what each sign of each pair adds to them, and the links of
-/// each attribute with each. A clause sees the bounds' value, and two lists.
+/// What all parts of a query share: the bounds of its comparisons and domains, what each sign of each pair adds to them, and the
+/// links of each attribute with each. A clause sees the bounds' value, and two lists.
 #[derive(Drop)]
 pub struct Basis {
     bounds: Bounds,
-    choices: ArrayVec<Choice, 106>,
+    choices: ArrayVec<Choice, 114>,
     links: ArrayVec<Link, 144>,
 }
 

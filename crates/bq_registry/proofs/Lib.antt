@@ -6,6 +6,7 @@ pub mod FewParts
 pub mod Verdicts
 pub mod Admitting
 pub mod Whole
+pub mod Keeping
 pub mod Telling
 pub mod Quiet
 pub mod Creating

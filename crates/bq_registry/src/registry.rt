@@ -60,7 +60,7 @@ fn close_all(pool: Pool, live: Queries)
 }
 
 impl Registry {
-    ghost use Rattle.bq_registry.specs.Registry.{StandsFor, IsQuiet, KeepWithin, GivenUpto, Wait};
+    ghost use Rattle.bq_registry.specs.Registry.{StandsFor, KeepsToEach, IsQuiet, KeepWithin, GivenUpto, Wait};
     ghost use Rattle.bq_registry.specs.Judged.{TellsVerdict, CarriesWhy, Creates};
 
     /// The most live queries.
@@ -154,11 +154,12 @@ impl Registry {
     }
 
     /// Takes a row of a stream: of each live query the new answers by its own history wait then, and what waited before is
-    /// given up. Each live query keeps within the numbers that its plan announces, whatever its history. This takes no memory.
+    /// given up, where the row keeps to the domains of each live query. Each live query keeps within the numbers that its plan
+    /// announces, whatever its history. This takes no memory.
     pub fn row<L: Ledger>(&mut self, stream: u8, row: &Row, steps: &mut Steps<L>)
         requires { All (λ l. l.executor.given < 2 ^ 40) self.old.live }
-        ensures stands { (queries : List LiveQuery) → StandsFor self.old queries → StandsFor self.new (map (with_row (arrival stream row.now.items)) queries) }
-        ensures waits { (queries : List LiveQuery) → StandsFor self.old queries → Wait self.new.live queries (arrival stream row.now.items) }
+        ensures stands { (queries : List LiveQuery) → StandsFor self.old queries → KeepsToEach queries (arrival stream row.now.items) → StandsFor self.new (map (with_row (arrival stream row.now.items)) queries) }
+        ensures waits { (queries : List LiveQuery) → StandsFor self.old queries → KeepsToEach queries (arrival stream row.now.items) → Wait self.new.live queries (arrival stream row.now.items) }
         ensures given { (n : ℕ) → GivenUpto n self.old → GivenUpto (n + 1) self.new }
         ensures queries { KeepQueries self.old.live self.new.live }
         ensures within { KeepWithin self.new }

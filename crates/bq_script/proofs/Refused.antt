@@ -46,6 +46,9 @@ kind_says kinds.Close w = refl
 kind_says kinds.Less w = refl
 kind_says kinds.Equal w = refl
 kind_says kinds.Greater w = refl
+kind_says kinds.LessEqual w = refl
+kind_says kinds.GreaterEqual w = refl
+kind_says kinds.Unequal w = refl
 kind_says kinds.Semi w = refl
 
 tokens_say : (text : List ℕ) (ts : List Token) → begin_with_create (Ok ts) ≡ first_says_create (lexemes text ts)

@@ -32,6 +32,7 @@ query = record {
       ∷ atom (element.Attr (col 0 0)) Op.Gt (element.Const (pos 0))
       ∷ atom (element.Attr (col 0 0)) Op.Lt (element.Const (pos 101))
       ∷ [];
+  domains = [];
 }
 
 abbrev signs : List Sign
@@ -98,11 +99,11 @@ greatest x = pos 100
 
 least_inside : InPart query signs least
 unfolding pairs
-least_inside = record { holds = refl; signs = refl }
+least_inside = record { holds = refl; domains = refl; signs = refl }
 
 greatest_inside : InPart query signs greatest
 unfolding pairs
-greatest_inside = record { holds = refl; signs = refl }
+greatest_inside = record { holds = refl; domains = refl; signs = refl }
 
 equality : (x y : Attr) → Named x → Named y → x.stream ≢ y.stream → IsEquality query signs x y
 equality x y n m e = record {
@@ -153,7 +154,11 @@ not_before b d t_a s_a s l = omega (arith, s)
 not_before b d t_a t_a s l = cc
 
 itself : (a : Attr) → Named a → AreOneClass query signs a a
-itself a n = record { left = is_there a n; right = is_there a n; stream = refl; equal = record { equal = λ v i. refl } }
+itself a n = record { named = inl refl; stream = refl; equal = record { equal = λ v i. refl } }
+
+-- what is in the class of an attribute is one
+other_named : (b a : Attr) → Named a → AreOneClass query signs b a → Named b
+other_named b a n c = elim c.named [ inl e ↦ subst Named (sym e) n | inr k ↦ named b k.0 ]
 
 wanted_named : (a : Attr) → IsWanted query signs a → Named a
 wanted_named a (selected h) = elim (has_cases (col 0 0) a _ (Has-from_contains query.select a h)) [
@@ -173,7 +178,7 @@ is_wanted a t_a = right_equal (col 0 0) (equality _ _ r_a t_a (λ e. omega (arit
 dim_is : (a : Attr) → Named a → IsDim query signs a.stream (range a 1 100)
 dim_is a n = record {
   here = refl;
-  name = record { named = is_there a n; first = λ b c f. not_before b a (named b c.left) n c.stream f };
+  name = record { named = inl (is_there a n); first = λ b c f. not_before b a (other_named b a n c) n c.stream f };
   low = record { at = least; inside = least_inside; reached = refl; above = λ v i. (let f = facts v i in let e = is_first v f a n in omega (arith, ints, e, f.low)) };
   high = record { at = greatest; inside = greatest_inside; reached = refl; below = λ v i. (let f = facts v i in let e = is_first v f a n in omega (arith, ints, e, f.high)) };
   member = a;

@@ -34,6 +34,7 @@ query = record {
       ∷ atom (element.Attr (col 0 0)) Op.Gt (element.Const (pos 0))
       ∷ atom (element.Attr (col 0 1)) Op.Lt (element.Const (pos 6))
       ∷ [];
+  domains = [];
 }
 
 abbrev signs : List Sign
@@ -102,11 +103,11 @@ greatest = values (pos 3) (pos 4) (pos 5)
 
 least_inside : InPart query signs least
 unfolding pairs
-least_inside = record { holds = refl; signs = refl }
+least_inside = record { holds = refl; domains = refl; signs = refl }
 
 greatest_inside : InPart query signs greatest
 unfolding pairs
-greatest_inside = record { holds = refl; signs = refl }
+greatest_inside = record { holds = refl; domains = refl; signs = refl }
 
 -- no element lies between two that differ by one somewhere, and no constant equals one that has two values
 needed : (x y : Element) → value y least ≡ value x least +ℤ pos 1 → value x least ≢ value x greatest → value y least ≢ value y greatest → ¬ IsRedundant query signs x y
@@ -214,7 +215,11 @@ not_before b d s_b s_a s e l = cc
 not_before b d s_b s_b s e l = cc
 
 itself : (a : Attr) → Named a → AreOneClass query signs a a
-itself a n = record { left = is_there a n; right = is_there a n; stream = refl; equal = record { equal = λ v i. refl } }
+itself a n = record { named = inl refl; stream = refl; equal = record { equal = λ v i. refl } }
+
+-- what is in the class of an attribute is one
+other_named : (b a : Attr) → Named a → AreOneClass query signs b a → Named b
+other_named b a n c = elim c.named [ inl e ↦ subst Named (sym e) n | inr k ↦ named b k.0 ]
 
 wanted_named : (a : Attr) → IsWanted query signs a → Named a
 wanted_named a (selected h) = elim (has_cases (col 0 0) a _ (Has-from_contains query.select a h)) [
@@ -236,7 +241,7 @@ dim_is : (a : Attr) (n : Named a) (lo hi : ℕ) → least a ≡ pos lo → great
     → ((v : Assignment) → Facts v → (pos lo ≤ℤ v a) × (v a ≤ℤ pos hi)) → IsDim query signs a.stream (range a lo hi)
 dim_is a n lo hi l h within = record {
   here = refl;
-  name = record { named = is_there a n; first = λ b c f. not_before b a (named b c.left) n c.stream (c.equal.equal least least_inside) f };
+  name = record { named = inl (is_there a n); first = λ b c f. not_before b a (other_named b a n c) n c.stream (c.equal.equal least least_inside) f };
   low = record { at = least; inside = least_inside; reached = l; above = λ v i. (within v (facts v i)).0 };
   high = record { at = greatest; inside = greatest_inside; reached = h; below = λ v i. (within v (facts v i)).1 };
   member = a;

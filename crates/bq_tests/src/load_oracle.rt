@@ -55,6 +55,7 @@ fn query_g() -> Query {
             column: 0,
         }],
         &atoms,
+        &[],
     )
 }
 
@@ -97,6 +98,7 @@ fn query_h() -> Query {
             column: 0,
         }],
         &atoms,
+        &[],
     )
 }
 

@@ -1,13 +1,13 @@
 use Rattle.std.proofs.Common.{arith, ◌≤◌, ap, length, refl}
 use Rattle.std.proofs.lemmas.Result.{err_from_is_err_and}
 use Rattle.bq_certmake.proofs.AtLeaf.{next_cycle}
-use Rattle.bq_certmake.proofs.Walks.{full, infeasible, whole_node, broke_less, broke_equal, last}
+use Rattle.bq_certmake.proofs.Walks.{full, against, infeasible, whole_node, broke_less, broke_equal, last}
 use Rattle.bq_certmake.proofs.tree.+walk.Goals as goal
 
 pub walk-add-requires : goal.walk-add-requires
 walk-add-requires t c =
     let n = c.requires.node in
-    let l : length c.args.bounds.now.constraints ≤ 268 = omega (arith, n.short, n.room, n.few, ap length n.constraints) in
+    let l : length c.args.bounds.now.constraints ≤ 268 = omega (arith, n.short, n.room, ap length n.constraints) in
     rw c.cycle_line.ensures.is (next_cycle c.args.bounds.now.constraints _ c.in-Some.numbers l c.cycle_line.ensures.few c.in-Some.ensures.0)
 
 pub walk-returns-in-Some : goal.walk-returns-in-Some
@@ -39,3 +39,6 @@ pub split-returns : goal.split-returns
 split-returns t c =
     last _ _ _ _ c.requires.node c.requires.room c.requires.satisfiable _ refl c.args.certificate.now c.add.new.certificate c.in_ok-add.ensures.1
     _ _ _ c.in_ok-subtree.ensures _ _ c.in_ok-subtree-2.ensures c.subtree-3.result _ _ c.subtree-3.ensures
+
+pub subtree-returns-in-Some : goal.subtree-returns-in-Some
+subtree-returns-in-Some t c = against _ _ c.add.result c.in-Some.number _ _ _ c.in-Some.ensures c.requires.few c.add.ensures

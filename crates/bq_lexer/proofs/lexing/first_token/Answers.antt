@@ -1,10 +1,12 @@
-use Rattle.std.proofs.Common.{◌≡◌, ◌∙◌, arith, drop, sym, ap, Some, ◌≢◌, inl, inr, ◌+◌, refl}
+use Rattle.std.proofs.Common.{◌≡◌, ◌∙◌, arith, drop, sym, ap, Option, Some, None, ◌≢◌, inl, inr, ◌+◌, refl, get_or}
 use Rattle.std.proofs.lemmas.Bool.{false≢true}
 use Rattle.std.proofs.lemmas.List.Sums.{prefix_len-le-length}
 use Rattle.std.specs.List.{prefix_len}
 use Rattle.bq_text.specs.Word.{is_word_byte, is_digit}
+use Rattle.bq_lexer.specs.declared.token.TokenKind.{TokenKind}
 use Rattle.bq_lexer.specs.declared.token.TokenKind.TheVariants.{Integer}
-use Rattle.bq_lexer.proofs.Longest.{letter_longest, digit_longest, signed_longest, signed_alone, other_longest, one_byte, fits_of}
+use Rattle.bq_lexer.specs.Tokens.{symbol_of}
+use Rattle.bq_lexer.proofs.Longest.{letter_longest, digit_longest, signed_longest, signed_alone, other_longest, two_or_one, fits_of}
 use Rattle.bq_lexer.proofs.lexing.first_token.Goals as goal
 
 pub split_at-requires : goal.split_at-requires
@@ -39,9 +41,14 @@ returns-else-len-eq0-clause-fits c = fits_of c.args.bytes.now _ (returns-else-le
 pub returns-in-Some-clause-longest : goal.returns-in-Some-clause-longest
 returns-in-Some-clause-longest c =
     let e = other_longest c.args.bytes.now c.requires.0 (sym c.if-is_letter.ensures) (sym c.if-is_ascii_digit.ensures.value) (λ p. false≢true (c.if-is_sign.ensures.1 (inl p))) (λ m. false≢true (c.if-is_sign.ensures.1 (inr m))) in
-    sym (e ∙ ap one_byte (sym c.in-Some.ensures))
+    sym (e ∙ ap (λ (o : Option TokenKind). two_or_one o (symbol_of (get_or c.args.bytes.now 0 0))) (sym c.in-Some.ensures))
 
-pub returns-in-None-clause-longest : goal.returns-in-None-clause-longest
-returns-in-None-clause-longest c =
+pub returns-in-Some-symbol-clause-longest : goal.returns-in-Some-symbol-clause-longest
+returns-in-Some-symbol-clause-longest c =
     let e = other_longest c.args.bytes.now c.requires.0 (sym c.if-is_letter.ensures) (sym c.if-is_ascii_digit.ensures.value) (λ p. false≢true (c.if-is_sign.ensures.1 (inl p))) (λ m. false≢true (c.if-is_sign.ensures.1 (inr m))) in
-    sym (e ∙ ap one_byte (sym c.in-None.ensures))
+    sym (e ∙ ap (λ (o : Option TokenKind). two_or_one o (symbol_of (get_or c.args.bytes.now 0 0))) (sym c.in-None.ensures) ∙ ap (two_or_one None) (sym c.in-Some-symbol.ensures))
+
+pub returns-in-None-symbol-clause-longest : goal.returns-in-None-symbol-clause-longest
+returns-in-None-symbol-clause-longest c =
+    let e = other_longest c.args.bytes.now c.requires.0 (sym c.if-is_letter.ensures) (sym c.if-is_ascii_digit.ensures.value) (λ p. false≢true (c.if-is_sign.ensures.1 (inl p))) (λ m. false≢true (c.if-is_sign.ensures.1 (inr m))) in
+    sym (e ∙ ap (λ (o : Option TokenKind). two_or_one o (symbol_of (get_or c.args.bytes.now 0 0))) (sym c.in-None.ensures) ∙ ap (two_or_one None) (sym c.in-None-symbol.ensures))

@@ -2,7 +2,7 @@ use Rattle.std.proofs.Common.{◌≡◌, ap, sym, ◌∙◌}
 use Rattle.bq_closure.specs.BoundsValue.{BoundsValue}
 use Rattle.bq_constraints.proofs.Prefix.{of_no_prefix}
 use Rattle.bq_refs.specs.BasisValue.{BasisValue}
-use Rattle.bq_refs.proofs.Adding.{choice_there}
+use Rattle.bq_refs.proofs.Adding.{choice_there, room_for}
 use Rattle.bq_refs.proofs.known.set_bounds.Goals as goal
 
 pub loop-i-init : goal.loop-i-init
@@ -18,3 +18,6 @@ pub of_sign-requires-clause-pair : goal.of_sign-requires-clause-pair
 of_sign-requires-clause-pair c =
     let e : c.basis.inside.choices.items ≡ c.args.basis.now.choices = ap (λ (v : BasisValue). v.choices) c.basis.view_is in
     choice_there c.args.q.now _ _ c.loop-i.i (rw (c.as_slice-choices.ensures.value, e) c.requires.basis.choices) c.requires.part (rw c.as_slice-signs.ensures.value at c.loop-i-test.true)
+
+pub add_all-requires-clause-few : goal.add_all-requires-clause-few
+add_all-requires-clause-few c = room_for c.args.q.now _ c.loop-i.i _ _ c.requires.part c.requires.basis.within (rw c.as_slice-signs.ensures.value at c.loop-i-test.true) c.loop-i.invariant.few c.of_sign.ensures.few

@@ -6,4 +6,4 @@ use Rattle.bq_certificate.proofs.place.Place.root.Goals as goal
 pub returns-clause-stands : goal.returns-clause-stands
 returns-clause-stands c =
     let w = within_12 (length (attrs_of c.args.q.now.atoms)) c.of_query.result.items c.of_query.ensures.limits.few_attrs c.of_query.ensures.within in
-    stands_root c.args.q.now c.args.pairs.now record { signs = c.new.result; constraints = c.of_query.result } c.new.ensures c.of_query.ensures.value w c.requires.pairs c.requires.few c.of_query.ensures.limits.comparisons c.of_query.ensures.limits.few_attrs
+    stands_root c.args.q.now record { signs = c.new.result; constraints = c.of_query.result } c.new.ensures c.of_query.ensures.value w c.of_query.ensures.limits

@@ -1,0 +1,134 @@
+-- Which comparison closes the branch of the next sign, or that none does.
+use Rattle.std.proofs.Common.{◌≡◌, ℕ, pos, not, ◌+◌, ◌-◌, ◌<◌, ◌≤◌, Bool, true, false, ◌||◌, cond, nat_lt, nat_eq, Option, Some, None, List, [], ◌∷◌, ◌++◌, length, slice_get, slice_index_or, get_or, refl, sym, ◌∙◌, ap, subst, arith}
+use Rattle.std.specs.List.{list_any, position, position_or_len}
+use Rattle.std.proofs.lemmas.Bool.Decides.{nat_tests}
+use Rattle.std.proofs.lemmas.List.Quantifiers.{position-Some}
+use Rattle.std.proofs.lemmas.Option.{slice_get-get_or}
+use Rattle.bq_model.proofs.Has.{Has, first, later}
+use Rattle.bq_model.specs.declared.atom.Atom.{Atom}
+use Rattle.bq_model.specs.declared.atom.Element.TheVariants as element
+use Rattle.bq_model.specs.declared.atom.Op.{Op}
+use Rattle.bq_model.specs.declared.part.Pair.{Pair}
+use Rattle.bq_model.specs.declared.part.Sign.{Sign}
+use Rattle.bq_model.specs.Query.{QueryValue, IsWithinLimits}
+use Rattle.bq_model.specs.Parts.{pairs}
+use Rattle.bq_constraints.specs.Soft.{fails_by, denies_itself}
+use Rattle.bq_constraints.proofs.Prefix.{pair_at}
+use Rattle.bq_constraints.proofs.Softly.{neither, any_none}
+use Rattle.bq_certificate.specs.Rules.{comparison, is_false_under, is_refuted, is_there_refuted, some_refuted, IsRefuted}
+
+-- ---- tests
+
+neither_from : (a b : Bool) → a ≡ false → b ≡ false → (a || b) ≡ false
+neither_from true b h k = absurd cc
+neither_from false b h k = k
+
+or_right : (a b : Bool) → b ≡ true → (a || b) ≡ true
+or_right true b h = refl
+or_right false b h = h
+
+or_left : (a b : Bool) → a ≡ true → (a || b) ≡ true
+or_left true b h = refl
+or_left false b h = absurd cc
+
+none_any : {A : Type 0} (p : A → Bool) (xs : List A) → ((x : A) → Has xs x → p x ≡ false) → list_any p xs ≡ false
+none_any p [] f = refl
+none_any p (x ∷ xs) f = neither_from (p x) (list_any p xs) (f x first) (none_any p xs (λ y h. f y (later h)))
+
+none_before : {A : Type 0} (p : A → Bool) (xs : List A) → length xs ≤ position_or_len p xs → list_any p xs ≡ false
+none_before p [] l = refl
+none_before p (x ∷ xs) l = by (p x) l (none_before p xs)
+  where
+    by : (b : Bool) → length (x ∷ xs) ≤ cond (not b) (1 + position_or_len p xs) 0 → (length xs ≤ position_or_len p xs → list_any p xs ≡ false) → (b || list_any p xs) ≡ false
+    by true l f = absurd (omega (arith, l))
+    by false l f = f (omega (arith, l))
+
+-- a test that has no place is true of none
+none_placed : {A : Type 0} (p : A → Bool) (xs : List A) → None ≡ position p xs → list_any p xs ≡ false
+none_placed p xs e = by (nat_lt (position_or_len p xs) (length xs)) refl e
+  where
+    past : (m n : ℕ) → nat_lt m n ≡ false → n ≤ m
+    past m n h = grind (arith, nat_tests)
+
+    by : (b : Bool) → nat_lt (position_or_len p xs) (length xs) ≡ b → let O : Type 0 = Option ℕ in ◌≡◌ {A = O} None (cond b (Some (position_or_len p xs)) None) → list_any p xs ≡ false
+    by true f e = absurd cc
+    by false f e = none_before p xs (past _ _ f)
+
+-- ---- one sign more
+
+module _ (t : Atom) (s : Sign) (p : Pair) where
+  kept_more : (ps : List Pair) (ss : List Sign) → slice_get ps (length ss) ≡ Some p → is_false_under t ps ss ≡ false → fails_by t p s ≡ false → is_false_under t ps (ss ++ s ∷ []) ≡ false
+  kept_more [] ss g n m = absurd cc
+  kept_more (r ∷ ps) [] g n m = let same : p ≡ r = cc in neither_from (fails_by t r s) (is_false_under t ps []) (subst (λ z. fails_by t z s ≡ false) same m) (none_under ps)
+    where
+      none_under : (ps : List Pair) → is_false_under t ps [] ≡ false
+      none_under [] = refl
+      none_under (p ∷ ps) = refl
+  kept_more (r ∷ ps) (u ∷ ss) g n m =
+      let k = neither (fails_by t r u) (is_false_under t ps ss) n in
+      neither_from (fails_by t r u) (is_false_under t ps (ss ++ s ∷ [])) k.0 (kept_more ps ss g k.1 m)
+
+  refuted_more : (ps : List Pair) (ss : List Sign) → slice_get ps (length ss) ≡ Some p → fails_by t p s ≡ true → is_false_under t ps (ss ++ s ∷ []) ≡ true
+  refuted_more [] ss g m = absurd cc
+  refuted_more (r ∷ ps) [] g m = let same : p ≡ r = cc in or_left (fails_by t r s) (is_false_under t ps []) (subst (λ z. fails_by t z s ≡ true) same m)
+  refuted_more (r ∷ ps) (u ∷ ss) g m = or_right (fails_by t r u) (is_false_under t ps (ss ++ s ∷ [])) (refuted_more ps ss g m)
+
+-- a comparison, where one is asked for that stands for none
+some_atom : Atom
+some_atom = record { left = element.Const (pos 0); op = Op.Eq; right = element.Const (pos 0) }
+
+-- the comparison at a place has the number behind it
+numbered : (ts : List Atom) (i : ℕ) (d : Atom) → i < length ts → comparison ts (i + 1) ≡ Some (get_or ts i d)
+numbered ts i d l =
+    let a : nat_eq (i + 1) 0 ≡ false = apart i in
+    let b : (i + 1) - 1 ≡ i = omega arith in
+    ap (λ c. cond c None (slice_get ts ((i + 1) - 1))) a ∙ ap (λ n. slice_get ts n) b ∙ slice_get-get_or ts i d l
+  where
+    apart : (i : ℕ) → nat_eq (i + 1) 0 ≡ false
+    apart i = grind (arith, nat_tests)
+
+named_refuted : (q : QueryValue) (ss : List Sign) (i number : ℕ) (d : Atom) → i < length q.atoms → number ≡ i + 1 → is_refuted (pairs q) ss (get_or q.atoms i d) ≡ true → IsRefuted q ss number
+named_refuted q ss i number d l e h =
+    ap (λ n. is_there_refuted (pairs q) ss (comparison q.atoms n)) e ∙ ap (is_there_refuted (pairs q) ss) (numbered q.atoms i d l) ∙ h
+
+module _ (q : QueryValue) (ts : List Atom) (et : ts ≡ q.atoms) where
+  -- the place of a comparison that is false where the next pair has the sign names one that closes the branch
+  named_at : (ps : List Pair) (ss : List Sign) (s : Sign) (d : Atom) (r : Pair) (i number : ℕ) → ps ≡ pairs q → slice_get ps (length ss) ≡ Some r → Some i ≡ position (λ t. fails_by t r s) ts → number ≡ i + 1 → IsRefuted q (ss ++ s ∷ []) number
+  named_at ps ss s d r i number ep g e en =
+      let f : (i < length q.atoms) × (fails_by (get_or q.atoms i d) r s ≡ true) × ((k : ℕ) → k < i → fails_by (get_or q.atoms k d) r s ≡ false) = position-Some (λ t. fails_by t r s) q.atoms i d (ap (position (λ t. fails_by t r s)) (sym et) ∙ sym e) in
+      let h : slice_get (pairs q) (length ss) ≡ Some r = ap (λ z. slice_get z (length ss)) (sym ep) ∙ g in
+      named_refuted q (ss ++ s ∷ []) i number d f.0 en (or_right (denies_itself (get_or q.atoms i d)) (is_false_under (get_or q.atoms i d) (pairs q) (ss ++ s ∷ [])) (refuted_more (get_or q.atoms i d) s r (pairs q) ss h f.1))
+
+  -- and where there is none, none is refuted by the longer signs that was not before
+  none_at : (ps : List Pair) (ss : List Sign) (s : Sign) (r : Pair) → ps ≡ pairs q → slice_get ps (length ss) ≡ Some r → some_refuted (pairs q) ss q.atoms ≡ false → None ≡ position (λ t. fails_by t r s) ts → some_refuted (pairs q) (ss ++ s ∷ []) q.atoms ≡ false
+  none_at ps ss s r ep g n e = none_any (λ t. is_refuted (pairs q) (ss ++ s ∷ []) t) q.atoms (λ t i.
+      let old = neither (denies_itself t) (is_false_under t (pairs q) ss) (any_none (λ t. is_refuted (pairs q) ss t) q.atoms n t i) in
+      let none : list_any (λ t. fails_by t r s) q.atoms ≡ false = subst (λ z. list_any (λ t. fails_by t r s) z ≡ false) et (none_placed (λ t. fails_by t r s) ts e) in
+      let h : slice_get (pairs q) (length ss) ≡ Some r = ap (λ z. slice_get z (length ss)) (sym ep) ∙ g in
+      neither_from (denies_itself t) (is_false_under t (pairs q) (ss ++ s ∷ [])) old.0 (kept_more t s r (pairs q) ss h old.1 (any_none (λ t. fails_by t r s) q.atoms none t i)))
+
+  pub next_named : (ps : List Pair) (ss : List Sign) (s : Sign) (e : Pair) (i number : ℕ) → ps ≡ pairs q → length ss < length ps → Some i ≡ position (λ t. fails_by t (slice_index_or ps (length ss) e) s) ts → number ≡ i + 1 → IsRefuted q (ss ++ s ∷ []) number
+  next_named ps ss s e i number ep l f en = named_at ps ss s some_atom (slice_index_or ps (length ss) e) i number ep (pair_at ps (length ss) e l) f en
+
+  pub next_none : (ps : List Pair) (ss : List Sign) (s : Sign) (e : Pair) → ps ≡ pairs q → length ss < length ps → some_refuted (pairs q) ss q.atoms ≡ false → None ≡ position (λ t. fails_by t (slice_index_or ps (length ss) e) s) ts → some_refuted (pairs q) (ss ++ s ∷ []) q.atoms ≡ false
+  next_none ps ss s e ep l n f = none_at ps ss s (slice_index_or ps (length ss) e) ep (pair_at ps (length ss) e l) n f
+
+  -- the same at the root, of comparisons that say that an element is not itself
+  pub root_named : (i number : ℕ) → Some i ≡ position (λ t. denies_itself t) ts → number ≡ i + 1 → IsRefuted q [] number
+  root_named i number e en =
+      let d : Atom = some_atom in
+      let f : (i < length q.atoms) × (denies_itself (get_or q.atoms i d) ≡ true) × ((k : ℕ) → k < i → denies_itself (get_or q.atoms k d) ≡ false) = position-Some (λ t. denies_itself t) q.atoms i d (ap (position (λ t. denies_itself t)) (sym et) ∙ sym e) in
+      named_refuted q [] i number d f.0 en (or_left (denies_itself (get_or q.atoms i d)) (is_false_under (get_or q.atoms i d) (pairs q) []) f.1)
+
+  pub root_none : None ≡ position (λ t. denies_itself t) ts → some_refuted (pairs q) [] q.atoms ≡ false
+  root_none e = none_any (λ t. is_refuted (pairs q) [] t) q.atoms (λ t i.
+      let none : list_any (λ t. denies_itself t) q.atoms ≡ false = subst (λ z. list_any (λ t. denies_itself t) z ≡ false) et (none_placed (λ t. denies_itself t) ts e) in
+      neither_from (denies_itself t) (is_false_under t (pairs q) []) (any_none (λ t. denies_itself t) q.atoms none t i) (none_under t (pairs q)))
+    where
+      none_under : (t : Atom) (ps : List Pair) → is_false_under t ps [] ≡ false
+      none_under t [] = refl
+      none_under t (p ∷ ps) = refl
+
+  -- a place is among the comparisons
+  pub placed : (p : Atom → Bool) (i : ℕ) → IsWithinLimits q → Some i ≡ position p ts → i < 16
+  placed p i w e = let l : i < length ts = (position-Some p ts i some_atom (sym e)).0 in omega (arith, l, ap length et, w.comparisons)

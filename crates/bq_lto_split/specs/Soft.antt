@@ -1,0 +1,23 @@
+-- By which signs of pairs soft comparisons are false.
+use Rattle.std.specs.Prelude.{◌≡◌, Bool, List}
+use Rattle.std.specs.List.{list_any, AllZip}
+use Rattle.bq_model.specs.declared.part.Pair.{Pair}
+use Rattle.bq_model.specs.declared.part.Sign.{Sign}
+use Rattle.bq_model.specs.Query.{QueryValue}
+use Rattle.bq_model.specs.Parts.{pairs}
+use Rattle.bq_constraints.specs.Soft.{fails_by}
+use Rattle.bq_lto_split.specs.declared.soft.Fails.{Fails}
+
+-- whether a comparison is false by the sign
+abbrev pub fails_at : Fails → Sign → Bool
+fails_at f Sign.Lt = f.less
+fails_at f Sign.Eq = f.equal
+fails_at f Sign.Gt = f.greater
+
+-- by which signs of the pair a comparison of the query is false
+pub record IsFails (q : QueryValue) (p : Pair) (f : Fails) : Type 0 where
+  pub says : (s : Sign) → fails_at f s ≡ list_any (λ t. fails_by t p s) q.atoms
+
+-- the same for each pair of the query, in order
+abbrev pub AreFails : QueryValue → List Fails → Type 0
+AreFails q fs = AllZip (IsFails q) (pairs q) fs

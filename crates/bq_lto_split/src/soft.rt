@@ -1,0 +1,83 @@
+//! Soft comparisons under the signs of pairs.
+ghost use Rattle.std.specs.Prelude.{◌≡◌, length, slice_get};
+ghost use Rattle.std.specs.List.{list_any};
+ghost use Rattle.bq_model.specs.Parts.{pairs};
+ghost use Rattle.bq_constraints.specs.Soft.{fails_by, next_fails, denies_itself};
+ghost use Rattle.bq_lto_split.specs.Soft.{fails_at, IsFails, AreFails};
+
+use arrayvec::ArrayVec;
+use bq_constraints::{denies_itself, fails_by};
+use bq_model::{Atom, Pair, Query, Sign};
+
+// Whether one of some comparisons is soft, names the pair, and is false where the pair has the sign.
+fn some_fails(atoms: &[Atom], pair: Pair, sign: Sign) -> bool
+    ensures { result ≡ list_any (λ t. fails_by t pair sign) atoms.now }
+{
+    atoms.iter().any(|t| fails_by(t, pair, sign))
+}
+
+/// By which signs of a pair a soft comparison of the query is false.
+#[derive(Clone, Copy, Debug, Default, PartialEq, Eq)]
+pub struct Fails {
+    less: bool,
+    equal: bool,
+    greater: bool,
+}
+
+impl Fails {
+    // Whether one is false by the sign.
+    fn by(&self, sign: Sign) -> bool
+        ensures { result ≡ fails_at self.now sign }
+    {
+        match sign {
+            Sign::Lt => self.less,
+            Sign::Eq => self.equal,
+            Sign::Gt => self.greater,
+        }
+    }
+}
+
+// By which signs of the pair a soft comparison of the query is false.
+fn fails_of(q: &Query, pair: Pair) -> Fails
+    ensures { IsFails q.now pair result }
+{
+    Fails {
+        less: some_fails(q.atoms(), pair, Sign::Lt),
+        equal: some_fails(q.atoms(), pair, Sign::Eq),
+        greater: some_fails(q.atoms(), pair, Sign::Gt),
+    }
+}
+
+/// By which signs of each pair a soft comparison of the query is false, in order.
+pub fn failing_signs(q: &Query) -> ArrayVec<Fails, 114>
+    ensures { AreFails q.now result.items }
+{
+    let pairs = q.pairs();
+    let pairs = pairs.as_slice();
+    let mut list = ArrayVec::new();
+    for i in 0..pairs.len() {
+        list.push(fails_of(q, pairs[i]));
+    }
+    list
+}
+
+/// Whether a comparison of the query is false where the next pair has this sign.
+pub fn next_fails(q: &Query, fails: &[Fails], signs: &[Sign], sign: Sign) -> bool
+    requires { AreFails q.now fails.now }
+    ensures { result ≡ next_fails q.now.atoms (slice_get (pairs q.now) (length signs.now)) sign }
+{
+    let _query = q;
+    let place = signs.len();
+    if place < fails.len() {
+        fails[place].by(sign)
+    } else {
+        false
+    }
+}
+
+/// Whether a comparison of the query says that an element is not itself.
+pub fn has_denial(q: &Query) -> bool
+    ensures { result ≡ list_any (λ t. denies_itself t) q.now.atoms }
+{
+    q.atoms().iter().any(|t| denies_itself(t))
+}

@@ -1,0 +1,12 @@
+-- The queries of which the laws on states speak.
+use Rattle.std.specs.Prelude.{◌≡◌, [], All, IsFalse}
+use Rattle.bq_model.specs.Query.{QueryValue, is_soft}
+
+-- no column has a domain
+abbrev pub HasNoDomains : QueryValue → Type 0
+HasNoDomains q = q.domains ≡ []
+
+-- no comparison is soft, and no column has a domain
+pub record IsPlain (q : QueryValue) : Type 0 where
+  pub hard : All (λ t. IsFalse (is_soft t.op)) q.atoms
+  pub domains : HasNoDomains q
