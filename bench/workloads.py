@@ -63,6 +63,22 @@ def filters():
     return Workload("64 filters of three conditions, one stream of four columns", head, one, mawk, "\n".join(python), sqlite)
 
 
+def four_conditions(soft):
+    """64 filters of four conditions each, two of them between columns; a row answers 0.2 of them. Values of b are odd and the others
+    even, so that the soft conditions hold of the same rows as the strict ones."""
+    head = ["CREATE STREAM S (a, b, c)"]
+    for i in range(64):
+        low, high = 600 + 2 * i, 1400 - 2 * i
+        strict = f"S.a > S.b AND S.b > S.c AND S.c > {low - 1} AND S.a < {high + 1}"
+        softer = f"S.a >= S.b AND S.b >= S.c AND S.c >= {low} AND S.a <= {high}"
+        head.append(f"CREATE QUERY q{i} AS SELECT S.a FROM S WHERE {softer if soft else strict}")
+
+    def one(r):
+        return f"S,{2 * r.randrange(1000)},{2 * r.randrange(1000) + 1},{2 * r.randrange(1000)}"
+
+    return Workload("the same with four soft conditions" if soft else "64 filters of four conditions", head, one)
+
+
 def joins():
     """16 equi-joins over windows of 4,096 values each, so 8,192 cells each; a row is in one window."""
     head = ["CREATE STREAM S (a, b)", "CREATE STREAM T (a, b)"]
@@ -126,4 +142,4 @@ def worst():
     return Workload("a row that finds nothing, in a query of work 1.9 million", head, lambda r: f"S,{1 + r.randrange(124)}", share=100)
 
 
-WORKLOADS = [no_query(), filters(), joins(), distinct(), worst()]
+WORKLOADS = [no_query(), filters(), four_conditions(False), four_conditions(True), joins(), distinct(), worst()]

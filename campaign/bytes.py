@@ -6,7 +6,6 @@ import re
 
 from common import Part, compare, scaled
 from evaluator import session_text
-from language import SOFT_OPERATORS
 
 TEXTS = 500
 WORDS = rb"LineTooLong|Syntax|Limit|Duplicate|TooMany|UnknownStream|UnknownColumn|SelfJoin|UnknownQuery"
@@ -18,10 +17,9 @@ FORM = re.compile(
 HEAD = b"CREATE STREAM S (a, b)\nCREATE STREAM T (c)\n" \
        b"CREATE QUERY f AS SELECT S.b, S.a FROM S WHERE S.a > 0\n" \
        b"CREATE QUERY j AS SELECT S.a FROM S, T WHERE S.a = T.c AND S.a > 0 AND S.a < 4\n" \
-       b"CREATE QUERY d AS SELECT DISTINCT S.a FROM S, T WHERE S.b < T.c AND S.a > 0 AND S.a < 4\n"
-HEAD_SOFT = b"CREATE QUERY n AS SELECT DISTINCT S.a FROM S, T WHERE S.b <> T.c AND S.a >= 1 AND S.a <= 3\n" \
-            b"CREATE QUERY m AS SELECT S.a FROM S, T WHERE S.a <= T.c AND S.a > 0 AND T.c < 4\n"
-HEAD += HEAD_SOFT if SOFT_OPERATORS else b""
+       b"CREATE QUERY d AS SELECT DISTINCT S.a FROM S, T WHERE S.b < T.c AND S.a > 0 AND S.a < 4\n" \
+       b"CREATE QUERY n AS SELECT DISTINCT S.a FROM S, T WHERE S.b <> T.c AND S.a >= 1 AND S.a <= 3\n" \
+       b"CREATE QUERY m AS SELECT S.a FROM S, T WHERE S.a <= T.c AND S.a > 0 AND T.c < 4\n"
 EDGES = [b"S,1,%s", b"-- %s", b"%s", b"S,%s", b"CREATE STREAM X (%s)", b" %s"]
 ENDS = [b"\n", b"\n", b"\n", b"\r\n", b"\r", b"\r\r\n", b"\n\n", b" \r\n", b"\r \n", b"\x00\n"]
 UTF8 = ["é", "日本", "\u00a0", "\u2028", "\ufeff", "😀", "Ａ", "١"]

@@ -13,7 +13,7 @@ MOST_NODES = 262_144
 LARGEST_NUMBER = 65_535
 LEAST_COUNT = {"infeasible": 1, "path": 3}
 GREATEST_COUNT = {"infeasible": 13, "path": 14}
-WORDS = [b"split", b"infeasible", b"leaf", b"path"] + [b"against"] * bool(language.SOFT_OPERATORS)
+WORDS = [b"split", b"infeasible", b"against", b"leaf", b"path"]
 LINE = re.compile(rb"(" + b"|".join(WORDS) + rb")((?: [0-9]+)*)\Z")
 
 

@@ -1,8 +1,8 @@
 """Random scripts. The writer asks the evaluator for the reply to each line that it writes.
 
 So it knows which queries live, and drops those whose answers become too many. What share of the
-comparisons is soft the environment sets; where there are none, the scripts are what they were
-before there were any.
+inequalities is soft the environment sets; with a share of 0 none is, and scripts are made without
+a thought of them.
 """
 import re
 

@@ -2,8 +2,8 @@
 
 Everything here works on bytes. A statement that is refused raises Refused with its word.
 
-The comparisons `<=`, `>=` and `<>` are called soft. Where the environment has no CAMPAIGN_SOFT,
-the language has none of them, nor the certificates what belongs to them.
+The comparisons `<=`, `>=` and `<>` are called soft. CAMPAIGN_SOFT in the environment is the share
+of them in random queries.
 """
 import os
 import re
@@ -21,10 +21,10 @@ MOST_CONSTANTS = 6
 LARGEST_INTEGER = 999_999_999_999_999
 LEAST_VALUE, GREATEST_VALUE = -(2**63), 2**63 - 1
 
-# the share of soft comparisons in random queries; 0 is the language without them
-SOFT_SHARE = float(os.environ.get("CAMPAIGN_SOFT") or 0)
+# the share of the inequalities of random queries that are soft; with 0 these queries have none
+SOFT_SHARE = float(os.environ.get("CAMPAIGN_SOFT") or 0.4)
 HARD_OPERATORS = ("<", "=", ">")
-SOFT_OPERATORS = ("<=", ">=", "<>") if SOFT_SHARE > 0 else ()
+SOFT_OPERATORS = ("<=", ">=", "<>")
 OPERATORS = HARD_OPERATORS + SOFT_OPERATORS
 
 RESERVED = {

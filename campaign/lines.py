@@ -5,7 +5,6 @@ and marks at random. At the end known rows must still be answered rightly.
 """
 from common import Part, compare, scaled
 from evaluator import Session
-from language import SOFT_OPERATORS
 from generator import QUERY_NAMES, Writer
 
 SCRIPTS = 600
@@ -15,7 +14,7 @@ WORDS = [b"CREATE", b"STREAM", b"QUERY", b"AS", b"SELECT", b"DISTINCT", b"FROM",
          b"EXPLAIN", b"DROP", b"in", b"shared", b"checkpoint", b"resume", b"S", b"T", b"a", b"b", b"q",
          b"p", b"Create", b"seLECT", b"n" * 24, b"n" * 25, b"0", b"-1", b"+7", b"999999999999999",
          b"1000000000000000", b"-999999999999999", b",", b".", b"(", b")", b"<", b"=", b">", b";",
-         b"S.a", b"T.b", b"--", b"-", b"+", b" ", b"\t", b"\r", b"x", b"'", b"\xc3\xa9", b"1a", b"a1"] + [it.encode() for it in SOFT_OPERATORS]
+         b"S.a", b"T.b", b"--", b"-", b"+", b" ", b"\t", b"\r", b"x", b"'", b"\xc3\xa9", b"1a", b"a1", b"<=", b">=", b"<>"]
 SHAPES = [b"CREATE STREAM # ( # , # ) #", b"CREATE QUERY # AS SELECT # . # FROM # WHERE # # #",
           b"CREATE QUERY # AS SELECT DISTINCT S.a FROM S # WHERE S.a # # AND S.a < 3 #",
           b"EXPLAIN # #", b"DROP QUERY # #", b"S , # , #", b"# , 1 , #", b"# # # # #", b"CREATE # #"]

@@ -3,8 +3,8 @@
 A query with soft comparisons is split into one query for each choice of signs of what it compares
 softly. The parts of these, one after the other, are its parts; its numbers are their sums, and its
 answers are all of theirs. So the evaluator's reply to it, its plan and its answers can be told from
-what the program says of queries without soft comparisons: the program need not know them. Without
---soft there is nothing to try.
+what the program says of queries without soft comparisons. Where random queries have no soft
+comparisons there is nothing to try.
 """
 from collections import Counter
 from itertools import product
@@ -181,7 +181,7 @@ def one_query(part):
 def run(program, seed, scale):
     part = Part("signs", seed)
     part.count("queries", 0)
-    for _ in range(scaled(SCRIPTS, scale) if language.SOFT_OPERATORS else 0):
+    for _ in range(scaled(SCRIPTS, scale) if language.SOFT_SHARE else 0):
         split = one_query(part)
         if split is None:
             continue
