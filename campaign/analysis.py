@@ -6,6 +6,9 @@ constant an integer. Node 0 stands for the number 0, node i for the i-th attribu
 
 The comparisons `<=`, `>=` and `<>` are soft: what they compare is a pair of its own, and a part
 is one sign of it. Each sign of which an operator is written is one that meets it.
+
+A query has the domains of its columns, each the column with its least and its greatest value. The
+ends of a domain are no constants: they bound a column, and no pair has them.
 """
 from collections import namedtuple
 from itertools import combinations
@@ -19,8 +22,9 @@ SIGNS = "<=>"
 SOFT = ("<=", ">=", "<>")
 TURNED = {"<": ">", "=": "=", ">": "<", "<=": ">=", ">=": "<=", "<>": "<>"}
 
-# atoms are triples (left, operator, right) of attributes and integers
-Query = namedtuple("Query", "distinct places select atoms")
+# atoms are triples (left, operator, right) of attributes and integers; domains are triples
+# (column, least, greatest) of the attributes and selected columns that have one, in order
+Query = namedtuple("Query", "distinct places select atoms domains", defaults=[()])
 Analysis = namedtuple("Analysis", "verdict parts")
 Part = namedtuple("Part", "signs facts dims extremes")
 TooManyParts = type("TooManyParts", (Exception,), {})
@@ -110,6 +114,19 @@ def constraints_of(left, operator, right, nodes):
     return [(i, j, shift), (j, i, -shift)]
 
 
+def first_constraints(query, nodes):
+    """The constraints before those of signs: of the comparisons that are not soft, in order, and
+    then of the domain of each attribute that has one.
+    """
+    constraints = []
+    for left, operator, right in hard_atoms(query):
+        constraints += constraints_of(left, operator, right, nodes)
+    for column, low, high in query.domains:
+        if column in nodes:
+            constraints += [(0, nodes[column], -low), (nodes[column], 0, high)]
+    return constraints
+
+
 class Bounds:
     """What difference constraints imply, as a closed table; `possible` says whether any do."""
 
@@ -152,6 +169,7 @@ class Facts:
     def __init__(self, query, nodes, constants, at):
         self.query, self.nodes, self.constants, self.at = query, nodes, constants, at
         self.attributes = sorted(nodes)
+        self.domains = {column: ends for column, *ends in query.domains}
         # each element stands at a node, a constant at node 0 with its value on top
         self.stands = {it: (node, 0) for it, node in nodes.items()}
         self.stands.update((it, (0, it)) for it in constants)
@@ -165,6 +183,10 @@ class Facts:
         bound = self.at[i][j]
         return None if bound is None else bound + k - m
 
+    def is_alone(self, x):
+        """Whether a column is no attribute, so that it is a class of its own."""
+        return x not in self.nodes
+
     def less(self, x, y):
         bound = self.upper(x, y)
         return bound is not None and bound <= -1
@@ -174,9 +196,12 @@ class Facts:
         return one is not None and other is not None and one <= 0 and other <= 0
 
     def range(self, x):
-        """The least and the greatest value of a bounded attribute, else None."""
-        if x not in self.nodes:
-            return None
+        """The least and the greatest value of a bounded column, else None.
+
+        A column that is no attribute has all values of its domain, and is unbounded without one.
+        """
+        if self.is_alone(x):
+            return tuple(self.domains[x]) if x in self.domains else None
         low, high = self.at[0][self.nodes[x]], self.at[self.nodes[x]][0]
         return None if low is None or high is None else (-low, high)
 
@@ -199,7 +224,9 @@ class Facts:
         self.greatest = {y for _, y in self.inequalities if not self.range(y)}
 
     def class_of(self, x):
-        """The first attribute of the stream that equals x."""
+        """The first attribute of the stream that equals x; a column that is none is by itself."""
+        if self.is_alone(x):
+            return x
         return next(it for it in self.attributes if it[0] == x[0] and self.equal(it, x))
 
 
@@ -223,11 +250,10 @@ def violation_of(query, facts):
 
 
 def dims_of(query, facts, place):
-    """The classes of bounded attributes by which the rows of a stream are told apart."""
+    """The classes of bounded columns by which the rows of a stream are told apart."""
     used = set(query.select)
     used |= {it for pair in facts.equalities + facts.inequalities for it in pair}
-    members = [it for it in facts.attributes
-               if it[0] == place and facts.range(it) and it in used]
+    members = [it for it in used if it[0] == place and facts.range(it)]
     return sorted({facts.class_of(it) for it in members})
 
 
@@ -249,9 +275,9 @@ def work_of(query, facts, dims):
         for place in range(query.places):
             if place == arriving:
                 continue
-            free += [it for it in dims[place]
-                     if not any(facts.equal(it, other) for other in own + earlier)]
-            earlier = earlier + dims[place]
+            free += [it for it in dims[place] if facts.is_alone(it)
+                     or not any(facts.equal(it, other) for other in own + earlier)]
+            earlier = earlier + [it for it in dims[place] if not facts.is_alone(it)]
         most = max(most, size_of(facts, free))
     return most
 
@@ -259,16 +285,15 @@ def work_of(query, facts, dims):
 def walk(query, most):
     """The open fronts of sign vectors, ascending, each with its closed table.
 
-    A front is open where some assignment has these signs and meets the comparisons that are not
-    soft, and no soft comparison is false under its sign.
+    A front is open where some assignment within the domains has these signs and meets the
+    comparisons that are not soft, and no soft comparison is false under its sign.
     """
     nodes = {it: i for i, it in enumerate(attributes_of(query), 1)}
     pairs = pairs_of(query)
     signs_of = signs_of_pairs(query, pairs)
     root = Bounds(len(nodes) + 1)
-    for left, operator, right in hard_atoms(query):
-        for constraint in constraints_of(left, operator, right, nodes):
-            root.add(constraint)
+    for constraint in first_constraints(query, nodes):
+        root.add(constraint)
     whole, waiting = 0, [("", root)] if root.possible and not is_void(query) else []
     while waiting:
         signs, bounds = waiting.pop()

@@ -6,6 +6,7 @@ import re
 
 from common import Part, compare, scaled
 from evaluator import session_text
+from language import DOMAIN_SHARE
 
 TEXTS = 500
 WORDS = rb"LineTooLong|Syntax|Limit|Duplicate|TooMany|UnknownStream|UnknownColumn|SelfJoin|UnknownQuery"
@@ -13,13 +14,18 @@ FORM = re.compile(
     rb"ok stream \w+|ok query \w+ filter|ok drop \w+"
     rb"|ok query \w+ parts \d+ cells \d+ answers \d+ work \d+"
     rb"|refused \w+ part \d+ C[123] \w+\.\w+|refused \w+ limit (parts|cells|answers|work|pool)"
-    rb"|error [1-9]\d* (" + WORDS + rb"|Arity|Value|RowLimit)|\w+(,-?\d+)+")
+    rb"|error [1-9]\d* (" + WORDS + rb"|Arity|Value|Domain|RowLimit)|\w+(,-?\d+)+")
 HEAD = b"CREATE STREAM S (a, b)\nCREATE STREAM T (c)\n" \
        b"CREATE QUERY f AS SELECT S.b, S.a FROM S WHERE S.a > 0\n" \
        b"CREATE QUERY j AS SELECT S.a FROM S, T WHERE S.a = T.c AND S.a > 0 AND S.a < 4\n" \
        b"CREATE QUERY d AS SELECT DISTINCT S.a FROM S, T WHERE S.b < T.c AND S.a > 0 AND S.a < 4\n" \
        b"CREATE QUERY n AS SELECT DISTINCT S.a FROM S, T WHERE S.b <> T.c AND S.a >= 1 AND S.a <= 3\n" \
        b"CREATE QUERY m AS SELECT S.a FROM S, T WHERE S.a <= T.c AND S.a > 0 AND T.c < 4\n"
+if DOMAIN_SHARE:
+    HEAD += b"CREATE STREAM D (a IN -1..4, b IN -999999999999999..999999999999999)\n" \
+            b"CREATE QUERY e AS SELECT D.a FROM D, T WHERE D.a = T.c\n" \
+            b"CREATE QUERY g AS SELECT DISTINCT D.a, S.a FROM D, S" \
+            b" WHERE S.b >= D.b AND S.a > 0 AND S.a < 4\n"
 EDGES = [b"S,1,%s", b"-- %s", b"%s", b"S,%s", b"CREATE STREAM X (%s)", b" %s"]
 ENDS = [b"\n", b"\n", b"\n", b"\r\n", b"\r", b"\r\r\n", b"\n\n", b" \r\n", b"\r \n", b"\x00\n"]
 UTF8 = ["é", "日本", "\u00a0", "\u2028", "\ufeff", "😀", "Ａ", "١"]
@@ -46,6 +52,8 @@ def long_run(random):
 
 
 def good_row(random):
+    if DOMAIN_SHARE and random.random() < 0.3:
+        return b"D,%d,%d" % (random.randint(-2, 5), random.randint(-9, 9))
     return random.choice([b"S,%d,%d" % (random.randint(-1, 5), random.randint(-9, 9)),
                           b"T,%d" % random.randint(-1, 9)])
 

@@ -45,7 +45,9 @@ def certify(part, program, text):
     if status != 0 or noise:
         part.differs(f"certify: status {status}", text)
         return None
-    statements = checker.printed_statements(checker.read_script(text, False))
+    script = checker.read_script(text, False)
+    part.count("with a domain", int(bool(script.query.domains)))
+    statements = checker.printed_statements(script)
     if not output.startswith(statements):
         part.differs(f"certify: {first_other_line(output, statements)}", text)
     return output
@@ -104,7 +106,7 @@ def choose(part, certificates):
     kinds = Counter()
     for text in middle:
         kind = checker.certificate_reply(text)[0].split()
-        kind = kind[4] if kind[2] == b"part" else kind[2], b"against" in text
+        kind = kind[4] if kind[2] == b"part" else kind[2], b"against" in text, b" IN " in text
         if kinds[kind] < 3 or len(middle) <= CHANGED_CERTIFICATES:
             kinds[kind] += 1
             yield text

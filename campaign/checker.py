@@ -59,7 +59,7 @@ class Script:
             self.session.create_stream(statement)
             self.streams.append(statement)
             return
-        self.query = evaluator.resolve(statement, self.session.streams)
+        self.query = self.session.resolve(statement)
         self.statement, self.query_line = statement, number
 
     def take_node(self, stripped):
@@ -100,9 +100,7 @@ class Tree:
 
     def walk(self):
         """Goes through the whole tree; Fault at the first place that breaks a rule."""
-        base = []
-        for left, operator, right in analysis.hard_atoms(self.query):
-            base += analysis.constraints_of(left, operator, right, self.numbers)
+        base = analysis.first_constraints(self.query, self.numbers)
         waiting, place = [("", base)], 0
         while waiting:
             signs, constraints = waiting.pop()

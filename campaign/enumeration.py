@@ -1,8 +1,9 @@
 """Tries the campaign's own analysis on small queries by going through all assignments.
 
-At most three attributes and constants from 0 to 3: what holds for all integers shows in a box
-that reaches five beyond the constants.
+At most three attributes, and constants and ends of domains from 0 to 3: what holds for all integers
+shows in a box that reaches five beyond them.
 """
+import math
 from itertools import product
 
 import analysis
@@ -19,7 +20,10 @@ def random_operator(random):
 
 
 def random_query(random):
-    """A query over two streams with at most three attributes and two constants."""
+    """A query over two streams with at most three attributes and two constants.
+
+    With the share that the environment sets a column has a domain.
+    """
     columns = random.sample(COLUMNS, random.randint(1, 3))
     constants = random.sample(range(4), 2)
     atoms = []
@@ -28,11 +32,33 @@ def random_query(random):
         right = random.choice(columns + constants)
         pair = (left, right) if random.random() < 0.7 else (right, left)
         atoms.append((pair[0], random_operator(random), pair[1]))
-    return analysis.Query(random.random() < 0.5, 2, tuple(columns[:1]), tuple(atoms))
+    query = analysis.Query(random.random() < 0.5, 2, tuple(columns[:1]), tuple(atoms))
+    return with_domains(random, query) if language.DOMAIN_SHARE else query
+
+
+def with_domains(random, query):
+    """The query with one more selected column now and then, and with domains.
+
+    In half of the queries all selected columns have one, so that other conditions may fail.
+    """
+    select = query.select
+    if random.random() < 0.5:
+        select += (random.choice(COLUMNS),)
+    named = sorted({*analysis.attributes_of(query), *select})
+    bounded = select if random.random() < 0.5 else ()
+    having = [it for it in named if it in bounded or random.random() < language.DOMAIN_SHARE]
+    domains = [(it, *sorted(random.choices(range(4), k=2))) for it in having]
+    return query._replace(select=select, domains=tuple(domains))
 
 
 def sign(x, y):
     return "<" if x < y else "=" if x == y else ">"
+
+
+def boxes_of(query, columns):
+    """The values to go through for each of these columns: a domain, or the whole box."""
+    of = {it: range(low, high + 1) for it, low, high in query.domains}
+    return [of.get(it, BOX) for it in columns]
 
 
 def holds(of, atoms):
@@ -58,7 +84,7 @@ def parts_by_enumeration(query, pairs):
     attributes = analysis.attributes_of(query)
     hard = [it for it in query.atoms if len(it[1]) == 1]
     found, loose = {}, {}
-    for values in product(BOX, repeat=len(attributes)):
+    for values in product(*boxes_of(query, attributes)):
         of = dict(zip(attributes, values))
         if holds(of, hard):
             signs = "".join(sign(of.get(x, x), of.get(y, y)) for x, y in pairs)
@@ -68,9 +94,13 @@ def parts_by_enumeration(query, pairs):
     return found, loose
 
 
-def range_of(values, constants):
-    """The range of a bounded attribute, else None: bounded means enclosed by constants."""
-    if constants and min(values) >= constants[0] and max(values) <= constants[-1]:
+def range_of(query, values):
+    """The range of a bounded column, else None.
+
+    Bounded means enclosed by constants and by ends of domains.
+    """
+    ends = analysis.constants_of(query) + [it for _, *both in query.domains for it in both]
+    if ends and min(values) >= min(ends) and max(values) <= max(ends):
         return min(values), max(values)
     return None
 
@@ -108,13 +138,13 @@ def fault_of(query):
         fault = fault_of_facts(facts, members) or fault_of_links(pairs, signs, facts, members)
         if fault:
             return f"{fault} in {signs}"
-    return None
+    return fault_of_numbers(query, by_box)
 
 
 def fault_of_facts(facts, members):
     """What is wrong with the ranges and the order in a part, or None."""
     for x in facts.attributes:
-        if facts.range(x) != range_of([it[x] for it in members], facts.constants):
+        if facts.range(x) != range_of(facts.query, [it[x] for it in members]):
             return f"another range of {x}"
         for y in facts.attributes + facts.constants:
             signs_seen = {sign(it[x], it.get(y, y)) for it in members}
@@ -128,15 +158,104 @@ def fault_of_facts(facts, members):
 def fault_of_links(pairs, signs, facts, members):
     """What is wrong with the links of a part, or None.
 
-    With the signs within the streams they must be all that the part says, and each inequality
-    must have both sides bounded or both unbounded.
+    With the signs within the streams they must be all that the part says. Without domains each
+    inequality must have both sides bounded or both unbounded.
     """
     local = [(x, it, y) for (x, y), it in zip(pairs, signs) if isinstance(y, int) or x[0] == y[0]]
     links = [(x, "=", y) for x, y in facts.equalities]
     links += [(x, "<", y) for x, y in facts.inequalities]
-    boxes = (dict(zip(facts.attributes, it)) for it in product(BOX, repeat=len(facts.attributes)))
+    boxes = product(*boxes_of(facts.query, facts.attributes))
+    boxes = (dict(zip(facts.attributes, it)) for it in boxes)
     if [it for it in boxes if holds(it, local + links)] != members:
         return "signs and links that say something else"
-    if any((facts.range(x) is None) != (facts.range(y) is None) for x, y in facts.inequalities):
+    if not facts.query.domains and any((facts.range(x) is None) != (facts.range(y) is None)
+                                       for x, y in facts.inequalities):
         return "an inequality that is bounded on one side"
     return None
+
+
+class Seen:
+    """What a part says of its columns, by its assignments alone."""
+
+    def __init__(self, query, members):
+        self.query = query
+        self.attributes = analysis.attributes_of(query)
+        self.alone = [it for it in set(query.select) if it not in self.attributes]
+        self.members = members
+        self.ranges = {it: range_of(query, [of[it] for of in members]) for it in self.attributes}
+        of_alone = {it: (low, high) for it, low, high in query.domains if it in self.alone}
+        self.ranges.update((it, of_alone.get(it)) for it in self.alone)
+        self.constants = analysis.constants_of(query)
+
+    def always(self, x, y):
+        """The one sign that two elements have in all assignments, or None."""
+        signs = {sign(it.get(x, x), it.get(y, y)) for it in self.members}
+        return signs.pop() if len(signs) == 1 else None
+
+    def named(self, x):
+        """The name of the class of a column."""
+        if x in self.alone:
+            return x
+        return min(it for it in self.attributes if it[0] == x[0] and self.always(it, x) == "=")
+
+    def is_direct(self, x, y):
+        """Whether nothing stands between two attributes of which one is less."""
+        signs = {it: (self.always(x, it), self.always(it, y))
+                 for it in self.attributes + self.constants}
+        of_constants = {signs[it] for it in self.constants}
+        return ("<", "<") not in signs.values() and not {("=", "<"), ("<", "=")} & of_constants
+
+    def links(self):
+        """Equalities and inequalities between streams."""
+        pairs = [(x, y) for x in self.attributes for y in self.attributes if x[0] != y[0]]
+        return ([it for it in pairs if it[0] < it[1] and self.always(*it) == "="],
+                [it for it in pairs if self.always(*it) == "<" and self.is_direct(*it)])
+
+    def violation(self):
+        """The condition that fails first with the column at fault, or None."""
+        equal, less = self.links()
+        free = sorted(it for it, ends in self.ranges.items() if ends is None)
+        sides = {it for pair in equal for it in pair}
+        found = [("C1", it) for it in free if it in self.query.select]
+        found += [("C2", it) for it in free if it in sides]
+        for place in range(self.query.places):
+            least = {x for x, _ in less if x[0] == place and x in free}
+            greatest = {y for _, y in less if y[0] == place and y in free}
+            classes = [len({self.named(it) for it in side}) for side in (least, greatest)]
+            if sum(classes) > self.query.distinct:
+                found.append(("C3", min(least | greatest)))
+        return found[0] if found else None
+
+    def dims(self):
+        """Per stream the names of the classes of bounded columns that are wanted."""
+        wanted = set(self.query.select) | {it for pairs in self.links() for it in sum(pairs, ())}
+        names = sorted({self.named(it) for it in wanted if self.ranges[it]})
+        return [[it for it in names if it[0] == place] for place in range(self.query.places)]
+
+    def size(self, columns):
+        return math.prod(self.ranges[it][1] - self.ranges[it][0] + 1 for it in columns)
+
+    def work(self, dims):
+        """The most combinations that a row can meet; there are two streams."""
+        return max(self.size([it for it in dims[1 - place] if it in self.alone
+                              or not any(other[0] == place and self.always(it, other) == "="
+                                         for other in self.attributes)]) for place in (0, 1))
+
+
+def fault_of_numbers(query, by_box):
+    """What is wrong with the verdict, or None; by the assignments of each part."""
+    cells = answers = work = 0
+    wanted = None
+    for number, signs in enumerate(sorted(by_box), 1):
+        seen = Seen(query, by_box[signs])
+        violation = seen.violation()
+        if violation:
+            wanted = "violation", number, *violation
+            break
+        dims = seen.dims()
+        cells += sum(map(seen.size, dims))
+        answers += seen.size(set(query.select))
+        work += seen.work(dims)
+    wanted = wanted or ("ok", len(by_box), cells, answers, work)
+    got = analysis.analyse(query).verdict
+    return None if got == wanted else f"verdict {got}, wanted {wanted}"

@@ -20,8 +20,11 @@ COMPARE = {"<": operator.lt, "=": operator.eq, ">": operator.gt,
 VERDICTS = {}
 
 
-def resolve(statement, streams):
-    """The query that a statement's names stand for over these streams, with columns numbered."""
+def resolve(statement, streams, domains):
+    """The query that a statement's names stand for over these streams, with columns numbered.
+
+    Columns and domains of each stream stand by its name.
+    """
     operands = [it for atom in statement.atoms for it in (atom.left, atom.right)]
     columns = statement.select + [it for it in operands if not isinstance(it, int)]
     if any(it not in streams for it in statement.streams):
@@ -40,7 +43,10 @@ def resolve(statement, streams):
 
     atoms = tuple((numbered(it.left), it.operator, numbered(it.right)) for it in statement.atoms)
     select = tuple(numbered(it) for it in statement.select)
-    return analysis.Query(statement.distinct, len(statement.streams), select, atoms)
+    query = analysis.Query(statement.distinct, len(statement.streams), select, atoms)
+    named = sorted(set(select).union(analysis.attributes_of(query)))
+    ends = [(it, domains[statement.streams[it[0]]][it[1]]) for it in named]
+    return query._replace(domains=tuple((it, *domain) for it, domain in ends if domain))
 
 
 def verdict_on(query):
@@ -111,7 +117,9 @@ class Session:
 
     def __init__(self, most_rows=MOST_ROWS):
         self.most_rows = most_rows
-        self.streams, self.queries = {}, {}
+        # by the name of a stream its columns, and beside them their domains
+        self.streams, self.domains = {}, {}
+        self.queries = {}
         self.rows_taken = self.line_number = 0
 
     def reply(self, line):
@@ -128,7 +136,7 @@ class Session:
         if language.says_nothing(stripped):
             return b""
         if language.row_name(stripped):
-            return self.take_row(*language.read_row(stripped, self.streams))
+            return self.take_row(*language.read_row(stripped, self.domains))
         statement = language.parse(stripped)
         if isinstance(statement, CreateStream):
             return self.create_stream(statement)
@@ -157,15 +165,19 @@ class Session:
             raise Refused("Duplicate")
         if len(self.streams) >= MOST_STREAMS:
             raise Refused("TooMany")
-        self.streams[statement.name] = columns
+        self.streams[statement.name], self.domains[statement.name] = columns, statement.domains
         return b"ok stream " + statement.name + b"\n"
+
+    def resolve(self, statement):
+        """The query that a statement's names stand for here."""
+        return resolve(statement, self.streams, self.domains)
 
     def create_query(self, statement):
         if statement.name in self.queries:
             raise Refused("Duplicate")
         if len(self.queries) >= MOST_QUERIES:
             raise Refused("TooMany")
-        query = resolve(statement, self.streams)
+        query = self.resolve(statement)
         found = verdict_on(query)
         verdict = found.verdict
         name = statement.name

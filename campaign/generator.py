@@ -1,13 +1,14 @@
 """Random scripts. The writer asks the evaluator for the reply to each line that it writes.
 
 So it knows which queries live, and drops those whose answers become too many. What share of the
-inequalities is soft the environment sets; with a share of 0 none is, and scripts are made without
-a thought of them.
+inequalities is soft, and what share of the columns has a domain, the environment sets; with a share
+of 0 none is or has, and scripts are made without a thought of them.
 """
 import re
 
 from evaluator import Session
-from language import MOST_SOFT, SOFT_SHARE
+from language import (DOMAIN_SHARE, GREATEST_VALUE, LARGEST_INTEGER, LEAST_VALUE, MOST_SOFT,
+                      SOFT_SHARE)
 
 MOST_ANSWER_BYTES = 4000
 STREAM_NAMES = [b"S", b"T", b"U", b"W", b"R", b"L", b"s", b"_x", b"temp_1", b"reading", b"Q1", b"Zz",
@@ -36,6 +37,23 @@ SPOILED_SOFT = [(b"<=", b"< ="), (b"<=", b"=<"), (b">=", b"> ="), (b">=", b"=>")
                 (b"<>", b"< >"), (b"<>", b"><"), (b"<", b"<<"), (b"=", b"=="), (b"<=", b"<=>"),
                 (b"<=", b"<=+"), (b">= ", b">=-"), (b"<> ", b"<>"), (b"<> ", b"<> 1000000000000000"),
                 (b"WHERE", b"WHERE 1 <> 2 AND")]
+DOMAIN_LINES = [b"CREATE STREAM K (a IN 0...9)", b"CREATE STREAM K (a IN 0.9)",
+                b"CREATE STREAM K (a IN 0 9)", b"CREATE STREAM K (a IN .9)",
+                b"CREATE STREAM K (a IN ..9)", b"CREATE STREAM K (a IN 0..)", b"CREATE STREAM K (a IN)",
+                b"CREATE STREAM K (IN 0..9)", b"CREATE STREAM K (a IN 0..9 IN 0..9)", b"in,1",
+                b"CREATE STREAM K (a, IN 0..9)", b"CREATE STREAM K (a IN 0..b)",
+                b"CREATE STREAM K (a IN (0..9))", b"CREATE STREAM K (a IN 0,9)",
+                b"CREATE STREAM K (a IN 9..0) x", b"CREATE STREAM K (a IN - 1..2)",
+                b"CREATE STREAM K IN 0..9 (a)", b"CREATE STREAM K (a IN 9..0, a)",
+                b"CREATE STREAM K (a IN 0..9, a)", b"CREATE STREAM K (a IN 0..9;)",
+                b"CREATE QUERY q AS SELECT S.a IN 0..9 FROM S", b"CREATE STREAM K (a IN 0<9)",
+                b"CREATE STREAM K (" + b"n" * 25 + b" IN 0..1)", b"CREATE STREAM K (a IN 0..1.)"]
+# a domain as it is printed, and as it may be written besides
+DOMAIN_FORMS = [b" IN %d..%d"] * 6 + [b" IN %d .. %d", b" in %d. .%d", b" In\t%d . . %d",
+                                      b" IN %+d..%+d", b" iN %04d..%05d", b" IN %d.. %d"]
+FAR = LARGEST_INTEGER
+FAR_DOMAINS = [(-FAR, FAR), (-FAR, FAR), (-FAR, -FAR), (FAR, FAR), (-FAR, 3), (0, FAR), (0, FAR),
+               (-FAR - 1, FAR), (-FAR, FAR + 1), (0, 10**30), (FAR - 1, FAR)]
 
 
 class Writer:
@@ -85,7 +103,30 @@ class Writer:
         columns = self.random.sample(COLUMN_NAMES, self.random.randint(1, most_columns))
         if self.chance(0.03):
             columns[0] = columns[-1]
+        if DOMAIN_SHARE:
+            # in some streams each column has a domain
+            share = 1 if self.chance(DOMAIN_SHARE / 6) else DOMAIN_SHARE
+            columns = [it + self.domain_text() if self.chance(share) else it for it in columns]
         return self.statement(b"CREATE STREAM " + name + b" (" + b", ".join(columns) + b")")
+
+    def domain_text(self):
+        """A domain: small as a rule, now and then of one value, reversed or with far ends."""
+        kind = self.random.random()
+        low = self.random.randint(-1, 2)
+        ends = low, low + self.random.choice([1, 1, 2, 2, 3, 5])
+        if kind < 0.12:
+            ends = low, low
+        elif kind < 0.14:
+            ends = low, low - self.random.choice([1, 1, 2, FAR])
+        elif kind < 0.22:
+            ends = self.random.choice(FAR_DOMAINS)
+        return self.random.choice(DOMAIN_FORMS) % ends
+
+    def has_domain(self, column):
+        """Whether a column, with the name of its stream, has a domain with few values."""
+        stream, name = column.split(b".")
+        ends = self.session.domains[stream][self.session.streams[stream].index(name)]
+        return bool(ends) and ends[1] - ends[0] < 10
 
     def columns_of(self, stream):
         return [stream + b"." + it for it in self.session.streams[stream]]
@@ -145,7 +186,7 @@ class Writer:
         for _ in range(self.random.choice([0, 0, 0, 1, 2])):
             select.append(self.random.choice(self.columns_of(self.random.choice(chosen))))
         for column in dict.fromkeys(select):
-            if self.chance(0.93):
+            if self.chance(0.3 if self.has_domain(column) else 0.93):
                 atoms += self.bound(column, base, width)
         if self.chance(0.25):
             atoms.append(self.any_atom(chosen))
@@ -207,10 +248,30 @@ class Writer:
             return self.random.choice(GOOD_FIELDS)
         return b"%d" % self.random.randint(-2, 7)
 
+    def number_in(self, domain, low, high):
+        """A number from one to another that lies in a domain; an end of it where none does."""
+        if domain is None:
+            return self.random.randint(low, high)
+        first, last = max(low, domain[0]), min(high, domain[1])
+        return self.random.randint(first, last) if first <= last else self.random.choice(domain)
+
+    def value_near(self, domain):
+        """A value in a domain as a rule, at its ends now and then, and less often outside of it."""
+        if domain is None:
+            return self.value()
+        kind = self.random.random()
+        if kind < 0.2:
+            return b"%d" % self.random.choice(domain)
+        if kind < 0.24:
+            return b"%d" % self.random.choice([domain[0] - 1, domain[1] + 1])
+        if kind < 0.25:
+            return b"%d" % self.random.choice([LEAST_VALUE, GREATEST_VALUE])
+        return b"%d" % self.number_in(domain, -2, 7) if kind < 0.97 else self.value()
+
     def row(self):
         """A row of a stream that is there, its answers kept few by dropping what has too many."""
         stream = self.random.choice(list(self.session.streams))
-        fields = [self.value() for _ in self.session.streams[stream]]
+        fields = [self.value_near(it) for it in self.session.domains[stream]]
         if self.chance(0.02):
             fields[self.random.randrange(len(fields))] = self.random.choice(FIELDS)
         if self.chance(0.02):
@@ -221,7 +282,8 @@ class Writer:
             self.statement(b"DROP QUERY " + max(set(names), key=names.count))
 
     def hostile(self):
-        self.write(self.spaced(self.random.choice(LINES)))
+        lines = LINES + DOMAIN_LINES if DOMAIN_SHARE else LINES
+        self.write(self.spaced(self.random.choice(lines)))
 
     # whole scripts
 
@@ -279,6 +341,8 @@ class Writer:
             if self.chance(0.6) or not select:
                 select.append(stream + b".k")
                 high = low + self.random.randint(2, 7)
+                if self.has_domain(stream + b".k") and self.chance(0.7):
+                    continue
                 atoms += [stream + b".k > %d" % low, stream + b".k < %d" % high]
         if self.chance(0.3):
             atoms.append(chosen[0] + b".w " + self.random.choice([b"<", b"=", b">"]) + b" %d" % low)
@@ -291,7 +355,13 @@ class Writer:
     def extremes(self, length):
         """Queries that keep extremes, over rows whose values drift up and down."""
         for name in (b"X", b"Y", b"Z"):
-            self.write(b"CREATE STREAM " + name + b" (k, v, w)")
+            columns = [b"k", b"v", b"w"]
+            if DOMAIN_SHARE:
+                # rows whose v or w drifts out of a domain are refused
+                domains = [b" IN -1..5", b" IN -30..30", b" IN -%d..%d" % (FAR, FAR)]
+                columns = [it + domain if self.chance(DOMAIN_SHARE) else it
+                           for it, domain in zip(columns, domains)]
+            self.write(b"CREATE STREAM " + name + b" (" + b", ".join(columns) + b")")
         drift = 0
         while len(self.lines) < length:
             kind = self.random.random()

@@ -3,7 +3,8 @@
 Everything here works on bytes. A statement that is refused raises Refused with its word.
 
 The comparisons `<=`, `>=` and `<>` are called soft. CAMPAIGN_SOFT in the environment is the share
-of them in random queries.
+of them in random queries. A column may have a domain, the integers from one to another, and a row
+outside it is refused. CAMPAIGN_DOMAINS is the share of columns with a domain in random streams.
 """
 import os
 import re
@@ -23,6 +24,9 @@ LEAST_VALUE, GREATEST_VALUE = -(2**63), 2**63 - 1
 
 # the share of the inequalities of random queries that are soft; with 0 these queries have none
 SOFT_SHARE = float(os.environ.get("CAMPAIGN_SOFT") or 0.4)
+# the share of the columns of random streams that have a domain; with 0 none has, and there is no
+# line about domains among the random ones
+DOMAIN_SHARE = float(os.environ.get("CAMPAIGN_DOMAINS") or 0.4)
 HARD_OPERATORS = ("<", "=", ">")
 SOFT_OPERATORS = ("<=", ">=", "<>")
 OPERATORS = HARD_OPERATORS + SOFT_OPERATORS
@@ -37,7 +41,8 @@ TOKEN = re.compile(rb"[ \t]*(?:([A-Za-z_][A-Za-z0-9_]*)|([+-]?[0-9]+)|(" + MARK 
 ROW = re.compile(rb"([A-Za-z_][A-Za-z0-9_]*)[ \t]*,")
 VALUE = re.compile(rb"[+-]?[0-9]+\Z")
 
-CreateStream = namedtuple("CreateStream", "name columns")
+# The domains stand beside the columns: each a pair of integers, or None.
+CreateStream = namedtuple("CreateStream", "name columns domains")
 CreateQuery = namedtuple("CreateQuery", "name distinct select streams atoms")
 Explain = namedtuple("Explain", "name")
 DropQuery = namedtuple("DropQuery", "name")
@@ -132,6 +137,16 @@ class Reader:
         self.take(".")
         return stream, self.name()
 
+    def column_with_domain(self):
+        """A name with the two ends of its domain, or with None."""
+        name = self.name()
+        if not self.takes("IN"):
+            return name, None
+        low = int(self.take("integer"))
+        self.take(".")
+        self.take(".")
+        return name, (low, int(self.take("integer")))
+
     def atom(self):
         """A comparison: one side at least is a column."""
         left = int(self.take("integer")) if self.kind() == "integer" else self.column()
@@ -148,9 +163,9 @@ def read_stream(reader):
     reader.take("STREAM")
     name = reader.name()
     reader.take("(")
-    columns = reader.list_of(reader.name, ",")
+    columns = reader.list_of(reader.column_with_domain, ",")
     reader.take(")")
-    return CreateStream(name, columns)
+    return CreateStream(name, [it for it, _ in columns], [it for _, it in columns])
 
 
 def read_query(reader):
@@ -195,13 +210,21 @@ def query_passes_limit(query):
             or len(integers) > MOST_CONSTANTS)
 
 
+def stream_passes_limit(stream):
+    """Whether a stream passes a limit of the language other than that of names."""
+    domains = [it for it in stream.domains if it]
+    return (len(stream.columns) > MOST_COLUMNS
+            or any(abs(end) > LARGEST_INTEGER for domain in domains for end in domain)
+            or any(low > high for low, high in domains))
+
+
 def parse(stripped):
     """The statement that a stripped line spells; Refused with Syntax or Limit."""
     tokens = tokens_of(stripped)
     statement = read_statement(Reader(tokens))
     if any(kind == "name" and len(text) > LONGEST_NAME for kind, text in tokens):
         raise Refused("Limit")
-    if isinstance(statement, CreateStream) and len(statement.columns) > MOST_COLUMNS:
+    if isinstance(statement, CreateStream) and stream_passes_limit(statement):
         raise Refused("Limit")
     if isinstance(statement, CreateQuery) and query_passes_limit(statement):
         raise Refused("Limit")
@@ -214,23 +237,30 @@ def row_name(stripped):
     return found.group(1) if found else None
 
 
-def read_row(stripped, streams):
-    """The stream and the values of a row; `streams` has the columns of each stream by its name."""
+def lies_in(value, domain):
+    """Whether a value lies in the domain of its column, where that has one."""
+    return domain is None or domain[0] <= value <= domain[1]
+
+
+def read_row(stripped, domains):
+    """The stream and the values of a row; `domains` has those of each stream by its name."""
     name = row_name(stripped)
     if name.upper() in RESERVED:
         raise Refused("Syntax")
     if len(name) > LONGEST_NAME:
         raise Refused("Limit")
-    if name not in streams:
+    if name not in domains:
         raise Refused("UnknownStream")
     fields = [it.strip(b" \t") for it in stripped.split(b",")[1:]]
-    if len(fields) != len(streams[name]):
+    if len(fields) != len(domains[name]):
         raise Refused("Arity")
     if not all(VALUE.match(it) for it in fields):
         raise Refused("Value")
     values = tuple(int(it) for it in fields)
     if not all(LEAST_VALUE <= it <= GREATEST_VALUE for it in values):
         raise Refused("Value")
+    if not all(map(lies_in, values, domains[name])):
+        raise Refused("Domain")
     return name, values
 
 
@@ -248,8 +278,14 @@ def print_select(query):
     return text + (b" WHERE " + b" AND ".join(atoms) if atoms else b"")
 
 
+def print_column(name, domain):
+    """A column of a CREATE STREAM statement with its domain."""
+    return name if domain is None else b"%s IN %d..%d" % (name, *domain)
+
+
 def print_statement(statement):
     """The printed form of a CREATE statement."""
     if isinstance(statement, CreateStream):
-        return b"CREATE STREAM " + statement.name + b" (" + b", ".join(statement.columns) + b")"
+        columns = b", ".join(map(print_column, statement.columns, statement.domains))
+        return b"CREATE STREAM " + statement.name + b" (" + columns + b")"
     return b"CREATE QUERY " + statement.name + b" AS " + print_select(statement)

@@ -5,7 +5,8 @@ and marks at random. At the end known rows must still be answered rightly.
 """
 from common import Part, compare, scaled
 from evaluator import Session
-from generator import QUERY_NAMES, Writer
+from generator import DOMAIN_LINES, QUERY_NAMES, Writer
+from language import DOMAIN_SHARE
 
 SCRIPTS = 600
 LENGTH = 120
@@ -18,10 +19,26 @@ WORDS = [b"CREATE", b"STREAM", b"QUERY", b"AS", b"SELECT", b"DISTINCT", b"FROM",
 SHAPES = [b"CREATE STREAM # ( # , # ) #", b"CREATE QUERY # AS SELECT # . # FROM # WHERE # # #",
           b"CREATE QUERY # AS SELECT DISTINCT S.a FROM S # WHERE S.a # # AND S.a < 3 #",
           b"EXPLAIN # #", b"DROP QUERY # #", b"S , # , #", b"# , 1 , #", b"# # # # #", b"CREATE # #"]
-TAIL = [b"CREATE STREAM known (a, b)",
-        b"CREATE QUERY k1 AS SELECT known.a FROM known WHERE known.b > 3",
-        b"CREATE QUERY k2 AS SELECT DISTINCT known.a FROM known WHERE known.a > 0 AND known.a < 4",
-        b"known,1,4", b"known,1,2", b"known,3,9", b"known,4,4", b"EXPLAIN k2"]
+DOMAIN_SHAPES = [b"CREATE STREAM # ( # IN # . . # , # ) #", b"CREATE STREAM # ( a IN 0 . . # ) #",
+                 b"CREATE STREAM # ( a # 0..# , b IN # # # 3 )",
+                 b"CREATE STREAM K ( a in -1..# # b # 1 # # 2 )"]
+KNOWN = [b"CREATE STREAM known (a, b)",
+         b"CREATE QUERY k1 AS SELECT known.a FROM known WHERE known.b > 3",
+         b"CREATE QUERY k2 AS SELECT DISTINCT known.a FROM known WHERE known.a > 0 AND known.a < 4"]
+TAIL = [b"known,1,4", b"known,1,2", b"known,3,9", b"known,4,4", b"EXPLAIN k2"]
+
+
+# with domains a known stream and query more: two rows that are refused, and must give no answer
+# with those after them, and rows at both ends
+DOMAIN_HEAD = [b"CREATE STREAM narrow (a IN 3..8, b)",
+               b"CREATE QUERY k3 AS SELECT narrow.a FROM narrow, known WHERE narrow.a = known.b",
+               b"narrow,9,0", b"narrow,2,0"]
+DOMAIN_TAIL = [b"narrow,4,0", b"narrow,3,0", b"narrow,8,0", b"known,1,8", b"known,1,3", b"EXPLAIN k3"]
+if DOMAIN_SHARE:
+    WORDS += [b"IN", b"In", b"..", b"0..9", b"-1..-1", b"IN 0..9", b"in 3..2", b"..."]
+    SHAPES += DOMAIN_SHAPES + DOMAIN_LINES
+    KNOWN += DOMAIN_HEAD
+    TAIL += DOMAIN_TAIL
 
 
 def changed(random, line):
@@ -83,7 +100,7 @@ def one_script(part, program):
     # a stream's own line stays good, so that what follows is more than unknown names
     head = [it for it in writer.lines if it.strip().lower().startswith(b"create stream")][:2]
     lines = head + spoil(part, writer.lines)
-    lines += TAIL
+    lines += KNOWN + TAIL
     session = Session()
     wanted = b"".join(session.reply(it) for it in lines)
     if wanted.endswith(tail_reply()):
@@ -94,7 +111,7 @@ def one_script(part, program):
 def tail_reply():
     """The last replies of the known rows, the same in every script."""
     session = Session()
-    return b"".join([session.reply(it) for it in TAIL][3:])
+    return b"".join([session.reply(it) for it in KNOWN + TAIL][len(KNOWN):])
 
 
 def run(program, seed, scale):

@@ -114,6 +114,5 @@ class Tree:
 def certificate(query, random=None, strays=0):
     """The lines of a certificate of a query."""
     tree = Tree(query, random, strays)
-    hard = [analysis.constraints_of(*it, tree.numbers) for it in analysis.hard_atoms(query)]
-    tree.grow("", sum(hard, []))
+    tree.grow("", analysis.first_constraints(query, tree.numbers))
     return tree.lines

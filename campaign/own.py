@@ -78,12 +78,13 @@ def compare_over_cells(part, writer, live):
     cells = Synopsis(live.query, live.found.parts)
     part.count("queries over cells")
     part.count("of them with an extreme", int(any(any(it.extremes) for it in live.found.parts)))
+    part.count("with a domain", int(bool(live.query.domains)))
     part.count("with a soft comparison between streams", int(any(
         not analysis.is_local(it, it[0][0]) for it in analysis.soft_pairs(live.query))))
     streams = live.statement.streams
     for _ in range(ROWS_OVER_CELLS):
         stream = writer.random.choice(streams)
-        row = [writer.random.randint(-3, 9) for _ in writer.session.streams[stream]]
+        row = [writer.number_in(it, -3, 9) for it in writer.session.domains[stream]]
         wanted = live.answers(stream, row)
         part.count("answers over cells", len(wanted))
         if cells.answers(streams.index(stream), row) != wanted:

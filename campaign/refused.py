@@ -6,6 +6,11 @@ differently. So there is a state for each of the 2^n sets. The construction is t
 docs/WHY-IT-WORKS.md, for each condition; the answers are those of the evaluator. Soft comparisons
 between streams are tried where an unbounded selected column is at fault; for the other conditions
 nothing of the kind is claimed with them.
+
+With domains C3 asks for more than is needed, since their ends are no constants. So each domain is
+written out as two comparisons. Where the query is then refused, the rows are those of that refusal,
+and they lie in the domains; where it is accepted, nothing is claimed. An accepted query must stay
+accepted when its domains are written out, and one that C1 or C2 refuses must stay refused.
 """
 from collections import Counter, namedtuple
 from copy import copy
@@ -15,7 +20,7 @@ import language
 from analysis import Query, is_constant
 from common import Part, compare, scaled
 from evaluator import COMPARE, LiveQuery, session_text
-from language import SOFT_OPERATORS, SOFT_SHARE
+from language import DOMAIN_SHARE, SOFT_OPERATORS, SOFT_SHARE, CreateStream, print_statement
 
 QUERIES = 3000
 OF_SCRIPT = 60
@@ -25,7 +30,8 @@ SIZES = [2, 2, 3, 3, 3, 4, 4, 4, 5, 5, 6]
 NAMES = [b"S", b"T", b"U", b"V"]
 COUNTED = [f"by {it} {word}" for it in ("C1", "C2", "C3") for word in ("without", "with DISTINCT")]
 
-Refusal = namedtuple("Refusal", "query number condition column facts signs")
+# the query has its domains written out; it was asked with them
+Refusal = namedtuple("Refusal", "asked query number condition column facts signs")
 Family = namedtuple("Family", "place kind assignments")
 Statement = namedtuple("Statement", "streams")
 Link = namedtuple("Link", "side left right")
@@ -88,24 +94,76 @@ def with_few_parts(random, query):
     return query._replace(atoms=query.atoms + tuple(ends))
 
 
-def refusal_of(query):
+def random_domains(random):
+    """Domains for the columns of a script, by place and column; half of the scripts have none.
+
+    They have fewer than elsewhere, as a query with many domains is seldom refused.
+    """
+    if not DOMAIN_SHARE or random.random() < 0.5:
+        return {}
+    columns = [(place, column) for place in range(len(NAMES)) for column in range(COLUMNS)]
+    lows = {it: random.randint(-3, 9) for it in columns if random.random() < DOMAIN_SHARE / 2}
+    return {it: (low, low + random.choice([0, 1, 2, 4, 9])) for it, low in lows.items()}
+
+
+def with_domains(query, domains):
+    """The query over streams whose columns have these domains."""
+    named = sorted({*analysis.attributes_of(query), *query.select} & set(domains))
+    return query._replace(domains=tuple((it, *domains[it]) for it in named))
+
+
+def written_out(query):
+    """The query with each domain as two comparisons, so that its ends stand among the constants."""
+    atoms = [((it, ">", low - 1), (it, "<", high + 1)) for it, low, high in query.domains]
+    return query._replace(atoms=query.atoms + tuple(sum(atoms, ())), domains=())
+
+
+def failure_of(asked, query):
     """The first failure of a query with its part, or None where it is not refused by a condition."""
     if query.places == 1 and not query.distinct:
         return None
+    for number, (signs, at) in enumerate(analysis.walk_parts(query, MOST_PARTS), 1):
+        facts = analysis.part_of(query, signs, at).facts
+        violation = analysis.violation_of(query, facts)
+        if violation:
+            return Refusal(asked, query, number, *violation, facts, signs)
+    return None
+
+
+def refusal_of(part, query):
+    """The first failure of a query of which something is claimed, or None; domains written out."""
     attributes, constants = analysis.attributes_of(query), analysis.constants_of(query)
     if len(query.atoms) > 16 or len(attributes) > 12 or len(constants) > 6:
         return None
     try:
-        vectors = analysis.walk_parts(query, MOST_PARTS)
+        refusal = failure_of(query, query)
+        if query.domains:
+            # most of them are accepted, and some of these are enough
+            if refusal is None and part.random.random() < 0.8:
+                return None
+            with_them, refusal = refusal, failure_of(query, written_out(query))
+            compare_with_domains(part, query, with_them, refusal)
     except analysis.TooManyParts:
         return None
-    for number, (signs, at) in enumerate(vectors, 1):
-        facts = analysis.part_of(query, signs, at).facts
-        violation = analysis.violation_of(query, facts)
-        if violation:
-            telling = violation[0] == "C1" or softly_within_streams(query)
-            return Refusal(query, number, *violation, facts, signs) if telling else None
-    return None
+    return refusal if refusal and is_telling(refusal) else None
+
+
+def is_telling(refusal):
+    """Whether it is claimed that few states do not serve a query that is refused so."""
+    return refusal.condition == "C1" or softly_within_streams(refusal.query)
+
+
+def compare_with_domains(part, query, with_them, refusal):
+    """Notes where a query and the same with its domains written out are judged as cannot be."""
+    part.count("queries with domains")
+    if with_them is None:
+        part.count("accepted with domains")
+        if refusal and is_telling(refusal):
+            part.differs(f"accepted, and refused with its domains written out: {query_text(query)}")
+    elif refusal is None:
+        part.count("refused with domains, and nothing claimed")
+        if with_them.condition != "C3":
+            part.differs(f"accepted with its domains written out: {query_text(query)}")
 
 
 def softly_within_streams(query):
@@ -266,7 +324,7 @@ def told(live, rows):
 
 def alike(refusal, family):
     """Two sets of rows after which all continuations are answered alike, or None."""
-    query, place = refusal.query, family.place
+    query, place = refusal.asked, family.place
     others = [it for it in range(query.places) if it != place]
     rows = [row_of(it, place) for it in family.assignments]
     later = [[(it, row_of(values, it)) for it in others or [place]]
@@ -298,11 +356,19 @@ def query_text(query):
                                 for x, op, y in query.atoms)
 
 
+def streams_with(domains):
+    """The statements that create the streams, with these domains."""
+    columns = [b"c%d" % it for it in range(COLUMNS)]
+    return [print_statement(CreateStream(name, columns, [domains.get((place, it))
+                                                         for it in range(COLUMNS)]))
+            for place, name in enumerate(NAMES)]
+
+
 def try_one(part, refusal):
     """Makes the family of a refusal, and compares the answers after all pairs of sets."""
     size = part.random.choice(SIZES)
     family = family_of(part.random, refusal, size)
-    text = query_text(refusal.query)
+    text = query_text(refusal.asked)
     if family is None or not all(is_of_part(refusal, it) for it in family.assignments):
         part.differs(f"no family in part {refusal.number} of {text}")
         return
@@ -321,19 +387,21 @@ def run(program, seed, scale):
     for word in ("refused queries", "pairs of sets", *COUNTED):
         part.count(word, 0)
     wanted, texts = scaled(QUERIES, scale), []
+    domains = random_domains(part.random)
     while part.counts.get("refused queries", 0) < wanted:
         make = part.random.choice([random_query] * 9 + [query_of_two_links])
-        refusal = refusal_of(with_few_parts(part.random, make(part.random)))
-        # most of the refusals are by the first two conditions, or without DISTINCT
-        rare = refusal and refusal.condition == "C3" and refusal.query.distinct
+        query = with_domains(with_few_parts(part.random, make(part.random)), domains)
+        refusal = refusal_of(part, query)
+        # most of the refusals are by the first two conditions, or without DISTINCT or domains
+        rare = refusal and (refusal.condition == "C3" and refusal.query.distinct or query.domains)
         if refusal is None or (not rare and part.random.random() < 0.6):
             continue
         part.count("refused queries")
         try_one(part, refusal)
-        texts.append(b"CREATE QUERY q AS " + query_text(refusal.query))
-    columns = b", ".join(b"c%d" % it for it in range(COLUMNS))
-    streams = [b"CREATE STREAM %s (%s)" % (it, columns) for it in NAMES]
-    for first in range(0, len(texts), OF_SCRIPT):
-        script = b"\n".join(streams + texts[first:first + OF_SCRIPT]) + b"\n"
-        compare(part, program, script, session_text(script))
+        part.count("of them with domains", int(bool(query.domains)))
+        texts.append(b"CREATE QUERY q AS " + query_text(query))
+        if len(texts) == OF_SCRIPT or part.counts["refused queries"] == wanted:
+            script = b"\n".join(streams_with(domains) + texts) + b"\n"
+            compare(part, program, script, session_text(script))
+            texts, domains = [], random_domains(part.random)
     return part

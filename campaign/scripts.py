@@ -1,7 +1,9 @@
 """Random scripts: the whole output of each is compared with the evaluator's."""
+import analysis
 import evaluator
 from common import Part, compare, scaled
 from generator import Writer
+from language import DOMAIN_SHARE
 
 LINES = 102_000
 LENGTH = 300
@@ -15,6 +17,25 @@ LARGE = [
     (b"SELECT DISTINCT S.a FROM S WHERE S.a > 0 AND S.a < %d", (65537, 65538, 999999999999999)),
     (b"SELECT DISTINCT V.a FROM V WHERE V.a < 1 AND V.b < 2 AND V.c < 3 AND V.d < %d", (4, 5)),
 ]
+# the same limits by domains: W has eight columns with far ends, and N has columns with many values
+DOMAIN_STREAMS = [
+    b"CREATE STREAM N (a IN 1..65536, b IN 0..255, c IN 0..256, d IN 7..7)",
+    b"CREATE STREAM W (" + b", ".join(b"%c IN -999999999999999..999999999999999" % it
+                                      for it in b"abcdefgh") + b")",
+]
+DOMAIN_LARGE = [
+    (b"SELECT N.a FROM N, T WHERE N.a = T.c AND T.c < %d", (3, 65536, 65537, 65538)),
+    (b"SELECT DISTINCT N.a, N.d FROM N WHERE N.d < %d", (7, 8)),
+    (b"SELECT DISTINCT N.b, N.b, N.c FROM N WHERE N.c < %d", (255, 256, 257)),
+    (b"SELECT N.b FROM N, T WHERE N.b < T.c AND N.b > %d", (3, 255)),
+    (b"SELECT DISTINCT N.b FROM N, T WHERE N.b < T.c AND N.c >= %d", (255, 256, 257)),
+    (b"SELECT N.d FROM N, T WHERE N.a < T.c AND T.c < %d AND T.c > 0", (3, 100)),
+    (b"SELECT DISTINCT W.a FROM W, N WHERE W.h < %d AND W.b = N.d", (0, 999999999999999)),
+    (b"SELECT DISTINCT N.d FROM W, N WHERE W.h <= %d AND W.b = N.d", (0, -999999999999999)),
+    (b"SELECT W.a, W.b FROM W WHERE W.h <> %d", (999999999999999, 0)),
+]
+if DOMAIN_SHARE:
+    LARGE += DOMAIN_LARGE
 
 
 def count_replies(part, writer):
@@ -26,6 +47,7 @@ def count_replies(part, writer):
             part.count("limits" if b" limit " in reply else "refused queries")
         elif reply.startswith(b"error"):
             part.count("refused lines")
+            part.count("rows outside a domain", int(reply.endswith(b" Domain\n")))
         elif not reply.startswith((b"ok", b"explain")):
             part.count("answers", reply.count(b"\n"))
 
@@ -36,6 +58,10 @@ def count_queries(part):
         if found.verdict[0] != "ok":
             continue
         part.count("different accepted queries")
+        part.count("with a domain", int(bool(query.domains)))
+        soft = bool(analysis.soft_atoms(query))
+        part.count("with a soft comparison", int(soft))
+        part.count("with both", int(soft and bool(query.domains)))
         part.count("of them joins", int(query.places > 1))
         part.count("with DISTINCT", int(query.distinct))
         extremes = query.distinct and any(any(it.extremes) for it in found.parts)
@@ -46,7 +72,7 @@ def large(part):
     """Queries at and above the limits on size; some fill the pool, and one is dropped."""
     writer = Writer(part.random)
     for line in (b"CREATE STREAM S (a, b)", b"CREATE STREAM T (c)", b"CREATE STREAM U (d)",
-                 b"CREATE STREAM V (a, b, c, d)"):
+                 b"CREATE STREAM V (a, b, c, d)", *(DOMAIN_STREAMS if DOMAIN_SHARE else [])):
         writer.write(line)
     for number in range(40):
         text, sizes = part.random.choice(LARGE)

@@ -10,7 +10,6 @@ from collections import Counter
 from itertools import product
 
 import analysis
-import evaluator
 import language
 from common import Part, run as run_program, scaled
 from generator import Writer
@@ -69,10 +68,10 @@ class Split:
         self.writer, self.statement, self.query = writer, statement, query
         self.session = writer.session
         self.choices = choices_of(query)
-        self.streams = [language.CreateStream(name, columns)
+        self.streams = [language.CreateStream(name, columns, self.session.domains[name])
                         for name, columns in self.session.streams.items()]
         self.rows = [writer.random.choice(self.streams) for _ in range(ROWS)]
-        self.rows = [(it.name, [writer.random.randint(-2, 7) for _ in it.columns])
+        self.rows = [(it.name, [writer.number_in(domain, -2, 7) for domain in it.domains])
                      for it in self.rows]
 
     def text(self):
@@ -170,7 +169,7 @@ def one_query(part):
     text = writer.extreme_query() if extreme else writer.query_text()
     try:
         statement = language.parse(b"CREATE QUERY whole AS " + text)
-        query = evaluator.resolve(statement, writer.session.streams)
+        query = writer.session.resolve(statement)
     except language.Refused:
         return None
     split = Split(writer, statement, query)

@@ -10,7 +10,7 @@ import checker
 import enumeration
 import language
 from common import Part, scaled
-from evaluator import MOST_ROWS, Session, resolve, session_text
+from evaluator import MOST_ROWS, Session, session_text
 from language import CreateQuery, CreateStream, Refused
 
 HERE = os.path.dirname(os.path.abspath(__file__))
@@ -65,7 +65,7 @@ def gather(session, streams, line, found):
             session.create_stream(statement)
             streams[statement.name] = statement
         if isinstance(statement, CreateQuery):
-            resolve(statement, session.streams)
+            session.resolve(statement)
             used = [streams[it] for it in statement.streams]
             found[b"".join(language.print_statement(it) + b"\n" for it in [*used, statement])] = None
     except Refused:
@@ -101,6 +101,7 @@ def try_enumeration(part, scale):
     for _ in range(scaled(ENUMERATED, scale)):
         query = enumeration.random_query(part.random)
         part.count("queries by enumeration")
+        part.count("with a domain", int(bool(query.domains)))
         fault = enumeration.fault_of(query)
         if fault:
             part.differs(f"the analysis differs from enumeration: {fault} of {query}")

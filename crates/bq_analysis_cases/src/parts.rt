@@ -1,5 +1,7 @@
 //! Streams, and the ordered parts of queries over them.
 ghost use Rattle.std.specs.Prelude.{◌≡◌, ◌≤◌, ◌<◌, None, length};
+ghost use Rattle.std.specs.List.{All};
+ghost use Rattle.bq_schema.specs.Streams.{HasEnds};
 ghost use Rattle.bq_parser.specs.Grammar.{IsWhole};
 ghost use Rattle.bq_parser.specs.Limits.{limit_of};
 ghost use Rattle.bq_parser.specs.Resolution.{IsTaken};
@@ -8,7 +10,7 @@ use crate::fault::Fault;
 use bq_io::{Sink, write_all};
 use bq_lto_split::{SplitError, split};
 use bq_parser::{SelectAst, Statement, parse, resolve};
-use bq_schema::Catalog;
+use bq_schema::{Catalog, ColumnDef};
 use bq_text::Name;
 use std::alloc::Global;
 
@@ -17,11 +19,12 @@ fn show_added<O: Sink>(
     alloc: Global,
     catalog: &mut Catalog,
     name: Name,
-    columns: &[Name],
+    columns: &[ColumnDef],
     out: &mut O,
 ) -> Result<(), Fault>
     requires some { 0 < length columns.now }
     requires few { length columns.now ≤ 8 }
+    requires domains { All (λ c. HasEnds c.domain) columns.now }
 {
     match catalog.add_stream(name, columns) {
         Ok(number) => {

@@ -1,11 +1,13 @@
 -- What the table of a good leaf says of the order of elements, and of the bounds of columns.
-use Rattle.std.proofs.Common.{◌≡◌, ℕ, suc, ◌<◌, ◌≤◌, ℤ, pos, neg_ℤ, ◌+ℤ◌, ◌-ℤ◌, cond, ◌&&◌, nat_eq, nat_lt, Bool, true, false, IsTrue, Option, Some, None, List, [], ◌∷◌, length, Contains, refl, sym, subst, arith}
+use Rattle.std.proofs.Common.{◌≡◌, ℕ, suc, ◌<◌, ◌≤◌, ℤ, pos, neg_ℤ, ◌+ℤ◌, ◌-ℤ◌, cond, ◌&&◌, nat_eq, nat_lt, Bool, true, false, IsTrue, Option, Some, None, List, [], ◌∷◌, length, Contains, refl, sym, ◌∙◌, ap, subst, arith}
+use Rattle.std.specs.List.{list_any}
 use Rattle.std.proofs.lemmas.Bool.Decides.{nat_tests}
 use Rattle.bq_model.specs.declared.atom.Attr.{Attr}
+use Rattle.bq_model.specs.declared.atom.Domain.{Domain}
 use Rattle.bq_model.specs.declared.atom.Element.{Element}
 use Rattle.bq_model.specs.declared.atom.Element.TheVariants as element
 use Rattle.bq_model.specs.declared.part.Sign.{Sign}
-use Rattle.bq_model.specs.Query.{QueryValue, attrs_of}
+use Rattle.bq_model.specs.Query.{QueryValue, attr_eq, attrs_of}
 use Rattle.bq_model.specs.Order.{IsElement, IsLess, IsEqual, IsBounded}
 use Rattle.bq_model.proofs.Has.{Has, first, later, Has-from_contains, Contains-from_has}
 use Rattle.bq_constraints.specs.Nodes.{place_of, node_of, offset_of}
@@ -16,7 +18,7 @@ use Rattle.bq_certificate.specs.Bounds.{bound_at, IsAtMost}
 use Rattle.bq_certificate.specs.OnLeaf.{IsLeafTable, SaysAbove}
 use Rattle.bq_certificate.proofs.TightLeaf.{leaf_is_part}
 use Rattle.bq_certificate.proofs.LeafInPart.{Enclose, less_by_bound, equal_by_bounds, bounded_by_bounds}
-use Rattle.bq_certificate.proofs.Unnamed.{unnamed_is_unbounded, no_domain}
+use Rattle.bq_certificate.proofs.Unnamed.{bounded_by_domain}
 
 -- ---- columns among columns
 
@@ -119,5 +121,6 @@ module _ (q : QueryValue) (s : List Sign) (b : List (Option ℤ)) (t : IsLeafTab
     pub below_if_bounded : IsBounded q s a → ¬ (bound_at b 0 n ≡ None)
     below_if_bounded w = there_to 0 n (enclosed w).low (omega arith) low_enough (subst (λ (z : ℕ). IsBound (of_prefix q s) t.paths 0 z (enclosed w).low) (sym e) (enclosed w).below)
 
-  pub unnamed_unbounded : (a : Attr) → ¬ Contains (attrs_of q.atoms) a → ¬ IsBounded q s a
-  unnamed_unbounded a n = unnamed_is_unbounded q s (leaf_is_part q t.limits s t.paths t.good) a n (λ d h. absurd (no_domain q.domains t.limits.few_domains d h))
+  -- a column that no comparison names is bounded exactly where it has a domain
+  pub unnamed_told : (ds : List Domain) → ds ≡ q.domains → (a : Attr) → ¬ Contains (attrs_of q.atoms) a → (r : Bool) → r ≡ list_any (λ d. attr_eq d.attr a) ds → (IsTrue r → IsBounded q s a) × (IsBounded q s a → IsTrue r)
+  unnamed_told ds e a n r h = bounded_by_domain q s (leaf_is_part q t.limits s t.paths t.good) a n r (h ∙ ap (λ z. list_any (λ d. attr_eq d.attr a) z) e)

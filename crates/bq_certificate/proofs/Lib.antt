@@ -25,6 +25,7 @@ pub mod FirstFaults
 pub mod OneAnswer
 pub mod WorkedCase
 pub mod WorkedSoft
+pub mod WorkedDomains
 pub mod FailuresSoFar
 pub mod Searching
 pub mod Unnamed

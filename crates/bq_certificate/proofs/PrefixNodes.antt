@@ -1,4 +1,4 @@
--- The constraints of a query's comparisons and first signs lead between nodes of its attributes.
+-- The constraints of a query's comparisons, domains and first signs lead between nodes of its attributes.
 use Rattle.std.proofs.Common.{◌≡◌, ℕ, ◌≤◌, ℤ, Bool, true, false, cond, List, [], ◌∷◌, length, inl, inr, refl, arith}
 use Rattle.std.specs.List.{flat_map}
 use Rattle.bq_model.specs.declared.atom.Attr.{Attr}

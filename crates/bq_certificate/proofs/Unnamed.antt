@@ -1,12 +1,13 @@
 -- A column that no comparison names takes every integer of its domain, and every integer where it has none.
-use Rattle.std.proofs.Common.{◌≡◌, ℕ, ◌≤◌, ℤ, pos, ◌+ℤ◌, ◌≤ℤ◌, Bool, true, false, cond, List, [], ◌∷◌, length, Contains, refl, sym, ◌∙◌, ap, ap₂, subst, arith}
+use Rattle.std.proofs.Common.{◌≡◌, ℕ, ℤ, pos, ◌+ℤ◌, ◌≤ℤ◌, Bool, true, false, cond, IsTrue, List, Contains, refl, sym, ◌∙◌, ap, ap₂, subst, arith}
+use Rattle.std.specs.List.{list_any}
 use Rattle.std.proofs.lemmas.Int.{ints}
 use Rattle.std.proofs.lemmas.Bool.Decides.{nat_tests}
 use Rattle.bq_model.proofs.Has.{Has, Has-from_contains, Contains-from_has, same_map}
 use Rattle.bq_model.proofs.Holding.{Holds-each, Holds-from_each}
 use Rattle.bq_model.proofs.Elements.{SidesIn, sides_in, element_from_has}
 use Rattle.bq_model.proofs.Local.{PairIn, pair_named}
-use Rattle.bq_model.proofs.Domains.{keeps_each, each_keeps}
+use Rattle.bq_model.proofs.Domains.{lies_low, lies_high, keeps_each, each_keeps}
 use Rattle.bq_model.specs.declared.atom.Attr.{Attr}
 use Rattle.bq_model.specs.declared.atom.Atom.{Atom}
 use Rattle.bq_model.specs.declared.atom.Domain.{Domain}
@@ -17,6 +18,7 @@ use Rattle.bq_model.specs.Query.{QueryValue, attr_eq, attrs_of, consts_of}
 use Rattle.bq_model.specs.Assignment.{Assignment, value, compares, lies_in, AtomHolds}
 use Rattle.bq_model.specs.Parts.{pairs, sign, sign_at, signs_of, InPart, IsPart}
 use Rattle.bq_model.specs.Order.{IsElement, IsBounded}
+use Rattle.bq_constraints.proofs.Softly.{any_one, any_none}
 
 same_attr : (a b : Attr) → attr_eq a b ≡ true → a ≡ b
 same_attr a b h =
@@ -80,10 +82,27 @@ unnamed_is_unbounded q s p a n k b =
     let l : x ≤ℤ b.high = subst (λ (z : ℤ). z ≤ℤ b.high) e m in
     omega (arith, ints, l)
 
--- a query with no domain has none of a column
-pub no_domain : (ds : List Domain) → length ds ≤ 0 → (d : Domain) → Contains ds d → ⊥
-no_domain ds l d h = by ds l (Has-from_contains ds d h)
-  where
-    by : (ds : List Domain) → length ds ≤ 0 → Has ds d → ⊥
-    by [] l h = elim h [ ]
-    by (c ∷ ds) l h = omega (arith, l)
+-- and it is bounded where it has one, in which it lies
+pub domain_bounds : (q : QueryValue) (s : List Sign) (d : Domain) → Has q.domains d → IsBounded q s d.attr
+domain_bounds q s d h = record {
+  low = d.lo;
+  high = d.hi;
+  above = λ v i. lies_low d (v d.attr) (keeps_each q v i.domains d h);
+  below = λ v i. lies_high d (v d.attr) (keeps_each q v i.domains d h);
+}
+
+other : (ds : List Domain) (a : Attr) → list_any (λ d. attr_eq d.attr a) ds ≡ false → (d : Domain) → Has ds d → ¬ (d.attr ≡ a)
+other ds a n d h e =
+    let f : attr_eq d.attr a ≡ false = any_none (λ d. attr_eq d.attr a) ds n d h in
+    let t : attr_eq d.attr a ≡ true = subst (λ z. attr_eq z a ≡ true) (sym e) (itself a) in
+    absurd cc
+
+-- a column that no comparison names is bounded exactly where it has a domain
+pub bounded_by_domain : (q : QueryValue) (s : List Sign) → IsPart q s → (a : Attr) → ¬ Contains (attrs_of q.atoms) a → (t : Bool) → t ≡ list_any (λ d. attr_eq d.attr a) q.domains → (IsTrue t → IsBounded q s a) × (IsBounded q s a → IsTrue t)
+bounded_by_domain q s p a n true e =
+    let r : (d : Domain) × Has q.domains d × (attr_eq d.attr a ≡ true) = any_one (λ d. attr_eq d.attr a) q.domains (sym e) in
+    ((λ h. subst (IsBounded q s) (same_attr r.0.attr a r.2) (domain_bounds q s r.0 r.1)), (λ b. refl))
+bounded_by_domain q s p a n false e = (
+  (λ h. absurd cc),
+  (λ b. absurd (unnamed_is_unbounded q s p a n (λ d h. other q.domains a (sym e) d (Has-from_contains _ d h)) b)),
+)

@@ -1,6 +1,7 @@
 //! What the bounds of a good leaf say of its part: the order of elements, and which columns are bounded.
 ghost use Rattle.std.specs.Prelude.{◌≡◌, ◌↔◌, ◌≤◌, ◌≤ℤ◌, pos, neg_ℤ, IsTrue, Contains, None};
-ghost use Rattle.bq_model.specs.Query.{attrs_of};
+ghost use Rattle.std.specs.List.{list_any};
+ghost use Rattle.bq_model.specs.Query.{attr_eq, attrs_of};
 ghost use Rattle.bq_model.specs.Order.{IsElement, IsLess, IsEqual, IsBounded};
 ghost use Rattle.bq_certificate.specs.Bounds.{bound_at};
 ghost use Rattle.bq_certificate.specs.OnLeaf.{IsLeaf, SaysAbove};
@@ -8,7 +9,7 @@ ghost use Rattle.bq_certificate.specs.OnLeaf.{IsLeaf, SaysAbove};
 use crate::bounds::{between, is_at_most};
 use crate::leaf::Leaf;
 use bq_constraints::{difference, node, place_of};
-use bq_model::{Attr, Element};
+use bq_model::{Attr, Domain, Element};
 
 /// Whether a column is among some.
 pub fn is_among(columns: &[Attr], attr: Attr) -> bool
@@ -67,10 +68,22 @@ fn is_enclosed(leaf: &Leaf, attr: Attr) -> bool
     has_bound(leaf.bounds, place, 0) && has_bound(leaf.bounds, 0, place)
 }
 
-/// Whether two integers enclose the column over all assignments of the part. Where no comparison names it, none do.
+// Whether a column has a domain.
+fn has_domain(domains: &[Domain], attr: Attr) -> bool
+    ensures { result ≡ list_any (λ d. attr_eq d.attr attr) domains.now }
+{
+    domains.iter().any(|d| d.attr.stream == attr.stream && d.attr.column == attr.column)
+}
+
+/// Whether two integers enclose the column over all assignments of the part. Where no comparison names it, they do exactly
+/// where it has a domain.
 pub fn is_bounded(leaf: &Leaf, attr: Attr) -> bool
     requires leaf { IsLeaf leaf.now }
     ensures { IsTrue result ↔ IsBounded leaf.now.query.now leaf.now.signs.now attr }
 {
-    is_among(leaf.query.attrs(), attr) && is_enclosed(leaf, attr)
+    if is_among(leaf.query.attrs(), attr) {
+        is_enclosed(leaf, attr)
+    } else {
+        has_domain(leaf.query.domains(), attr)
+    }
 }

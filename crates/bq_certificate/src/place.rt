@@ -8,7 +8,7 @@ use arrayvec::ArrayVec;
 use bq_constraints::{Constraint, add_each, of_next_sign, of_query};
 use bq_model::{Pair, Query, Sign, Signs};
 
-/// The signs of the first pairs, and the constraints of the query's comparisons and of these signs.
+/// The signs of the first pairs, and the constraints of the query's comparisons, of its domains, and of these signs.
 #[derive(Drop)]
 pub struct Place {
     pub signs: Signs,

@@ -4,3 +4,4 @@ pub mod Numbered
 pub mod Told
 pub mod Two
 pub mod Named
+pub mod ByDomains

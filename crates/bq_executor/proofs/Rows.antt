@@ -199,7 +199,7 @@ module _ (e : ExecutorValue) (sound : IsSound e) (pool : PoolValue) (ready : IsR
     within w = keeps later sound_later after taken.live (taken.inserted.rest ∙ w.rest)
 
     -- over a history
-    module _ (history : List Arrival) (stands : StandsFor e pool history) (keeps : RowKeeps q r) where
+    module _ (keeps : RowKeeps q r) (history : List Arrival) (stands : StandsFor e pool history) where
       table : List (List ℤ)
       table = tuples_in e
 
@@ -242,5 +242,5 @@ module _ (e : ExecutorValue) (sound : IsSound e) (pool : PoolValue) (ready : IsR
             λ d. tuples d ∙ (λ j. merged_table (stands.tuples d j) (future_is j)) ∙ sym (printed-grows q history r sound.limits d);
       }
 
-    pub history : TookRow e pool r later after
-    history h stands keeps = (waiting_is h stands keeps, stands_later h stands keeps)
+    pub history : RowKeeps q r → TookRow e pool r later after
+    history keeps h stands = (waiting_is keeps h stands, stands_later keeps h stands)

@@ -5,7 +5,7 @@ use Rattle.bq_laws.specs.Growth.{occurs}
 use Rattle.bq_model.specs.declared.cell.Cell.{Cell}
 use Rattle.bq_model.specs.declared.plan.PartPlan.{PartPlan}
 use Rattle.bq_model.specs.Meaning.{Arrival, new_answers}
-use Rattle.bq_model.specs.Domains.{RowKeeps, RowsKeep}
+use Rattle.bq_model.specs.Domains.{RowsKeep}
 use Rattle.bq_model.specs.Plan.{stream_at}
 use Rattle.bq_model.specs.Cells.{synopsis, printed}
 use Rattle.bq_model.specs.Combinations.{read_from}
@@ -66,7 +66,7 @@ pool_with e pool r =
 -- whatever history it stood for, the new answers to the row wait, and it stands for the history with the row
 abbrev pub TookRow : ExecutorValue → PoolValue → Arrival → ExecutorValue → PoolValue → Type 0
 TookRow before pool r after later =
-    (history : List Arrival) → StandsFor before pool history → RowKeeps before.query r
+    (history : List Arrival) → StandsFor before pool history
     → (waiting_in after ≡ new_answers before.query history r) × StandsFor after later (history ++ r ∷ [])
 
 -- the executor took a row: what cells and table answer waits, the cells have the row, and with DISTINCT the table has the tuples

@@ -4,6 +4,7 @@ ghost use Rattle.std.specs.List.{list_any};
 ghost use Rattle.bq_model.specs.declared.cell.Cell.TheVariants as cell;
 ghost use Rattle.bq_model.specs.Query.{is_filter};
 ghost use Rattle.bq_model.specs.Meaning.{Arrival};
+ghost use Rattle.bq_model.specs.Domains.{RowKeeps};
 ghost use Rattle.bq_model.specs.Merge.{merged_table};
 ghost use Rattle.bq_model.specs.Numbers.{pages_of, work};
 ghost use Rattle.bq_laws.specs.Growth.{occurs};
@@ -125,14 +126,15 @@ impl Executor {
         }
     }
 
-    /// Takes a row of any stream of at most 2^40 rows in all. What waited before is given up. The answers that cells and
-    /// table tell come to wait, each at most 2^127 times; the cells become their merge with the row's own; with DISTINCT
-    /// the tuples grow by the answers. Where the executor stood for a history, the new answers wait, and it then stands for
-    /// the history with the row. It keeps within the numbers that its plan announces. It reads at most three cells for each unit of
-    /// announced work and one for each part, and writes at most one for each part; a filter, and a query that does not name the
-    /// stream, read and write none.
+    /// Takes a row of any stream of at most 2^40 rows in all, whose values lie in the domains of the query where it names the stream.
+    /// What waited before is given up. The answers that cells and table tell come to wait, each at most 2^127 times; the cells become
+    /// their merge with the row's own; with DISTINCT the tuples grow by the answers. Where the executor stood for a history, the new
+    /// answers wait, and it then stands for the history with the row. It keeps within the numbers that its plan announces. It reads at
+    /// most three cells for each unit of announced work and one for each part, and writes at most one for each part; a filter, and a
+    /// query that does not name the stream, read and write none.
     pub fn row<L: Ledger>(&mut self, pool: &mut Pool, stream: u8, row: &Row, steps: &mut Steps<L>)
         requires ready { IsReady self.old pool.old }
+        requires keeps { RowKeeps self.old.query (arrival stream row.now.items) }
         ensures waits { (t : List ℤ) → waiting_of t self.new.table.entries ≡ min (occurs t (future_in self.old pool.old (arrival stream row.now.items))) (2 ^ 127) }
         ensures cells { pool.new ≡ pool_with self.old pool.old (arrival stream row.now.items) }
         ensures tuples { self.old.query.distinct ≡ true → tuples_in self.new ≡ merged_table (tuples_in self.old) (future_in self.old pool.old (arrival stream row.now.items)) }
@@ -171,6 +173,7 @@ impl Executor {
         steps: &mut Steps<L>,
     ) -> bool
         requires ready { IsReady self.old pool.old }
+        requires keeps { RowKeeps self.old.query (arrival stream row.now.items) }
         ensures waits { (t : List ℤ) → waiting_of t self.new.table.entries ≡ min (occurs t (future_in self.old pool.old (arrival stream row.now.items))) (2 ^ 127) }
         ensures none { result ≡ false → waiting_in self.new ≡ [] }
         ensures cells { pool.new ≡ pool_with self.old pool.old (arrival stream row.now.items) }
@@ -206,6 +209,7 @@ impl Executor {
     ) -> bool
         requires gate { passes ≡ false → IsRefused self.old.query self.old.plan (arrival stream row.now.items) }
         requires ready { IsReady self.old pool.old }
+        requires keeps { RowKeeps self.old.query (arrival stream row.now.items) }
         ensures waits { (t : List ℤ) → waiting_of t self.new.table.entries ≡ min (occurs t (future_in self.old pool.old (arrival stream row.now.items))) (2 ^ 127) }
         ensures none { result ≡ false → waiting_in self.new ≡ [] }
         ensures cells { pool.new ≡ pool_with self.old pool.old (arrival stream row.now.items) }

@@ -54,3 +54,4 @@ pub mod WorkedPlans
 pub mod HotRoomsPlan
 pub mod SoftCases
 pub mod DomainCases
+pub mod DomainInstance

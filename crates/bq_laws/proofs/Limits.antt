@@ -27,7 +27,7 @@ abbrev pub sizes_fit : QueryValue → Bool
 sizes_fit q =
     nat_lt 0 (length q.from) && (nat_lt (length q.from) 5 && (nat_lt 0 (length q.select) && (nat_lt (length q.select) 9 && (nat_lt (length q.atoms) 17
     && (nat_lt (length (attrs_of q.atoms)) 13 && (nat_lt (length (consts_of q.atoms)) 7
-    && (nat_lt (length (filter (λ t. is_soft t.op) q.atoms)) 9 && nat_lt (length q.domains) 1)))))))
+    && (nat_lt (length (filter (λ t. is_soft t.op) q.atoms)) 9 && nat_lt (length q.domains) 21)))))))
 
 -- the domain is of a named column, and has an integer
 abbrev pub is_domain : QueryValue → Domain → Bool
@@ -86,7 +86,7 @@ record Counts (q : QueryValue) : Type 0 where
   attrs : length (attrs_of q.atoms) < 13
   consts : length (consts_of q.atoms) < 7
   soft : length (filter (λ t. is_soft t.op) q.atoms) < 9
-  domains : length q.domains < 1
+  domains : length q.domains < 21
 
 counts : (q : QueryValue) → sizes_fit q ≡ true → Counts q
 counts q h =

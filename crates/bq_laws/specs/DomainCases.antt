@@ -12,6 +12,7 @@ use Rattle.bq_model.specs.declared.plan.PartPlan.{PartPlan}
 use Rattle.bq_model.specs.Query.{QueryValue, IsWithinLimits, is_filter}
 use Rattle.bq_model.specs.Violation.{IsViolation}
 use Rattle.bq_model.specs.Meaning.{Arrival}
+use Rattle.bq_model.specs.Domains.{RowKeeps}
 use Rattle.bq_model.specs.Plan.{IsPlan, link}
 use Rattle.bq_model.specs.Numbers.{numbers_of}
 use Rattle.bq_laws.specs.Cases.{col, atom, arrival}
@@ -86,9 +87,20 @@ pub record DomainsBound : Type 0 where
   pub below_cells : told below below_plan [] (row_t (pos 2) ∷ row_s (pos 1) (pos 0) ∷ row_s (pos 2) (pos 0) ∷ row_t (pos 3) ∷ []) ≡ nothing ∷ only (pos 1) ∷ nothing ∷ only (pos 2) ∷ []
   pub below_rows : meant below [] (row_t (pos 2) ∷ row_s (pos 1) (pos 0) ∷ row_s (pos 2) (pos 0) ∷ row_t (pos 3) ∷ []) ≡ nothing ∷ only (pos 1) ∷ nothing ∷ only (pos 2) ∷ []
 
--- the query whose selected column is no attribute, and its plan, meet all that the laws ask: no law names this yet, since no query within limits may have a domain
+-- the query whose selected column is no attribute, and its plan, meet all that the laws ask
 pub record DomainsArePlanned : Type 0 where
   pub within : IsWithinLimits beside
   pub no_filter : IsFalse (is_filter beside)
   pub plan : IsPlan beside beside_plan
   pub violation : IsViolation beside None
+
+-- A row of S keeps to the domains where its first value is 1 or 2, and not where it is 0 or 3; a row of T always does. A row outside them is answered by
+-- the rows and not by the cells, so the laws ask for rows that keep to them.
+pub record RowsMustKeep : Type 0 where
+  pub least : (b : ℤ) → RowKeeps beside (row_s (pos 1) b)
+  pub greatest : (b : ℤ) → RowKeeps beside (row_s (pos 2) b)
+  pub too_low : (b : ℤ) → ¬ RowKeeps beside (row_s (pos 0) b)
+  pub too_high : (b : ℤ) → ¬ RowKeeps beside (row_s (pos 3) b)
+  pub any : (c : ℤ) → RowKeeps beside (row_t c)
+  pub cells : told beside beside_plan [] (row_s (pos 3) (pos 5) ∷ row_t (pos 6) ∷ []) ≡ nothing ∷ nothing ∷ []
+  pub rows : meant beside [] (row_s (pos 3) (pos 5) ∷ row_t (pos 6) ∷ []) ≡ nothing ∷ only (pos 3) ∷ []

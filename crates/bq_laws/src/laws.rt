@@ -6,7 +6,7 @@ ghost use Rattle.bq_laws.specs.Probing.{PlansAreWalkable, ChoicesGoByValues, Wal
 ghost use Rattle.bq_laws.specs.Cases.{PremisesAreMet, ExtremesDecide, CountsMultiply, OneTableForAllParts, NumbersAreThese};
 ghost use Rattle.bq_laws.specs.HotRooms.{HotRooms};
 ghost use Rattle.bq_laws.specs.SoftCases.{SoftComparisons};
-ghost use Rattle.bq_laws.specs.DomainCases.{DomainsBound};
+ghost use Rattle.bq_laws.specs.DomainCases.{DomainsBound, DomainsArePlanned, RowsMustKeep};
 ghost use Rattle.bq_laws.specs.Sufficiency.{ReadingsSuffice, SynopsisIsRead, SynopsisSuffices, FutureIsDetermined, ExtremesAreExact, ExtremesAreAttained};
 ghost use Rattle.bq_laws.specs.Growth.{InsertsRow, SynopsesMerge, RowsMerge, PrintedGrows, AnyInterleaving};
 ghost use Rattle.bq_laws.specs.Rooms.{TableHasRoom, WaitingFits, CountsFit, WaitingCountsFit, CellsFit, AnswersAreCounted};
@@ -209,4 +209,14 @@ pub fn soft_comparisons()
 /// Worked queries over a stream whose column has a domain.
 pub fn domains_bound()
     ensures { DomainsBound }
+{}
+
+/// A worked query that selects a column with a domain, and its plan, meet all that the laws ask.
+pub fn domains_are_planned()
+    ensures { DomainsArePlanned }
+{}
+
+/// To a row outside the domains the cells do not answer what the rows do: the worked rows say which keep to them.
+pub fn rows_must_keep()
+    ensures { RowsMustKeep }
 {}

@@ -1,9 +1,10 @@
 -- Each statement's tokens are read as it.
-use Rattle.std.proofs.Common.{◌≡◌, ℕ, ◌<◌, ◌⊎◌, Bool, true, false, List, [], ◌∷◌, ◌++◌, length, Some, refl, ap, ◌∙◌, append_assoc, arith, inl, inr, Ok}
+use Rattle.std.proofs.Common.{◌≡◌, ℕ, ◌<◌, ◌⊎◌, Bool, true, false, List, [], ◌∷◌, ◌++◌, length, Option, Some, None, ℤ, refl, ap, ◌∙◌, append_assoc, arith, inl, inr, Ok}
 use Rattle.std.specs.List.{AllByRecursion}
 use Rattle.bq_text.specs.declared.key.Key.TheVariants.{CreateKey, QueryKey, AsKey, SelectKey, FromKey, AndKey}
 use Rattle.bq_parser.specs.declared.places.Place.{Place}
-use Rattle.bq_parser.specs.declared.places.Place.TheVariants.{Start, ColumnName, AfterColumn, FirstSelected, SelectedStream, AfterSelected, FromName, AfterFrom, AtomLeft, AfterAtom, Complete, Ended}
+use Rattle.bq_parser.specs.declared.places.Place.TheVariants.{Start, ColumnName, FirstSelected, SelectedStream, AfterSelected, FromName, AfterFrom, AtomLeft, AfterAtom, Complete, Ended}
+use Rattle.bq_schema.specs.declared.column.ColumnDef.{ColumnDef}
 use Rattle.bq_parser.specs.declared.tree.ColumnAst.{ColumnAst}
 use Rattle.bq_parser.specs.declared.tree.OperandAst.{OperandAst}
 use Rattle.bq_parser.specs.declared.tree.OperandAst.TheVariants.{Column, Integer}
@@ -11,15 +12,45 @@ use Rattle.bq_parser.specs.declared.tree.AtomAst.{AtomAst}
 use Rattle.bq_parser.specs.declared.tree.Statement.{Statement}
 use Rattle.bq_model.specs.declared.atom.Op.{Op}
 use Rattle.bq_model.specs.declared.atom.Op.TheVariants.{Lt, Eq, Gt, Le, Ge, Ne}
-use Rattle.bq_parser.specs.Grammar.{Lexeme, word, key, comma, closing, semicolon, separated, name_tokens, column_tokens, atom_tokens, where_tokens, distinct_tokens, statement_tokens, IsColumn, HasColumn, IsWhole, Spells}
+use Rattle.bq_parser.specs.Grammar.{Lexeme, word, key, comma, closing, semicolon, separated, name_tokens, coldef_tokens, column_tokens, atom_tokens, where_tokens, distinct_tokens, statement_tokens, IsColumn, HasColumn, IsWhole, Spells}
 use Rattle.bq_parser.specs.declared.draft.Form.TheVariants as forms
 use Rattle.bq_parser.specs.Reading.{Parts, no_parts, built, finished, walk}
 use Rattle.bq_parser.specs.declared.tree.Statement.TheVariants.{CreateStream, CreateQuery, Explain, DropQuery}
 use Rattle.bq_parser.proofs.WalkLaws.{walk_append}
 
-columns_walk : (p : Parts) (c : List ℕ) (cs : List (List ℕ)) → walk ColumnName p (separated comma name_tokens (c ∷ cs)) ≡ Ok (AfterColumn, record p { columns = p.columns ++ c ∷ cs })
-columns_walk p c [] = refl
-columns_walk p c (d ∷ cs) = columns_walk (record p { columns = p.columns ++ c ∷ [] }) d cs ∙ ap (λ xs. Ok (AfterColumn, record p { columns = xs })) (append_assoc p.columns (c ∷ []) (d ∷ cs))
+-- the parts q are those of p with these columns, and what is left of the last one
+abbrev pub WithColumns : Parts → List ColumnDef → Parts → Type 0
+WithColumns p columns q = q ≡ record p { columns = columns; column = q.column; low = q.low }
+
+-- a column of this name and domain
+abbrev column : List ℕ → Option (ℤ × ℤ) → ColumnDef
+column name domain = record { name = name; domain = domain }
+
+-- a column, and a comma behind it
+comma_walk : (p : Parts) (name : List ℕ) (domain : Option (ℤ × ℤ)) (ls : List Lexeme)
+    → (q : Parts) × (walk ColumnName p (coldef_tokens (column name domain) ++ comma ∷ ls) ≡ walk ColumnName q ls) × WithColumns p (p.columns ++ column name domain ∷ []) q
+comma_walk p name None ls = (record p { columns = p.columns ++ column name None ∷ []; column = name }, refl, refl)
+comma_walk p name (Some ends) ls = (record p { columns = p.columns ++ column name (Some ends) ∷ []; column = name; low = ends.0 }, refl, refl)
+
+-- the last column
+last_walk : (p : Parts) (name : List ℕ) (domain : Option (ℤ × ℤ))
+    → (q : Parts) × (walk ColumnName p (coldef_tokens (column name domain) ++ closing ∷ []) ≡ Ok (Complete, q)) × WithColumns p (p.columns ++ column name domain ∷ []) q
+last_walk p name None = (record p { columns = p.columns ++ column name None ∷ []; column = name }, refl, refl)
+last_walk p name (Some ends) = (record p { columns = p.columns ++ column name (Some ends) ∷ []; column = name; low = ends.0 }, refl, refl)
+
+columns_walk : (p : Parts) (c : ColumnDef) (cs : List ColumnDef)
+    → (q : Parts) × (walk ColumnName p (separated comma coldef_tokens (c ∷ cs) ++ closing ∷ []) ≡ Ok (Complete, q)) × WithColumns p (p.columns ++ c ∷ cs) q
+columns_walk p c [] = last_walk p c.name c.domain
+columns_walk p c (d ∷ cs) =
+    let behind = separated comma coldef_tokens (d ∷ cs) in
+    let one = comma_walk p c.name c.domain (behind ++ closing ∷ []) in
+    let rest = columns_walk one.0 d cs in
+    let q = rest.0 in
+    let F : Parts → Parts = λ m. record m { columns = m.columns ++ d ∷ cs; column = q.column; low = q.low } in (
+      q,
+      ap (walk ColumnName p) (append_assoc (coldef_tokens c) (comma ∷ behind) (closing ∷ [])) ∙ one.1 ∙ rest.1,
+      rest.2 ∙ ap F one.2 ∙ ap (λ xs. record p { columns = xs; column = q.column; low = q.low }) (append_assoc p.columns (c ∷ []) (d ∷ cs)),
+    )
 
 from_walk : (p : Parts) (c : List ℕ) (cs : List (List ℕ)) → walk FromName p (separated comma name_tokens (c ∷ cs)) ≡ Ok (AfterFrom, record p { from = p.from ++ c ∷ cs })
 from_walk p c [] = refl
@@ -89,11 +120,10 @@ pub record IsRead (s : Statement) : Type 0 where
   pub ends : walk to parts (semicolon ∷ []) ≡ Ok (Ended, parts)
   pub finished_behind : finished Ended parts ≡ Some s
 
-stream_read : (name c : List ℕ) (cs : List (List ℕ)) → IsRead (CreateStream name (record { items = c ∷ cs }))
+stream_read : (name : List ℕ) (c : ColumnDef) (cs : List ColumnDef) → IsRead (CreateStream name (record { items = c ∷ cs }))
 stream_read name c cs =
-    let p : Parts = record no_parts { form = forms.Stream; name = name } in
-    let q : Parts = record p { columns = c ∷ cs } in
-    record { to = Complete; parts = q; read = walk_append ColumnName p (separated comma name_tokens (c ∷ cs)) (closing ∷ []) AfterColumn q (columns_walk p c cs); finished_there = refl; ends = refl; finished_behind = refl }
+    let read = columns_walk (record no_parts { form = forms.Stream; name = name }) c cs in
+    record { to = Complete; parts = read.0; read = read.1; finished_there = ap (λ m. Some (built m.form m)) read.2; ends = refl; finished_behind = ap (λ m. Some (built m.form m)) read.2 }
 
 abbrev pub query_words : List ℕ → Bool → List Lexeme
 query_words name d = key CreateKey ∷ key QueryKey ∷ word name ∷ key AsKey ∷ key SelectKey ∷ distinct_tokens d
@@ -139,7 +169,7 @@ query_read name d c cs n ns (a ∷ atoms) h =
       finished_behind = ap (λ m. Some (built m.form m)) last.2;
     }
 
-stream_items : (name : List ℕ) (columns : List (List ℕ)) → 0 < length columns → IsRead (CreateStream name (record { items = columns }))
+stream_items : (name : List ℕ) (columns : List ColumnDef) → 0 < length columns → IsRead (CreateStream name (record { items = columns }))
 stream_items name [] h = absurd (omega arith)
 stream_items name (c ∷ cs) h = stream_read name c cs
 

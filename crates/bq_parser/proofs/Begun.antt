@@ -2,7 +2,7 @@
 use Rattle.std.proofs.Common.{◌≡◌, pos, List, [], ◌∷◌, ◌++◌, refl, ap, sym, ◌∙◌, append_assoc, append-nil, subst}
 use Rattle.bq_text.specs.declared.key.Key.TheVariants.{CreateKey, StreamKey, QueryKey, AsKey, SelectKey, FromKey}
 use Rattle.bq_parser.specs.declared.places.Place.{Place}
-use Rattle.bq_parser.specs.declared.places.Place.TheVariants.{Start, AfterCreate, StreamName, OpenColumns, ColumnName, AfterColumn, QueryName, QueryAs, QuerySelect, FirstSelected, SelectedStream, SelectedPoint, SelectedColumn, AfterSelected, FromName, AfterFrom, AtomLeft, LeftPoint, LeftColumn, ColumnOp, RightAny, IntegerOp, RightStream, RightPoint, RightColumn, AfterAtom, ExplainName, AfterDrop, DropName, Complete, Ended}
+use Rattle.bq_parser.specs.declared.places.Place.TheVariants.{Start, AfterCreate, StreamName, OpenColumns, ColumnName, AfterColumn, DomainLow, FirstPoint, SecondPoint, DomainHigh, AfterDomain, QueryName, QueryAs, QuerySelect, FirstSelected, SelectedStream, SelectedPoint, SelectedColumn, AfterSelected, FromName, AfterFrom, AtomLeft, LeftPoint, LeftColumn, ColumnOp, RightAny, IntegerOp, RightStream, RightPoint, RightColumn, AfterAtom, ExplainName, AfterDrop, DropName, Complete, Ended}
 use Rattle.bq_parser.specs.declared.tree.Statement.{Statement}
 use Rattle.bq_parser.specs.Grammar.{Lexeme, word, number, key, point, opening, closing, less, Spells, Begins}
 use Rattle.bq_parser.specs.declared.draft.Form.TheVariants as forms
@@ -23,10 +23,25 @@ begun_Complete : (p : Parts) → Fine Complete p → Begins (told Complete p)
 begun_Complete p f = begun_whole (told Complete p) (built p.form p) (finished_spells Complete p (built p.form p) f refl)
 
 begun_AfterColumn : (p : Parts) → Fine AfterColumn p → Begins (told AfterColumn p)
-begun_AfterColumn p f = let next = told_step AfterColumn p closing f in begun_by (told AfterColumn p) _ closing next.0 (begun_Complete (act actions.Nothing closing p) next.1)
+begun_AfterColumn p f = let next = told_step AfterColumn p closing f in begun_by (told AfterColumn p) _ closing next.0 (begun_Complete (act actions.AddColumn closing p) next.1)
+
+begun_AfterDomain : (p : Parts) → Fine AfterDomain p → Begins (told AfterDomain p)
+begun_AfterDomain p f = let next = told_step AfterDomain p closing f in begun_by (told AfterDomain p) _ closing next.0 (begun_Complete (act actions.Nothing closing p) next.1)
+
+begun_DomainHigh : (p : Parts) → Fine DomainHigh p → Begins (told DomainHigh p)
+begun_DomainHigh p f = let next = told_step DomainHigh p (number (pos 0)) f in begun_by (told DomainHigh p) _ (number (pos 0)) next.0 (begun_AfterDomain (act actions.AddBounded (number (pos 0)) p) next.1)
+
+begun_SecondPoint : (p : Parts) → Fine SecondPoint p → Begins (told SecondPoint p)
+begun_SecondPoint p f = let next = told_step SecondPoint p point f in begun_by (told SecondPoint p) _ point next.0 (begun_DomainHigh (act actions.Nothing point p) next.1)
+
+begun_FirstPoint : (p : Parts) → Fine FirstPoint p → Begins (told FirstPoint p)
+begun_FirstPoint p f = let next = told_step FirstPoint p point f in begun_by (told FirstPoint p) _ point next.0 (begun_SecondPoint (act actions.Nothing point p) next.1)
+
+begun_DomainLow : (p : Parts) → Fine DomainLow p → Begins (told DomainLow p)
+begun_DomainLow p f = let next = told_step DomainLow p (number (pos 0)) f in begun_by (told DomainLow p) _ (number (pos 0)) next.0 (begun_FirstPoint (act actions.LowIs (number (pos 0)) p) next.1)
 
 begun_ColumnName : (p : Parts) → Fine ColumnName p → Begins (told ColumnName p)
-begun_ColumnName p f = let next = told_step ColumnName p (word (97 ∷ [])) f in begun_by (told ColumnName p) _ (word (97 ∷ [])) next.0 (begun_AfterColumn (act actions.AddColumn (word (97 ∷ [])) p) next.1)
+begun_ColumnName p f = let next = told_step ColumnName p (word (97 ∷ [])) f in begun_by (told ColumnName p) _ (word (97 ∷ [])) next.0 (begun_AfterColumn (act actions.ColumnIs (word (97 ∷ [])) p) next.1)
 
 begun_OpenColumns : (p : Parts) → Fine OpenColumns p → Begins (told OpenColumns p)
 begun_OpenColumns p f = let next = told_step OpenColumns p opening f in begun_by (told OpenColumns p) _ opening next.0 (begun_ColumnName (act actions.BeginColumns opening p) next.1)
@@ -120,6 +135,11 @@ begun StreamName p f = begun_StreamName p f
 begun OpenColumns p f = begun_OpenColumns p f
 begun ColumnName p f = begun_ColumnName p f
 begun AfterColumn p f = begun_AfterColumn p f
+begun DomainLow p f = begun_DomainLow p f
+begun FirstPoint p f = begun_FirstPoint p f
+begun SecondPoint p f = begun_SecondPoint p f
+begun DomainHigh p f = begun_DomainHigh p f
+begun AfterDomain p f = begun_AfterDomain p f
 begun QueryName p f = begun_QueryName p f
 begun QueryAs p f = begun_QueryAs p f
 begun QuerySelect p f = begun_QuerySelect p f

@@ -27,6 +27,15 @@ or_after : (p q : Bool) → (p || q) ≡ true → p ≡ false → q ≡ true
 or_after true q h k = let e : true ≡ false = k in cc
 or_after false q h k = h
 
+-- one more at most
+pub with_new-most : {X : Type 0} (lt : X → X → Bool) (x : X) (ys : List X) → length (with_new lt x ys) ≤ length ys + 1
+with_new-most lt x [] = omega arith
+with_new-most {X} lt x (y ∷ ys) = by (lt x y) (lt y x) (with_new-most lt x ys) where
+  by : (b c : Bool) → length (with_new lt x ys) ≤ length ys + 1 → length (cond {A = List X} b (x ∷ y ∷ ys) (cond c (y ∷ with_new lt x ys) (y ∷ ys))) ≤ length (y ∷ ys) + 1
+  by true c h = omega arith
+  by false true h = omega arith
+  by false false h = omega arith
+
 module _ {X : Type 0} (lt : X → X → Bool) (order : IsOrder lt) where
   never : (x : X) → lt x x ≡ false
   never x = elim (flag (lt x x)) [ inl h ↦ order.asymmetric x x h | inr h ↦ h ]
@@ -58,15 +67,6 @@ module _ {X : Type 0} (lt : X → X → Bool) (order : IsOrder lt) where
     by false true w (later h) f = later (f h)
     by false false w h f = h
 
-  -- one more at most
-  with_new-most : (x : X) (ys : List X) → length (with_new lt x ys) ≤ length ys + 1
-  with_new-most x [] = omega arith
-  with_new-most x (y ∷ ys) = by (lt x y) (lt y x) (with_new-most x ys) where
-    by : (b c : Bool) → length (with_new lt x ys) ≤ length ys + 1 → length (cond {A = List X} b (x ∷ y ∷ ys) (cond c (y ∷ with_new lt x ys) (y ∷ ys))) ≤ length (y ∷ ys) + 1
-    by true c h = omega arith
-    by false true h = omega arith
-    by false false h = omega arith
-
   module _ {C : Type 0} (same : C → C → Bool) (f : C → X) (alike : (c d : C) → same c d ≡ true → f c ≡ f d) where
     Ascends-put_all : (cs : List C) → Ascends lt (put_all lt f cs)
     Ascends-put_all [] = none
@@ -86,7 +86,7 @@ module _ {X : Type 0} (lt : X → X → Bool) (order : IsOrder lt) where
     length-put_all (c ∷ cs) = by (list_any (same c) cs) refl (length-put_all cs) where
       by : (b : Bool) → list_any (same c) cs ≡ b → length (put_all lt f cs) ≤ number_of_different same cs → length (with_new lt (f c) (put_all lt f cs)) ≤ cond b (number_of_different same cs) (number_of_different same cs + 1)
       by true e h = let k : length (with_new lt (f c) (put_all lt f cs)) ≡ length (put_all lt f cs) = ap length (with_new-there (f c) (put_all lt f cs) (Ascends-put_all cs) (put_all-has c cs e)) in omega arith
-      by false e h = let k : length (with_new lt (f c) (put_all lt f cs)) ≤ length (put_all lt f cs) + 1 = with_new-most (f c) (put_all lt f cs) in omega arith
+      by false e h = let k : length (with_new lt (f c) (put_all lt f cs)) ≤ length (put_all lt f cs) + 1 = with_new-most lt (f c) (put_all lt f cs) in omega arith
 
 -- what holds of the others and of a new one holds of all
 pub all_with_new : {X : Type 0} (P : X → Type 0) (lt : X → X → Bool) (x : X) (ys : List X) → P x → AllByRecursion P ys → AllByRecursion P (with_new lt x ys)

@@ -2,11 +2,11 @@
 use Rattle.std.proofs.Common.{◌≡◌, ℕ, ℤ, Bool, true, false, cond, List, [], ◌∷◌, ◌++◌, length, map, Option, Some, None, refl, ap, sym, ◌∙◌, ◌+◌, ◌≤◌, ◌<◌, inl, inr, nat_lt, take, pos, length-append, lt-ltb, arith}
 use Rattle.std.proofs.Common.{IfSome, ◌&&◌, subst}
 use Rattle.bq_text.specs.Value.{value_of, fits_i64, integer, is_integer}
-use Rattle.bq_text.specs.declared.key.Key.TheVariants.{CreateKey, StreamKey, QueryKey, AsKey, SelectKey, DistinctKey, FromKey, WhereKey, AndKey}
+use Rattle.bq_text.specs.declared.key.Key.TheVariants.{CreateKey, StreamKey, QueryKey, AsKey, SelectKey, DistinctKey, FromKey, WhereKey, AndKey, InKey}
 use Rattle.bq_lexer.specs.declared.token.TokenKind.{TokenKind}
 use Rattle.bq_lexer.specs.declared.token.TokenKind.TheVariants as kinds
 use Rattle.bq_parser.specs.declared.places.Place.{Place}
-use Rattle.bq_parser.specs.declared.places.Place.TheVariants.{Start, AfterCreate, StreamName, OpenColumns, ColumnName, AfterColumn, QueryName, QueryAs, QuerySelect, FirstSelected, SelectedStream, SelectedPoint, SelectedColumn, AfterSelected, FromName, AfterFrom, AtomLeft, LeftPoint, LeftColumn, ColumnOp, RightAny, IntegerOp, RightStream, RightPoint, RightColumn, AfterAtom, ExplainName, AfterDrop, DropName, Complete}
+use Rattle.bq_parser.specs.declared.places.Place.TheVariants.{Start, AfterCreate, StreamName, OpenColumns, ColumnName, AfterColumn, DomainLow, FirstPoint, SecondPoint, DomainHigh, AfterDomain, QueryName, QueryAs, QuerySelect, FirstSelected, SelectedStream, SelectedPoint, SelectedColumn, AfterSelected, FromName, AfterFrom, AtomLeft, LeftPoint, LeftColumn, ColumnOp, RightAny, IntegerOp, RightStream, RightPoint, RightColumn, AfterAtom, ExplainName, AfterDrop, DropName, Complete}
 use Rattle.bq_parser.specs.Steps.{step}
 use Rattle.bq_parser.specs.Syntax.{lexeme_as, lexeme_of, lexemes}
 use Rattle.bq_parser.proofs.WalkLaws.{walk_append}
@@ -25,7 +25,7 @@ use Rattle.bq_parser.specs.declared.draft.Draft.{Draft}
 use Rattle.bq_parser.specs.declared.draft.Kept.{Kept}
 use Rattle.bq_parser.specs.DraftSteps.{kept, or_far, put, drafted}
 use Rattle.bq_parser.specs.Grammar.{Lexeme}
-use Rattle.bq_parser.specs.Keeping.{keep, kept_column, kept_number, kept_operand, kept_atom, kept_parts, SaysFor, IsCut, IsRead}
+use Rattle.bq_parser.specs.Keeping.{keep, kept_column, kept_number, kept_def, kept_operand, kept_atom, kept_parts, SaysFor, IsCut, IsRead}
 use Rattle.bq_parser.specs.Reading.{Parts, act, text_of, number_of, walk, walk_on, no_parts}
 
 -- one item more is kept
@@ -77,7 +77,10 @@ kept_act actions.BeginStream l w p e = refl
 kept_act actions.BeginQuery l w p e = refl
 kept_act actions.Named l w p e = ap (λ x. record (kept_parts p) { name = kept x }) e
 kept_act actions.BeginColumns l w p e = refl
-kept_act actions.AddColumn l w p e = ap (λ x. record (kept_parts p) { columns = put 8 (kept x) (keep kept 8 p.columns) }) e ∙ ap (λ k. record (kept_parts p) { columns = k }) (put_last kept 8 p.columns (text_of l))
+kept_act actions.ColumnIs l w p e = ap (λ x. record (kept_parts p) { column = kept x }) e
+kept_act actions.AddColumn l w p e = ap (λ k. record (kept_parts p) { columns = k }) (put_last kept_def 8 p.columns (record { name = p.column; domain = None }))
+kept_act actions.LowIs l w p e = ap (λ z. record (kept_parts p) { low = z }) e
+kept_act actions.AddBounded l w p e = ap (λ z. record (kept_parts p) { columns = put 8 (record { name = kept p.column; domain = Some (kept_number p.low, z) }) (keep kept_def 8 p.columns) }) e ∙ ap (λ k. record (kept_parts p) { columns = k }) (put_last kept_def 8 p.columns (record { name = p.column; domain = Some (p.low, number_of l) }))
 kept_act actions.BeginSelect l w p e = refl
 kept_act actions.SetDistinct l w p e = refl
 kept_act actions.StreamIs l w p e = ap (λ x. record (kept_parts p) { stream = kept x }) e
@@ -107,6 +110,8 @@ says_value w h = ap (λ t. or_far (cond (t && fits_i64 (integer w)) (Some (integ
 pub says : (place : Place) (k : TokenKind) (w : List ℕ) → (k ≡ kinds.Integer → is_integer w ≡ true) → IfSome (step place k) (λ m. SaysFor m.1 (lexeme_as k w) w)
 says AtomLeft kinds.Integer w h = says_value w (h refl)
 says RightAny kinds.Integer w h = says_value w (h refl)
+says DomainLow kinds.Integer w h = says_value w (h refl)
+says DomainHigh kinds.Integer w h = says_value w (h refl)
 says StreamName kinds.Word w h = refl
 says ColumnName kinds.Word w h = refl
 says QueryName kinds.Word w h = refl
@@ -125,6 +130,10 @@ says Start (kinds.Reserved CreateKey) w h = tt
 says AfterCreate (kinds.Reserved StreamKey) w h = tt
 says OpenColumns kinds.Open w h = tt
 says AfterColumn kinds.Comma w h = tt
+says AfterColumn (kinds.Reserved InKey) w h = tt
+says FirstPoint kinds.Point w h = tt
+says SecondPoint kinds.Point w h = tt
+says AfterDomain kinds.Comma w h = tt
 says QueryAs (kinds.Reserved AsKey) w h = tt
 says QuerySelect (kinds.Reserved SelectKey) w h = tt
 says SelectedPoint kinds.Point w h = tt

@@ -1,11 +1,13 @@
 pub mod Again
 pub mod Begun
 pub mod Different
+pub mod DomainRows
 pub mod KeptLaw
 pub mod WalkLaws
 pub mod Names
 pub mod Placed
 pub mod PrintedText
+pub mod QueryDomains
 pub mod ReadBack
 pub mod Resolved
 pub mod RoundTrip

@@ -1,5 +1,5 @@
 -- The columns that the atoms of a query name are there where their sides are.
-use Rattle.std.proofs.Common.{ℕ, List, [], ◌∷◌, cond, Bool, true, false}
+use Rattle.std.proofs.Common.{ℕ, List, All, [], ◌∷◌, cond, Bool, true, false}
 use Rattle.std.proofs.lemmas.List.Elements.{All-contains}
 use Rattle.bq_model.proofs.Has.{Has, first, later, Has-from_contains, Contains-from_has}
 use Rattle.bq_model.specs.declared.atom.Attr.{Attr}
@@ -8,7 +8,7 @@ use Rattle.bq_model.specs.declared.atom.Element.{Element}
 use Rattle.bq_model.specs.declared.atom.Element.TheVariants as element
 use Rattle.bq_model.specs.Query.{attr_lt, with_new, attrs_with, attrs_of}
 use Rattle.bq_schema.specs.Streams.{Shape}
-use Rattle.bq_parser.specs.Resolution.{IsColumnOf, HasSide, HasSides}
+use Rattle.bq_parser.specs.Resolution.{IsColumnOf, HasSide, HasSides, named_attrs}
 use Rattle.bq_parser.specs.Laws.{AttributesAreNamed}
 
 one_more : {X : Type 0} (P : X → Type 0) (y : X) (xs : List X) → P y → ((z : X) → Has xs z → P z) → (z : X) → Has (y ∷ xs) z → P z
@@ -21,7 +21,7 @@ chosen false true P xs ys zs z f g h k = g k
 chosen false false P xs ys zs z f g h k = h k
 
 -- what holds of an element and of all elements of a list holds of all after the element was put in
-put_in : {X : Type 0} (lt : X → X → Bool) (P : X → Type 0) (x : X) (xs : List X) → P x → ((z : X) → Has xs z → P z) → (z : X) → Has (with_new lt x xs) z → P z
+pub put_in : {X : Type 0} (lt : X → X → Bool) (P : X → Type 0) (x : X) (xs : List X) → P x → ((z : X) → Has xs z → P z) → (z : X) → Has (with_new lt x xs) z → P z
 put_in lt P x [] p f z h = one_more P x [] p f z h
 put_in lt P x (y ∷ ys) p f z h =
     chosen (lt x y) (lt y x) P (x ∷ y ∷ ys) (y ∷ with_new lt x ys) (y ∷ ys) z
@@ -42,3 +42,12 @@ named streams from (t ∷ ts) f a h =
 pub attributes_are_named : AttributesAreNamed
 attributes_are_named streams q h a c =
     named streams q.from q.atoms (λ t k. All-contains (HasSides streams q.from) q.atoms t h.atoms (Contains-from_has q.atoms t k)) a (Has-from_contains (attrs_of q.atoms) a c)
+
+-- and so are these and the selected columns
+pub all_there : (streams : List Shape) (from : List ℕ) (select : List Attr) (atoms : List Atom) → All (IsColumnOf streams from) select → All (HasSides streams from) atoms
+    → (a : Attr) → Has (named_attrs select atoms) a → IsColumnOf streams from a
+all_there streams from select atoms h k = there select (λ a i. All-contains (IsColumnOf streams from) select a h (Contains-from_has select a i))
+  where
+    there : (attrs : List Attr) → ((a : Attr) → Has attrs a → IsColumnOf streams from a) → (a : Attr) → Has (named_attrs attrs atoms) a → IsColumnOf streams from a
+    there [] f a i = named streams from atoms (λ t j. All-contains (HasSides streams from) atoms t k (Contains-from_has atoms t j)) a i
+    there (b ∷ attrs) f a i = put_in attr_lt (IsColumnOf streams from) b (named_attrs attrs atoms) (f b first) (there attrs (λ c j. f c (later j))) a i

@@ -3,22 +3,24 @@ use Rattle.std.proofs.Common.{◌≡◌, ℕ, zero, suc, ◌<◌, Bool, true, fa
 use Rattle.std.specs.List.{list_all, All, AllByRecursion}
 use Rattle.std.specs.Str.{bytes_eq}
 use Rattle.std.proofs.lemmas.List.{get_or-map, length-map}
-use Rattle.std.proofs.lemmas.List.Elements.{All-from_recursion, All-map, recursion_from_All}
+use Rattle.std.proofs.lemmas.List.Elements.{All-from_recursion, All-get_or, All-map, recursion_from_All}
 use Rattle.std.proofs.lemmas.List.Quantifiers.{position-Some}
 use Rattle.bq_model.specs.declared.atom.Attr.{Attr}
 use Rattle.bq_model.specs.declared.atom.Element.{Element}
 use Rattle.bq_model.specs.declared.atom.Element.TheVariants as element
 use Rattle.bq_model.specs.declared.atom.Atom.{Atom}
 use Rattle.bq_model.specs.Query.{QueryValue}
-use Rattle.bq_schema.specs.Streams.{Shape, is_duplicate, with_stream, stream_number, column_place, shape_at}
+use Rattle.bq_model.proofs.Has.{Has, first, later}
+use Rattle.bq_schema.specs.Streams.{Shape, is_duplicate, with_stream, stream_number, column_place, no_column, shape_at}
 use Rattle.bq_parser.specs.declared.tree.ColumnAst.{ColumnAst}
 use Rattle.bq_parser.specs.declared.tree.OperandAst.{OperandAst}
 use Rattle.bq_parser.specs.declared.tree.OperandAst.TheVariants.{Column, Integer}
 use Rattle.bq_parser.specs.declared.tree.AtomAst.{AtomAst}
 use Rattle.bq_parser.specs.declared.tree.SelectAst.{SelectAst}
 use Rattle.bq_parser.specs.Limits.{column_in, columns_in}
-use Rattle.bq_parser.specs.Resolution.{named_columns, place_in, place_under, number_for, has_streams, has_columns, attr_for, element_for, atom_for, query_for, IsColumnOf, HasSide, HasSides, HasNamed}
+use Rattle.bq_parser.specs.Resolution.{named_columns, place_in, place_under, number_for, has_streams, has_columns, attr_for, element_for, atom_for, query_for, named_attrs, domain_with, domain_for, domains_for, IsColumnOf, HasSide, HasSides, HasNamed}
 use Rattle.bq_parser.specs.Laws.{StaysNamed}
+use Rattle.bq_parser.proofs.NamedAttrs.{all_there}
 use Rattle.bq_parser.proofs.Said.{all_left, all_right}
 use Rattle.bq_parser.proofs.Taken.{same_names, both_left, both_right, some_is, known}
 
@@ -43,7 +45,7 @@ module _ (streams : List Shape) (from : List (List ℕ)) where
 
   place_inside : (c : ColumnAst) (o : Option ℕ) (k : ℕ) → option_and_then (λ n. column_place (shape_at streams n).columns c.column) o ≡ Some k → k < length (shape_at streams (unwrap_or o 0)).columns
   place_inside c None k h = cc
-  place_inside c (Some n) k h = (position-Some (λ d. bytes_eq d c.column) (shape_at streams n).columns k [] h).0
+  place_inside c (Some n) k h = (position-Some (λ d. bytes_eq d.name c.column) (shape_at streams n).columns k no_column h).0
 
   column_there : (c : ColumnAst) → is_some (place_in from c) ≡ true → is_some (place_under streams c) ≡ true → IsThere c
   column_there c h k =
@@ -122,13 +124,30 @@ module _ (streams more : List Shape) (from : List ℕ) where
 still : {X : Type 0} (P Q : X → Type 0) → ((x : X) → P x → Q x) → (xs : List X) → All P xs → All Q xs
 still P Q f xs h = All-from_recursion Q xs (all_still P Q f xs (recursion_from_All P xs h))
 
+-- the shape of a stream stays
+shape_stays : (streams more : List Shape) (n : ℕ) → n < length streams → shape_at (streams ++ more) n ≡ shape_at streams n
+shape_stays [] more n h = absurd (omega arith)
+shape_stays (s ∷ streams) more zero h = refl
+shape_stays (s ∷ streams) more (suc n) h = shape_stays streams more n (omega arith)
+
+-- the domains of its columns stay
+domains_stay : (streams more : List Shape) (from : List ℕ) → All (λ n. n < length streams) from → (attrs : List Attr) → ((a : Attr) → Has attrs a → IsColumnOf streams from a)
+    → domains_for (streams ++ more) from attrs ≡ domains_for streams from attrs
+domains_stay streams more from there [] f = refl
+domains_stay streams more from there (a ∷ attrs) f =
+    let n : ℕ = get_or from a.stream 0 in
+    let inside : n < length streams = All-get_or (λ m. m < length streams) from a.stream 0 (f a first).stream there in
+    let same : domain_for (streams ++ more) from a ≡ domain_for streams from a = ap (λ (s : Shape). (get_or s.columns a.column no_column).domain) (shape_stays streams more n inside) in
+    ap (λ d. domain_with a d ++ domains_for (streams ++ more) from attrs) same
+    ∙ ap (λ ds. domain_with a (domain_for streams from a) ++ ds) (domains_stay streams more from there attrs (λ b i. f b (later i)))
+
 -- what a query names is there after streams were added
 pub stays_named : StaysNamed
 stays_named streams more q there = record {
   from = still _ _ (stream_stays streams more) q.from there.from;
   select = still _ _ (attr_stays streams more q.from) q.select there.select;
   atoms = still _ _ (sides_stay streams more q.from) q.atoms there.atoms;
-  domains = there.domains;
+  domains = there.domains ∙ sym (domains_stay streams more q.from there.from (named_attrs q.select q.atoms) (all_there streams q.from q.select q.atoms there.select there.atoms));
 }
 
 -- what a query names is there after a stream was added or refused

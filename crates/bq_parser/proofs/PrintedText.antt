@@ -1,17 +1,19 @@
 -- The printed form of a statement is its parts.
-use Rattle.std.proofs.Common.{◌≡◌, ℕ, Bool, true, false, cond, ◌||◌, List, [], ◌∷◌, ◌++◌, flat_map, codes, refl, ap, sym, ◌∙◌, append_assoc, append-nil}
+use Rattle.std.proofs.Common.{◌≡◌, ℕ, Bool, true, false, cond, ◌||◌, List, [], ◌∷◌, ◌++◌, Option, Some, None, ℤ, flat_map, codes, refl, ap, sym, ◌∙◌, append_assoc, append-nil}
+use Rattle.std.specs.Fmt.{signed_decimal}
 use Rattle.bq_text.specs.declared.key.Key.TheVariants.{SelectKey, DistinctKey, FromKey, WhereKey, AndKey}
 use Rattle.bq_model.specs.declared.atom.Op.{Op}
 use Rattle.bq_model.specs.declared.atom.Op.TheVariants.{Lt, Eq, Gt, Le, Ge, Ne}
+use Rattle.bq_schema.specs.declared.column.ColumnDef.{ColumnDef}
 use Rattle.bq_parser.specs.declared.tree.ColumnAst.{ColumnAst}
 use Rattle.bq_parser.specs.declared.tree.OperandAst.{OperandAst}
 use Rattle.bq_parser.specs.declared.tree.OperandAst.TheVariants.{Column, Integer}
 use Rattle.bq_parser.specs.declared.tree.AtomAst.{AtomAst}
 use Rattle.bq_parser.specs.declared.tree.SelectAst.{SelectAst}
 use Rattle.bq_parser.specs.declared.tree.Statement.TheVariants.{CreateStream, CreateQuery}
-use Rattle.bq_parser.specs.Grammar.{Lexeme, word, number, key, comma, opening, closing, less, equal, greater, less_equal, greater_equal, unequal, separated, name_tokens, column_tokens, operand_tokens, op_token, atom_tokens, where_tokens, distinct_tokens, select_tokens}
+use Rattle.bq_parser.specs.Grammar.{Lexeme, word, number, key, comma, opening, closing, less, equal, greater, less_equal, greater_equal, unequal, separated, name_tokens, domain_tokens, coldef_tokens, column_tokens, operand_tokens, op_token, atom_tokens, where_tokens, distinct_tokens, select_tokens}
 use Rattle.bq_parser.specs.Printed.{text_for, joins_next, joins_last, gap, printed, printed_form}
-use Rattle.bq_parser.specs.PrintedParts.{each_behind, listed, name_text, column_text, operand_text, op_text, atom_text, names_text, columns_text, atoms_text, distinct_text, sources_text, selection_text, select_text, query_text, stream_text}
+use Rattle.bq_parser.specs.PrintedParts.{each_behind, listed, name_text, column_text, operand_text, op_text, atom_text, names_text, columns_text, atoms_text, distinct_text, sources_text, selection_text, select_text, query_text, domain_text, coldef_text, coldefs_text, stream_text}
 use Rattle.bq_parser.proofs.Said.{select_grouped}
 
 -- what is printed behind a token
@@ -158,12 +160,30 @@ query_printed name s =
     sym (ap (λ bs. codes "CREATE QUERY " ++ (name ++ (codes " AS " ++ bs))) (sym (select_printed s))
     ∙ ap (λ bs. codes "CREATE QUERY " ++ bs) (sym (append_assoc name (codes " AS ") (select_text s))))
 
-stream_behind : (columns : List (List ℕ)) → behind opening (separated comma name_tokens columns ++ closing ∷ []) ≡ names_text [] columns ++ codes ")"
-stream_behind [] = refl
-stream_behind (c ∷ columns) = list_behind opening comma name_tokens [] (codes ", ") name_text word_behind name_behind_comma c columns (closing ∷ [])
+-- columns of a stream
+domain_behind : (domain : Option (ℤ × ℤ)) (rest : List Lexeme) → behind_name (domain_tokens domain ++ rest) ≡ domain_text domain ++ behind_name rest
+domain_behind None rest = refl
+domain_behind (Some ends) rest =
+    let low = signed_decimal ends.0 in
+    let high = signed_decimal ends.1 in
+    ap (λ bs. codes " IN " ++ (low ++ (codes ".." ++ bs))) (printed_first (number ends.1) rest ∙ ap (λ bs. high ++ bs) (number_behind (number ends.1) rest refl))
+    ∙ sym (grouped (codes " IN ") low (codes "..") high (behind_name rest))
+  where
+    grouped : (a b c d e : List ℕ) → ((a ++ b) ++ (c ++ d)) ++ e ≡ a ++ (b ++ (c ++ (d ++ e)))
+    grouped a b c d e = simp append_assoc
 
-pub stream_printed : (name : List ℕ) (columns : List (List ℕ)) → stream_text name columns ≡ printed_form (CreateStream name (record { items = columns }))
+coldef_behind : (c : ColumnDef) (rest : List Lexeme) → printed (coldef_tokens c ++ rest) ≡ coldef_text c ++ behind_name rest
+coldef_behind c rest = word_behind c.name (domain_tokens c.domain ++ rest) ∙ ap (λ bs. c.name ++ bs) (domain_behind c.domain rest) ∙ sym (append_assoc c.name (domain_text c.domain) (behind_name rest))
+
+coldef_behind_comma : (c : ColumnDef) (rest : List Lexeme) → behind_name (comma ∷ (coldef_tokens c ++ rest)) ≡ codes ", " ++ (coldef_text c ++ behind_name rest)
+coldef_behind_comma c rest = ap (λ bs. codes ", " ++ bs) (coldef_behind c rest)
+
+stream_behind : (columns : List ColumnDef) → behind opening (separated comma coldef_tokens columns ++ closing ∷ []) ≡ coldefs_text columns ++ codes ")"
+stream_behind [] = refl
+stream_behind (c ∷ columns) = list_behind opening comma coldef_tokens [] (codes ", ") coldef_text coldef_behind coldef_behind_comma c columns (closing ∷ [])
+
+pub stream_printed : (name : List ℕ) (columns : List ColumnDef) → stream_text name columns ≡ printed_form (CreateStream name (record { items = columns }))
 stream_printed name columns =
-    sym (ap (λ bs. codes "CREATE STREAM " ++ (name ++ (codes " " ++ bs))) (printed_first opening (separated comma name_tokens columns ++ closing ∷ []))
+    sym (ap (λ bs. codes "CREATE STREAM " ++ (name ++ (codes " " ++ bs))) (printed_first opening (separated comma coldef_tokens columns ++ closing ∷ []))
     ∙ ap (λ bs. codes "CREATE STREAM " ++ (name ++ (codes " (" ++ bs))) (stream_behind columns)
-    ∙ ap (λ bs. codes "CREATE STREAM " ++ bs) (sym (append_assoc name (codes " (") (names_text [] columns ++ codes ")"))))
+    ∙ ap (λ bs. codes "CREATE STREAM " ++ bs) (sym (append_assoc name (codes " (") (coldefs_text columns ++ codes ")"))))

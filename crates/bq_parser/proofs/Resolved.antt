@@ -1,5 +1,5 @@
 -- What a query is named with stands for this query.
-use Rattle.std.proofs.Common.{◌≡◌, ◌≢◌, ℕ, zero, suc, ◌<◌, ◌≤◌, inl, inr, Bool, true, false, cond, not, ◌&&◌, ◌||◌, nat_lt, List, [], ◌∷◌, ◌++◌, length, map, get_or, Option, Some, None, is_some, unwrap_or, option_and_then, Result, Ok, Err, refl, ap, ap₂, sym, ◌∙◌, subst, arith}
+use Rattle.std.proofs.Common.{◌≡◌, ◌≢◌, ℕ, zero, suc, ◌<◌, inl, inr, Bool, true, false, cond, not, ◌&&◌, ◌||◌, nat_lt, List, [], ◌∷◌, ◌++◌, length, map, get_or, Option, Some, None, is_some, unwrap_or, option_and_then, Result, Ok, Err, refl, ap, ap₂, sym, ◌∙◌, subst, arith}
 use Rattle.std.specs.List.{list_any, list_all, position, position_or_len, All, AllPairs, AllByRecursion}
 use Rattle.std.specs.Str.{bytes_eq}
 use Rattle.std.proofs.lemmas.Bool.Decides.{nat_tests}
@@ -13,12 +13,13 @@ use Rattle.bq_model.specs.declared.atom.Element.{Element}
 use Rattle.bq_model.specs.declared.atom.Element.TheVariants as element
 use Rattle.bq_model.specs.declared.atom.Atom.{Atom}
 use Rattle.bq_model.specs.Query.{QueryValue}
-use Rattle.bq_schema.specs.Streams.{Shape, IsShape, IsCatalog, stream_number, column_place, shape_at, all_differ}
+use Rattle.bq_schema.specs.Streams.{Shape, IsShape, IsCatalog, stream_number, column_place, no_column, shape_at, all_differ}
+use Rattle.bq_schema.specs.declared.column.ColumnDef.{ColumnDef}
 use Rattle.bq_parser.specs.declared.tree.ColumnAst.{ColumnAst}
 use Rattle.bq_parser.specs.declared.resolution.ResolveError.{ResolveError}
 use Rattle.bq_parser.specs.declared.resolution.ResolveError.TheVariants.{UnknownStream, UnknownColumn, SelfJoin}
 use Rattle.bq_parser.specs.Limits.{column_in, columns_in}
-use Rattle.bq_parser.specs.Resolution.{place_in, place_under, number_for, has_streams, has_columns, attr_for, element_for, atom_for, query_for, resolved, IsColumnOf, HasSide, HasSides, stream_named, column_named, operand_named, atom_named, named_select}
+use Rattle.bq_parser.specs.Resolution.{place_in, place_under, number_for, has_streams, has_columns, attr_for, element_for, atom_for, query_with, query_for, resolved, IsColumnOf, HasSide, HasSides, stream_named, column_named, operand_named, atom_named, named_select}
 use Rattle.bq_parser.specs.Laws.{ResolvesBack}
 use Rattle.bq_parser.proofs.Different.{flag}
 use Rattle.bq_parser.proofs.Taken.{same_names, same_name, both_left, both_right, or_left, or_right, not_true}
@@ -111,7 +112,7 @@ module _ (streams : List Shape) (is : IsCatalog streams) where
         let n : ℕ = get_or from a.stream 0 in
         let inside : n < length streams = All-get_or (λ n. n < length streams) from a.stream 0 h.stream there in
         ap (option_and_then (λ m. column_place (shape_at streams m).columns (column_named streams from a).column)) (number_back n inside)
-        ∙ found_name (shape_at streams n).columns a.column (shape_is n inside).differ h.column
+        ∙ found (λ (c : ColumnDef). c.name) (shape_at streams n).columns a.column no_column (shape_is n inside).differ h.column
 
     attr_back : (a : Attr) → IsColumnOf streams from a → attr_for streams names (column_named streams from a) ≡ a
     attr_back a h = ap₂ (λ (s c : Option ℕ). let r : Attr = record { stream = unwrap_or s 0; column = unwrap_or c 0 } in r) (place_back a h) (column_back a h)
@@ -145,11 +146,6 @@ module _ (streams : List Shape) (is : IsCatalog streams) where
           list_all-append p (map (column_named streams from) attrs) (columns_in (map (atom_named streams from) atoms))
           ∙ both (list_all p (map (column_named streams from) attrs)) _ (all_selected attrs (recursion_from_All (IsColumnOf streams from) attrs h)) (all_compared atoms (recursion_from_All (HasSides streams from) atoms k))
 
--- no more than none is none
-no_domains : (ds : List Domain) → length ds ≤ 0 → ds ≡ []
-no_domains [] h = refl
-no_domains (d ∷ ds) h = absurd (omega (arith, h))
-
 resolves : (a b c : Bool) (q : QueryValue) → a ≡ true → b ≡ true → c ≡ true → cond {A = Result QueryValue ResolveError} (not a) (Err UnknownStream) (cond (not b) (Err UnknownColumn) (cond (not c) (Err SelfJoin) (Ok q))) ≡ Ok q
 resolves true true true q h k l = refl
 resolves true true false q h k l = cc
@@ -169,9 +165,9 @@ resolves_back streams q is limits there =
     let attrs_back = map_same (IsColumnOf streams from) (column_named streams from) (attr_for streams s.from.items) (attr_back streams is from there.from apart) q.select (recursion_from_All (IsColumnOf streams from) q.select there.select) in
     let atoms_back = map_same (HasSides streams from) (atom_named streams from) (atom_for streams s.from.items) (atom_back streams is from there.from apart) q.atoms (recursion_from_All (HasSides streams from) q.atoms there.atoms) in
     let same : query_for streams s ≡ q =
-    ap (λ (f : List ℕ). let r : QueryValue = record { distinct = q.distinct; from = f; select = (query_for streams s).select; atoms = (query_for streams s).atoms; domains = [] } in r) numbers_back
-    ∙ ap₂ (λ (a : List Attr) (t : List Atom). let r : QueryValue = record { distinct = q.distinct; from = from; select = a; atoms = t; domains = [] } in r) attrs_back atoms_back
-    ∙ ap (λ (d : List Domain). let r : QueryValue = record { distinct = q.distinct; from = from; select = q.select; atoms = q.atoms; domains = d } in r) (sym (no_domains q.domains limits.few_domains)) in
+    ap (λ (f : List ℕ). query_with streams q.distinct f (query_for streams s).select (query_for streams s).atoms) numbers_back
+    ∙ ap₂ (λ (a : List Attr) (t : List Atom). query_with streams q.distinct from a t) attrs_back atoms_back
+    ∙ ap (λ (d : List Domain). let r : QueryValue = record { distinct = q.distinct; from = from; select = q.select; atoms = q.atoms; domains = d } in r) (sym there.domains) in
     resolves (has_streams streams s) (has_columns streams s) (all_differ s.from.items) (query_for streams s)
     (both (list_all (λ name. is_some (stream_number streams name)) s.from.items) _ (all_known streams is from numbers) placed)
     under

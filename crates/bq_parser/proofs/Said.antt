@@ -1,5 +1,5 @@
 -- What the tokens of a statement say of its names and integers.
-use Rattle.std.proofs.Common.{◌≡◌, ℕ, ◌+◌, ◌-◌, ◌<◌, ◌≤◌, Bool, true, false, ◌&&◌, ◌||◌, ℤ, nat_lt, List, [], ◌∷◌, ◌++◌, length, drop, get_or, zero, suc, Some, refl, ap, sym, ◌∙◌, arith, append-nil, append_assoc, length-drop, flat_map}
+use Rattle.std.proofs.Common.{◌≡◌, ℕ, ◌+◌, ◌-◌, ◌<◌, ◌≤◌, Bool, true, false, ◌&&◌, ◌||◌, ℤ, nat_lt, List, [], ◌∷◌, ◌++◌, length, drop, get_or, zero, suc, Option, Some, None, refl, ap, sym, ◌∙◌, arith, append-nil, append_assoc, length-drop, flat_map}
 use Rattle.std.specs.Prelude.{slice_range}
 use Rattle.std.specs.List.{list_any, AllByRecursion}
 use Rattle.std.proofs.lemmas.Bool.Decides.{nat_tests}
@@ -16,15 +16,16 @@ use Rattle.bq_text.specs.Name.{is_name}
 use Rattle.bq_text.specs.declared.key.Key.TheVariants.{SelectKey, AndKey, FromKey}
 use Rattle.bq_model.specs.declared.atom.Op.{Op}
 use Rattle.bq_model.specs.declared.atom.Op.TheVariants.{Lt, Eq, Gt, Le, Ge, Ne}
+use Rattle.bq_schema.specs.declared.column.ColumnDef.{ColumnDef}
 use Rattle.bq_parser.specs.declared.tree.ColumnAst.{ColumnAst}
 use Rattle.bq_parser.specs.declared.tree.OperandAst.{OperandAst}
 use Rattle.bq_parser.specs.declared.tree.OperandAst.TheVariants.{Column, Integer}
 use Rattle.bq_parser.specs.declared.tree.AtomAst.{AtomAst}
 use Rattle.bq_parser.specs.declared.tree.SelectAst.{SelectAst}
-use Rattle.bq_parser.specs.Grammar.{Lexeme, word, key, comma, semicolon, separated, name_tokens, column_tokens, operand_tokens, op_token, atom_tokens, where_tokens, distinct_tokens, select_tokens}
+use Rattle.bq_parser.specs.Grammar.{Lexeme, word, key, comma, semicolon, separated, name_tokens, domain_tokens, coldef_tokens, column_tokens, operand_tokens, op_token, atom_tokens, where_tokens, distinct_tokens, select_tokens}
 use Rattle.bq_parser.specs.Syntax.{lexeme_as, lexeme_of, lexemes}
-use Rattle.bq_parser.specs.Limits.{word_in, number_in, is_long}
-use Rattle.bq_parser.specs.DraftLimits.{is_word_kind, is_long_token, integer_in, integers_in}
+use Rattle.bq_parser.specs.Limits.{word_in, number_in, integer_in, integers_in, is_long}
+use Rattle.bq_parser.specs.DraftLimits.{is_word_kind, is_long_token, ends_in}
 use Rattle.bq_parser.specs.Keeping.{IsCut}
 use Rattle.bq_parser.proofs.Names.{name_by}
 
@@ -162,8 +163,16 @@ none_at_all : {X : Type 0} (xs : List X) → flat_map no_integers xs ≡ []
 none_at_all [] = refl
 none_at_all (x ∷ xs) = none_at_all xs
 
-pub numbers_names : (names : List (List ℕ)) → flat_map number_in (separated comma name_tokens names) ≡ []
+numbers_names : (names : List (List ℕ)) → flat_map number_in (separated comma name_tokens names) ≡ []
 numbers_names names = numbers_separated comma name_tokens no_integers refl (λ n. refl) names ∙ none_at_all names
+
+numbers_domain : (domain : Option (ℤ × ℤ)) → flat_map number_in (domain_tokens domain) ≡ ends_in domain
+numbers_domain None = refl
+numbers_domain (Some ends) = refl
+
+-- the integers of the columns of a stream are the ends of their domains
+pub numbers_coldefs : (columns : List ColumnDef) → flat_map number_in (separated comma coldef_tokens columns) ≡ flat_map (λ c. ends_in c.domain) columns
+numbers_coldefs columns = numbers_separated comma coldef_tokens (λ c. ends_in c.domain) refl (λ c. numbers_domain c.domain) columns
 
 numbers_columns : (columns : List ColumnAst) → flat_map number_in (separated comma column_tokens columns) ≡ []
 numbers_columns columns = numbers_separated comma column_tokens no_integers refl (λ c. refl) columns ∙ none_at_all columns

@@ -1,5 +1,5 @@
 -- The query that a statement asks for is within the limits of a query.
-use Rattle.std.proofs.Common.{◌≡◌, ◌≢◌, ℕ, zero, suc, ◌<◌, ◌≤◌, inl, inr, Bool, true, false, cond, not, ◌&&◌, ◌||◌, ℤ, int_lt, int_eq, nat_lt, List, [], ◌∷◌, ◌++◌, length, map, filter, get_or, Option, Some, None, is_some, unwrap_or, option_and_then, IsTrue, refl, subst, ap, ap₂, sym, ◌∙◌, append_assoc, arith}
+use Rattle.std.proofs.Common.{◌≡◌, ◌≢◌, ℕ, zero, suc, ◌<◌, ◌≤◌, inl, inr, Bool, true, false, cond, not, ◌&&◌, ◌||◌, ℤ, ◌≤ℤ◌, int_lt, int_eq, nat_lt, List, [], ◌∷◌, ◌++◌, length, map, filter, get_or, Option, Some, None, is_some, unwrap_or, option_and_then, IsTrue, refl, subst, ap, ap₂, sym, ◌∙◌, append_assoc, arith}
 use Rattle.std.specs.List.{list_any, list_all, AllPairs, AllByRecursion}
 use Rattle.std.specs.Str.{bytes_eq}
 use Rattle.std.proofs.lemmas.Bool.Decides.{nat_tests, Decides-int_eq}
@@ -14,7 +14,8 @@ use Rattle.bq_model.specs.declared.atom.Atom.{Atom}
 use Rattle.bq_model.specs.Query.{attr_lt, attrs_with, consts_with, attrs_of, consts_of, is_attr, is_soft, HasAttr, IsShort, IsWithinLimits}
 use Rattle.bq_model.specs.Query as query
 use Rattle.bq_model.proofs.WithNew.{attr_lt-asymmetric, int_lt-asymmetric}
-use Rattle.bq_schema.specs.Streams.{Shape, IsShape, IsCatalog, stream_number, column_place, shape_at, all_differ}
+use Rattle.bq_schema.specs.Streams.{Shape, IsShape, IsCatalog, stream_number, column_place, shape_at, no_column, HasEnds, all_differ}
+use Rattle.bq_schema.specs.declared.column.ColumnDef.{ColumnDef}
 use Rattle.bq_parser.specs.declared.tree.ColumnAst.{ColumnAst}
 use Rattle.bq_parser.specs.declared.tree.OperandAst.{OperandAst}
 use Rattle.bq_parser.specs.declared.tree.OperandAst.TheVariants.{Column, Integer}
@@ -23,12 +24,14 @@ use Rattle.bq_parser.specs.declared.tree.SelectAst.{SelectAst}
 use Rattle.bq_parser.specs.declared.tree.Statement.TheVariants.{CreateQuery}
 use Rattle.bq_parser.specs.declared.parsing.What.TheVariants as limits
 use Rattle.bq_parser.specs.Grammar.{IsColumn, HasColumn}
-use Rattle.bq_parser.specs.DraftLimits.{integer_in, integers_in}
-use Rattle.bq_parser.specs.Limits.{names_of, integers_of, soft_in, column_in, columns_in, same_column, number_of_different, is_long, is_far}
-use Rattle.bq_parser.specs.Resolution.{IsTaken, named_columns, place_in, place_under, number_for, has_streams, has_columns, attr_for, element_for, atom_for, query_for}
+use Rattle.bq_parser.specs.DraftLimits.{ends_in}
+use Rattle.bq_parser.specs.Limits.{names_of, integers_of, soft_in, column_in, columns_in, integer_in, integers_in, same_column, number_of_different, is_long, is_far, is_reversed}
+use Rattle.bq_parser.specs.Laws.{DomainsHaveEnds}
+use Rattle.bq_parser.specs.Resolution.{IsTaken, named_columns, place_in, place_under, number_for, has_streams, has_columns, attr_for, element_for, atom_for, named_attrs, query_for}
 use Rattle.bq_parser.proofs.Said.{numbers_select}
-use Rattle.bq_parser.proofs.Within.{kept_length}
+use Rattle.bq_parser.proofs.Within.{kept_length, any_far, any_reversed, stream_ends}
 use Rattle.bq_parser.proofs.Different.{IsOrder, put_all, length-put_all, all_put}
+use Rattle.bq_parser.proofs.QueryDomains.{few_named, few_domains, named_from, Ascends-named_attrs, domains_are, domains_ascend}
 
 -- FROM order, and then column order
 attr_order : IsOrder attr_lt
@@ -112,7 +115,7 @@ few s t =
     let h = not_passed (nat_lt 8 (length (soft_in s.atoms.items))) limits.Soft _ d.1 in
     let e = not_passed (nat_lt 12 (number_of_different same_column (columns_in s.atoms.items))) limits.Attrs _ h.1 in
     let f = not_passed (list_any is_far (integers_of q)) limits.Value _ e.1 in
-    let g = not_passed (nat_lt 6 (number_of_different int_eq (integers_of q))) limits.Consts _ f.1 in
+    let g = not_passed (nat_lt 6 (number_of_different int_eq (integers_in s.atoms.items))) limits.Consts _ f.1 in
     record {
       select = not_more _ 8 b.0;
       from = not_more _ 4 c.0;
@@ -120,10 +123,13 @@ few s t =
       soft = not_more _ 8 h.0;
       attrs = not_more _ 12 e.0;
       near = ap (list_any is_far) (sym z) ∙ f.0;
-      consts = not_more _ 6 (ap (λ zs. nat_lt 6 (number_of_different int_eq zs)) (sym z) ∙ g.0);
+      consts = not_more _ 6 g.0;
     }
 
 -- an integer that is not far has at most 15 digits
+not_reversed : (low high : ℤ) → int_lt high low ≡ false → low ≤ℤ high
+not_reversed low high h = grind (arith, ints)
+
 short : (z : ℤ) → is_far z ≡ false → IsShort z
 short z h = record { low = grind (arith, ints); high = grind (arith, ints) }
 
@@ -185,7 +191,7 @@ module _ (streams : List Shape) (from : List (List ℕ)) where
     place_within c (Some n) k e h =
         let inside = position-Some (λ s. bytes_eq s.name c.stream) streams n (record { name = []; columns = [] }) (sym e) in
         let shape : IsShape (shape_at streams n) = All-get_or IsShape streams n (record { name = []; columns = [] }) inside.0 is.shapes in
-        let column = position-Some (λ d. bytes_eq d c.column) (shape_at streams n).columns k [] h in
+        let column = position-Some (λ d. bytes_eq d.name c.column) (shape_at streams n).columns k no_column h in
         omega (arith, shape.few, column.0)
 
     -- a column whose names are there is a column of a stream of FROM
@@ -234,6 +240,25 @@ numbers_differ streams (x ∷ names) k differ (suc i) zero d l m = absurd (omega
 numbers_differ streams (x ∷ names) k differ (suc i) (suc j) d l m =
     numbers_differ streams names (both_right (is_some (stream_number streams x)) _ k) (both_right (not (list_any (bytes_eq x) names)) _ differ) i j d (omega arith) (omega arith)
 
+-- the ends of a domain that has no far end and is not reversed
+has_ends : (domain : Option (ℤ × ℤ)) → list_any is_far (ends_in domain) ≡ false → is_reversed domain ≡ false → HasEnds domain
+has_ends None h k = tt
+has_ends (Some ends) h k = record {
+  short_low = short ends.0 (or_left (is_far ends.0) _ h);
+  short_high = short ends.1 (or_left (is_far ends.1) false (or_right (is_far ends.0) _ h));
+  some = not_reversed ends.0 ends.1 k;
+}
+
+all_ends : (columns : List ColumnDef) → any_far columns ≡ false → any_reversed columns ≡ false → AllByRecursion (λ c. HasEnds c.domain) columns
+all_ends [] h k = tt
+all_ends (c ∷ columns) h k = (
+  has_ends c.domain (or_left (list_any is_far (ends_in c.domain)) _ h) (or_left (is_reversed c.domain) _ k),
+  all_ends columns (or_right (list_any is_far (ends_in c.domain)) _ h) (or_right (is_reversed c.domain) _ k),
+)
+
+pub domains_have_ends : DomainsHaveEnds
+domains_have_ends name columns e = let h = stream_ends name columns e in All-from_recursion (λ c. HasEnds c.domain) columns (all_ends columns h.0 h.1)
+
 -- where a statement is taken and its names are there, its query is within the limits
 pub within_limits : (streams : List Shape) (s : SelectAst) → IsCatalog streams → IsTaken s → has_streams streams s ≡ true → has_columns streams s ≡ true → all_differ s.from.items ≡ true → IsWithinLimits (query_for streams s)
 within_limits streams s is taken h k differ =
@@ -247,6 +272,11 @@ within_limits streams s is taken h k differ =
     let under = sym (list_all-append (λ c. is_some (place_under streams c)) s.select.items (columns_in atoms)) ∙ k in
     let selected = columns streams from is n room s.select.items (both_left _ _ above) (both_left _ _ under) in
     let compared = columns streams from is n room (columns_in atoms) (both_right (list_all (λ c. is_some (place_in from c)) s.select.items) _ above) (both_right (list_all (λ c. is_some (place_under streams c)) s.select.items) _ under) in
+    let numbers : List ℕ = map (number_for streams) from in
+    let select : List Attr = map (attr_for streams from) s.select.items in
+    let compares : List Atom = map (atom_for streams from) atoms in
+    let few_compared : length (attrs_of compares) ≤ 12 =
+    omega (arith, ap length (attrs_named streams from atoms), length-put_all attr_lt attr_order same_column (attr_for streams from) (alike streams from) (columns_in atoms), least.attrs) in
     record {
       streams = (omega (arith, length-map from (number_for streams), taken.whole.1), omega (arith, length-map from (number_for streams), least.from));
       different = numbers_differ streams from (both_left _ _ h) differ;
@@ -255,11 +285,11 @@ within_limits streams s is taken h k differ =
       comparisons = omega (arith, length-map atoms (atom_for streams from), least.atoms);
       few_soft = subst (λ (m : ℕ). m ≤ 8) (sym (soft_named streams from atoms)) least.soft;
       sides = All-map HasAttr (atom_for streams from) atoms (All-from_recursion _ atoms (sides streams from atoms taken.whole.2));
-      few_attrs = omega (arith, ap length (attrs_named streams from atoms), length-put_all attr_lt attr_order same_column (attr_for streams from) (alike streams from) (columns_in atoms), least.attrs);
+      few_attrs = few_compared;
       attrs = rw (attrs_named streams from atoms) (All-from_recursion (query.IsColumn n) _ (all_put (query.IsColumn n) attr_lt (attr_for streams from) (columns_in atoms) compared));
       few_consts = omega (arith, ap length (consts_named streams from atoms), length-put_all int_lt int_order int_eq (λ z. z) (λ y z e. (Decides-int_eq y z).0 e) (integers_in atoms), least.consts);
       consts = rw (consts_named streams from atoms) (All-from_recursion IsShort _ (all_put IsShort int_lt (λ z. z) (integers_in atoms) (all_short (integers_in atoms) least.near)));
-      few_domains = omega arith;
-      domains = λ k d l. absurd (omega (arith, l));
-      ascending = λ i j d l m. absurd (omega (arith, m));
+      few_domains = few_domains (named_attrs select compares) streams numbers (omega (arith, few_named select compares, length-map s.select.items (attr_for streams from), least.select, few_compared));
+      domains = domains_are streams numbers is (query_for streams s) (named_attrs select compares) (λ a i. named_from select compares a i);
+      ascending = domains_ascend streams numbers (named_attrs select compares) (Ascends-named_attrs select compares);
     }

@@ -1,13 +1,14 @@
 -- The tokens that lead to a place, and each step adds one.
-use Rattle.std.proofs.Common.{◌≡◌, ◌<◌, true, false, List, [], ◌∷◌, ◌++◌, length, IfSome, refl, ap, sym, ◌∙◌, append_assoc, arith, inl, inr, length-append, append-nil, subst}
+use Rattle.std.proofs.Common.{◌≡◌, ◌<◌, true, false, List, [], ◌∷◌, ◌++◌, length, Option, Some, None, ℤ, IfSome, refl, ap, sym, ◌∙◌, append_assoc, arith, inl, inr, length-append, append-nil, subst}
 use Rattle.std.specs.List.{AllByRecursion}
-use Rattle.bq_text.specs.declared.key.Key.TheVariants.{CreateKey, StreamKey, QueryKey, AsKey, SelectKey, DistinctKey, FromKey, WhereKey, AndKey, ExplainKey, DropKey}
+use Rattle.bq_text.specs.declared.key.Key.TheVariants.{CreateKey, StreamKey, QueryKey, AsKey, SelectKey, DistinctKey, FromKey, WhereKey, AndKey, ExplainKey, DropKey, InKey}
 use Rattle.bq_parser.specs.declared.places.Place.{Place}
-use Rattle.bq_parser.specs.declared.places.Place.TheVariants.{Start, AfterCreate, StreamName, OpenColumns, ColumnName, AfterColumn, QueryName, QueryAs, QuerySelect, FirstSelected, SelectedStream, SelectedPoint, SelectedColumn, AfterSelected, FromName, AfterFrom, AtomLeft, LeftPoint, LeftColumn, ColumnOp, RightAny, IntegerOp, RightStream, RightPoint, RightColumn, AfterAtom, ExplainName, AfterDrop, DropName, Complete, Ended}
+use Rattle.bq_parser.specs.declared.places.Place.TheVariants.{Start, AfterCreate, StreamName, OpenColumns, ColumnName, AfterColumn, DomainLow, FirstPoint, SecondPoint, DomainHigh, AfterDomain, QueryName, QueryAs, QuerySelect, FirstSelected, SelectedStream, SelectedPoint, SelectedColumn, AfterSelected, FromName, AfterFrom, AtomLeft, LeftPoint, LeftColumn, ColumnOp, RightAny, IntegerOp, RightStream, RightPoint, RightColumn, AfterAtom, ExplainName, AfterDrop, DropName, Complete, Ended}
+use Rattle.bq_schema.specs.declared.column.ColumnDef.{ColumnDef}
 use Rattle.bq_parser.specs.declared.tree.OperandAst.TheVariants.{Column, Integer}
 use Rattle.bq_parser.specs.declared.tree.AtomAst.{AtomAst}
 use Rattle.bq_parser.specs.Steps.{step}
-use Rattle.bq_parser.specs.Grammar.{Lexeme, word, number, key, comma, point, opening, closing, less, equal, greater, less_equal, greater_equal, unequal, semicolon, separated, name_tokens, column_tokens, operand_tokens, op_token, atom_tokens, where_tokens, distinct_tokens, statement_tokens, IsColumn, HasColumn, IsWhole}
+use Rattle.bq_parser.specs.Grammar.{Lexeme, word, number, key, comma, point, opening, closing, less, equal, greater, less_equal, greater_equal, unequal, semicolon, separated, name_tokens, coldef_tokens, column_tokens, operand_tokens, op_token, atom_tokens, where_tokens, distinct_tokens, statement_tokens, IsColumn, HasColumn, IsWhole}
 use Rattle.bq_parser.specs.declared.draft.Form.{Form}
 use Rattle.bq_parser.specs.declared.draft.Form.TheVariants as forms
 use Rattle.bq_parser.specs.Reading.{Parts, act, kind_at, built}
@@ -22,6 +23,11 @@ pub separated_more : {X : Type 0} (sep : Lexeme) (f : X → List Lexeme) (xs : L
 separated_more sep f [] y = refl
 separated_more sep f (x ∷ []) y = sym (append_assoc (f x) (sep ∷ []) (f y))
 separated_more sep f (x ∷ z ∷ xs) y = ap (λ r. f x ++ sep ∷ r) (separated_more sep f (z ∷ xs) y) ∙ sym (append_assoc (f x) (sep ∷ ended_by sep f (z ∷ xs)) (f y))
+
+-- one more, and a separator behind it
+pub ended_more : {X : Type 0} (sep : Lexeme) (f : X → List Lexeme) (xs : List X) (y : X) → ended_by sep f (xs ++ y ∷ []) ≡ ended_by sep f xs ++ (f y ++ sep ∷ [])
+ended_more sep f [] y = refl
+ended_more sep f (x ∷ xs) y = ap (λ r. f x ++ sep ∷ r) (ended_more sep f xs y) ∙ sym (append_assoc (f x) (sep ∷ ended_by sep f xs) (f y ++ sep ∷ []))
 
 -- a separator behind the last
 pub ended_last : {X : Type 0} (sep : Lexeme) (f : X → List Lexeme) (xs : List X) → 0 < length xs → separated sep f xs ++ sep ∷ [] ≡ ended_by sep f xs
@@ -50,8 +56,13 @@ told Start p = []
 told AfterCreate p = key CreateKey ∷ []
 told StreamName p = key CreateKey ∷ key StreamKey ∷ []
 told OpenColumns p = key CreateKey ∷ key StreamKey ∷ word p.name ∷ []
-told ColumnName p = stream_head p ++ ended_by comma name_tokens p.columns
-told AfterColumn p = stream_head p ++ separated comma name_tokens p.columns
+told ColumnName p = stream_head p ++ ended_by comma coldef_tokens p.columns
+told AfterColumn p = stream_head p ++ ended_by comma coldef_tokens p.columns ++ word p.column ∷ []
+told DomainLow p = stream_head p ++ ended_by comma coldef_tokens p.columns ++ word p.column ∷ key InKey ∷ []
+told FirstPoint p = stream_head p ++ ended_by comma coldef_tokens p.columns ++ word p.column ∷ key InKey ∷ number p.low ∷ []
+told SecondPoint p = stream_head p ++ ended_by comma coldef_tokens p.columns ++ word p.column ∷ key InKey ∷ number p.low ∷ point ∷ []
+told DomainHigh p = stream_head p ++ ended_by comma coldef_tokens p.columns ++ word p.column ∷ key InKey ∷ number p.low ∷ point ∷ point ∷ []
+told AfterDomain p = stream_head p ++ separated comma coldef_tokens p.columns
 told QueryName p = key CreateKey ∷ key QueryKey ∷ []
 told QueryAs p = key CreateKey ∷ key QueryKey ∷ word p.name ∷ []
 told QuerySelect p = key CreateKey ∷ key QueryKey ∷ word p.name ∷ key AsKey ∷ []
@@ -93,7 +104,12 @@ abbrev pub Fine : Place → Parts → Type 0
 Fine StreamName p = p.form ≡ forms.Stream
 Fine OpenColumns p = p.form ≡ forms.Stream
 Fine ColumnName p = p.form ≡ forms.Stream
-Fine AfterColumn p = (p.form ≡ forms.Stream) × (0 < length p.columns)
+Fine AfterColumn p = p.form ≡ forms.Stream
+Fine DomainLow p = p.form ≡ forms.Stream
+Fine FirstPoint p = p.form ≡ forms.Stream
+Fine SecondPoint p = p.form ≡ forms.Stream
+Fine DomainHigh p = p.form ≡ forms.Stream
+Fine AfterDomain p = (p.form ≡ forms.Stream) × (0 < length p.columns)
 Fine ExplainName p = p.form ≡ forms.Explain
 Fine AfterDrop p = p.form ≡ forms.Drop
 Fine DropName p = p.form ≡ forms.Drop
@@ -153,6 +169,17 @@ whole_query p s = let P : Form → Type 0 = λ m. IsWhole (built m p) in subst P
 pub no_atoms : (p : Parts) → p.atoms ≡ [] → AllByRecursion HasColumn p.atoms
 no_atoms p e = let P : List AtomAst → Type 0 = λ atoms. AllByRecursion HasColumn atoms in subst P (sym e) tt
 
+-- the column that was named last, with a domain or with none
+abbrev pub column_of : Parts → Option (ℤ × ℤ) → ColumnDef
+column_of p domain = record { name = p.column; domain = domain }
+
+-- a stream whose columns are all there
+stream_told : (p : Parts) (columns : List ColumnDef) → p.form ≡ forms.Stream → statement_tokens (built p.form (record p { columns = columns })) ≡ stream_head p ++ (separated comma coldef_tokens columns ++ closing ∷ [])
+stream_told p columns f = ap (λ m. statement_tokens (built m (record p { columns = columns }))) f
+
+whole_stream : (p : Parts) (columns : List ColumnDef) → p.form ≡ forms.Stream → 0 < length columns → IsWhole (built p.form (record p { columns = columns }))
+whole_stream p columns f some = let P : Form → Type 0 = λ m. IsWhole (built m (record p { columns = columns })) in subst P (sym f) some
+
 -- each step adds its token
 pub told_step : (place : Place) (p : Parts) (l : Lexeme) → Fine place p → IfSome (step place (kind_at l)) (λ m. (told m.0 (act m.1 l p) ≡ told place p ++ l ∷ []) × Fine m.0 (act m.1 l p))
 told_step Start p (key CreateKey) f = (refl, tt)
@@ -162,9 +189,24 @@ told_step AfterCreate p (key StreamKey) f = (refl, refl)
 told_step AfterCreate p (key QueryKey) f = (refl, refl)
 told_step StreamName p (word w) f = (refl, f)
 told_step OpenColumns p opening f = (refl, f)
-told_step ColumnName p (word w) f = (ap (λ r. stream_head p ++ r) (separated_more comma name_tokens p.columns w), (f, more_than_none p.columns w))
-told_step AfterColumn p comma f = (ap (λ r. stream_head p ++ r) (sym (ended_last comma name_tokens p.columns f.1)), f.0)
-told_step AfterColumn p closing f = (ap (λ m. statement_tokens (built m p)) f.0, (let P : Form → Type 0 = λ m. IsWhole (built m p) in subst P (sym f.0) f.1))
+told_step ColumnName p (word w) f = (refl, f)
+told_step AfterColumn p comma f = (ap (λ r. stream_head p ++ r) (ended_more comma coldef_tokens p.columns (column_of p None)) ∙ simp append_assoc, f)
+told_step AfterColumn p closing f =
+    let c = column_of p None in (
+      stream_told p (p.columns ++ c ∷ []) f ∙ ap (λ r. stream_head p ++ (r ++ closing ∷ [])) (separated_more comma coldef_tokens p.columns c) ∙ simp append_assoc,
+      whole_stream p (p.columns ++ c ∷ []) f (more_than_none p.columns c),
+    )
+told_step AfterColumn p (key InKey) f = (simp append_assoc, f)
+told_step DomainLow p (number z) f = (simp append_assoc, f)
+told_step FirstPoint p point f = (simp append_assoc, f)
+told_step SecondPoint p point f = (simp append_assoc, f)
+told_step DomainHigh p (number z) f =
+    let c = column_of p (Some (p.low, z)) in (
+      ap (λ r. stream_head p ++ r) (separated_more comma coldef_tokens p.columns c) ∙ simp append_assoc,
+      (f, more_than_none p.columns c),
+    )
+told_step AfterDomain p comma f = (ap (λ r. stream_head p ++ r) (sym (ended_last comma coldef_tokens p.columns f.1)), f.0)
+told_step AfterDomain p closing f = (stream_told p p.columns f.0, whole_stream p p.columns f.0 f.1)
 told_step QueryName p (word w) f = (refl, f)
 told_step QueryAs p (key AsKey) f = (refl, f)
 told_step QuerySelect p (key SelectKey) f = (refl, (f, refl, refl))

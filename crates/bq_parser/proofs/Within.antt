@@ -1,5 +1,5 @@
 -- What is kept of a statement passes the limits that the statement passes, and within them it is the statement.
-use Rattle.std.proofs.Common.{◌≡◌, ℕ, ◌^◌, ◌≤◌, ◌⊎◌, inl, inr, Bool, true, false, cond, ◌||◌, ℤ, pos, negsuc, int_eq, nat_lt, List, [], ◌∷◌, ◌++◌, length, map, take, Option, Some, None, refl, ap, sym, ◌∙◌, arith, subst, append-nil, flat_map, Ok}
+use Rattle.std.proofs.Common.{◌≡◌, ℕ, ◌^◌, ◌≤◌, ◌⊎◌, inl, inr, Bool, true, false, cond, ◌||◌, ℤ, pos, negsuc, int_eq, nat_lt, List, [], ◌∷◌, ◌++◌, length, map, take, Option, Some, None, refl, ap, ap₂, sym, ◌∙◌, arith, subst, append-nil, flat_map, Ok}
 use Rattle.std.specs.List.{list_any, AllByRecursion}
 use Rattle.std.proofs.lemmas.Bool.Decides.{nat_tests}
 use Rattle.std.proofs.lemmas.List.{take_all, length-map, map-append}
@@ -13,6 +13,7 @@ use Rattle.bq_lexer.specs.Standing.{StandFrom}
 use Rattle.bq_model.specs.Query.{is_soft}
 use Rattle.bq_parser.specs.declared.places.Place.{Place}
 use Rattle.bq_parser.specs.declared.places.Place.TheVariants.{Start, AfterFrom, AfterAtom, Complete, Ended}
+use Rattle.bq_schema.specs.declared.column.ColumnDef.{ColumnDef}
 use Rattle.bq_parser.specs.declared.tree.ColumnAst.{ColumnAst}
 use Rattle.bq_parser.specs.declared.tree.OperandAst.{OperandAst}
 use Rattle.bq_parser.specs.declared.tree.OperandAst.TheVariants.{Column, Integer}
@@ -26,17 +27,17 @@ use Rattle.bq_parser.specs.declared.draft.Form.TheVariants as forms
 use Rattle.bq_parser.specs.declared.parsing.What.{What}
 use Rattle.bq_parser.specs.declared.parsing.What.TheVariants as limits
 use Rattle.bq_parser.specs.DraftSteps.{kept, statement_by, statement_of}
-use Rattle.bq_parser.specs.DraftLimits.{is_long_token, integer_in, integers_in, limit_in_atoms, limit_by, limit_in}
-use Rattle.bq_parser.specs.Grammar.{Lexeme, key, comma, closing, semicolon, separated, name_tokens, column_tokens, operand_tokens, op_token, atom_tokens, where_tokens, distinct_tokens, select_tokens, statement_tokens, Spells}
+use Rattle.bq_parser.specs.DraftLimits.{is_long_token, ends_in, limit_in_atoms, limit_in_columns, limit_by, limit_in}
+use Rattle.bq_parser.specs.Grammar.{Lexeme, key, comma, closing, semicolon, separated, name_tokens, coldef_tokens, column_tokens, operand_tokens, op_token, atom_tokens, where_tokens, distinct_tokens, select_tokens, statement_tokens, Spells}
 use Rattle.bq_parser.specs.Reading.{Parts, no_parts, built, finished, may_end}
 use Rattle.bq_parser.specs.Syntax.{lexemes, IsStatement}
-use Rattle.bq_parser.specs.Keeping.{kept_column, kept_number, kept_operand, kept_atom, kept_parts, IsRead}
-use Rattle.bq_parser.specs.Limits.{word_in, number_in, names_of, integers_of, columns_of, selected_by, streams_of, atoms_of, soft_in, column_in, columns_in, same_column, number_of_different, is_long, is_far, limit_of}
+use Rattle.bq_parser.specs.Keeping.{kept_column, kept_number, kept_domain, kept_def, kept_operand, kept_atom, kept_parts, IsRead}
+use Rattle.bq_parser.specs.Limits.{word_in, number_in, names_of, integers_of, columns_of, selected_by, streams_of, atoms_of, soft_in, column_in, columns_in, integer_in, integers_in, same_column, number_of_different, is_long, is_far, is_reversed, limit_of}
 use Rattle.bq_parser.proofs.Told.{Fine}
 use Rattle.bq_parser.proofs.WalkLaws.{walk_told, finished_spells}
 use Rattle.bq_parser.proofs.Verdict.{is_finished}
 use Rattle.bq_parser.proofs.Names.{kept_name}
-use Rattle.bq_parser.proofs.Said.{long_names, IsNamed, all_named, without_semicolon, all_left, all_right, all_separated, all_where, numbers_names, numbers_select, select_grouped, cut_at, or_right}
+use Rattle.bq_parser.proofs.Said.{long_names, IsNamed, all_named, without_semicolon, all_left, all_right, all_separated, all_where, numbers_coldefs, numbers_select, select_grouped, cut_at, or_right}
 
 -- names that are kept
 kept_names : (names : List (List ℕ)) → AllByRecursion (λ n. AllByRecursion IsNamed (name_tokens n)) names → map kept names ≡ names
@@ -154,20 +155,21 @@ unless false x y z h = h refl
 few : (m n : ℕ) → nat_lt n m ≡ false → m ≤ n
 few m n h = grind (arith, nat_tests)
 
-abbrev pub limit_at_end : ℕ → List ColumnAst → List ℤ → Option What
-limit_at_end soft columns integers =
+-- the limits behind that on the number of atoms, of a statement that creates no stream
+abbrev pub limit_at_end : ℕ → List ColumnAst → List ℤ → List ℤ → Option What
+limit_at_end soft columns integers constants =
     cond (nat_lt 8 soft) (Some limits.Soft)
     (cond (nat_lt 12 (number_of_different same_column columns)) (Some limits.Attrs)
-    (cond (list_any is_far integers) (Some limits.Value) (cond (nat_lt 6 (number_of_different int_eq integers)) (Some limits.Consts) None)))
+    (cond (list_any is_far integers) (Some limits.Value) (cond (nat_lt 6 (number_of_different int_eq constants)) (Some limits.Consts) None)))
 
 -- the limits of the atoms that are kept
-kept_limit : (atoms : List AtomAst) → length atoms ≤ 16 → AllByRecursion (λ a. AllByRecursion IsNamed (atom_tokens a)) atoms → limit_in_atoms (take 16 (map kept_atom atoms)) ≡ limit_at_end (length (soft_in atoms)) (columns_in atoms) (integers_in atoms)
+kept_limit : (atoms : List AtomAst) → length atoms ≤ 16 → AllByRecursion (λ a. AllByRecursion IsNamed (atom_tokens a)) atoms → limit_in_atoms (take 16 (map kept_atom atoms)) ≡ limit_at_end (length (soft_in atoms)) (columns_in atoms) (integers_in atoms) (integers_in atoms)
 kept_limit atoms room named =
     let zs = integers_in atoms in
     ap limit_in_atoms (take_all 16 (map kept_atom atoms) (omega (arith, length-map atoms kept_atom)) ∙ atoms_kept atoms named)
-    ∙ ap (λ n. limit_at_end n (columns_in (map nearer_atom atoms)) (integers_in (map nearer_atom atoms))) (soft_nearer atoms)
-    ∙ ap (λ cs. limit_at_end (length (soft_in atoms)) cs (integers_in (map nearer_atom atoms))) (columns_nearer atoms)
-    ∙ ap (λ ys. limit_at_end (length (soft_in atoms)) (columns_in atoms) ys) (integers_nearer atoms)
+    ∙ ap (λ n. limit_at_end n (columns_in (map nearer_atom atoms)) (integers_in (map nearer_atom atoms)) (integers_in (map nearer_atom atoms))) (soft_nearer atoms)
+    ∙ ap (λ cs. limit_at_end (length (soft_in atoms)) cs (integers_in (map nearer_atom atoms)) (integers_in (map nearer_atom atoms))) (columns_nearer atoms)
+    ∙ ap (λ ys. limit_at_end (length (soft_in atoms)) (columns_in atoms) ys ys) (integers_nearer atoms)
     ∙ unless (nat_lt 8 (length (soft_in atoms))) (Some limits.Soft) _ _ (λ soft.
     unless (nat_lt 12 (number_of_different same_column (columns_in atoms))) (Some limits.Attrs) _ _ (λ attrs.
     ap (λ b. cond b (Some limits.Value) (cond (nat_lt 6 (number_of_different int_eq (map kept_number zs))) (Some limits.Consts) None)) (any_far_kept zs)
@@ -194,9 +196,61 @@ named_select s h =
       atoms = all_where IsNamed s.atoms.items (all_right IsNamed names (where_tokens s.atoms.items) rest);
     }
 
--- the limits that a draft passes, by its form
-stream_limit : (name : List ℕ) (columns : List (List ℕ)) → integers_of (CreateStream name (record { items = columns })) ≡ []
-stream_limit name columns = flat_map-append number_in (separated comma name_tokens columns) (closing ∷ []) ∙ append-nil (flat_map number_in (separated comma name_tokens columns)) ∙ numbers_names columns
+-- the integers of a stream are the ends of the domains of its columns
+stream_integers : (name : List ℕ) (columns : List ColumnDef) → integers_of (CreateStream name (record { items = columns })) ≡ flat_map (λ c. ends_in c.domain) columns
+stream_integers name columns = flat_map-append number_in (separated comma coldef_tokens columns) (closing ∷ []) ∙ append-nil (flat_map number_in (separated comma coldef_tokens columns)) ∙ numbers_coldefs columns
+
+abbrev pub any_far : List ColumnDef → Bool
+any_far columns = list_any (λ c. list_any is_far (ends_in c.domain)) columns
+
+abbrev pub any_reversed : List ColumnDef → Bool
+any_reversed columns = list_any (λ c. is_reversed c.domain) columns
+
+far_columns : (columns : List ColumnDef) → list_any is_far (flat_map (λ c. ends_in c.domain) columns) ≡ any_far columns
+far_columns [] = refl
+far_columns (c ∷ columns) =
+    list_any-append is_far (ends_in c.domain) (flat_map (λ c. ends_in c.domain) columns)
+    ∙ ap (λ b. list_any is_far (ends_in c.domain) || b) (far_columns columns)
+
+pub far_stream : (name : List ℕ) (columns : List ColumnDef) → list_any is_far (integers_of (CreateStream name (record { items = columns }))) ≡ any_far columns
+far_stream name columns = ap (list_any is_far) (stream_integers name columns) ∙ far_columns columns
+
+-- a domain that is kept has an end that is far where the domain has
+far_domain : (domain : Option (ℤ × ℤ)) → list_any is_far (ends_in (kept_domain domain)) ≡ list_any is_far (ends_in domain)
+far_domain None = refl
+far_domain (Some ends) = any_far_kept (ends.0 ∷ ends.1 ∷ [])
+
+far_kept_columns : (columns : List ColumnDef) → any_far (map kept_def columns) ≡ any_far columns
+far_kept_columns [] = refl
+far_kept_columns (c ∷ columns) =
+    ap (λ b. b || any_far (map kept_def columns)) (far_domain c.domain)
+    ∙ ap (λ b. list_any is_far (ends_in c.domain) || b) (far_kept_columns columns)
+
+-- a domain that has none is kept as it is
+near_domain : (domain : Option (ℤ × ℤ)) → list_any is_far (ends_in domain) ≡ false → kept_domain domain ≡ domain
+near_domain None h = refl
+near_domain (Some ends) h = ap₂ (λ low high. Some (low, high)) (near_kept ends.0 (or_left (is_far ends.0) _ h)) (near_kept ends.1 (or_left (is_far ends.1) false (or_right (is_far ends.0) _ h)))
+
+reversed_kept : (columns : List ColumnDef) → any_far columns ≡ false → any_reversed (map kept_def columns) ≡ any_reversed columns
+reversed_kept [] h = refl
+reversed_kept (c ∷ columns) h =
+    ap (λ d. is_reversed d || any_reversed (map kept_def columns)) (near_domain c.domain (or_left (list_any is_far (ends_in c.domain)) _ h))
+    ∙ ap (λ b. is_reversed c.domain || b) (reversed_kept columns (or_right (list_any is_far (ends_in c.domain)) _ h))
+
+-- the limits of the columns that are kept
+kept_columns_limit : (columns : List ColumnDef) → length columns ≤ 8 → limit_in_columns (take 8 (map kept_def columns)) ≡ cond (any_far columns) (Some limits.Value) (cond (any_reversed columns) (Some limits.Domain) None)
+kept_columns_limit columns room =
+    ap limit_in_columns (take_all 8 (map kept_def columns) (omega (arith, length-map columns kept_def)))
+    ∙ ap (λ b. cond b (Some limits.Value) (cond (any_reversed (map kept_def columns)) (Some limits.Domain) None)) (far_kept_columns columns)
+    ∙ unless (any_far columns) (Some limits.Value) _ _ (λ near. ap (λ b. cond b (Some limits.Domain) None) (reversed_kept columns near))
+
+-- columns of a stream that are kept
+defs_kept : (columns : List ColumnDef) → AllByRecursion (λ c. AllByRecursion IsNamed (coldef_tokens c)) columns → any_far columns ≡ false → map kept_def columns ≡ columns
+defs_kept [] h near = refl
+defs_kept (c ∷ columns) h near =
+    ap₂ (λ (d : ColumnDef) (ds : List ColumnDef). d ∷ ds)
+    (ap₂ (λ name domain. let d : ColumnDef = record { name = name; domain = domain } in d) (kept_name c.name h.0.0) (near_domain c.domain (or_left (list_any is_far (ends_in c.domain)) _ near)))
+    (defs_kept columns h.1 (or_right (list_any is_far (ends_in c.domain)) _ near))
 
 -- the limits behind the one on names
 abbrev pub limit_of_lists : Statement → Option What
@@ -204,10 +258,18 @@ limit_of_lists s =
     cond (nat_lt 8 (length (columns_of s))) (Some limits.Columns)
     (cond (nat_lt 8 (length (selected_by s))) (Some limits.Select)
     (cond (nat_lt 4 (length (streams_of s))) (Some limits.From)
-    (cond (nat_lt 16 (length (atoms_of s))) (Some limits.Atoms) (limit_at_end (length (soft_in (atoms_of s))) (columns_in (atoms_of s)) (integers_of s)))))
+    (cond (nat_lt 16 (length (atoms_of s))) (Some limits.Atoms)
+    (cond (nat_lt 8 (length (soft_in (atoms_of s)))) (Some limits.Soft)
+    (cond (nat_lt 12 (number_of_different same_column (columns_in (atoms_of s)))) (Some limits.Attrs)
+    (cond (list_any is_far (integers_of s)) (Some limits.Value)
+    (cond (nat_lt 6 (number_of_different int_eq (integers_in (atoms_of s)))) (Some limits.Consts)
+    (cond (list_any (λ c. is_reversed c.domain) (columns_of s)) (Some limits.Domain) None))))))))
 
 same_limit : (m : Form) (p : Parts) → AllByRecursion IsNamed (statement_tokens (built m p)) → limit_by m (kept_parts p) ≡ limit_of_lists (built m p)
-same_limit forms.Stream p h = ap (λ zs. cond (nat_lt 8 (length p.columns)) (Some limits.Columns) (cond (list_any is_far zs) (Some limits.Value) (cond (nat_lt 6 (number_of_different int_eq zs)) (Some limits.Consts) None))) (sym (stream_limit p.name p.columns))
+same_limit forms.Stream p h =
+    unless (nat_lt 8 (length p.columns)) (Some limits.Columns) _ _ (λ columns.
+    kept_columns_limit p.columns (few (length p.columns) 8 columns)
+    ∙ ap (λ b. cond b (Some limits.Value) (cond (any_reversed p.columns) (Some limits.Domain) None)) (sym (far_stream p.name p.columns)))
 same_limit forms.Query p h =
     let s : SelectAst = record { distinct = p.distinct; select = record { items = p.select }; from = record { items = p.from }; atoms = record { items = p.atoms } } in
     let n = named_select s h.1.1.1.1 in
@@ -215,7 +277,7 @@ same_limit forms.Query p h =
     unless (nat_lt 4 (length p.from)) (Some limits.From) _ _ (λ streams.
     unless (nat_lt 16 (length p.atoms)) (Some limits.Atoms) _ _ (λ atoms.
     kept_limit p.atoms (few (length p.atoms) 16 atoms) n.atoms
-    ∙ ap (λ zs. limit_at_end (length (soft_in p.atoms)) (columns_in p.atoms) zs) (sym (numbers_select s)))))
+    ∙ ap (λ zs. limit_at_end (length (soft_in p.atoms)) (columns_in p.atoms) zs (integers_in p.atoms)) (sym (numbers_select s)))))
 same_limit forms.Explain p h = refl
 same_limit forms.Drop p h = refl
 
@@ -245,8 +307,11 @@ same_statement : (m : Form) (p : Parts) → p.form ≡ m → AllByRecursion IsNa
 same_statement forms.Stream p f h e =
     let names = h.1.1 in
     let cs = not_passed (nat_lt 8 (length p.columns)) limits.Columns _ e in
-    ap (λ n. CreateStream n (record { items = take 8 (map kept p.columns) })) (kept_name p.name names.0)
-    ∙ ap (λ xs. CreateStream p.name (record { items = xs })) (kept_list kept 8 p.columns cs.0 (kept_names p.columns (all_separated IsNamed comma name_tokens p.columns (all_left IsNamed (separated comma name_tokens p.columns) (closing ∷ []) names.1.1))))
+    let near = not_passed (list_any is_far (integers_of (CreateStream p.name (record { items = p.columns })))) limits.Value _ cs.1 in
+    ap (λ n. CreateStream n (record { items = take 8 (map kept_def p.columns) })) (kept_name p.name names.0)
+    ∙ ap (λ xs. CreateStream p.name (record { items = xs }))
+    (kept_list kept_def 8 p.columns cs.0
+    (defs_kept p.columns (all_separated IsNamed comma coldef_tokens p.columns (all_left IsNamed (separated comma coldef_tokens p.columns) (closing ∷ []) names.1.1)) (sym (far_stream p.name p.columns) ∙ near.0)))
 same_statement forms.Query p f h e =
     let s : SelectAst = record { distinct = p.distinct; select = record { items = p.select }; from = record { items = p.from }; atoms = record { items = p.atoms } } in
     let n = named_select s h.1.1.1.1 in
@@ -335,3 +400,12 @@ not_far s e =
     let soft = not_passed (nat_lt 8 (length (soft_in (atoms_of s)))) limits.Soft _ d.1 in
     let f = not_passed (nat_lt 12 (number_of_different same_column (columns_in (atoms_of s)))) limits.Attrs _ soft.1 in
     (not_passed (list_any is_far (integers_of s)) limits.Value _ f.1).0
+
+-- a stream within the limits has no domain with an end that is far, and none that is reversed
+pub stream_ends : (name : List ℕ) (columns : List ColumnDef) → limit_of (CreateStream name (record { items = columns })) ≡ None → (any_far columns ≡ false) × (any_reversed columns ≡ false)
+stream_ends name columns e =
+    let s = CreateStream name (record { items = columns }) in
+    let n = not_passed (list_any is_long (names_of s)) limits.Name (limit_of_lists s) e in
+    let a = not_passed (nat_lt 8 (length columns)) limits.Columns _ n.1 in
+    let f = not_passed (list_any is_far (integers_of s)) limits.Value _ a.1 in
+    (sym (far_stream name columns) ∙ f.0, (not_passed (any_reversed columns) limits.Domain _ f.1).0)

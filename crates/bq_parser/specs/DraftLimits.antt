@@ -1,19 +1,18 @@
 -- The first limit that a draft passes, found by its tokens and its lists.
-use Rattle.std.specs.Prelude.{◌+◌, ℤ, Bool, true, false, ◌&&◌, nat_lt, if◌then◌else◌, List, [], ◌∷◌, ◌++◌, length, Option, Some, None}
-use Rattle.std.specs.List.{flat_map, list_any}
+use Rattle.std.specs.Prelude.{◌+◌, ℤ, Bool, true, false, ◌&&◌, nat_lt, if◌then◌else◌, List, [], ◌∷◌, length, Option, Some, None}
+use Rattle.std.specs.List.{list_any}
 use Rattle.std.specs.Ordering.{int_eq}
 use Rattle.bq_lexer.specs.declared.token.TokenKind.{TokenKind}
 use Rattle.bq_lexer.specs.declared.token.TokenKind.TheVariants as kinds
 use Rattle.bq_lexer.specs.declared.token.Token.{Token}
+use Rattle.bq_schema.specs.declared.column.ColumnDef.{ColumnDef}
 use Rattle.bq_parser.specs.declared.parsing.What.{What}
 use Rattle.bq_parser.specs.declared.parsing.What.TheVariants as limits
-use Rattle.bq_parser.specs.declared.tree.OperandAst.{OperandAst}
-use Rattle.bq_parser.specs.declared.tree.OperandAst.TheVariants.{Column, Integer}
 use Rattle.bq_parser.specs.declared.tree.AtomAst.{AtomAst}
 use Rattle.bq_parser.specs.declared.draft.Draft.{Draft}
 use Rattle.bq_parser.specs.declared.draft.Form.{Form}
 use Rattle.bq_parser.specs.declared.draft.Form.TheVariants as forms
-use Rattle.bq_parser.specs.Limits.{soft_in, columns_in, same_column, number_of_different, is_far}
+use Rattle.bq_parser.specs.Limits.{soft_in, columns_in, integers_in, same_column, number_of_different, is_far, is_reversed}
 
 -- whether a token is a word
 abbrev pub is_word_kind : TokenKind → Bool
@@ -24,15 +23,6 @@ is_word_kind _ = false
 abbrev pub is_long_token : Token → Bool
 is_long_token t = is_word_kind t.kind && nat_lt (t.from + 24) t.to
 
--- the integer that a side of an atom is
-abbrev pub integer_in : OperandAst → List ℤ
-integer_in (Column c) = []
-integer_in (Integer z) = z ∷ []
-
--- the integers that atoms name
-abbrev pub integers_in : List AtomAst → List ℤ
-integers_in atoms = flat_map (λ a. integer_in a.left ++ integer_in a.right) atoms
-
 -- the first limit that the atoms pass, where there are not too many
 abbrev pub limit_in_atoms : List AtomAst → Option What
 limit_in_atoms atoms =
@@ -41,9 +31,20 @@ limit_in_atoms atoms =
     (if list_any is_far (integers_in atoms) then Some limits.Value else
     (if nat_lt 6 (number_of_different int_eq (integers_in atoms)) then Some limits.Consts else None)))
 
+-- the ends of a domain
+abbrev pub ends_in : Option (ℤ × ℤ) → List ℤ
+ends_in None = []
+ends_in (Some ends) = ends.0 ∷ ends.1 ∷ []
+
+-- the first limit that the columns of a stream pass, where there are not too many
+abbrev pub limit_in_columns : List ColumnDef → Option What
+limit_in_columns columns =
+    if list_any (λ c. list_any is_far (ends_in c.domain)) columns then Some limits.Value else
+    (if list_any (λ c. is_reversed c.domain) columns then Some limits.Domain else None)
+
 -- the first limit that the lists of a draft pass, by its form
 abbrev pub limit_by : Form → Draft → Option What
-limit_by forms.Stream d = if d.columns.over then Some limits.Columns else None
+limit_by forms.Stream d = if d.columns.over then Some limits.Columns else limit_in_columns d.columns.list.items
 limit_by forms.Query d =
     if d.select.over then Some limits.Select else
     (if d.from.over then Some limits.From else

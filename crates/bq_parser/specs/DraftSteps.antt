@@ -50,7 +50,10 @@ drafted actions.BeginStream w d = record d { form = forms.Stream }
 drafted actions.BeginQuery w d = record d { form = forms.Query }
 drafted actions.Named w d = record d { name = kept w }
 drafted actions.BeginColumns w d = record d { columns = no_items }
-drafted actions.AddColumn w d = record d { columns = put 8 (kept w) d.columns }
+drafted actions.ColumnIs w d = record d { column = kept w }
+drafted actions.AddColumn w d = record d { columns = put 8 (record { name = d.column; domain = None }) d.columns }
+drafted actions.LowIs w d = record d { low = or_far (value_of w) }
+drafted actions.AddBounded w d = record d { columns = put 8 (record { name = d.column; domain = Some (d.low, or_far (value_of w)) }) d.columns }
 drafted actions.BeginSelect w d = record d { distinct = false; select = no_items }
 drafted actions.SetDistinct w d = record d { distinct = true }
 drafted actions.StreamIs w d = record d { stream = kept w }

@@ -1,10 +1,11 @@
 -- The grammar of statements: the tokens that each statement is spelled by.
-use Rattle.std.specs.Prelude.{◌≡◌, ℕ, ◌<◌, ◌⊎◌, Bool, true, false, ℤ, List, [], ◌∷◌, ◌++◌, length}
+use Rattle.std.specs.Prelude.{◌≡◌, ℕ, ◌<◌, ◌⊎◌, Bool, true, false, ℤ, List, [], ◌∷◌, ◌++◌, length, Option, Some, None}
 use Rattle.std.specs.List.{AllByRecursion}
 use Rattle.bq_text.specs.declared.key.Key.{Key}
-use Rattle.bq_text.specs.declared.key.Key.TheVariants.{CreateKey, StreamKey, QueryKey, AsKey, SelectKey, DistinctKey, FromKey, WhereKey, AndKey, ExplainKey, DropKey}
+use Rattle.bq_text.specs.declared.key.Key.TheVariants.{CreateKey, StreamKey, QueryKey, AsKey, SelectKey, DistinctKey, FromKey, WhereKey, AndKey, ExplainKey, DropKey, InKey}
 use Rattle.bq_model.specs.declared.atom.Op.{Op}
 use Rattle.bq_model.specs.declared.atom.Op.TheVariants.{Lt, Eq, Gt, Le, Ge, Ne}
+use Rattle.bq_schema.specs.declared.column.ColumnDef.{ColumnDef}
 use Rattle.bq_parser.specs.declared.tree.ColumnAst.{ColumnAst}
 use Rattle.bq_parser.specs.declared.tree.OperandAst.{OperandAst}
 use Rattle.bq_parser.specs.declared.tree.OperandAst.TheVariants.{Column, Integer}
@@ -39,6 +40,15 @@ separated sep f (x ∷ y ∷ xs) = f x ++ sep ∷ separated sep f (y ∷ xs)
 -- a name is one token
 abbrev pub name_tokens : List ℕ → List Lexeme
 name_tokens n = word n ∷ []
+
+-- [ IN integer "." "." integer ]
+abbrev pub domain_tokens : Option (ℤ × ℤ) → List Lexeme
+domain_tokens None = []
+domain_tokens (Some ends) = key InKey ∷ number ends.0 ∷ point ∷ point ∷ number ends.1 ∷ []
+
+-- coldef = name [ IN integer "." "." integer ]
+abbrev pub coldef_tokens : ColumnDef → List Lexeme
+coldef_tokens c = word c.name ∷ domain_tokens c.domain
 
 -- column = name "." name
 abbrev pub column_tokens : ColumnAst → List Lexeme
@@ -79,10 +89,10 @@ select_tokens s =
     ++ key FromKey ∷ separated comma name_tokens s.from.items ++ where_tokens s.atoms.items
 
 -- The tokens of a statement, without a semicolon:
--- CREATE STREAM name "(" name { "," name } ")"  |  CREATE QUERY name AS select  |  EXPLAIN name  |  DROP QUERY name
+-- CREATE STREAM name "(" coldef { "," coldef } ")"  |  CREATE QUERY name AS select  |  EXPLAIN name  |  DROP QUERY name
 abbrev pub statement_tokens : Statement → List Lexeme
 statement_tokens (CreateStream name columns) =
-    key CreateKey ∷ key StreamKey ∷ word name ∷ opening ∷ separated comma name_tokens columns.items ++ closing ∷ []
+    key CreateKey ∷ key StreamKey ∷ word name ∷ opening ∷ separated comma coldef_tokens columns.items ++ closing ∷ []
 statement_tokens (CreateQuery name select) = key CreateKey ∷ key QueryKey ∷ word name ∷ key AsKey ∷ select_tokens select
 statement_tokens (Explain name) = key ExplainKey ∷ word name ∷ []
 statement_tokens (DropQuery name) = key DropKey ∷ key QueryKey ∷ word name ∷ []

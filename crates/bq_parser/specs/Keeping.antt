@@ -1,5 +1,5 @@
 -- What is kept of the parts of a statement.
-use Rattle.std.specs.Prelude.{◌≡◌, ◌≤◌, ℕ, ℤ, pos, nat_lt, if◌then◌else◌, List, length, map, take, slice_range, Some, Ok}
+use Rattle.std.specs.Prelude.{◌≡◌, ◌≤◌, ℕ, ℤ, pos, nat_lt, if◌then◌else◌, List, length, map, take, slice_range, Option, Some, None, Ok}
 use Rattle.bq_text.specs.Value.{value_of, fits_i64}
 use Rattle.bq_parser.specs.declared.places.Place.{Place}
 use Rattle.bq_parser.specs.declared.places.Place.TheVariants.{Start}
@@ -8,6 +8,7 @@ use Rattle.bq_lexer.specs.declared.token.Token.{Token}
 use Rattle.bq_lexer.specs.Tokens.{kind_of}
 use Rattle.bq_parser.specs.declared.places.Action.{Action}
 use Rattle.bq_parser.specs.declared.places.Action.TheVariants as actions
+use Rattle.bq_schema.specs.declared.column.ColumnDef.{ColumnDef}
 use Rattle.bq_parser.specs.declared.tree.ColumnAst.{ColumnAst}
 use Rattle.bq_parser.specs.declared.tree.OperandAst.{OperandAst}
 use Rattle.bq_parser.specs.declared.tree.OperandAst.TheVariants.{Column, Integer}
@@ -30,6 +31,15 @@ kept_column c = record { stream = kept c.stream; column = kept c.column }
 abbrev pub kept_number : ℤ → ℤ
 kept_number z = if fits_i64 z then z else pos 9223372036854775807
 
+-- a domain by the integers that are kept
+abbrev pub kept_domain : Option (ℤ × ℤ) → Option (ℤ × ℤ)
+kept_domain None = None
+kept_domain (Some ends) = Some (kept_number ends.0, kept_number ends.1)
+
+-- a column of a stream, as it is kept
+abbrev pub kept_def : ColumnDef → ColumnDef
+kept_def c = record { name = kept c.name; domain = kept_domain c.domain }
+
 -- a side of an atom, as it is kept
 abbrev pub kept_operand : OperandAst → OperandAst
 kept_operand (Column c) = Column (kept_column c)
@@ -44,7 +54,9 @@ abbrev pub kept_parts : Parts → Draft
 kept_parts p = record {
   form = p.form;
   name = kept p.name;
-  columns = keep kept 8 p.columns;
+  columns = keep kept_def 8 p.columns;
+  column = kept p.column;
+  low = kept_number p.low;
   distinct = p.distinct;
   select = keep kept_column 8 p.select;
   from = keep kept 4 p.from;
@@ -59,7 +71,9 @@ abbrev pub SaysFor : Action → Lexeme → List ℕ → Type 0
 SaysFor actions.LeftInteger l w = or_far (value_of w) ≡ kept_number (number_of l)
 SaysFor actions.AddIntegerAtom l w = or_far (value_of w) ≡ kept_number (number_of l)
 SaysFor actions.Named l w = w ≡ text_of l
-SaysFor actions.AddColumn l w = w ≡ text_of l
+SaysFor actions.LowIs l w = or_far (value_of w) ≡ kept_number (number_of l)
+SaysFor actions.AddBounded l w = or_far (value_of w) ≡ kept_number (number_of l)
+SaysFor actions.ColumnIs l w = w ≡ text_of l
 SaysFor actions.StreamIs l w = w ≡ text_of l
 SaysFor actions.AddSelected l w = w ≡ text_of l
 SaysFor actions.AddFrom l w = w ≡ text_of l

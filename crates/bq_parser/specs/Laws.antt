@@ -2,9 +2,13 @@
 use Rattle.std.specs.Prelude.{true, ◌≡◌, ℕ, List, ◌++◌, None, Ok, IsTrue, All, Contains}
 use Rattle.bq_text.specs.Name.{is_name}
 use Rattle.bq_model.specs.Query.{QueryValue, IsWithinLimits, attrs_of}
+use Rattle.bq_model.specs.Meaning.{Arrival}
+use Rattle.bq_model.specs.Domains.{RowKeeps}
+use Rattle.bq_schema.specs.declared.column.ColumnDef.{ColumnDef}
 use Rattle.bq_model.specs.declared.atom.Attr.{Attr}
-use Rattle.bq_schema.specs.Streams.{Shape, IsCatalog}
+use Rattle.bq_schema.specs.Streams.{Shape, IsCatalog, HasEnds, KeepsDomains}
 use Rattle.bq_parser.specs.declared.tree.Statement.{Statement}
+use Rattle.bq_parser.specs.declared.tree.Statement.TheVariants.{CreateStream}
 use Rattle.bq_parser.specs.Grammar.{IsWhole}
 use Rattle.bq_parser.specs.Syntax.{IsStatement, IsFault}
 use Rattle.bq_parser.specs.Limits.{names_of, limit_of}
@@ -40,3 +44,11 @@ StaysNamed = (streams : List Shape) → (more : List Shape) → (q : QueryValue)
 -- the columns that the atoms of a query name are there, where the query is named
 abbrev pub AttributesAreNamed : Type 0
 AttributesAreNamed = (streams : List Shape) → (q : QueryValue) → HasNamed streams q → (a : Attr) → Contains (attrs_of q.atoms) a → IsColumnOf streams q.from a
+
+-- within the limits each domain of a stream that is created has ends
+abbrev pub DomainsHaveEnds : Type 0
+DomainsHaveEnds = (name : List ℕ) → (columns : List ColumnDef) → limit_of (CreateStream name (record { items = columns })) ≡ None → All (λ c. HasEnds c.domain) columns
+
+-- a row whose values lie in the domains of its stream keeps to the domains of each query that is named
+abbrev pub RowsKeepDomains : Type 0
+RowsKeepDomains = (streams : List Shape) → (q : QueryValue) → (r : Arrival) → HasNamed streams q → KeepsDomains streams r.stream r.values → RowKeeps q r

@@ -1,9 +1,10 @@
 -- The limits of a statement, in their order.
-use Rattle.std.specs.Prelude.{ℕ, ◌+◌, ℤ, pos, neg_ℤ, int_lt, Bool, ◌||◌, ◌&&◌, nat_lt, nat_eq, if◌then◌else◌, List, [], ◌∷◌, ◌++◌, filter, length, Option, Some, None}
+use Rattle.std.specs.Prelude.{ℕ, ◌+◌, ℤ, pos, neg_ℤ, int_lt, Bool, false, ◌||◌, ◌&&◌, nat_lt, nat_eq, if◌then◌else◌, List, [], ◌∷◌, ◌++◌, filter, length, Option, Some, None}
 use Rattle.std.specs.List.{flat_map, list_any}
 use Rattle.std.specs.Ordering.{int_eq}
 use Rattle.std.specs.Cmp.Lexicographic.{pointwise}
 use Rattle.bq_model.specs.Query.{is_soft}
+use Rattle.bq_schema.specs.declared.column.ColumnDef.{ColumnDef}
 use Rattle.bq_parser.specs.declared.parsing.What.{What}
 use Rattle.bq_parser.specs.declared.parsing.What.TheVariants as limits
 use Rattle.bq_parser.specs.declared.tree.ColumnAst.{ColumnAst}
@@ -28,12 +29,12 @@ abbrev pub number_in : Lexeme → List ℤ
 number_in (number z) = z ∷ []
 number_in _ = []
 
--- the integers of a statement, which its atoms name
+-- the integers of a statement: those that its atoms name, and the ends of the domains
 abbrev pub integers_of : Statement → List ℤ
 integers_of s = flat_map number_in (statement_tokens s)
 
 -- the columns of a stream that is created
-abbrev pub columns_of : Statement → List (List ℕ)
+abbrev pub columns_of : Statement → List ColumnDef
 columns_of (CreateStream name columns) = columns.items
 columns_of _ = []
 
@@ -65,6 +66,15 @@ column_in (Integer z) = []
 abbrev pub columns_in : List AtomAst → List ColumnAst
 columns_in atoms = flat_map (λ a. column_in a.left ++ column_in a.right) atoms
 
+-- the integer that a side of an atom is
+abbrev pub integer_in : OperandAst → List ℤ
+integer_in (Column c) = []
+integer_in (Integer z) = z ∷ []
+
+-- the integers that atoms name
+abbrev pub integers_in : List AtomAst → List ℤ
+integers_in atoms = flat_map (λ a. integer_in a.left ++ integer_in a.right) atoms
+
 -- columns are compared by their two names, byte by byte
 abbrev pub same_column : ColumnAst → ColumnAst → Bool
 same_column a b = pointwise nat_eq a.stream b.stream && pointwise nat_eq a.column b.column
@@ -82,6 +92,11 @@ is_long name = nat_lt 24 (length name)
 abbrev pub is_far : ℤ → Bool
 is_far z = int_lt z (neg_ℤ (pos 999999999999999)) || int_lt (pos 999999999999999) z
 
+-- a domain whose first integer is greater than its second
+abbrev pub is_reversed : Option (ℤ × ℤ) → Bool
+is_reversed None = false
+is_reversed (Some ends) = int_lt ends.1 ends.0
+
 -- the first limit that a statement passes, in the order of What
 abbrev pub limit_of : Statement → Option What
 limit_of s =
@@ -93,4 +108,5 @@ limit_of s =
     (if nat_lt 8 (length (soft_in (atoms_of s))) then Some limits.Soft else
     (if nat_lt 12 (number_of_different same_column (columns_in (atoms_of s))) then Some limits.Attrs else
     (if list_any is_far (integers_of s) then Some limits.Value else
-    (if nat_lt 6 (number_of_different int_eq (integers_of s)) then Some limits.Consts else None))))))))
+    (if nat_lt 6 (number_of_different int_eq (integers_in (atoms_of s))) then Some limits.Consts else
+    (if list_any (λ c. is_reversed c.domain) (columns_of s) then Some limits.Domain else None)))))))))

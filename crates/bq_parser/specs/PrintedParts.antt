@@ -1,9 +1,10 @@
 -- The printed form of a statement, part by part.
-use Rattle.std.specs.Prelude.{ℕ, Bool, List, [], ◌∷◌, ◌++◌, codes, if◌then◌else◌}
+use Rattle.std.specs.Prelude.{ℕ, ℤ, Bool, List, [], ◌∷◌, ◌++◌, codes, if◌then◌else◌, Option, Some, None}
 use Rattle.std.specs.List.{flat_map}
 use Rattle.std.specs.Fmt.{signed_decimal}
 use Rattle.bq_model.specs.declared.atom.Op.{Op}
 use Rattle.bq_model.specs.declared.atom.Op.TheVariants.{Lt, Eq, Gt, Le, Ge, Ne}
+use Rattle.bq_schema.specs.declared.column.ColumnDef.{ColumnDef}
 use Rattle.bq_parser.specs.declared.tree.ColumnAst.{ColumnAst}
 use Rattle.bq_parser.specs.declared.tree.OperandAst.{OperandAst}
 use Rattle.bq_parser.specs.declared.tree.OperandAst.TheVariants.{Column, Integer}
@@ -93,6 +94,19 @@ query_text name s = query_head_text name ++ select_text s
 abbrev pub stream_head_text : List ℕ → List ℕ
 stream_head_text name = codes "CREATE STREAM " ++ (name ++ codes " (")
 
+-- a domain behind the name of its column
+abbrev pub domain_text : Option (ℤ × ℤ) → List ℕ
+domain_text None = []
+domain_text (Some ends) = (codes " IN " ++ signed_decimal ends.0) ++ (codes ".." ++ signed_decimal ends.1)
+
+-- a column of a stream
+abbrev pub coldef_text : ColumnDef → List ℕ
+coldef_text c = c.name ++ domain_text c.domain
+
+-- the columns of a stream
+abbrev pub coldefs_text : List ColumnDef → List ℕ
+coldefs_text columns = listed [] (codes ", ") coldef_text columns
+
 -- CREATE STREAM
-abbrev pub stream_text : List ℕ → List (List ℕ) → List ℕ
-stream_text name columns = stream_head_text name ++ (names_text [] columns ++ codes ")")
+abbrev pub stream_text : List ℕ → List ColumnDef → List ℕ
+stream_text name columns = stream_head_text name ++ (coldefs_text columns ++ codes ")")

@@ -8,6 +8,7 @@ use Rattle.bq_parser.specs.declared.places.Action.{Action}
 use Rattle.bq_parser.specs.declared.places.Action.TheVariants as actions
 use Rattle.bq_model.specs.declared.atom.Op.{Op}
 use Rattle.bq_model.specs.declared.atom.Op.TheVariants.{Lt, Eq, Gt, Le, Ge, Ne}
+use Rattle.bq_schema.specs.declared.column.ColumnDef.{ColumnDef}
 use Rattle.bq_parser.specs.declared.tree.ColumnAst.{ColumnAst}
 use Rattle.bq_parser.specs.declared.tree.OperandAst.{OperandAst}
 use Rattle.bq_parser.specs.declared.tree.OperandAst.TheVariants.{Column, Integer}
@@ -23,7 +24,9 @@ use Rattle.bq_parser.specs.Steps.{step}
 pub record Parts : Type 0 where
   pub form : Form
   pub name : List ℕ
-  pub columns : List (List ℕ)
+  pub columns : List ColumnDef
+  pub column : List ℕ
+  pub low : ℤ
   pub distinct : Bool
   pub select : List ColumnAst
   pub from : List (List ℕ)
@@ -34,7 +37,7 @@ pub record Parts : Type 0 where
 
 -- nothing is read
 abbrev pub no_parts : Parts
-no_parts = record { form = forms.Explain; name = []; columns = []; distinct = false; select = []; from = []; atoms = []; stream = []; left = Integer (pos 0); op = Lt }
+no_parts = record { form = forms.Explain; name = []; columns = []; column = []; low = pos 0; distinct = false; select = []; from = []; atoms = []; stream = []; left = Integer (pos 0); op = Lt }
 
 -- the word that a token is
 abbrev pub text_of : Lexeme → List ℕ
@@ -76,7 +79,10 @@ act actions.BeginStream l p = record p { form = forms.Stream }
 act actions.BeginQuery l p = record p { form = forms.Query }
 act actions.Named l p = record p { name = text_of l }
 act actions.BeginColumns l p = record p { columns = [] }
-act actions.AddColumn l p = record p { columns = p.columns ++ text_of l ∷ [] }
+act actions.ColumnIs l p = record p { column = text_of l }
+act actions.AddColumn l p = record p { columns = p.columns ++ (record { name = p.column; domain = None }) ∷ [] }
+act actions.LowIs l p = record p { low = number_of l }
+act actions.AddBounded l p = record p { columns = p.columns ++ (record { name = p.column; domain = Some (p.low, number_of l) }) ∷ [] }
 act actions.BeginSelect l p = record p { distinct = false; select = [] }
 act actions.SetDistinct l p = record p { distinct = true }
 act actions.StreamIs l p = record p { stream = text_of l }

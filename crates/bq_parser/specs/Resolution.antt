@@ -1,13 +1,14 @@
 -- What the names of a query stand for over the streams of a catalog.
-use Rattle.std.specs.Prelude.{◌≡◌, ℕ, ◌<◌, Bool, not, ◌&&◌, List, [], ◌++◌, length, map, slice_index, if◌then◌else◌, is_some, unwrap_or, option_and_then, Option, None, Result, Ok, Err}
-use Rattle.std.specs.List.{All, list_all, position}
+use Rattle.std.specs.Prelude.{◌≡◌, ℕ, ◌<◌, ℤ, Bool, not, ◌&&◌, List, [], ◌∷◌, ◌++◌, length, map, slice_index, if◌then◌else◌, is_some, unwrap_or, option_and_then, Option, Some, None, Result, Ok, Err}
+use Rattle.std.specs.List.{All, list_all, flat_map, position, slice_index_or}
 use Rattle.std.specs.Str.{bytes_eq}
 use Rattle.bq_model.specs.declared.atom.Attr.{Attr}
+use Rattle.bq_model.specs.declared.atom.Domain.{Domain}
 use Rattle.bq_model.specs.declared.atom.Element.{Element}
 use Rattle.bq_model.specs.declared.atom.Element.TheVariants as element
 use Rattle.bq_model.specs.declared.atom.Atom.{Atom}
-use Rattle.bq_model.specs.Query.{QueryValue}
-use Rattle.bq_schema.specs.Streams.{Shape, stream_number, column_place, shape_at, column_at, all_differ}
+use Rattle.bq_model.specs.Query.{QueryValue, attr_lt, with_new, attrs_of}
+use Rattle.bq_schema.specs.Streams.{Shape, stream_number, column_place, shape_at, column_at, domain_at, all_differ}
 use Rattle.bq_parser.specs.declared.tree.ColumnAst.{ColumnAst}
 use Rattle.bq_parser.specs.declared.tree.OperandAst.{OperandAst}
 use Rattle.bq_parser.specs.declared.tree.OperandAst.TheVariants.{Column, Integer}
@@ -62,15 +63,38 @@ element_for streams from (Integer z) = element.Const z
 abbrev pub atom_for : List Shape → List (List ℕ) → AtomAst → Atom
 atom_for streams from a = record { left = element_for streams from a.left; op = a.op; right = element_for streams from a.right }
 
--- the query whose names are all there; no column has a domain yet
-abbrev pub query_for : List Shape → SelectAst → QueryValue
-query_for streams s = record {
-  distinct = s.distinct;
-  from = map (number_for streams) s.from.items;
-  select = map (attr_for streams s.from.items) s.select.items;
-  atoms = map (atom_for streams s.from.items) s.atoms.items;
-  domains = [];
+-- the columns that a query names, the selected ones and those of its comparisons, in FROM order and then column order, each once
+abbrev pub named_attrs : List Attr → List Atom → List Attr
+named_attrs [] atoms = attrs_of atoms
+named_attrs (a ∷ select) atoms = with_new attr_lt a (named_attrs select atoms)
+
+-- the domain of a column, where it has one
+abbrev pub domain_with : Attr → Option (ℤ × ℤ) → List Domain
+domain_with a None = []
+domain_with a (Some ends) = record { attr = a; lo = ends.0; hi = ends.1 } ∷ []
+
+-- the domain that the catalog gives to a column of a stream of FROM, which is given by the numbers of its streams
+abbrev pub domain_for : List Shape → List ℕ → Attr → Option (ℤ × ℤ)
+domain_for streams from a = domain_at streams (slice_index_or from a.stream 0) a.column
+
+-- the domains that the catalog gives to columns, in their order
+abbrev pub domains_for : List Shape → List ℕ → List Attr → List Domain
+domains_for streams from attrs = flat_map (λ a. domain_with a (domain_for streams from a)) attrs
+
+-- a query with the domains that the catalog gives to the columns that it names
+abbrev pub query_with : List Shape → Bool → List ℕ → List Attr → List Atom → QueryValue
+query_with streams distinct from select atoms = record {
+  distinct = distinct;
+  from = from;
+  select = select;
+  atoms = atoms;
+  domains = domains_for streams from (named_attrs select atoms);
 }
+
+-- the query whose names are all there
+abbrev pub query_for : List Shape → SelectAst → QueryValue
+query_for streams s =
+    query_with streams s.distinct (map (number_for streams) s.from.items) (map (attr_for streams s.from.items) s.select.items) (map (atom_for streams s.from.items) s.atoms.items)
 
 -- The query that is asked for, or the first reason why there is none: a name in FROM is no stream, or a column's stream is not in
 -- FROM; a column is none of its stream; FROM names a stream twice.
@@ -94,12 +118,12 @@ HasSide streams from (element.Const k) = Unit {0}
 abbrev pub HasSides : List Shape → List ℕ → Atom → Type 0
 HasSides streams from t = HasSide streams from t.left × HasSide streams from t.right
 
--- the streams and the columns that a query names are there, and no column has a domain, as none of a catalog has one
+-- the streams and the columns that a query names are there, and its domains are those that the catalog gives to these columns
 pub record HasNamed (streams : List Shape) (q : QueryValue) : Type 0 where
   pub from : All (λ n. n < length streams) q.from
   pub select : All (IsColumnOf streams q.from) q.select
   pub atoms : All (HasSides streams q.from) q.atoms
-  pub domains : q.domains ≡ []
+  pub domains : q.domains ≡ domains_for streams q.from (named_attrs q.select q.atoms)
 
 -- the name of the stream of this number
 abbrev pub stream_named : List Shape → ℕ → List ℕ

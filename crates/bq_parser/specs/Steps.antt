@@ -1,12 +1,12 @@
 -- Where in a statement its next token stands, and what each token there does.
 use Rattle.std.specs.Prelude.{Option, Some, None}
-use Rattle.bq_text.specs.declared.key.Key.TheVariants.{CreateKey, StreamKey, QueryKey, AsKey, SelectKey, DistinctKey, FromKey, WhereKey, AndKey, ExplainKey, DropKey}
+use Rattle.bq_text.specs.declared.key.Key.TheVariants.{CreateKey, StreamKey, QueryKey, AsKey, SelectKey, DistinctKey, FromKey, WhereKey, AndKey, ExplainKey, DropKey, InKey}
 use Rattle.bq_lexer.specs.declared.token.TokenKind.{TokenKind}
 use Rattle.bq_lexer.specs.declared.token.TokenKind.TheVariants.{Word, Reserved, Integer, Comma, Point, Open, Close, Less, Equal, Greater, LessEqual, GreaterEqual, Unequal, Semi}
 use Rattle.bq_parser.specs.declared.places.Place.{Place}
-use Rattle.bq_parser.specs.declared.places.Place.TheVariants.{Start, AfterCreate, StreamName, OpenColumns, ColumnName, AfterColumn, QueryName, QueryAs, QuerySelect, FirstSelected, SelectedStream, SelectedPoint, SelectedColumn, AfterSelected, FromName, AfterFrom, AtomLeft, LeftPoint, LeftColumn, ColumnOp, RightAny, IntegerOp, RightStream, RightPoint, RightColumn, AfterAtom, ExplainName, AfterDrop, DropName, Complete, Ended}
+use Rattle.bq_parser.specs.declared.places.Place.TheVariants.{Start, AfterCreate, StreamName, OpenColumns, ColumnName, AfterColumn, DomainLow, FirstPoint, SecondPoint, DomainHigh, AfterDomain, QueryName, QueryAs, QuerySelect, FirstSelected, SelectedStream, SelectedPoint, SelectedColumn, AfterSelected, FromName, AfterFrom, AtomLeft, LeftPoint, LeftColumn, ColumnOp, RightAny, IntegerOp, RightStream, RightPoint, RightColumn, AfterAtom, ExplainName, AfterDrop, DropName, Complete, Ended}
 use Rattle.bq_parser.specs.declared.places.Action.{Action}
-use Rattle.bq_parser.specs.declared.places.Action.TheVariants.{Nothing, BeginExplain, BeginDrop, BeginStream, BeginQuery, Named, BeginColumns, AddColumn, BeginSelect, SetDistinct, StreamIs, AddSelected, BeginFrom, AddFrom, LeftInteger, LeftColumnIs, OpLess, OpEqual, OpGreater, OpLessEqual, OpGreaterEqual, OpUnequal, AddIntegerAtom, AddColumnAtom}
+use Rattle.bq_parser.specs.declared.places.Action.TheVariants.{Nothing, BeginExplain, BeginDrop, BeginStream, BeginQuery, Named, BeginColumns, ColumnIs, AddColumn, LowIs, AddBounded, BeginSelect, SetDistinct, StreamIs, AddSelected, BeginFrom, AddFrom, LeftInteger, LeftColumnIs, OpLess, OpEqual, OpGreater, OpLessEqual, OpGreaterEqual, OpUnequal, AddIntegerAtom, AddColumnAtom}
 
 -- the place behind a token of this kind, and what the token adds; nothing, where no statement goes on so
 abbrev pub step : Place → TokenKind → Option (Place × Action)
@@ -17,9 +17,16 @@ step AfterCreate (Reserved StreamKey) = Some (StreamName, BeginStream)
 step AfterCreate (Reserved QueryKey) = Some (QueryName, BeginQuery)
 step StreamName Word = Some (OpenColumns, Named)
 step OpenColumns Open = Some (ColumnName, BeginColumns)
-step ColumnName Word = Some (AfterColumn, AddColumn)
-step AfterColumn Comma = Some (ColumnName, Nothing)
-step AfterColumn Close = Some (Complete, Nothing)
+step ColumnName Word = Some (AfterColumn, ColumnIs)
+step AfterColumn Comma = Some (ColumnName, AddColumn)
+step AfterColumn Close = Some (Complete, AddColumn)
+step AfterColumn (Reserved InKey) = Some (DomainLow, Nothing)
+step DomainLow Integer = Some (FirstPoint, LowIs)
+step FirstPoint Point = Some (SecondPoint, Nothing)
+step SecondPoint Point = Some (DomainHigh, Nothing)
+step DomainHigh Integer = Some (AfterDomain, AddBounded)
+step AfterDomain Comma = Some (ColumnName, Nothing)
+step AfterDomain Close = Some (Complete, Nothing)
 step QueryName Word = Some (QueryAs, Named)
 step QueryAs (Reserved AsKey) = Some (QuerySelect, Nothing)
 step QuerySelect (Reserved SelectKey) = Some (FirstSelected, BeginSelect)

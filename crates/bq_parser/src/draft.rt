@@ -13,6 +13,7 @@ use crate::places::Action;
 use crate::tree::{AtomAst, ColumnAst, OperandAst, SelectAst, Statement};
 use arrayvec::ArrayVec;
 use bq_model::Op;
+use bq_schema::ColumnDef;
 use bq_text::Name;
 
 /// Which statement is begun.
@@ -36,7 +37,9 @@ pub struct Kept<T, const N: usize> {
 pub struct Draft {
     pub form: Form,
     pub name: Name,
-    pub columns: Kept<Name, 8>,
+    pub columns: Kept<ColumnDef, 8>,
+    pub column: Name,
+    pub low: i64,
     pub distinct: bool,
     pub select: Kept<ColumnAst, 8>,
     pub from: Kept<Name, 4>,
@@ -115,7 +118,10 @@ impl Draft {
             Action::BeginColumns => {
                 self.columns = Kept::none();
             }
-            Action::AddColumn => self.columns.put(kept_name(text)),
+            Action::ColumnIs => self.column = kept_name(text),
+            Action::AddColumn => self.put_column(None),
+            Action::LowIs => self.low = kept_integer(text),
+            Action::AddBounded => self.put_column(Some((self.low, kept_integer(text)))),
             Action::BeginSelect => {
                 self.distinct = false;
                 self.select = Kept::none();
@@ -123,7 +129,7 @@ impl Draft {
             Action::SetDistinct => self.distinct = true,
             Action::StreamIs => self.stream = kept_name(text),
             Action::AddSelected => {
-                let column = self.column(text);
+                let column = self.column_of(text);
                 self.select.put(column);
             }
             Action::BeginFrom => {
@@ -132,7 +138,7 @@ impl Draft {
             }
             Action::AddFrom => self.from.put(kept_name(text)),
             Action::LeftInteger => self.left = OperandAst::Integer(kept_integer(text)),
-            Action::LeftColumnIs => self.left = OperandAst::Column(self.column(text)),
+            Action::LeftColumnIs => self.left = OperandAst::Column(self.column_of(text)),
             Action::OpLess => self.op = Op::Lt,
             Action::OpEqual => self.op = Op::Eq,
             Action::OpGreater => self.op = Op::Gt,
@@ -144,14 +150,22 @@ impl Draft {
                 self.atoms.put(atom);
             }
             Action::AddColumnAtom => {
-                let atom = self.atom(OperandAst::Column(self.column(text)));
+                let atom = self.atom(OperandAst::Column(self.column_of(text)));
                 self.atoms.put(atom);
             }
         }
     }
 
+    // Adds the column that was named last, with this domain.
+    fn put_column(&mut self, domain: Option<(i64, i64)>)
+        ensures { self.new ≡ record self.old { columns = put 8 (record { name = self.old.column; domain = domain }) self.old.columns } }
+    {
+        let name = self.column;
+        self.columns.put(ColumnDef { name, domain });
+    }
+
     // The column of this name in the stream that was named last.
-    fn column(&self, text: &[u8]) -> ColumnAst
+    fn column_of(&self, text: &[u8]) -> ColumnAst
         ensures { result ≡ column_with self.now text.now }
     {
         ColumnAst {
@@ -204,6 +218,8 @@ pub fn start() -> Draft
         form: Form::Explain,
         name: underscore(),
         columns: Kept::none(),
+        column: underscore(),
+        low: 0,
         distinct: false,
         select: Kept::none(),
         from: Kept::none(),

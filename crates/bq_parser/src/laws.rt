@@ -1,5 +1,5 @@
 //! Laws of the definitions, as public functions without a body: the clause is the law.
-ghost use Rattle.bq_parser.specs.Laws.{OneReading, FaultsAreNone, PrintsBack, RowsAreRows, ResolvesBack, StaysNamed, AttributesAreNamed};
+ghost use Rattle.bq_parser.specs.Laws.{OneReading, FaultsAreNone, PrintsBack, RowsAreRows, ResolvesBack, StaysNamed, AttributesAreNamed, DomainsHaveEnds, RowsKeepDomains};
 
 /// No line can be read as two statements.
 pub fn one_reading()
@@ -34,4 +34,15 @@ pub fn stays_named()
 /// The columns that the atoms of a query name are there, where the query is named by a catalog.
 pub fn attributes_are_named()
     ensures { AttributesAreNamed }
+{}
+
+/// Each domain of a stream that a statement within the limits creates has ends of at most 15 digits, the first at most the second.
+pub fn domains_have_ends()
+    ensures { DomainsHaveEnds }
+{}
+
+/// A row whose values lie in the domains of the columns of its stream keeps to the domains of each query that is named by the
+/// catalog.
+pub fn rows_keep_domains()
+    ensures { RowsKeepDomains }
 {}

@@ -5,6 +5,7 @@
 //! the code, and the proofs show that both say the same.
 #![tactic(auto)]
 
+mod domains;
 mod draft;
 pub mod laws;
 mod limits;

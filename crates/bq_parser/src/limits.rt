@@ -3,14 +3,15 @@ ghost use Rattle.std.specs.Prelude.{◌≡◌, ◌≤◌, ◌<◌, ◌+◌, ◌+
 ghost use Rattle.std.specs.List.{list_any};
 ghost use Rattle.std.specs.Ordering.{int_eq};
 ghost use Rattle.bq_parser.specs.Limits as limits;
-ghost use Rattle.bq_parser.specs.Limits.{soft_in, column_in, columns_in, number_of_different};
-ghost use Rattle.bq_parser.specs.DraftLimits.{is_long_token, integer_in, integers_in, limit_in_atoms, limit_by, limit_in};
+ghost use Rattle.bq_parser.specs.Limits.{soft_in, column_in, columns_in, integer_in, integers_in, number_of_different, is_reversed};
+ghost use Rattle.bq_parser.specs.DraftLimits.{is_long_token, ends_in, limit_in_atoms, limit_in_columns, limit_by, limit_in};
 
 use crate::draft::{Draft, Form};
 use crate::parsing::What;
 use crate::tree::{AtomAst, ColumnAst, OperandAst};
 use arrayvec::ArrayVec;
 use bq_lexer::{Token, TokenKind};
+use bq_schema::ColumnDef;
 use bq_text::Name;
 
 /// The greatest integer that a statement may name; the least one is its negative.
@@ -186,6 +187,55 @@ fn atoms_limit(atoms: &[AtomAst]) -> Option<What>
     None
 }
 
+// Whether an end of a domain is too far.
+fn has_far_end(domain: Option<(i64, i64)>) -> bool
+    ensures { result ≡ list_any limits.is_far (ends_in domain) }
+{
+    match domain {
+        Some((lo, hi)) => is_far(lo) || is_far(hi),
+        None => false,
+    }
+}
+
+// Whether the first integer of a domain is greater than the second.
+fn is_reversed_domain(domain: Option<(i64, i64)>) -> bool
+    ensures { result ≡ is_reversed domain }
+{
+    match domain {
+        Some((lo, hi)) => hi < lo,
+        None => false,
+    }
+}
+
+// Whether an end of the domain of a column is too far.
+fn has_far_ends(columns: &[ColumnDef]) -> bool
+    ensures { result ≡ list_any (λ c. list_any limits.is_far (ends_in c.domain)) columns.now }
+{
+    columns.iter().any(|column| has_far_end(column.domain))
+}
+
+// Whether the domain of a column is reversed.
+fn has_reversed(columns: &[ColumnDef]) -> bool
+    ensures { result ≡ list_any (λ c. is_reversed c.domain) columns.now }
+{
+    columns
+        .iter()
+        .any(|column| is_reversed_domain(column.domain))
+}
+
+// The first limit that the columns of a stream pass, where there are not too many of them.
+fn columns_limit(columns: &[ColumnDef]) -> Option<What>
+    ensures { result ≡ limit_in_columns columns.now }
+{
+    if has_far_ends(columns) {
+        Some(What::Value)
+    } else if has_reversed(columns) {
+        Some(What::Domain)
+    } else {
+        None
+    }
+}
+
 // The first limit that the lists of a statement pass.
 fn lists_limit(draft: &Draft) -> Option<What>
     ensures { result ≡ limit_by draft.now.form draft.now }
@@ -195,7 +245,7 @@ fn lists_limit(draft: &Draft) -> Option<What>
             if draft.columns.over {
                 Some(What::Columns)
             } else {
-                None
+                columns_limit(draft.columns.list.as_slice())
             }
         }
         Form::Query => {

@@ -24,6 +24,7 @@ pub enum What {
     Attrs,
     Value,
     Consts,
+    Domain,
 }
 
 /// Why a line is no statement that is taken.

@@ -8,6 +8,7 @@ ghost use Rattle.bq_parser.specs.PrintedParts as parts;
 use crate::tree::{AtomAst, ColumnAst, OperandAst, SelectAst, Statement};
 use bq_io::{Sink, WriteFault, write_all, write_pieces};
 use bq_model::Op;
+use bq_schema::ColumnDef;
 use bq_text::Name;
 use itoa::Buffer;
 
@@ -80,11 +81,11 @@ fn put_columns<O: Sink>(out: &mut O, columns: &[ColumnAst]) -> Result<(), WriteF
 }
 
 // An integer, and what stands before it.
-fn put_integer<O: Sink>(out: &mut O, lead: &[u8], integer: i64) -> Result<(), WriteFault>
-    ensures { Writes result (O.seen out.old) (O.seen out.new) (lead.now ++ signed_decimal integer) }
+fn put_integer<O: Sink>(out: &mut O, lead: &[u8], integer: &i64) -> Result<(), WriteFault>
+    ensures { Writes result (O.seen out.old) (O.seen out.new) (lead.now ++ signed_decimal integer.now) }
 {
     let mut buffer = Buffer::new();
-    let pieces: [&[u8]; 2] = [lead, buffer.format(integer).as_bytes()];
+    let pieces: [&[u8]; 2] = [lead, buffer.format(*integer).as_bytes()];
     write_pieces(out, &pieces)
 }
 
@@ -94,7 +95,7 @@ fn put_operand<O: Sink>(out: &mut O, lead: &[u8], operand: &OperandAst) -> Resul
 {
     match operand {
         OperandAst::Column(column) => put_column(out, lead, column),
-        OperandAst::Integer(integer) => put_integer(out, lead, *integer),
+        OperandAst::Integer(integer) => put_integer(out, lead, integer),
     }
 }
 
@@ -225,18 +226,74 @@ fn put_stream_head<O: Sink>(out: &mut O, name: &Name) -> Result<(), WriteFault>
     write_pieces(out, &pieces)
 }
 
-// The columns of a stream and the bracket behind them.
-fn put_stream_columns<O: Sink>(out: &mut O, columns: &[Name]) -> Result<(), WriteFault>
-    ensures { Writes result (O.seen out.old) (O.seen out.new) (parts.names_text [] columns.now ++ codes ")") }
+// A domain behind the name of its column.
+fn put_domain<O: Sink>(out: &mut O, ends: &(i64, i64)) -> Result<(), WriteFault>
+    ensures { Writes result (O.seen out.old) (O.seen out.new) ((codes " IN " ++ signed_decimal ends.now.0) ++ (codes ".." ++ signed_decimal ends.now.1)) }
 {
-    match put_names(out, b"", columns) {
+    match put_integer(out, b" IN ", &ends.0) {
+        Ok(()) => put_integer(out, b"..", &ends.1),
+        Err(fault) => Err(fault),
+    }
+}
+
+// The domain of a column, where it has one.
+fn put_some_domain<O: Sink>(out: &mut O, domain: &Option<(i64, i64)>) -> Result<(), WriteFault>
+    ensures { Writes result (O.seen out.old) (O.seen out.new) (parts.domain_text domain.now) }
+{
+    match domain {
+        Some(ends) => put_domain(out, ends),
+        None => Ok(()),
+    }
+}
+
+// A column of a stream, and what stands before it.
+fn put_coldef<O: Sink>(out: &mut O, lead: &[u8], column: &ColumnDef) -> Result<(), WriteFault>
+    ensures { Writes result (O.seen out.old) (O.seen out.new) (lead.now ++ parts.coldef_text column.now) }
+{
+    match put_name(out, lead, &column.name) {
+        Ok(()) => put_some_domain(out, &column.domain),
+        Err(fault) => Err(fault),
+    }
+}
+
+// Each column of a stream behind a comma and a space.
+fn put_more_coldefs<O: Sink>(out: &mut O, columns: &[ColumnDef]) -> Result<(), WriteFault>
+    ensures { Writes result (O.seen out.old) (O.seen out.new) (parts.each_behind (codes ", ") parts.coldef_text columns.now) }
+{
+    for column in columns {
+        match put_coldef(out, b", ", column) {
+            Ok(()) => {}
+            Err(fault) => return Err(fault),
+        }
+    }
+    Ok(())
+}
+
+// The columns of a stream.
+fn put_coldefs<O: Sink>(out: &mut O, columns: &[ColumnDef]) -> Result<(), WriteFault>
+    ensures { Writes result (O.seen out.old) (O.seen out.new) (parts.coldefs_text columns.now) }
+{
+    match columns {
+        [] => Ok(()),
+        [first, others @ ..] => match put_coldef(out, b"", first) {
+            Ok(()) => put_more_coldefs(out, others),
+            Err(fault) => Err(fault),
+        },
+    }
+}
+
+// The columns of a stream and the bracket behind them.
+fn put_stream_columns<O: Sink>(out: &mut O, columns: &[ColumnDef]) -> Result<(), WriteFault>
+    ensures { Writes result (O.seen out.old) (O.seen out.new) (parts.coldefs_text columns.now ++ codes ")") }
+{
+    match put_coldefs(out, columns) {
         Ok(()) => write_all(out, b")"),
         Err(fault) => Err(fault),
     }
 }
 
 // CREATE STREAM.
-fn put_stream<O: Sink>(out: &mut O, name: &Name, columns: &[Name]) -> Result<(), WriteFault>
+fn put_stream<O: Sink>(out: &mut O, name: &Name, columns: &[ColumnDef]) -> Result<(), WriteFault>
     ensures { Writes result (O.seen out.old) (O.seen out.new) (parts.stream_text name.now columns.now) }
 {
     match put_stream_head(out, name) {

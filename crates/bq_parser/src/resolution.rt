@@ -6,6 +6,7 @@ ghost use Rattle.bq_schema.specs.Streams.{stream_number};
 ghost use Rattle.bq_parser.specs.Resolution as names;
 ghost use Rattle.bq_parser.specs.Resolution.{IsTaken, HasNamed, resolved};
 
+use crate::domains::{domains_for, named_attrs};
 use crate::limits::columns_named;
 use crate::tree::{AtomAst, ColumnAst, OperandAst, SelectAst};
 use arrayvec::ArrayVec;
@@ -186,21 +187,24 @@ fn atoms_for(atoms: &[AtomAst], from: &[Name], catalog: &Catalog) -> ArrayVec<At
     comparisons
 }
 
-// The query whose names are all there. No column has a domain yet.
+// The query whose names are all there.
 fn query_for(select: &SelectAst, catalog: &Catalog) -> Query
-    requires { IsWithinLimits (names.query_for catalog.now select.now) }
+    requires within { IsWithinLimits (names.query_for catalog.now select.now) }
+    requires named { HasNamed catalog.now (names.query_for catalog.now select.now) }
     ensures { result ≡ names.query_for catalog.now select.now }
 {
     let from = select.from.as_slice();
     let numbers = numbers_for(from, catalog);
     let attrs = attrs_for(select.select.as_slice(), from, catalog);
     let atoms = atoms_for(select.atoms.as_slice(), from, catalog);
+    let named = named_attrs(attrs.as_slice(), atoms.as_slice());
+    let domains = domains_for(named.as_slice(), numbers.as_slice(), catalog);
     Query::new(
         select.distinct,
         numbers.as_slice(),
         attrs.as_slice(),
         atoms.as_slice(),
-        &[],
+        domains.as_slice(),
     )
 }
 

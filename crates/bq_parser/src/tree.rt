@@ -1,6 +1,7 @@
 //! Statements as trees.
 use arrayvec::ArrayVec;
 use bq_model::Op;
+use bq_schema::ColumnDef;
 use bq_text::Name;
 
 /// A column, by the names of its stream and of its own.
@@ -46,7 +47,7 @@ pub struct SelectAst {
 pub enum Statement {
     CreateStream {
         name: Name,
-        columns: ArrayVec<Name, 8>,
+        columns: ArrayVec<ColumnDef, 8>,
     },
     CreateQuery {
         name: Name,

@@ -1,26 +1,29 @@
--- Where no live query has a domain, each row keeps to the domains of each.
-use Rattle.std.proofs.Common.{◌≡◌, zero, suc, List, [], ◌∷◌, not, ◌||◌, nat_eq, ap, subst, arith, All}
-use Rattle.std.specs.List.{list_all}
+-- When a row keeps to the domains of each live query.
+use Rattle.std.proofs.Common.{◌≡◌, inl, inr, true, not, ◌||◌, nat_eq, IsTrue, List, Contains, slice_index_or, ap, ◌∙◌, All}
 use Rattle.bq_model.specs.declared.atom.Domain.{Domain}
 use Rattle.bq_model.specs.Assignment.{lies_in}
 use Rattle.bq_model.specs.Domains.{RowKeeps}
 use Rattle.bq_model.specs.Meaning.{Arrival, by_column}
 use Rattle.bq_model.specs.Query.{QueryValue}
-use Rattle.bq_pool.specs.Extents.{PoolValue}
-use Rattle.bq_registry.specs.Live.{Live, LiveQuery}
-use Rattle.bq_registry.specs.Registry.{AreLiveFor, KeepsToEach}
+use Rattle.bq_model.proofs.Has.{Has, Contains-from_has}
+use Rattle.bq_laws.proofs.Tests.{or-left, or-right, true_or_false, all_if, nat_true}
+use Rattle.bq_registry.specs.Live.{Live}
+use Rattle.bq_registry.specs.Registry.{KeepsToEach}
 
-row_keeps : (q : QueryValue) → q.domains ≡ [] → (r : Arrival) → RowKeeps q r
-row_keeps q none r place l e =
-    ap (λ (ds : List Domain). list_all (λ d. not (nat_eq d.attr.stream place) || lies_in d (by_column r.values d.attr.column)) ds) none
+-- each domain of the query that is of a column of the row's stream has the row's value in it
+abbrev pub ValuesLieIn : QueryValue → Arrival → Type 0
+ValuesLieIn q r = (d : Domain) → Contains q.domains d → slice_index_or q.from d.attr.stream 0 ≡ r.stream → IsTrue (lies_in d (by_column r.values d.attr.column))
 
-pub keeps_to_each : (r : Arrival) (pool : PoolValue) (live : List Live) (queries : List LiveQuery) → AreLiveFor pool live queries
-    → All (λ (l : Live). l.executor.query.domains ≡ []) live → KeepsToEach queries r
-keeps_to_each r pool [] [] all none k d within = absurd (omega (arith, within))
-keeps_to_each r pool [] (q ∷ queries) all none k d within = absurd (let size = all.size in omega (arith, size))
-keeps_to_each r pool (l ∷ live) [] all none k d within = absurd (omega (arith, within))
-keeps_to_each r pool (l ∷ live) (q ∷ queries) all none zero d within =
-    subst (λ (x : QueryValue). RowKeeps x r) (all.each 0 l q (omega arith)).query (row_keeps l.executor.query (none 0 l (omega arith)) r)
-keeps_to_each r pool (l ∷ live) (q ∷ queries) all none (suc k) d within =
-    let others : AreLiveFor pool live queries = record { size = omega (arith, all.size); each = λ i c x a. all.each (suc i) c x (omega arith) } in
-    keeps_to_each r pool live queries others (λ i c a. none (suc i) c (omega (arith, a))) k d (omega (arith, within))
+-- a row whose values lie in the domains of their columns keeps to the domains of the query
+pub row_keeps : (q : QueryValue) (r : Arrival) → ValuesLieIn q r → RowKeeps q r
+row_keeps q r lie place l e = all_if (λ d. not (nat_eq d.attr.stream place) || lies_in d (by_column r.values d.attr.column)) q.domains one
+  where
+    one : (d : Domain) → Has q.domains d → (not (nat_eq d.attr.stream place) || lies_in d (by_column r.values d.attr.column)) ≡ true
+    one d h = elim (true_or_false (nat_eq d.attr.stream place)) [
+      | inl here ↦ or-right _ _ (lie d (Contains-from_has q.domains d h) (ap (λ n. slice_index_or q.from n 0) (nat_true d.attr.stream place here) ∙ e))
+      | inr off ↦ or-left _ _ (ap not off)
+    ]
+
+-- and to the domains of each live query
+pub keeps_to_each : (r : Arrival) (live : List Live) → All (λ (l : Live). ValuesLieIn l.executor.query r) live → KeepsToEach live r
+keeps_to_each r live lie k d within = row_keeps (slice_index_or live k d).executor.query r (lie k d within)

@@ -153,13 +153,14 @@ impl Registry {
         }
     }
 
-    /// Takes a row of a stream: of each live query the new answers by its own history wait then, and what waited before is
-    /// given up, where the row keeps to the domains of each live query. Each live query keeps within the numbers that its plan
-    /// announces, whatever its history. This takes no memory.
+    /// Takes a row of a stream, whose values lie in the domains of each live query that names the stream: of each live query the new
+    /// answers by its own history wait then, and what waited before is given up. Each live query keeps within the numbers that its
+    /// plan announces, whatever its history. This takes no memory.
     pub fn row<L: Ledger>(&mut self, stream: u8, row: &Row, steps: &mut Steps<L>)
-        requires { All (λ l. l.executor.given < 2 ^ 40) self.old.live }
-        ensures stands { (queries : List LiveQuery) → StandsFor self.old queries → KeepsToEach queries (arrival stream row.now.items) → StandsFor self.new (map (with_row (arrival stream row.now.items)) queries) }
-        ensures waits { (queries : List LiveQuery) → StandsFor self.old queries → KeepsToEach queries (arrival stream row.now.items) → Wait self.new.live queries (arrival stream row.now.items) }
+        requires few { All (λ l. l.executor.given < 2 ^ 40) self.old.live }
+        requires keeps { KeepsToEach self.old.live (arrival stream row.now.items) }
+        ensures stands { (queries : List LiveQuery) → StandsFor self.old queries → StandsFor self.new (map (with_row (arrival stream row.now.items)) queries) }
+        ensures waits { (queries : List LiveQuery) → StandsFor self.old queries → Wait self.new.live queries (arrival stream row.now.items) }
         ensures given { (n : ℕ) → GivenUpto n self.old → GivenUpto (n + 1) self.new }
         ensures queries { KeepQueries self.old.live self.new.live }
         ensures within { KeepWithin self.new }

@@ -9,10 +9,11 @@ use Rattle.std.specs.List.{list_any, position, position_or_len}
 use Rattle.std.specs.Str.{bytes_eq}
 use Rattle.std.specs.Map.{lookup, keys_of}
 use Rattle.std.proofs.lemmas.Cmp.{nat_list_eq_equiv}
+use Rattle.bq_schema.specs.declared.column.ColumnDef.{ColumnDef}
 use Rattle.bq_schema.specs.Streams.{Shape, shapes_of, shape_at, stream_number}
 
 abbrev Entries : Type 0
-Entries = List (List ℕ × List (List ℕ))
+Entries = List (List ℕ × List ColumnDef)
 
 symmetric : (x y : List ℕ) → bytes_eq x y ≡ bytes_eq y x
 symmetric x y = nat_list_eq_equiv.symm x y
@@ -78,7 +79,7 @@ succeeded (Ok x) P is h = h
 succeeded (Err e) P is h = let wrong : false ≡ true = is in cc
 
 -- a new name goes last
-pub shapes-insert : {S : Type 0} (m : HashMap (List ℕ) (List (List ℕ)) S) (name : List ℕ) (columns : List (List ℕ))
+pub shapes-insert : {S : Type 0} (m : HashMap (List ℕ) (List ColumnDef) S) (name : List ℕ) (columns : List ColumnDef)
     → list_any (λ (s : Shape). bytes_eq s.name name) (shapes_of m.entries) ≡ false
     → shapes_of (insert_entry bytes_eq m.entries name columns) ≡ shapes_of m.entries ++ record { name = name; columns = columns } ∷ []
 shapes-insert m name columns new =

@@ -10,9 +10,10 @@ use Rattle.bq_text.specs.Blank.{is_blank, without_blanks_before, trimmed}
 use Rattle.bq_text.specs.Word.{is_word, begins_word, word_of, behind_word}
 use Rattle.bq_text.specs.Key.{key_of}
 use Rattle.bq_text.specs.Value.{value_of}
-use Rattle.bq_schema.specs.Streams.{Shape, stream_number, shape_at}
+use Rattle.bq_schema.specs.Streams.{Shape, stream_number, shape_at, lie_within}
+use Rattle.bq_schema.specs.declared.column.ColumnDef.{ColumnDef}
 use Rattle.bq_schema.specs.declared.row_error.RowError.{RowError}
-use Rattle.bq_schema.specs.declared.row_error.RowError.TheVariants.{Syntax, Limit, UnknownStream, Arity, Value}
+use Rattle.bq_schema.specs.declared.row_error.RowError.TheVariants.{Syntax, Limit, UnknownStream, Arity, Value, Domain}
 
 -- a comma
 abbrev pub is_comma : ℕ → Bool
@@ -49,19 +50,19 @@ pub record Entry : Type 0 where
 abbrev pub entry : ℕ → List ℤ → Entry
 entry stream values = record { stream = stream; values = values }
 
--- the row of this stream, where each field is a value
-abbrev pub entry_of : ℕ → Option (List ℤ) → Result Entry RowError
-entry_of stream None = Err Value
-entry_of stream (Some values) = Ok (entry stream values)
+-- the row of this stream, where each field is a value and lies in the domain of its column; a field that is no value is told first
+abbrev pub entry_of : ℕ → List ColumnDef → Option (List ℤ) → Result Entry RowError
+entry_of stream columns None = Err Value
+entry_of stream columns (Some values) = if lie_within columns values then Ok (entry stream values) else Err Domain
 
--- the row of this stream that the fields are, one for each of so many columns; a wrong number of fields is told before a field that is no value
-abbrev pub row_with : ℕ → ℕ → List (List ℕ) → Result Entry RowError
-row_with stream width fields = if length fields == width then entry_of stream (values_of fields) else Err Arity
+-- the row of this stream that the fields are, one for each of its columns; a wrong number of fields is told before what is wrong with one
+abbrev pub row_with : ℕ → List ColumnDef → List (List ℕ) → Result Entry RowError
+row_with stream columns fields = if length fields == length columns then entry_of stream columns (values_of fields) else Err Arity
 
 -- the row of the stream that was found
 abbrev pub row_for : List Shape → List (List ℕ) → Option ℕ → Result Entry RowError
 row_for streams fields None = Err UnknownStream
-row_for streams fields (Some stream) = row_with stream (length (shape_at streams stream).columns) fields
+row_for streams fields (Some stream) = row_with stream (shape_at streams stream).columns fields
 
 -- the row that a line is, or the first reason to refuse it
 unfoldable pub row_of : List Shape → List ℕ → Result Entry RowError

@@ -1,14 +1,15 @@
 //! All streams.
 ghost use Rattle.std.specs.Prelude.{◌≡◌, ◌≤◌, ◌<◌, [], length, not, nat_lt, is_some, if◌then◌else◌, IfOk, IfSome, IsTrue};
-ghost use Rattle.std.specs.List.{list_any};
+ghost use Rattle.std.specs.List.{All, list_any};
 ghost use Rattle.std.specs.Result.{result_map_both};
 ghost use Rattle.std.specs.Str.{bytes_eq};
-ghost use Rattle.bq_schema.specs.Streams.{IsCatalog, IsName, stream_number, column_place, shape_at, column_at, added, with_stream};
+ghost use Rattle.bq_schema.specs.Streams.{IsCatalog, IsName, HasEnds, KeepsDomains, stream_number, column_place, shape_at, column_at, domain_at, lie_within, added, with_stream};
 ghost use Rattle.bq_schema.specs.Rows.{entry, is_row_line, row_of};
 ghost use Rattle.bq_schema.specs.declared.row_error.RowError.TheVariants as errors;
 ghost use Rattle.bq_text.specs.Key as reserved;
 
-use crate::columns::{Columns, all_differ, checked, place_of_column};
+use crate::column::ColumnDef;
+use crate::columns::{Columns, checked, columns_differ, place_of_column};
 use crate::entries::{add_entry, columns_at, has_name, name_at, place_of_bytes, place_of_name};
 use crate::field::read_fields;
 use crate::row_error::RowError;
@@ -59,14 +60,16 @@ impl Catalog {
         self.streams.len() as u8
     }
 
-    /// Adds a stream with 1 to 8 columns behind the others, and gives its number. An error leaves the catalog as it was.
-    pub fn add_stream(&mut self, name: Name, columns: &[Name]) -> Result<u8, StreamError>
+    /// Adds a stream with 1 to 8 columns behind the others, and gives its number. Each domain has ends of at most 15 digits, the first
+    /// at most the second. An error leaves the catalog as it was.
+    pub fn add_stream(&mut self, name: Name, columns: &[ColumnDef]) -> Result<u8, StreamError>
         requires some { 0 < length columns.now }
         requires few { length columns.now ≤ 8 }
+        requires domains { All (λ c. HasEnds c.domain) columns.now }
         ensures result { result ≡ added self.old (record { name = name; columns = columns.now }) }
         ensures streams { self.new ≡ with_stream self.old (record { name = name; columns = columns.now }) }
     {
-        if self.has(&name) || !all_differ(columns) {
+        if self.has(&name) || !columns_differ(columns) {
             return Err(StreamError::Duplicate);
         }
         if self.is_full() {
@@ -116,7 +119,7 @@ impl Catalog {
         ensures place { result ≡ column_place (shape_at self.now stream).columns name.now }
         ensures inside { IfSome result (λ place. place < length (shape_at self.now stream).columns) }
     {
-        let place = place_of_column(self.columns(stream), name)?;
+        let place = place_of_column(self.columns(stream).as_slice(), name)?;
         Some(place as u8)
     }
 
@@ -127,7 +130,7 @@ impl Catalog {
         ensures some { 0 < result }
         ensures few { result ≤ 8 }
     {
-        self.columns(stream).len() as u8
+        self.columns(stream).as_slice().len() as u8
     }
 
     /// The name of the stream of this number.
@@ -144,8 +147,29 @@ impl Catalog {
         requires column { column < length (shape_at self.now stream).columns }
         ensures { result.now ≡ column_at (shape_at self.now stream).columns column }
     {
-        let columns = self.columns(stream);
-        &columns[usize::from(column)]
+        let columns = self.columns(stream).as_slice();
+        &columns[usize::from(column)].name
+    }
+
+    /// The least and the greatest value of a column of the stream of this number, where the column has a domain.
+    pub fn domain(&self, stream: u8, column: u8) -> Option<(i64, i64)>
+        requires stream { stream < length self.now }
+        requires column { column < length (shape_at self.now stream).columns }
+        ensures domain { result ≡ domain_at self.now stream column }
+        ensures ends { HasEnds result }
+    {
+        let columns = self.columns(stream).as_slice();
+        columns[usize::from(column)].domain
+    }
+
+    /// Whether each value of a row of the stream of this number lies in the domain of its column.
+    pub fn keeps(&self, stream: u8, row: &Row) -> bool
+        requires stream { stream < length self.now }
+        requires width { length row.now.items ≡ length (shape_at self.now stream).columns }
+        ensures value { result ≡ lie_within (shape_at self.now stream).columns row.now.items }
+        ensures domains { IsTrue result → KeepsDomains self.now stream row.now.items }
+    {
+        self.columns(stream).keep(row.as_slice())
     }
 
     /// Puts the row that a row line is into `row`, in place of what that holds, and gives the number of its stream. The line begins with
@@ -157,23 +181,25 @@ impl Catalog {
         ensures row { result_map_both (λ stream. entry stream row.new.items) (λ error. error) result ≡ row_of self.now line.now }
         ensures stream { IfOk result (λ stream. stream < length self.now) }
         ensures width { IfOk result (λ stream. length row.new.items ≡ length (shape_at self.now stream).columns) }
+        ensures domains { IfOk result (λ stream. KeepsDomains self.now stream row.new.items) }
     {
         let (word, fields) = split_fields(line);
         let Some(stream) = self.find_bytes(word) else {
             return Err(refusal_of(word));
         };
-        match read_fields(row, usize::from(self.width(stream)), fields) {
+        match read_fields(row, self.columns(stream), fields) {
             Ok(()) => Ok(stream),
             Err(error) => Err(error),
         }
     }
 
     // The columns of the stream of this number, 1 to 8.
-    fn columns(&self, stream: u8) -> &[Name]
+    fn columns(&self, stream: u8) -> &Columns
         requires { stream < length self.now }
         ensures columns { result.now ≡ (shape_at self.now stream).columns }
         ensures some { 0 < length result.now }
         ensures few { length result.now ≤ 8 }
+        ensures domains { All (λ c. HasEnds c.domain) result.now }
     {
         columns_at(&self.streams, usize::from(stream))
     }

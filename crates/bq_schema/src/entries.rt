@@ -33,11 +33,11 @@ pub fn name_at(streams: &IndexMap<Name, Columns>, place: usize) -> &Name
 }
 
 /// The columns of the stream at a place.
-pub fn columns_at(streams: &IndexMap<Name, Columns>, place: usize) -> &[Name]
+pub fn columns_at(streams: &IndexMap<Name, Columns>, place: usize) -> &Columns
     requires { place < index_map_len streams.now }
     ensures { result.now ≡ (shape_at (shapes_of streams.now.entries) place).columns }
 {
-    streams.get_index(place).unwrap().1.names()
+    streams.get_index(place).unwrap().1
 }
 
 /// The place of the stream that has these bytes as its name. It hashes nothing, since names are few and short.

@@ -1,12 +1,14 @@
 //! The fields of a row line.
-ghost use Rattle.std.specs.Prelude.{◌≡◌, ℕ, [], ◌∷◌, ◌≤◌, ◌<◌, length, IfOk, IfSome};
+ghost use Rattle.std.specs.Prelude.{◌≡◌, ℕ, [], ◌∷◌, ◌≤◌, ◌<◌, length, IfOk, IfSome, IsTrue};
 ghost use Rattle.std.specs.List.{slice_split, before_first};
 ghost use Rattle.std.specs.Result.{result_map_both};
 ghost use Rattle.bq_text.specs.Blank.{trimmed};
 ghost use Rattle.bq_text.specs.Lines.{parts_behind};
 ghost use Rattle.bq_text.specs.Value.{value_of};
 ghost use Rattle.bq_schema.specs.Rows.{is_comma, entry, row_with};
+ghost use Rattle.bq_schema.specs.Streams.{lie_within};
 
+use crate::columns::Columns;
 use crate::row_error::RowError;
 use crate::row_line::cut_behind;
 use bq_model::Row;
@@ -27,13 +29,15 @@ fn read_field(text: &[u8]) -> (Option<i64>, Option<&[u8]>)
     }
 }
 
-/// Puts the values of the fields of a text into a row in place of what it holds, one for each of at most 8 columns. Each field is read
-/// once. Where the fields are no row, the row is left with any values.
-pub fn read_fields(row: &mut Row, width: usize, fields: Option<&[u8]>) -> Result<(), RowError>
-    requires width { width ≤ 8 }
-    ensures row { (stream : ℕ) → result_map_both (λ done. entry stream row.new.items) (λ error. error) result ≡ row_with stream width (parts_behind 44 fields.entry) }
-    ensures width { IfOk result (λ done. length row.new.items ≡ width) }
+/// Puts the values of the fields of a text into a row in place of what it holds, one for each of at most 8 columns, in their domains.
+/// Each field is read once. Where the fields are no row, the row is left with any values.
+pub fn read_fields(row: &mut Row, columns: &Columns, fields: Option<&[u8]>) -> Result<(), RowError>
+    requires width { length columns.now ≤ 8 }
+    ensures row { (stream : ℕ) → result_map_both (λ done. entry stream row.new.items) (λ error. error) result ≡ row_with stream columns.now (parts_behind 44 fields.entry) }
+    ensures width { IfOk result (λ done. length row.new.items ≡ length columns.now) }
+    ensures domains { IfOk result (λ done. IsTrue (lie_within columns.now row.new.items)) }
 {
+    let width = columns.as_slice().len();
     row.clear();
     let mut all_values = true;
     let mut rest = fields;
@@ -51,6 +55,9 @@ pub fn read_fields(row: &mut Row, width: usize, fields: Option<&[u8]>) -> Result
     }
     if !all_values {
         return Err(RowError::Value);
+    }
+    if !columns.keep(row.as_slice()) {
+        return Err(RowError::Domain);
     }
     Ok(())
 }

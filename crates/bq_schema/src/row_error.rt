@@ -19,4 +19,7 @@ pub enum RowError {
     /// A field is no integer of 64 bits.
     #[error("a field is an integer of 64 bits")]
     Value,
+    /// Every field is such an integer, and one lies outside the domain of its column.
+    #[error("a value lies in the domain of its column")]
+    Domain,
 }

@@ -1,24 +1,36 @@
 //! Scripts as text.
 ghost use Rattle.std.specs.Prelude.{◌≡◌, ◌<◌, length};
+ghost use Rattle.std.specs.List.{slice_index_or};
 ghost use Rattle.bq_io.specs.Sink.{Writes};
-ghost use Rattle.bq_schema.specs.Streams.{shape_at};
+ghost use Rattle.bq_schema.specs.Streams.{no_column, shape_at};
 ghost use Rattle.bq_script.specs.Texts.{line_text, stream_statement, streams_text, script_text};
 
 use crate::script::Script;
 use arrayvec::ArrayVec;
 use bq_io::{Sink, WriteFault, write_all};
 use bq_parser::{Statement, print};
-use bq_schema::Catalog;
-use bq_text::Name;
+use bq_schema::{Catalog, ColumnDef};
+
+// A column of the stream of this number, by its place.
+fn column_of(catalog: &Catalog, number: u8, column: u8) -> ColumnDef
+    requires stream { number < length catalog.now }
+    requires column { column < length (shape_at catalog.now number).columns }
+    ensures { result ≡ slice_index_or (shape_at catalog.now number).columns column no_column }
+{
+    ColumnDef {
+        name: *catalog.column_name(number, column),
+        domain: catalog.domain(number, column),
+    }
+}
 
 // The columns of the stream of this number.
-fn columns_of(catalog: &Catalog, number: u8) -> ArrayVec<Name, 8>
+fn columns_of(catalog: &Catalog, number: u8) -> ArrayVec<ColumnDef, 8>
     requires { number < length catalog.now }
     ensures { result.items ≡ (shape_at catalog.now number).columns }
 {
     let mut columns = ArrayVec::new();
     for column in 0..catalog.width(number) {
-        columns.push(*catalog.column_name(number, column));
+        columns.push(column_of(catalog, number, column));
     }
     columns
 }

@@ -8,10 +8,10 @@ use std::test::Fail;
 
 /// A script, with one line behind its query.
 const SCRIPT: &[u8] =
-    b"-- one\n create stream S(a);\r\n\nCREATE QUERY q AS SELECT S.a FROM S;\n \nend 1\r\n--";
+    b"-- one\n create stream S(a in +0 . .05, b);\r\n\nCREATE QUERY q AS SELECT S.a FROM S;\n \nend 1\r\n--";
 
 /// Its statements in printed form.
-const PRINTED: &[u8] = b"CREATE STREAM S (a)\nCREATE QUERY q AS SELECT S.a FROM S\n";
+const PRINTED: &[u8] = b"CREATE STREAM S (a IN 0..5, b)\nCREATE QUERY q AS SELECT S.a FROM S\n";
 
 #[test]
 fn a_script_is_read_and_printed(rt: HostRuntime) -> Result<(), Fail> {

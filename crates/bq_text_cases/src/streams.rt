@@ -1,6 +1,8 @@
 //! What a text says over the streams that the cases before it created.
 ghost use Rattle.std.specs.Prelude.{◌≡◌, ◌≤◌, ◌<◌, IsTrue, None, length};
 ghost use Rattle.bq_schema.specs.Rows.{is_row_line};
+ghost use Rattle.std.specs.List.{All};
+ghost use Rattle.bq_schema.specs.Streams.{HasEnds};
 ghost use Rattle.bq_parser.specs.Grammar.{IsWhole};
 ghost use Rattle.bq_parser.specs.Limits.{limit_of};
 ghost use Rattle.bq_parser.specs.Resolution.{IsTaken};
@@ -10,7 +12,7 @@ use crate::texts::show_refused;
 use bq_io::{Sink, write_all};
 use bq_model::Row;
 use bq_parser::{LineKind, SelectAst, Statement, classify, parse, print_query, resolve};
-use bq_schema::Catalog;
+use bq_schema::{Catalog, ColumnDef};
 use bq_text::Name;
 use std::alloc::Global;
 
@@ -19,11 +21,12 @@ fn show_added<O: Sink>(
     alloc: Global,
     catalog: &mut Catalog,
     name: Name,
-    columns: &[Name],
+    columns: &[ColumnDef],
     out: &mut O,
 ) -> Result<(), Fault>
     requires some { 0 < length columns.now }
     requires few { length columns.now ≤ 8 }
+    requires domains { All (λ c. HasEnds c.domain) columns.now }
 {
     let text = match catalog.add_stream(name, columns) {
         Ok(number) => format!(in alloc; "stream {number}")?,

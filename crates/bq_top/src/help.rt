@@ -11,6 +11,9 @@ bq answers select-project-join queries over endless streams, in fixed memory.
 bq run [--rows N]  read a script and rows on standard input, and answer each
                    line at once; at most N rows are taken:
                    bq run < examples/temperature-alert.bq
+bq feeds [--rows N] FILE FILE ..
+                   the same over 2 to 8 files or named pipes, a line of each
+                   in turn:                  bq feeds queries.bq rows.pipe
 bq certify         read a script of one query, and write it with a certificate
                    of the decision on it:    bq certify < script > certified
 bq check           read such a text, and write what its certificate shows:
@@ -20,10 +23,20 @@ bq load N          answer N generated rows, and write one line of sums:
 bq --help          write this text; also -h
 bq --version       write the version; also -V
 
+The lines of a script; keywords are read in any case of letters:
+  CREATE STREAM S (a IN 0..99, b)   columns of integers, a with a domain
+  CREATE QUERY q AS SELECT DISTINCT S.a FROM S, T WHERE S.b < T.c AND S.b > 1
+                                    DISTINCT and WHERE may be left out;
+                                    compared by < = > <= >= <>
+  EXPLAIN q                         how q runs
+  DROP QUERY q
+  S,1,2                             a row of S: all new answers are written
+What cannot be taken is answered by error, the number of the line and a word.
+
 Status 0  done
        1  certify or check refuses a line, or the certificate has a fault
        2  the words are none of these forms; nothing was read or written
-       4  the input failed
+       4  the input failed, or one of the feeds
        5  the output failed
        6  no memory was found
        7  the input has more bytes than can be counted, 2^64 - 1 or more

@@ -1,5 +1,5 @@
 use Rattle.std.proofs.Common.{◌≡◌, ◌+◌, ◌≤◌, take, length}
-use Rattle.bq_parser.specs.DraftLimits.{integers_in}
+use Rattle.bq_parser.specs.Limits.{integers_in}
 use Rattle.bq_parser.proofs.limits.integers_named.Given as goal
 
 abbrev pub invariant-loop-atom : goal.invariant-loop-atom

@@ -10,6 +10,7 @@ invariant-loop-rest l = record {
   told : values_of (parts_behind 44 l.fields) ≡ cond l.all_values (option_map (λ vs. l.row.items ++ vs) (values_of (parts_behind 44 l.rest))) None;
   count : length l.row.items + length (parts_behind 44 l.rest) ≡ length (parts_behind 44 l.fields);
   few : length l.row.items ≤ l.width;
+  width : l.width ≡ length l.columns;
 }
 
 abbrev pub decreases-loop-rest : goal.decreases-loop-rest

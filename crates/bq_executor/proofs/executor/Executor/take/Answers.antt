@@ -8,22 +8,22 @@ use Rattle.bq_executor.proofs.executor.Executor.take.Goals as goal
 pub returns-then-not-has_waiting-clause-waits : goal.returns-then-not-has_waiting-clause-waits
 returns-then-not-has_waiting-clause-waits g c =
     let e : ExecutorValue = record { query = c.self.inside.query; plan = c.self.inside.plan; extent = c.self.inside.extent; given = c.self.inside.given; table = c.self.inside.table } in
-    (refused_took_as e c.args.self.now c.self.view_is c.self.invariant.0 c.args.pool.now c.requires.ready (arrival c.args.stream c.args.row.now.items) (c.if-not-has_waiting.ensures refl) (c.if-not-passes.ensures refl)).waits
+    (refused_took_as e c.args.self.now c.self.view_is c.self.invariant.0 c.args.pool.now c.requires.ready (arrival c.args.stream c.args.row.now.items) c.requires.keeps (c.if-not-has_waiting.ensures refl) (c.if-not-passes.ensures refl)).waits
 
 pub returns-then-not-has_waiting-clause-cells : goal.returns-then-not-has_waiting-clause-cells
 returns-then-not-has_waiting-clause-cells g c =
     let e : ExecutorValue = record { query = c.self.inside.query; plan = c.self.inside.plan; extent = c.self.inside.extent; given = c.self.inside.given; table = c.self.inside.table } in
-    (refused_took_as e c.args.self.now c.self.view_is c.self.invariant.0 c.args.pool.now c.requires.ready (arrival c.args.stream c.args.row.now.items) (c.if-not-has_waiting.ensures refl) (c.if-not-passes.ensures refl)).cells
+    (refused_took_as e c.args.self.now c.self.view_is c.self.invariant.0 c.args.pool.now c.requires.ready (arrival c.args.stream c.args.row.now.items) c.requires.keeps (c.if-not-has_waiting.ensures refl) (c.if-not-passes.ensures refl)).cells
 
 pub returns-then-not-has_waiting-clause-tuples : goal.returns-then-not-has_waiting-clause-tuples
 returns-then-not-has_waiting-clause-tuples g c =
     let e : ExecutorValue = record { query = c.self.inside.query; plan = c.self.inside.plan; extent = c.self.inside.extent; given = c.self.inside.given; table = c.self.inside.table } in
-    (refused_took_as e c.args.self.now c.self.view_is c.self.invariant.0 c.args.pool.now c.requires.ready (arrival c.args.stream c.args.row.now.items) (c.if-not-has_waiting.ensures refl) (c.if-not-passes.ensures refl)).tuples
+    (refused_took_as e c.args.self.now c.self.view_is c.self.invariant.0 c.args.pool.now c.requires.ready (arrival c.args.stream c.args.row.now.items) c.requires.keeps (c.if-not-has_waiting.ensures refl) (c.if-not-passes.ensures refl)).tuples
 
 pub returns-then-not-has_waiting-clause-history : goal.returns-then-not-has_waiting-clause-history
 returns-then-not-has_waiting-clause-history g c =
     let e : ExecutorValue = record { query = c.self.inside.query; plan = c.self.inside.plan; extent = c.self.inside.extent; given = c.self.inside.given; table = c.self.inside.table } in
-    (refused_took_as e c.args.self.now c.self.view_is c.self.invariant.0 c.args.pool.now c.requires.ready (arrival c.args.stream c.args.row.now.items) (c.if-not-has_waiting.ensures refl) (c.if-not-passes.ensures refl)).history
+    (refused_took_as e c.args.self.now c.self.view_is c.self.invariant.0 c.args.pool.now c.requires.ready (arrival c.args.stream c.args.row.now.items) c.requires.keeps (c.if-not-has_waiting.ensures refl) (c.if-not-passes.ensures refl)).history
 
 pub returns-then-not-has_waiting-clause-none : goal.returns-then-not-has_waiting-clause-none
 returns-then-not-has_waiting-clause-none g c = λ no.

@@ -1,5 +1,6 @@
 use Rattle.std.proofs.Common.{◌≡◌, ◌∙◌, ◌+◌, ◌^◌, ◌==◌, ℤ, List, min, true, ap, sym, subst}
 use Rattle.std.specs.List.{list_any}
+use Rattle.bq_model.specs.Domains.{RowKeeps}
 use Rattle.bq_model.specs.Merge.{merged_table}
 use Rattle.bq_laws.specs.Growth.{occurs}
 use Rattle.bq_answers.specs.Entries.{TableValue, waiting_of}
@@ -84,9 +85,10 @@ returns-clause-history g c =
     let e : ExecutorValue = record { query = c.self.inside.query; plan = c.self.inside.plan; extent = c.self.inside.extent; given = c.self.inside.given; table = c.self.inside.table } in
     let ready : IsReady e c.args.pool.now = subst (λ (x : ExecutorValue). IsReady x c.args.pool.now) (sym c.self.view_is) c.requires.ready in
     let r = arrival c.args.stream c.args.row.now.items in
+    let keeps : RowKeeps e.query r = subst (λ (x : ExecutorValue). RowKeeps x.query r) (sym c.self.view_is) c.requires.keeps in
     let table = table_later e c.self.invariant.0 c.args.pool.now ready r c.self.invariant.0.ascends c.distinct.result c.distinct.ensures c.clear.new.table c.arrive.new.table c.clear.ensures c.arrive.ensures.table in
     subst (λ (x : ExecutorValue). TookRow x c.args.pool.now r (let o : ExecutorValue = record { query = c.self.inside.query; plan = c.self.inside.plan; extent = c.self.inside.extent; given = c.self.inside.given + 1; table = c.arrive.new.table } in o) c.arrive.new.pool) c.self.view_is
-    (subst (λ (t : TableValue). TookRow e c.args.pool.now r (let o : ExecutorValue = record { query = c.self.inside.query; plan = c.self.inside.plan; extent = c.self.inside.extent; given = c.self.inside.given + 1; table = t } in o) c.arrive.new.pool) (sym table) (history e c.self.invariant.0 c.args.pool.now ready r c.self.invariant.0.ascends c.arrive.new.pool c.arrive.ensures.pool))
+    (subst (λ (t : TableValue). TookRow e c.args.pool.now r (let o : ExecutorValue = record { query = c.self.inside.query; plan = c.self.inside.plan; extent = c.self.inside.extent; given = c.self.inside.given + 1; table = t } in o) c.arrive.new.pool) (sym table) (history e c.self.invariant.0 c.args.pool.now ready r c.self.invariant.0.ascends c.arrive.new.pool c.arrive.ensures.pool keeps))
 
 pub returns-clause-none : goal.returns-clause-none
 returns-clause-none g c = λ refused.
