@@ -7,11 +7,12 @@ use Rattle.bq_model.specs.Plan.{IsPlanned}
 use Rattle.bq_model.specs.Plan as planned
 use Rattle.bq_necessity.specs.Plain.{HasNoDomains, IsPlain}
 use Rattle.bq_necessity.specs.States.{Evaluator, IsRight, HasFewStates, NeedsStates}
+use Rattle.bq_necessity.specs.Soft.{no_distinct, CountedVerdictIsExact}
 use Rattle.bq_necessity.specs.Accepted.{FewStatesDecide, VerdictIsExact, NoneLacksPlan}
 use Rattle.bq_necessity.proofs.Possible.{Possible, possible, followed}
 use Rattle.bq_necessity.proofs.FewStates.{accepted-has-states, told-are-polynomial, polynomially-many-are-few}
 use Rattle.bq_necessity.proofs.SomePlan.{some_plan}
-use Rattle.bq_necessity.proofs.Refused.{refused-needs-states}
+use Rattle.bq_necessity.proofs.Refused.{refused-needs-states, telling-needs-states}
 
 -- an evaluator that is right and has few states
 abbrev pub HasRight : QueryValue → Type 0
@@ -55,3 +56,14 @@ verdict-is-exact q within plain r violation = (from r violation, into r violatio
     into : (r : Option Failure) → IsViolation q r → r ≢ None → NeedsStates q
     into None v n = absurd (n refl)
     into (Some f) v n = refused-needs-states q within plain f v
+
+pub counted-verdict-is-exact : CountedVerdictIsExact
+counted-verdict-is-exact q within none d r violation = (from r violation, into r violation)
+  where
+    from : (r : Option Failure) → IsViolation q r → NeedsStates q → r ≢ None
+    from None v n e = some-right q within none v (λ (h : HasRight q). n h.0 h.1 h.2)
+    from (Some f) v n e = cc
+
+    into : (r : Option Failure) → IsViolation q r → r ≢ None → NeedsStates q
+    into None v n = absurd (n refl)
+    into (Some f) v n = telling-needs-states q within none f v (no_distinct d)

@@ -1,6 +1,7 @@
 pub mod Bits
 pub mod Pigeons
 pub mod Separated
+pub mod Formed
 pub mod Tallies
 pub mod OneLong
 pub mod Plainly
@@ -9,7 +10,11 @@ pub mod Mixing
 pub mod Ranges
 pub mod Families
 pub mod Spreading
+pub mod Movers
+pub mod Crossing
+pub mod Counted
 pub mod Refusals
+pub mod SoftRefused
 pub mod Parting
 pub mod TwoLinks
 pub mod Sets
@@ -21,6 +26,7 @@ pub mod HotUnbounded
 pub mod HotCounted
 pub mod WorkedRefusals
 pub mod Premises
+pub mod RowsChanged
 pub mod Fitted
 pub mod Pairing
 pub mod Growth
@@ -35,4 +41,9 @@ pub mod Naming
 pub mod SomeDims
 pub mod SomePlan
 pub mod Exact
+pub mod Written
+pub mod Sides
+pub mod Skipping
+pub mod Closed
+pub mod Loose
 pub mod CatalogExact

@@ -9,7 +9,7 @@ use Rattle.bq_model.proofs.Has.{Has, first, later, Has-nil, Has-from_contains, C
 use Rattle.bq_model.proofs.Unique.{none, more}
 use Rattle.bq_model.proofs.Split.{pairs_from}
 use Rattle.bq_model.proofs.Bounded.{unbounded_over_all}
-use Rattle.bq_laws.proofs.Tests.{all_at, and-right, or-cases}
+use Rattle.bq_laws.proofs.Tests.{all_at, and-left, and-right, or-cases}
 use Rattle.bq_laws.proofs.OnePartFits.{has_cases}
 use Rattle.bq_model.specs.declared.atom.Attr.{Attr}
 use Rattle.bq_model.specs.declared.atom.Element.TheVariants as element
@@ -39,9 +39,24 @@ earlier n d c b l h = elim (or-cases (nat_lt n 1) _ h) [
   ]
 ]
 
-only_one : (n : ℕ) (s t : List Sign) → slice_get (s ∷ []) n ≡ Some t → s ≡ t
-only_one zero s t e = cc
-only_one (suc n) s t e = absurd cc
+first_part : (n : ℕ) (d c : Condition) (b : Attr) → 0 < n → failure_lt record { part = n; condition = d; attr = b } record { part = 1; condition = c; attr = s_a } ≡ true → n - 1 ≡ 0
+first_part n d c b l h = elim (or-cases (nat_lt n 1) _ h) [
+  | inl e ↦ absurd (grind (arith, nat_tests, e, l))
+  | inr e ↦ (let f : n ≡ 1 = grind (arith, nat_tests, and-left (nat_eq n 1) _ e) in omega (arith, f))
+]
+
+first_is : (n : ℕ) (s t : List Sign) (rest : List (List Sign)) → n ≡ 0 → slice_get (s ∷ rest) n ≡ Some t → s ≡ t
+first_is zero s t rest e f = cc
+first_is (suc n) s t rest e f = absurd cc
+
+-- the first of the parts breaks this condition, and none before it
+pub refused-first : (q : QueryValue) (s : List Sign) (rest : List (List Sign)) → AreParts q (s ∷ rest) → (c : Condition) → is_filter q ≡ false → Breaks q s c s_a
+    → ((d : Condition) → condition_lt d c ≡ true → (b : Attr) → Breaks q s d b → ⊥) → IsViolation q (Some record { part = 1; condition = c; attr = s_a })
+refused-first q s rest are c joins h f = Violation.first joins (s ∷ rest) are (
+  record { signs = s; number = omega arith; at = refl; breaks = h },
+  λ g l k. f g.condition (earlier g.part g.condition c g.attr k.number l) g.attr
+      (subst (λ t. Breaks q t g.condition g.attr) (sym (first_is (g.part - 1) s k.signs rest (first_part g.part g.condition c g.attr k.number l) k.at)) k.breaks),
+)
 
 module _ (q : QueryValue) (s : List Sign) (p : IsPart q s) (alone : (t : List Sign) → IsPart q t → s ≡ t) where
   is_part : (t : List Sign) → Has (s ∷ []) t → IsPart q t
@@ -58,11 +73,7 @@ module _ (q : QueryValue) (s : List Sign) (p : IsPart q s) (alone : (t : List Si
   -- the one part breaks this condition, and none before it
   pub refused-by : (c : Condition) → is_filter q ≡ false → Breaks q s c s_a → ((d : Condition) → condition_lt d c ≡ true → (b : Attr) → Breaks q s d b → ⊥)
       → IsViolation q (Some record { part = 1; condition = c; attr = s_a })
-  refused-by c joins h f = Violation.first joins (s ∷ []) are_parts (
-    record { signs = s; number = omega arith; at = refl; breaks = h },
-    λ g l k. f g.condition (earlier g.part g.condition c g.attr k.number l) g.attr
-        (subst (λ t. Breaks q t g.condition g.attr) (sym (only_one (g.part - 1) s k.signs k.at)) k.breaks),
-  )
+  refused-by c joins h f = refused-first q s [] are_parts c joins h f
 
 module _ (q : QueryValue) (s : List Sign) (p : IsPart q s) (none : HasNoDomains q) (fives : consts_of q.atoms ≡ pos 5 ∷ []) where
   five : (k : ℤ) → Contains (consts_of q.atoms) k → pos 5 ≡ k

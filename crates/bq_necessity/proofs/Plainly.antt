@@ -1,5 +1,5 @@
 -- What a plain query has: pairs of one stream alone, ends that are its constants, and no domain to keep to.
-use Rattle.std.proofs.Common.{◌≡◌, inl, inr, List, [], ◌∷◌, ◌++◌, map, filter, cond, Bool, true, false, not, ◌||◌, nat_eq, Contains, ap, ◌∙◌, subst, arith, append-nil, ℤ}
+use Rattle.std.proofs.Common.{◌≡◌, ◌⊎◌, inl, inr, List, [], ◌∷◌, ◌++◌, map, filter, cond, Bool, true, false, not, ◌||◌, nat_eq, Contains, refl, ap, ◌∙◌, subst, arith, append-nil, ℤ}
 use Rattle.std.proofs.lemmas.List.Elements.{All-contains}
 use Rattle.std.specs.List.{flat_map, list_all}
 use Rattle.std.specs.Prelude.{IsFalse}
@@ -18,7 +18,7 @@ use Rattle.bq_model.specs.Laws.{ends_of}
 use Rattle.bq_model.specs.Parts.{pairs, pairs_among, pair_of, soft_pair, same_stream}
 use Rattle.bq_model.specs.Meaning.{Arrival, by_column}
 use Rattle.bq_model.specs.Domains.{RowKeeps, RowsKeep}
-use Rattle.bq_laws.proofs.Tests.{filter-passes}
+use Rattle.bq_laws.proofs.Tests.{filter-passes, not_both}
 use Rattle.bq_laws.proofs.Keeping.{rows-keep}
 use Rattle.bq_laws.proofs.PlanTests.{all-true, not-true}
 use Rattle.bq_necessity.specs.Plain.{HasNoDomains, IsPlain}
@@ -44,21 +44,32 @@ among-local (a ∷ xs) ks p h =
       | inr g ↦ among-local xs ks p g
     ]
 
--- a comparison that is not soft names no pair
-no-soft_pair : (t : Atom) (p : Pair) → IsFalse (is_soft t.op) → Has (soft_pair t) p → ⊥
-no-soft_pair t p hard h = by (is_soft t.op) hard h
+-- a soft comparison names a pair of its sides
+soft_sides : (t : Atom) (p : Pair) → Has (soft_pair t) p → (is_soft t.op ≡ true) × Has (pair_of t.left t.right) p
+soft_sides t p h = by (is_soft t.op) refl h
   where
-    by : (b : Bool) → b ≡ false → Has (cond b (pair_of t.left t.right) []) p → ⊥
-    by true e h = absurd cc
+    by : (b : Bool) → is_soft t.op ≡ b → Has (cond b (pair_of t.left t.right) []) p → (is_soft t.op ≡ true) × Has (pair_of t.left t.right) p
+    by true e h = (e, h)
     by false e h = elim h [ ]
 
-pub pair-local : (q : QueryValue) → IsPlain q → (p : Pair) → Has (pairs q) p → IsLocal p.left p.right
+-- a pair is of one stream, or of the sides of a soft comparison
+pub pair_cases : (q : QueryValue) (p : Pair) → Has (pairs q) p
+    → IsLocal p.left p.right ⊎ ((t : Atom) × Has q.atoms t × Has (pair_of t.left t.right) p × (is_soft t.op ≡ true))
 unfolding pairs
-pair-local q plain p h = elim (Has-append_cases (flat_map soft_pair q.atoms) (pairs_among (attrs_of q.atoms) (consts_of q.atoms)) p (once_has _ p h)) [
+pair_cases q p h = elim (Has-append_cases (flat_map soft_pair q.atoms) (pairs_among (attrs_of q.atoms) (consts_of q.atoms)) p (once_has _ p h)) [
   | inl k ↦ (
       let r : (t : Atom) × Has q.atoms t × Has (soft_pair t) p = Has-flat_map_from soft_pair q.atoms p k in
-      absurd (no-soft_pair r.0 p (All-contains (λ (t : Atom). IsFalse (is_soft t.op)) q.atoms r.0 plain.hard (Contains-from_has q.atoms r.0 r.1)) r.2))
-  | inr k ↦ among-local (attrs_of q.atoms) (consts_of q.atoms) p k
+      let o = soft_sides r.0 p r.2 in
+      inr (r.0, r.1, o.1, o.0))
+  | inr k ↦ inl (among-local (attrs_of q.atoms) (consts_of q.atoms) p k)
+]
+
+pub pair-local : (q : QueryValue) → IsPlain q → (p : Pair) → Has (pairs q) p → IsLocal p.left p.right
+pair-local q plain p h = elim (pair_cases q p h) [
+  | inl l ↦ l
+  | inr r ↦ (
+      let hard : is_soft r.0.op ≡ false = All-contains (λ (t : Atom). IsFalse (is_soft t.op)) q.atoms r.0 plain.hard (Contains-from_has q.atoms r.0 r.1) in
+      absurd (not_both (is_soft r.0.op) r.3 hard))
 ]
 
 -- what holds of the constants holds of the ends

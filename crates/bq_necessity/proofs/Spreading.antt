@@ -15,7 +15,7 @@ use Rattle.bq_model.specs.Parts.{InPart, IsPart}
 use Rattle.bq_model.specs.Order.{IsBounded}
 use Rattle.bq_model.specs.Laws.{ends_of}
 
-raised_size : (c z : ℤ) (t : ℕ) → nat_abs (raised c t z) ≤ nat_abs z + t
+pub raised_size : (c z : ℤ) (t : ℕ) → nat_abs (raised c t z) ≤ nat_abs z + t
 unfolding raised
 raised_size c z t = by (int_lt c z)
   where
@@ -23,7 +23,7 @@ raised_size c z t = by (int_lt c z)
     by true = omega (arith, ints)
     by false = omega (arith, ints)
 
-lowered_size : (c z : ℤ) (t : ℕ) → nat_abs (lowered c t z) ≤ nat_abs z + t
+pub lowered_size : (c z : ℤ) (t : ℕ) → nat_abs (lowered c t z) ≤ nat_abs z + t
 unfolding lowered
 lowered_size c z t = by (int_lt z c)
   where

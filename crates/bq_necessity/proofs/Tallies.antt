@@ -1,12 +1,13 @@
 -- How often a tuple has been answered, and what it means that two histories are answered alike.
 use Rattle.std.proofs.Common.{◌≡◌, ℕ, ◌+◌, min, List, [], ◌∷◌, ◌++◌, cond, Bool, true, false, refl, sym, ap, ◌∙◌, arith, ℤ}
-use Rattle.bq_model.specs.Query.{QueryValue, IsWithinLimits}
+use Rattle.bq_model.specs.Query.{QueryValue}
 use Rattle.bq_model.specs.Meaning.{Arrival, answers, new_answers}
 use Rattle.bq_laws.specs.Growth.{occurs, answered}
 use Rattle.bq_laws.proofs.Counts.{times}
 use Rattle.bq_laws.proofs.Interleaving.{appended, ended, along_plain, along_distinct}
-use Rattle.bq_laws.proofs.Queries.{IsQuery, query_within}
+use Rattle.bq_laws.proofs.Queries.{IsQuery}
 use Rattle.bq_necessity.specs.States.{AnsweredAlike}
+use Rattle.bq_necessity.proofs.Formed.{IsFormed, query_formed}
 
 -- a number, or with DISTINCT whether it is not 0
 abbrev pub counted : Bool → ℕ → ℕ
@@ -35,8 +36,8 @@ alike-answered q t (r ∷ later) g h a =
     omega (arith, f, i)
 
 -- so their tallies differ later by what they differ now
-pub tallies-alike : (q : QueryValue) → IsWithinLimits q → (g h later : List Arrival) (t : List ℤ) → AnsweredAlike q g h
+pub tallies-alike : (q : QueryValue) → IsFormed q → (g h later : List Arrival) (t : List ℤ) → AnsweredAlike q g h
     → tally q t (g ++ later) + tally q t h ≡ tally q t (h ++ later) + tally q t g
 tallies-alike q within g h later t a =
-    let well : IsQuery q = query_within q within in
+    let well : IsQuery q = query_formed q within in
     omega (arith, along q well g later t, along q well h later t, alike-answered q t later g h a)

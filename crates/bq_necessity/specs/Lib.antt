@@ -1,7 +1,11 @@
 pub mod CatalogExact
 pub mod Accepted
 pub mod Plain
+pub mod Soft
+pub mod Within
 pub mod States
 pub mod Cases
 pub mod Premises
 pub mod Catalog
+pub mod Closed
+pub mod Loose

@@ -1,0 +1,27 @@
+-- Which refusals of queries with soft comparisons are exact.
+use Rattle.std.specs.Prelude.{◌≡◌, ◌≢◌, ◌↔◌, All, IsFalse}
+use Rattle.std.specs.declared.option.Option.{Option}
+use Rattle.std.specs.declared.option.Option.TheVariants.{None, Some}
+use Rattle.bq_model.specs.declared.condition.Condition.TheVariants.{C1}
+use Rattle.bq_model.specs.Query.{QueryValue, IsWithinLimits, is_soft}
+use Rattle.bq_model.specs.Violation.{Failure, IsViolation}
+use Rattle.bq_necessity.specs.Plain.{HasNoDomains}
+use Rattle.bq_necessity.specs.States.{NeedsStates}
+
+-- no comparison is soft, or there is no DISTINCT, or the refusal names a selected column
+pub data RefusalTells (q : QueryValue) (f : Failure) : Type 0 where
+  no_soft : All (λ t. IsFalse (is_soft t.op)) q.atoms → RefusalTells q f
+  no_distinct : IsFalse q.distinct → RefusalTells q f
+  by_selected : f.condition ≡ C1 → RefusalTells q f
+
+-- then a query without domains that is refused has no evaluator of few states
+abbrev pub TellingNeedsStates : Type 0
+TellingNeedsStates =
+    (q : QueryValue) → IsWithinLimits q → HasNoDomains q → (f : Failure) → IsViolation q (Some f) → RefusalTells q f → NeedsStates q
+
+-- without DISTINCT and domains no evaluator that is right has few states, exactly where a condition is violated
+abbrev pub CountedVerdictIsExact : Type 0
+CountedVerdictIsExact =
+    (q : QueryValue) → IsWithinLimits q → HasNoDomains q → IsFalse q.distinct
+    → (violation : Option Failure) → IsViolation q violation
+    → NeedsStates q ↔ (violation ≢ None)

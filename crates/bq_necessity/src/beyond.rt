@@ -1,0 +1,50 @@
+//! What is known of refusals beyond plain queries: soft comparisons without DISTINCT, and domains.
+ghost use Rattle.bq_necessity.specs.Closed.{DomainsMayMislead};
+ghost use Rattle.bq_necessity.specs.Loose.{SoftMayMislead};
+ghost use Rattle.bq_necessity.specs.Soft.{TellingNeedsStates, CountedVerdictIsExact};
+ghost use Rattle.bq_necessity.specs.Within.{WrittenIsAlike, WrittenDecides, DomainsNeedStates, CatalogDomainsNeedStates, DomainVerdictIsExact};
+
+/// An evaluator that is right on a query without domains that is refused is in at least 2^n states after n rows, where no comparison is soft, there is no DISTINCT, or the refusal names a selected column.
+pub fn telling_needs_states()
+    ensures { TellingNeedsStates }
+{}
+
+/// No evaluator that is right on a query without DISTINCT and domains has few states, exactly where a condition is violated.
+pub fn counted_verdict_is_exact()
+    ensures { CountedVerdictIsExact }
+{}
+
+/// On rows within the domains of a query, the query with its domains written as comparisons answers the same.
+pub fn written_is_alike()
+    ensures { WrittenIsAlike }
+{}
+
+/// A query needs many states on rows within its domains, exactly where the written one needs them on all rows.
+pub fn written_decides()
+    ensures { WrittenDecides }
+{}
+
+/// Where the written query is refused, and that tells, the query needs many states on rows within its domains.
+pub fn domains_need_states()
+    ensures { DomainsNeedStates }
+{}
+
+/// The same of evaluators that are right only on rows within the domains as a catalog has them, of so many values for each stream.
+pub fn catalog_domains_need_states()
+    ensures { CatalogDomainsNeedStates }
+{}
+
+/// Where no comparison is soft or there is no DISTINCT, a query needs many states on rows within its domains, exactly where the written one violates a condition.
+pub fn domain_verdict_is_exact()
+    ensures { DomainVerdictIsExact }
+{}
+
+/// A worked query with a domain is refused, the written one is not, and on rows within the domain few states are enough.
+pub fn domains_may_mislead()
+    ensures { DomainsMayMislead }
+{}
+
+/// A worked query with a soft comparison is refused; without DISTINCT it needs many states, and with it few are enough.
+pub fn soft_may_mislead()
+    ensures { SoftMayMislead }
+{}
