@@ -1,0 +1,45 @@
+-- What is answered where a family over the streams of a catalog is asked for.
+use Rattle.std.specs.Prelude.{◌≡◌, ℕ, ◌<◌, ⊤, List, length, Contains, Result, Ok, Err}
+use Rattle.bq_model.specs.declared.atom.Attr.{Attr}
+use Rattle.bq_model.specs.declared.condition.Condition.{Condition}
+use Rattle.bq_model.specs.declared.condition.Condition.TheVariants.{C2, C3}
+use Rattle.bq_model.specs.declared.decision.Decision.{Decision}
+use Rattle.bq_model.specs.declared.decision.Decision.TheVariants as decision
+use Rattle.bq_model.specs.Query.{QueryValue}
+use Rattle.bq_model.specs.Meaning.{Arrival}
+use Rattle.bq_schema.specs.Streams.{Shape, shape_at, KeepsDomains}
+use Rattle.bq_lower.specs.declared.error.LowerError.{LowerError}
+use Rattle.bq_lower.specs.declared.error.LowerError.TheVariants as why
+use Rattle.bq_lower.specs.Family.{FamilyValue, IsFamily, row_at, asking_at, as_arrival}
+use Rattle.bq_lower.specs.Laws.{AreLocalFor}
+use Rattle.bq_lower.specs.Lowered.{HasPairAcross}
+
+-- the arrival is a row of one of the streams, with a value for each of its columns, in the domains of the columns
+pub record IsTakenRow (streams : List Shape) (r : Arrival) : Type 0 where
+  pub there : r.stream < length streams
+  pub wide : length r.values ≡ length (shape_at streams r.stream).columns
+  pub keeps : KeepsDomains streams r.stream r.values
+
+-- so have all rows of a family
+pub record AreTakenRows (streams : List Shape) (n : ℕ) (f : FamilyValue) : Type 0 where
+  pub rows : (i : ℕ) → i < n → IsTakenRow streams (as_arrival f (row_at f i))
+  pub asking : (i : ℕ) → i < n → (r : Arrival) → Contains (asking_at f i) r → IsTakenRow streams r
+
+-- a family of so many rows that a session with the streams takes; for an unbounded equality no pair lies between streams
+pub record HasFamilyOver (streams : List Shape) (q : QueryValue) (condition : Condition) (a : Attr) (n : ℕ) (f : FamilyValue) : Type 0 where
+  pub local : AreLocalFor q condition
+  pub family : IsFamily q condition a n f
+  pub taken : AreTakenRows streams n f
+
+-- what is answered where a part breaks a condition at a column
+abbrev pub AnswersBroken : List Shape → QueryValue → Condition → Attr → ℕ → Result FamilyValue LowerError → Type 0
+AnswersBroken streams q condition a n (Ok f) = HasFamilyOver streams q condition a n f
+AnswersBroken streams q condition a n (Err why.Bounded) = ⊥
+AnswersBroken streams q condition a n (Err why.C2) = (condition ≡ C2) × HasPairAcross q
+AnswersBroken streams q condition a n (Err why.C3) = condition ≡ C3
+AnswersBroken streams q condition a n (Err why.Memory) = ⊤
+
+-- what is answered by the decision
+abbrev pub IsFamilyAnswer : List Shape → QueryValue → Decision → ℕ → Result FamilyValue LowerError → Type 0
+IsFamilyAnswer streams q decision.Bounded n result = result ≡ Err why.Bounded
+IsFamilyAnswer streams q (decision.Violation part condition a) n result = AnswersBroken streams q condition a n result

@@ -1,0 +1,7 @@
+//! Families over the streams of a catalog: their rows are rows that a session with these streams takes.
+#![tactic(auto)]
+
+mod blank;
+mod making;
+
+pub use making::family;

@@ -1,0 +1,39 @@
+-- The value of a column, case by case.
+use Rattle.std.proofs.Common.{◌≡◌, ℕ, zero, suc, ◌+◌, ◌<◌, ◌≤◌, cond, false, inl, inr, List, [], ◌∷◌, ◌++◌, length, slice_index_or, refl, sym, ap, ◌∙◌, arith, ℤ, pos}
+use Rattle.bq_model.specs.declared.atom.Attr.{Attr}
+use Rattle.bq_model.specs.Query.{attr_eq}
+use Rattle.bq_model.specs.Cells.{upto}
+use Rattle.bq_constraints.specs.Nodes.{has_node, place_of}
+use Rattle.bq_constraints.proofs.OfDomains.{node_within, no_node_past}
+use Rattle.bq_closure.specs.Answers.{at_nodes}
+use Rattle.bq_laws.proofs.Tests.{true_or_false, attr_eq-is}
+use Rattle.bq_lower.specs.Members.{cell_for}
+
+pub nodes-at : (xs : List ℤ) (n : ℕ) → at_nodes xs (suc n) ≡ slice_index_or xs n (pos 0)
+nodes-at [] n = refl
+nodes-at (x ∷ xs) zero = refl
+nodes-at (x ∷ xs) (suc n) = nodes-at xs n
+
+apart : (a b : Attr) → (a ≡ b → ⊥) → attr_eq a b ≡ false
+apart a b n = elim (true_or_false (attr_eq a b)) [ inl e ↦ absurd (n (attr_eq-is a b e)) | inr e ↦ e ]
+
+module _ (attrs : List Attr) (xs : List ℤ) (named : Attr) (value : ℤ) (a : Attr) (blank : ℤ) where
+  pub cell-there : (place : ℕ) → (a ≡ named → ⊥) → place ≡ place_of attrs a → place < length xs → length xs ≡ length attrs
+      → slice_index_or xs place (pos 0) ≡ cell_for attrs xs named value a blank
+  cell-there place n p l m =
+      let below : place_of attrs a < length attrs = omega (arith, p, l, m) in
+      ap (λ (k : ℕ). slice_index_or xs k (pos 0)) p ∙ sym (nodes-at xs (place_of attrs a))
+      ∙ sym (ap (λ b. cond b (at_nodes xs (suc (place_of attrs a))) blank) (node_within attrs a below))
+      ∙ sym (ap (λ b. cond b value (cond (has_node attrs a) (at_nodes xs (suc (place_of attrs a))) blank)) (apart a named n))
+
+  pub cell-past : (place : ℕ) → (a ≡ named → ⊥) → place ≡ place_of attrs a → length xs ≤ place → length xs ≡ length attrs
+      → blank ≡ cell_for attrs xs named value a blank
+  cell-past place n p l m =
+      let past : length attrs ≤ place_of attrs a = omega (arith, p, l, m) in
+      sym (ap (λ b. cond b (at_nodes xs (suc (place_of attrs a))) blank) (no_node_past attrs a past))
+      ∙ sym (ap (λ b. cond b value (cond (has_node attrs a) (at_nodes xs (suc (place_of attrs a))) blank)) (apart a named n))
+
+-- one more in a list that is listed up to a number
+pub upto-next : {X : Type 0} (f : ℕ → X) (items : List X) (n m : ℕ) (x : X) → items ≡ upto f n → x ≡ f n → m ≡ n + 1 → items ++ x ∷ [] ≡ upto f m
+upto-next f items n m x e o p =
+    (λ j. e j ++ o j ∷ []) ∙ (let s : suc n ≡ m = omega (arith, p) in ap (upto f) s)

@@ -1,0 +1,9 @@
+pub mod Telling
+pub mod TellingAlone
+pub mod Collisions
+pub mod Keeping
+pub mod Values
+pub mod Cells
+pub mod Points
+pub mod Made
+pub mod FromPart

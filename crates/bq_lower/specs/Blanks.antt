@@ -1,0 +1,24 @@
+-- Rows of which nothing is asked, one for each place of FROM, and what a family keeps of them.
+use Rattle.std.specs.Prelude.{◌≡◌, ℕ, ◌<◌, ◌⊎◌, List, [], length, Contains, IsTrue, ℤ}
+use Rattle.std.specs.List.{slice_index_or}
+use Rattle.bq_model.specs.declared.atom.Attr.{Attr}
+use Rattle.bq_model.specs.declared.atom.Domain.{Domain}
+use Rattle.bq_model.specs.Query.{QueryValue, attrs_of}
+use Rattle.bq_model.specs.Assignment.{lies_in}
+use Rattle.bq_model.specs.Meaning.{by_column}
+
+-- the query reads the column
+abbrev pub IsRead : QueryValue → Attr → Type 0
+IsRead q a = Contains (attrs_of q.atoms) a ⊎ Contains q.select a
+
+-- a row for each place of FROM, with a value for each column that the query reads, and in the domains of the query
+pub record AreBlanks (q : QueryValue) (blanks : List (List ℤ)) : Type 0 where
+  pub many : length blanks ≡ length q.from
+  pub wide : (a : Attr) → IsRead q a → a.column < length (slice_index_or blanks a.stream [])
+  pub keeps : (d : Domain) → Contains q.domains d → IsTrue (lies_in d (by_column (slice_index_or blanks d.attr.stream []) d.attr.column))
+
+-- the row is as long as the blank one of its place, keeps to the domains there, and has its values in the columns that the query does not read
+pub record IsLike (q : QueryValue) (blanks : List (List ℤ)) (place : ℕ) (row : List ℤ) : Type 0 where
+  pub wide : length row ≡ length (slice_index_or blanks place [])
+  pub keeps : (d : Domain) → Contains q.domains d → d.attr.stream ≡ place → IsTrue (lies_in d (by_column row d.attr.column))
+  pub blank : (column : ℕ) → column < length row → ¬ IsRead q (record { stream = place; column = column }) → by_column row column ≡ by_column (slice_index_or blanks place []) column

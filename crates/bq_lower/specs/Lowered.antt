@@ -1,0 +1,86 @@
+-- Whether a query that is refused has a family.
+use Rattle.std.specs.Prelude.{◌≡◌, ℕ, ◌<◌, ⊤, List, length, Contains, Option, None, Some, Result, Ok, Err, ℤ, IsFalse}
+use Rattle.std.specs.List.{slice_index_or}
+use Rattle.bq_model.specs.declared.atom.Attr.{Attr}
+use Rattle.bq_model.specs.declared.condition.Condition.{Condition}
+use Rattle.bq_model.specs.declared.condition.Condition.TheVariants.{C2, C3}
+use Rattle.bq_model.specs.declared.decision.Decision.{Decision}
+use Rattle.bq_model.specs.declared.decision.Decision.TheVariants as decision
+use Rattle.bq_model.specs.declared.part.Pair.{Pair}
+use Rattle.bq_model.specs.declared.part.Sign.{Sign}
+use Rattle.bq_model.specs.Query.{QueryValue, is_filter, IsWithinLimits}
+use Rattle.bq_model.specs.Meaning.{Arrival}
+use Rattle.bq_model.specs.Parts.{pairs, IsPart}
+use Rattle.bq_model.specs.Violation.{Breaks}
+use Rattle.bq_lower.specs.declared.error.LowerError.{LowerError}
+use Rattle.bq_lower.specs.declared.error.LowerError.TheVariants as why
+use Rattle.bq_lower.specs.Blanks.{IsLike}
+use Rattle.bq_lower.specs.Family.{FamilyValue, IsFamily, Asks, row_at, asking_at}
+use Rattle.bq_lower.specs.Making.{IsMade}
+use Rattle.bq_lower.specs.Laws.{IsLocal, AreLocalFor}
+
+-- some pair lies between streams
+pub record HasPairAcross (q : QueryValue) : Type 0 where
+  pub pair : Pair
+  pub named : Contains (pairs q) pair
+  pub across : ¬ IsLocal pair
+
+-- a pair between streams, or none where none of them lies so
+abbrev pub IsAcross : List Pair → Option Pair → Type 0
+IsAcross ps None = (p : Pair) → Contains ps p → IsLocal p
+IsAcross ps (Some p) = Contains ps p × ¬ IsLocal p
+
+-- the arrival is a row of a place of FROM like the blank one there
+pub record IsLikeBlank (q : QueryValue) (blanks : List (List ℤ)) (r : Arrival) : Type 0 where
+  pub place : ℕ
+  pub there : place < length q.from
+  pub stream : r.stream ≡ slice_index_or q.from place 0
+  pub like : IsLike q blanks place r.values
+
+-- all rows are like the blank ones
+pub record AreLike (q : QueryValue) (blanks : List (List ℤ)) (n : ℕ) (f : FamilyValue) : Type 0 where
+  pub rows : (i : ℕ) → i < n → IsLikeBlank q blanks (record { stream = f.stream; values = row_at f i })
+  pub asking : (i : ℕ) → i < n → (r : Arrival) → Contains (asking_at f i) r → IsLikeBlank q blanks r
+
+-- rows that are made from assignments of a part, with different values at a column
+pub record IsMadeFamily (q : QueryValue) (s : List Sign) (a : Attr) (blanks : List (List ℤ)) (n : ℕ) (f : FamilyValue) : Type 0 where
+  pub stream : f.stream ≡ slice_index_or q.from a.stream 0
+  pub size : length f.rows ≡ n
+  pub many : length f.asking ≡ n
+  pub asks : (i : ℕ) → i < n → Asks q f i
+  pub made : IsMade q s a n f
+  pub like : AreLike q blanks n f
+
+-- such rows were made, or there was no memory
+abbrev pub MakesFamily : QueryValue → List Sign → Attr → List (List ℤ) → ℕ → Result FamilyValue LowerError → Type 0
+MakesFamily q s a blanks n (Ok f) = IsMadeFamily q s a blanks n f
+MakesFamily q s a blanks n (Err why.Memory) = ⊤
+MakesFamily q s a blanks n (Err why.Bounded) = ⊥
+MakesFamily q s a blanks n (Err why.C2) = ⊥
+MakesFamily q s a blanks n (Err why.C3) = ⊥
+
+-- the signs are those of a part that breaks the condition at the column
+pub record IsBroken (q : QueryValue) (s : List Sign) (condition : Condition) (a : Attr) : Type 0 where
+  pub counts : IsFalse (is_filter q)
+  pub within : IsWithinLimits q
+  pub part : IsPart q s
+  pub breaks : Breaks q s condition a
+
+-- a family of so many rows for a condition that some part breaks at a column; for an unbounded equality no pair lies between streams
+pub record HasFamily (q : QueryValue) (blanks : List (List ℤ)) (condition : Condition) (a : Attr) (n : ℕ) (f : FamilyValue) : Type 0 where
+  pub local : AreLocalFor q condition
+  pub family : IsFamily q condition a n f
+  pub like : AreLike q blanks n f
+
+-- what is answered where a part breaks a condition at a column
+abbrev pub LowersBroken : QueryValue → List (List ℤ) → Condition → Attr → ℕ → Result FamilyValue LowerError → Type 0
+LowersBroken q blanks condition a n (Ok f) = HasFamily q blanks condition a n f
+LowersBroken q blanks condition a n (Err why.Bounded) = ⊥
+LowersBroken q blanks condition a n (Err why.C2) = (condition ≡ C2) × HasPairAcross q
+LowersBroken q blanks condition a n (Err why.C3) = condition ≡ C3
+LowersBroken q blanks condition a n (Err why.Memory) = ⊤
+
+-- what is answered by the decision
+abbrev pub Lowers : QueryValue → List (List ℤ) → Decision → ℕ → Result FamilyValue LowerError → Type 0
+Lowers q blanks decision.Bounded n result = result ≡ Err why.Bounded
+Lowers q blanks (decision.Violation part condition a) n result = LowersBroken q blanks condition a n result

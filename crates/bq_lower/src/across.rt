@@ -1,0 +1,28 @@
+//! Pairs between streams.
+ghost use Rattle.std.specs.Prelude.{◌↔◌, IsTrue};
+ghost use Rattle.bq_lower.specs.Laws.{IsLocal};
+ghost use Rattle.bq_lower.specs.Lowered.{IsAcross};
+
+use bq_model::{Element, Pair};
+
+// Whether both sides are of one stream, or one is a constant.
+fn is_local(pair: Pair) -> bool
+    ensures { IsTrue result ↔ IsLocal pair }
+{
+    match pair.right {
+        Element::Attr(right) => pair.left.stream == right.stream,
+        Element::Const(_) => true,
+    }
+}
+
+/// The first pair that lies between streams, or none where none does.
+pub fn pair_across(pairs: &[Pair]) -> Option<Pair>
+    ensures { IsAcross pairs.now result }
+{
+    for i in 0..pairs.len() {
+        if !is_local(pairs[i]) {
+            return Some(pairs[i]);
+        }
+    }
+    None
+}

@@ -1,0 +1,19 @@
+//! Families of rows that show why a query is refused: whatever set of the rows of a family came before, the answers tell the set.
+//!
+//! The decision names a part and a column that is not bounded in it. Each number from 0 on has a value of that column, counted up from its least
+//! value or down from its greatest, and a solution of the part's bounds with this value: its row of the column's stream, and the rows of all other
+//! streams that ask for it. Nothing is claimed where the part breaks the third condition, or the second while a pair lies between streams.
+#![tactic(auto)]
+
+mod across;
+mod error;
+mod family;
+mod ground;
+pub mod laws;
+mod lowering;
+mod making;
+mod point;
+
+pub use error::LowerError;
+pub use family::{Asked, Family};
+pub use lowering::family_over;

@@ -1,0 +1,59 @@
+//! The rows of all numbers.
+ghost use Rattle.std.specs.Prelude.{◌≡◌, ◌<◌, ◌≤◌, [], length};
+ghost use Rattle.bq_lower.specs.Members.{IsGround, AddsMember, Fills};
+ghost use Rattle.bq_lower.specs.Shown.{rows_in, asking_in};
+
+use crate::error::LowerError;
+use crate::family::Asked;
+use crate::ground::Ground;
+use crate::point::{Member, member_of};
+use bq_model::Row;
+
+// Adds the row of a number, and what asks for it.
+fn add(
+    ground: &Ground,
+    own: u8,
+    number: u16,
+    m: &mut Vec<Row>,
+    g: &mut Vec<Asked>,
+) -> Result<(), LowerError>
+    requires ground { IsGround ground.now }
+    requires many { length ground.now.from.now ≡ length ground.now.blanks.now }
+    requires few { length ground.now.from.now ≤ 4 }
+    requires own { own < length ground.now.from.now }
+    ensures { AddsMember result ground.now own number m.old.items g.old.items m.new.items g.new.items }
+{
+    let Member { row, asked } = member_of(ground, own, number);
+    match m.push(row) {
+        Ok(()) => match g.push(asked) {
+            Ok(()) => Ok(()),
+            Err(_) => Err(LowerError::Memory),
+        },
+        Err(_) => Err(LowerError::Memory),
+    }
+}
+
+/// Adds the rows of so many numbers, from 0, and what asks for each.
+pub fn fill(
+    ground: &Ground,
+    own: u8,
+    n: u16,
+    m: &mut Vec<Row>,
+    g: &mut Vec<Asked>,
+) -> Result<(), LowerError>
+    requires ground { IsGround ground.now }
+    requires many { length ground.now.from.now ≡ length ground.now.blanks.now }
+    requires few { length ground.now.from.now ≤ 4 }
+    requires own { own < length ground.now.from.now }
+    requires no_rows { m.old.items ≡ [] }
+    requires no_asked { g.old.items ≡ [] }
+    ensures { Fills result ground.now own n (rows_in m.new.items) (asking_in g.new.items) }
+{
+    for number in 0..n {
+        match add(ground, own, number, m, g) {
+            Ok(()) => {}
+            Err(error) => return Err(error),
+        }
+    }
+    Ok(())
+}
