@@ -1,6 +1,8 @@
 pub mod CommandForms
 pub mod Endings
 pub mod Exits
+pub mod Given
+pub mod Held
 pub mod LoadForms
 pub mod LoadSteps
 pub mod OneCommand

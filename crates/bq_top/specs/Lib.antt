@@ -1,6 +1,7 @@
 pub mod CertificateWords
 pub mod Commands
 pub mod Ends
+pub mod Events
 pub mod Fetched
 pub mod Help
 pub mod HelpWords
@@ -9,4 +10,5 @@ pub mod Load
 pub mod LoadWords
 pub mod Loading
 pub mod Run
+pub mod Turned
 pub mod Words

@@ -27,8 +27,8 @@ pub fn read_number(text: &str) -> Option<u64>
     }
 }
 
-// The number of rows that a text is.
-fn read_row_limit(text: &str) -> Option<u64>
+/// The number of rows of a session that a text is: 1 to 2^40, in its shortest form.
+pub fn read_row_limit(text: &str) -> Option<u64>
     ensures { MatchOption result ((n : ℕ) → IsRowLimit text.now n → ⊥) (λ n. IsRowLimit text.now n) }
 {
     match read_number(text) {

@@ -1,0 +1,38 @@
+//! The one top call of the program.
+ghost use Rattle.std.specs.Prelude.{◌≡◌, map};
+ghost use Rattle.std.specs.String.{string_bytes};
+ghost use Rattle.bq.specs.Serve.{asks_feeds, Serves};
+
+use bq_feeds::run_feeds;
+use bq_io::{Sink, Source, Status};
+use bq_top::{is_word, run};
+use std::alloc::Global;
+
+// Whether the first word is `feeds`.
+fn asks_feeds(words: &[String]) -> bool
+    ensures { result ≡ asks_feeds (map string_bytes words.now) }
+{
+    match words {
+        [first, ..] => is_word(first, "feeds"),
+        _ => false,
+    }
+}
+
+/// All that the program does over the words after its name. Where the first word is `feeds` it runs a session over the feeds, as
+/// `run_feeds`, and does not touch the input; otherwise it does what `run` does, and does not touch the feeds.
+pub fn serve<I: Source, F: Source, O: Sink>(
+    alloc: Global,
+    words: &[String],
+    input: &mut I,
+    feeds: &mut [F],
+    output: &mut O,
+) -> Status
+    ensures { Serves (asks_feeds (map string_bytes words.now)) result words.now (I.seen input.old) (I.seen input.new) (map F.seen feeds.old) (map F.seen feeds.new)
+        (O.seen output.old) (O.seen output.new) }
+{
+    if asks_feeds(words) {
+        run_feeds(alloc, words, feeds, output)
+    } else {
+        run(alloc, words, input, output)
+    }
+}

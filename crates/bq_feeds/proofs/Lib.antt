@@ -1,0 +1,13 @@
+pub mod Advance
+pub mod Around
+pub mod Bounds
+pub mod Ends
+pub mod Grown
+pub mod NameForms
+pub mod OneText
+pub mod Outcomes
+pub mod Rounds
+pub mod Rows
+pub mod Stopping
+pub mod Turns
+pub mod Visits

@@ -1,0 +1,51 @@
+-- What a turn of a feed does.
+use Rattle.std.specs.Prelude.{◌≡◌, ◌⊎◌, ℕ, ◌+◌, ◌-◌, ◌^◌, ◌<◌, Bool, true, false, List, length}
+use Rattle.std.specs.List.{slice_index_or, slice_set}
+use Rattle.bq_io.specs.Source.{SourceState}
+use Rattle.bq_io.specs.Sink.{SinkState, Wrote, BrokeOff}
+use Rattle.bq_io.specs.Gathered.{gathered_seen}
+use Rattle.bq_feed.specs.Reading.{Reading}
+use Rattle.bq_feed.specs.declared.reader.LineAnswer.TheVariants as line
+use Rattle.bq_session.specs.declared.outcome.LineOutcome.TheVariants as outcome
+use Rattle.bq_session.specs.State.{State}
+use Rattle.bq_session.specs.Session.{Kept}
+use Rattle.bq_top.specs.declared.one_turn.Turn.{Turn}
+use Rattle.bq_top.specs.declared.one_turn.Turn.TheVariants as turns
+use Rattle.bq_top.specs.Events.{fault_text}
+use Rattle.bq_top.specs.Fetched.{Read}
+use Rattle.bq_top.specs.Turned.{AnsweredLine, LacksMemory, SinkFailed}
+use Rattle.bq_feeds.specs.declared.stage.Stage.{Stage}
+use Rattle.bq_feeds.specs.declared.stage.Stage.TheVariants.{Open, Ended, Failed}
+use Rattle.bq_feeds.specs.declared.stage.Lane.{Lane}
+
+-- whether the feed has not ended
+abbrev pub is_open : Stage → Bool
+is_open Open = true
+is_open Ended = false
+is_open Failed = false
+
+-- whether the feed has ended by a fault
+abbrev pub is_failed : Stage → Bool
+is_failed Open = false
+is_failed Ended = false
+is_failed Failed = true
+
+-- The source failed, and this holds of the sink before and after the line that says so was written.
+pub record FaultMet (number : ℕ) (old new : Reading) (source now : SourceState) (below after : SinkState) (held kept : List ℕ) (P : SinkState → SinkState → List ℕ → Type 0) : Type 0 where
+  pub between : SinkState
+  pub left : List ℕ
+  pub met : Read line.ReadFault old new source now below between held left
+  pub name : ℕ
+  pub name' : ℕ
+  pub told : P (gathered_seen between name left) (gathered_seen after name' kept) (fault_text number)
+
+-- How a turn of the feed of this number goes that has not ended: as the turn of its source, and a fault is written.
+abbrev pub LaneTurned : Turn → State → ℕ → Lane → Lane → SourceState → SourceState → Kept → Kept → SinkState → SinkState → List ℕ → List ℕ → Type 0
+LaneTurned turns.Answered s number old new source now session session' below after held kept = AnsweredLine outcome.Done s old.reader new.reader source now session' below after held kept × (new.stage ≡ Open)
+LaneTurned turns.Ended s number old new source now session session' below after held kept = Read line.End old.reader new.reader source now below after held kept × (session' ≡ session) × (new.stage ≡ Ended)
+LaneTurned turns.Failed s number old new source now session session' below after held kept = FaultMet number old.reader new.reader source now below after held kept Wrote × (session' ≡ session) × (new.stage ≡ Failed)
+LaneTurned turns.Full s number old new source now session session' below after held kept = Read line.ByteLimit old.reader new.reader source now below after held kept × (new.stage ≡ Open)
+LaneTurned turns.Stopped s number old new source now session session' below after held kept =
+    (SinkFailed s old.reader new.reader source now session session' below after held kept × (new.stage ≡ Open))
+    ⊎ (FaultMet number old.reader new.reader source now below after held kept BrokeOff × (new.stage ≡ Failed))
+LaneTurned turns.Memory s number old new source now session session' below after held kept = LacksMemory s old.reader new.reader source now session' below held (λ lower full. Wrote lower after full) × (new.stage ≡ Open)

@@ -1,0 +1,8 @@
+pub mod FeedsEnd
+pub mod FeedsText
+pub mod Lanes
+pub mod Laws
+pub mod Taken
+pub mod Turns
+pub mod Visited
+pub mod Words

@@ -1,0 +1,135 @@
+//! A session over feeds, from the words to the status.
+ghost use Rattle.std.specs.Prelude.{◌≡◌, ◌⊎◌, ◌<◌, ◌≤◌, ◌^◌, [], length, map, replicate, IfOk};
+ghost use Rattle.bq_session.specs.State.{State, empty};
+ghost use Rattle.bq_session.specs.Session.{StandsFor};
+ghost use Rattle.bq_top.specs.Run.{HasState};
+ghost use Rattle.bq_feeds.specs.FeedsEnd.{FeedsEnd, RanLater, SessionRan};
+ghost use Rattle.bq_feeds.specs.Visited.{new_lane};
+
+use crate::stage::{Lane, Stage};
+use crate::taking::take_turns;
+use crate::words::feeds_of;
+use bq_feed::LineReader;
+use bq_io::{Gathered, Sink, Source, Status};
+use bq_pool::Steps;
+use bq_session::Session;
+use std::alloc::{AllocError, Global};
+use std::marker::Brand;
+use std::sync::ledger::{Blank, Ledger};
+
+// Lanes of so many feeds, of which nothing was taken.
+fn open_lanes(alloc: Global, count: usize) -> Result<Vec<Lane>, AllocError>
+    ensures { IfOk result (λ lanes. lanes.items ≡ replicate count new_lane) }
+{
+    let mut lanes = Vec::new(alloc);
+    for _ in 0..count {
+        let lane = Lane {
+            reader: LineReader::new(alloc)?,
+            stage: Stage::Open,
+        };
+        if lanes.push(lane).is_err() {
+            return Err(AllocError);
+        }
+    }
+    Ok(lanes)
+}
+
+// Lets feeds take turns, and gathers what is written before it goes to the output.
+fn gather<I: Source, O: Sink, L: Ledger>(
+    lanes: &mut [Lane],
+    feeds: &mut [I],
+    session: &mut Session,
+    output: &mut O,
+    blank: Blank,
+) -> Status
+    requires new { lanes.old ≡ replicate (length feeds.old) new_lane }
+    requires few { length feeds.old ≤ 8 }
+    requires stands { HasState session.old }
+    requires lines { session.old.lines ≡ 0 }
+    requires name { blank.name ≡ L.name }
+    requires parts { blank.parts ≡ L.parts }
+    requires two { 2 ≤ L.parts }
+    ensures { (s : State) → StandsFor session.old s → RanLater result s (map I.seen feeds.old) (map I.seen feeds.new) (O.seen output.old) (O.seen output.new) }
+{
+    let mut steps = Steps::<L>::new(blank);
+    let mut gathered = Gathered::new(output);
+    let status = take_turns(lanes, feeds, session, &mut gathered, &mut steps);
+    let Gathered { sink, held: _held } = gathered;
+    // No effect at run time. The proof reads what the output holds from this use.
+    let _ = &*sink;
+    status
+}
+
+// Lets feeds take turns in a fresh session, and counts no steps.
+fn answer_all<I: Source, O: Sink>(
+    lanes: &mut [Lane],
+    feeds: &mut [I],
+    session: &mut Session,
+    output: &mut O,
+) -> Status
+    requires new { lanes.old ≡ replicate (length feeds.old) new_lane }
+    requires few { length feeds.old ≤ 8 }
+    requires stands { HasState session.old }
+    requires lines { session.old.lines ≡ 0 }
+    ensures { (s : State) → StandsFor session.old s → RanLater result s (map I.seen feeds.old) (map I.seen feeds.new) (O.seen output.old) (O.seen output.new) }
+{
+    gather::<I, O, Brand>(lanes, feeds, session, output, Blank::new(2))
+}
+
+// Opens a session that may take so many rows, and lets the feeds take turns in it.
+fn run_session<I: Source, O: Sink>(
+    alloc: Global,
+    limit: u64,
+    feeds: &mut [I],
+    output: &mut O,
+) -> Status
+    requires some { 0 < limit }
+    requires few { limit ≤ 2 ^ 40 }
+    requires feeds { length feeds.old ≤ 8 }
+    ensures ran { SessionRan result limit (map I.seen feeds.old) (map I.seen feeds.new) (O.seen output.old) (O.seen output.new) }
+    ensures later { (O.seen output.old).faults ≤ (O.seen output.new).faults }
+{
+    let Ok(mut lanes) = open_lanes(alloc, feeds.len()) else {
+        return Status::Memory;
+    };
+    let Ok(mut session) = Session::new(alloc, limit) else {
+        return Status::Memory;
+    };
+    let status = answer_all(&mut lanes, feeds, &mut session, output);
+    session.close();
+    status
+}
+
+/// One session over the feeds, where the words are `feeds [--rows N] F1 .. Fk` with 2 to 8 names, one for each feed.
+///
+/// In each round every feed that has not ended gives one line, in order; it is answered before the next turn. A line that is too
+/// long is a line. A feed whose source fails ends, and `feed i fault` is written in its turn; the others go on. Lines are numbered
+/// as they reach the session, and a fault has no number. What is written is gathered, and written before each read of a feed, at
+/// the end and where 4,096 bytes are held.
+///
+/// `FeedsEnd` says of each status what was taken of each feed and what was written: for `Done` all bytes of all feeds, and their
+/// text; for `ReadFault` the same, where some feeds failed, each of which counted a fault in this call; for `WriteFault` the texts
+/// of the events before one event and a front of its text; for `Memory` nothing, or the texts of the events before a line that
+/// creates a stream or a query; for `ByteLimit` the texts of the events before a turn of a feed that has more bytes than can be
+/// counted, or before which 2^64 - 2 lines were given. `Usage` comes exactly where the words are none of this form or name another
+/// number of feeds, and then nothing was read or written.
+pub fn run_feeds<I: Source, O: Sink>(
+    alloc: Global,
+    words: &[String],
+    feeds: &mut [I],
+    output: &mut O,
+) -> Status
+    ensures ends { FeedsEnd result words.now (map I.seen feeds.old) (map I.seen feeds.new) (O.seen output.old) (O.seen output.new) }
+    ensures output_later { (O.seen output.old).faults ≤ (O.seen output.new).faults }
+{
+    match feeds_of(words) {
+        Some(found) => {
+            if found.count == feeds.len() {
+                run_session(alloc, found.limit, feeds, output)
+            } else {
+                Status::Usage
+            }
+        }
+        None => Status::Usage,
+    }
+}

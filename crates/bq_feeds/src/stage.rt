@@ -1,0 +1,47 @@
+//! How far a feed is.
+ghost use Rattle.std.specs.Prelude.{◌≡◌};
+ghost use Rattle.bq_feeds.specs.Lanes.{is_open, is_failed};
+
+use bq_feed::LineReader;
+
+/// How far a feed is.
+#[derive(Clone, Copy, Debug, PartialEq, Eq)]
+pub enum Stage {
+    /// It gives a line in its next turn, or ends there.
+    Open,
+    /// It has given all its lines.
+    Ended,
+    /// Its source has failed, and its fault was written.
+    Failed,
+}
+
+/// The reader of a feed, and how far the feed is.
+#[derive(Drop)]
+pub struct Lane {
+    pub reader: LineReader,
+    pub stage: Stage,
+}
+
+impl Stage {
+    /// Whether the feed has not ended.
+    pub fn is_open(self) -> bool
+        ensures { result ≡ is_open self }
+    {
+        match self {
+            Stage::Open => true,
+            Stage::Ended => false,
+            Stage::Failed => false,
+        }
+    }
+
+    /// Whether the feed has ended by a fault.
+    pub fn is_failed(self) -> bool
+        ensures { result ≡ is_failed self }
+    {
+        match self {
+            Stage::Open => false,
+            Stage::Ended => false,
+            Stage::Failed => true,
+        }
+    }
+}

@@ -1,0 +1,236 @@
+//! The turns of feeds, each answered before the next one.
+ghost use Rattle.std.specs.Prelude.{◌≡◌, ◌≢◌, ℕ, ◌+◌, ◌<◌, ◌≤◌, ◌-◌, ◌^◌, [], true, false, length, map, replicate};
+ghost use Rattle.std.specs.List.{list_any};
+ghost use Rattle.bq_io.specs.Sink.{Writes};
+ghost use Rattle.bq_io.specs.Source.{SourceState};
+ghost use Rattle.bq_session.specs.State.{State};
+ghost use Rattle.bq_session.specs.Session.{StandsFor};
+ghost use Rattle.bq_top.specs.Events.{fault_text};
+ghost use Rattle.bq_top.specs.Run.{HasState};
+ghost use Rattle.bq_feeds.specs.Lanes.{is_open, is_failed, LaneTurned};
+ghost use Rattle.bq_feeds.specs.Visited.{new_lane, status_after, lines_after, slot, FeedTurned, Visited, Finished};
+ghost use Rattle.bq_feeds.specs.FeedsEnd.{RanLater};
+
+use crate::stage::{Lane, Stage};
+use bq_io::{Gathered, Sink, Source, Status, WriteFault, write_pieces};
+use bq_pool::Steps;
+use bq_session::Session;
+use bq_top::{Turn, take_turn};
+use itoa::Buffer;
+use std::sync::ledger::Ledger;
+
+/// The most lines that a session over feeds takes.
+const MOST_LINES: u64 = u64::MAX - 1;
+
+// `feed 1 fault`
+fn write_fault<O: Sink>(out: &mut O, number: u64) -> Result<(), WriteFault>
+    ensures { Writes result (O.seen out.old) (O.seen out.new) (fault_text number) }
+{
+    let mut buffer = Buffer::new();
+    let digits = buffer.format(number).as_bytes();
+    let pieces: [&[u8]; 4] = [b"feed ", digits, b" fault", b"\n"];
+    write_pieces(out, &pieces)
+}
+
+// One turn of the feed of this number, which has not ended. Where its source fails, that is written.
+fn turn_lane<I: Source, O: Sink, L: Ledger>(
+    number: u64,
+    lane: &mut Lane,
+    feed: &mut I,
+    session: &mut Session,
+    output: &mut Gathered<'_, O>,
+    steps: &mut Steps<L>,
+) -> Turn
+    requires yet { is_open lane.old.stage ≡ true }
+    requires stands { HasState session.old }
+    requires room { session.old.lines + 1 < 2 ^ 64 }
+    ensures turned { (s : State) → StandsFor session.old s
+        → LaneTurned result s number lane.old lane.new (I.seen feed.old) (I.seen feed.new) session.old session.new
+        (O.seen output.old.sink.now) (O.seen output.new.sink.now) output.old.held.items output.new.held.items }
+    ensures same_reference { output.new.sink.ghost_name ≡ output.old.sink.ghost_name }
+{
+    match take_turn(&mut lane.reader, session, feed, output, steps) {
+        Turn::Answered => Turn::Answered,
+        Turn::Ended => {
+            lane.stage = Stage::Ended;
+            Turn::Ended
+        }
+        Turn::Failed => {
+            lane.stage = Stage::Failed;
+            match write_fault(output, number) {
+                Ok(()) => Turn::Failed,
+                Err(_) => Turn::Stopped,
+            }
+        }
+        Turn::Full => Turn::Full,
+        Turn::Stopped => Turn::Stopped,
+        Turn::Memory => Turn::Memory,
+    }
+}
+
+// The status to which a turn leads; none where the session goes on.
+fn status_after(turn: Turn) -> Option<Status>
+    ensures { result ≡ status_after turn }
+{
+    match turn {
+        Turn::Answered => None,
+        Turn::Ended => None,
+        Turn::Failed => None,
+        Turn::Full => Some(Status::ByteLimit),
+        Turn::Stopped => Some(Status::WriteFault),
+        Turn::Memory => Some(Status::Memory),
+    }
+}
+
+// How many lines were given after a turn.
+fn lines_after(turn: Turn, lines: u64) -> u64
+    requires { lines < 2 ^ 64 - 2 }
+    ensures { result ≡ lines_after turn lines }
+{
+    match turn {
+        Turn::Answered => lines + 1,
+        Turn::Ended => lines,
+        Turn::Failed => lines,
+        Turn::Full => lines,
+        Turn::Stopped => lines,
+        Turn::Memory => lines,
+    }
+}
+
+// Whether the feed of a place has not ended.
+fn is_open_at(lanes: &[Lane], place: usize) -> bool
+    requires { place < length lanes.now }
+    ensures { result ≡ is_open (slot lanes.now place new_lane).stage }
+{
+    lanes[place].stage.is_open()
+}
+
+// One turn of the feed of a place, from 0, which has not ended.
+fn turn_at<I: Source, O: Sink, L: Ledger>(
+    place: usize,
+    lanes: &mut [Lane],
+    feeds: &mut [I],
+    session: &mut Session,
+    output: &mut Gathered<'_, O>,
+    steps: &mut Steps<L>,
+) -> Turn
+    requires lane { place < length lanes.old }
+    requires feed { place < length feeds.old }
+    requires few { length lanes.old ≤ 8 }
+    requires yet { is_open (slot lanes.old place new_lane).stage ≡ true }
+    requires stands { HasState session.old }
+    requires room { session.old.lines + 1 < 2 ^ 64 }
+    ensures turned { (s : State) → StandsFor session.old s
+        → FeedTurned result s place lanes.old lanes.new (map I.seen feeds.old) (map I.seen feeds.new) session.old session.new
+        (O.seen output.old.sink.now) (O.seen output.new.sink.now) output.old.held.items output.new.held.items }
+    ensures same_reference { output.new.sink.ghost_name ≡ output.old.sink.ghost_name }
+{
+    turn_lane(
+        place as u64 + 1,
+        &mut lanes[place],
+        &mut feeds[place],
+        session,
+        output,
+        steps,
+    )
+}
+
+// Visits the feed of a place: it takes its turn, where it has not ended. Gives the status with which the session ends, if it does.
+fn visit<I: Source, O: Sink, L: Ledger>(
+    place: usize,
+    lanes: &mut [Lane],
+    feeds: &mut [I],
+    session: &mut Session,
+    output: &mut Gathered<'_, O>,
+    steps: &mut Steps<L>,
+    lines: &mut u64,
+) -> Option<Status>
+    requires lane { place < length lanes.old }
+    requires feed { place < length feeds.old }
+    requires few { length lanes.old ≤ 8 }
+    requires stands { HasState session.old }
+    requires counted { session.old.lines ≡ lines.old }
+    requires room { lines.old ≤ 2 ^ 64 - 2 }
+    ensures visited { (s : State) → StandsFor session.old s
+        → Visited result s place lanes.old lanes.new (map I.seen feeds.old) (map I.seen feeds.new) session.old session.new
+        (O.seen output.old.sink.now) (O.seen output.new.sink.now) output.old.held.items output.new.held.items lines.old lines.new }
+    ensures same_reference { output.new.sink.ghost_name ≡ output.old.sink.ghost_name }
+    ensures room { lines.new ≤ 2 ^ 64 - 2 }
+{
+    if !is_open_at(lanes, place) {
+        return None;
+    }
+    if *lines == MOST_LINES {
+        return match output.flush() {
+            Ok(()) => Some(Status::ByteLimit),
+            Err(_) => Some(Status::WriteFault),
+        };
+    }
+    let turn = turn_at(place, lanes, feeds, session, output, steps);
+    *lines = lines_after(turn, *lines);
+    status_after(turn)
+}
+
+// Whether some feed has not ended.
+fn any_open(lanes: &[Lane]) -> bool
+    ensures { result ≡ list_any (λ lane. is_open lane.stage) lanes.now }
+{
+    lanes.iter().any(|lane| lane.stage.is_open())
+}
+
+// Whether some feed has ended by a fault.
+fn any_failed(lanes: &[Lane]) -> bool
+    ensures { result ≡ list_any (λ lane. is_failed lane.stage) lanes.now }
+{
+    lanes.iter().any(|lane| lane.stage.is_failed())
+}
+
+// Ends the session where all feeds have ended.
+fn finish<O: Sink>(lanes: &[Lane], output: &mut Gathered<'_, O>) -> Status
+    ensures finished { Finished result lanes.now (O.seen output.old.sink.now) (O.seen output.new.sink.now) output.old.held.items output.new.held.items }
+    ensures same_reference { output.new.sink.ghost_name ≡ output.old.sink.ghost_name }
+{
+    match output.flush() {
+        Ok(()) => {
+            if any_failed(lanes) {
+                Status::ReadFault
+            } else {
+                Status::Done
+            }
+        }
+        Err(_) => Status::WriteFault,
+    }
+}
+
+/// Lets feeds take turns in a session until all of them have ended, or the session can not go on. A session takes fewer lines than
+/// there are rounds.
+pub fn take_turns<I: Source, O: Sink, L: Ledger>(
+    lanes: &mut [Lane],
+    feeds: &mut [I],
+    session: &mut Session,
+    output: &mut Gathered<'_, O>,
+    steps: &mut Steps<L>,
+) -> Status
+    requires new { lanes.old ≡ replicate (length feeds.old) new_lane }
+    requires few { length feeds.old ≤ 8 }
+    requires stands { HasState session.old }
+    requires lines { session.old.lines ≡ 0 }
+    requires held { output.old.held.items ≡ [] }
+    ensures ran { (s : State) → StandsFor session.old s
+        → RanLater result s (map I.seen feeds.old) (map I.seen feeds.new) (O.seen output.old.sink.now) (O.seen output.new.sink.now) }
+    ensures same_reference { output.new.sink.ghost_name ≡ output.old.sink.ghost_name }
+{
+    let mut lines = 0;
+    'rounds: for round in 0..u64::MAX {
+        if !any_open(lanes) {
+            return finish(lanes, output);
+        }
+        'visits: for place in 0..lanes.len() {
+            match visit(place, lanes, feeds, session, output, steps, &mut lines) {
+                None => {}
+                Some(status) => return status,
+            }
+        }
+    }
+    finish(lanes, output)
+}
