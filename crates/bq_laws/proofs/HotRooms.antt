@@ -6,7 +6,7 @@ use Rattle.bq_model.specs.Cells.{synopsis}
 use Rattle.bq_model.specs.Combinations.{found_in}
 use Rattle.bq_model.specs.Future.{future}
 use Rattle.bq_laws.specs.HotRooms.{HotRooms}
-use Rattle.bq_laws.proofs.HotRoomsPlan.{hot_rooms-limits, hot_rooms-planned, hot_rooms-keeps, hot_rooms-accepted}
+use Rattle.bq_laws.proofs.HotRoomsPlan.{hot_rooms-limits, hot_rooms-planned, hot_rooms-keeps, hot_rooms-accepted, hot_rooms-accepted_shared}
 
 pub hot-rooms : HotRooms
 unfolding pairs synopsis found_in future new_answers
@@ -16,6 +16,8 @@ hot-rooms = record {
   violation = hot_rooms-keeps;
   verdict = hot_rooms-accepted;
   numbers = refl;
+  shared = refl;
+  shared_verdict = hot_rooms-accepted_shared;
   first = refl;
   second = refl;
   meant_second = refl;

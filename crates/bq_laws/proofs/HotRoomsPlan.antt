@@ -1,16 +1,20 @@
 -- The plan and the verdict of hot-rooms, with some assignments of each part, which show what does not hold in all of them.
-use Rattle.std.proofs.Common.{◌≡◌, List, [], ◌∷◌, true, refl, ℤ, pos, neg_ℤ, None, arith}
+use Rattle.std.proofs.Common.{◌≡◌, List, [], ◌∷◌, true, false, refl, ℤ, pos, neg_ℤ, None, arith}
 use Rattle.bq_model.specs.Parts.{pairs, HasMoreParts}
 use Rattle.bq_model.specs.Plan.{IsPlan}
 use Rattle.bq_model.specs.Assignment.{Assignment}
 use Rattle.bq_model.specs.Meaning.{assignment_of}
 use Rattle.bq_model.specs.Numbers.{numbers_of}
 use Rattle.bq_model.specs.Query.{IsWithinLimits}
+use Rattle.bq_model.specs.Sharing.{shared_numbers}
 use Rattle.bq_model.specs.Verdict.{IsVerdict, accepted, of_plan}
 use Rattle.bq_model.specs.Violation.{IsViolation}
 use Rattle.bq_laws.proofs.CountedParts.{parts_are_counted}
 use Rattle.bq_laws.proofs.Limits.{limits_test, within-limits}
 use Rattle.bq_laws.proofs.PlanKeeps.{unbroken, no-violation}
+use Rattle.bq_laws.specs.Sharing.{moved_together}
+use Rattle.bq_laws.proofs.Sufficiency.{part-plans}
+use Rattle.bq_laws.proofs.MovedBoxes.{shared-plans-exist}
 use Rattle.bq_laws.specs.HotRooms.{hot_rooms, hot_rooms_plan}
 use Rattle.bq_laws.proofs.PlanIs.{plan_test, is-plan}
 
@@ -70,6 +74,11 @@ hot_rooms-keeps = no-violation hot_rooms hot_rooms_plan hot_rooms_within refl ho
 few-parts : HasMoreParts hot_rooms 4096 → ⊥
 few-parts m = absurd (omega (arith, (parts_are_counted hot_rooms _ 4096 hot_rooms-planned.parts).0 m))
 
-pub hot_rooms-accepted : IsVerdict hot_rooms 3 (accepted (numbers_of hot_rooms hot_rooms_plan))
+pub hot_rooms-accepted_shared : IsVerdict true hot_rooms 2 (accepted (shared_numbers hot_rooms hot_rooms_plan))
+unfolding pairs
+hot_rooms-accepted_shared =
+    of_plan refl few-parts hot_rooms-keeps (moved_together hot_rooms hot_rooms_plan) (shared-plans-exist hot_rooms hot_rooms_plan (part-plans hot_rooms hot_rooms_plan hot_rooms-planned)) refl
+
+pub hot_rooms-accepted : IsVerdict false hot_rooms 3 (accepted (numbers_of hot_rooms hot_rooms_plan))
 unfolding pairs
 hot_rooms-accepted = of_plan refl few-parts hot_rooms-keeps hot_rooms_plan hot_rooms-planned refl

@@ -55,3 +55,13 @@ pub mod HotRoomsPlan
 pub mod SoftCases
 pub mod DomainCases
 pub mod DomainInstance
+pub mod SameBoxes
+pub mod SharedCells
+pub mod BoxReadings
+pub mod PlanBoxes
+pub mod SharedSuffices
+pub mod Bases
+pub mod GrowingBoxes
+pub mod OneSharedPlan
+pub mod MovedBoxes
+pub mod SharedCases

@@ -1,5 +1,5 @@
 -- Plans of worked queries, each with some assignments of each part, which show what does not hold in all of them.
-use Rattle.std.proofs.Common.{◌≡◌, List, [], ◌∷◌, true, refl, ℤ, pos, None, arith}
+use Rattle.std.proofs.Common.{◌≡◌, List, [], ◌∷◌, true, false, refl, ℤ, pos, None, arith}
 use Rattle.bq_model.specs.Parts.{pairs, HasMoreParts}
 use Rattle.bq_model.specs.Plan.{IsPlan}
 use Rattle.bq_model.specs.Assignment.{Assignment}
@@ -42,7 +42,7 @@ three_ways-passes = refl
 pub three_ways-planned : IsPlan three_ways three_ways_plan
 three_ways-planned = is-plan three_ways three_ways_plan three_ways_within three_ways-passes
 
-abbrev two_ways_within : List (List Assignment)
+abbrev pub two_ways_within : List (List Assignment)
 two_ways_within =
     (rows ((pos 11 ∷ pos 12 ∷ []) ∷ (pos 13 ∷ []) ∷ []) ∷ [])
     ∷ (rows ((pos 11 ∷ pos 13 ∷ []) ∷ (pos 14 ∷ []) ∷ []) ∷ [])
@@ -58,7 +58,7 @@ two_ways_within =
     ∷ (rows ((pos 11 ∷ pos 10 ∷ []) ∷ (pos 13 ∷ []) ∷ []) ∷ [])
     ∷ []
 
-two_ways-passes : plan_test two_ways two_ways_plan two_ways_within ≡ true
+pub two_ways-passes : plan_test two_ways two_ways_plan two_ways_within ≡ true
 unfolding pairs
 two_ways-passes = refl
 
@@ -106,6 +106,6 @@ hot_room-keeps = no-violation hot_room hot_room_plan hot_room_within refl hot_ro
 few-parts : HasMoreParts hot_room 4096 → ⊥
 few-parts m = absurd (omega (arith, (parts_are_counted hot_room _ 4096 hot_room-planned.parts).0 m))
 
-pub hot_room-accepted : IsVerdict hot_room 1 (accepted (numbers_of hot_room hot_room_plan))
+pub hot_room-accepted : IsVerdict false hot_room 1 (accepted (numbers_of hot_room hot_room_plan))
 unfolding pairs
 hot_room-accepted = of_plan refl few-parts hot_room-keeps hot_room_plan hot_room-planned refl

@@ -1,5 +1,5 @@
 -- The worked query hot-rooms, with all its parts.
-use Rattle.std.specs.Prelude.{◌≡◌, ℕ, true, [], ◌∷◌, ◌++◌, ℤ, pos, List}
+use Rattle.std.specs.Prelude.{◌≡◌, ℕ, true, false, [], ◌∷◌, ◌++◌, ℤ, pos, List}
 use Rattle.bq_model.specs.declared.atom.Attr.{Attr}
 use Rattle.bq_model.specs.declared.atom.Op.{Op}
 use Rattle.bq_model.specs.declared.atom.Element.TheVariants as element
@@ -16,6 +16,7 @@ use Rattle.bq_model.specs.Cells.{synopsis, printed}
 use Rattle.bq_model.specs.Combinations.{read_from}
 use Rattle.bq_model.specs.Numbers.{numbers_of}
 use Rattle.bq_model.specs.Future.{future}
+use Rattle.bq_model.specs.Sharing.{shared_numbers}
 use Rattle.bq_model.specs.Verdict.{IsVerdict, accepted}
 use Rattle.bq_model.specs.Violation.{IsViolation}
 use Rattle.std.specs.declared.option.Option.TheVariants.{None}
@@ -183,8 +184,11 @@ pub record HotRooms : Type 0 where
   pub within : IsWithinLimits hot_rooms
   pub plan : IsPlan hot_rooms hot_rooms_plan
   pub violation : IsViolation hot_rooms None
-  pub verdict : IsVerdict hot_rooms 3 (accepted (numbers_of hot_rooms hot_rooms_plan))
+  pub verdict : IsVerdict false hot_rooms 3 (accepted (numbers_of hot_rooms hot_rooms_plan))
   pub numbers : numbers_of hot_rooms hot_rooms_plan ≡ record { parts = 25; cells = 138; answers = 59; work = 35 }
+  -- with shared cells the parts that keep the same of a stream keep it once
+  pub shared : shared_numbers hot_rooms hot_rooms_plan ≡ record { parts = 25; cells = 78; answers = 59; work = 35 }
+  pub shared_verdict : IsVerdict true hot_rooms 2 (accepted (shared_numbers hot_rooms hot_rooms_plan))
   pub first : told [] first_row ≡ []
   pub second : told (first_row ∷ []) second_row ≡ (pos 2 ∷ []) ∷ []
   pub meant_second : new_answers hot_rooms (first_row ∷ []) second_row ≡ (pos 2 ∷ []) ∷ []

@@ -1,5 +1,5 @@
 -- What holds of the plan of a query: it is fixed, and its ranges and free dims are what they are called.
-use Rattle.std.specs.Prelude.{◌≡◌, ℕ, ◌<◌, ◌≤◌, ◌↔◌, List, IsTrue, IsFalse, Contains, length}
+use Rattle.std.specs.Prelude.{◌≡◌, Bool, ℕ, ◌<◌, ◌≤◌, ◌↔◌, List, IsTrue, IsFalse, Contains, length}
 use Rattle.std.specs.declared.option.Option.TheVariants.{None}
 use Rattle.bq_model.specs.declared.atom.Attr.{Attr}
 use Rattle.bq_model.specs.declared.part.Sign.{Sign}
@@ -10,7 +10,7 @@ use Rattle.bq_model.specs.Parts.{AreParts, HasMoreParts}
 use Rattle.bq_model.specs.Order.{IsLeast, IsGreatest}
 use Rattle.bq_model.specs.Links.{IsEquality}
 use Rattle.bq_model.specs.Violation.{IsViolation}
-use Rattle.bq_model.specs.Plan.{IsPartPlan, IsPlan, dims_at}
+use Rattle.bq_model.specs.Plan.{IsPartPlan, ArePartPlans, IsPlan, dims_at}
 use Rattle.bq_model.specs.Ranges.{range_of}
 use Rattle.bq_model.specs.Numbers.{is_fixed, share_of, share}
 use Rattle.bq_model.specs.Verdict.{Verdict, IsVerdict}
@@ -23,14 +23,15 @@ PartsAreCounted = (q : QueryValue) (parts : List (List Sign)) (n : ℕ) → AreP
 abbrev pub HasOnePlan : Type 0
 HasOnePlan = (q : QueryValue) (plan other : List PartPlan) → IsFalse (is_filter q) → IsViolation q None → IsPlan q plan → IsPlan q other → plan ≡ other
 
--- there is at most one verdict on a query with so many free pages
+-- there is at most one verdict on a query, without shared cells or with them, with so many free pages
 abbrev pub HasOneVerdict : Type 0
-HasOneVerdict = (q : QueryValue) (free : ℕ) (verdict other : Verdict) → IsVerdict q free verdict → IsVerdict q free other → verdict ≡ other
+HasOneVerdict =
+    (shared : Bool) (q : QueryValue) (free : ℕ) (verdict other : Verdict) → IsVerdict shared q free verdict → IsVerdict shared q free other → verdict ≡ other
 
 -- the range of a selected column goes from its least to its greatest value in the part
 abbrev pub RangesAreExact : Type 0
 RangesAreExact =
-    (q : QueryValue) (plan : List PartPlan) → IsWithinLimits q → IsFalse (is_filter q) → IsPlan q plan → IsViolation q None
+    (q : QueryValue) (plan : List PartPlan) → IsWithinLimits q → IsFalse (is_filter q) → ArePartPlans q plan → IsViolation q None
     → (part : PartPlan) → Contains plan part → (a : Attr) → Contains q.select a
     → IsLeast q part.signs.items a (range_of q part a).lo × IsGreatest q part.signs.items a (range_of q part a).hi
 

@@ -9,6 +9,9 @@ ghost use Rattle.bq_laws.specs.SoftCases.{SoftComparisons};
 ghost use Rattle.bq_laws.specs.DomainCases.{DomainsBound, DomainsArePlanned, RowsMustKeep};
 ghost use Rattle.bq_laws.specs.Sufficiency.{ReadingsSuffice, SynopsisIsRead, SynopsisSuffices, FutureIsDetermined, ExtremesAreExact, ExtremesAreAttained};
 ghost use Rattle.bq_laws.specs.Growth.{InsertsRow, SynopsesMerge, RowsMerge, PrintedGrows, AnyInterleaving};
+ghost use Rattle.bq_laws.specs.Sharing.{PlansHaveBoxes, SynopsesAreOfBoxes, BoxesAreRead, SharedCellsAgree, BoxesMerge, BasesGrow, RowsMergeIn, BoxesMeetWhole, BoxesFixCells, SharedSynopsisSuffices, HasOneSharedPlan, BoxesGrowByOne, SharedPlansExist};
+ghost use Rattle.bq_laws.specs.SharedCases.{BoxesAreMovedTogether, CellsAreShared};
+ghost use Rattle.bq_laws.specs.Bases.{BasesKeepOn, BasesStandForHistories};
 ghost use Rattle.bq_laws.specs.Rooms.{TableHasRoom, WaitingFits, CountsFit, WaitingCountsFit, CellsFit, AnswersAreCounted};
 
 /// A combination is in a part exactly where the part admits each of its rows and the links hold.
@@ -219,4 +222,90 @@ pub fn domains_are_planned()
 /// To a row outside the domains the cells do not answer what the rows do: the worked rows say which keep to them.
 pub fn rows_must_keep()
     ensures { RowsMustKeep }
+{}
+
+/// The boxes of a plan are laid out by its bases, and the different boxes by those of a plan with shared cells.
+pub fn plans_have_boxes()
+    ensures { PlansHaveBoxes }
+{}
+
+/// The synopsis of a plan is that of its boxes.
+pub fn synopses_are_of_boxes()
+    ensures { SynopsesAreOfBoxes }
+{}
+
+/// Cells that are laid out by boxes are read by the bases of the plan.
+pub fn boxes_are_read()
+    ensures { BoxesAreRead }
+{}
+
+/// Shared cells are those of the synopsis.
+pub fn shared_cells_agree()
+    ensures { SharedCellsAgree }
+{}
+
+/// The cells of one history after another are the merge of the cells of both, whichever boxes they are.
+pub fn boxes_merge()
+    ensures { BoxesMerge }
+{}
+
+/// A history is merged into any cells at once or one part after the other.
+pub fn bases_grow()
+    ensures { BasesGrow }
+{}
+
+/// Merging one row into any cells changes one cell of each box that the row lies in, and no other.
+pub fn rows_merge_in()
+    ensures { RowsMergeIn }
+{}
+
+/// Two boxes have a cell in common only where they are the same.
+pub fn boxes_meet_whole()
+    ensures { BoxesMeetWhole }
+{}
+
+/// Cells are fixed by what stands in each box.
+pub fn boxes_fix_cells()
+    ensures { BoxesFixCells }
+{}
+
+/// The shared synopsis and the printed tuples of a history tell the answers to every next row.
+pub fn shared_synopsis_suffices()
+    ensures { SharedSynopsisSuffices }
+{}
+
+/// A base is kept row by row, and going on from what was kept is going on.
+pub fn bases_keep_on()
+    ensures { BasesKeepOn }
+{}
+
+/// After creation what is kept is the base of the history, and a base answers what its history answers.
+pub fn bases_stand_for_histories()
+    ensures { BasesStandForHistories }
+{}
+
+/// A query of which no condition is violated has one plan with shared cells.
+pub fn one_shared_plan()
+    ensures { HasOneSharedPlan }
+{}
+
+/// A query whose parts have plans has a plan with shared cells.
+pub fn shared_plans_exist()
+    ensures { SharedPlansExist }
+{}
+
+/// The boxes of a worked query of twelve parts begin there, where cells are shared.
+#[tactic(auto, unfolding(bq_model::specs::Parts::pairs))]
+pub fn boxes_are_moved_together()
+    ensures { BoxesAreMovedTogether }
+{}
+
+/// A worked query of twelve parts with shared cells: it is accepted with these numbers, and is answered as without them.
+pub fn cells_are_shared()
+    ensures { CellsAreShared }
+{}
+
+/// The different boxes of a plan are told one after the other.
+pub fn boxes_grow_by_one()
+    ensures { BoxesGrowByOne }
 {}

@@ -24,3 +24,5 @@ pub mod Merge
 pub mod Reordering
 pub mod Laws
 pub mod Cases
+pub mod Sharing
+pub mod Bases
