@@ -143,7 +143,7 @@ fn show_system<O: Sink>(alloc: Global, integers: &[i64], out: &mut O) -> Result<
     }
 }
 
-/// What difference bounds imply: for each node, from 1, its least and greatest value in brackets, a star where there is none, and
+/// Writes what difference bounds imply: for each node, from 1, its least and greatest value in brackets, a star where there is none, and
 /// the least bound of its difference to each node; or `none` where no integers meet all.
 pub fn show_bounds<O: Sink>(alloc: Global, text: &[u8], out: &mut O) -> Result<(), Fault> {
     let integers = read_integers(text)?;

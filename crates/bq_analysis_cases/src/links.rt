@@ -137,12 +137,12 @@ fn show_statement<O: Sink>(
     requires limits { limit_of statement ≡ None }
 {
     match statement {
-        Statement::CreateQuery { name: _, select } => show_query(alloc, catalog, &select, out),
+        Statement::CreateQuery { select, .. } => show_query(alloc, catalog, &select, out),
         _ => Err(Fault::Line),
     }
 }
 
-/// What is told of each part of the query of a CREATE QUERY statement: each attribute by place of FROM and column, its range or a
+/// Writes what is told of each part of the query of a CREATE QUERY statement: each attribute by place of FROM and column, its range or a
 /// star, and the place of its class; the equalities, the inequalities, and the references on both sides.
 pub fn show_refs<O: Sink>(
     alloc: Global,

@@ -118,12 +118,12 @@ fn show_asked<O: Sink>(
     requires limits { limit_of statement ≡ None }
 {
     match statement {
-        Statement::CreateQuery { name: _, select } => show_plan(alloc, catalog, &select, out),
+        Statement::CreateQuery { select, .. } => show_plan(alloc, catalog, &select, out),
         _ => Err(Fault::Line),
     }
 }
 
-/// The numbers of the plan of the query of a CREATE QUERY statement, or the first that is above its limit.
+/// Writes the numbers of the plan of the query of a CREATE QUERY statement, or the first that is above its limit.
 pub fn show_planned<O: Sink>(
     alloc: Global,
     catalog: &Catalog,

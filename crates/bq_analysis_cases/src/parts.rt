@@ -104,12 +104,12 @@ fn show_asked<O: Sink>(
     requires limits { limit_of statement ≡ None }
 {
     match statement {
-        Statement::CreateQuery { name: _, select } => show_split(alloc, catalog, &select, out),
+        Statement::CreateQuery { select, .. } => show_split(alloc, catalog, &select, out),
         _ => Err(Fault::Line),
     }
 }
 
-/// How many parts the query of a CREATE QUERY statement has.
+/// Writes how many parts the query of a CREATE QUERY statement has.
 pub fn show_parts<O: Sink>(
     alloc: Global,
     catalog: &Catalog,

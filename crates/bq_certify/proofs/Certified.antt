@@ -1,5 +1,5 @@
 -- What certifying a script comes to.
-use Rattle.std.proofs.Common.{◌≡◌, ℕ, ◌+◌, None, Some, List, [], ◌∷◌, ◌++◌, length, refl, sym, ap, ◌∙◌, subst, append_assoc, append-nil, length-append, arith, Err}
+use Rattle.std.proofs.Common.{◌≡◌, ℕ, ◌+◌, Bool, None, Some, List, [], ◌∷◌, ◌++◌, length, refl, sym, ap, ◌∙◌, subst, append_assoc, append-nil, length-append, arith, Err}
 use Rattle.std.specs.Prelude.{⊤}
 use Rattle.std.proofs.lemmas.List.Elements.{All-from_recursion}
 use Rattle.bq_io.specs.Source.{SourceState}
@@ -38,15 +38,15 @@ no-more [] e = refl
 no-more (x ∷ xs) e = absurd (omega arith)
 
 -- the line of the query is the last of those that were given up to it
-none-behind : (given : List (List ℕ)) (streams : List Shape) (name : List ℕ) (select : SelectAst) (q : QueryValue) (number : ℕ)
-    → (a : Asks given streams name select q number) → number ≡ length given → a.behind ≡ []
-none-behind given streams name select q number a last =
+none-behind : (given : List (List ℕ)) (streams : List Shape) (name : List ℕ) (select : SelectAst) (shared : Bool) (q : QueryValue) (number : ℕ)
+    → (a : Asks given streams name select shared q number) → number ≡ length given → a.behind ≡ []
+none-behind given streams name select shared q number a last =
     no-more a.behind (omega (arith, last, a.number_is, ap length a.whole, length-append a.before (a.line ∷ a.behind)))
 
 -- lines that ask for a query, and more lines behind them
-abbrev asks-then : (given more all : List (List ℕ)) (streams : List Shape) (name : List ℕ) (select : SelectAst) (q : QueryValue) (number : ℕ)
-    → (a : Asks given streams name select q number) → a.behind ≡ [] → all ≡ given ++ more → Asks all streams name select q number
-asks-then given more all streams name select q number a none e = record {
+abbrev asks-then : (given more all : List (List ℕ)) (streams : List Shape) (name : List ℕ) (select : SelectAst) (shared : Bool) (q : QueryValue) (number : ℕ)
+    → (a : Asks given streams name select shared q number) → a.behind ≡ [] → all ≡ given ++ more → Asks all streams name select shared q number
+asks-then given more all streams name select shared q number a none e = record {
   before = a.before;
   line = a.line;
   behind = more;
@@ -59,13 +59,13 @@ asks-then given more all streams name select q number a none e = record {
 -- the query of a script is too large
 pub comes-large : (script : Script) (source now : SourceState) (reader : Reading) → GaveScript script source now reader → IsTooLarge script.query → ComesTo Certifies source now (refusal script.line Limit)
 comes-large script source now reader g large =
-    let none = none-behind g.given script.catalog g.name g.select script.query script.line g.asks g.last in
+    let none = none-behind g.given script.catalog g.name g.select g.shared script.query script.line g.asks g.last in
     let all : lines g.front ≡ g.given ++ [] = front-lines source now reader g.front g.given g.lines ∙ sym (append-nil g.given) in
     record {
       text = g.front;
       took = took-lines source now reader g.front g.given (omega (arith, g.last, g.asks.number_is)) g.lines;
-      comes = certifying.large script.catalog g.name g.select script.query script.line
-          (asks-then g.given [] (lines g.front) script.catalog g.name g.select script.query script.line g.asks none all) large refl;
+      comes = certifying.large script.catalog g.name g.select g.shared script.query script.line
+          (asks-then g.given [] (lines g.front) script.catalog g.name g.select g.shared script.query script.line g.asks none all) large refl;
       needed = omega (arith, ap length (front-lines source now reader g.front g.given g.lines), g.last);
     }
 
@@ -74,14 +74,14 @@ pub comes-misplaced : (script : Script) (source now now' : SourceState) (old new
     → GaveLine source now' g.given new (λ place line. (number ≡ place) × IsMisplaced line word) → ComesTo Certifies source now' (refusal number word)
 comes-misplaced script source now now' old new number word g small t =
     let more = t.blanks ++ t.line ∷ [] in
-    let none = none-behind g.given script.catalog g.name g.select script.query script.line g.asks g.last in
+    let none = none-behind g.given script.catalog g.name g.select g.shared script.query script.line g.asks g.last in
     let all : lines t.front ≡ g.given ++ more = front-lines source now' new t.front (g.given ++ more) t.lines in
     let place : number ≡ script.line + length t.blanks + 1 = omega (arith, t.holds.0, g.last, length-append g.given t.blanks) in
     record {
       text = t.front;
       took = took-lines source now' new t.front (g.given ++ more) (omega (arith, g.last, g.asks.number_is, length-append g.given more)) t.lines;
-      comes = certifying.misplaced script.catalog g.name g.select script.query script.line
-          (asks-then g.given more (lines t.front) script.catalog g.name g.select script.query script.line g.asks none all) small t.blanks t.line [] word refl
+      comes = certifying.misplaced script.catalog g.name g.select g.shared script.query script.line
+          (asks-then g.given more (lines t.front) script.catalog g.name g.select g.shared script.query script.line g.asks none all) small t.blanks t.line [] word refl
           (All-from_recursion IsBlank t.blanks t.blank) t.holds.1 (ap (λ n. refusal n word) place);
       needed = omega (arith, ap length all, length-append g.given more, length-append t.blanks (t.line ∷ []), t.holds.0, length-append g.given t.blanks);
     }
@@ -90,13 +90,13 @@ comes-misplaced script source now now' old new number word g small t =
 pub comes-whole : (script : Script) (certificate : List Line) (source now now' : SourceState) (old new : Reading) (g : GaveScript script source now old) → ¬ IsTooLarge script.query
     → AreLines certificate → IsGood script.query (nodes_of certificate) → GaveAll source now' g.given new → ComesTo Certifies source now' (ends_with script certificate)
 comes-whole script certificate source now now' old new g small are good t =
-    let none = none-behind g.given script.catalog g.name g.select script.query script.line g.asks g.last in
+    let none = none-behind g.given script.catalog g.name g.select g.shared script.query script.line g.asks g.last in
     let written : Statement → Outcome = λ s. record { status = status.Done; text = script_text script.catalog s ++ certificate_text certificate; needs = None } in
     record {
       text = t.text;
       took = took-all source now' t.text t.lines.all;
-      comes = certifying.whole script.catalog g.name g.select script.query script.line
-          (asks-then g.given t.blanks (lines t.text) script.catalog g.name g.select script.query script.line g.asks none t.lines.are) small
+      comes = certifying.whole script.catalog g.name g.select g.shared script.query script.line
+          (asks-then g.given t.blanks (lines t.text) script.catalog g.name g.select g.shared script.query script.line g.asks none t.lines.are) small
           (All-from_recursion IsBlank t.blanks t.blank) certificate are good (ap written g.states);
       needed = (t.lines.all, t.lines.few);
     }
@@ -105,16 +105,16 @@ comes-whole script certificate source now now' old new g small are good t =
 unsettled-behind : (script : Script) (certificate : List Line) (source now now' : SourceState) (old new : Reading) (P : List ℕ → Type 0) (g : GaveScript script source now old) → ¬ IsTooLarge script.query
     → AreLines certificate → IsGood script.query (nodes_of certificate) → GaveLast source now' g.given new P → TookUnsettled Certifies source now' P
 unsettled-behind script certificate source now now' old new P g small are good t =
-    let none = none-behind g.given script.catalog g.name g.select script.query script.line g.asks g.last in
+    let none = none-behind g.given script.catalog g.name g.select g.shared script.query script.line g.asks g.last in
     let all = lines (ended_part t.text) in
-    let whole : Certifies all (certified script.catalog g.name g.select certificate) =
-    certifying.whole script.catalog g.name g.select script.query script.line
-    (asks-then g.given t.blanks all script.catalog g.name g.select script.query script.line g.asks none t.lines.are) small
+    let whole : Certifies all (certified script.catalog g.name g.select g.shared certificate) =
+    certifying.whole script.catalog g.name g.select g.shared script.query script.line
+    (asks-then g.given t.blanks all script.catalog g.name g.select g.shared script.query script.line g.asks none t.lines.are) small
     (All-from_recursion IsBlank t.blanks t.blank) certificate are good refl in
     record {
       text = t.text;
       taken = t.lines.taken;
-      unsettled = λ o is. certifies-alike all o (certified script.catalog g.name g.select certificate) is whole refl;
+      unsettled = λ o is. certifies-alike all o (certified script.catalog g.name g.select g.shared certificate) is whole refl;
       holds = t.holds;
     }
 

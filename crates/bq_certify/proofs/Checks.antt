@@ -1,5 +1,5 @@
 -- What a script with a certificate comes to.
-use Rattle.std.proofs.Common.{◌≡◌, ℕ, suc, ◌+◌, List, [], ◌∷◌, ◌++◌, length, Some, refl, sym, ap, ◌∙◌, subst, append_assoc, length-append, arith, Ok, Err}
+use Rattle.std.proofs.Common.{◌≡◌, ℕ, suc, ◌+◌, Bool, List, [], ◌∷◌, ◌++◌, length, Some, refl, sym, ap, ◌∙◌, subst, append_assoc, length-append, arith, Ok, Err}
 use Rattle.std.specs.Prelude.{⊤}
 use Rattle.bq_io.specs.Source.{SourceState}
 use Rattle.bq_feed.specs.Reading.{Reading}
@@ -34,9 +34,9 @@ none-behind before line [] n e f = refl
 none-behind before line (x ∷ behind) n e f = absurd (omega (arith, e, f, length-append before (line ∷ x ∷ behind)))
 
 -- these lines ask for the query, and what stands behind it is this
-abbrev pub asks-all : (given more all : List (List ℕ)) (streams : List Shape) (name : List ℕ) (select : SelectAst) (q : QueryValue) (number : ℕ) → Asks given streams name select q number → number ≡ length given → all ≡ given ++ more
-    → Asks all streams name select q number
-asks-all given more all streams name select q number a last e = record {
+abbrev pub asks-all : (given more all : List (List ℕ)) (streams : List Shape) (name : List ℕ) (select : SelectAst) (shared : Bool) (q : QueryValue) (number : ℕ) → Asks given streams name select shared q number → number ≡ length given → all ≡ given ++ more
+    → Asks all streams name select shared q number
+asks-all given more all streams name select shared q number a last e = record {
   before = a.before;
   line = a.line;
   behind = more;
@@ -88,8 +88,8 @@ later script source now now' reader number word g r =
       comes = record {
         text = r.text;
         took = r.took;
-        comes = checking.later script.catalog g.name g.select script.query script.line
-            (asks-all g.given (r.before ++ r.line ∷ []) (lines r.text) script.catalog g.name g.select script.query script.line g.asks g.last r.are)
+        comes = checking.later script.catalog g.name g.select g.shared script.query script.line
+            (asks-all g.given (r.before ++ r.line ∷ []) (lines r.text) script.catalog g.name g.select g.shared script.query script.line g.asks g.last r.are)
             r.before r.line [] r.certificate word refl r.collect r.refused (ap (λ n. refusal n word) place);
         needed = omega (arith, ap length r.are, length-append g.given (r.before ++ r.line ∷ []), length-append r.before (r.line ∷ []), r.number_is);
       };
@@ -102,8 +102,8 @@ unsettled-behind script source now now' reader P g r =
     record {
       text = r.text;
       taken = r.taken;
-      unsettled = collected-unsettled all script.catalog g.name g.select script.query script.line
-          (asks-all g.given r.behind all script.catalog g.name g.select script.query script.line g.asks g.last r.are) r.certificate r.collect;
+      unsettled = collected-unsettled all script.catalog g.name g.select g.shared script.query script.line
+          (asks-all g.given r.behind all script.catalog g.name g.select g.shared script.query script.line g.asks g.last r.are) r.certificate r.collect;
       holds = r.holds;
     }
 
@@ -122,8 +122,8 @@ ends-whole script source now now' reader certificate answer checked g c is e =
       record {
         text = c.text;
         took = took-all source now' c.text c.all;
-        comes = checking.whole script.catalog g.name g.select script.query script.line
-            (asks-all g.given c.behind (lines c.text) script.catalog g.name g.select script.query script.line g.asks g.last c.are)
+        comes = checking.whole script.catalog g.name g.select g.shared script.query script.line
+            (asks-all g.given c.behind (lines c.text) script.catalog g.name g.select g.shared script.query script.line g.asks g.last c.are)
             certificate answer c.collect is (ap (λ n. answered script.catalog n script.query answer) (ap name_of g.states));
         needed = subst (λ n. AreNeeded n source now' c.text) (sym (answered-needs script.catalog (name_of script.statement) script.query answer)) (c.all, c.few);
       },

@@ -1,5 +1,5 @@
 -- What the commands come to stays when more lines follow.
-use Rattle.std.proofs.Common.{◌≡◌, ℕ, List, ◌∷◌, ◌++◌, None, Some, refl, sym, ap, ◌∙◌, append_assoc}
+use Rattle.std.proofs.Common.{◌≡◌, ℕ, Bool, List, ◌∷◌, ◌++◌, None, Some, refl, sym, ap, ◌∙◌, append_assoc}
 use Rattle.bq_model.specs.Query.{QueryValue}
 use Rattle.bq_schema.specs.Streams.{Shape}
 use Rattle.bq_parser.specs.declared.tree.SelectAst.{SelectAst}
@@ -18,8 +18,8 @@ more-behind : (all before : List (List ℕ)) (line : List ℕ) (behind more : Li
 more-behind all before line behind more e = ap (λ l. l ++ more) e ∙ append_assoc before (line ∷ behind) more
 
 -- more lines behind a query
-abbrev asks-more : (all more : List (List ℕ)) (streams : List Shape) (name : List ℕ) (select : SelectAst) (q : QueryValue) (number : ℕ) → Asks all streams name select q number → Asks (all ++ more) streams name select q number
-asks-more all more streams name select q number a = record {
+abbrev asks-more : (all more : List (List ℕ)) (streams : List Shape) (name : List ℕ) (select : SelectAst) (shared : Bool) (q : QueryValue) (number : ℕ) → Asks all streams name select shared q number → Asks (all ++ more) streams name select shared q number
+asks-more all more streams name select shared q number a = record {
   before = a.before;
   line = a.line;
   behind = a.behind ++ more;
@@ -45,15 +45,15 @@ early-stays IsOutcome early all more o n number word (at_end streams create word
 
 pub certifying-stays : StaysWhenMoreFollows Certifies
 certifying-stays all more o n (certifying.early number word refused e) some = early-stays Certifies (λ l i w r p f. certifying.early i w r f) all more o n number word refused e some
-certifying-stays all more o n (certifying.large streams name select q number asks large e) some =
-    certifying.large streams name select q number (asks-more all more streams name select q number asks) large e
-certifying-stays all more o n (certifying.misplaced streams name select q number asks small blanks line others word is blank wrong e) some =
-    certifying.misplaced streams name select q number (asks-more all more streams name select q number asks) small blanks line (others ++ more) word
+certifying-stays all more o n (certifying.large streams name select shared q number asks large e) some =
+    certifying.large streams name select shared q number (asks-more all more streams name select shared q number asks) large e
+certifying-stays all more o n (certifying.misplaced streams name select shared q number asks small blanks line others word is blank wrong e) some =
+    certifying.misplaced streams name select shared q number (asks-more all more streams name select shared q number asks) small blanks line (others ++ more) word
     (more-behind asks.behind blanks line others more is) blank wrong e
-certifying-stays all more o n (certifying.whole streams name select q number asks small blank c are good e) some = absurd (needs-all o _ n e refl some)
+certifying-stays all more o n (certifying.whole streams name select shared q number asks small blank c are good e) some = absurd (needs-all o _ n e refl some)
 
 pub checking-stays : StaysWhenMoreFollows Checks
 checking-stays all more o n (checking.early number word refused e) some = early-stays Checks (λ l i w r p f. checking.early i w r f) all more o n number word refused e some
-checking-stays all more o n (checking.later streams name select q number asks before text others c word is collect refused e) some =
-    checking.later streams name select q number (asks-more all more streams name select q number asks) before text (others ++ more) c word (more-behind asks.behind before text others more is) collect refused e
-checking-stays all more o n (checking.whole streams name select q number asks c answer collect is e) some = absurd (needs-all o (answered streams name q answer) n e (answered-needs streams name q answer) some)
+checking-stays all more o n (checking.later streams name select shared q number asks before text others c word is collect refused e) some =
+    checking.later streams name select shared q number (asks-more all more streams name select shared q number asks) before text (others ++ more) c word (more-behind asks.behind before text others more is) collect refused e
+checking-stays all more o n (checking.whole streams name select shared q number asks c answer collect is e) some = absurd (needs-all o (answered streams name q answer) n e (answered-needs streams name q answer) some)

@@ -1,5 +1,5 @@
 -- The lines determine what `certify` comes to, but for the certificate.
-use Rattle.std.proofs.Common.{◌≡◌, ℕ, suc, None, List, [], ◌∷◌, ◌++◌, length, refl, sym, ap, ap₂, ◌∙◌, subst, arith}
+use Rattle.std.proofs.Common.{◌≡◌, ℕ, suc, Bool, None, List, [], ◌∷◌, ◌++◌, length, refl, sym, ap, ap₂, ◌∙◌, subst, arith}
 use Rattle.std.specs.List.{All, AllByRecursion}
 use Rattle.std.proofs.lemmas.List.Elements.{recursion_from_All}
 use Rattle.bq_schema.specs.Streams.{Shape}
@@ -46,53 +46,55 @@ blank-placed (z ∷ xs) x rest w all i = blank-placed xs x rest w all.1 i
 all-placed : (texts xs : List (List ℕ)) (x : List ℕ) (rest : List (List ℕ)) (w : Word) → texts ≡ xs ++ x ∷ rest → All IsBlank texts → IsMisplaced x w → ⊥
 all-placed texts xs x rest w e all i = blank-placed xs x rest w (subst (AllByRecursion IsBlank) e (recursion_from_All IsBlank texts all)) i
 
-certified-same : (streams shapes : List Shape) (name title : List ℕ) (select choice : SelectAst) (c : List Line) → streams ≡ shapes → name ≡ title → select ≡ choice → certified streams name select c ≡ certified shapes title choice c
-certified-same streams shapes name title select choice c e f g = ap (λ s. certified s name select c) e ∙ ap (λ n. certified shapes n select c) f ∙ ap (λ x. certified shapes title x c) g
+certified-same : (streams shapes : List Shape) (name title : List ℕ) (select choice : SelectAst) (shared joint : Bool) (c : List Line) → streams ≡ shapes → name ≡ title → select ≡ choice → shared ≡ joint
+    → certified streams name select shared c ≡ certified shapes title choice joint c
+certified-same streams shapes name title select choice shared joint c e f g h =
+    ap (λ s. certified s name select shared c) e ∙ ap (λ n. certified shapes n select shared c) f ∙ ap (λ x. certified shapes title x shared c) g ∙ ap (λ b. certified shapes title choice b c) h
 
 pub alike : (all : List (List ℕ)) (o p : Outcome) → Certifies all o → Certifies all p → AreAlike o p
 alike all o p (certifying.early m v a e) (certifying.early n w b f) = same (e ∙ early-same all m n v w a b ∙ sym f)
-alike all o p (certifying.early m v a e) (certifying.large streams name select q n asks large f) = absurd ((one_end all).2 streams name select q n m v asks a)
-alike all o p (certifying.early m v a e) (certifying.misplaced streams name select q n asks small blanks line others w is blank wrong f) = absurd ((one_end all).2 streams name select q n m v asks a)
-alike all o p (certifying.early m v a e) (certifying.whole streams name select q n asks small blank c are good f) = absurd ((one_end all).2 streams name select q n m v asks a)
-alike all o p (certifying.large streams name select q n asks large e) (certifying.early m v a f) = absurd ((one_end all).2 streams name select q n m v asks a)
-alike all o p (certifying.large streams name select q m asks large e) (certifying.large shapes title choice r n also great f) =
-    let i = (one_end all).0 streams shapes name title select choice q r m n asks also in
-    same (e ∙ ap (λ k. refusal k Limit) i.4 ∙ sym f)
-alike all o p (certifying.large streams name select q m asks large e) (certifying.misplaced shapes title choice r n also small blanks line others w is blank wrong f) =
-    let i = (one_end all).0 streams shapes name title select choice q r m n asks also in
-    absurd (small (subst IsTooLarge i.3 large))
-alike all o p (certifying.large streams name select q m asks large e) (certifying.whole shapes title choice r n also small blank c are good f) =
-    let i = (one_end all).0 streams shapes name title select choice q r m n asks also in
-    absurd (small (subst IsTooLarge i.3 large))
-alike all o p (certifying.misplaced streams name select q n asks small blanks line others w is blank wrong e) (certifying.early m v a f) = absurd ((one_end all).2 streams name select q n m v asks a)
-alike all o p (certifying.misplaced streams name select q m asks small blanks line others v is blank wrong e) (certifying.large shapes title choice r n also large f) =
-    let i = (one_end all).0 streams shapes name title select choice q r m n asks also in
-    absurd (small (subst IsTooLarge (sym i.3) large))
-alike all o p (certifying.misplaced streams name select q m asks small blanks line others v is blank wrong e) (certifying.misplaced shapes title choice r n also little empty text more w it bare bad f) =
-    let i = (one_end all).0 streams shapes name title select choice q r m n asks also in
-    let behind : asks.behind ≡ also.behind = behind-same all streams shapes name title select choice q r m n asks also i.4 in
+alike all o p (certifying.early m v a e) (certifying.large streams name select shared q n asks large f) = absurd ((one_end all).2 streams name select shared q n m v asks a)
+alike all o p (certifying.early m v a e) (certifying.misplaced streams name select shared q n asks small blanks line others w is blank wrong f) = absurd ((one_end all).2 streams name select shared q n m v asks a)
+alike all o p (certifying.early m v a e) (certifying.whole streams name select shared q n asks small blank c are good f) = absurd ((one_end all).2 streams name select shared q n m v asks a)
+alike all o p (certifying.large streams name select shared q n asks large e) (certifying.early m v a f) = absurd ((one_end all).2 streams name select shared q n m v asks a)
+alike all o p (certifying.large streams name select shared q m asks large e) (certifying.large shapes title choice joint r n also great f) =
+    let i = (one_end all).0 streams shapes name title select choice shared joint q r m n asks also in
+    same (e ∙ ap (λ k. refusal k Limit) i.5 ∙ sym f)
+alike all o p (certifying.large streams name select shared q m asks large e) (certifying.misplaced shapes title choice joint r n also small blanks line others w is blank wrong f) =
+    let i = (one_end all).0 streams shapes name title select choice shared joint q r m n asks also in
+    absurd (small (subst IsTooLarge i.4 large))
+alike all o p (certifying.large streams name select shared q m asks large e) (certifying.whole shapes title choice joint r n also small blank c are good f) =
+    let i = (one_end all).0 streams shapes name title select choice shared joint q r m n asks also in
+    absurd (small (subst IsTooLarge i.4 large))
+alike all o p (certifying.misplaced streams name select shared q n asks small blanks line others w is blank wrong e) (certifying.early m v a f) = absurd ((one_end all).2 streams name select shared q n m v asks a)
+alike all o p (certifying.misplaced streams name select shared q m asks small blanks line others v is blank wrong e) (certifying.large shapes title choice joint r n also large f) =
+    let i = (one_end all).0 streams shapes name title select choice shared joint q r m n asks also in
+    absurd (small (subst IsTooLarge (sym i.4) large))
+alike all o p (certifying.misplaced streams name select shared q m asks small blanks line others v is blank wrong e) (certifying.misplaced shapes title choice joint r n also little empty text more w it bare bad f) =
+    let i = (one_end all).0 streams shapes name title select choice shared joint q r m n asks also in
+    let behind : asks.behind ≡ also.behind = behind-same all streams shapes name title select choice shared joint q r m n asks also i.5 in
     let k = one-misplaced blanks empty line text others more v w (recursion_from_All IsBlank blanks blank) (recursion_from_All IsBlank empty bare) wrong bad (sym is ∙ behind ∙ it) in
-    same (e ∙ ap₂ (λ (j : ℕ) (x : Word). refusal j x) (omega (arith, i.4, k.0)) k.1 ∙ sym f)
-alike all o p (certifying.misplaced streams name select q m asks small blanks line others v is blank wrong e) (certifying.whole shapes title choice r n also little bare c are good f) =
-    let i = (one_end all).0 streams shapes name title select choice q r m n asks also in
-    let behind : asks.behind ≡ also.behind = behind-same all streams shapes name title select choice q r m n asks also i.4 in
+    same (e ∙ ap₂ (λ (j : ℕ) (x : Word). refusal j x) (omega (arith, i.5, k.0)) k.1 ∙ sym f)
+alike all o p (certifying.misplaced streams name select shared q m asks small blanks line others v is blank wrong e) (certifying.whole shapes title choice joint r n also little bare c are good f) =
+    let i = (one_end all).0 streams shapes name title select choice shared joint q r m n asks also in
+    let behind : asks.behind ≡ also.behind = behind-same all streams shapes name title select choice shared joint q r m n asks also i.5 in
     absurd (all-placed also.behind blanks line others v (sym behind ∙ is) bare wrong)
-alike all o p (certifying.whole streams name select q n asks small blank c are good e) (certifying.early m v a f) = absurd ((one_end all).2 streams name select q n m v asks a)
-alike all o p (certifying.whole streams name select q m asks small blank c are good e) (certifying.large shapes title choice r n also large f) =
-    let i = (one_end all).0 streams shapes name title select choice q r m n asks also in
-    absurd (small (subst IsTooLarge (sym i.3) large))
-alike all o p (certifying.whole streams name select q m asks small blank c are good e) (certifying.misplaced shapes title choice r n also little empty text more w it bare bad f) =
-    let i = (one_end all).0 streams shapes name title select choice q r m n asks also in
-    let behind : asks.behind ≡ also.behind = behind-same all streams shapes name title select choice q r m n asks also i.4 in
+alike all o p (certifying.whole streams name select shared q n asks small blank c are good e) (certifying.early m v a f) = absurd ((one_end all).2 streams name select shared q n m v asks a)
+alike all o p (certifying.whole streams name select shared q m asks small blank c are good e) (certifying.large shapes title choice joint r n also large f) =
+    let i = (one_end all).0 streams shapes name title select choice shared joint q r m n asks also in
+    absurd (small (subst IsTooLarge (sym i.4) large))
+alike all o p (certifying.whole streams name select shared q m asks small blank c are good e) (certifying.misplaced shapes title choice joint r n also little empty text more w it bare bad f) =
+    let i = (one_end all).0 streams shapes name title select choice shared joint q r m n asks also in
+    let behind : asks.behind ≡ also.behind = behind-same all streams shapes name title select choice shared joint q r m n asks also i.5 in
     absurd (all-placed asks.behind empty text more w (behind ∙ it) blank bad)
-alike all o p (certifying.whole streams name select q m asks small blank c are good e) (certifying.whole shapes title choice r n also little bare d lines fine f) =
-    let i = (one_end all).0 streams shapes name title select choice q r m n asks also in
-    both shapes title choice c d (e ∙ certified-same streams shapes name title select choice c i.0 i.1 i.2) f
+alike all o p (certifying.whole streams name select shared q m asks small blank c are good e) (certifying.whole shapes title choice joint r n also little bare d lines fine f) =
+    let i = (one_end all).0 streams shapes name title select choice shared joint q r m n asks also in
+    both shapes title choice joint c d (e ∙ certified-same streams shapes name title select choice shared joint c i.0 i.1 i.2 i.3) f
 
 -- where one outcome needs all lines, each does
 needs-alike : (o p : Outcome) → AreAlike o p → p.needs ≡ None → o.needs ≡ None
 needs-alike o p (same e) none = ap (λ (x : Outcome). x.needs) e ∙ none
-needs-alike o p (both streams name select c d e f) none = ap (λ (x : Outcome). x.needs) e
+needs-alike o p (both streams name select shared c d e f) none = ap (λ (x : Outcome). x.needs) e
 
 pub certifies-alike : (all : List (List ℕ)) (o p : Outcome) → Certifies all o → Certifies all p → p.needs ≡ None → o.needs ≡ None
 certifies-alike all o p a b none = needs-alike o p (alike all o p a b) none

@@ -1,5 +1,5 @@
 -- Lines are refused once before the query, or the same lines stand behind it.
-use Rattle.std.proofs.Common.{◌≡◌, ℕ, List, [], ◌∷◌, ◌++◌, length, None, sym, ap, ap₂, ◌∙◌, length-append, arith}
+use Rattle.std.proofs.Common.{◌≡◌, ℕ, Bool, List, [], ◌∷◌, ◌++◌, length, None, sym, ap, ap₂, ◌∙◌, length-append, arith}
 use Rattle.bq_io.specs.declared.status.Status.TheVariants as status
 use Rattle.bq_model.specs.Query.{QueryValue}
 use Rattle.bq_schema.specs.Streams.{Shape}
@@ -24,9 +24,9 @@ rest-same (a ∷ xs) [] x y rest others e same = absurd (omega (arith, same))
 rest-same (a ∷ xs) (b ∷ ys) x y rest others e same = rest-same xs ys x y rest others (tail-same a b (xs ++ x ∷ rest) (ys ++ y ∷ others) e) (omega (arith, same))
 
 -- the same lines stand behind the query
-pub behind-same : (all : List (List ℕ)) (streams shapes : List Shape) (name title : List ℕ) (select choice : SelectAst) (q r : QueryValue) (m n : ℕ)
-    → (a : Asks all streams name select q m) → (b : Asks all shapes title choice r n) → m ≡ n → a.behind ≡ b.behind
-behind-same all streams shapes name title select choice q r m n a b e =
+pub behind-same : (all : List (List ℕ)) (streams shapes : List Shape) (name title : List ℕ) (select choice : SelectAst) (shared joint : Bool) (q r : QueryValue) (m n : ℕ)
+    → (a : Asks all streams name select shared q m) → (b : Asks all shapes title choice joint r n) → m ≡ n → a.behind ≡ b.behind
+behind-same all streams shapes name title select choice shared joint q r m n a b e =
     rest-same a.before b.before a.line b.line a.behind b.behind (sym a.whole ∙ b.whole) (omega (arith, a.number_is, b.number_is, e))
 
 -- a line is refused, or the end: not both by the same number

@@ -1,5 +1,5 @@
 -- What `certify` comes to over the lines of a script.
-use Rattle.std.specs.Prelude.{◌≡◌, ℕ, ◌+◌, Option, None, Some, List, ◌∷◌, ◌++◌, length}
+use Rattle.std.specs.Prelude.{◌≡◌, ℕ, ◌+◌, Bool, Option, None, Some, List, ◌∷◌, ◌++◌, length}
 use Rattle.std.specs.List.{All}
 use Rattle.bq_io.specs.declared.status.Status.TheVariants as status
 use Rattle.bq_model.specs.Query.{QueryValue}
@@ -32,18 +32,18 @@ abbrev pub early_refusal : {lines : List (List ℕ)} (number : ℕ) (word : Word
 early_refusal number word refused = record { status = status.Invalid; text = error_text number word; needs = lines_for number refused }
 
 -- the statements of a script in printed form, and a certificate
-abbrev pub certified : List Shape → List ℕ → SelectAst → List Line → Outcome
-certified streams name select lines = record { status = status.Done; text = script_text streams (CreateQuery name select) ++ certificate_text lines; needs = None }
+abbrev pub certified : List Shape → List ℕ → SelectAst → Bool → List Line → Outcome
+certified streams name select shared lines = record { status = status.Done; text = script_text streams (CreateQuery name select shared) ++ certificate_text lines; needs = None }
 
 -- What it comes to: the first line that is refused before the query; the line of a query that is too large for a certificate; the first
 -- line behind it that says something; or else the script with a good certificate, whichever it is.
 pub data Certifies (lines : List (List ℕ)) (o : Outcome) : Type 0 where
   early : (number : ℕ) (word : Word) (refused : IsRefusedAt lines number word) → o ≡ early_refusal number word refused → Certifies lines o
-  large : (streams : List Shape) (name : List ℕ) (select : SelectAst) (q : QueryValue) (number : ℕ) → Asks lines streams name select q number
+  large : (streams : List Shape) (name : List ℕ) (select : SelectAst) (shared : Bool) (q : QueryValue) (number : ℕ) → Asks lines streams name select shared q number
       → IsTooLarge q → o ≡ refusal number Limit → Certifies lines o
-  misplaced : (streams : List Shape) (name : List ℕ) (select : SelectAst) (q : QueryValue) (number : ℕ) (asks : Asks lines streams name select q number)
+  misplaced : (streams : List Shape) (name : List ℕ) (select : SelectAst) (shared : Bool) (q : QueryValue) (number : ℕ) (asks : Asks lines streams name select shared q number)
       → ¬ IsTooLarge q → (blanks : List (List ℕ)) (line : List ℕ) (others : List (List ℕ)) (word : Word) → asks.behind ≡ blanks ++ line ∷ others → All IsBlank blanks
       → IsMisplaced line word → o ≡ refusal (number + length blanks + 1) word → Certifies lines o
-  whole : (streams : List Shape) (name : List ℕ) (select : SelectAst) (q : QueryValue) (number : ℕ) (asks : Asks lines streams name select q number)
+  whole : (streams : List Shape) (name : List ℕ) (select : SelectAst) (shared : Bool) (q : QueryValue) (number : ℕ) (asks : Asks lines streams name select shared q number)
       → ¬ IsTooLarge q → All IsBlank asks.behind → (certificate : List Line) → AreLines certificate → IsGood q (nodes_of certificate)
-      → o ≡ certified streams name select certificate → Certifies lines o
+      → o ≡ certified streams name select shared certificate → Certifies lines o

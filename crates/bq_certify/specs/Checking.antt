@@ -1,5 +1,5 @@
 -- What `check` comes to over the lines of a script with a certificate.
-use Rattle.std.specs.Prelude.{◌≡◌, ℕ, ◌+◌, ◌<◌, ◌≤◌, None, List, [], ◌∷◌, ◌++◌, length, codes, decimal}
+use Rattle.std.specs.Prelude.{◌≡◌, ℕ, ◌+◌, ◌<◌, ◌≤◌, Bool, None, List, [], ◌∷◌, ◌++◌, length, codes, decimal}
 use Rattle.bq_io.specs.declared.status.Status.TheVariants as status
 use Rattle.bq_model.specs.declared.decision.Decision.{Decision}
 use Rattle.bq_model.specs.declared.decision.Decision.TheVariants as decision
@@ -60,9 +60,9 @@ answered streams name q (No place why) = record { status = status.Invalid; text 
 -- answer to the certificate.
 pub data Checks (lines : List (List ℕ)) (o : Outcome) : Type 0 where
   early : (number : ℕ) (word : Word) (refused : IsRefusedAt lines number word) → o ≡ early_refusal number word refused → Checks lines o
-  later : (streams : List Shape) (name : List ℕ) (select : SelectAst) (q : QueryValue) (number : ℕ) (asks : Asks lines streams name select q number)
+  later : (streams : List Shape) (name : List ℕ) (select : SelectAst) (shared : Bool) (q : QueryValue) (number : ℕ) (asks : Asks lines streams name select shared q number)
       → (before : List (List ℕ)) (text : List ℕ) (others : List (List ℕ)) (certificate : List Line) (word : Word) → asks.behind ≡ before ++ text ∷ others
       → Collect [] before certificate → IsRefusedLine certificate text word → o ≡ refusal (number + length before + 1) word → Checks lines o
-  whole : (streams : List Shape) (name : List ℕ) (select : SelectAst) (q : QueryValue) (number : ℕ) (asks : Asks lines streams name select q number)
+  whole : (streams : List Shape) (name : List ℕ) (select : SelectAst) (shared : Bool) (q : QueryValue) (number : ℕ) (asks : Asks lines streams name select shared q number)
       → (certificate : List Line) (answer : CheckAnswer) → Collect [] asks.behind certificate → IsCheckAnswer q (nodes_of certificate) answer
       → o ≡ answered streams name q answer → Checks lines o

@@ -30,7 +30,7 @@ use Rattle.bq_certify.specs.Checking.{Collect, IsRefusedLine, answered, Checks}
 -- the name in a statement
 abbrev pub name_of : Statement → List ℕ
 name_of (statements.CreateStream name columns) = name
-name_of (statements.CreateQuery name select) = name
+name_of (statements.CreateQuery name select shared) = name
 name_of (statements.Explain name) = name
 name_of (statements.DropQuery name) = name
 

@@ -1,5 +1,5 @@
 -- The laws of the commands on certificates.
-use Rattle.std.specs.Prelude.{◌≡◌, ℕ, Some, List, ◌++◌}
+use Rattle.std.specs.Prelude.{◌≡◌, ℕ, Bool, Some, List, ◌++◌}
 use Rattle.bq_schema.specs.Streams.{Shape}
 use Rattle.bq_parser.specs.declared.tree.SelectAst.{SelectAst}
 use Rattle.bq_certificate.specs.declared.line.Line.{Line}
@@ -14,7 +14,7 @@ HasOneAnswer = (all : List (List ℕ)) → (o p : Outcome) → Checks all o → 
 -- two outcomes are the same, or the same script with a certificate each
 pub data AreAlike (o p : Outcome) : Type 0 where
   same : o ≡ p → AreAlike o p
-  both : (streams : List Shape) (name : List ℕ) (select : SelectAst) (c d : List Line) → o ≡ certified streams name select c → p ≡ certified streams name select d → AreAlike o p
+  both : (streams : List Shape) (name : List ℕ) (select : SelectAst) (shared : Bool) (c d : List Line) → o ≡ certified streams name select shared c → p ≡ certified streams name select shared d → AreAlike o p
 
 -- the lines determine what `certify` comes to, but for the certificate that is written
 abbrev pub CertifiesOnce : Type 0

@@ -149,7 +149,7 @@ pub fn write_decision<O: Sink>(
     }
 }
 
-/// `no P Shape`
+/// Writes `no P Shape`
 pub fn write_no<O: Sink>(out: &mut O, place: u32, reason: Reason) -> Result<(), WriteFault>
     ensures { Writes result (O.seen out.old) (O.seen out.new) (codes "no " ++ decimal place ++ 32 ∷ checking.reason_text reason ++ 10 ∷ []) }
 {

@@ -7,7 +7,7 @@ use bq_io::{Sink, Status, WriteFault};
 use bq_script::ScriptEnd;
 use bq_session::write_refused;
 
-/// The status behind a write: this one, or that the sink failed.
+/// Returns the status behind a write: this one, or that the sink failed.
 pub fn status_after(written: Result<(), WriteFault>, aim: Status) -> Status
     ensures { result ≡ telling.status_after written aim }
 {

@@ -2,21 +2,21 @@
 use Rattle.std.proofs.Common.{◌≡◌, ◌≢◌, ℕ, List, sym, ap, ◌∙◌, subst, take, drop}
 use Rattle.bq_model.specs.declared.cell.Cell.{Cell}
 use Rattle.bq_model.specs.Meaning.{Arrival}
-use Rattle.bq_model.specs.Numbers.{cell_count}
+use Rattle.bq_model.specs.Sharing.{sizes_in}
 use Rattle.bq_model.specs.Combinations.{read_from}
 use Rattle.bq_synopsis.specs.Premises.{AreFitting}
 use Rattle.bq_pool.specs.declared.pool.Extent.{Extent}
 use Rattle.bq_pool.specs.Extents.{PoolValue, cells_of, with_cells, IsLive, IsTaken, IsGivenBack}
 use Rattle.bq_pool.proofs.CallerLemmas.{cells_of_other, live_other, live_beside_taken, live_beside_back}
-use Rattle.bq_executor.specs.Executor.{ExecutorValue, parts_in, cells_in}
+use Rattle.bq_executor.specs.Executor.{ExecutorValue, list_in, cells_in}
 use Rattle.bq_executor.specs.Standing.{StandsFor, CountsUpto, AreKept, KeepsWithin}
 
 -- another pool in which the extent is live with the same cells
 pub stands_same : (e : ExecutorValue) (p o : PoolValue) (h : List Arrival) → IsLive o e.extent → cells_of o e.extent ≡ cells_of p e.extent → StandsFor e p h → StandsFor e o h
 stands_same e p o h live same s = record {
   live = live;
-  cells = ap (take (cell_count (parts_in e))) same ∙ s.cells;
-  rest = ap (drop (cell_count (parts_in e))) same ∙ s.rest;
+  cells = ap (take (sizes_in (list_in e))) same ∙ s.cells;
+  rest = ap (drop (sizes_in (list_in e))) same ∙ s.rest;
   given = s.given;
   rows = s.rows;
   tuples = s.tuples;
@@ -24,7 +24,7 @@ stands_same e p o h live same s = record {
 
 pub kept_same : (e : ExecutorValue) (p o : PoolValue) → IsLive o e.extent → cells_of o e.extent ≡ cells_of p e.extent → AreKept e p → AreKept e o
 kept_same e p o live same k =
-    let cut : cells_in e p ≡ cells_in e o = ap (take (cell_count (parts_in e))) (sym same) in
+    let cut : cells_in e p ≡ cells_in e o = ap (take (sizes_in (list_in e))) (sym same) in
     record {
       live = live;
       fitting = λ part c. subst (λ (cs : List Cell). AreFitting part (read_from cs)) cut (k.fitting part c);
@@ -35,7 +35,7 @@ pub within_same : (e : ExecutorValue) (p o : PoolValue) → IsLive o e.extent �
 within_same e p o live same w = record {
   live = live;
   pages = w.pages;
-  rest = ap (drop (cell_count (parts_in e))) same ∙ w.rest;
+  rest = ap (drop (sizes_in (list_in e))) same ∙ w.rest;
   room = w.room;
   entries = w.entries;
   ascends = w.ascends;

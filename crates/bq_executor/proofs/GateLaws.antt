@@ -1,5 +1,5 @@
 -- What a gate says of a row that does not pass it.
-use Rattle.std.proofs.Common.{◌≡◌, ◌≢◌, ℕ, zero, suc, ◌+◌, ◌<◌, ◌==◌, ◌&&◌, ◌||◌, cond, Bool, true, false, ℤ, List, [], ◌∷◌, ◌++◌, map, length, get_or, refl, sym, ap, ◌∙◌, subst, arith, nat_lt, inl, inr, slice_get, Option, Some}
+use Rattle.std.proofs.Common.{take, ◌≡◌, ◌≢◌, ℕ, zero, suc, ◌+◌, ◌<◌, ◌==◌, ◌&&◌, ◌||◌, cond, Bool, true, false, ℤ, List, [], ◌∷◌, ◌++◌, map, length, get_or, refl, sym, ap, ◌∙◌, subst, arith, inl, inr, slice_get, Option, Some}
 use Rattle.std.specs.List.{flat_map, list_any}
 use Rattle.std.specs.Option.{option_to_list}
 use Rattle.std.proofs.lemmas.Bool.Decides.{nat_tests}
@@ -10,7 +10,7 @@ use Rattle.bq_model.specs.declared.plan.Plan.{Plan}
 use Rattle.bq_model.specs.declared.plan.Plan.TheVariants as plan
 use Rattle.bq_model.specs.Query.{QueryValue, IsWithinLimits}
 use Rattle.bq_model.specs.Meaning.{Arrival, by_column}
-use Rattle.bq_model.specs.Plan.{IsPlan, stream_at}
+use Rattle.bq_model.specs.Plan.{ArePartPlans, stream_at}
 use Rattle.bq_model.specs.Numbers.{parts_of}
 use Rattle.bq_model.specs.Admission.{admits}
 use Rattle.bq_model.specs.Cells.{content}
@@ -24,7 +24,7 @@ use Rattle.bq_pool.specs.Extents.{PoolValue, cells_of}
 use Rattle.bq_executor.specs.declared.gate.Entrance.{Entrance}
 use Rattle.bq_executor.specs.declared.gate.Gate.{Gate}
 use Rattle.bq_executor.specs.Gate.{lets_in, comes_in, IsRefused, IsGate, Passes, AreEntrances}
-use Rattle.bq_executor.specs.Arriving.{lies, IsInserted, HasTaken, IsPlanReady, answered_by}
+use Rattle.bq_executor.specs.Arriving.{has_base, lies, IsInserted, HasTaken, IsPlanReady, answered_by}
 use Rattle.bq_executor.proofs.InPart.{found_refused}
 use Rattle.bq_executor.proofs.Inserting.{part_plan}
 use Rattle.bq_executor.proofs.Taken.{taken_start, with_own}
@@ -122,7 +122,7 @@ refused_answers q (plan.Parts parts numbers) pool e ready read r refused = by (l
         subst (λ (s : ℕ). found_in q (get_or parts n d) read (record { stream = s; values = r.values }) ≡ []) k.2
         (found_refused q (get_or parts n d) ready.limits (ready.plan.plans n d l) k.0 k.1 r.values read (refused n d k.0 l k.1 k.2)))
 
-inserted_refused : (q : QueryValue) (parts : List PartPlan) (numbers : Numbers) → IsWithinLimits q → IsPlan q parts → (r : Arrival) → IsRefused q (plan.Parts parts numbers) r
+inserted_refused : (q : QueryValue) (parts : List PartPlan) (numbers : Numbers) → IsWithinLimits q → ArePartPlans q parts → (r : Arrival) → IsRefused q (plan.Parts parts numbers) r
     → (n : ℕ) (cells : List Cell) → IsInserted q parts r n cells cells
 inserted_refused q parts numbers within is r refused n cells = record {
   size = refl;
@@ -137,8 +137,8 @@ inserted_refused q parts numbers within is r refused n cells = record {
             let a : admits q part place (by_column r.values) ≡ true = and-left _ _ (and-right (r.stream == get_or q.from place 0) _ t) in
             not_both (admits q part place (by_column r.values)) a (ap (λ p. admits q p place (by_column r.values)) (sym (get_or_from_slice_get parts m part part b.at)) ∙ out))
       ] in
-      ap (λ t. cond t (merged (stream_at part place).kind (read_from cells part place i) (content (stream_at part place).kind (r.values ∷ []))) (read_from cells part place i)) (none_there (nat_lt m n) (lies q r part place i) f);
-  rest = refl;
+      ap (λ t. cond t (merged (stream_at part place).kind (read_from cells part place i) (content (stream_at part place).kind (r.values ∷ []))) (read_from cells part place i)) (none_there (has_base (take n parts) part place) (lies q r part place i) f);
+  rest = λ k none. refl;
 }
 
 -- and no cell takes it

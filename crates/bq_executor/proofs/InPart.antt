@@ -1,5 +1,5 @@
 -- What one part finds for a row, and which of its cells takes the row.
-use Rattle.std.proofs.Common.{◌≡◌, ℕ, ◌<◌, ◌&&◌, nat_eq, nat_lt, cond, Bool, true, false, ℤ, List, [], ◌∷◌, length, slice_set, refl, sym, ap, ◌∙◌, arith, slice_index_or}
+use Rattle.std.proofs.Common.{◌≡◌, ℕ, ◌<◌, ◌&&◌, nat_eq, cond, Bool, true, false, ℤ, List, [], ◌∷◌, length, slice_set, refl, sym, ap, ◌∙◌, arith, slice_index_or}
 use Rattle.std.proofs.lemmas.Bool.Decides.{nat_tests}
 use Rattle.bq_model.specs.declared.cell.Cell.{Cell}
 use Rattle.bq_model.specs.declared.plan.PartPlan.{PartPlan}
@@ -61,7 +61,7 @@ pub all_added : (d : Bool) (fs gs : List Found) (table more : TableValue) → gs
 all_added d fs gs table more e is = is ∙ ap (λ (hs : List Found). with_entries table (with_all d hs table.entries)) (sym e)
 
 -- the pool after a part that does not admit the row
-pub row_refused : (q : QueryValue) (part : PartPlan) (pos : ℕ) (values : List ℤ) (extent : Extent) (pool : PoolValue)
-    → admits q part pos (by_column values) ≡ false → pool ≡ with_row q part pos values extent pool
-row_refused q part pos values extent pool e =
-    sym (ap (λ b. cond (b && nat_lt 1 (length q.from)) (with_cells pool extent (slice_set (cells_of pool extent) (row_cell part pos values) (merged (stream_at part pos).kind (slice_index_or (cells_of pool extent) (row_cell part pos values) Cell.Empty) (content (stream_at part pos).kind (values ∷ []))))) pool) e)
+pub row_refused : (takes : Bool) (q : QueryValue) (part : PartPlan) (pos : ℕ) (values : List ℤ) (extent : Extent) (pool : PoolValue)
+    → admits q part pos (by_column values) ≡ false → pool ≡ with_row takes q part pos values extent pool
+row_refused takes q part pos values extent pool e =
+    sym (ap (λ b. cond (b && takes) (with_cells pool extent (slice_set (cells_of pool extent) (row_cell part pos values) (merged (stream_at part pos).kind (slice_index_or (cells_of pool extent) (row_cell part pos values) Cell.Empty) (content (stream_at part pos).kind (values ∷ []))))) pool) e)

@@ -1,57 +1,86 @@
 -- Taking a row into one part after the other changes the cells that it lies in, and no other.
-use Rattle.std.proofs.Common.{◌≡◌, ◌≢◌, ℕ, zero, suc, ◌+◌, ◌<◌, ◌≤◌, ◌&&◌, ◌==◌, nat_eq, nat_lt, cond, Bool, true, false, ℤ, List, [], ◌∷◌, length, set, get_or, refl, sym, ap, ◌∙◌, subst, arith, slice_index_or, slice_get, inl, inr, ◌⊎◌, Some, get_or-set_same, get_or-set_other, length-set}
+use Rattle.std.proofs.Common.{◌≡◌, ◌≢◌, ℕ, zero, suc, ◌+◌, ◌<◌, ◌&&◌, ◌||◌, ◌==◌, nat_eq, nat_lt, not, take, ◌*◌, cond, Bool, true, false, ℤ, List, [], ◌∷◌, length, set, get_or, refl, sym, ap, ◌∙◌, subst, arith, slice_index_or, slice_get, inl, inr, ◌⊎◌, Some, get_or-set_same, get_or-set_other, length-set}
 use Rattle.std.specs.List.{list_any}
 use Rattle.std.proofs.lemmas.Bool.Decides.{nat_tests}
 use Rattle.std.proofs.lemmas.Bool.{cases_lt}
 use Rattle.std.proofs.lemmas.Option.{slice_get_within, get_or_from_slice_get}
-use Rattle.std.proofs.lemmas.List.{drop-set-lt}
+use Rattle.std.proofs.lemmas.List.Folds.{list_any_more}
 use Rattle.std.proofs.lemmas.List.Elements.{All-contains}
 use Rattle.bq_model.specs.declared.cell.Cell.{Cell}
 use Rattle.bq_model.specs.declared.plan.PartPlan.{PartPlan}
 use Rattle.bq_model.specs.Query.{QueryValue, IsWithinLimits}
 use Rattle.bq_model.specs.Meaning.{Arrival, by_column}
-use Rattle.bq_model.specs.Boxes.{box_size}
-use Rattle.bq_model.specs.Plan.{IsPlan, IsPartPlan, stream_at, dims_at}
+use Rattle.bq_model.specs.declared.plan.Dim.{Dim}
+use Rattle.bq_model.specs.Boxes.{dim_size, box_size, AreFull}
+use Rattle.bq_model.specs.Plan.{ArePartPlans, IsPartPlan, stream_at, dims_at}
 use Rattle.bq_model.specs.Admission.{admits}
 use Rattle.bq_model.specs.Cells.{row_place, content}
 use Rattle.bq_model.specs.Combinations.{read_from}
 use Rattle.bq_model.specs.Merge.{merged}
-use Rattle.bq_model.specs.Numbers.{cell_count}
+use Rattle.bq_model.specs.Sharing.{box_at}
 use Rattle.bq_model.proofs.Has.{Has, Has-from_contains, Contains-from_has}
 use Rattle.bq_laws.specs.Places.{IsBox}
-use Rattle.bq_laws.proofs.Tests.{and-left, and-right, and-both, nat_true, true_or_false, not_both, or-false}
-use Rattle.bq_laws.proofs.Numbering.{boxes-are-apart}
+use Rattle.bq_laws.proofs.Tests.{and-left, and-right, and-both, nat_true, not_both, or-false}
+use Rattle.bq_laws.proofs.SameBoxes.{AreSame, are-same, same-admits}
+use Rattle.bq_laws.proofs.Walking.{full-at}
+use Rattle.bq_model.proofs.BoxLaws.{full-dim-size}
 use Rattle.bq_synopsis.specs.Premises.{row_cell}
-use Rattle.bq_executor.specs.Arriving.{arrives, lies, IsInserted}
+use Rattle.bq_executor.specs.Arriving.{arrives, lies, has_base, IsInserted, MeetWhole}
 use Rattle.bq_executor.proofs.InPart.{place_inside}
 
 -- the row was taken into no part
 pub inserted_start : (q : QueryValue) (plan : List PartPlan) (r : Arrival) (cells : List Cell) → IsInserted q plan r 0 cells cells
-inserted_start q plan r cells = record {
-  size = refl;
-  at =
-      λ m part place i b.
-      let e : nat_lt m 0 ≡ false = grind (arith, nat_tests) in
-      ap (λ t. cond (t && lies q r part place i) (merged (stream_at part place).kind (read_from cells part place i) (content (stream_at part place).kind (r.values ∷ []))) (read_from cells part place i)) (sym e);
-  rest = refl;
-}
+inserted_start q plan r cells = record { size = refl; at = λ m part place i b. refl; rest = λ k none. refl }
 
 and_false : (a b : Bool) → b ≡ false → false ≡ (a && b)
 and_false true b e = sym e
 and_false false b e = refl
+
+or_right : (a b : Bool) → b ≡ true → true ≡ (a || b)
+or_right true b e = refl
+or_right false b e = sym e
 
 pub get_has : (plan : List PartPlan) (n : ℕ) (p : PartPlan) → slice_get plan n ≡ Some p → Has plan p
 get_has plan n p e =
     let l : n < length plan = slice_get_within plan n p e in
     Has-from_contains plan p (n, l, get_or_from_slice_get plan n p p e)
 
-module _ (q : QueryValue) (plan : List PartPlan) (within : IsWithinLimits q) (is : IsPlan q plan) where
+turned : (b : Bool) → not b ≡ false → b ≡ true
+turned true h = refl
+turned false h = absurd cc
+
+first_false : (a b : Bool) → b ≡ true → (a && b) ≡ false → a ≡ false
+first_false true b h k = absurd (not_both b h k)
+first_false false b h k = refl
+
+second_false : (a b : Bool) → a ≡ true → (a && b) ≡ false → b ≡ false
+second_false true b h k = k
+second_false false b h k = absurd cc
+
+-- a box of full dims is not empty
+full-size : (ds : List Dim) → AreFull ds → 0 < box_size ds
+full-size [] f = omega arith
+full-size (d ∷ ds) f = more (dim_size d) (box_size ds) (full-dim-size d f.0) (full-size ds f.1)
+  where
+    more : (a b : ℕ) → 0 < a → 0 < b → 0 < a * b
+    more zero b l k = absurd (omega (arith, l))
+    more (suc a) b l k = omega (arith, k)
+
+module _ (q : QueryValue) (plan : List PartPlan) (within : IsWithinLimits q) (is : ArePartPlans q plan) where
   -- a plan of a part of the plan
   pub part_plan : (n : ℕ) (part : PartPlan) → slice_get plan n ≡ Some part → IsPartPlan q part
   part_plan n part e = All-contains (IsPartPlan q) plan part is.plans (Contains-from_has plan part (get_has plan n part e))
 
+  -- where a query has several streams, no box is empty
+  some_cells : (part : PartPlan) → IsPartPlan q part → (place : ℕ) → place < length q.from → 1 < length q.from → 0 < (stream_at part place).size
+  some_cells part own place l several =
+      let one : nat_eq (length q.from) 1 ≡ false = grind (arith, nat_tests) in
+      let e : (stream_at part place).size ≡ box_size (dims_at part place) = (own.streams place l).size ∙ ap (λ b. cond b 0 (box_size (dims_at part place))) one in
+      let f = full-size (dims_at part place) (full-at q part own place l) in
+      omega (arith, e, f)
+
   -- FROM has each stream once
-  one_place : (a b : ℕ) → a < length q.from → b < length q.from → slice_index_or q.from a 0 ≡ slice_index_or q.from b 0 → a ≡ b
+  pub one_place : (a b : ℕ) → a < length q.from → b < length q.from → slice_index_or q.from a 0 ≡ slice_index_or q.from b 0 → a ≡ b
   one_place a b l k e = elim (cases_lt a b) [
     | inl h ↦ absurd (within.different a b 0 h k e)
     | inr h ↦ elim (cases_lt b a) [
@@ -69,8 +98,8 @@ module _ (q : QueryValue) (plan : List PartPlan) (within : IsWithinLimits q) (is
         let l : place < length q.from = (let c = (part_plan m part b.at).count in let t = b.there in omega (arith, c, t)) in
         let no : (r.stream == slice_index_or q.from place 0) ≡ false = none_at q.from place l e in
         let f : lies q r part place i ≡ false = ap (λ t. t && (admits q part place (by_column r.values) && nat_eq (row_place (dims_at part place) (by_column r.values)) i)) no in
-        ap (λ t. cond t (merged (stream_at part place).kind (read_from cells part place i) (content (stream_at part place).kind (r.values ∷ []))) (read_from cells part place i)) (and_false (nat_lt m n) (lies q r part place i) f);
-    rest = refl;
+        ap (λ t. cond t (merged (stream_at part place).kind (read_from cells part place i) (content (stream_at part place).kind (r.values ∷ []))) (read_from cells part place i)) (and_false (has_base (take n plan) part place) (lies q r part place i) f);
+    rest = λ k none. refl;
   }
     where
       none_at : (from : List ℕ) (place : ℕ) → place < length from → list_any (λ s. r.stream == s) from ≡ false → (r.stream == slice_index_or from place 0) ≡ false
@@ -78,22 +107,29 @@ module _ (q : QueryValue) (plan : List PartPlan) (within : IsWithinLimits q) (is
       none_at (s ∷ from) zero l h = (or-false (r.stream == s) (list_any (λ s. r.stream == s) from) h).0
       none_at (s ∷ from) (suc place) l h = none_at from place (omega (arith, l)) ((or-false (r.stream == s) (list_any (λ s. r.stream == s) from) h).1)
 
-  module _ (pos : ℕ) (here : pos < length q.from) (values : List ℤ) (n : ℕ) (part : PartPlan) (at_n : slice_get plan n ≡ Some part) where
+  module _ (meet : MeetWhole q plan) (pos : ℕ) (here : pos < length q.from) (values : List ℤ) (n : ℕ) (part : PartPlan) (at_n : slice_get plan n ≡ Some part) where
     abbrev v : ℕ → ℤ
     v = by_column values
 
     abbrev r : Arrival
     r = arrives q pos values
 
+    -- whether the part has its box where another has it
+    abbrev meets : PartPlan → ℕ → Bool
+    meets other place = nat_eq (stream_at part place).base (stream_at other place).base
+
+    own_plan : IsPartPlan q part
+    own_plan = part_plan n part at_n
+
     -- what it means that the row lies there
-    lies_place : (place i : ℕ) → place < length q.from → lies q r part place i ≡ true → place ≡ pos
-    lies_place place i l e = one_place place pos l here (sym (nat_true (slice_index_or q.from pos 0) (slice_index_or q.from place 0) (and-left _ _ e)))
+    lies_place : (other : PartPlan) (place i : ℕ) → place < length q.from → lies q r other place i ≡ true → place ≡ pos
+    lies_place other place i l e = one_place place pos l here (sym (nat_true (slice_index_or q.from pos 0) (slice_index_or q.from place 0) (and-left _ _ e)))
 
-    lies_admits : (place i : ℕ) → lies q r part place i ≡ true → admits q part place v ≡ true
-    lies_admits place i e = and-left _ _ (and-right (r.stream == slice_index_or q.from place 0) _ e)
+    lies_admits : (other : PartPlan) (place i : ℕ) → lies q r other place i ≡ true → admits q other place v ≡ true
+    lies_admits other place i e = and-left _ _ (and-right (r.stream == slice_index_or q.from place 0) _ e)
 
-    lies_at : (place i : ℕ) → lies q r part place i ≡ true → row_place (dims_at part place) v ≡ i
-    lies_at place i e = nat_true _ _ (and-right (admits q part place v) _ (and-right (r.stream == slice_index_or q.from place 0) _ e))
+    lies_at : (other : PartPlan) (place i : ℕ) → lies q r other place i ≡ true → row_place (dims_at other place) v ≡ i
+    lies_at other place i e = nat_true _ _ (and-right (admits q other place v) _ (and-right (r.stream == slice_index_or q.from place 0) _ e))
 
     lies_own : admits q part pos v ≡ true → lies q r part pos (row_place (dims_at part pos) v) ≡ true
     lies_own e =
@@ -101,60 +137,76 @@ module _ (q : QueryValue) (plan : List PartPlan) (within : IsWithinLimits q) (is
         let k : nat_eq (row_place (dims_at part pos) v) (row_place (dims_at part pos) v) ≡ true = grind (arith, nat_tests) in
         and-both _ _ s (and-both _ _ e k)
 
+    -- one part more
+    base_more : (other : PartPlan) (place : ℕ) → has_base (take (n + 1) plan) other place ≡ (has_base (take n plan) other place || meets other place)
+    base_more other place =
+        list_any_more (λ p. nat_eq (stream_at p place).base (stream_at other place).base) plan n part (slice_get_within plan n part at_n)
+        ∙ ap (λ (p : PartPlan). has_base (take n plan) other place || nat_eq (stream_at p place).base (stream_at other place).base) (get_or_from_slice_get plan n part part at_n)
+
+    -- a part whose box begins where this one's does has the same box
+    twin : (m : ℕ) (other : PartPlan) (i : ℕ) → IsBox plan m other pos i → meets other pos ≡ true → 1 < length q.from → AreSame q (box_at part pos) (box_at other pos)
+    twin m other i b e several =
+        let base : (stream_at part pos).base ≡ (stream_at other pos).base = nat_true _ _ e in
+        let there : pos < length part.streams.items = (let c = own_plan.count in omega (arith, c, here)) in
+        let size = some_cells part own_plan pos here several in
+        let inside : 0 < (stream_at other pos).size = (let k = b.inside in omega (arith, k)) in
+        are-same q (box_at part pos) (box_at other pos) ((meet n m part other pos pos 0 0 record { at = at_n; there = there; inside = size } record { at = b.at; there = b.there; inside = inside } (omega (arith, base))).0)
+
+    -- and then it has been reached where this one has
+    reached_alike : (other : PartPlan) → meets other pos ≡ true → has_base (take n plan) other pos ≡ has_base (take n plan) part pos
+    reached_alike other e =
+        let base : (stream_at part pos).base ≡ (stream_at other pos).base = nat_true _ _ e in
+        ap (λ (k : ℕ). list_any (λ p. nat_eq (stream_at p pos).base k) (take n plan)) (sym base)
+
+    several_if : (m : ℕ) (other : PartPlan) (place i : ℕ) → IsBox plan m other place i → place < length q.from → 1 < length q.from
+    several_if m other place i b l = elim (cases_lt 1 (length q.from)) [
+      | inl h ↦ h
+      | inr h ↦ absurd (
+          let one : length q.from ≡ 1 = omega (arith, h, l) in
+          let z : (stream_at other place).size ≡ 0 = ((part_plan m other b.at).streams place l).size ∙ ap (λ (k : ℕ). cond (nat_eq k 1) 0 (box_size (dims_at other place))) one in
+          let s = b.inside in omega (arith, z, s))
+    ]
+
     module _ (cells others : List Cell) (old : IsInserted q plan r n cells others) where
-      abbrev goes : ℕ → PartPlan → ℕ → ℕ → Bool → Cell
-      goes m other place i t = cond t (merged (stream_at other place).kind (read_from cells other place i) (content (stream_at other place).kind (values ∷ []))) (read_from cells other place i)
+      abbrev goes : PartPlan → ℕ → ℕ → Bool → Cell
+      goes other place i t = cond t (merged (stream_at other place).kind (read_from cells other place i) (content (stream_at other place).kind (values ∷ []))) (read_from cells other place i)
 
-      below_more : (m : ℕ) → m ≢ n → nat_lt m n ≡ nat_lt m (n + 1)
-      below_more m ne = elim (cases_lt m n) [
-        | inl h ↦ (let a : nat_lt m n ≡ true = grind (arith, nat_tests) in let b : nat_lt m (n + 1) ≡ true = grind (arith, nat_tests) in a ∙ sym b)
-        | inr h ↦ (let a : nat_lt m n ≡ false = grind (arith, nat_tests) in let b : nat_lt m (n + 1) ≡ false = grind (arith, nat_tests) in a ∙ sym b)
-      ]
-
-      same_number : (m : ℕ) → (m ≡ n) ⊎ (m ≢ n)
-      same_number m = elim (cases_lt m n) [
-        | inl h ↦ inr (λ e. omega (arith, e, h))
-        | inr h ↦ elim (cases_lt n m) [ inl o ↦ inr (λ e. omega (arith, e, o)) | inr o ↦ inl (omega arith) ]
-      ]
+      -- what is to be shown where one part more changes nothing of a box
+      same_if : (other : PartPlan) (place i : ℕ) → (lies q r other place i ≡ true → meets other place ≡ true → has_base (take n plan) other place ≡ true)
+          → (has_base (take n plan) other place && lies q r other place i) ≡ (has_base (take (n + 1) plan) other place && lies q r other place i)
+      same_if other place i h = by (has_base (take n plan) other place) (meets other place) (lies q r other place i) h ∙ ap (λ t. t && lies q r other place i) (sym (base_more other place))
+        where
+          by : (t e l : Bool) → (l ≡ true → e ≡ true → t ≡ true) → (t && l) ≡ ((t || e) && l)
+          by true e l h = refl
+          by false true true h = h refl refl
+          by false true false h = refl
+          by false false l h = refl
 
       -- a part that takes nothing changes nothing
-      pub inserted_nothing : (admits q part pos v && nat_lt 1 (length q.from)) ≡ false → IsInserted q plan r (n + 1) cells others
-      inserted_nothing none = record {
+      pub inserted_nothing : (owns : Bool) → owns ≡ not (has_base (take n plan) part pos) → (admits q part pos v && (owns && nat_lt 1 (length q.from))) ≡ false → IsInserted q plan r (n + 1) cells others
+      inserted_nothing owns e none = record {
         size = old.size;
-        at = λ m other place i b. old.at m other place i b ∙ ap (goes m other place i) (same m other place i b);
+        at = λ m other place i b. old.at m other place i b ∙ ap (goes other place i) (same_if other place i (λ l k. reached m other place i b l k));
         rest = old.rest;
       }
         where
-          no : (place i : ℕ) → IsBox plan n part place i → lies q r part place i ≡ false
-          no place i b = elim (true_or_false (lies q r part place i)) [
-            | inr e ↦ e
-            | inl e ↦ absurd (
-                let count = (part_plan n part at_n).count in
-                let l : place < length q.from = (let t = b.there in omega (arith, count, t)) in
-                let p : place ≡ pos = lies_place place i l e in
-                let a : admits q part pos v ≡ true = subst (λ (m : ℕ). admits q part m v ≡ true) p (lies_admits place i e) in
-                elim (cases_lt 1 (length q.from)) [
-                  | inl h ↦ (let t : nat_lt 1 (length q.from) ≡ true = grind (arith, nat_tests) in not_both _ (and-both _ _ a t) none)
-                  | inr h ↦ (
-                      let one : length q.from ≡ 1 = omega (arith, h, l) in
-                      let z : (stream_at part place).size ≡ 0 = ((part_plan n part at_n).streams place l).size ∙ ap (λ (k : ℕ). cond (nat_eq k 1) 0 (box_size (dims_at part place))) one in
-                      let s = b.inside in omega (arith, z, s))
-                ])
-          ]
-
-          same : (m : ℕ) (other : PartPlan) (place i : ℕ) → IsBox plan m other place i
-              → (nat_lt m n && lies q r other place i) ≡ (nat_lt m (n + 1) && lies q r other place i)
-          same m other place i b = elim (same_number m) [
-            | inr ne ↦ ap (λ t. t && lies q r other place i) (below_more m ne)
-            | inl e ↦ (
-                let c : IsBox plan n other place i = subst (λ (k : ℕ). IsBox plan k other place i) e b in
-                let o : part ≡ other = (let x : Some part ≡ Some other = sym at_n ∙ c.at in cc) in
-                let f : lies q r other place i ≡ false = subst (λ (p : PartPlan). IsBox plan n p place i → lies q r p place i ≡ false) o (no place i) c in
-                sym (and_false (nat_lt m n) _ f) ∙ and_false (nat_lt m (n + 1)) _ f)
-          ]
+          reached : (m : ℕ) (other : PartPlan) (place i : ℕ) → IsBox plan m other place i → lies q r other place i ≡ true → meets other place ≡ true → has_base (take n plan) other place ≡ true
+          reached m other place i b l k =
+              let c = (part_plan m other b.at).count in
+              let at : place < length q.from = (let t = b.there in omega (arith, c, t)) in
+              let p : place ≡ pos = lies_place other place i at l in
+              subst (λ (o : ℕ). has_base (take n plan) other o ≡ true) (sym p)
+              (at_pos (subst (λ (o : ℕ). IsBox plan m other o i) p b) (subst (λ (o : ℕ). lies q r other o i ≡ true) p l) (subst (λ (o : ℕ). meets other o ≡ true) p k) (several_if m other place i b at))
+            where
+              at_pos : IsBox plan m other pos i → lies q r other pos i ≡ true → meets other pos ≡ true → 1 < length q.from → has_base (take n plan) other pos ≡ true
+              at_pos b l k several =
+                  let same = twin m other i b k several in
+                  let a : admits q part pos v ≡ true = same-admits q (box_at part pos) (box_at other pos) same v ∙ lies_admits other pos i l in
+                  let t : nat_lt 1 (length q.from) ≡ true = grind (arith, nat_tests) in
+                  reached_alike other k ∙ turned (has_base (take n plan) part pos) (sym e ∙ first_false owns (nat_lt 1 (length q.from)) t (second_false (admits q part pos v) _ a none))
 
       -- a part that takes the row changes the one cell that it lies in
-      module _ (a : admits q part pos v ≡ true) (several : 1 < length q.from) (whole : cell_count plan ≤ length others) where
+      module _ (a : admits q part pos v ≡ true) (unreached : has_base (take n plan) part pos ≡ false) (several : 1 < length q.from) (whole : row_cell part pos values < length others) where
         abbrev own : ℕ
         own = row_cell part pos values
 
@@ -164,70 +216,72 @@ module _ (q : QueryValue) (plan : List PartPlan) (within : IsWithinLimits q) (is
         own_box : IsBox plan n part pos (row_place (dims_at part pos) v)
         own_box = record {
           at = at_n;
-          there = (let c = (part_plan n part at_n).count in omega (arith, c, here));
-          inside = place_inside q part within (part_plan n part at_n) pos here values several a;
+          there = (let c = own_plan.count in omega (arith, c, here));
+          inside = place_inside q part within own_plan pos here values several a;
         }
-
-        own_below : own < cell_count plan
-        own_below =
-            let s = (boxes-are-apart plan is.bases).0 n part pos at_n own_box.there in
-            let i = own_box.inside in omega (arith, s, i)
 
         -- another cell
         at_other : (m : ℕ) (other : PartPlan) (place i : ℕ) → IsBox plan m other place i → (stream_at other place).base + i ≢ own
-            → (nat_lt m n && lies q r other place i) ≡ (nat_lt m (n + 1) && lies q r other place i)
-            → read_from (set others own now) other place i ≡ goes m other place i (nat_lt m (n + 1) && lies q r other place i)
-        at_other m other place i b ne e =
+            → read_from (set others own now) other place i ≡ goes other place i (has_base (take (n + 1) plan) other place && lies q r other place i)
+        at_other m other place i b ne =
             get_or-set_other others own ((stream_at other place).base + i) now Cell.Empty ne
-            ∙ old.at m other place i b ∙ ap (goes m other place i) e
+            ∙ old.at m other place i b
+            ∙ ap (goes other place i) (same_if other place i (λ l k. absurd (ne (is_own l k))))
+          where
+            is_own : lies q r other place i ≡ true → meets other place ≡ true → (stream_at other place).base + i ≡ own
+            is_own l k =
+                let c = (part_plan m other b.at).count in
+                let at : place < length q.from = (let t = b.there in omega (arith, c, t)) in
+                let p : place ≡ pos = lies_place other place i at l in
+                subst (λ (o : ℕ). (stream_at other o).base + i ≡ own) (sym p)
+                (at_pos (subst (λ (o : ℕ). IsBox plan m other o i) p b) (subst (λ (o : ℕ). lies q r other o i ≡ true) p l) (subst (λ (o : ℕ). meets other o ≡ true) p k))
+              where
+                at_pos : IsBox plan m other pos i → lies q r other pos i ≡ true → meets other pos ≡ true → (stream_at other pos).base + i ≡ own
+                at_pos b l k =
+                    let same = twin m other i b k several in
+                    let base : (stream_at part pos).base ≡ (stream_at other pos).base = nat_true _ _ k in
+                    let d : row_place (dims_at part pos) v ≡ i = ap (λ (ds : List Dim). row_place ds v) same.dims ∙ lies_at other pos i l in
+                    omega (arith, base, d)
 
         -- the cell of the row
-        at_own : (place i : ℕ) → place ≡ pos → row_place (dims_at part place) v ≡ i → IsBox plan n part place i
-            → lies q r part place i ≡ true
-            → read_from (set others own now) part place i ≡ goes n part place i (nat_lt n (n + 1) && lies q r part place i)
-        at_own place i p o b e =
-            let lt : nat_lt n n ≡ false = grind (arith, nat_tests) in
-            let le : nat_lt n (n + 1) ≡ true = grind (arith, nat_tests) in
-            let k : (stream_at part place).base + i ≡ own
-            = (λ j. (stream_at part place).base + sym o j) ∙ (λ j. (stream_at part (p j)).base + row_place (dims_at part (p j)) v) in
-            let w : own < length others = (let s = own_below in omega (arith, s, whole)) in
-            let c : get_or others own Cell.Empty ≡ read_from cells part place i
-            = ap (λ m. get_or others m Cell.Empty) (sym k) ∙ old.at n part place i b
-            ∙ ap (λ t. goes n part place i (t && lies q r part place i)) lt in
-            ap (λ m. get_or (set others own now) m Cell.Empty) k
-            ∙ get_or-set_same others own now Cell.Empty w
-            ∙ (λ j. merged (stream_at part (sym p j)).kind (c j) (content (stream_at part (sym p j)).kind (values ∷ [])))
-            ∙ ap (goes n part place i) (sym (and-both _ _ le e))
+        at_own : (m : ℕ) (other : PartPlan) (place i : ℕ) → IsBox plan m other place i → (stream_at other place).base + i ≡ own
+            → read_from (set others own now) other place i ≡ goes other place i (has_base (take (n + 1) plan) other place && lies q r other place i)
+        at_own m other place i b e =
+            let k = meet n m part other pos place (row_place (dims_at part pos) v) i own_box b (sym e) in
+            let same = are-same q (box_at part pos) (box_at other place) k.0 in
+            subst (λ (o : ℕ). IsBox plan m other o i → (stream_at other o).base + i ≡ own → AreSame q (box_at part pos) (box_at other o) → read_from (set others own now) other o i ≡ goes other o i (has_base (take (n + 1) plan) other o && lies q r other o i))
+            same.place (at_pos k.1) b e same
+          where
+            at_pos : row_place (dims_at part pos) v ≡ i → IsBox plan m other pos i → (stream_at other pos).base + i ≡ own → AreSame q (box_at part pos) (box_at other pos)
+                → read_from (set others own now) other pos i ≡ goes other pos i (has_base (take (n + 1) plan) other pos && lies q r other pos i)
+            at_pos d b e same =
+                let base : (stream_at part pos).base ≡ (stream_at other pos).base = omega (arith, d, e) in
+                let k : meets other pos ≡ true = ap (λ (x : ℕ). nat_eq x (stream_at other pos).base) base ∙ (let t : nat_eq (stream_at other pos).base (stream_at other pos).base ≡ true = grind (arith, nat_tests) in t) in
+                let l : lies q r other pos i ≡ true
+                = (λ j. (r.stream == r.stream) && (sym (same-admits q (box_at part pos) (box_at other pos) same v) j && nat_eq (row_place (sym same.dims j) v) (sym d j))) ∙ lies_own a in
+                let c : get_or others own Cell.Empty ≡ read_from cells other pos i
+                = ap (λ m. get_or others m Cell.Empty) (sym e) ∙ old.at m other pos i b
+                ∙ ap (λ t. goes other pos i (t && lies q r other pos i)) (reached_alike other k ∙ unreached) in
+                ap (λ m. get_or (set others own now) m Cell.Empty) e
+                ∙ get_or-set_same others own now Cell.Empty whole
+                ∙ (λ j. merged (same.kind j) (c j) (content (same.kind j) (values ∷ [])))
+                ∙ ap (goes other pos i) (sym (and-both _ _ (base_more other pos ∙ sym (or_right (has_base (take n plan) other pos) (meets other pos) k)) l))
 
         pub inserted_row : IsInserted q plan r (n + 1) cells (set others own now)
         inserted_row = record {
           size = length-set others own now ∙ old.size;
-          at =
-              λ m other place i b. elim (same_number m) [
-                | inr ne ↦ at_other m other place i b
-                    (λ h. ne ((boxes-are-apart plan is.bases).1 m n other part place pos i (row_place (dims_at part pos) v) b own_box h).0)
-                    (ap (λ t. t && lies q r other place i) (below_more m ne))
-                | inl e ↦ (
-                    let c : IsBox plan n other place i = subst (λ (k : ℕ). IsBox plan k other place i) e b in
-                    let o : part ≡ other = (let x : Some part ≡ Some other = sym at_n ∙ c.at in cc) in
-                    let f : read_from (set others own now) other place i ≡ goes n other place i (nat_lt n (n + 1) && lies q r other place i)
-                    = subst (λ (p : PartPlan). IsBox plan n p place i → read_from (set others own now) p place i ≡ goes n p place i (nat_lt n (n + 1) && lies q r p place i)) o (here_at place i) c in
-                    subst (λ (k : ℕ). read_from (set others own now) other place i ≡ goes k other place i (nat_lt k (n + 1) && lies q r other place i)) (sym e) f)
-              ];
-          rest = drop-set-lt (cell_count plan) others own now own_below ∙ old.rest;
+          at = λ m other place i b. elim (same_number ((stream_at other place).base + i) own) [
+            | inl e ↦ at_own m other place i b e
+            | inr ne ↦ at_other m other place i b ne
+          ];
+          rest =
+              λ k none.
+              let ne : own ≢ k = none n part pos (row_place (dims_at part pos) v) own_box in
+              get_or-set_other others own k now Cell.Empty (λ e. ne (sym e)) ∙ old.rest k none;
         }
           where
-            here_at : (place i : ℕ) → IsBox plan n part place i
-                → read_from (set others own now) part place i ≡ goes n part place i (nat_lt n (n + 1) && lies q r part place i)
-            here_at place i b = elim (true_or_false (lies q r part place i)) [
-              | inl e ↦ (
-                  let c = (part_plan n part at_n).count in
-                  let l : place < length q.from = (let t = b.there in omega (arith, c, t)) in
-                  at_own place i (lies_place place i l e) (lies_at place i e) b e)
-              | inr e ↦ at_other n part place i b
-                  (λ h. (
-                  let s = (boxes-are-apart plan is.bases).1 n n part part place pos i (row_place (dims_at part pos) v) b own_box h in
-                  let t : lies q r part place i ≡ true = (λ j. lies q r part (s.1 j) (s.2 j)) ∙ lies_own a in
-                  not_both _ t e))
-                  (sym (and_false (nat_lt n n) _ e) ∙ and_false (nat_lt n (n + 1)) _ e)
+            same_number : (x y : ℕ) → (x ≡ y) ⊎ (x ≢ y)
+            same_number x y = elim (cases_lt x y) [
+              | inl h ↦ inr (λ e. omega (arith, e, h))
+              | inr h ↦ elim (cases_lt y x) [ inl o ↦ inr (λ e. omega (arith, e, o)) | inr o ↦ inl (omega arith) ]
             ]

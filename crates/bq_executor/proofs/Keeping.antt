@@ -1,15 +1,15 @@
 -- What keeps an executor within the numbers that its plan announces.
 use Rattle.std.proofs.Common.{◌≡◌, ℕ, ◌-◌, ◌*◌, replicate}
 use Rattle.bq_model.specs.declared.cell.Cell.{Cell}
-use Rattle.bq_model.specs.Numbers.{cell_count}
+use Rattle.bq_model.specs.Sharing.{sizes_in}
 use Rattle.bq_pool.specs.Extents.{PoolValue, IsLive}
-use Rattle.bq_executor.specs.Executor.{ExecutorValue, parts_in, rest_in, IsSound, with_given}
+use Rattle.bq_executor.specs.Executor.{ExecutorValue, list_in, rest_in, IsSound, with_given}
 use Rattle.bq_executor.specs.Standing.{KeepsWithin}
 use Rattle.bq_executor.proofs.Settled.{written, written-sound}
 
 -- what is true of each executor says it of its pages and its table
 pub keeps : (e : ExecutorValue) → IsSound e → (pool : PoolValue) → IsLive pool e.extent
-    → rest_in e pool ≡ replicate (64 * e.extent.pages - cell_count (parts_in e)) Cell.Empty → KeepsWithin e pool
+    → rest_in e pool ≡ replicate (64 * e.extent.pages - sizes_in (list_in e)) Cell.Empty → KeepsWithin e pool
 keeps e s pool live rest = record {
   live = live;
   pages = s.pages;

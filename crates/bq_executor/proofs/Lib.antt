@@ -31,3 +31,6 @@ pub mod FilledLaws
 pub mod InRanges
 pub mod RangeLaws
 pub mod PlacedBoxes
+pub mod Owning
+pub mod Behind
+pub mod Bases

@@ -12,6 +12,7 @@ use Rattle.bq_pool.specs.Counted.{StepsValue}
 use Rattle.bq_answers.specs.Entries.{TableValue, with_entries}
 use Rattle.bq_executor.specs.Taking.{with_all}
 use Rattle.bq_executor.specs.Arriving.{arrives, all_found, HasTaken, AreReady}
+use Rattle.bq_executor.specs.Owners.{takes_rows}
 use Rattle.bq_executor.proofs.Inserting.{part_plan}
 use Rattle.bq_executor.proofs.InPart.{none_added, found_refused, row_refused}
 use Rattle.bq_executor.proofs.Taken.{taken_start, taken_step, table_more, work_more}
@@ -51,7 +52,8 @@ module _ (q : QueryValue) (plan : List PartPlan) (e : Extent) (pos : ℕ) (here 
         let whole = part_plan q plan ready.limits ready.plan n part at_n in
         let more = work_more q plan e pos here values before ready n part at_n now done.taken in
         record {
-          taken = taken_step q plan e pos here values before ready n part at_n now done.taken now (row_refused q part pos values e now refused);
+          taken = taken_step q plan e pos here values before ready n part at_n now done.taken (takes_rows q plan pos n part) refl now
+              (row_refused (takes_rows q plan pos n part) q part pos values e now refused);
           found =
               table_more q plan e pos here values before ready n part at_n now done.taken q.distinct start table table done.found
               (none_added q.distinct _ table (found_refused q part ready.limits whole pos here values (read_from (cells_of now e)) refused));

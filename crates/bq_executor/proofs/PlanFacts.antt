@@ -1,5 +1,5 @@
 -- What an accepted plan says of its cells.
-use Rattle.std.proofs.Common.{◌≡◌, ◌*◌, ◌<◌, ◌≤◌, ◌^◌, ◌==◌, cond, Bool, true, false, [], length, refl, ap, arith, Option, Contains}
+use Rattle.std.proofs.Common.{◌≡◌, ◌*◌, ◌<◌, ◌≤◌, ◌^◌, ◌==◌, cond, Bool, true, false, List, [], length, refl, ap, ◌∙◌, arith, Option, Contains}
 use Rattle.std.specs.List.{list_any}
 use Rattle.std.specs.declared.option.Option.TheVariants as options
 use Rattle.std.proofs.lemmas.Bool.Decides.{nat_tests}
@@ -11,26 +11,63 @@ use Rattle.bq_model.specs.declared.plan.Plan.{Plan}
 use Rattle.bq_model.specs.declared.plan.Plan.TheVariants as plan
 use Rattle.bq_model.specs.Query.{QueryValue, IsWithinLimits}
 use Rattle.bq_model.specs.Meaning.{Arrival}
-use Rattle.bq_model.specs.Plan.{IsPlanned, filter, parts, Follow}
+use Rattle.bq_model.specs.Plan.{ArePartPlans, IsPartPlan}
 use Rattle.bq_model.specs.Verdict.{is_above, first_above}
-use Rattle.bq_model.specs.Numbers.{IsPlanOf, parts_of, pages_of, cell_count}
+use Rattle.bq_model.specs.Numbers.{parts_of, pages_of, answer_bound}
+use Rattle.bq_model.specs.Sharing.{kept_boxes, sizes_in, IsPlanFor, IsPlanOf, numbers_for}
+use Rattle.bq_laws.specs.Probing.{AreWithin}
+use Rattle.bq_laws.specs.Sharing.{AreBoxesOf}
+use Rattle.bq_laws.specs.Bases.{IsKept, alone, boxed}
+use Rattle.bq_laws.proofs.PlanBoxes.{plans-have-boxes, count-of-boxes}
+use Rattle.bq_laws.proofs.BoxReadings.{boxes-meet-whole}
+use Rattle.std.proofs.lemmas.List.Elements.{All-contains}
 use Rattle.bq_model.specs.Combinations.{Reading, read_from}
-use Rattle.bq_model.proofs.Has.{Has}
+use Rattle.bq_model.proofs.Has.{Has, Has-from_contains, Contains-from_has}
 use Rattle.bq_pool.specs.declared.pool.Extent.{Extent}
 use Rattle.bq_pool.specs.Extents.{PoolValue, cells_of, IsLive}
 use Rattle.bq_synopsis.specs.Premises.{AreFitting}
 use Rattle.bq_executor.specs.Executor.{IsWithin}
-use Rattle.bq_executor.specs.Arriving.{answered_by, IsPlanReady, CanCount}
+use Rattle.bq_executor.specs.Arriving.{answered_by, HasParts, MeetWhole, IsPlanReady, CanCount}
+use Rattle.bq_executor.proofs.Inserting.{get_has}
 use Rattle.bq_executor.proofs.Founds.{Agree, all_found-same}
 
--- the boxes follow each other
-pub follow_of : (q : QueryValue) (p : Plan) → IsPlanOf q p → Follow 0 (parts_of p)
-follow_of q plan.Filter is = tt
-follow_of q (plan.Parts list numbers) is = is.1.bases
+-- what a plan says of its parts, without shared cells or with them
+pub parts_plans : (shared : Bool) (q : QueryValue) (list : List PartPlan) → IsPlanFor shared q list → ArePartPlans q list
+parts_plans false q list is = record { parts = is.parts; plans = is.plans }
+parts_plans true q list is = record { parts = is.parts; plans = is.plans }
 
-pub planned_of : (q : QueryValue) (p : Plan) → IsPlanOf q p → IsPlanned q (parts_of p)
-planned_of q plan.Filter is = filter is refl
-planned_of q (plan.Parts list numbers) is = parts is.0 is.1
+pub parts_boxes : (shared : Bool) (q : QueryValue) (list : List PartPlan) → IsPlanFor shared q list → AreBoxesOf q list (kept_boxes shared q list)
+parts_boxes false q list is = (plans-have-boxes q list).0 is
+parts_boxes true q list is = (plans-have-boxes q list).1 is
+
+same_answers : (shared : Bool) (q : QueryValue) (list : List PartPlan) → (numbers_for shared q list).answers ≡ answer_bound q list
+same_answers false q list = refl
+same_answers true q list = refl
+
+same_cells : (shared : Bool) (q : QueryValue) (list : List PartPlan) → (numbers_for shared q list).cells ≡ sizes_in (kept_boxes shared q list)
+same_cells false q list = count-of-boxes list
+same_cells true q list = refl
+
+pub has_parts : (shared : Bool) (q : QueryValue) (p : Plan) → IsPlanOf shared q p → HasParts q p
+has_parts shared q plan.Filter is = is
+has_parts shared q (plan.Parts list numbers) is = (is.0, parts_plans shared q list is.1, ap (λ (m : Numbers). m.answers) is.2 ∙ same_answers shared q list)
+
+pub no_boxes : (shared : Bool) (q : QueryValue) → kept_boxes shared q [] ≡ []
+no_boxes false q = refl
+no_boxes true q = refl
+
+-- no boxes are those of no parts
+pub no_parts : {q : QueryValue} → AreBoxesOf q [] []
+no_parts = record {
+  each = λ part k. elim (Has-from_contains [] part k) [ ];
+  alone = λ b k. elim (Has-from_contains [] b k) [ ];
+  covers = λ n l. absurd (omega (arith, l));
+}
+
+-- the cells are those of the boxes of the plan; a filter has none
+pub kept_is : (shared : Bool) (q : QueryValue) (p : Plan) → IsPlanOf shared q p → IsKept q (parts_of p) (kept_boxes shared q (parts_of p))
+kept_is shared q plan.Filter is = alone is refl (no_boxes shared q)
+kept_is shared q (plan.Parts list numbers) is = boxed is.0 (parts_plans shared q list is.1) (parts_boxes shared q list is.1)
 
 -- there are at most as many cells as the limit allows
 few_cells : (numbers : Numbers) → first_above numbers ≡ options.None → numbers.cells ≤ 262144
@@ -44,24 +81,39 @@ few_cells numbers e = by (is_above numbers which.Cells) refl e
     by false f g = grind (arith, nat_tests)
 
 -- the cells stand within the pages
-pub cells_of_plan : (q : QueryValue) (p : Plan) → IsPlanOf q p → IsWithin p → (cell_count (parts_of p) ≤ 64 * pages_of p) × (cell_count (parts_of p) < 2 ^ 32)
-cells_of_plan q plan.Filter is within = (omega arith, omega arith)
-cells_of_plan q (plan.Parts list numbers) is within =
+pub cells_of_plan : (shared : Bool) (q : QueryValue) (p : Plan) → IsPlanOf shared q p → IsWithin p
+    → (sizes_in (kept_boxes shared q (parts_of p)) ≤ 64 * pages_of p) × (sizes_in (kept_boxes shared q (parts_of p)) < 2 ^ 32)
+cells_of_plan shared q plan.Filter is within = (let n : sizes_in (kept_boxes shared q []) ≡ 0 = ap sizes_in (no_boxes shared q) in (omega (arith, n), omega (arith, n)))
+cells_of_plan shared q (plan.Parts list numbers) is within =
     let few = few_cells numbers within in
-    let n : numbers.cells ≡ cell_count list = ap (λ (m : Numbers). m.cells) is.2 in
+    let n : numbers.cells ≡ sizes_in (kept_boxes shared q list) = ap (λ (m : Numbers). m.cells) is.2 ∙ same_cells shared q list in
     (omega (arith, n), omega (arith, n, few))
 
+-- the boxes lie within the cells
+pub inside_of : (shared : Bool) (q : QueryValue) (list : List PartPlan) → IsPlanFor shared q list → AreWithin (length q.from) (sizes_in (kept_boxes shared q list)) list
+inside_of shared q list is part k place l =
+    let own = All-contains (IsPartPlan q) list part (parts_plans shared q list is).plans k in
+    (boxes-meet-whole q list (parts_plans shared q list is).plans (kept_boxes shared q list) (parts_boxes shared q list is)).0 part k place (let c = own.count in omega (arith, c, l))
+
+pub meet_of : (shared : Bool) (q : QueryValue) (list : List PartPlan) → IsPlanFor shared q list → MeetWhole q list
+meet_of shared q list is m n part other place there i j b c e =
+    (boxes-meet-whole q list (parts_plans shared q list is).plans (kept_boxes shared q list) (parts_boxes shared q list is)).1 part other place there i j
+    (Contains-from_has list part (get_has list m part b.at)) (Contains-from_has list other (get_has list n other c.at)) b.there c.there b.inside c.inside e
+
 -- the cells are ready for a row
-pub plan_ready : (q : QueryValue) (p : Plan) → IsWithinLimits q → IsPlanOf q p → IsWithin p → (pool : PoolValue) (e : Extent) → e.pages ≡ pages_of p → IsLive pool e
+pub plan_ready : (shared : Bool) (q : QueryValue) (p : Plan) → IsWithinLimits q → IsPlanOf shared q p → IsWithin p → (pool : PoolValue) (e : Extent) → e.pages ≡ pages_of p → IsLive pool e
     → ((part : PartPlan) → Contains (parts_of p) part → AreFitting part (read_from (cells_of pool e)))
     → ((part : PartPlan) → Contains (parts_of p) part → CanCount part (read_from (cells_of pool e)))
     → IsPlanReady q p pool e
-plan_ready q plan.Filter limits is within pool e pages live fitting room = live
-plan_ready q (plan.Parts list numbers) limits is within pool e pages live fitting room =
-    let c = cells_of_plan q (plan.Parts list numbers) is within in
+plan_ready shared q plan.Filter limits is within pool e pages live fitting room = live
+plan_ready shared q (plan.Parts list numbers) limits is within pool e pages live fitting room =
+    let c = cells_of_plan shared q (plan.Parts list numbers) is within in
     record {
       limits = limits;
-      plan = is.1;
+      plan = parts_plans shared q list is.1;
+      cells = sizes_in (kept_boxes shared q list);
+      inside = inside_of shared q list is.1;
+      meet = meet_of shared q list is.1;
       few = c.1;
       live = live;
       within = (let w = c.0 in omega (arith, w, pages));

@@ -7,7 +7,7 @@ use Rattle.bq_model.specs.declared.plan.PartPlan.{PartPlan}
 use Rattle.bq_model.specs.Query.{QueryValue, IsWithinLimits, is_filter}
 use Rattle.bq_model.specs.Tuples.{is_before, placed}
 use Rattle.bq_model.specs.Violation.{IsViolation}
-use Rattle.bq_model.specs.Plan.{IsPlan}
+use Rattle.bq_model.specs.Plan.{ArePartPlans}
 use Rattle.bq_model.specs.Ranges.{all_tuples, at_column, different, selected_ranges}
 use Rattle.bq_model.specs.Boxes.{box}
 use Rattle.bq_model.specs.Numbers.{answer_bound}
@@ -117,7 +117,7 @@ pairs-ascend es a i j d h l =
     let y : get_or (tuples_of es) j d ≡ (get_or es j o).tuple = get_or-map (λ e. e.tuple) es j o d k in
     ap₂ is_before x y ∙ before_less (get_or es i o).tuple (get_or es j o).tuple (ascends_get o es i j a h k)
 
-module _ (q : QueryValue) (plan : List PartPlan) (within : IsWithinLimits q) (no_filter : IsFalse (is_filter q)) (is : IsPlan q plan) (violation : IsViolation q None) where
+module _ (q : QueryValue) (plan : List PartPlan) (within : IsWithinLimits q) (no_filter : IsFalse (is_filter q)) (is : ArePartPlans q plan) (violation : IsViolation q None) where
   -- a table within the ranges has room for one more tuple of them
   room_for : (t : List ℤ) (es : List Entry) → Ascends es → Lie q plan (tuples_of es) → Has (all_tuples q plan) t → has t es ≡ false
       → length es < answer_bound q plan

@@ -7,7 +7,6 @@ use Rattle.std.proofs.lemmas.List.Elements.{All-append, All-contains}
 use Rattle.std.proofs.lemmas.Grind.{common_steps}
 use Rattle.std.specs.declared.option.Option.TheVariants as options
 use Rattle.bq_model.specs.declared.plan.PartPlan.{PartPlan}
-use Rattle.bq_model.specs.declared.plan.Numbers.{Numbers}
 use Rattle.bq_model.specs.declared.plan.Plan.{Plan}
 use Rattle.bq_model.specs.declared.plan.Plan.TheVariants as plan
 use Rattle.bq_model.specs.Query.{QueryValue, IsWithinLimits}
@@ -15,12 +14,12 @@ use Rattle.bq_model.specs.Assignment.{projected, holds}
 use Rattle.bq_model.specs.Violation.{IsViolation}
 use Rattle.bq_model.specs.Tuples.{ascending, fresh}
 use Rattle.bq_model.specs.Meaning.{Arrival, by_column, assignment_of}
-use Rattle.bq_model.specs.Plan.{IsPlan, IsPartPlan, stream_at}
+use Rattle.bq_model.specs.Plan.{ArePartPlans, IsPartPlan, stream_at}
 use Rattle.bq_model.specs.Admission.{admits}
 use Rattle.bq_model.specs.Cells.{FitsKind}
 use Rattle.bq_model.specs.Ranges.{all_tuples}
 use Rattle.bq_model.specs.Merge.{merged_table}
-use Rattle.bq_model.specs.Numbers.{IsPlanOf, parts_of, cell_count}
+use Rattle.bq_model.specs.Numbers.{parts_of}
 use Rattle.bq_model.specs.Combinations.{Reading, Found, found_in}
 use Rattle.bq_model.specs.Probing.{found_beside}
 use Rattle.bq_model.specs.Future.{spelled_out, future}
@@ -40,7 +39,8 @@ use Rattle.bq_answers.proofs.Changed.{ascends_settled}
 use Rattle.bq_answers.proofs.Tuples.{has_tuple}
 use Rattle.bq_executor.specs.Executor.{most_answers, cleared}
 use Rattle.bq_executor.specs.Taking.{with_all, HaveRoom}
-use Rattle.bq_executor.specs.Arriving.{all_found, own_found, answered_by}
+use Rattle.bq_executor.specs.Arriving.{all_found, own_found, answered_by, HasParts}
+use Rattle.bq_laws.specs.Probing.{AreWithin}
 use Rattle.bq_executor.proofs.Founds.{found_lies}
 use Rattle.bq_executor.proofs.Taking.{waits_plain, ascends_all}
 use Rattle.bq_executor.proofs.TakingNew.{waits_new, tuples_new_all}
@@ -49,28 +49,28 @@ use Rattle.bq_executor.proofs.Answered.{cleared-ascends, settled-waits, settled-
 
 -- with DISTINCT each combination that is found counts one
 module _ (q : QueryValue) (within : IsWithinLimits q) (distinct : q.distinct ≡ true) (read : Reading) (r : Arrival) where
-  ones_in : (part : PartPlan) → IsPartPlan q part → (plan : List PartPlan) → IsPlan q plan → cell_count plan < 2 ^ 32 → Contains plan part → AreFitting part read
+  ones_in : (part : PartPlan) → IsPartPlan q part → (plan : List PartPlan) → ArePartPlans q plan → (cells : ℕ) → AreWithin (length q.from) cells plan → cells < 2 ^ 32 → Contains plan part → AreFitting part read
       → (pos : ℕ) → pos < length q.from → slice_index_or q.from pos 0 ≡ r.stream → All (λ (f : Found). f.count ≡ 1) (found_in q part read r)
-  ones_in part own plan is few k fitting pos here e =
+  ones_in part own plan is cells inside few k fitting pos here e =
       subst (All (λ (f : Found). f.count ≡ 1)) (sym (walks-find-all q part within own read r pos here e)) (by (admits q part pos (by_column r.values)))
     where
       by : (b : Bool) → All (λ (f : Found). f.count ≡ 1) (cond b (found_beside q part read pos (by_column r.values)) [])
-      by true = counts-are-one q part (walked q plan is few part k) read fitting pos (let c = own.count in omega (arith, c, here)) (by_column r.values) distinct
+      by true = counts-are-one q part (walked q plan is cells inside few part k) read fitting pos (let c = own.count in omega (arith, c, here)) (by_column r.values) distinct
       by false = λ k d l. absurd (omega (arith, l))
 
-  ones_all : (plan : List PartPlan) → IsPlan q plan → cell_count plan < 2 ^ 32 → (pos : ℕ) → pos < length q.from → slice_index_or q.from pos 0 ≡ r.stream
+  ones_all : (plan : List PartPlan) → ArePartPlans q plan → (cells : ℕ) → AreWithin (length q.from) cells plan → cells < 2 ^ 32 → (pos : ℕ) → pos < length q.from → slice_index_or q.from pos 0 ≡ r.stream
       → (parts : List PartPlan) → ((part : PartPlan) → Has parts part → Contains plan part × IsPartPlan q part × AreFitting part read)
       → All (λ (f : Found). f.count ≡ 1) (all_found q parts read r)
-  ones_all plan is few pos here e [] h = λ k d l. absurd (omega (arith, l))
-  ones_all plan is few pos here e (part ∷ parts) h =
+  ones_all plan is cells inside few pos here e [] h = λ k d l. absurd (omega (arith, l))
+  ones_all plan is cells inside few pos here e (part ∷ parts) h =
       All-append (λ (f : Found). f.count ≡ 1) (found_in q part read r) (all_found q parts read r)
-      (let o = h part first in ones_in part o.1 plan is few o.0 o.2 pos here e)
-      (ones_all plan is few pos here e parts (λ p k. h p (later k)))
+      (let o = h part first in ones_in part o.1 plan is cells inside few o.0 o.2 pos here e)
+      (ones_all plan is cells inside few pos here e parts (λ p k. h p (later k)))
 
-  pub answered_ones : (p : Plan) → IsPlanOf q p → cell_count (parts_of p) < 2 ^ 32
+  pub answered_ones : (p : Plan) → HasParts q p → (cells : ℕ) → AreWithin (length q.from) cells (parts_of p) → cells < 2 ^ 32
       → ((part : PartPlan) → Has (parts_of p) part → AreFitting part read) → All (λ (f : Found). f.count ≡ 1) (answered_by q p read r)
-  answered_ones plan.Filter is few fitting = absurd (not_both _ distinct (filter_plain q is))
-  answered_ones (plan.Parts parts numbers) is few fitting = by (list_any (λ stream. r.stream == stream) q.from) refl
+  answered_ones plan.Filter is cells inside few fitting = absurd (not_both _ distinct (filter_plain q is))
+  answered_ones (plan.Parts parts numbers) is cells inside few fitting = by (list_any (λ stream. r.stream == stream) q.from) refl
     where
       by : (b : Bool) → list_any (λ stream. r.stream == stream) q.from ≡ b → All (λ (f : Found). f.count ≡ 1) (cond b (all_found q parts read r) [])
       by false e = λ k d l. absurd (omega (arith, l))
@@ -78,12 +78,12 @@ module _ (q : QueryValue) (within : IsWithinLimits q) (distinct : q.distinct ≡
           let m = any_from (λ stream. r.stream == stream) q.from e in
           let c = Contains-from_has q.from m.0 m.1 in
           let same : slice_index_or q.from c.0 0 ≡ r.stream = at_default q.from c.0 m.0 c.1 ∙ c.2 ∙ sym (nat_true r.stream m.0 m.2) in
-          ones_all parts is.1 few c.0 c.1 same parts (λ part k. (Contains-from_has parts part k, All-contains (IsPartPlan q) parts part is.1.plans (Contains-from_has parts part k), fitting part k))
+          ones_all parts is.1 cells inside few c.0 c.1 same parts (λ part k. (Contains-from_has parts part k, All-contains (IsPartPlan q) parts part is.1.plans (Contains-from_has parts part k), fitting part k))
         where
           at_default : (xs : List ℕ) (i d : ℕ) → i < length xs → slice_index_or xs i 0 ≡ slice_index_or xs i d
           at_default xs i d l = grind (arith, common_steps)
 
-module _ (q : QueryValue) (p : Plan) (is : IsPlanOf q p) (read : Reading) (r : Arrival) (es : List Entry) (a : Ascends es) where
+module _ (q : QueryValue) (p : Plan) (is : HasParts q p) (read : Reading) (r : Arrival) (es : List Entry) (a : Ascends es) where
   abbrev fs : List Found
   fs = answered_by q p read r
 
@@ -140,7 +140,7 @@ lie_start q plan es lie = by q.distinct refl
     by true e = subst (Lie q plan) (sym (settled-tuples es)) (lie_from q plan (tuples_of es) (lie e))
     by false e = λ t h. elim h [ ]
 
-kinds : (q : QueryValue) (read : Reading) (plan : List PartPlan) → IsPlan q plan → ((part : PartPlan) → Has plan part → AreFitting part read)
+kinds : (q : QueryValue) (read : Reading) (plan : List PartPlan) → ArePartPlans q plan → ((part : PartPlan) → Has plan part → AreFitting part read)
     → (part : PartPlan) → Has plan part → (place i : ℕ) → place < length q.from → i < (stream_at part place).size → FitsKind (stream_at part place).kind (read part place i)
 kinds q read plan own fit part k place i l s =
     let c = (All-contains (IsPartPlan q) plan part own.plans (Contains-from_has plan part k)).count in
@@ -157,7 +157,7 @@ own_wide q r true table width capacity = (
 
 module _ (q : QueryValue) (within : IsWithinLimits q) (violation : IsViolation q options.None) (read : Reading) (r : Arrival) (table : TableValue) (width : table.width ≡ length q.select) (a : Ascends table.entries) where
   -- the table has room for what is answered
-  pub room_row : (p : Plan) → IsPlanOf q p → table.capacity ≡ most_answers p
+  pub room_row : (p : Plan) → HasParts q p → table.capacity ≡ most_answers p
       → (q.distinct ≡ true → All (Contains (all_tuples q (parts_of p))) (tuples_of table.entries))
       → ((part : PartPlan) → Has (parts_of p) part → AreFitting part read)
       → HaveRoom q.distinct (answered_by q p read r) (with_entries table (cleared q.distinct table.entries))
@@ -170,11 +170,11 @@ module _ (q : QueryValue) (within : IsWithinLimits q) (violation : IsViolation q
       by false = tt
       by true =
           have_room q parts within is.0 is.1 violation q.distinct (all_found q parts read r) (with_entries table (cleared q.distinct table.entries)) width
-          (capacity ∙ ap (λ (n : Numbers). n.answers) is.2) (cleared-ascends q.distinct table.entries a) (lie_start q parts table.entries lie)
+          (capacity ∙ is.2) (cleared-ascends q.distinct table.entries a) (lie_start q parts table.entries lie)
           (found_lies q parts within is.0 is.1 violation read r (kinds q read parts is.1 fitting))
 
   -- its tuples stay within the ranges
-  pub lie_row : (p : Plan) → IsPlanOf q p
+  pub lie_row : (p : Plan) → HasParts q p
       → (q.distinct ≡ true → All (Contains (all_tuples q (parts_of p))) (tuples_of table.entries))
       → ((part : PartPlan) → Has (parts_of p) part → AreFitting part read)
       → q.distinct ≡ true

@@ -1,36 +1,44 @@
 -- The cells after a row: the merge of the cells before with the row's own, each of its kind, counting at most one row more.
-use Rattle.std.proofs.Common.{◌≡◌, ℕ, ◌+◌, ◌<◌, ◌≤◌, ◌^◌, ◌&&◌, nat_lt, cond, Bool, true, false, ℤ, List, [], ◌∷◌, ◌++◌, length, take, drop, sym, ap, ◌∙◌, arith, Some, Contains}
+use Rattle.std.proofs.Common.{◌≡◌, ℕ, ◌+◌, ◌-◌, nat_eq, slice_index_or, All, ◌<◌, ◌≤◌, ◌^◌, ◌&&◌, cond, Bool, true, false, ℤ, List, [], ◌∷◌, ◌++◌, length, take, drop, sym, ap, ◌∙◌, arith, Some, Contains}
 use Rattle.std.proofs.lemmas.Bool.Decides.{nat_tests}
-use Rattle.std.proofs.lemmas.List.{get_or-take, length-take-le, take-append-drop}
-use Rattle.std.proofs.lemmas.Option.{slice_get_within, slice_get-get_or}
+use Rattle.std.proofs.lemmas.List.{get_or-take, get_or-drop, length-drop, take_all, length-take-le, take-append-drop}
+use Rattle.std.proofs.lemmas.Option.{slice_get-get_or}
 use Rattle.bq_model.specs.declared.cell.Cell.{Cell}
 use Rattle.bq_model.specs.declared.plan.Kind.{Kind}
 use Rattle.bq_model.specs.declared.plan.PartPlan.{PartPlan}
 use Rattle.bq_model.specs.Query.{QueryValue}
 use Rattle.bq_model.specs.Meaning.{Arrival}
-use Rattle.bq_model.specs.Plan.{stream_at, Follow}
-use Rattle.bq_model.specs.Cells.{content, synopsis, FitsKind}
+use Rattle.bq_model.specs.Plan.{stream_at, IsPartPlan}
+use Rattle.bq_model.specs.Cells.{content, FitsKind}
 use Rattle.bq_model.specs.Combinations.{read_from}
-use Rattle.bq_model.specs.Merge.{merged, merge}
-use Rattle.bq_model.specs.Numbers.{cell_count}
+use Rattle.bq_model.specs.Merge.{merged}
+use Rattle.bq_model.specs.Sharing.{Box, sizes_in, synopsis_in, merge_in}
+use Rattle.bq_model.proofs.Has.{Has-from_contains, Contains-from_has}
+use Rattle.bq_laws.specs.Sharing.{AreBoxesOf}
 use Rattle.bq_laws.specs.Places.{IsBox}
-use Rattle.bq_laws.proofs.Numbering.{boxes-are-apart, cells-are-read}
-use Rattle.bq_laws.proofs.RowMerge.{rows-merge}
+use Rattle.bq_laws.proofs.Tests.{any_if}
+use Rattle.bq_laws.proofs.Numbering.{same-lists}
+use Rattle.bq_laws.proofs.BoxReadings.{rows-merge-in, boxes-meet-whole, boxes-fix-cells}
 use Rattle.bq_pool.specs.declared.pool.Extent.{Extent}
 use Rattle.bq_pool.specs.Extents.{PoolValue, cells_of, with_cells}
 use Rattle.bq_synopsis.specs.Premises.{HasRoom}
 use Rattle.bq_synopsis.proofs.CallerLemmas.{fits-merged}
-use Rattle.bq_executor.specs.Arriving.{lies, IsInserted, HasTaken}
+use Rattle.bq_executor.specs.Arriving.{lies, has_base, IsInserted, HasTaken}
+use Rattle.bq_executor.proofs.Inserting.{get_has}
 use Rattle.bq_executor.specs.Standing.{CountsUpto}
 
-module _ (plan : List PartPlan) (follow : Follow 0 plan) where
+-- lists that agree from a number on
+drop-same : (n : ℕ) (xs ys : List Cell) → length xs ≡ length ys → ((k : ℕ) → n ≤ k → slice_index_or xs k Cell.Empty ≡ slice_index_or ys k Cell.Empty) → drop n xs ≡ drop n ys
+drop-same n xs ys e h = same-lists (drop n xs) (drop n ys) Cell.Empty (length-drop n xs ∙ ap (λ m. m - n) e ∙ sym (length-drop n ys)) (λ k l.
+    get_or-drop n xs k Cell.Empty ∙ h (n + k) (omega arith) ∙ sym (get_or-drop n ys k Cell.Empty))
+
+module _ (q : QueryValue) (plan : List PartPlan) (plans : All (IsPartPlan q) plan) (list : List Box) (of : AreBoxesOf q plan list) where
   -- a box reads only the cells of the plan
-  pub read_cut : (cells : List Cell) (n : ℕ) (part : PartPlan) (place i : ℕ) → IsBox plan n part place i
-      → read_from (take (cell_count plan) cells) part place i ≡ read_from cells part place i
-  read_cut cells n part place i b =
-      let s = (boxes-are-apart plan follow).0 n part place b.at b.there in
-      let k = b.inside in
-      get_or-take (cell_count plan) cells ((stream_at part place).base + i) Cell.Empty (omega (arith, s, k))
+  pub read_cut : (cells : List Cell) (part : PartPlan) → Contains plan part → (place i : ℕ) → place < length part.streams.items → i < (stream_at part place).size
+      → read_from (take (sizes_in list) cells) part place i ≡ read_from cells part place i
+  read_cut cells part c place i l k =
+      let s = (boxes-meet-whole q plan plans list of).0 part c place l in
+      get_or-take (sizes_in list) cells ((stream_at part place).base + i) Cell.Empty (omega (arith, s, k))
 
   -- the number of a part of the plan
   pub box_of : (part : PartPlan) (c : Contains plan part) (place i : ℕ) → place < length part.streams.items → i < (stream_at part place).size → IsBox plan c.0 part place i
@@ -40,39 +48,50 @@ module _ (plan : List PartPlan) (follow : Follow 0 plan) where
     inside = s;
   }
 
-  module _ (q : QueryValue) (r : Arrival) (cells others : List Cell) (whole : cell_count plan ≤ length cells) (put : IsInserted q plan r (length plan) cells others) where
-    size : length (take (cell_count plan) cells) ≡ cell_count plan
-    size = length-take-le (cell_count plan) cells whole
+  module _ (r : Arrival) (cells others : List Cell) (whole : sizes_in list ≤ length cells) (put : IsInserted q plan r (length plan) cells others) where
+    size : length (take (sizes_in list) cells) ≡ sizes_in list
+    size = length-take-le (sizes_in list) cells whole
+
+    -- all parts took it
+    reached : (part : PartPlan) → Contains plan part → (place : ℕ) → has_base (take (length plan) plan) part place ≡ true
+    reached part c place =
+        let k : nat_eq (stream_at part place).base (stream_at part place).base ≡ true = grind (arith, nat_tests) in
+        ap (λ (ps : List PartPlan). has_base ps part place) (take_all (length plan) plan (omega arith))
+        ∙ any_if (λ (p : PartPlan). nat_eq (stream_at p place).base (stream_at part place).base) plan part (Has-from_contains plan part c) k
 
     -- what stands in a box then
-    pub read_after : (n : ℕ) (part : PartPlan) (place i : ℕ) → IsBox plan n part place i
-        → read_from (take (cell_count plan) others) part place i
-        ≡ cond (lies q r part place i) (merged (stream_at part place).kind (read_from (take (cell_count plan) cells) part place i) (content (stream_at part place).kind (r.values ∷ []))) (read_from (take (cell_count plan) cells) part place i)
-    read_after n part place i b =
-        let l : n < length plan = slice_get_within plan n part b.at in
-        let t : nat_lt n (length plan) ≡ true = grind (arith, nat_tests) in
-        read_cut others n part place i b
-        ∙ put.at n part place i b
-        ∙ ap (λ t. cond (t && lies q r part place i) (merged (stream_at part place).kind (read_from cells part place i) (content (stream_at part place).kind (r.values ∷ []))) (read_from cells part place i)) t
-        ∙ ap (λ c. cond (lies q r part place i) (merged (stream_at part place).kind c (content (stream_at part place).kind (r.values ∷ []))) c) (sym (read_cut cells n part place i b))
+    pub read_after : (part : PartPlan) → Contains plan part → (place i : ℕ) → place < length part.streams.items → i < (stream_at part place).size
+        → read_from (take (sizes_in list) others) part place i
+        ≡ cond (lies q r part place i) (merged (stream_at part place).kind (read_from (take (sizes_in list) cells) part place i) (content (stream_at part place).kind (r.values ∷ []))) (read_from (take (sizes_in list) cells) part place i)
+    read_after part c place i l k =
+        read_cut others part c place i l k
+        ∙ put.at c.0 part place i (box_of part c place i l k)
+        ∙ ap (λ t. cond (t && lies q r part place i) (merged (stream_at part place).kind (read_from cells part place i) (content (stream_at part place).kind (r.values ∷ []))) (read_from cells part place i)) (reached part c place)
+        ∙ ap (λ c. cond (lies q r part place i) (merged (stream_at part place).kind c (content (stream_at part place).kind (r.values ∷ []))) c) (sym (read_cut cells part c place i l k))
 
     -- the cells are the merge
-    pub merged_is : take (cell_count plan) others ≡ merge plan (take (cell_count plan) cells) (synopsis q plan (r ∷ []))
+    pub merged_is : take (sizes_in list) others ≡ merge_in list (take (sizes_in list) cells) (synopsis_in q list (r ∷ []))
     merged_is =
-        let law = rows-merge q plan follow (take (cell_count plan) cells) size r in
-        cells-are-read plan follow (take (cell_count plan) others) (merge plan (take (cell_count plan) cells) (synopsis q plan (r ∷ [])))
-        (length-take-le (cell_count plan) others (let s = put.size in omega (arith, s, whole))) law.size
-        (λ n part place i b. read_after n part place i b ∙ sym (law.at n part place i b))
+        let law = rows-merge-in q plan plans list of (take (sizes_in list) cells) size r in
+        boxes-fix-cells q plan plans list of (take (sizes_in list) others) (merge_in list (take (sizes_in list) cells) (synopsis_in q list (r ∷ [])))
+        (length-take-le (sizes_in list) others (let s = put.size in omega (arith, s, whole))) law.size
+        (λ part c place i l k. read_after part c place i l k ∙ sym (law.at part c place i l k))
+
+    -- and those behind them are as before
+    pub rest_is : drop (sizes_in list) others ≡ drop (sizes_in list) cells
+    rest_is = drop-same (sizes_in list) others cells put.size (λ k l. put.rest k (λ m part place i b e.
+        let s = (boxes-meet-whole q plan plans list of).0 part (Contains-from_has plan part (get_has plan m part b.at)) place b.there in
+        let n = b.inside in omega (arith, s, n, e, l)))
 
   -- the pool after all parts took the row
-  pub pool_is : (q : QueryValue) (e : Extent) (r : Arrival) (before after : PoolValue) → cell_count plan ≤ length (cells_of before e)
+  pub pool_is : (e : Extent) (r : Arrival) (before after : PoolValue) → sizes_in list ≤ length (cells_of before e)
       → HasTaken q plan e r (length plan) before after
-      → after ≡ with_cells before e (merge plan (take (cell_count plan) (cells_of before e)) (synopsis q plan (r ∷ [])) ++ drop (cell_count plan) (cells_of before e))
-  pool_is q e r before after whole taken =
+      → after ≡ with_cells before e (merge_in list (take (sizes_in list) (cells_of before e)) (synopsis_in q list (r ∷ [])) ++ drop (sizes_in list) (cells_of before e))
+  pool_is e r before after whole taken =
       taken.only
       ∙ ap (with_cells before e) (
-      sym (take-append-drop (cell_count plan) (cells_of after e))
-      ∙ (λ j. merged_is q r (cells_of before e) (cells_of after e) whole taken.inserted j ++ taken.inserted.rest j))
+      sym (take-append-drop (sizes_in list) (cells_of after e))
+      ∙ (λ j. merged_is r (cells_of before e) (cells_of after e) whole taken.inserted j ++ rest_is r (cells_of before e) (cells_of after e) whole taken.inserted j))
 
 -- a cell counts at most one row more
 counts_kept : (n : ℕ) (c : Cell) → CountsUpto n c → CountsUpto (n + 1) c

@@ -12,40 +12,45 @@ use Rattle.bq_model.specs.Query.{QueryValue, is_filter}
 use Rattle.bq_model.specs.Tuples.{ascending, fresh}
 use Rattle.bq_model.specs.Meaning.{Arrival, new_answers}
 use Rattle.bq_model.specs.Filter.{filter_tuple}
-use Rattle.bq_model.specs.Plan.{IsPartPlan, stream_at, Follow}
-use Rattle.bq_model.specs.Cells.{synopsis, printed, FitsKind}
+use Rattle.bq_model.specs.Plan.{IsPartPlan, stream_at}
+use Rattle.bq_model.specs.Cells.{printed, FitsKind}
 use Rattle.bq_model.specs.Combinations.{Reading, Found, read_from}
 use Rattle.bq_model.specs.Future.{waiting, future}
-use Rattle.bq_model.specs.Merge.{merge, merged_table}
-use Rattle.bq_model.specs.Numbers.{IsPlanOf, parts_of, pages_of, cell_count}
-use Rattle.bq_model.proofs.Has.{Has, Contains-from_has}
+use Rattle.bq_model.specs.Merge.{merged_table}
+use Rattle.bq_model.specs.Numbers.{parts_of, pages_of}
+use Rattle.bq_model.specs.Sharing.{Box, kept_boxes, sizes_in, synopsis_in, merge_in, IsPlanOf}
+use Rattle.bq_laws.specs.Probing.{AreWithin}
+use Rattle.bq_laws.specs.Sharing.{AreBoxesOf}
+use Rattle.bq_laws.specs.Bases.{IsKept}
+use Rattle.bq_model.proofs.Has.{Has, Has-from_contains, Contains-from_has}
 use Rattle.bq_laws.specs.Growth.{occurs}
 use Rattle.bq_laws.proofs.Tests.{true_or_false}
 use Rattle.bq_laws.proofs.Counts.{times}
 use Rattle.bq_laws.proofs.Order.{Rises}
 use Rattle.bq_laws.proofs.Interleaving.{occurs-is, counts-fit}
-use Rattle.bq_laws.proofs.Merge.{synopses-merge, printed-grows}
-use Rattle.bq_laws.proofs.Sufficiency.{synopsis-suffices}
+use Rattle.bq_laws.proofs.Merge.{printed-grows}
+use Rattle.bq_laws.proofs.SharedCells.{boxes-merge}
+use Rattle.bq_laws.proofs.Bases.{suffices}
 use Rattle.bq_laws.proofs.Keeping.{rows-more-keep}
 use Rattle.bq_model.specs.Domains.{RowKeeps}
 use Rattle.bq_pool.specs.Extents.{PoolValue, cells_of}
 use Rattle.bq_synopsis.specs.Premises.{AreFitting, HasRoom}
 use Rattle.bq_answers.specs.Entries.{Entry, TableValue, entry_of, with_entries, Ascends, waiting_of, tuples_of}
-use Rattle.bq_executor.specs.Executor.{ExecutorValue, cells_in, tuples_in, waiting_in, IsSound, with_given, cleared}
+use Rattle.bq_executor.specs.Executor.{ExecutorValue, list_in, cells_in, tuples_in, waiting_in, IsSound, with_given, cleared}
 use Rattle.bq_executor.specs.Standing.{StandsFor, CountsUpto, AreKept, KeepsWithin, IsReady, future_in, pool_with, TookRow}
 use Rattle.bq_executor.specs.Taking.{with_all, HaveRoom}
-use Rattle.bq_executor.specs.Arriving.{answered_by, HasTaken, IsPlanReady, CanCount}
+use Rattle.bq_executor.specs.Arriving.{answered_by, HasParts, HasTaken, IsPlanReady, CanCount}
 use Rattle.bq_executor.proofs.Founds.{Agree}
 use Rattle.bq_executor.proofs.Spelled.{spelled_is}
 use Rattle.bq_executor.proofs.Answered.{future-rises, cleared-ascends}
 use Rattle.bq_executor.proofs.Room.{all_within}
 use Rattle.bq_executor.proofs.RowAnswers.{answered_ones, waits_row, tuples_row, ascends_row, room_row, lie_row}
-use Rattle.bq_executor.proofs.RowCells.{read_cut, box_of, read_after, merged_is, pool_is, room_kept, kept_by}
+use Rattle.bq_executor.proofs.RowCells.{read_cut, read_after, merged_is, rest_is, pool_is, room_kept, kept_by}
+use Rattle.bq_executor.proofs.PlanFacts.{parts_boxes, no_boxes, no_parts, has_parts, kept_is, inside_of, cells_of_plan, plan_ready, answered-same}
 use Rattle.bq_executor.proofs.Keeping.{keeps}
-use Rattle.bq_executor.proofs.PlanFacts.{follow_of, planned_of, cells_of_plan, plan_ready, answered-same}
 
 -- without DISTINCT the future answers do not look at the table
-future-table : (q : QueryValue) (plan : List PartPlan) (read : Reading) (t u : List (List ℤ)) (r : Arrival) → q.distinct ≡ false
+pub future-table : (q : QueryValue) (plan : List PartPlan) (read : Reading) (t u : List (List ℤ)) (r : Arrival) → q.distinct ≡ false
     → future q plan read t r ≡ future q plan read u r
 unfolding future
 future-table q plan read t u r d =
@@ -76,19 +81,39 @@ module _ (e : ExecutorValue) (sound : IsSound e) (pool : PoolValue) (ready : IsR
   abbrev later : ExecutorValue
   later = with_given e (e.given + 1) now
 
-  follow : Follow 0 parts
-  follow = follow_of q e.plan sound.accepted.plan
+  abbrev list : List Box
+  list = list_in e
 
-  plan_cells : (cell_count parts ≤ 64 * pages_of e.plan) × (cell_count parts < 2 ^ 32)
-  plan_cells = cells_of_plan q e.plan sound.accepted.plan sound.accepted.within
+  has : HasParts q e.plan
+  has = has_parts e.shared q e.plan sound.accepted.plan
 
-  whole : cell_count parts ≤ length all_cells
+  is_kept : IsKept q parts list
+  is_kept = kept_is e.shared q e.plan sound.accepted.plan
+
+  plans : All (IsPartPlan q) parts
+  plans = all_plans e.plan has
+    where
+      all_plans : (p : Plan) → HasParts q p → All (IsPartPlan q) (parts_of p)
+      all_plans plan.Filter h = λ k d l. absurd (omega (arith, l))
+      all_plans (plan.Parts parts_listed numbers) h = h.1.plans
+
+  of : AreBoxesOf q parts list
+  of = boxes_of e.plan sound.accepted.plan
+    where
+      boxes_of : (p : Plan) → IsPlanOf e.shared q p → AreBoxesOf q (parts_of p) (kept_boxes e.shared q (parts_of p))
+      boxes_of plan.Filter h = subst (AreBoxesOf q []) (sym (no_boxes e.shared q)) no_parts
+      boxes_of (plan.Parts list numbers) h = parts_boxes e.shared q list h.1
+
+  plan_cells : (sizes_in list ≤ 64 * pages_of e.plan) × (sizes_in list < 2 ^ 32)
+  plan_cells = cells_of_plan e.shared q e.plan sound.accepted.plan sound.accepted.within
+
+  whole : sizes_in list ≤ length all_cells
   whole = let c = plan_cells.0 in let l = ready.kept.live.pages in let p = sound.pages in omega (arith, c, l, p)
 
   -- the cells of the plan are read alike among all cells
   cut : (part : PartPlan) → Contains parts part → (place i : ℕ) → place < length part.streams.items → i < (stream_at part place).size
       → read_from (cells_in e pool) part place i ≡ read_from all_cells part place i
-  cut part c place i l s = read_cut parts follow all_cells c.0 part place i (box_of parts follow part c place i l s)
+  cut part c place i l s = read_cut q parts plans list of all_cells part c place i l s
 
   fitting : (part : PartPlan) → Contains parts part → AreFitting part (read_from all_cells)
   fitting part c place i l s = subst (FitsKind (stream_at part place).kind) (cut part c place i l s) (ready.kept.fitting part c place i l s)
@@ -98,11 +123,11 @@ module _ (e : ExecutorValue) (sound : IsSound e) (pool : PoolValue) (ready : IsR
 
   pub ready_row : IsPlanReady q e.plan pool e.extent
   ready_row =
-      plan_ready q e.plan sound.limits sound.accepted.plan sound.accepted.within pool e.extent sound.pages ready.kept.live fitting room_cells
+      plan_ready e.shared q e.plan sound.limits sound.accepted.plan sound.accepted.within pool e.extent sound.pages ready.kept.live fitting room_cells
 
   pub room : HaveRoom q.distinct found (with_entries e.table (cleared q.distinct e.table.entries))
   room =
-      room_row q sound.limits sound.accepted.violation (read_from all_cells) r e.table sound.width a e.plan sound.accepted.plan sound.capacity sound.tuples
+      room_row q sound.limits sound.accepted.violation (read_from all_cells) r e.table sound.width a e.plan has sound.capacity sound.tuples
       (λ part k. fitting part (Contains-from_has parts part k))
 
   -- the table after what waited was given up and all that is answered was taken up
@@ -116,7 +141,7 @@ module _ (e : ExecutorValue) (sound : IsSound e) (pool : PoolValue) (ready : IsR
   room_clear d same clear is = subst (HaveRoom q.distinct found) (sym (is ∙ ap (λ b. with_entries e.table (cleared b e.table.entries)) same)) room
 
   ascends : Ascends now
-  ascends = ascends_row q e.plan sound.accepted.plan (read_from all_cells) r e.table.entries a
+  ascends = ascends_row q e.plan has (read_from all_cells) r e.table.entries a
 
   few_cleared : (d : Bool) → length (cleared d e.table.entries) ≤ e.table.capacity
   few_cleared true = (let n = length-map e.table.entries (λ (x : Entry). entry_of x.tuple 0) in let f = sound.entries in let c = sound.capacity in omega (arith, n, f, c))
@@ -136,14 +161,14 @@ module _ (e : ExecutorValue) (sound : IsSound e) (pool : PoolValue) (ready : IsR
     entries = (let n = entries in let c = sound.capacity in omega (arith, n, c));
     ascends = ascends;
     tuples =
-        lie_row q sound.limits sound.accepted.violation (read_from all_cells) r e.table sound.width a e.plan sound.accepted.plan sound.tuples
+        lie_row q sound.limits sound.accepted.violation (read_from all_cells) r e.table sound.width a e.plan has sound.tuples
         (λ part k. fitting part (Contains-from_has parts part k));
   }
 
   agree : (part : PartPlan) → Has parts part → Agree part (length q.from) (read_from all_cells) (read_from (cells_in e pool))
-  agree part k place i l s = sym (cut part (Contains-from_has parts part k) place i (there e.plan sound.accepted.plan k l) s)
+  agree part k place i l s = sym (cut part (Contains-from_has parts part k) place i (there e.plan has k l) s)
     where
-      there : (p : Plan) → IsPlanOf q p → Has (parts_of p) part → place < length q.from → place < length part.streams.items
+      there : (p : Plan) → HasParts q p → Has (parts_of p) part → place < length q.from → place < length part.streams.items
       there plan.Filter is k l = elim k [ ]
       there (plan.Parts list numbers) is k l =
           let c = (All-contains (IsPartPlan q) list part is.1.plans (Contains-from_has list part k)).count in omega (arith, c, l)
@@ -152,39 +177,46 @@ module _ (e : ExecutorValue) (sound : IsSound e) (pool : PoolValue) (ready : IsR
   same_found : found ≡ answered_by q e.plan (read_from (cells_in e pool)) r
   same_found = answered-same q e.plan (read_from all_cells) (read_from (cells_in e pool)) r agree
 
+  inside : AreWithin (length q.from) (sizes_in list) parts
+  inside = within_of e.plan sound.accepted.plan
+    where
+      within_of : (p : Plan) → IsPlanOf e.shared q p → AreWithin (length q.from) (sizes_in (kept_boxes e.shared q (parts_of p))) (parts_of p)
+      within_of plan.Filter h = λ part k. elim (Has-from_contains [] part k) [ ]
+      within_of (plan.Parts list numbers) h = inside_of e.shared q list h.1
+
   ones : q.distinct ≡ true → All (λ (f : Found). f.count ≡ 1) found
   ones d =
-      answered_ones q sound.limits d (read_from all_cells) r e.plan sound.accepted.plan plan_cells.1
+      answered_ones q sound.limits d (read_from all_cells) r e.plan has (sizes_in list) inside plan_cells.1
       (λ part k. fitting part (Contains-from_has parts part k))
 
   -- how often each tuple waits
   pub waits : (z : List ℤ) → waiting_of z now ≡ min (occurs z (future_in e pool r)) (2 ^ 127)
   waits z =
       ap (λ fs. waiting_of z (with_all q.distinct fs (cleared q.distinct e.table.entries))) same_found
-      ∙ waits_row q e.plan sound.accepted.plan (read_from (cells_in e pool)) r e.table.entries a
+      ∙ waits_row q e.plan has (read_from (cells_in e pool)) r e.table.entries a
       (λ d. subst (All (λ (f : Found). f.count ≡ 1)) same_found (ones d)) z
 
   -- the tuples with DISTINCT
   pub tuples : q.distinct ≡ true → tuples_of now ≡ merged_table (tuples_in e) (future_in e pool r)
   tuples d =
       ap (λ fs. tuples_of (with_all q.distinct fs (cleared q.distinct e.table.entries))) same_found
-      ∙ tuples_row q e.plan sound.accepted.plan (read_from (cells_in e pool)) r e.table.entries a (subst (All (λ (f : Found). f.count ≡ 1)) same_found (ones d)) d
+      ∙ tuples_row q e.plan has (read_from (cells_in e pool)) r e.table.entries a (subst (All (λ (f : Found). f.count ≡ 1)) same_found (ones d)) d
 
   module _ (after : PoolValue) (taken : HasTaken q parts e.extent r (length parts) pool after) where
     -- the pool
     pub cells : after ≡ pool_with e pool r
-    cells = pool_is parts follow q e.extent r pool after whole taken
+    cells = pool_is q parts plans list of e.extent r pool after whole taken
 
     -- the cells of the plan
-    cells_later : cells_in later after ≡ merge parts (cells_in e pool) (synopsis q parts (r ∷ []))
-    cells_later = merged_is parts follow q r all_cells (cells_of after e.extent) whole taken.inserted
+    cells_later : cells_in later after ≡ merge_in list (cells_in e pool) (synopsis_in q list (r ∷ []))
+    cells_later = merged_is q parts plans list of r all_cells (cells_of after e.extent) whole taken.inserted
 
     -- each cell is of its kind, and counts at most one row more
     kept_at : (part : PartPlan) → Contains parts part → (place i : ℕ) → place < length part.streams.items → i < (stream_at part place).size
         → FitsKind (stream_at part place).kind (read_from (cells_in later after) part place i) × CountsUpto (e.given + 1) (read_from (cells_in later after) part place i)
     kept_at part c place i l s =
         let kind = (stream_at part place).kind in
-        subst (λ x. FitsKind kind x × CountsUpto (e.given + 1) x) (sym (read_after parts follow q r all_cells (cells_of after e.extent) whole taken.inserted c.0 part place i (box_of parts follow part c place i l s)))
+        subst (λ x. FitsKind kind x × CountsUpto (e.given + 1) x) (sym (read_after q parts plans list of r all_cells (cells_of after e.extent) whole taken.inserted part c place i l s))
         (kept_by _ e.given kind (read_from (cells_in e pool) part place i) r.values ready.few (ready.kept.fitting part c place i l s) (ready.kept.counts part c place i l s))
 
     pub kept : AreKept later after
@@ -196,7 +228,7 @@ module _ (e : ExecutorValue) (sound : IsSound e) (pool : PoolValue) (ready : IsR
 
     -- it keeps within its announced numbers where it did
     pub within : KeepsWithin e pool → KeepsWithin later after
-    within w = keeps later sound_later after taken.live (taken.inserted.rest ∙ w.rest)
+    within w = keeps later sound_later after taken.live (rest_is q parts plans list of r all_cells (cells_of after e.extent) whole taken.inserted ∙ w.rest)
 
     -- over a history
     module _ (keeps : RowKeeps q r) (history : List Arrival) (stands : StandsFor e pool history) where
@@ -207,12 +239,12 @@ module _ (e : ExecutorValue) (sound : IsSound e) (pool : PoolValue) (ready : IsR
       future_is =
           ap (λ cs. future q parts (read_from cs) (tuples_in e) r) stands.cells
           ∙ by (true_or_false q.distinct)
-          ∙ synopsis-suffices q parts sound.limits (planned_of q e.plan sound.accepted.plan) sound.accepted.violation history r stands.rows keeps
+          ∙ suffices q parts list sound.limits sound.accepted.violation is_kept history r stands.rows keeps
         where
           by : (q.distinct ≡ true) ⊎ (q.distinct ≡ false)
-              → future q parts (read_from (synopsis q parts history)) (tuples_in e) r ≡ future q parts (read_from (synopsis q parts history)) (printed q history) r
-          by (inl d) = ap (λ ts. future q parts (read_from (synopsis q parts history)) ts r) (stands.tuples d)
-          by (inr d) = future-table q parts (read_from (synopsis q parts history)) (tuples_in e) (printed q history) r d
+              → future q parts (read_from (synopsis_in q list history)) (tuples_in e) r ≡ future q parts (read_from (synopsis_in q list history)) (printed q history) r
+          by (inl d) = ap (λ ts. future q parts (read_from (synopsis_in q list history)) ts r) (stands.tuples d)
+          by (inr d) = future-table q parts (read_from (synopsis_in q list history)) (tuples_in e) (printed q history) r d
 
       few : length history ≤ 2 ^ 40
       few = let f = ready.few in let g = stands.given in omega (arith, f, g)
@@ -227,15 +259,15 @@ module _ (e : ExecutorValue) (sound : IsSound e) (pool : PoolValue) (ready : IsR
       waiting_is : waiting_in later ≡ new_answers q history r
       waiting_is =
           spelled_is now (new_answers q history r) ascends
-          (subst Rises future_is (future-rises q (read_from (cells_in e pool)) (tuples_in e) r e.plan sound.accepted.plan)) waits_times
+          (subst Rises future_is (future-rises q (read_from (cells_in e pool)) (tuples_in e) r e.plan has)) waits_times
 
       stands_later : StandsFor later after (history ++ r ∷ [])
       stands_later = record {
         live = taken.live;
         cells =
-            cells_later ∙ ap (λ cs. merge parts cs (synopsis q parts (r ∷ []))) stands.cells
-            ∙ sym (synopses-merge q parts history (r ∷ []));
-        rest = taken.inserted.rest ∙ stands.rest;
+            cells_later ∙ ap (λ cs. merge_in list cs (synopsis_in q list (r ∷ []))) stands.cells
+            ∙ sym (boxes-merge q list history (r ∷ []));
+        rest = rest_is q parts plans list of r all_cells (cells_of after e.extent) whole taken.inserted ∙ stands.rest;
         given = (let g = stands.given in let n : length (history ++ r ∷ []) ≡ length history + 1 = length-append history (r ∷ []) in omega (arith, g, n));
         rows = rows-more-keep q history r stands.rows keeps;
         tuples =

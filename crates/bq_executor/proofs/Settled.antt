@@ -1,29 +1,21 @@
 -- An executor whose answers were written, and one to which no row was given.
-use Rattle.std.proofs.Common.{◌≡◌, ℕ, ◌+◌, ◌*◌, ◌<◌, cond, Bool, true, false, List, [], ◌∷◌, map, filter, length, take, drop, replicate, refl, sym, ap, ◌∙◌, subst, arith, All, Contains}
-use Rattle.std.proofs.lemmas.List.{take-replicate, drop-replicate, get_or-replicate, length-replicate, length-map}
-use Rattle.std.proofs.lemmas.List.Elements.{All-contains}
+use Rattle.std.proofs.Common.{◌≡◌, ℕ, ◌*◌, ◌<◌, cond, Bool, true, false, List, [], ◌∷◌, map, filter, length, take, drop, replicate, refl, sym, ap, ◌∙◌, subst, arith, All, Contains}
+use Rattle.std.proofs.lemmas.List.{take-replicate, drop-replicate, length-replicate, length-map}
 use Rattle.bq_model.specs.declared.cell.Cell.{Cell}
-use Rattle.bq_model.specs.declared.plan.Kind.{Kind}
 use Rattle.bq_model.specs.declared.plan.PartPlan.{PartPlan}
-use Rattle.bq_model.specs.declared.plan.Plan.{Plan}
-use Rattle.bq_model.specs.declared.plan.Plan.TheVariants as plan
 use Rattle.bq_model.specs.Query.{QueryValue, IsWithinLimits}
 use Rattle.bq_model.specs.Tuples.{ascending, once}
 use Rattle.bq_model.specs.Assignment.{holds, projected}
 use Rattle.bq_model.specs.Meaning.{Arrival, rows, product, answers, assignment_of}
-use Rattle.bq_model.specs.Plan.{IsPartPlan, stream_at}
-use Rattle.bq_model.specs.Cells.{content, synopsis, printed}
+use Rattle.bq_model.specs.Cells.{printed}
 use Rattle.bq_model.specs.Ranges.{all_tuples}
-use Rattle.bq_model.specs.Numbers.{IsPlanOf, parts_of, cell_count}
-use Rattle.bq_model.proofs.Has.{Contains-from_has}
-use Rattle.bq_laws.proofs.Numbering.{boxes-are-apart, cells-are-read, synopsis-has-cells}
-use Rattle.bq_laws.proofs.Sufficiency.{synopsis-is-read}
+use Rattle.bq_model.specs.Sharing.{Box, sizes_in, synopsis_in}
+use Rattle.bq_laws.proofs.SharedCells.{bases-grow}
 use Rattle.bq_pool.specs.Extents.{PoolValue, cells_of, IsLive}
 use Rattle.bq_answers.specs.Entries.{Entry, entry_of, settled, tuples_of}
-use Rattle.bq_executor.specs.Executor.{ExecutorValue, parts_in, spelled, IsSound, with_given}
+use Rattle.bq_executor.specs.Executor.{ExecutorValue, parts_in, list_in, spelled, IsSound, with_given}
 use Rattle.bq_executor.specs.Standing.{StandsFor}
 use Rattle.bq_executor.proofs.Answered.{settled-tuples, cleared-ascends}
-use Rattle.bq_executor.proofs.Inserting.{get_has}
 use Rattle.bq_executor.proofs.PlanFacts.{cells_of_plan}
 
 -- nothing waits
@@ -58,27 +50,10 @@ written-stands e pool h s = record {
   tuples = λ d. settled-tuples e.table.entries ∙ s.tuples d;
 }
 
-content-none : (k : Kind) → content k [] ≡ Cell.Empty
-content-none Kind.Count = refl
-content-none Kind.Present = refl
-content-none (Kind.Least a) = refl
-content-none (Kind.Greatest a) = refl
-
 -- the synopsis of no rows
-synopsis-none : (q : QueryValue) (p : Plan) → IsPlanOf q p → replicate (cell_count (parts_of p)) Cell.Empty ≡ synopsis q (parts_of p) []
-unfolding synopsis
-synopsis-none q plan.Filter is = refl
-synopsis-none q (plan.Parts list numbers) is =
-    cells-are-read list is.1.bases (replicate (cell_count list) Cell.Empty) (synopsis q list []) (length-replicate (cell_count list) Cell.Empty) (synopsis-has-cells q list [])
-    (λ n part place i b.
-    let s = (boxes-are-apart list is.1.bases).0 n part place b.at b.there in
-    let k = b.inside in
-    let c : Contains list part = Contains-from_has list part (get_has list n part b.at) in
-    let own = All-contains (IsPartPlan q) list part is.1.plans c in
-    let l : place < length q.from = (let n = own.count in let t = b.there in omega (arith, n, t)) in
-    get_or-replicate (cell_count list) ((stream_at part place).base + i) Cell.Empty Cell.Empty (omega (arith, s, k))
-    ∙ sym (content-none (stream_at part place).kind)
-    ∙ sym (synopsis-is-read q list is.1 [] part c place i l k))
+synopsis-none : (q : QueryValue) (list : List Box) → replicate (sizes_in list) Cell.Empty ≡ synopsis_in q list []
+synopsis-none q list =
+    sym (((bases-grow q list).0 (replicate (sizes_in list) Cell.Empty) (length-replicate (sizes_in list) Cell.Empty)).none) ∙ (bases-grow q list).1 []
 
 -- a query has no answers before the first row
 answers-none : (q : QueryValue) → IsWithinLimits q → answers q [] ≡ []
@@ -100,14 +75,14 @@ printed-none q within = by q.distinct
 pub begins : (e : ExecutorValue) → IsSound e → e.given ≡ 0 → e.table.entries ≡ [] → (pool : PoolValue) → IsLive pool e.extent
     → cells_of pool e.extent ≡ replicate (64 * e.extent.pages) Cell.Empty → StandsFor e pool []
 begins e s given none pool live empty =
-    let c = cells_of_plan e.query e.plan s.accepted.plan s.accepted.within in
+    let c = cells_of_plan e.shared e.query e.plan s.accepted.plan s.accepted.within in
     record {
       live = live;
       cells =
-          ap (take (cell_count (parts_in e))) empty
-          ∙ take-replicate (cell_count (parts_in e)) (64 * e.extent.pages) Cell.Empty (let w = c.0 in let p = s.pages in omega (arith, w, p))
-          ∙ synopsis-none e.query e.plan s.accepted.plan;
-      rest = ap (drop (cell_count (parts_in e))) empty ∙ drop-replicate (cell_count (parts_in e)) (64 * e.extent.pages) Cell.Empty;
+          ap (take (sizes_in (list_in e))) empty
+          ∙ take-replicate (sizes_in (list_in e)) (64 * e.extent.pages) Cell.Empty (let w = c.0 in let p = s.pages in omega (arith, w, p))
+          ∙ synopsis-none e.query (list_in e);
+      rest = ap (drop (sizes_in (list_in e))) empty ∙ drop-replicate (sizes_in (list_in e)) (64 * e.extent.pages) Cell.Empty;
       given = given;
       rows = λ k d l. absurd (omega (arith, l));
       tuples = λ d. ap tuples_of none ∙ printed-none e.query s.limits;

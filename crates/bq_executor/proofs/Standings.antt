@@ -9,12 +9,14 @@ use Rattle.bq_model.specs.declared.plan.Plan.TheVariants as plan
 use Rattle.bq_model.specs.Query.{QueryValue}
 use Rattle.bq_model.specs.Meaning.{Arrival, rows}
 use Rattle.bq_model.specs.Plan.{IsPartPlan, stream_at}
-use Rattle.bq_model.specs.Cells.{content, cell_of, rows_of_cell, synopsis, FitsKind}
+use Rattle.bq_model.specs.Cells.{content, cell_of, rows_of_cell, FitsKind}
 use Rattle.bq_model.specs.Combinations.{read_from}
-use Rattle.bq_model.specs.Numbers.{IsPlanOf, parts_of}
+use Rattle.bq_model.specs.Numbers.{parts_of}
+use Rattle.bq_model.specs.Sharing.{kept_boxes, synopsis_in, IsPlanOf}
 use Rattle.bq_model.proofs.Has.{Has-from_contains}
 use Rattle.bq_laws.proofs.Fitting.{cells-fit}
-use Rattle.bq_laws.proofs.Sufficiency.{synopsis-is-read}
+use Rattle.bq_laws.proofs.BoxReadings.{boxes-are-read}
+use Rattle.bq_executor.proofs.PlanFacts.{parts_plans, parts_boxes}
 use Rattle.bq_pool.specs.Extents.{PoolValue}
 use Rattle.bq_executor.specs.Executor.{ExecutorValue, parts_in, cells_in, IsSound}
 use Rattle.bq_executor.specs.Standing.{StandsFor, CountsUpto, AreKept}
@@ -54,11 +56,13 @@ module _ (e : ExecutorValue) (pool : PoolValue) (history : List Arrival) (sound 
       → read_from (cells_in e pool) part place i ≡ cell_of e.query history part place i
   cell_is part c place i l s = ap (λ cs. read_from cs part place i) stands.cells ∙ by e.plan sound.accepted.plan c
     where
-      by : (p : Plan) → IsPlanOf e.query p → Contains (parts_of p) part → read_from (synopsis e.query (parts_of p) history) part place i ≡ cell_of e.query history part place i
+      by : (p : Plan) → IsPlanOf e.shared e.query p → Contains (parts_of p) part
+          → read_from (synopsis_in e.query (kept_boxes e.shared e.query (parts_of p)) history) part place i ≡ cell_of e.query history part place i
       by plan.Filter is c = elim (Has-from_contains [] part c) [ ]
       by (plan.Parts list numbers) is c =
-          let own = All-contains (IsPartPlan e.query) list part is.1.plans c in
-          synopsis-is-read e.query list is.1 history part c place i (let n = own.count in omega (arith, n, l)) s
+          let plans = (parts_plans e.shared e.query list is.1).plans in
+          let own = All-contains (IsPartPlan e.query) list part plans c in
+          boxes-are-read e.query list plans (kept_boxes e.shared e.query list) (parts_boxes e.shared e.query list is.1) history part c place i (let n = own.count in omega (arith, n, l)) s
 
   kept : length history < 2 ^ 40 → AreKept e pool
   kept few = record {

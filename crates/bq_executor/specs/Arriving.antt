@@ -1,19 +1,21 @@
 -- What an arriving row does to the cells of the parts, one part after the other.
-use Rattle.std.specs.Prelude.{◌≡◌, ℕ, ◌*◌, ◌<◌, ◌≤◌, ◌^◌, ◌&&◌, ◌==◌, nat_eq, nat_lt, Bool, ℤ, List, [], ◌∷◌, length, drop, map, Contains, if◌then◌else◌, slice_index_or, slice_set}
+use Rattle.std.specs.Prelude.{◌≡◌, ◌≢◌, true, ℕ, ◌+◌, ◌*◌, ◌<◌, ◌≤◌, ◌^◌, ◌&&◌, ◌==◌, nat_eq, Bool, ℤ, List, [], ◌∷◌, length, take, map, Contains, IsTrue, IsFalse, if◌then◌else◌, slice_index_or, slice_set}
 use Rattle.std.specs.List.{flat_map, list_any}
 use Rattle.std.specs.Option.{option_to_list}
 use Rattle.bq_model.specs.declared.cell.Cell.{Cell}
 use Rattle.bq_model.specs.declared.plan.PartPlan.{PartPlan}
 use Rattle.bq_model.specs.declared.plan.Plan.{Plan}
 use Rattle.bq_model.specs.declared.plan.Plan.TheVariants as plan
-use Rattle.bq_model.specs.Query.{QueryValue, IsWithinLimits}
+use Rattle.bq_model.specs.Query.{QueryValue, IsWithinLimits, is_filter}
 use Rattle.bq_model.specs.Meaning.{Arrival, by_column}
-use Rattle.bq_model.specs.Plan.{stream_at, dims_at, IsPlan}
+use Rattle.bq_model.specs.Plan.{stream_at, dims_at, ArePartPlans}
 use Rattle.bq_model.specs.Filter.{filter_tuple}
 use Rattle.bq_model.specs.Admission.{admits}
 use Rattle.bq_model.specs.Cells.{row_place, content}
 use Rattle.bq_model.specs.Merge.{merged}
-use Rattle.bq_model.specs.Numbers.{cell_count}
+use Rattle.bq_model.specs.Numbers.{answer_bound}
+use Rattle.bq_model.specs.Sharing.{box_at, same_box}
+use Rattle.bq_laws.specs.Probing.{AreWithin}
 use Rattle.bq_model.specs.Combinations.{Reading, Found, found_in, read_from}
 use Rattle.bq_laws.specs.Places.{IsBox}
 use Rattle.bq_pool.specs.declared.pool.Extent.{Extent}
@@ -28,10 +30,14 @@ arrives q pos values = record { stream = slice_index_or q.from pos 0; values = v
 abbrev pub all_found : QueryValue → List PartPlan → Reading → Arrival → List Found
 all_found q plan read r = flat_map (λ part. found_in q part read r) plan
 
--- the pool after one part took a row: where the part admits the row and the query has several streams, its own cell takes it
-abbrev pub with_row : QueryValue → PartPlan → ℕ → List ℤ → Extent → PoolValue → PoolValue
-with_row q part pos values extent pool =
-    if admits q part pos (by_column values) && nat_lt 1 (length q.from)
+-- one of these parts has its box at a place of FROM where this one has it
+abbrev pub has_base : List PartPlan → PartPlan → ℕ → Bool
+has_base parts part place = list_any (λ p. nat_eq (stream_at p place).base (stream_at part place).base) parts
+
+-- the pool after one part took a row: where the part admits the row and takes it into a box of its own, the row's own cell takes it
+abbrev pub with_row : Bool → QueryValue → PartPlan → ℕ → List ℤ → Extent → PoolValue → PoolValue
+with_row owns q part pos values extent pool =
+    if admits q part pos (by_column values) && owns
     then with_cells pool extent (slice_set (cells_of pool extent) (row_cell part pos values) (merged (stream_at part pos).kind (slice_index_or (cells_of pool extent) (row_cell part pos values) Cell.Empty) (content (stream_at part pos).kind (values ∷ []))))
     else pool
 
@@ -45,10 +51,11 @@ pub record IsInserted (q : QueryValue) (plan : List PartPlan) (r : Arrival) (n :
   pub size : length others ≡ length cells
   pub at : (m : ℕ) (part : PartPlan) (place i : ℕ) → IsBox plan m part place i
       → read_from others part place i
-      ≡ (if nat_lt m n && lies q r part place i
+      ≡ (if has_base (take n plan) part place && lies q r part place i
       then merged (stream_at part place).kind (read_from cells part place i) (content (stream_at part place).kind (r.values ∷ []))
       else read_from cells part place i)
-  pub rest : drop (cell_count plan) others ≡ drop (cell_count plan) cells
+  pub rest : (k : ℕ) → ((m : ℕ) (part : PartPlan) (place i : ℕ) → IsBox plan m part place i → (stream_at part place).base + i ≢ k)
+      → slice_index_or others k Cell.Empty ≡ slice_index_or cells k Cell.Empty
 
 -- the first n parts took the row, and no other extent changed
 pub record HasTaken (q : QueryValue) (plan : List PartPlan) (extent : Extent) (r : Arrival) (n : ℕ) (before after : PoolValue) : Type 0 where
@@ -60,13 +67,24 @@ pub record HasTaken (q : QueryValue) (plan : List PartPlan) (extent : Extent) (r
 abbrev pub CanCount : PartPlan → Reading → Type 0
 CanCount part read = (place i : ℕ) → place < length part.streams.items → i < (stream_at part place).size → HasRoom (read part place i)
 
--- the plan is that of the query, its cells stand in the extent, and each is of its kind and can count one row more
+-- two boxes that have a cell in common are the same, place by place
+abbrev pub MeetWhole : QueryValue → List PartPlan → Type 0
+MeetWhole q parts =
+    (m n : ℕ) (part other : PartPlan) (place there i j : ℕ) → IsBox parts m part place i → IsBox parts n other there j
+    → (stream_at part place).base + i ≡ (stream_at other there).base + j
+    → (same_box q (box_at part place) (box_at other there) ≡ true) × (i ≡ j)
+
+-- the parts are those of the query, their boxes lie within some cells of the extent and meet only where they are the same, and each cell
+-- is of its kind and can count one row more
 pub record AreReady (q : QueryValue) (parts : List PartPlan) (pool : PoolValue) (extent : Extent) : Type 0 where
   pub limits : IsWithinLimits q
-  pub plan : IsPlan q parts
-  pub few : cell_count parts < 2 ^ 32
+  pub plan : ArePartPlans q parts
+  pub cells : ℕ
+  pub inside : AreWithin (length q.from) cells parts
+  pub meet : MeetWhole q parts
+  pub few : cells < 2 ^ 32
   pub live : IsLive pool extent
-  pub within : cell_count parts ≤ 64 * extent.pages
+  pub within : cells ≤ 64 * extent.pages
   pub fitting : (part : PartPlan) → Contains parts part → AreFitting part (read_from (cells_of pool extent))
   pub room : (part : PartPlan) → Contains parts part → CanCount part (read_from (cells_of pool extent))
 
@@ -78,6 +96,11 @@ own_found q r = map (λ t. record { tuple = t; count = 1 }) (option_to_list (fil
 abbrev pub answered_by : QueryValue → Plan → Reading → Arrival → List Found
 answered_by q plan.Filter read r = own_found q r
 answered_by q (plan.Parts parts numbers) read r = if list_any (λ stream. r.stream == stream) q.from then all_found q parts read r else []
+
+-- the parts of a plan are those of the query, wherever their boxes begin, and as many answers are announced as they have
+abbrev pub HasParts : QueryValue → Plan → Type 0
+HasParts q plan.Filter = IsTrue (is_filter q)
+HasParts q (plan.Parts parts numbers) = IsFalse (is_filter q) × ArePartPlans q parts × (numbers.answers ≡ answer_bound q parts)
 
 -- the cells of a plan are ready for a row; a filter has none
 abbrev pub IsPlanReady : QueryValue → Plan → PoolValue → Extent → Type 0

@@ -11,14 +11,16 @@ use Rattle.bq_model.specs.Query.{QueryValue, IsWithinLimits}
 use Rattle.bq_model.specs.Meaning.{Arrival}
 use Rattle.bq_model.specs.Violation.{IsViolation}
 use Rattle.bq_model.specs.Verdict.{first_above}
-use Rattle.bq_model.specs.Numbers.{IsPlanOf, parts_of, pages_of, cell_count}
+use Rattle.bq_model.specs.Numbers.{parts_of, pages_of}
+use Rattle.bq_model.specs.Sharing.{Box, kept_boxes, sizes_in, IsPlanOf}
 use Rattle.bq_model.specs.Ranges.{all_tuples}
 use Rattle.bq_pool.specs.declared.pool.Extent.{Extent}
 use Rattle.bq_pool.specs.Extents.{PoolValue, cells_of}
 
--- the query, its plan, the extent of its cells, how many rows were given, and the answer table
+-- the query, whether its cells are shared, its plan, the extent of its cells, how many rows were given, and the answer table
 pub record ExecutorValue : Type 0 where
   pub query : QueryValue
+  pub shared : Bool
   pub plan : Plan
   pub extent : Extent
   pub given : ℕ
@@ -28,13 +30,17 @@ pub record ExecutorValue : Type 0 where
 abbrev pub parts_in : ExecutorValue → List PartPlan
 parts_in e = parts_of e.plan
 
--- the cells of the plan in the pool
+-- the boxes whose cells are kept
+abbrev pub list_in : ExecutorValue → List Box
+list_in e = kept_boxes e.shared e.query (parts_in e)
+
+-- the cells of these boxes in the pool
 abbrev pub cells_in : ExecutorValue → PoolValue → List Cell
-cells_in e pool = take (cell_count (parts_in e)) (cells_of pool e.extent)
+cells_in e pool = take (sizes_in (list_in e)) (cells_of pool e.extent)
 
 -- the cells behind them, up to the end of the last page
 abbrev pub rest_in : ExecutorValue → PoolValue → List Cell
-rest_in e pool = drop (cell_count (parts_in e)) (cells_of pool e.extent)
+rest_in e pool = drop (sizes_in (list_in e)) (cells_of pool e.extent)
 
 -- the tuples of the table, ascending
 abbrev pub tuples_in : ExecutorValue → List (List ℤ)
@@ -59,8 +65,8 @@ most_answers plan.Filter = 1
 most_answers (plan.Parts parts numbers) = numbers.answers
 
 -- the plan is that of the query, of which no condition is violated and no number is above its limit
-pub record IsAccepted (q : QueryValue) (p : Plan) : Type 0 where
-  pub plan : IsPlanOf q p
+pub record IsAccepted (shared : Bool) (q : QueryValue) (p : Plan) : Type 0 where
+  pub plan : IsPlanOf shared q p
   pub violation : IsViolation q None
   pub within : IsWithin p
 
@@ -68,7 +74,7 @@ pub record IsAccepted (q : QueryValue) (p : Plan) : Type 0 where
 -- entries than that, in ascending order; and with DISTINCT each of its tuples lies in the ranges of some part
 pub record IsSound (e : ExecutorValue) : Type 0 where
   pub limits : IsWithinLimits e.query
-  pub accepted : IsAccepted e.query e.plan
+  pub accepted : IsAccepted e.shared e.query e.plan
   pub pages : e.extent.pages ≡ pages_of e.plan
   pub width : e.table.width ≡ length e.query.select
   pub capacity : e.table.capacity ≡ most_answers e.plan
@@ -82,7 +88,7 @@ arrival stream values = record { stream = stream; values = values }
 
 -- the executor after so many rows were given, with other entries in its table
 abbrev pub with_given : ExecutorValue → ℕ → List Entry → ExecutorValue
-with_given e given entries = record { query = e.query; plan = e.plan; extent = e.extent; given = given; table = with_entries e.table entries }
+with_given e given entries = record { query = e.query; shared = e.shared; plan = e.plan; extent = e.extent; given = given; table = with_entries e.table entries }
 
 -- the entries before a row is taken: with DISTINCT the tuples stay
 abbrev pub cleared : Bool → List Entry → List Entry

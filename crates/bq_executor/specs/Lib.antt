@@ -4,8 +4,10 @@ pub mod Runs
 pub mod Written
 pub mod Taking
 pub mod Arriving
+pub mod Owners
 pub mod Chains
 pub mod Prepared
 pub mod Gate
 pub mod Known
 pub mod Filled
+pub mod Bases

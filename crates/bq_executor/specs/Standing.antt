@@ -7,20 +7,21 @@ use Rattle.bq_model.specs.declared.plan.PartPlan.{PartPlan}
 use Rattle.bq_model.specs.Meaning.{Arrival, new_answers}
 use Rattle.bq_model.specs.Domains.{RowsKeep}
 use Rattle.bq_model.specs.Plan.{stream_at}
-use Rattle.bq_model.specs.Cells.{synopsis, printed}
+use Rattle.bq_model.specs.Cells.{printed}
 use Rattle.bq_model.specs.Combinations.{read_from}
 use Rattle.bq_model.specs.Future.{future}
-use Rattle.bq_model.specs.Merge.{merge, merged_table}
-use Rattle.bq_model.specs.Numbers.{cell_count, pages_of}
+use Rattle.bq_model.specs.Merge.{merged_table}
+use Rattle.bq_model.specs.Numbers.{pages_of}
+use Rattle.bq_model.specs.Sharing.{sizes_in, synopsis_in, merge_in}
 use Rattle.bq_pool.specs.Extents.{PoolValue, with_cells, IsLive}
 use Rattle.bq_synopsis.specs.Premises.{AreFitting}
-use Rattle.bq_executor.specs.Executor.{ExecutorValue, parts_in, cells_in, rest_in, tuples_in, waiting_in, with_given, most_answers}
+use Rattle.bq_executor.specs.Executor.{ExecutorValue, parts_in, list_in, cells_in, rest_in, tuples_in, waiting_in, with_given, most_answers}
 
 -- the executor stands for a history of its query: the cells are its synopsis, and with DISTINCT the tuples those printed
 pub record StandsFor (e : ExecutorValue) (pool : PoolValue) (history : List Arrival) : Type 0 where
   pub live : IsLive pool e.extent
-  pub cells : cells_in e pool ≡ synopsis e.query (parts_in e) history
-  pub rest : rest_in e pool ≡ replicate (64 * e.extent.pages - cell_count (parts_in e)) Cell.Empty
+  pub cells : cells_in e pool ≡ synopsis_in e.query (list_in e) history
+  pub rest : rest_in e pool ≡ replicate (64 * e.extent.pages - sizes_in (list_in e)) Cell.Empty
   pub given : e.given ≡ length history
   pub rows : RowsKeep e.query history
   pub tuples : e.query.distinct ≡ true → tuples_in e ≡ printed e.query history
@@ -44,7 +45,7 @@ pub record AreKept (e : ExecutorValue) (pool : PoolValue) : Type 0 where
 pub record KeepsWithin (e : ExecutorValue) (pool : PoolValue) : Type 0 where
   pub live : IsLive pool e.extent
   pub pages : e.extent.pages ≡ pages_of e.plan
-  pub rest : rest_in e pool ≡ replicate (64 * e.extent.pages - cell_count (parts_in e)) Cell.Empty
+  pub rest : rest_in e pool ≡ replicate (64 * e.extent.pages - sizes_in (list_in e)) Cell.Empty
   pub room : e.table.capacity ≡ most_answers e.plan
   pub entries : length e.table.entries ≤ most_answers e.plan
   pub ascends : Ascends e.table.entries
@@ -61,7 +62,7 @@ future_in e pool r = future e.query (parts_in e) (read_from (cells_in e pool)) (
 -- the pool after the cells took a row: no cell of another extent changes, nor one behind the cells of the plan
 abbrev pub pool_with : ExecutorValue → PoolValue → Arrival → PoolValue
 pool_with e pool r =
-    with_cells pool e.extent (merge (parts_in e) (cells_in e pool) (synopsis e.query (parts_in e) (r ∷ [])) ++ rest_in e pool)
+    with_cells pool e.extent (merge_in (list_in e) (cells_in e pool) (synopsis_in e.query (list_in e) (r ∷ [])) ++ rest_in e pool)
 
 -- whatever history it stood for, the new answers to the row wait, and it stands for the history with the row
 abbrev pub TookRow : ExecutorValue → PoolValue → Arrival → ExecutorValue → PoolValue → Type 0

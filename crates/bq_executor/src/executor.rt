@@ -37,6 +37,7 @@ pub struct Executor {
     gate: Gate,
     table: Answers,
     query: Query,
+    shared: bool,
     plan: Plan,
     prepared: PreparedPlan,
     filled: Filled,
@@ -54,9 +55,9 @@ impl Model for Executor {
 
     ghost Value = { ExecutorValue };
 
-    ghost view = { λ e. record { query = e.query; plan = e.plan; extent = e.extent; given = e.given; table = e.table } };
+    ghost view = { λ e. record { query = e.query; shared = e.shared; plan = e.plan; extent = e.extent; given = e.given; table = e.table } };
 
-    ghost invariant = { λ e. IsSound (record { query = e.query; plan = e.plan; extent = e.extent; given = e.given; table = e.table }) × IsPreparedPlan e.query (parts_of e.plan) e.prepared × IsGate e.query e.plan e.gate × AreFilled e.query (parts_of e.plan) e.filled e.table.entries };
+    ghost invariant = { λ e. IsSound (record { query = e.query; shared = e.shared; plan = e.plan; extent = e.extent; given = e.given; table = e.table }) × IsPreparedPlan e.query (parts_of e.plan) e.prepared × IsGate e.query e.plan e.gate × AreFilled e.query (parts_of e.plan) e.filled e.table.entries };
 }
 
 // For how many answers a query with this plan has room.
@@ -84,17 +85,18 @@ fn clear(distinct: bool, table: &mut Answers)
 }
 
 impl Executor {
-    /// The executor of an accepted query, to which no row was given. An error says that memory was not found, and gives
-    /// the extent back; no other call takes any.
+    /// Returns the executor of an accepted query, with shared cells or without, to which no row was given. An error says that memory was not
+    /// found, and gives the extent back; no other call takes any.
     pub fn new(
         alloc: Global,
         query: Query,
+        shared: bool,
         plan: Plan,
         extent: Extent,
     ) -> Result<Executor, (Extent, AllocError)>
-        requires accepted { IsAccepted query plan }
+        requires accepted { IsAccepted shared query plan }
         requires pages { extent.pages ≡ pages_of plan }
-        ensures value { MatchResult result (λ e. e ≡ record { query = query; plan = plan; extent = extent; given = 0; table = record { width = length query.select; capacity = most_answers plan; entries = [] } }) (λ refused. refused.0 ≡ extent) }
+        ensures value { MatchResult result (λ e. e ≡ record { query = query; shared = shared; plan = plan; extent = extent; given = 0; table = record { width = length query.select; capacity = most_answers plan; entries = [] } }) (λ refused. refused.0 ≡ extent) }
         ensures history { IfOk result (λ e. (pool : PoolValue) → IsLive pool extent → cells_of pool extent ≡ replicate (64 * extent.pages) cell.Empty → StandsFor e pool []) }
         ensures within { IfOk result (λ e. (pool : PoolValue) → IsLive pool extent → cells_of pool extent ≡ replicate (64 * extent.pages) cell.Empty → KeepsWithin e pool) }
     {
@@ -115,6 +117,7 @@ impl Executor {
                 gate,
                 table,
                 query,
+                shared,
                 plan,
                 prepared,
                 filled,
@@ -147,6 +150,7 @@ impl Executor {
         ensures outside { list_any (λ s. stream == s) self.old.query.from ≡ false → steps.new ≡ steps.old }
         ensures history { TookRow self.old pool.old (arrival stream row.now.items) self.new pool.new }
     {
+        // Whether something waits is not asked here.
         let _waits = self.take(pool, stream, row, steps);
     }
 
@@ -270,7 +274,7 @@ impl Executor {
         self.table.settle();
     }
 
-    /// The query.
+    /// Returns the query.
     pub fn query(&self) -> &Query
         ensures value { result.now ≡ self.now.query }
         ensures sound { IsSound self.now }
@@ -278,7 +282,7 @@ impl Executor {
         &self.query
     }
 
-    /// Its plan.
+    /// Returns its plan.
     pub fn plan(&self) -> &Plan
         ensures value { result.now ≡ self.now.plan }
         ensures sound { IsSound self.now }
@@ -296,6 +300,7 @@ impl Executor {
             gate: _gate,
             table: _table,
             query: _query,
+            shared: _,
             plan: _plan,
             prepared: _prepared,
             filled: _filled,

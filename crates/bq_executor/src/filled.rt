@@ -5,7 +5,8 @@ ghost use Rattle.bq_model.specs.Boxes.{box_size};
 ghost use Rattle.bq_model.specs.Numbers.{parts_of};
 ghost use Rattle.bq_model.specs.Ranges.{different};
 ghost use Rattle.bq_answers.specs.Entries.{has};
-ghost use Rattle.bq_executor.specs.Executor.{IsAccepted};
+ghost use Rattle.bq_executor.specs.Arriving.{HasParts};
+ghost use Rattle.bq_model.specs.Violation.{IsViolation};
 ghost use Rattle.bq_executor.specs.Prepared.{IsPreparedPlan};
 ghost use Rattle.bq_executor.specs.declared.filled.Progress.TheVariants as progress;
 ghost use Rattle.bq_executor.specs.Filled.{place_of, said_at, tuple_in, HaveEntries, Reaches, IsUpto, IsProgress, AreBoxes, AreFilled};
@@ -145,14 +146,14 @@ fn boxes_of(
 }
 
 impl Filled {
-    /// What is said of the parts of a plan while the table is empty. An error says that memory was not found.
+    /// Returns what is said of the parts of a plan while the table is empty. An error says that memory was not found.
     pub fn new(
         alloc: Global,
         q: &Query,
         plan: &Plan,
         prepared: &PreparedPlan,
     ) -> Result<Filled, AllocError>
-        requires accepted { IsAccepted q.now plan.now }
+        requires accepted { HasParts q.now plan.now × IsViolation q.now None }
         requires prepared { IsPreparedPlan q.now (parts_of plan.now) prepared.now }
         ensures { IfOk result (λ filled. AreFilled q.now (parts_of plan.now) filled []) }
     {
@@ -196,7 +197,7 @@ impl Filled {
         }
     }
 
-    /// Whether it is known that all tuples that a part can answer have an entry.
+    /// Returns whether it is known that all tuples that a part can answer have an entry.
     pub fn is_full(&self, q: &Query, i: u32) -> bool
         ensures distinct { result ≡ true → q.now.distinct ≡ true }
         ensures all { result ≡ true → slice_get self.now.full.items i ≡ Some true }

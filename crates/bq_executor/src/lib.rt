@@ -8,7 +8,7 @@
 //! takes the row. With DISTINCT the table keeps every tuple that was ever answered, and a tuple waits only when it is new;
 //! where the row alone tells the one tuple that a part can answer, and it is old, there is no walk; and once all tuples that a
 //! part can answer are in the table, it is not asked for answers any more. Without DISTINCT the table is emptied with each
-//! row. A filter has no cells.
+//! row. A filter has no cells. Where cells are shared, several parts have one box of cells, and the first of them takes a row into it.
 //!
 //! A clause says what a row does for any cells, and then that an executor which stands for a history answers a row with the
 //! new answers of the query, and then stands for the history with that row. A row takes no memory.
@@ -25,6 +25,7 @@ mod gate;
 mod known;
 pub mod laws;
 mod needed;
+mod owners;
 mod part;
 mod parts;
 mod prepared;

@@ -174,42 +174,64 @@ fn answer_new<L: Ledger>(
     );
 }
 
-/// Takes a row into a part that admits it: all that its cells answer to the row waits in the table; and where the query has
-/// several streams, the row's own cell takes it. Where all tuples that the part can answer have an entry, no cell is read for
-/// an answer.
-pub fn take_row<L: Ledger>(
+/// Takes up all that the cells of a part answer to a row that it admits. Where all tuples that the part can answer have an entry, no
+/// cell is read.
+pub fn answer_row<L: Ledger>(
     full: bool,
-    pool: &mut Pool,
+    pool: &Pool,
     e: &Extent,
     q: &Query,
     part: &PartPlan,
     prepared: &Prepared,
     pos: u8,
     row: &Row,
-    spot: Spot,
     room: &mut Room,
     tuple: &mut Tuple,
     table: &mut Answers,
     steps: &mut Steps<L>,
 )
     requires here { pos < length q.now.from }
-    requires ready { IsReady q.now part.now pool.old e.now }
+    requires ready { IsReady q.now part.now pool.now e.now }
     requires prepared { IsPrepared (pairs q.now) part.now prepared.now }
     requires admitted { admits q.now part.now pos (by_column row.now.items) ≡ true }
-    requires counts { CanCount part.now (read_from (cells_of pool.old e.now)) }
-    requires spot { IsCell part.now pos row.now.items spot }
     requires full { full ≡ true → IsFull q.now part.now table.old.entries }
-    requires room { HaveRoom q.now.distinct (found_in q.now part.now (read_from (cells_of pool.old e.now)) (arrives q.now pos row.now.items)) table.old }
-    ensures table { table.new ≡ with_entries table.old (with_all q.now.distinct (found_in q.now part.now (read_from (cells_of pool.old e.now)) (arrives q.now pos row.now.items)) table.old.entries) }
-    ensures pool { pool.new ≡ with_row q.now part.now pos row.now.items e.now pool.old }
-    ensures reads { steps.new.reads ≤ steps.old.reads + 3 * share part.now + 1 }
-    ensures writes { steps.new.writes ≤ steps.old.writes + 1 }
+    requires room { HaveRoom q.now.distinct (found_in q.now part.now (read_from (cells_of pool.now e.now)) (arrives q.now pos row.now.items)) table.old }
+    ensures table { table.new ≡ with_entries table.old (with_all q.now.distinct (found_in q.now part.now (read_from (cells_of pool.now e.now)) (arrives q.now pos row.now.items)) table.old.entries) }
+    ensures reads { steps.new.reads ≤ steps.old.reads + 3 * share part.now }
+    ensures writes { steps.new.writes ≡ steps.old.writes }
 {
-    let streams = q.from().len();
+    // Read for the proof alone: the call tells how many streams there are.
+    let _from = q.from();
     answer_new(
         full, pool, e, q, part, prepared, pos, row, room, tuple, table, steps,
     );
-    if 1 < streams {
+}
+
+/// Takes a row into the cells of a part that admits it: where the part takes rows into a box of its own, the row's own cell takes it.
+pub fn put_row<L: Ledger>(
+    owns: bool,
+    pool: &mut Pool,
+    e: &Extent,
+    q: &Query,
+    part: &PartPlan,
+    pos: u8,
+    row: &Row,
+    spot: Spot,
+    steps: &mut Steps<L>,
+)
+    requires here { pos < length q.now.from }
+    requires ready { IsReady q.now part.now pool.old e.now }
+    requires admitted { admits q.now part.now pos (by_column row.now.items) ≡ true }
+    requires several { owns ≡ true → 1 < length q.now.from }
+    requires counts { owns ≡ true → CanCount part.now (read_from (cells_of pool.old e.now)) }
+    requires spot { IsCell part.now pos row.now.items spot }
+    ensures pool { pool.new ≡ with_row owns q.now part.now pos row.now.items e.now pool.old }
+    ensures reads { steps.new.reads ≤ steps.old.reads + 1 }
+    ensures writes { steps.new.writes ≤ steps.old.writes + 1 }
+{
+    // Read for the proof alone: the call tells how many streams there are.
+    let _from = q.from();
+    if owns {
         insert_at(pool, e, q, part, pos, row, spot, steps);
     }
 }

@@ -10,7 +10,7 @@ ghost use Rattle.bq_executor.specs.Prepared.{IsPreparedPlan};
 ghost use Rattle.bq_executor.specs.Filled.{AreFilled};
 
 use crate::filled::Filled;
-use crate::part::take_row;
+use crate::part::{answer_row, put_row};
 use crate::prepared::PreparedPlan;
 use bq_answers::Answers;
 use bq_model::{PartPlans, Query, Row, Tuple};
@@ -18,8 +18,9 @@ use bq_pool::{Extent, Pool, Steps};
 use bq_synopsis::Room;
 use std::sync::ledger::Ledger;
 
-/// Takes a row of the stream at a place of FROM into all parts that admit it, of which only those of the row's bucket are asked. No
-/// part reads a cell that an earlier part wrote, so the answers are those of the cells before the row.
+/// Takes a row of the stream at a place of FROM into all parts that admit it, of which only those of the row's bucket are asked, and
+/// into each box once: where parts share a box, the first of them takes the row. No part reads a cell of the row's own stream, so the
+/// answers are those of the cells before the row.
 pub fn take_in_all<L: Ledger>(
     pool: &mut Pool,
     e: &Extent,
@@ -46,6 +47,7 @@ pub fn take_in_all<L: Ledger>(
     ensures writes { steps.new.writes ≤ steps.old.writes + length parts.now }
 {
     let chains = prepared.chains(q, parts, pos);
+    let each = chains.each_owns(q, parts, pos);
     let led = chains.first(q, parts, pos, row);
     let mut i = led.first;
     'parts: while i < parts.len() {
@@ -54,9 +56,11 @@ pub fn take_in_all<L: Ledger>(
         let spot = chains.spot_of(q, parts, part, known, pos, row, led.code, i);
         if spot.is_inside() {
             let full = filled.is_full(q, i);
-            take_row(
-                full, pool, e, q, part, known, pos, row, spot, room, tuple, table, steps,
+            answer_row(
+                full, pool, e, q, part, known, pos, row, room, tuple, table, steps,
             );
+            let owns = chains.owns(each, q, parts, part, pos, i);
+            put_row(owns, pool, e, q, part, pos, row, spot, steps);
             filled.advance(full, q, parts, i, tuple, table);
         }
         i = chains.after(q, parts, pos, i);

@@ -5,6 +5,7 @@ ghost use Rattle.bq_model.specs.Parts.{pairs};
 ghost use Rattle.bq_model.specs.Numbers.{parts_of};
 ghost use Rattle.bq_synopsis.specs.Preparing.{IsPrepared};
 ghost use Rattle.bq_executor.specs.Chains.{AreNeeded, AreChains};
+ghost use Rattle.bq_executor.specs.Owners.{BeginBehind};
 ghost use Rattle.bq_executor.specs.Prepared.{ArePrepared, AreAllChains, IsPreparedPlan};
 
 use crate::chains::{Chains, chains_at};
@@ -22,22 +23,24 @@ pub struct PreparedPlan {
 }
 
 impl PreparedPlan {
-    /// What one part is asked.
+    /// Returns what one part is asked.
     pub fn part(&self, q: &Query, parts: &PartPlans, i: u32) -> &Prepared
         requires inside { i < length parts.now }
         requires prepared { IsPreparedPlan q.now parts.now self.now }
         ensures { (part : PartPlan) → slice_get parts.now i ≡ Some part → IsPrepared (pairs q.now) part result.now }
     {
+        // Named for the proof alone: the contract speaks of it.
         let _parts = parts.len();
         &self.parts[i as usize]
     }
 
-    /// The chains at a place of FROM.
+    /// Returns the chains at a place of FROM.
     pub fn chains(&self, q: &Query, parts: &PartPlans, pos: u8) -> &Chains
         requires here { pos < length q.now.from }
         requires prepared { IsPreparedPlan q.now parts.now self.now }
         ensures { AreChains q.now parts.now pos result.now }
     {
+        // Named for the proof alone: the contract speaks of it.
         let _parts = parts.len();
         chains_of(&self.chains, pos)
     }
@@ -69,7 +72,8 @@ fn chain_parts(
     parts: &PartPlans,
     needed: &Needed,
 ) -> Result<Vec<Chains>, AllocError>
-    requires { needed.now.enough ≡ true → AreNeeded (pairs q.now) parts.now needed.now.marks }
+    requires bases { BeginBehind (length q.now.from) parts.now }
+    requires needed { needed.now.enough ≡ true → AreNeeded (pairs q.now) parts.now needed.now.marks }
     ensures many { IfOk result (λ all. length all.items ≡ length q.now.from) }
     ensures chains { IfOk result (λ all. AreAllChains q.now parts.now all.items) }
 {
@@ -83,6 +87,7 @@ fn chain_parts(
 
 // What these parts are asked of every row.
 fn prepare_over(alloc: Global, q: &Query, parts: &PartPlans) -> Result<PreparedPlan, AllocError>
+    requires { BeginBehind (length q.now.from) parts.now }
     ensures { IfOk result (λ prepared. IsPreparedPlan q.now parts.now prepared) }
 {
     let prepared = prepare_parts(alloc, q, parts)?;
@@ -94,8 +99,9 @@ fn prepare_over(alloc: Global, q: &Query, parts: &PartPlans) -> Result<PreparedP
     })
 }
 
-/// What the parts of a plan are asked of every row; a filter has no parts. An error says that memory was not found.
+/// Returns what the parts of a plan are asked of every row; a filter has no parts. An error says that memory was not found.
 pub fn prepare_all(alloc: Global, q: &Query, plan: &Plan) -> Result<PreparedPlan, AllocError>
+    requires { BeginBehind (length q.now.from) (parts_of plan.now) }
     ensures { IfOk result (λ prepared. IsPreparedPlan q.now (parts_of plan.now) prepared) }
 {
     match plan {

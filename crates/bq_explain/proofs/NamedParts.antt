@@ -1,5 +1,5 @@
 -- The columns of the plan of a query are columns of its streams.
-use Rattle.std.proofs.Common.{◌≡◌, ℕ, ◌<◌, List, length, map, get_or, sym, ap, ◌∙◌, subst, arith, All, Contains, inl, inr}
+use Rattle.std.proofs.Common.{◌≡◌, ℕ, ◌<◌, Bool, true, false, List, length, map, get_or, sym, ap, ◌∙◌, subst, arith, All, Contains, inl, inr}
 use Rattle.std.proofs.lemmas.List.{length-map, get_or-map, get_or_default}
 use Rattle.std.proofs.lemmas.List.Elements.{All-weaker, All-contains}
 use Rattle.bq_model.specs.declared.atom.Attr.{Attr}
@@ -17,7 +17,8 @@ use Rattle.bq_model.specs.declared.plan.StreamPlan.{StreamPlan}
 use Rattle.bq_model.specs.Query.{QueryValue, attrs_of, consts_of}
 use Rattle.bq_model.specs.Parts.{pairs, sign_at, IsPart}
 use Rattle.bq_model.specs.Links.{AreAcross}
-use Rattle.bq_model.specs.Plan.{NamesClass, IsDim, IsKind, IsPartPlan, IsStreamPlan, IsPlan, stream_at}
+use Rattle.bq_model.specs.Plan.{NamesClass, IsDim, IsKind, IsPartPlan, IsStreamPlan, ArePartPlans, stream_at}
+use Rattle.bq_model.specs.Sharing.{IsPlanFor}
 use Rattle.bq_schema.specs.Streams.{Shape}
 use Rattle.bq_parser.specs.Resolution.{IsColumnOf, HasSide, HasNamed}
 use Rattle.bq_parser.proofs.NamedAttrs.{attributes_are_named}
@@ -89,8 +90,13 @@ part_named streams q part h is p = record {
 All-of_map : {X Y : Type 0} (P : Y → Type 0) (f : X → Y) (xs : List X) → All P (map f xs) → All (λ x. P (f x)) xs
 All-of_map P f xs h k d lt = subst P (get_or-map f xs k d (f d) lt) (h k (f d) (rw length-map lt))
 
+-- the parts of a plan, with shared cells or without
+pub parts_plans : (shared : Bool) (q : QueryValue) (parts : List PartPlan) → IsPlanFor shared q parts → ArePartPlans q parts
+parts_plans false q parts p = record { parts = p.parts; plans = p.plans }
+parts_plans true q parts p = record { parts = p.parts; plans = p.plans }
+
 -- the columns of all parts of a plan are there
-pub plan_named : (streams : List Shape) (q : QueryValue) (parts : List PartPlan) → HasNamed streams q → IsPlan q parts → All (HasPart streams q) parts
+pub plan_named : (streams : List Shape) (q : QueryValue) (parts : List PartPlan) → HasNamed streams q → ArePartPlans q parts → All (HasPart streams q) parts
 plan_named streams q parts h p = λ k d lt.
     let signs : PartPlan → List Sign = λ part. part.signs.items in
     let is : All (λ part. IsPart q (signs part)) parts = All-of_map (IsPart q) signs parts p.parts.each in

@@ -12,5 +12,10 @@ pub mod Dimming
 pub mod Referring
 pub mod Setting
 pub mod DraftLaws
+pub mod Coding
+pub mod Bare
+pub mod Listing
+pub mod Standing
+pub mod Level
 pub mod Adding
 pub mod Planning

@@ -1,5 +1,5 @@
 -- The plan that the drafts come to, with its numbers.
-use Rattle.std.proofs.Common.{◌≡◌, ℕ, zero, suc, ◌+◌, ◌-◌, ◌^◌, ◌<◌, ◌≤◌, min, Bool, true, false, cond, nat_lt, List, [], ◌∷◌, ◌++◌, length, take, All, IsFalse, Ok, Err, None, Some, Option, refl, sym, ap, ◌∙◌, subst, arith, slice_index_or, get_or}
+use Rattle.std.proofs.Common.{◌≡◌, ℕ, zero, suc, ◌+◌, ◌-◌, ◌^◌, ◌<◌, ◌≤◌, min, Bool, true, false, cond, nat_lt, List, [], ◌∷◌, ◌++◌, length, take, All, IsFalse, Result, Ok, Err, None, Some, Option, refl, sym, ap, ◌∙◌, subst, arith, slice_index_or, get_or}
 use Rattle.std.proofs.lemmas.List.{take_more, take_all, length-map, get_or-map}
 use Rattle.std.proofs.lemmas.List.Elements.{All-get_or}
 use Rattle.std.proofs.lemmas.Bool.Decides.{nat_tests}
@@ -9,12 +9,13 @@ use Rattle.bq_model.specs.declared.decision.Which.{Which}
 use Rattle.bq_model.specs.declared.decision.Which.TheVariants.{Parts, Cells, Answers, Work}
 use Rattle.bq_model.specs.declared.plan.Numbers.{Numbers}
 use Rattle.bq_model.specs.declared.plan.PartPlan.{PartPlan}
+use Rattle.bq_model.specs.declared.plan.Plan.{Plan}
 use Rattle.bq_model.specs.declared.plan.Plan.TheVariants as plan
 use Rattle.bq_model.specs.Query.{QueryValue, is_filter}
 use Rattle.bq_model.specs.Parts.{IsPart, AreParts}
 use Rattle.bq_model.specs.Plan.{IsPartPlan, IsPlan}
 use Rattle.bq_model.specs.Violation.{IsViolation}
-use Rattle.bq_model.specs.Numbers.{numbers_of}
+use Rattle.bq_model.specs.Sharing.{boxes, IsPlanFor, numbers_for}
 use Rattle.bq_model.specs.Verdict.{number_of, is_above, first_above}
 use Rattle.bq_lto_split.specs.Split.{sign_lists}
 use Rattle.bq_layout.specs.declared.error.LayoutError.{LayoutError}
@@ -24,8 +25,10 @@ use Rattle.bq_layout.specs.Capped.{capped}
 use Rattle.bq_layout.specs.Boxed.{cells_for, boxed}
 use Rattle.bq_layout.specs.Drafts.{IsDraft, signs_of}
 use Rattle.bq_layout.specs.Sums.{AreDrafted, IsDrafted}
-use Rattle.bq_layout.specs.Layout.{IsLayout, IsLimited}
+use Rattle.bq_layout.specs.Shared.{started_part, shared, IsSharedDraft}
+use Rattle.bq_layout.specs.Layout.{IsLayout, IsLimited, numbers_in, IsNumbered}
 use Rattle.bq_layout.proofs.Setting.{parts-follow, signs-same, as_many, cell_count-same, answers-same, work-same}
+use Rattle.bq_layout.proofs.Level.{is_shared, shared_count, answers_shared, work_shared}
 
 -- a test on a small limit does not see the cap
 above_same : (m n : ℕ) → m < 2 ^ 63 → nat_lt m (capped n) ≡ nat_lt m n
@@ -38,7 +41,7 @@ not_above : (m n : ℕ) → nat_lt m n ≡ false → n ≤ m
 not_above m n h = grind (arith, nat_tests)
 
 -- the numbers as 64 bits keep them
-kept : Numbers → Numbers
+pub kept : Numbers → Numbers
 kept n = record { parts = n.parts; cells = capped n.cells; answers = capped n.answers; work = capped n.work }
 
 above_kept : (n : Numbers) → first_above (kept n) ≡ first_above n
@@ -57,6 +60,10 @@ number_kept n Parts l = by (2 ^ 64 - 1) n.parts (omega (arith, l))
 number_kept n Cells l = refl
 number_kept n Answers l = refl
 number_kept n Work l = refl
+
+kept_parts : (n : Numbers) → (kept n).parts ≡ n.parts
+unfolding kept
+kept_parts n = refl
 
 record AreFew (n : Numbers) : Type 0 where
   cells : n.cells ≤ 262144
@@ -81,17 +88,19 @@ kept_few n f = λ i. record { parts = n.parts; cells = by (2 ^ 64 - 1) n.cells (
 
 -- ---- the plan
 
-module _ (q : QueryValue) (draft : Draft) (d : AreDrafted q draft) (parts : AreParts q (signs_of draft.parts.items)) where
-  whole_plan : List PartPlan
-  whole_plan = boxed q 0 draft.parts.items
+-- the plan of the query, without shared cells or with them, with these numbers as 64 bits keep them; where the cells are few, it is that of the drafts
+pub record IsWhole (shares : Bool) (q : QueryValue) (draft : Draft) (whole : List PartPlan) : Type 0 where
+  pub plan : IsPlanFor shares q whole
+  pub numbers : numbers_in draft ≡ kept (numbers_for shares q whole)
+  pub same : draft.cells < 2 ^ 32 → whole ≡ draft.parts.items
 
+module _ (q : QueryValue) (draft : Draft) (d : AreDrafted q draft) (parts : AreParts q (signs_of draft.parts.items)) where
   plans_are : (next : ℕ) (ps : List PartPlan) → All (IsDraft q) ps → All (IsPartPlan q) (boxed q next ps)
   plans_are next [] h k o l = absurd (omega (arith, l))
   plans_are next (p ∷ ps) h zero o l = (h 0 p (omega arith)).plan next
   plans_are next (p ∷ ps) h (suc k) o l = plans_are (next + cells_for q p) ps (λ j e m. h (suc j) e (omega (arith, m))) k o (omega (arith, l))
 
-  is_plan : IsPlan q whole_plan
-  unfolding whole_plan
+  is_plan : IsPlan q (boxed q 0 draft.parts.items)
   is_plan = record {
     parts = subst (AreParts q) (sym (signs-same q 0 draft.parts.items)) parts;
     plans = plans_are 0 draft.parts.items d.drafts;
@@ -99,46 +108,68 @@ module _ (q : QueryValue) (draft : Draft) (d : AreDrafted q draft) (parts : AreP
   }
 
   -- what was added up is what the numbers of the plan are, as far as 64 bits keep them
-  numbers_kept : (n : ℕ) → n ≡ length draft.parts.items → record { parts = n; cells = draft.cells; answers = draft.answers; work = draft.work } ≡ kept (numbers_of q whole_plan)
-  unfolding whole_plan kept
-  numbers_kept n e = λ i. record {
-    parts = (e ∙ sym (as_many q 0 draft.parts.items)) i;
-    cells = (d.cells ∙ ap capped (sym (cell_count-same q draft.parts.items))) i;
-    answers = (d.answers ∙ ap capped (sym (answers-same q draft.parts.items))) i;
-    work = (d.work ∙ ap capped (sym (work-same q draft.parts.items))) i;
+  pub plain_whole : IsWhole false q draft (boxed q 0 draft.parts.items)
+  unfolding kept
+  plain_whole = record {
+    plan = is_plan;
+    numbers = λ i. record {
+      parts = sym (as_many q 0 draft.parts.items) i;
+      cells = (d.cells ∙ ap capped (sym (cell_count-same q draft.parts.items))) i;
+      answers = (d.answers ∙ ap capped (sym (answers-same q draft.parts.items))) i;
+      work = (d.work ∙ ap capped (sym (work-same q draft.parts.items))) i;
+    };
+    same = d.boxes;
   }
 
-  module _ (n : ℕ) (count : n ≡ length draft.parts.items) where
-    all : Numbers
-    all = record { parts = n; cells = draft.cells; answers = draft.answers; work = draft.work }
-
-    few_parts : length draft.parts.items ≤ 4096 → (numbers_of q whole_plan).parts ≤ 4096
-    unfolding whole_plan
-    few_parts l = omega (arith, l, as_many q 0 draft.parts.items)
-
-    pub limit_told : (o : LayoutError) → IsFalse (is_filter q) → IsViolation q None → length draft.parts.items ≤ 4096 → IsLimited record { parts = n; cells = draft.cells; answers = draft.answers; work = draft.work } (Err o) → IsLayout q (Err o)
-    limit_told (why.Violation part condition attr) plain fine l h = absurd h
-    limit_told (why.Limit which value) plain fine l h = (
+  pub shared_whole : (new : Draft) → IsSharedDraft q draft new → IsWhole true q new (shared q (boxed q 0 draft.parts.items))
+  unfolding kept
+  shared_whole new h =
+      let plan : List PartPlan = boxed q 0 draft.parts.items in
       record {
-        plain = plain;
-        parts = whole_plan;
-        plan = is_plan;
-        first = sym (ap first_above (numbers_kept n count) ∙ above_kept (numbers_of q whole_plan)) ∙ h.0;
-        kept = h.1 ∙ ap (λ (z : Numbers). number_of z which) (numbers_kept n count) ∙ number_kept (numbers_of q whole_plan) which (few_parts l);
-      },
-      fine,
-    )
-    limit_told why.Memory plain fine l h = absurd h
+        plan = is_shared q plan is_plan;
+        numbers = λ i. record {
+          parts = (h.parts.size ∙ sym (length-map plan (started_part q (boxes q plan)) ∙ as_many q 0 draft.parts.items)) i;
+          cells = (h.parts.cells ∙ ap capped (sym (shared_count q plan))) i;
+          answers = (h.answers ∙ d.answers ∙ ap capped (sym (answers_shared q plan ∙ answers-same q draft.parts.items))) i;
+          work = (h.work ∙ d.work ∙ ap capped (sym (work_shared q plan ∙ work-same q draft.parts.items))) i;
+        };
+        same = h.parts.boxes;
+      }
 
-    pub plan_told : (numbers : Numbers) → IsFalse (is_filter q) → IsViolation q None → IsLimited record { parts = n; cells = draft.cells; answers = draft.answers; work = draft.work } (Ok numbers) → IsLayout q (Ok (plan.Parts draft.parts.items numbers))
-    unfolding whole_plan
-    plan_told numbers plain fine h =
-        let none : first_above (numbers_of q whole_plan) ≡ None = sym (ap first_above (numbers_kept n count) ∙ above_kept (numbers_of q whole_plan)) ∙ h.1 in
-        let few : AreFew (numbers_of q whole_plan) = few_if (numbers_of q whole_plan) none in
-        let same : numbers ≡ numbers_of q whole_plan = h.0 ∙ numbers_kept n count ∙ kept_few (numbers_of q whole_plan) few in
-        let cells : draft.cells ≡ (numbers_of q whole_plan).cells = ap (λ (z : Numbers). z.cells) (numbers_kept n count ∙ kept_few (numbers_of q whole_plan) few) in
-        let e : whole_plan ≡ draft.parts.items = d.boxes (omega (arith, cells, few.cells)) in
-        ((plain, subst (IsPlan q) e is_plan, same ∙ ap (numbers_of q) e), ap first_above same ∙ none, fine)
+module _ (shares : Bool) (q : QueryValue) (draft : Draft) (whole : List PartPlan) (w : IsWhole shares q draft whole) (plain : IsFalse (is_filter q)) (fine : IsViolation q None) where
+  first_same : first_above (numbers_in draft) ≡ first_above (numbers_for shares q whole)
+  first_same = ap first_above w.numbers ∙ above_kept (numbers_for shares q whole)
+
+  limit_told : (which : Which) (value : ℕ) → length draft.parts.items ≤ 4096 → IsLimited (numbers_in draft) (Err (why.Limit which value)) → IsLayout shares q (Err (why.Limit which value))
+  limit_told which value l h = (
+    record {
+      plain = plain;
+      parts = whole;
+      plan = w.plan;
+      first = sym first_same ∙ h.0;
+      kept = h.1 ∙ ap (λ (z : Numbers). number_of z which) w.numbers
+          ∙ number_kept (numbers_for shares q whole) which (omega (arith, l, ap (λ (z : Numbers). z.parts) w.numbers ∙ kept_parts (numbers_for shares q whole)));
+    },
+    fine,
+  )
+
+  plan_told : (numbers : Numbers) → IsLimited (numbers_in draft) (Ok numbers) → IsLayout shares q (Ok (plan.Parts draft.parts.items numbers))
+  plan_told numbers h =
+      let none : first_above (numbers_for shares q whole) ≡ None = sym first_same ∙ h.1 in
+      let few : AreFew (numbers_for shares q whole) = few_if (numbers_for shares q whole) none in
+      let all : numbers_in draft ≡ numbers_for shares q whole = w.numbers ∙ kept_few (numbers_for shares q whole) few in
+      let cells : draft.cells ≡ (numbers_for shares q whole).cells = ap (λ (z : Numbers). z.cells) all in
+      let e : whole ≡ draft.parts.items = w.same (omega (arith, cells, few.cells)) in
+      let same : numbers ≡ numbers_for shares q whole = h.0 ∙ all in
+      ((plain, subst (IsPlanFor shares q) e w.plan, same ∙ ap (numbers_for shares q) e), ap first_above same ∙ none, fine)
+
+  -- what is told of the numbers of the drafts is told of the query
+  pub layout_told : length draft.parts.items ≤ 4096 → (r : Result Plan LayoutError) → IsNumbered draft r → IsLayout shares q r
+  layout_told l (Ok plan.Filter) h = absurd h
+  layout_told l (Ok (plan.Parts ps numbers)) h = subst (λ (z : List PartPlan). IsLayout shares q (Ok (plan.Parts z numbers))) (sym h.0) (plan_told numbers h.1)
+  layout_told l (Err (why.Violation part condition attr)) h = absurd h
+  layout_told l (Err (why.Limit which value)) h = limit_told which value l h
+  layout_told l (Err why.Memory) h = absurd h
 
 -- ---- the list of parts
 
@@ -157,8 +188,12 @@ signs_next ps old new i d l e f =
 pub all_signs : (ps : List Part) (plans : List PartPlan) (i : ℕ) → length ps ≤ i → signs_of plans ≡ take i (sign_lists ps) → signs_of plans ≡ sign_lists ps
 all_signs ps plans i l e = e ∙ take_all i (sign_lists ps) (omega (arith, l, length-map ps (λ (p : Part). p.signs.items)))
 
+-- there are as many drafts as parts
+pub few_drafts : (ps : List Part) (plans : List PartPlan) → length ps ≤ 4096 → signs_of plans ≡ sign_lists ps → length plans ≤ 4096
+few_drafts ps plans l e = omega (arith, l, length-map ps (λ (p : Part). p.signs.items), length-map plans (λ (p : PartPlan). p.signs.items), ap length e)
+
 -- why there are no drafts is why there is no plan
-pub not_drafted : (q : QueryValue) (parts : List (List Sign)) (e : LayoutError) → IsFalse (is_filter q) → IsDrafted q parts (Err e) → IsLayout q (Err e)
-not_drafted q parts (why.Violation part condition attr) f h = (f, h)
-not_drafted q parts (why.Limit which value) f h = absurd h
-not_drafted q parts why.Memory f h = f
+pub not_drafted : (shares : Bool) (q : QueryValue) (parts : List (List Sign)) (e : LayoutError) → IsFalse (is_filter q) → IsDrafted q parts (Err e) → IsLayout shares q (Err e)
+not_drafted shares q parts (why.Violation part condition attr) f h = (f, h)
+not_drafted shares q parts (why.Limit which value) f h = absurd h
+not_drafted shares q parts why.Memory f h = f

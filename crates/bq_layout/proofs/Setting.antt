@@ -81,7 +81,7 @@ module _ (q : QueryValue) where
   size_set next (s ∷ streams) (suc k) d l = size_set (next + size_for q s) streams k d (omega (arith, l))
 
   module _ (next : ℕ) (part : PartPlan) where
-    dims-same : (k : ℕ) → dims_at (boxed_part q next part) k ≡ dims_at part k
+    pub dims-same : (k : ℕ) → dims_at (boxed_part q next part) k ≡ dims_at part k
     dims-same k = ap (λ d. d.items) (same_dims next part.streams.items k record { dims = record { items = [] }; kind = Kind.Present; base = 0; size = 0 })
 
     earlier-same : (place : ℕ) (b : Attr) → is_earlier_dim (boxed_part q next part) place b ≡ is_earlier_dim part place b

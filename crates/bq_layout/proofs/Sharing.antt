@@ -34,7 +34,7 @@ range-more a (suc n) =
     let f : (a + 1) + n ≡ a + suc n = omega arith in
     ap (range_with_len a) e ∙ ap (λ l. a ∷ l) (range-more (a + 1) n ∙ ap (λ k. range_with_len (a + 1) n ++ k ∷ []) f)
 
-range-push : (n : ℕ) → range_with_len 0 (n + 1) ≡ range_with_len 0 n ++ n ∷ []
+pub range-push : (n : ℕ) → range_with_len 0 (n + 1) ≡ range_with_len 0 n ++ n ∷ []
 range-push n = range-more 0 n ∙ ap (λ k. range_with_len 0 n ++ k ∷ []) (omega arith)
 
 pub share_next : (part : PartPlan) (arriving place size more : ℕ)

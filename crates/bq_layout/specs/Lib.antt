@@ -4,4 +4,7 @@ pub mod Classes
 pub mod Boxed
 pub mod Drafts
 pub mod Sums
+pub mod Codes
+pub mod Listed
+pub mod Shared
 pub mod Layout

@@ -10,7 +10,7 @@ use crate::looking::attr_at;
 use bq_model::{Part, Query};
 use bq_refs::Refs;
 
-/// Whether the attributes at two places are of one class.
+/// Returns whether the attributes at two places are of one class.
 pub fn are_one_class(q: &Query, p: &Part, refs: &Refs, i: usize, j: usize) -> bool
     requires refs { AreRefs q.now p.now.signs.items refs.now }
     requires left { i < length (attrs_of q.now.atoms) }
@@ -29,7 +29,7 @@ fn names_class(q: &Query, p: &Part, refs: &Refs, i: usize) -> bool
     usize::from(refs.class.as_slice()[i]) == i
 }
 
-/// Whether the attribute at a place names a class of the stream at a place of FROM.
+/// Returns whether the attribute at a place names a class of the stream at a place of FROM.
 pub fn names_of(q: &Query, p: &Part, refs: &Refs, place: usize, i: usize) -> bool
     requires refs { AreRefs q.now p.now.signs.items refs.now }
     requires place { i < length (attrs_of q.now.atoms) }

@@ -1,21 +1,21 @@
 //! The plan of a query.
-ghost use Rattle.std.specs.Prelude.{◌≡◌, ◌≤◌, ◌<◌, length, IsFalse, None};
+ghost use Rattle.std.specs.Prelude.{◌≡◌, ◌≤◌, ◌<◌, length, true, false, IsFalse, IfOk};
 ghost use Rattle.bq_model.specs.Query.{is_filter};
 ghost use Rattle.bq_model.specs.Parts.{AreParts};
-ghost use Rattle.bq_model.specs.Violation.{IsViolation};
 ghost use Rattle.bq_lto_split.specs.Split.{sign_lists};
-ghost use Rattle.bq_layout.specs.Drafts.{signs_of};
-ghost use Rattle.bq_layout.specs.Sums.{AreDrafted, IsDrafted, violation_at};
-ghost use Rattle.bq_layout.specs.Layout.{IsLayout};
+ghost use Rattle.bq_layout.specs.Sums.{IsDrafted, violation_at};
+ghost use Rattle.bq_layout.specs.Shared.{IsSharedDraft};
+ghost use Rattle.bq_layout.specs.Layout.{IsLayout, IsNumbered};
 
 use crate::drafting::{Draft, add_part};
 use crate::error::LayoutError;
 use crate::limits::limited;
+use crate::placing::share;
 use crate::selecting::different;
 use bq_decide::{Break, violation_of};
 use bq_model::{Part, PartPlans, Plan, Query};
 use bq_refs::{Basis, refs};
-use std::alloc::Global;
+use std::alloc::{AllocError, Global};
 
 // The violation that the part at a place shows.
 fn violation_at(i: usize, found: Break) -> LayoutError
@@ -61,14 +61,20 @@ fn drafted(alloc: Global, q: &Query, parts: &[Part]) -> Result<Draft, LayoutErro
     Ok(draft)
 }
 
-// The plan with its numbers, or the first number that is above its limit.
-fn planned(q: &Query, draft: Draft) -> Result<Plan, LayoutError>
-    requires drafted { AreDrafted q.now draft }
-    requires parts { AreParts q.now (signs_of draft.parts.items) }
-    requires plain { IsFalse (is_filter q.now) }
+// The drafts with shared cells.
+fn with_shared(alloc: Global, q: &Query, draft: Draft) -> Result<Draft, AllocError>
     requires few { length draft.parts.items ≤ 4096 }
-    requires bounded { IsViolation q.now None }
-    ensures { IsLayout q.now result }
+    ensures { IfOk result (IsSharedDraft q.now draft) }
+{
+    let mut draft = draft;
+    draft.cells = share(alloc, q, draft.parts.as_mut_slice())?;
+    Ok(draft)
+}
+
+// The plan with its numbers, or the first number that is above its limit.
+fn planned(draft: Draft) -> Result<Plan, LayoutError>
+    requires { length draft.parts.items ≤ 4096 }
+    ensures { IsNumbered draft result }
 {
     let Draft {
         parts,
@@ -85,7 +91,28 @@ fn planned(q: &Query, draft: Draft) -> Result<Plan, LayoutError>
     }
 }
 
-/// The plan of a query, with its numbers, from the list of all its parts, of which there are at most 4,096. The boxes of
+/// Returns the plan of a query, with its numbers, from the list of all its parts, of which there are at most 4,096: without shared cells as
+/// `layout` gives it, or with them as `layout_shared` does. A program that needs both calls this at one place: the work on a part is
+/// inlined there, and it is not where it is called from two.
+pub fn lay_out(alloc: Global, q: &Query, parts: &[Part], shared: bool) -> Result<Plan, LayoutError>
+    requires parts { AreParts q.now (sign_lists parts.now) }
+    requires few { length parts.now ≤ 4096 }
+    ensures { IsLayout shared q.now result }
+{
+    if q.is_filter() {
+        return Ok(Plan::Filter);
+    }
+    match drafted(alloc, q, parts) {
+        Ok(draft) if shared => match with_shared(alloc, q, draft) {
+            Ok(draft) => planned(draft),
+            Err(_) => Err(LayoutError::Memory),
+        },
+        Ok(draft) => planned(draft),
+        Err(why) => Err(why),
+    }
+}
+
+/// Returns the plan of a query, with its numbers, from the list of all its parts, of which there are at most 4,096. The boxes of
 /// cells follow each other by part and then by FROM, from cell 0 on. A filter has no parts and keeps nothing, and it has its plan
 /// always. `Violation` tells the first part that breaks a condition, in it the first condition, and for it the first column.
 /// Where all conditions are met, `Limit` tells the first of cells, answers and work that is above its limit, and how much
@@ -93,13 +120,19 @@ fn planned(q: &Query, draft: Draft) -> Result<Plan, LayoutError>
 pub fn layout(alloc: Global, q: &Query, parts: &[Part]) -> Result<Plan, LayoutError>
     requires parts { AreParts q.now (sign_lists parts.now) }
     requires few { length parts.now ≤ 4096 }
-    ensures { IsLayout q.now result }
+    ensures { IsLayout false q.now result }
 {
-    if q.is_filter() {
-        return Ok(Plan::Filter);
-    }
-    match drafted(alloc, q, parts) {
-        Ok(draft) => planned(q, draft),
-        Err(why) => Err(why),
-    }
+    lay_out(alloc, q, parts, false)
+}
+
+/// Returns the plan of a query with shared cells: boxes of which the cells are the same, whatever rows come, stand once. The different boxes
+/// follow each other by their first part and then by FROM, from cell 0 on, and each box begins where the first one that is the same
+/// begins. The cells are those of the different boxes; the other numbers, and which error is answered, are as `layout` has them.
+/// `Memory` is also answered where the list of the different boxes finds no room.
+pub fn layout_shared(alloc: Global, q: &Query, parts: &[Part]) -> Result<Plan, LayoutError>
+    requires parts { AreParts q.now (sign_lists parts.now) }
+    requires few { length parts.now ≤ 4096 }
+    ensures { IsLayout true q.now result }
+{
+    lay_out(alloc, q, parts, true)
 }

@@ -4,9 +4,15 @@
 //! whether the part breaks a condition; where it does not, from what was told come the dims and the kind of each stream,
 //! its number of cells, and what the part adds to the answers and to the work. The numbers are kept as far as 64 bits
 //! go, so that each is known to the end even where it is far above its limit.
+//!
+//! Where cells are shared, the boxes are set anew once all parts are there: the different ones are listed with a code each, and
+//! a box begins where the same one that is listed does.
 #![tactic(auto)]
 
+mod alike;
+mod boxes;
 mod classes;
+mod codes;
 mod dims;
 mod drafting;
 mod error;
@@ -14,10 +20,13 @@ mod kinds;
 mod laying;
 mod limits;
 mod looking;
+mod placing;
 mod ranges;
 mod selecting;
 mod shares;
 mod sizes;
+#[cfg(test)]
+mod tests;
 
 pub use error::LayoutError;
-pub use laying::layout;
+pub use laying::{lay_out, layout, layout_shared};

@@ -13,7 +13,7 @@ const MOST_ANSWERS: u64 = 65_536;
 /// The most combinations of cells that a row may meet.
 const MOST_WORK: u64 = 4_194_304;
 
-/// The numbers, where none is above its limit, or the first that is.
+/// Returns the numbers, where none is above its limit, or the first that is.
 pub fn limited(parts: u32, cells: u64, answers: u64, work: u64) -> Result<Numbers, LayoutError>
     ensures { IsLimited record { parts = parts; cells = cells; answers = answers; work = work } result }
 {

@@ -6,7 +6,7 @@ ghost use Rattle.bq_layout.specs.Looking.{attr_at, IsPlace, is_side};
 
 use bq_model::{Attr, Link, Query};
 
-/// How many attributes the query has.
+/// Returns how many attributes the query has.
 pub fn attr_count(q: &Query) -> usize
     ensures value { result ≡ length (attrs_of q.now.atoms) }
     ensures few { result ≤ 12 }
@@ -15,7 +15,7 @@ pub fn attr_count(q: &Query) -> usize
     q.attrs().len()
 }
 
-/// The attribute at a place.
+/// Returns the attribute at a place.
 pub fn attr_at(q: &Query, i: usize) -> Attr
     requires { i < length (attrs_of q.now.atoms) }
     ensures { result ≡ attr_at q.now i }
@@ -23,21 +23,21 @@ pub fn attr_at(q: &Query, i: usize) -> Attr
     q.attrs()[i]
 }
 
-/// Whether two columns are the same.
+/// Returns whether two columns are the same.
 pub fn is_same(a: Attr, b: Attr) -> bool
     ensures { result ≡ attr_eq a b }
 {
     a.stream == b.stream && a.column == b.column
 }
 
-/// Whether a column is among some.
+/// Returns whether a column is among some.
 pub fn is_among(columns: &[Attr], attr: Attr) -> bool
     ensures { result ≡ list_any (λ a. attr_eq a attr) columns.now }
 {
     columns.iter().any(|a| is_same(*a, attr))
 }
 
-/// Whether a column is a side of a link.
+/// Returns whether a column is a side of a link.
 pub fn is_linked(links: &[Link], attr: Attr) -> bool
     ensures { result ≡ is_side links.now attr }
 {
@@ -46,7 +46,7 @@ pub fn is_linked(links: &[Link], attr: Attr) -> bool
         .any(|l| is_same(l.left, attr) || is_same(l.right, attr))
 }
 
-/// The place of a column among some, or none where it is not there.
+/// Returns the place of a column among some, or none where it is not there.
 pub fn place_of(columns: &[Attr], attr: Attr) -> Option<usize>
     ensures { IsPlace columns.now attr result }
 {

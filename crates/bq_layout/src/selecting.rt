@@ -26,7 +26,7 @@ fn push_new(list: &mut ArrayVec<Attr, 8>, attr: Attr)
     }
 }
 
-/// The columns, each once.
+/// Returns the columns, each once.
 pub fn different(columns: &[Attr]) -> ArrayVec<Attr, 8>
     requires { length columns.now ≤ 8 }
     ensures { result.items ≡ different columns.now }
@@ -57,7 +57,7 @@ fn size_of(q: &Query, p: &Part, refs: &Refs, attr: Attr) -> u64
     }
 }
 
-/// How many tuples lie in the ranges of the columns.
+/// Returns how many tuples lie in the ranges of the columns.
 pub fn tuples_in(q: &Query, p: &Part, refs: &Refs, columns: &[Attr]) -> u64
     requires part { IsPart q.now p.now.signs.items }
     requires refs { AreRefs q.now p.now.signs.items refs.now }

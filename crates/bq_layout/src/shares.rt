@@ -11,8 +11,8 @@ use crate::looking::is_same;
 use crate::sizes::dim_size;
 use bq_model::{Attr, Dim, PartPlan};
 
-// The dims of the stream at a place of FROM, or none where there is no stream.
-fn dims_at(part: &PartPlan, place: usize) -> &[Dim]
+/// Returns the dims of the stream at a place of FROM, or none where there is no stream.
+pub fn dims_at(part: &PartPlan, place: usize) -> &[Dim]
     ensures { result.now ≡ dims_at part.now place }
 {
     match part.streams.as_slice().get(place) {
@@ -88,7 +88,7 @@ fn share_of(part: &PartPlan, arriving: usize) -> u64
     size
 }
 
-/// The share of a part: the greatest over the arriving stream.
+/// Returns the share of a part: the greatest over the arriving stream.
 pub fn share(part: &PartPlan) -> u64
     ensures { result ≡ capped (share part.now) }
 {

@@ -5,7 +5,7 @@ ghost use Rattle.bq_layout.specs.Capped.{capped};
 
 use bq_model::Dim;
 
-/// How many integers there are from the least to the greatest.
+/// Returns how many integers there are from the least to the greatest.
 pub fn range_size(lo: i64, hi: i64) -> u64
     ensures { result ≡ capped (range_size lo hi) }
 {
@@ -16,14 +16,14 @@ pub fn range_size(lo: i64, hi: i64) -> u64
     }
 }
 
-/// How many values a dim has.
+/// Returns how many values a dim has.
 pub fn dim_size(dim: Dim) -> u64
     ensures { result ≡ capped (dim_size dim) }
 {
     range_size(dim.lo, dim.hi)
 }
 
-/// How many combinations of values the dims have.
+/// Returns how many combinations of values the dims have.
 pub fn box_size(dims: &[Dim]) -> u64
     ensures { result ≡ capped (box_size dims.now) }
 {

@@ -3,7 +3,7 @@ use Rattle.std.proofs.Common.{◌≡◌, ℕ, ◌<◌, ◌⊎◌, Bool, true, fa
 use Rattle.std.specs.List.{AllByRecursion}
 use Rattle.bq_text.specs.declared.key.Key.TheVariants.{CreateKey, QueryKey, AsKey, SelectKey, FromKey, AndKey}
 use Rattle.bq_parser.specs.declared.places.Place.{Place}
-use Rattle.bq_parser.specs.declared.places.Place.TheVariants.{Start, ColumnName, FirstSelected, SelectedStream, AfterSelected, FromName, AfterFrom, AtomLeft, AfterAtom, Complete, Ended}
+use Rattle.bq_parser.specs.declared.places.Place.TheVariants.{Start, ColumnName, QuerySelect, FirstSelected, SelectedStream, AfterSelected, FromName, AfterFrom, AtomLeft, AfterAtom, Complete, Ended}
 use Rattle.bq_schema.specs.declared.column.ColumnDef.{ColumnDef}
 use Rattle.bq_parser.specs.declared.tree.ColumnAst.{ColumnAst}
 use Rattle.bq_parser.specs.declared.tree.OperandAst.{OperandAst}
@@ -12,7 +12,7 @@ use Rattle.bq_parser.specs.declared.tree.AtomAst.{AtomAst}
 use Rattle.bq_parser.specs.declared.tree.Statement.{Statement}
 use Rattle.bq_model.specs.declared.atom.Op.{Op}
 use Rattle.bq_model.specs.declared.atom.Op.TheVariants.{Lt, Eq, Gt, Le, Ge, Ne}
-use Rattle.bq_parser.specs.Grammar.{Lexeme, word, key, comma, closing, semicolon, separated, name_tokens, coldef_tokens, column_tokens, atom_tokens, where_tokens, distinct_tokens, statement_tokens, IsColumn, HasColumn, IsWhole, Spells}
+use Rattle.bq_parser.specs.Grammar.{Lexeme, word, key, comma, closing, semicolon, separated, name_tokens, coldef_tokens, column_tokens, atom_tokens, where_tokens, distinct_tokens, shared_tokens, statement_tokens, IsColumn, HasColumn, IsWhole, Spells}
 use Rattle.bq_parser.specs.declared.draft.Form.TheVariants as forms
 use Rattle.bq_parser.specs.Reading.{Parts, no_parts, built, finished, walk}
 use Rattle.bq_parser.specs.declared.tree.Statement.TheVariants.{CreateStream, CreateQuery, Explain, DropQuery}
@@ -125,45 +125,54 @@ stream_read name c cs =
     let read = columns_walk (record no_parts { form = forms.Stream; name = name }) c cs in
     record { to = Complete; parts = read.0; read = read.1; finished_there = ap (λ m. Some (built m.form m)) read.2; ends = refl; finished_behind = ap (λ m. Some (built m.form m)) read.2 }
 
-abbrev pub query_words : List ℕ → Bool → List Lexeme
-query_words name d = key CreateKey ∷ key QueryKey ∷ word name ∷ key AsKey ∷ key SelectKey ∷ distinct_tokens d
+-- the parts behind AS
+abbrev pub query_named : List ℕ → Bool → Parts
+query_named name shared = record no_parts { form = forms.Query; name = name; shared = shared }
+
+-- the tokens up to AS
+query_head : (name : List ℕ) (shared : Bool) (more : List Lexeme) → walk Start no_parts (key CreateKey ∷ shared_tokens shared ++ key QueryKey ∷ word name ∷ key AsKey ∷ more) ≡ walk QuerySelect (query_named name shared) more
+query_head name true more = refl
+query_head name false more = refl
+
+abbrev pub select_words : Bool → List Lexeme
+select_words d = key SelectKey ∷ distinct_tokens d
 
 first_selected : (p : Parts) (c : ColumnAst) (cs : List ColumnAst) (more : List Lexeme) → walk FirstSelected p (separated comma column_tokens (c ∷ cs) ++ more) ≡ walk SelectedStream p (separated comma column_tokens (c ∷ cs) ++ more)
 first_selected p c [] more = refl
 first_selected p c (d ∷ cs) more = refl
 
-query_begun : (name : List ℕ) (d : Bool) (c : ColumnAst) (cs : List ColumnAst) (more : List Lexeme) → walk Start no_parts (query_words name d ++ (separated comma column_tokens (c ∷ cs) ++ more)) ≡ walk SelectedStream (record no_parts { form = forms.Query; name = name; distinct = d }) (separated comma column_tokens (c ∷ cs) ++ more)
-query_begun name true c cs more = refl
-query_begun name false c cs more = first_selected (record no_parts { form = forms.Query; name = name }) c cs more
+query_begun : (name : List ℕ) (shared d : Bool) (c : ColumnAst) (cs : List ColumnAst) (more : List Lexeme) → walk QuerySelect (query_named name shared) (select_words d ++ (separated comma column_tokens (c ∷ cs) ++ more)) ≡ walk SelectedStream (record (query_named name shared) { distinct = d }) (separated comma column_tokens (c ∷ cs) ++ more)
+query_begun name shared true c cs more = refl
+query_begun name shared false c cs more = first_selected (query_named name shared) c cs more
 
 regroup : (a b c d : List Lexeme) → ((a ++ b) ++ c) ++ d ≡ a ++ (b ++ (c ++ d))
 regroup a b c d = simp append_assoc
 
--- the tokens up to the atoms
-query_front : (name : List ℕ) (d : Bool) (c : ColumnAst) (cs : List ColumnAst) (n : List ℕ) (ns : List (List ℕ)) (more : List Lexeme) → (stream : List ℕ) × (walk Start no_parts (((query_words name d ++ separated comma column_tokens (c ∷ cs)) ++ key FromKey ∷ separated comma name_tokens (n ∷ ns)) ++ more) ≡ walk AfterFrom (record no_parts { form = forms.Query; name = name; distinct = d; select = c ∷ cs; from = n ∷ ns; stream = stream }) more)
-query_front name d c cs n ns more =
-    let p1 : Parts = record no_parts { form = forms.Query; name = name; distinct = d } in
+-- the tokens from SELECT up to the atoms
+query_front : (name : List ℕ) (shared d : Bool) (c : ColumnAst) (cs : List ColumnAst) (n : List ℕ) (ns : List (List ℕ)) (more : List Lexeme) → (stream : List ℕ) × (walk QuerySelect (query_named name shared) (((select_words d ++ separated comma column_tokens (c ∷ cs)) ++ key FromKey ∷ separated comma name_tokens (n ∷ ns)) ++ more) ≡ walk AfterFrom (record (query_named name shared) { distinct = d; select = c ∷ cs; from = n ∷ ns; stream = stream }) more)
+query_front name shared d c cs n ns more =
+    let p1 : Parts = record (query_named name shared) { distinct = d } in
     let chosen = selected_walk p1 c cs in
     let p2 : Parts = record p1 { select = c ∷ cs; stream = chosen.0 } in (
       chosen.0,
-      ap (walk Start no_parts) (regroup (query_words name d) (separated comma column_tokens (c ∷ cs)) (key FromKey ∷ separated comma name_tokens (n ∷ ns)) more)
-          ∙ query_begun name d c cs (key FromKey ∷ separated comma name_tokens (n ∷ ns) ++ more)
+      ap (walk QuerySelect (query_named name shared)) (regroup (select_words d) (separated comma column_tokens (c ∷ cs)) (key FromKey ∷ separated comma name_tokens (n ∷ ns)) more)
+          ∙ query_begun name shared d c cs (key FromKey ∷ separated comma name_tokens (n ∷ ns) ++ more)
           ∙ walk_append SelectedStream p1 (separated comma column_tokens (c ∷ cs)) (key FromKey ∷ separated comma name_tokens (n ∷ ns) ++ more) AfterSelected p2 chosen.1
           ∙ walk_append FromName p2 (separated comma name_tokens (n ∷ ns)) more AfterFrom (record p2 { from = n ∷ ns }) (from_walk p2 n ns),
     )
 
-query_read : (name : List ℕ) (d : Bool) (c : ColumnAst) (cs : List ColumnAst) (n : List ℕ) (ns : List (List ℕ)) (atoms : List AtomAst) → AllByRecursion HasColumn atoms → IsRead (CreateQuery name (record { distinct = d; select = record { items = c ∷ cs }; from = record { items = n ∷ ns }; atoms = record { items = atoms } }))
-query_read name d c cs n ns [] h =
-    let front = query_front name d c cs n ns [] in
-    record { to = AfterFrom; parts = record no_parts { form = forms.Query; name = name; distinct = d; select = c ∷ cs; from = n ∷ ns; stream = front.0 }; read = front.1; finished_there = refl; ends = refl; finished_behind = refl }
-query_read name d c cs n ns (a ∷ atoms) h =
-    let front = query_front name d c cs n ns (where_tokens (a ∷ atoms)) in
-    let p : Parts = record no_parts { form = forms.Query; name = name; distinct = d; select = c ∷ cs; from = n ∷ ns; stream = front.0 } in
+query_read : (name : List ℕ) (shared d : Bool) (c : ColumnAst) (cs : List ColumnAst) (n : List ℕ) (ns : List (List ℕ)) (atoms : List AtomAst) → AllByRecursion HasColumn atoms → IsRead (CreateQuery name (record { distinct = d; select = record { items = c ∷ cs }; from = record { items = n ∷ ns }; atoms = record { items = atoms } }) shared)
+query_read name shared d c cs n ns [] h =
+    let front = query_front name shared d c cs n ns [] in
+    record { to = AfterFrom; parts = record (query_named name shared) { distinct = d; select = c ∷ cs; from = n ∷ ns; stream = front.0 }; read = query_head name shared _ ∙ front.1; finished_there = refl; ends = refl; finished_behind = refl }
+query_read name shared d c cs n ns (a ∷ atoms) h =
+    let front = query_front name shared d c cs n ns (where_tokens (a ∷ atoms)) in
+    let p : Parts = record (query_named name shared) { distinct = d; select = c ∷ cs; from = n ∷ ns; stream = front.0 } in
     let last = atoms_walk p a atoms h in
     record {
       to = AfterAtom;
       parts = last.0;
-      read = front.1 ∙ last.1;
+      read = query_head name shared _ ∙ front.1 ∙ last.1;
       finished_there = ap (λ m. Some (built forms.Query m)) last.2;
       ends = refl;
       finished_behind = ap (λ m. Some (built m.form m)) last.2;
@@ -173,15 +182,15 @@ stream_items : (name : List ℕ) (columns : List ColumnDef) → 0 < length colum
 stream_items name [] h = absurd (omega arith)
 stream_items name (c ∷ cs) h = stream_read name c cs
 
-query_items : (name : List ℕ) (d : Bool) (select : List ColumnAst) (from : List (List ℕ)) (atoms : List AtomAst) → 0 < length select → 0 < length from → AllByRecursion HasColumn atoms → IsRead (CreateQuery name (record { distinct = d; select = record { items = select }; from = record { items = from }; atoms = record { items = atoms } }))
-query_items name d [] from atoms h k a = absurd (omega arith)
-query_items name d (c ∷ cs) [] atoms h k a = absurd (omega arith)
-query_items name d (c ∷ cs) (n ∷ ns) atoms h k a = query_read name d c cs n ns atoms a
+query_items : (name : List ℕ) (shared d : Bool) (select : List ColumnAst) (from : List (List ℕ)) (atoms : List AtomAst) → 0 < length select → 0 < length from → AllByRecursion HasColumn atoms → IsRead (CreateQuery name (record { distinct = d; select = record { items = select }; from = record { items = from }; atoms = record { items = atoms } }) shared)
+query_items name shared d [] from atoms h k a = absurd (omega arith)
+query_items name shared d (c ∷ cs) [] atoms h k a = absurd (omega arith)
+query_items name shared d (c ∷ cs) (n ∷ ns) atoms h k a = query_read name shared d c cs n ns atoms a
 
 -- each whole statement is read from its tokens
 pub is_read : (s : Statement) → IsWhole s → IsRead s
 is_read (CreateStream name columns) w = stream_items name columns.items w
-is_read (CreateQuery name select) w = query_items name select.distinct select.select.items select.from.items select.atoms.items w.0 w.1 w.2
+is_read (CreateQuery name select shared) w = query_items name shared select.distinct select.select.items select.from.items select.atoms.items w.0 w.1 w.2
 is_read (Explain name) w = record { to = Complete; parts = record no_parts { form = forms.Explain; name = name }; read = refl; finished_there = refl; ends = refl; finished_behind = refl }
 is_read (DropQuery name) w = record { to = Complete; parts = record no_parts { form = forms.Drop; name = name }; read = refl; finished_there = refl; ends = refl; finished_behind = refl }
 

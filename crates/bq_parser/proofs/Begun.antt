@@ -2,7 +2,7 @@
 use Rattle.std.proofs.Common.{◌≡◌, pos, List, [], ◌∷◌, ◌++◌, refl, ap, sym, ◌∙◌, append_assoc, append-nil, subst}
 use Rattle.bq_text.specs.declared.key.Key.TheVariants.{CreateKey, StreamKey, QueryKey, AsKey, SelectKey, FromKey}
 use Rattle.bq_parser.specs.declared.places.Place.{Place}
-use Rattle.bq_parser.specs.declared.places.Place.TheVariants.{Start, AfterCreate, StreamName, OpenColumns, ColumnName, AfterColumn, DomainLow, FirstPoint, SecondPoint, DomainHigh, AfterDomain, QueryName, QueryAs, QuerySelect, FirstSelected, SelectedStream, SelectedPoint, SelectedColumn, AfterSelected, FromName, AfterFrom, AtomLeft, LeftPoint, LeftColumn, ColumnOp, RightAny, IntegerOp, RightStream, RightPoint, RightColumn, AfterAtom, ExplainName, AfterDrop, DropName, Complete, Ended}
+use Rattle.bq_parser.specs.declared.places.Place.TheVariants.{Start, AfterCreate, AfterShared, StreamName, OpenColumns, ColumnName, AfterColumn, DomainLow, FirstPoint, SecondPoint, DomainHigh, AfterDomain, QueryName, QueryAs, QuerySelect, FirstSelected, SelectedStream, SelectedPoint, SelectedColumn, AfterSelected, FromName, AfterFrom, AtomLeft, LeftPoint, LeftColumn, ColumnOp, RightAny, IntegerOp, RightStream, RightPoint, RightColumn, AfterAtom, ExplainName, AfterDrop, DropName, Complete, Ended}
 use Rattle.bq_parser.specs.declared.tree.Statement.{Statement}
 use Rattle.bq_parser.specs.Grammar.{Lexeme, word, number, key, point, opening, closing, less, Spells, Begins}
 use Rattle.bq_parser.specs.declared.draft.Form.TheVariants as forms
@@ -124,6 +124,9 @@ begun_ExplainName p f = let next = told_step ExplainName p (word (97 ∷ [])) f 
 begun_AfterCreate : (p : Parts) → Fine AfterCreate p → Begins (told AfterCreate p)
 begun_AfterCreate p f = let next = told_step AfterCreate p (key StreamKey) f in begun_by (told AfterCreate p) _ (key StreamKey) next.0 (begun_StreamName (act actions.BeginStream (key StreamKey) p) next.1)
 
+begun_AfterShared : (p : Parts) → Fine AfterShared p → Begins (told AfterShared p)
+begun_AfterShared p f = let next = told_step AfterShared p (key QueryKey) f in begun_by (told AfterShared p) _ (key QueryKey) next.0 (begun_QueryName (act actions.BeginShared (key QueryKey) p) next.1)
+
 begun_Start : (p : Parts) → Fine Start p → Begins (told Start p)
 begun_Start p f = let next = told_step Start p (key CreateKey) f in begun_by (told Start p) _ (key CreateKey) next.0 (begun_AfterCreate (act actions.Nothing (key CreateKey) p) next.1)
 
@@ -131,6 +134,7 @@ begun_Start p f = let next = told_step Start p (key CreateKey) f in begun_by (to
 pub begun : (place : Place) (p : Parts) → Fine place p → Begins (told place p)
 begun Start p f = begun_Start p f
 begun AfterCreate p f = begun_AfterCreate p f
+begun AfterShared p f = begun_AfterShared p f
 begun StreamName p f = begun_StreamName p f
 begun OpenColumns p f = begun_OpenColumns p f
 begun ColumnName p f = begun_ColumnName p f

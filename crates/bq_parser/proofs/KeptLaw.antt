@@ -6,7 +6,7 @@ use Rattle.bq_text.specs.declared.key.Key.TheVariants.{CreateKey, StreamKey, Que
 use Rattle.bq_lexer.specs.declared.token.TokenKind.{TokenKind}
 use Rattle.bq_lexer.specs.declared.token.TokenKind.TheVariants as kinds
 use Rattle.bq_parser.specs.declared.places.Place.{Place}
-use Rattle.bq_parser.specs.declared.places.Place.TheVariants.{Start, AfterCreate, StreamName, OpenColumns, ColumnName, AfterColumn, DomainLow, FirstPoint, SecondPoint, DomainHigh, AfterDomain, QueryName, QueryAs, QuerySelect, FirstSelected, SelectedStream, SelectedPoint, SelectedColumn, AfterSelected, FromName, AfterFrom, AtomLeft, LeftPoint, LeftColumn, ColumnOp, RightAny, IntegerOp, RightStream, RightPoint, RightColumn, AfterAtom, ExplainName, AfterDrop, DropName, Complete}
+use Rattle.bq_parser.specs.declared.places.Place.TheVariants.{Start, AfterCreate, AfterShared, StreamName, OpenColumns, ColumnName, AfterColumn, DomainLow, FirstPoint, SecondPoint, DomainHigh, AfterDomain, QueryName, QueryAs, QuerySelect, FirstSelected, SelectedStream, SelectedPoint, SelectedColumn, AfterSelected, FromName, AfterFrom, AtomLeft, LeftPoint, LeftColumn, ColumnOp, RightAny, IntegerOp, RightStream, RightPoint, RightColumn, AfterAtom, ExplainName, AfterDrop, DropName, Complete}
 use Rattle.bq_parser.specs.Steps.{step}
 use Rattle.bq_parser.specs.Syntax.{lexeme_as, lexeme_of, lexemes}
 use Rattle.bq_parser.proofs.WalkLaws.{walk_append}
@@ -75,6 +75,7 @@ kept_act actions.BeginExplain l w p e = refl
 kept_act actions.BeginDrop l w p e = refl
 kept_act actions.BeginStream l w p e = refl
 kept_act actions.BeginQuery l w p e = refl
+kept_act actions.BeginShared l w p e = refl
 kept_act actions.Named l w p e = ap (λ x. record (kept_parts p) { name = kept x }) e
 kept_act actions.BeginColumns l w p e = refl
 kept_act actions.ColumnIs l w p e = ap (λ x. record (kept_parts p) { column = kept x }) e
@@ -128,6 +129,7 @@ says ExplainName kinds.Word w h = refl
 says DropName kinds.Word w h = refl
 says Start (kinds.Reserved CreateKey) w h = tt
 says AfterCreate (kinds.Reserved StreamKey) w h = tt
+says AfterShared (kinds.Reserved QueryKey) w h = tt
 says OpenColumns kinds.Open w h = tt
 says AfterColumn kinds.Comma w h = tt
 says AfterColumn (kinds.Reserved InKey) w h = tt

@@ -155,10 +155,16 @@ select_behind false s =
 pub select_printed : (s : SelectAst) → select_text s ≡ printed (select_tokens s)
 select_printed s = sym (ap printed (select_grouped s) ∙ select_behind s.distinct s)
 
-pub query_printed : (name : List ℕ) (s : SelectAst) → query_text name s ≡ printed_form (CreateQuery name s)
-query_printed name s =
-    sym (ap (λ bs. codes "CREATE QUERY " ++ (name ++ (codes " AS " ++ bs))) (sym (select_printed s))
-    ∙ ap (λ bs. codes "CREATE QUERY " ++ bs) (sym (append_assoc name (codes " AS ") (select_text s))))
+-- the words before the name, the name and what stands from SELECT on
+query_behind : (head name : List ℕ) (s : SelectAst) → ((head ++ name) ++ codes " AS ") ++ select_text s ≡ head ++ (name ++ (codes " AS " ++ printed (select_tokens s)))
+query_behind head name s =
+    append_assoc (head ++ name) (codes " AS ") (select_text s)
+    ∙ append_assoc head name (codes " AS " ++ select_text s)
+    ∙ ap (λ bs. head ++ (name ++ (codes " AS " ++ bs))) (select_printed s)
+
+pub query_printed : (name : List ℕ) (s : SelectAst) (shared : Bool) → query_text name s shared ≡ printed_form (CreateQuery name s shared)
+query_printed name s true = query_behind (codes "CREATE SHARED QUERY ") name s
+query_printed name s false = query_behind (codes "CREATE QUERY ") name s
 
 -- columns of a stream
 domain_behind : (domain : Option (ℤ × ℤ)) (rest : List Lexeme) → behind_name (domain_tokens domain ++ rest) ≡ domain_text domain ++ behind_name rest

@@ -22,9 +22,10 @@ use Rattle.bq_parser.specs.declared.tree.OperandAst.{OperandAst}
 use Rattle.bq_parser.specs.declared.tree.OperandAst.TheVariants.{Column, Integer}
 use Rattle.bq_parser.specs.declared.tree.AtomAst.{AtomAst}
 use Rattle.bq_parser.specs.declared.tree.SelectAst.{SelectAst}
-use Rattle.bq_parser.specs.Grammar.{Lexeme, word, key, comma, semicolon, separated, name_tokens, domain_tokens, coldef_tokens, column_tokens, operand_tokens, op_token, atom_tokens, where_tokens, distinct_tokens, select_tokens}
+use Rattle.bq_parser.specs.Grammar.{Lexeme, word, key, comma, semicolon, separated, name_tokens, domain_tokens, coldef_tokens, column_tokens, operand_tokens, op_token, atom_tokens, where_tokens, distinct_tokens, select_tokens, statement_tokens}
 use Rattle.bq_parser.specs.Syntax.{lexeme_as, lexeme_of, lexemes}
-use Rattle.bq_parser.specs.Limits.{word_in, number_in, integer_in, integers_in, is_long}
+use Rattle.bq_parser.specs.declared.tree.Statement.TheVariants.{CreateQuery}
+use Rattle.bq_parser.specs.Limits.{word_in, number_in, integers_of, integer_in, integers_in, is_long}
 use Rattle.bq_parser.specs.DraftLimits.{is_word_kind, is_long_token, ends_in}
 use Rattle.bq_parser.specs.Keeping.{IsCut}
 use Rattle.bq_parser.proofs.Names.{name_by}
@@ -207,8 +208,8 @@ numbers_distinct false = refl
 pub select_grouped : (s : SelectAst) → select_tokens s ≡ key SelectKey ∷ (distinct_tokens s.distinct ++ (separated comma column_tokens s.select.items ++ (key FromKey ∷ (separated comma name_tokens s.from.items ++ where_tokens s.atoms.items))))
 select_grouped s = simp append_assoc
 
--- the integers of a query are those of its atoms
-pub numbers_select : (s : SelectAst) → flat_map number_in (select_tokens s) ≡ integers_in s.atoms.items
+-- the integers from SELECT on are those of the atoms
+numbers_select : (s : SelectAst) → flat_map number_in (select_tokens s) ≡ integers_in s.atoms.items
 numbers_select s =
     let behind = separated comma name_tokens s.from.items ++ where_tokens s.atoms.items in
     let columns = separated comma column_tokens s.select.items in
@@ -220,3 +221,13 @@ numbers_select s =
     ∙ flat_map-append number_in (separated comma name_tokens s.from.items) (where_tokens s.atoms.items)
     ∙ ap (λ zs. zs ++ flat_map number_in (where_tokens s.atoms.items)) (numbers_names s.from.items)
     ∙ numbers_where s.atoms.items
+
+-- the integers of a query are those of its atoms
+pub numbers_query : (name : List ℕ) (s : SelectAst) (shared : Bool) → integers_of (CreateQuery name s shared) ≡ integers_in s.atoms.items
+numbers_query name s true = numbers_select s
+numbers_query name s false = numbers_select s
+
+-- what holds of each token of a query holds of its name, and of those from SELECT on
+pub all_query : (P : Lexeme → Type 0) (name : List ℕ) (s : SelectAst) (shared : Bool) → AllByRecursion P (statement_tokens (CreateQuery name s shared)) → P (word name) × AllByRecursion P (select_tokens s)
+all_query P name s true h = (h.1.1.1.0, h.1.1.1.1.1)
+all_query P name s false h = (h.1.1.0, h.1.1.1.1)

@@ -28,7 +28,7 @@ use Rattle.bq_parser.specs.DraftLimits.{ends_in}
 use Rattle.bq_parser.specs.Limits.{names_of, integers_of, soft_in, column_in, columns_in, integer_in, integers_in, same_column, number_of_different, is_long, is_far, is_reversed}
 use Rattle.bq_parser.specs.Laws.{DomainsHaveEnds}
 use Rattle.bq_parser.specs.Resolution.{IsTaken, named_columns, place_in, place_under, number_for, has_streams, has_columns, attr_for, element_for, atom_for, named_attrs, query_for}
-use Rattle.bq_parser.proofs.Said.{numbers_select}
+use Rattle.bq_parser.proofs.Said.{numbers_query}
 use Rattle.bq_parser.proofs.Within.{kept_length, any_far, any_reversed, stream_ends}
 use Rattle.bq_parser.proofs.Different.{IsOrder, put_all, length-put_all, all_put}
 use Rattle.bq_parser.proofs.QueryDomains.{few_named, few_domains, named_from, Ascends-named_attrs, domains_are, domains_ascend}
@@ -106,8 +106,8 @@ record Few (s : SelectAst) : Type 0 where
 
 few : (s : SelectAst) → IsTaken s → Few s
 few s t =
-    let q = CreateQuery t.name s in
-    let z = numbers_select s in
+    let q = CreateQuery t.name s t.shared in
+    let z = numbers_query t.name s t.shared in
     let a = not_passed (list_any is_long (names_of q)) limits.Name _ t.within in
     let b = not_passed (nat_lt 8 (length s.select.items)) limits.Select _ a.1 in
     let c = not_passed (nat_lt 4 (length s.from.items)) limits.From _ b.1 in

@@ -1,14 +1,14 @@
 -- The tokens that lead to a place, and each step adds one.
 use Rattle.std.proofs.Common.{◌≡◌, ◌<◌, true, false, List, [], ◌∷◌, ◌++◌, length, Option, Some, None, ℤ, IfSome, refl, ap, sym, ◌∙◌, append_assoc, arith, inl, inr, length-append, append-nil, subst}
 use Rattle.std.specs.List.{AllByRecursion}
-use Rattle.bq_text.specs.declared.key.Key.TheVariants.{CreateKey, StreamKey, QueryKey, AsKey, SelectKey, DistinctKey, FromKey, WhereKey, AndKey, ExplainKey, DropKey, InKey}
+use Rattle.bq_text.specs.declared.key.Key.TheVariants.{CreateKey, StreamKey, QueryKey, AsKey, SelectKey, DistinctKey, FromKey, WhereKey, AndKey, ExplainKey, DropKey, InKey, SharedKey}
 use Rattle.bq_parser.specs.declared.places.Place.{Place}
-use Rattle.bq_parser.specs.declared.places.Place.TheVariants.{Start, AfterCreate, StreamName, OpenColumns, ColumnName, AfterColumn, DomainLow, FirstPoint, SecondPoint, DomainHigh, AfterDomain, QueryName, QueryAs, QuerySelect, FirstSelected, SelectedStream, SelectedPoint, SelectedColumn, AfterSelected, FromName, AfterFrom, AtomLeft, LeftPoint, LeftColumn, ColumnOp, RightAny, IntegerOp, RightStream, RightPoint, RightColumn, AfterAtom, ExplainName, AfterDrop, DropName, Complete, Ended}
+use Rattle.bq_parser.specs.declared.places.Place.TheVariants.{Start, AfterCreate, AfterShared, StreamName, OpenColumns, ColumnName, AfterColumn, DomainLow, FirstPoint, SecondPoint, DomainHigh, AfterDomain, QueryName, QueryAs, QuerySelect, FirstSelected, SelectedStream, SelectedPoint, SelectedColumn, AfterSelected, FromName, AfterFrom, AtomLeft, LeftPoint, LeftColumn, ColumnOp, RightAny, IntegerOp, RightStream, RightPoint, RightColumn, AfterAtom, ExplainName, AfterDrop, DropName, Complete, Ended}
 use Rattle.bq_schema.specs.declared.column.ColumnDef.{ColumnDef}
 use Rattle.bq_parser.specs.declared.tree.OperandAst.TheVariants.{Column, Integer}
 use Rattle.bq_parser.specs.declared.tree.AtomAst.{AtomAst}
 use Rattle.bq_parser.specs.Steps.{step}
-use Rattle.bq_parser.specs.Grammar.{Lexeme, word, number, key, comma, point, opening, closing, less, equal, greater, less_equal, greater_equal, unequal, semicolon, separated, name_tokens, coldef_tokens, column_tokens, operand_tokens, op_token, atom_tokens, where_tokens, distinct_tokens, statement_tokens, IsColumn, HasColumn, IsWhole}
+use Rattle.bq_parser.specs.Grammar.{Lexeme, word, number, key, comma, point, opening, closing, less, equal, greater, less_equal, greater_equal, unequal, semicolon, separated, name_tokens, coldef_tokens, column_tokens, operand_tokens, op_token, atom_tokens, where_tokens, distinct_tokens, shared_tokens, statement_tokens, IsColumn, HasColumn, IsWhole}
 use Rattle.bq_parser.specs.declared.draft.Form.{Form}
 use Rattle.bq_parser.specs.declared.draft.Form.TheVariants as forms
 use Rattle.bq_parser.specs.Reading.{Parts, act, kind_at, built}
@@ -38,8 +38,11 @@ ended_last sep f (x ∷ z ∷ xs) h = append_assoc (f x) (sep ∷ separated sep 
 abbrev pub stream_head : Parts → List Lexeme
 stream_head p = key CreateKey ∷ key StreamKey ∷ word p.name ∷ opening ∷ []
 
+abbrev pub create_head : Parts → List Lexeme
+create_head p = key CreateKey ∷ shared_tokens p.shared
+
 abbrev pub query_head : Parts → List Lexeme
-query_head p = key CreateKey ∷ key QueryKey ∷ word p.name ∷ key AsKey ∷ key SelectKey ∷ distinct_tokens p.distinct
+query_head p = create_head p ++ key QueryKey ∷ word p.name ∷ key AsKey ∷ key SelectKey ∷ distinct_tokens p.distinct
 
 abbrev pub from_head : Parts → List Lexeme
 from_head p = query_head p ++ separated comma column_tokens p.select ++ key FromKey ∷ []
@@ -54,6 +57,7 @@ where_all p = from_head p ++ separated comma name_tokens p.from ++ where_tokens 
 abbrev pub told : Place → Parts → List Lexeme
 told Start p = []
 told AfterCreate p = key CreateKey ∷ []
+told AfterShared p = key CreateKey ∷ key SharedKey ∷ []
 told StreamName p = key CreateKey ∷ key StreamKey ∷ []
 told OpenColumns p = key CreateKey ∷ key StreamKey ∷ word p.name ∷ []
 told ColumnName p = stream_head p ++ ended_by comma coldef_tokens p.columns
@@ -63,10 +67,10 @@ told FirstPoint p = stream_head p ++ ended_by comma coldef_tokens p.columns ++ w
 told SecondPoint p = stream_head p ++ ended_by comma coldef_tokens p.columns ++ word p.column ∷ key InKey ∷ number p.low ∷ point ∷ []
 told DomainHigh p = stream_head p ++ ended_by comma coldef_tokens p.columns ++ word p.column ∷ key InKey ∷ number p.low ∷ point ∷ point ∷ []
 told AfterDomain p = stream_head p ++ separated comma coldef_tokens p.columns
-told QueryName p = key CreateKey ∷ key QueryKey ∷ []
-told QueryAs p = key CreateKey ∷ key QueryKey ∷ word p.name ∷ []
-told QuerySelect p = key CreateKey ∷ key QueryKey ∷ word p.name ∷ key AsKey ∷ []
-told FirstSelected p = key CreateKey ∷ key QueryKey ∷ word p.name ∷ key AsKey ∷ key SelectKey ∷ []
+told QueryName p = create_head p ++ key QueryKey ∷ []
+told QueryAs p = create_head p ++ key QueryKey ∷ word p.name ∷ []
+told QuerySelect p = create_head p ++ key QueryKey ∷ word p.name ∷ key AsKey ∷ []
+told FirstSelected p = create_head p ++ key QueryKey ∷ word p.name ∷ key AsKey ∷ key SelectKey ∷ []
 told SelectedStream p = query_head p ++ ended_by comma column_tokens p.select
 told SelectedPoint p = query_head p ++ ended_by comma column_tokens p.select ++ word p.stream ∷ []
 told SelectedColumn p = query_head p ++ ended_by comma column_tokens p.select ++ word p.stream ∷ point ∷ []
@@ -187,6 +191,8 @@ told_step Start p (key ExplainKey) f = (refl, refl)
 told_step Start p (key DropKey) f = (refl, refl)
 told_step AfterCreate p (key StreamKey) f = (refl, refl)
 told_step AfterCreate p (key QueryKey) f = (refl, refl)
+told_step AfterCreate p (key SharedKey) f = (refl, tt)
+told_step AfterShared p (key QueryKey) f = (refl, refl)
 told_step StreamName p (word w) f = (refl, f)
 told_step OpenColumns p opening f = (refl, f)
 told_step ColumnName p (word w) f = (refl, f)
@@ -207,13 +213,19 @@ told_step DomainHigh p (number z) f =
     )
 told_step AfterDomain p comma f = (ap (λ r. stream_head p ++ r) (sym (ended_last comma coldef_tokens p.columns f.1)), f.0)
 told_step AfterDomain p closing f = (stream_told p p.columns f.0, whole_stream p p.columns f.0 f.1)
-told_step QueryName p (word w) f = (refl, f)
-told_step QueryAs p (key AsKey) f = (refl, f)
-told_step QuerySelect p (key SelectKey) f = (refl, (f, refl, refl))
-told_step FirstSelected p (key DistinctKey) f = (ap (λ xs. query_head (record p { distinct = true }) ++ ended_by comma column_tokens xs) f.2, f.0)
+told_step QueryName p (word w) f = (sym (append_assoc (create_head p) (key QueryKey ∷ []) (word w ∷ [])), f)
+told_step QueryAs p (key AsKey) f = (sym (append_assoc (create_head p) (key QueryKey ∷ word p.name ∷ []) (key AsKey ∷ [])), f)
+told_step QuerySelect p (key SelectKey) f = (sym (append_assoc (create_head p) (key QueryKey ∷ word p.name ∷ key AsKey ∷ []) (key SelectKey ∷ [])), (f, refl, refl))
+told_step FirstSelected p (key DistinctKey) f = (
+  ap (λ xs. query_head (record p { distinct = true }) ++ ended_by comma column_tokens xs) f.2
+      ∙ append-nil (query_head (record p { distinct = true }))
+      ∙ sym (append_assoc (create_head p) (key QueryKey ∷ word p.name ∷ key AsKey ∷ key SelectKey ∷ []) (key DistinctKey ∷ [])),
+  f.0,
+)
 told_step FirstSelected p (word w) f = (
-  ap (λ d. (key CreateKey ∷ key QueryKey ∷ word p.name ∷ key AsKey ∷ key SelectKey ∷ distinct_tokens d) ++ ended_by comma column_tokens p.select ++ word w ∷ []) f.1
-      ∙ ap (λ xs. (key CreateKey ∷ key QueryKey ∷ word p.name ∷ key AsKey ∷ key SelectKey ∷ []) ++ ended_by comma column_tokens xs ++ word w ∷ []) f.2,
+  ap (λ d. query_head (record p { distinct = d }) ++ ended_by comma column_tokens p.select ++ word w ∷ []) f.1
+      ∙ ap (λ xs. query_head (record p { distinct = false }) ++ ended_by comma column_tokens xs ++ word w ∷ []) f.2
+      ∙ ap (λ r. r ++ word w ∷ []) (append-nil (query_head (record p { distinct = false }))),
   f.0,
 )
 told_step SelectedStream p (word w) f = (refl, f)

@@ -37,7 +37,7 @@ use Rattle.bq_parser.proofs.Told.{Fine}
 use Rattle.bq_parser.proofs.WalkLaws.{walk_told, finished_spells}
 use Rattle.bq_parser.proofs.Verdict.{is_finished}
 use Rattle.bq_parser.proofs.Names.{kept_name}
-use Rattle.bq_parser.proofs.Said.{long_names, IsNamed, all_named, without_semicolon, all_left, all_right, all_separated, all_where, numbers_coldefs, numbers_select, select_grouped, cut_at, or_right}
+use Rattle.bq_parser.proofs.Said.{long_names, IsNamed, all_named, without_semicolon, all_left, all_right, all_separated, all_where, all_query, numbers_coldefs, numbers_query, select_grouped, cut_at, or_right}
 
 -- names that are kept
 kept_names : (names : List (List ℕ)) → AllByRecursion (λ n. AllByRecursion IsNamed (name_tokens n)) names → map kept names ≡ names
@@ -272,12 +272,13 @@ same_limit forms.Stream p h =
     ∙ ap (λ b. cond b (Some limits.Value) (cond (any_reversed p.columns) (Some limits.Domain) None)) (sym (far_stream p.name p.columns)))
 same_limit forms.Query p h =
     let s : SelectAst = record { distinct = p.distinct; select = record { items = p.select }; from = record { items = p.from }; atoms = record { items = p.atoms } } in
-    let n = named_select s h.1.1.1.1 in
+    let words = all_query IsNamed p.name s p.shared h in
+    let n = named_select s words.1 in
     unless (nat_lt 8 (length p.select)) (Some limits.Select) _ _ (λ selected.
     unless (nat_lt 4 (length p.from)) (Some limits.From) _ _ (λ streams.
     unless (nat_lt 16 (length p.atoms)) (Some limits.Atoms) _ _ (λ atoms.
     kept_limit p.atoms (few (length p.atoms) 16 atoms) n.atoms
-    ∙ ap (λ zs. limit_at_end (length (soft_in p.atoms)) (columns_in p.atoms) zs (integers_in p.atoms)) (sym (numbers_select s)))))
+    ∙ ap (λ zs. limit_at_end (length (soft_in p.atoms)) (columns_in p.atoms) zs (integers_in p.atoms)) (sym (numbers_query p.name s p.shared)))))
 same_limit forms.Explain p h = refl
 same_limit forms.Drop p h = refl
 
@@ -314,17 +315,18 @@ same_statement forms.Stream p f h e =
     (defs_kept p.columns (all_separated IsNamed comma coldef_tokens p.columns (all_left IsNamed (separated comma coldef_tokens p.columns) (closing ∷ []) names.1.1)) (sym (far_stream p.name p.columns) ∙ near.0)))
 same_statement forms.Query p f h e =
     let s : SelectAst = record { distinct = p.distinct; select = record { items = p.select }; from = record { items = p.from }; atoms = record { items = p.atoms } } in
-    let n = named_select s h.1.1.1.1 in
+    let words = all_query IsNamed p.name s p.shared h in
+    let n = named_select s words.1 in
     let a = not_passed (nat_lt 8 (length p.select)) limits.Select _ e in
     let b = not_passed (nat_lt 4 (length p.from)) limits.From _ a.1 in
     let c = not_passed (nat_lt 16 (length p.atoms)) limits.Atoms _ b.1 in
     let soft = not_passed (nat_lt 8 (length (soft_in p.atoms))) limits.Soft _ c.1 in
     let d = not_passed (nat_lt 12 (number_of_different same_column (columns_in p.atoms))) limits.Attrs _ soft.1 in
-    let near = not_passed (list_any is_far (integers_of (CreateQuery p.name s))) limits.Value _ d.1 in
-    ap (λ w. CreateQuery w (record { distinct = p.distinct; select = record { items = take 8 (map kept_column p.select) }; from = record { items = take 4 (map kept p.from) }; atoms = record { items = take 16 (map kept_atom p.atoms) } })) (kept_name p.name h.1.1.0)
-    ∙ ap (λ xs. CreateQuery p.name (record { distinct = p.distinct; select = record { items = xs }; from = record { items = take 4 (map kept p.from) }; atoms = record { items = take 16 (map kept_atom p.atoms) } })) (kept_list kept_column 8 p.select a.0 (columns_kept p.select n.select))
-    ∙ ap (λ xs. CreateQuery p.name (record { distinct = p.distinct; select = record { items = p.select }; from = record { items = xs }; atoms = record { items = take 16 (map kept_atom p.atoms) } })) (kept_list kept 4 p.from b.0 (kept_names p.from n.from))
-    ∙ ap (λ xs. CreateQuery p.name (record { distinct = p.distinct; select = record { items = p.select }; from = record { items = p.from }; atoms = record { items = xs } })) (kept_list kept_atom 16 p.atoms c.0 (atoms_kept p.atoms n.atoms ∙ near_atoms p.atoms (ap (list_any is_far) (sym (numbers_select s)) ∙ near.0)))
+    let near = not_passed (list_any is_far (integers_of (CreateQuery p.name s p.shared))) limits.Value _ d.1 in
+    ap (λ w. CreateQuery w (record { distinct = p.distinct; select = record { items = take 8 (map kept_column p.select) }; from = record { items = take 4 (map kept p.from) }; atoms = record { items = take 16 (map kept_atom p.atoms) } }) p.shared) (kept_name p.name words.0)
+    ∙ ap (λ xs. CreateQuery p.name (record { distinct = p.distinct; select = record { items = xs }; from = record { items = take 4 (map kept p.from) }; atoms = record { items = take 16 (map kept_atom p.atoms) } }) p.shared) (kept_list kept_column 8 p.select a.0 (columns_kept p.select n.select))
+    ∙ ap (λ xs. CreateQuery p.name (record { distinct = p.distinct; select = record { items = p.select }; from = record { items = xs }; atoms = record { items = take 16 (map kept_atom p.atoms) } }) p.shared) (kept_list kept 4 p.from b.0 (kept_names p.from n.from))
+    ∙ ap (λ xs. CreateQuery p.name (record { distinct = p.distinct; select = record { items = p.select }; from = record { items = p.from }; atoms = record { items = xs } }) p.shared) (kept_list kept_atom 16 p.atoms c.0 (atoms_kept p.atoms n.atoms ∙ near_atoms p.atoms (ap (list_any is_far) (sym (numbers_query p.name s p.shared)) ∙ near.0)))
 same_statement forms.Explain p f h e = ap Explain (kept_name p.name h.1.0)
 same_statement forms.Drop p f h e = ap DropQuery (kept_name p.name h.1.1.0)
 

@@ -47,7 +47,8 @@ drafted actions.Nothing w d = d
 drafted actions.BeginExplain w d = record d { form = forms.Explain }
 drafted actions.BeginDrop w d = record d { form = forms.Drop }
 drafted actions.BeginStream w d = record d { form = forms.Stream }
-drafted actions.BeginQuery w d = record d { form = forms.Query }
+drafted actions.BeginQuery w d = record d { form = forms.Query; shared = false }
+drafted actions.BeginShared w d = record d { form = forms.Query; shared = true }
 drafted actions.Named w d = record d { name = kept w }
 drafted actions.BeginColumns w d = record d { columns = no_items }
 drafted actions.ColumnIs w d = record d { column = kept w }
@@ -74,7 +75,7 @@ drafted actions.AddColumnAtom w d = record d { atoms = put 16 (atom_with d (Colu
 -- the statement of a form that a draft is
 abbrev pub statement_by : Form → Draft → Statement
 statement_by forms.Stream d = CreateStream d.name d.columns.list
-statement_by forms.Query d = CreateQuery d.name (record { distinct = d.distinct; select = d.select.list; from = d.from.list; atoms = d.atoms.list })
+statement_by forms.Query d = CreateQuery d.name (record { distinct = d.distinct; select = d.select.list; from = d.from.list; atoms = d.atoms.list }) d.shared
 statement_by forms.Explain d = Explain d.name
 statement_by forms.Drop d = DropQuery d.name
 

@@ -2,7 +2,7 @@
 use Rattle.std.specs.Prelude.{◌≡◌, ℕ, ◌<◌, ◌⊎◌, Bool, true, false, ℤ, List, [], ◌∷◌, ◌++◌, length, Option, Some, None}
 use Rattle.std.specs.List.{AllByRecursion}
 use Rattle.bq_text.specs.declared.key.Key.{Key}
-use Rattle.bq_text.specs.declared.key.Key.TheVariants.{CreateKey, StreamKey, QueryKey, AsKey, SelectKey, DistinctKey, FromKey, WhereKey, AndKey, ExplainKey, DropKey, InKey}
+use Rattle.bq_text.specs.declared.key.Key.TheVariants.{CreateKey, StreamKey, QueryKey, AsKey, SelectKey, DistinctKey, FromKey, WhereKey, AndKey, ExplainKey, DropKey, InKey, SharedKey}
 use Rattle.bq_model.specs.declared.atom.Op.{Op}
 use Rattle.bq_model.specs.declared.atom.Op.TheVariants.{Lt, Eq, Gt, Le, Ge, Ne}
 use Rattle.bq_schema.specs.declared.column.ColumnDef.{ColumnDef}
@@ -88,12 +88,17 @@ select_tokens s =
     key SelectKey ∷ distinct_tokens s.distinct ++ separated comma column_tokens s.select.items
     ++ key FromKey ∷ separated comma name_tokens s.from.items ++ where_tokens s.atoms.items
 
+-- [ SHARED ]
+abbrev pub shared_tokens : Bool → List Lexeme
+shared_tokens true = key SharedKey ∷ []
+shared_tokens false = []
+
 -- The tokens of a statement, without a semicolon:
--- CREATE STREAM name "(" coldef { "," coldef } ")"  |  CREATE QUERY name AS select  |  EXPLAIN name  |  DROP QUERY name
+-- CREATE STREAM name "(" coldef { "," coldef } ")"  |  CREATE [ SHARED ] QUERY name AS select  |  EXPLAIN name  |  DROP QUERY name
 abbrev pub statement_tokens : Statement → List Lexeme
 statement_tokens (CreateStream name columns) =
     key CreateKey ∷ key StreamKey ∷ word name ∷ opening ∷ separated comma coldef_tokens columns.items ++ closing ∷ []
-statement_tokens (CreateQuery name select) = key CreateKey ∷ key QueryKey ∷ word name ∷ key AsKey ∷ select_tokens select
+statement_tokens (CreateQuery name select shared) = key CreateKey ∷ shared_tokens shared ++ key QueryKey ∷ word name ∷ key AsKey ∷ select_tokens select
 statement_tokens (Explain name) = key ExplainKey ∷ word name ∷ []
 statement_tokens (DropQuery name) = key DropKey ∷ key QueryKey ∷ word name ∷ []
 
@@ -109,7 +114,7 @@ HasColumn a = IsColumn a.left ⊎ IsColumn a.right
 -- no list but that of the atoms is empty, and no atom has two integers
 abbrev pub IsWhole : Statement → Type 0
 IsWhole (CreateStream name columns) = 0 < length columns.items
-IsWhole (CreateQuery name select) = (0 < length select.select.items) × (0 < length select.from.items) × AllByRecursion HasColumn select.atoms.items
+IsWhole (CreateQuery name select shared) = (0 < length select.select.items) × (0 < length select.from.items) × AllByRecursion HasColumn select.atoms.items
 IsWhole (Explain name) = Unit {0}
 IsWhole (DropQuery name) = Unit {0}
 

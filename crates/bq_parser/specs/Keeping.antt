@@ -57,6 +57,7 @@ kept_parts p = record {
   columns = keep kept_def 8 p.columns;
   column = kept p.column;
   low = kept_number p.low;
+  shared = p.shared;
   distinct = p.distinct;
   select = keep kept_column 8 p.select;
   from = keep kept 4 p.from;

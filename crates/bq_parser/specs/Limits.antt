@@ -40,17 +40,17 @@ columns_of _ = []
 
 -- the selected columns
 abbrev pub selected_by : Statement → List ColumnAst
-selected_by (CreateQuery name select) = select.select.items
+selected_by (CreateQuery name select shared) = select.select.items
 selected_by _ = []
 
 -- the streams that FROM names
 abbrev pub streams_of : Statement → List (List ℕ)
-streams_of (CreateQuery name select) = select.from.items
+streams_of (CreateQuery name select shared) = select.from.items
 streams_of _ = []
 
 -- the atoms behind WHERE
 abbrev pub atoms_of : Statement → List AtomAst
-atoms_of (CreateQuery name select) = select.atoms.items
+atoms_of (CreateQuery name select shared) = select.atoms.items
 atoms_of _ = []
 
 -- the soft ones among atoms: those with `<=`, `>=` or `<>`

@@ -82,13 +82,17 @@ select_head_text distinct = codes "SELECT" ++ distinct_text distinct
 abbrev pub select_text : SelectAst → List ℕ
 select_text s = select_head_text s.distinct ++ selection_text s
 
+-- what stands before the name of a query, which is shared or not
+abbrev pub create_text : Bool → List ℕ
+create_text shared = if shared then codes "CREATE SHARED QUERY " else codes "CREATE QUERY "
+
 -- what stands before SELECT
-abbrev pub query_head_text : List ℕ → List ℕ
-query_head_text name = codes "CREATE QUERY " ++ (name ++ codes " AS ")
+abbrev pub query_head_text : List ℕ → Bool → List ℕ
+query_head_text name shared = (create_text shared ++ name) ++ codes " AS "
 
 -- CREATE QUERY
-abbrev pub query_text : List ℕ → SelectAst → List ℕ
-query_text name s = query_head_text name ++ select_text s
+abbrev pub query_text : List ℕ → SelectAst → Bool → List ℕ
+query_text name s shared = query_head_text name shared ++ select_text s
 
 -- what stands before the columns of a stream
 abbrev pub stream_head_text : List ℕ → List ℕ

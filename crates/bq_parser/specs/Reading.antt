@@ -27,6 +27,7 @@ pub record Parts : Type 0 where
   pub columns : List ColumnDef
   pub column : List ℕ
   pub low : ℤ
+  pub shared : Bool
   pub distinct : Bool
   pub select : List ColumnAst
   pub from : List (List ℕ)
@@ -37,7 +38,7 @@ pub record Parts : Type 0 where
 
 -- nothing is read
 abbrev pub no_parts : Parts
-no_parts = record { form = forms.Explain; name = []; columns = []; column = []; low = pos 0; distinct = false; select = []; from = []; atoms = []; stream = []; left = Integer (pos 0); op = Lt }
+no_parts = record { form = forms.Explain; name = []; columns = []; column = []; low = pos 0; shared = false; distinct = false; select = []; from = []; atoms = []; stream = []; left = Integer (pos 0); op = Lt }
 
 -- the word that a token is
 abbrev pub text_of : Lexeme → List ℕ
@@ -76,7 +77,8 @@ act actions.Nothing l p = p
 act actions.BeginExplain l p = record p { form = forms.Explain }
 act actions.BeginDrop l p = record p { form = forms.Drop }
 act actions.BeginStream l p = record p { form = forms.Stream }
-act actions.BeginQuery l p = record p { form = forms.Query }
+act actions.BeginQuery l p = record p { form = forms.Query; shared = false }
+act actions.BeginShared l p = record p { form = forms.Query; shared = true }
 act actions.Named l p = record p { name = text_of l }
 act actions.BeginColumns l p = record p { columns = [] }
 act actions.ColumnIs l p = record p { column = text_of l }
@@ -103,7 +105,7 @@ act actions.AddColumnAtom l p = record p { atoms = p.atoms ++ (record { left = p
 -- the statement of a form that the parts are
 abbrev pub built : Form → Parts → Statement
 built forms.Stream p = CreateStream p.name (record { items = p.columns })
-built forms.Query p = CreateQuery p.name (record { distinct = p.distinct; select = record { items = p.select }; from = record { items = p.from }; atoms = record { items = p.atoms } })
+built forms.Query p = CreateQuery p.name (record { distinct = p.distinct; select = record { items = p.select }; from = record { items = p.from }; atoms = record { items = p.atoms } }) p.shared
 built forms.Explain p = Explain p.name
 built forms.Drop p = DropQuery p.name
 

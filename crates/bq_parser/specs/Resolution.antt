@@ -23,8 +23,9 @@ use Rattle.bq_parser.specs.Limits.{limit_of, columns_in}
 -- what stands from SELECT on in a CREATE QUERY statement that passes no limit
 pub record IsTaken (s : SelectAst) : Type 0 where
   pub name : List ℕ
-  pub whole : IsWhole (CreateQuery name s)
-  pub within : limit_of (CreateQuery name s) ≡ None
+  pub shared : Bool
+  pub whole : IsWhole (CreateQuery name s shared)
+  pub within : limit_of (CreateQuery name s shared) ≡ None
 
 -- the columns that are named: those that are selected, and those of the atoms
 abbrev pub named_columns : SelectAst → List ColumnAst

@@ -1,12 +1,12 @@
 -- Where in a statement its next token stands, and what each token there does.
 use Rattle.std.specs.Prelude.{Option, Some, None}
-use Rattle.bq_text.specs.declared.key.Key.TheVariants.{CreateKey, StreamKey, QueryKey, AsKey, SelectKey, DistinctKey, FromKey, WhereKey, AndKey, ExplainKey, DropKey, InKey}
+use Rattle.bq_text.specs.declared.key.Key.TheVariants.{CreateKey, StreamKey, QueryKey, AsKey, SelectKey, DistinctKey, FromKey, WhereKey, AndKey, ExplainKey, DropKey, InKey, SharedKey}
 use Rattle.bq_lexer.specs.declared.token.TokenKind.{TokenKind}
 use Rattle.bq_lexer.specs.declared.token.TokenKind.TheVariants.{Word, Reserved, Integer, Comma, Point, Open, Close, Less, Equal, Greater, LessEqual, GreaterEqual, Unequal, Semi}
 use Rattle.bq_parser.specs.declared.places.Place.{Place}
-use Rattle.bq_parser.specs.declared.places.Place.TheVariants.{Start, AfterCreate, StreamName, OpenColumns, ColumnName, AfterColumn, DomainLow, FirstPoint, SecondPoint, DomainHigh, AfterDomain, QueryName, QueryAs, QuerySelect, FirstSelected, SelectedStream, SelectedPoint, SelectedColumn, AfterSelected, FromName, AfterFrom, AtomLeft, LeftPoint, LeftColumn, ColumnOp, RightAny, IntegerOp, RightStream, RightPoint, RightColumn, AfterAtom, ExplainName, AfterDrop, DropName, Complete, Ended}
+use Rattle.bq_parser.specs.declared.places.Place.TheVariants.{Start, AfterCreate, AfterShared, StreamName, OpenColumns, ColumnName, AfterColumn, DomainLow, FirstPoint, SecondPoint, DomainHigh, AfterDomain, QueryName, QueryAs, QuerySelect, FirstSelected, SelectedStream, SelectedPoint, SelectedColumn, AfterSelected, FromName, AfterFrom, AtomLeft, LeftPoint, LeftColumn, ColumnOp, RightAny, IntegerOp, RightStream, RightPoint, RightColumn, AfterAtom, ExplainName, AfterDrop, DropName, Complete, Ended}
 use Rattle.bq_parser.specs.declared.places.Action.{Action}
-use Rattle.bq_parser.specs.declared.places.Action.TheVariants.{Nothing, BeginExplain, BeginDrop, BeginStream, BeginQuery, Named, BeginColumns, ColumnIs, AddColumn, LowIs, AddBounded, BeginSelect, SetDistinct, StreamIs, AddSelected, BeginFrom, AddFrom, LeftInteger, LeftColumnIs, OpLess, OpEqual, OpGreater, OpLessEqual, OpGreaterEqual, OpUnequal, AddIntegerAtom, AddColumnAtom}
+use Rattle.bq_parser.specs.declared.places.Action.TheVariants.{Nothing, BeginExplain, BeginDrop, BeginStream, BeginQuery, BeginShared, Named, BeginColumns, ColumnIs, AddColumn, LowIs, AddBounded, BeginSelect, SetDistinct, StreamIs, AddSelected, BeginFrom, AddFrom, LeftInteger, LeftColumnIs, OpLess, OpEqual, OpGreater, OpLessEqual, OpGreaterEqual, OpUnequal, AddIntegerAtom, AddColumnAtom}
 
 -- the place behind a token of this kind, and what the token adds; nothing, where no statement goes on so
 abbrev pub step : Place → TokenKind → Option (Place × Action)
@@ -15,6 +15,8 @@ step Start (Reserved ExplainKey) = Some (ExplainName, BeginExplain)
 step Start (Reserved DropKey) = Some (AfterDrop, BeginDrop)
 step AfterCreate (Reserved StreamKey) = Some (StreamName, BeginStream)
 step AfterCreate (Reserved QueryKey) = Some (QueryName, BeginQuery)
+step AfterCreate (Reserved SharedKey) = Some (AfterShared, Nothing)
+step AfterShared (Reserved QueryKey) = Some (QueryName, BeginShared)
 step StreamName Word = Some (OpenColumns, Named)
 step OpenColumns Open = Some (ColumnName, BeginColumns)
 step ColumnName Word = Some (AfterColumn, ColumnIs)

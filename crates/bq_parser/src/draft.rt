@@ -7,6 +7,7 @@ ghost use Rattle.std.specs.Prelude.{◌≡◌, ◌∷◌, []};
 ghost use Rattle.bq_text.specs.Value.{value_of};
 ghost use Rattle.bq_parser.specs.Reading.{no_parts};
 ghost use Rattle.bq_parser.specs.Keeping.{kept_parts};
+ghost use Rattle.bq_parser.specs.declared.draft.Form.TheVariants as forms;
 ghost use Rattle.bq_parser.specs.DraftSteps.{drafted, no_items, put, kept, or_far, statement_of, column_with, atom_with};
 
 use crate::places::Action;
@@ -40,6 +41,7 @@ pub struct Draft {
     pub columns: Kept<ColumnDef, 8>,
     pub column: Name,
     pub low: i64,
+    pub shared: bool,
     pub distinct: bool,
     pub select: Kept<ColumnAst, 8>,
     pub from: Kept<Name, 4>,
@@ -113,7 +115,8 @@ impl Draft {
             Action::BeginExplain => self.form = Form::Explain,
             Action::BeginDrop => self.form = Form::Drop,
             Action::BeginStream => self.form = Form::Stream,
-            Action::BeginQuery => self.form = Form::Query,
+            Action::BeginQuery => self.begin_query(false),
+            Action::BeginShared => self.begin_query(true),
             Action::Named => self.name = kept_name(text),
             Action::BeginColumns => {
                 self.columns = Kept::none();
@@ -156,6 +159,14 @@ impl Draft {
         }
     }
 
+    // Begins a query that is shared, or one that is not.
+    fn begin_query(&mut self, shared: bool)
+        ensures { self.new ≡ record self.old { form = forms.Query; shared = shared } }
+    {
+        self.form = Form::Query;
+        self.shared = shared;
+    }
+
     // Adds the column that was named last, with this domain.
     fn put_column(&mut self, domain: Option<(i64, i64)>)
         ensures { self.new ≡ record self.old { columns = put 8 (record { name = self.old.column; domain = domain }) self.old.columns } }
@@ -185,7 +196,7 @@ impl Draft {
         }
     }
 
-    /// The statement, once it is whole and within its limits.
+    /// Returns the statement, once it is whole and within its limits.
     pub fn finish(self) -> Statement
         ensures { result ≡ statement_of self }
     {
@@ -202,6 +213,7 @@ impl Draft {
                     from: self.from.list,
                     atoms: self.atoms.list,
                 },
+                shared: self.shared,
             },
             Form::Explain => Statement::Explain { name: self.name },
             Form::Drop => Statement::DropQuery { name: self.name },
@@ -209,7 +221,7 @@ impl Draft {
     }
 }
 
-/// Nothing is read.
+/// Begins where nothing is read.
 #[tactic(auto, unfolding(bq_text::specs::Name::is_name, bq_text::specs::Key::key_of))]
 pub fn start() -> Draft
     ensures { result ≡ kept_parts no_parts }
@@ -220,6 +232,7 @@ pub fn start() -> Draft
         columns: Kept::none(),
         column: underscore(),
         low: 0,
+        shared: false,
         distinct: false,
         select: Kept::none(),
         from: Kept::none(),

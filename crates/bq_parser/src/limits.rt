@@ -139,7 +139,7 @@ fn put_integer(integers: &mut ArrayVec<i64, 32>, operand: OperandAst)
     }
 }
 
-/// The columns that atoms name.
+/// Returns the columns that atoms name.
 pub fn columns_named(atoms: &[AtomAst]) -> ArrayVec<ColumnAst, 32>
     requires { length atoms.now ≤ 16 }
     ensures { result.items ≡ columns_in atoms.now }
@@ -263,7 +263,7 @@ fn lists_limit(draft: &Draft) -> Option<What>
     }
 }
 
-/// The first limit that a statement passes, by its tokens and what is kept of it.
+/// Returns the first limit that a statement passes, by its tokens and what is kept of it.
 pub fn limit_passed(tokens: &[Token], draft: &Draft) -> Option<What>
     ensures { result ≡ limit_in tokens.now draft.now }
 {

@@ -58,7 +58,7 @@ fn kind_of(bytes: &[u8]) -> LineKind
     }
 }
 
-/// The kind of a line, and what is left of it without one CR at its end and then without blanks at both ends. What is left of
+/// Returns the kind of a line, and what is left of it without one CR at its end and then without blanks at both ends. What is left of
 /// a row line is one as `Catalog::read_row` reads it.
 pub fn classify(line: &[u8]) -> (LineKind, &[u8])
     ensures stripped { result.1.now ≡ lines.stripped line.now }

@@ -28,7 +28,7 @@ fn streams_named(from: &[u8], catalog: &Catalog) -> ArrayVec<Name, 4>
     streams
 }
 
-/// A column of a query by its names, where the catalog has the streams of FROM, given by their numbers, and the column.
+/// Returns a column of a query by its names, where the catalog has the streams of FROM, given by their numbers, and the column.
 pub fn column_named(attr: Attr, from: &[u8], catalog: &Catalog) -> ColumnAst
     requires from { All (λ n. n < length catalog.now) from.now }
     requires column { IsColumnOf catalog.now from.now attr }

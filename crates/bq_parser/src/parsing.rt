@@ -48,7 +48,7 @@ fn is_end(place: Place) -> bool
     )
 }
 
-/// The statement that a line is.
+/// Returns the statement that a line is.
 pub fn parse(line: &[u8]) -> Result<Statement, ParseError>
     requires { length line.now ≤ 1024 }
     ensures { MatchResult result (λ s. IsStatement line.now s × (limit_of s ≡ None)) (λ e. IsRefusal line.now e) }

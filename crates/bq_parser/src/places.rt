@@ -10,6 +10,7 @@ use bq_text::Key;
 pub enum Place {
     Start,
     AfterCreate,
+    AfterShared,
     StreamName,
     OpenColumns,
     ColumnName,
@@ -54,6 +55,7 @@ pub enum Action {
     BeginDrop,
     BeginStream,
     BeginQuery,
+    BeginShared,
     Named,
     BeginColumns,
     ColumnIs,
@@ -78,7 +80,7 @@ pub enum Action {
     AddColumnAtom,
 }
 
-/// What a token of a kind does at a place, or `None` where it begins no statement.
+/// Returns what a token of a kind does at a place, or `None` where it begins no statement.
 pub fn next(place: Place, kind: TokenKind) -> Option<(Place, Action)>
     ensures { result ≡ step place kind }
 {
@@ -95,6 +97,11 @@ pub fn next(place: Place, kind: TokenKind) -> Option<(Place, Action)>
         Place::AfterCreate => match kind {
             TokenKind::Reserved(Key::StreamKey) => Some((Place::StreamName, Action::BeginStream)),
             TokenKind::Reserved(Key::QueryKey) => Some((Place::QueryName, Action::BeginQuery)),
+            TokenKind::Reserved(Key::SharedKey) => Some((Place::AfterShared, Action::Nothing)),
+            _ => None,
+        },
+        Place::AfterShared => match kind {
+            TokenKind::Reserved(Key::QueryKey) => Some((Place::QueryName, Action::BeginShared)),
             _ => None,
         },
         Place::StreamName => match kind {

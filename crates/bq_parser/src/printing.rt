@@ -200,19 +200,37 @@ pub fn put_select<O: Sink>(out: &mut O, select: &SelectAst) -> Result<(), WriteF
     }
 }
 
-// What stands before SELECT.
-fn put_query_head<O: Sink>(out: &mut O, name: &Name) -> Result<(), WriteFault>
-    ensures { Writes result (O.seen out.old) (O.seen out.new) (parts.query_head_text name.now) }
+// What stands before the name of a query, which is shared or not.
+fn create_text(shared: bool) -> &'static [u8]
+    ensures { result.now ≡ parts.create_text shared }
 {
-    let pieces: [&[u8]; 3] = [b"CREATE QUERY ", name.bytes(), b" AS "];
-    write_pieces(out, &pieces)
+    if shared {
+        b"CREATE SHARED QUERY "
+    } else {
+        b"CREATE QUERY "
+    }
+}
+
+// What stands before SELECT.
+fn put_query_head<O: Sink>(out: &mut O, name: &Name, shared: bool) -> Result<(), WriteFault>
+    ensures { Writes result (O.seen out.old) (O.seen out.new) (parts.query_head_text name.now shared) }
+{
+    match put_name(out, create_text(shared), name) {
+        Ok(()) => write_all(out, b" AS "),
+        Err(fault) => Err(fault),
+    }
 }
 
 // CREATE QUERY.
-fn put_query<O: Sink>(out: &mut O, name: &Name, select: &SelectAst) -> Result<(), WriteFault>
-    ensures { Writes result (O.seen out.old) (O.seen out.new) (parts.query_text name.now select.now) }
+fn put_query<O: Sink>(
+    out: &mut O,
+    name: &Name,
+    select: &SelectAst,
+    shared: bool,
+) -> Result<(), WriteFault>
+    ensures { Writes result (O.seen out.old) (O.seen out.new) (parts.query_text name.now select.now shared) }
 {
-    match put_query_head(out, name) {
+    match put_query_head(out, name, shared) {
         Ok(()) => put_select(out, select),
         Err(fault) => Err(fault),
     }
@@ -308,7 +326,11 @@ pub fn print<O: Sink>(statement: &Statement, out: &mut O) -> Result<(), WriteFau
 {
     match statement {
         Statement::CreateStream { name, columns } => put_stream(out, name, columns.as_slice()),
-        Statement::CreateQuery { name, select } => put_query(out, name, select),
+        Statement::CreateQuery {
+            name,
+            select,
+            shared,
+        } => put_query(out, name, select, *shared),
         Statement::Explain { name } => put_name(out, b"EXPLAIN ", name),
         Statement::DropQuery { name } => put_name(out, b"DROP QUERY ", name),
     }

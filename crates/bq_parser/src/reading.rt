@@ -20,7 +20,7 @@ fn text_at<'a>(line: &'a [u8], token: &Token) -> &'a [u8]
     &line[token.from as usize..token.to as usize]
 }
 
-/// The place behind the tokens and what is kept of them, or where the first token stands that begins no statement.
+/// Returns the place behind the tokens and what is kept of them, or where the first token stands that begins no statement.
 pub fn read_parts(line: &[u8], tokens: &[Token]) -> Result<(Place, Draft), u16>
     requires { All (IsCut line.now) tokens.now }
     ensures { MatchResult result (λ found. IsRead line.now tokens.now found.0 found.1) (λ at. place_after Start tokens.now ≡ Err at) }

@@ -208,7 +208,7 @@ fn query_for(select: &SelectAst, catalog: &Catalog) -> Query
     )
 }
 
-/// The query over the streams of a catalog that is asked for, or the first of `ResolveError` that applies. Its streams and
+/// Returns the query over the streams of a catalog that is asked for, or the first of `ResolveError` that applies. Its streams and
 /// columns are those of the catalog.
 #[tactic(auto, unfolding(crate::specs::Resolution::resolved))]
 pub fn resolve(select: &SelectAst, catalog: &Catalog) -> Result<Query, ResolveError>

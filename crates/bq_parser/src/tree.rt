@@ -42,7 +42,7 @@ pub struct SelectAst {
     pub atoms: ArrayVec<AtomAst, 16>,
 }
 
-/// A statement.
+/// A statement; a query is shared where its parts keep their equal boxes of cells once.
 #[derive(Drop)]
 pub enum Statement {
     CreateStream {
@@ -52,6 +52,7 @@ pub enum Statement {
     CreateQuery {
         name: Name,
         select: SelectAst,
+        shared: bool,
     },
     Explain {
         name: Name,

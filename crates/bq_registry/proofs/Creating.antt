@@ -1,5 +1,5 @@
 -- What CREATE QUERY does.
-use Rattle.std.proofs.Common.{◌≡◌, ℕ, ◌≤◌, List, [], ◌∷◌, ◌++◌, sym, ap, subst, arith, IsFalse, Ok, Err, All, length}
+use Rattle.std.proofs.Common.{◌≡◌, ℕ, Bool, ◌≤◌, List, [], ◌∷◌, ◌++◌, sym, ap, subst, arith, IsFalse, Ok, Err, All, length}
 use Rattle.std.specs.declared.result.Result.{Result}
 use Rattle.bq_model.specs.declared.plan.Plan.{Plan}
 use Rattle.bq_model.specs.declared.decision.Which.TheVariants.{Parts}
@@ -24,54 +24,54 @@ use Rattle.bq_registry.proofs.Whole.{beside_stands, added_stands, added_all}
 abbrev pub registry_of : PoolValue → List Live → RegistryValue
 registry_of pool live = record { pool = pool; live = live }
 
-pub tells : (result : Result Verdict CreateError) (name : List ℕ) (q : QueryValue) (plan : Plan) (pool : PoolValue) (live : List Live) (later : PoolValue) (after : List Live)
-    → IsAccepted q plan → (IsFalse (is_filter q) → ¬ HasMoreParts q (most Parts)) → Admits result name q plan pool live later after
-    → TellsVerdict q pool.free result × CarriesWhy q pool.free result
-tells (Ok verdict) name q plan pool live later after a few m = (subst (λ (v : Verdict). TellsVerdict q pool.free (Ok v)) (sym m.0) (tells_accepted q plan pool.free a few m.1), tt)
-tells (Err (refusals.Violation p c t)) name q plan pool live later after a few m = absurd m
-tells (Err (refusals.Limit which value l)) name q plan pool live later after a few m = absurd m
-tells (Err (refusals.Pool needed free)) name q plan pool live later after a few m = (tells_pool q plan pool.free needed a few m.0 m.2, (m.2, m.1, (plan, a, m.0)))
-tells (Err refusals.Memory) name q plan pool live later after a few m = (tt, tt)
+pub tells : (result : Result Verdict CreateError) (name : List ℕ) (q : QueryValue) (shared : Bool) (plan : Plan) (pool : PoolValue) (live : List Live) (later : PoolValue) (after : List Live)
+    → IsAccepted shared q plan → (IsFalse (is_filter q) → ¬ HasMoreParts q (most Parts)) → Admits result name q shared plan pool live later after
+    → TellsVerdict shared q pool.free result × CarriesWhy shared q pool.free result
+tells (Ok verdict) name q shared plan pool live later after a few m = (subst (λ (v : Verdict). TellsVerdict shared q pool.free (Ok v)) (sym m.0) (tells_accepted shared q plan pool.free a few m.1), tt)
+tells (Err (refusals.Violation p c t)) name q shared plan pool live later after a few m = absurd m
+tells (Err (refusals.Limit which value l)) name q shared plan pool live later after a few m = absurd m
+tells (Err (refusals.Pool needed free)) name q shared plan pool live later after a few m = (tells_pool shared q plan pool.free needed a few m.0 m.2, (m.2, m.1, (plan, a, m.0)))
+tells (Err refusals.Memory) name q shared plan pool live later after a few m = (tt, tt)
 
-pub creates : (result : Result Verdict CreateError) (name : List ℕ) (q : QueryValue) (plan : Plan) (pool : PoolValue) (live : List Live) (later : PoolValue) (after : List Live)
-    → IsAccepted q plan → Admits result name q plan pool live later after
-    → Creates (registry_of pool live) name q result (registry_of later after)
-creates (Ok verdict) name q plan pool live later after a m =
+pub creates : (result : Result Verdict CreateError) (name : List ℕ) (q : QueryValue) (shared : Bool) (plan : Plan) (pool : PoolValue) (live : List Live) (later : PoolValue) (after : List Live)
+    → IsAccepted shared q plan → Admits result name q shared plan pool live later after
+    → Creates (registry_of pool live) name q shared result (registry_of later after)
+creates (Ok verdict) name q shared plan pool live later after a m =
     let last = m.4.1 in
     let l : Live = last.live in
     record {
       plan = plan;
       accepted = a;
       told = m.0;
-      stands = λ queries all. subst (λ (x : List Live). AreLiveFor later x (queries ++ newly name q plan ∷ [])) (sym last.last)
-          (added_stands pool later live queries name q plan m.4.0 l m.3 all last.new);
+      stands = λ queries all. subst (λ (x : List Live). AreLiveFor later x (queries ++ newly name q shared plan ∷ [])) (sym last.last)
+          (added_stands pool later live queries name q shared plan m.4.0 l m.3 all last.new);
       quiet = λ quiet. subst (λ (x : List Live). All (λ (y : Live). waiting_in y.executor ≡ []) x) (sym last.last) (added_all (λ (y : Live). waiting_in y.executor ≡ []) live l quiet last.new.none);
       given = λ n given. subst (λ (x : List Live). All (λ (y : Live). y.executor.given ≤ n) x) (sym last.last) (added_all (λ (y : Live). y.executor.given ≤ n) live l given (omega (arith, last.new.given)));
       last = l;
       list = last.last;
       asked = last.new.asked;
     }
-creates (Err (refusals.Violation p c t)) name q plan pool live later after a m = absurd m
-creates (Err (refusals.Limit which value l)) name q plan pool live later after a m = absurd m
-creates (Err (refusals.Pool needed free)) name q plan pool live later after a m = record {
+creates (Err (refusals.Violation p c t)) name q shared plan pool live later after a m = absurd m
+creates (Err (refusals.Limit which value l)) name q shared plan pool live later after a m = absurd m
+creates (Err (refusals.Pool needed free)) name q shared plan pool live later after a m = record {
   live = m.4;
   free = ap (λ (p : PoolValue). p.free) m.3;
   stands = λ queries all. subst (λ (p : PoolValue). AreLiveFor p after queries) (sym m.3) (subst (λ (x : List Live). AreLiveFor pool x queries) (sym m.4) all);
 }
-creates (Err refusals.Memory) name q plan pool live later after a m = record {
+creates (Err refusals.Memory) name q shared plan pool live later after a m = record {
   live = m.3;
   free = m.2;
   stands = λ queries all. subst (λ (x : List Live). AreLiveFor later x queries) (sym m.3) (beside_stands pool later live queries m.1 all);
 }
 
 -- what is true of the live queries is true then, and of no further one an answer waits
-pub keeps : (result : Result Verdict CreateError) (name : List ℕ) (q : QueryValue) (plan : Plan) (pool : PoolValue) (live : List Live) (later : PoolValue) (after : List Live)
-    → (p : Places) → IsSound pool live → AreQuiet (length live) p live → Admits result name q plan pool live later after → IsSound later after × AreQuiet (length after) p after
-keeps (Ok verdict) name q plan pool live later after p sound quiet m =
+pub keeps : (result : Result Verdict CreateError) (name : List ℕ) (q : QueryValue) (shared : Bool) (plan : Plan) (pool : PoolValue) (live : List Live) (later : PoolValue) (after : List Live)
+    → (p : Places) → IsSound pool live → AreQuiet (length live) p live → Admits result name q shared plan pool live later after → IsSound later after × AreQuiet (length after) p after
+keeps (Ok verdict) name q shared plan pool live later after p sound quiet m =
     let last = m.4.1 in
     (m.2, subst (λ (xs : List Live). AreQuiet (length xs) p xs) (sym last.last) (quiet_last p live last.live quiet last.new.none))
-keeps (Err (refusals.Violation p c t)) name q plan pool live later after places sound quiet m = absurd m
-keeps (Err (refusals.Limit which value l)) name q plan pool live later after p sound quiet m = absurd m
-keeps (Err (refusals.Pool needed free)) name q plan pool live later after p sound quiet m =
+keeps (Err (refusals.Violation p c t)) name q shared plan pool live later after places sound quiet m = absurd m
+keeps (Err (refusals.Limit which value l)) name q shared plan pool live later after p sound quiet m = absurd m
+keeps (Err (refusals.Pool needed free)) name q shared plan pool live later after p sound quiet m =
     (subst (λ (x : PoolValue). IsSound x after) (sym m.3) (subst (λ (xs : List Live). IsSound pool xs) (sym m.4) sound), subst (λ (xs : List Live). AreQuiet (length xs) p xs) (sym m.4) quiet)
-keeps (Err refusals.Memory) name q plan pool live later after p sound quiet m = (m.0, subst (λ (xs : List Live). AreQuiet (length xs) p xs) (sym m.3) quiet)
+keeps (Err refusals.Memory) name q shared plan pool live later after p sound quiet m = (m.0, subst (λ (xs : List Live). AreQuiet (length xs) p xs) (sym m.3) quiet)

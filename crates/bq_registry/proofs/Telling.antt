@@ -7,7 +7,8 @@ use Rattle.bq_model.specs.declared.plan.Plan.TheVariants as plans
 use Rattle.bq_model.specs.declared.plan.Numbers.{Numbers}
 use Rattle.bq_model.specs.Query.{QueryValue, is_filter}
 use Rattle.bq_model.specs.Parts.{HasMoreParts}
-use Rattle.bq_model.specs.Numbers.{numbers_of, page_count, pages_of}
+use Rattle.bq_model.specs.Numbers.{page_count, pages_of}
+use Rattle.bq_model.specs.Sharing.{numbers_for}
 use Rattle.bq_model.specs.Verdict.{most, first_above, verdict_after, verdict_by, IsVerdict, of_filter, of_many_parts, of_violation, of_plan}
 use Rattle.bq_model.specs.Verdict as model
 use Rattle.bq_model.specs.declared.decision.Which.TheVariants.{Parts}
@@ -27,26 +28,26 @@ no_room_for n free h = grind (arith, nat_tests)
 decides : (numbers : Numbers) (free : ℕ) (b : Bool) → first_above numbers ≡ None → nat_lt free (page_count numbers.cells) ≡ b → verdict_by numbers free ≡ cond b model.pool (model.accepted numbers)
 decides numbers free b e p = ap (λ w. verdict_after w numbers free) e ∙ ap (λ c. cond c model.pool (model.accepted numbers)) p
 
-pub tells_accepted : (q : QueryValue) (plan : Plan) (free : ℕ) → IsAccepted q plan → (IsFalse (is_filter q) → ¬ HasMoreParts q (most Parts)) → pages_of plan ≤ free → TellsVerdict q free (Ok (verdict_of plan))
-tells_accepted q plans.Filter free a few room = of_filter a.plan refl
-tells_accepted q (plans.Parts ps numbers) free a few room =
-    let e : numbers ≡ numbers_of q ps = a.plan.2 in
+pub tells_accepted : (shared : Bool) (q : QueryValue) (plan : Plan) (free : ℕ) → IsAccepted shared q plan → (IsFalse (is_filter q) → ¬ HasMoreParts q (most Parts)) → pages_of plan ≤ free → TellsVerdict shared q free (Ok (verdict_of plan))
+tells_accepted shared q plans.Filter free a few room = of_filter a.plan refl
+tells_accepted shared q (plans.Parts ps numbers) free a few room =
+    let e : numbers ≡ numbers_for shared q ps = a.plan.2 in
     let v : verdict_by numbers free ≡ model.accepted numbers = decides numbers free false a.within (room_for (page_count numbers.cells) free room) in
     of_plan a.plan.0 (few a.plan.0) a.violation ps a.plan.1 (sym v ∙ ap (λ n. verdict_by n free) e)
 
-pub tells_pool : (q : QueryValue) (plan : Plan) (free needed : ℕ) → IsAccepted q plan → (IsFalse (is_filter q) → ¬ HasMoreParts q (most Parts)) → needed ≡ pages_of plan → free < needed → IsVerdict q free model.pool
-tells_pool q plans.Filter free needed a few e short = absurd (omega (arith, e, short))
-tells_pool q (plans.Parts ps numbers) free needed a few e short =
+pub tells_pool : (shared : Bool) (q : QueryValue) (plan : Plan) (free needed : ℕ) → IsAccepted shared q plan → (IsFalse (is_filter q) → ¬ HasMoreParts q (most Parts)) → needed ≡ pages_of plan → free < needed → IsVerdict shared q free model.pool
+tells_pool shared q plans.Filter free needed a few e short = absurd (omega (arith, e, short))
+tells_pool shared q (plans.Parts ps numbers) free needed a few e short =
     let v : verdict_by numbers free ≡ model.pool = decides numbers free true a.within (no_room_for (page_count numbers.cells) free (omega (arith, e, short))) in
     of_plan a.plan.0 (few a.plan.0) a.violation ps a.plan.1 (sym v ∙ ap (λ n. verdict_by n free) a.plan.2)
 
-pub tells_limit : (q : QueryValue) (which : Which) (value free : ℕ) → IsTooLarge q which value → IsVerdict q free (model.limit which)
-tells_limit q which value free (many f m e v) = of_many_parts f m (ap (λ w. model.limit w) e)
-tells_limit q which value free (large n v o) =
-    of_plan o.plain n v o.parts o.plan (sym (ap (λ w. verdict_after w (numbers_of q o.parts) free) o.first))
+pub tells_limit : (shared : Bool) (q : QueryValue) (which : Which) (value free : ℕ) → IsTooLarge shared q which value → IsVerdict shared q free (model.limit which)
+tells_limit shared q which value free (many f m e v) = of_many_parts f m (ap (λ w. model.limit w) e)
+tells_limit shared q which value free (large n v o) =
+    of_plan o.plain n v o.parts o.plan (sym (ap (λ w. verdict_after w (numbers_for shared q o.parts) free) o.first))
 
-pub tells_refusal : (q : QueryValue) (free : ℕ) (why : CreateError) → IsJudged q (Err why) → TellsVerdict q free (Err why) × CarriesWhy q free (Err why)
-tells_refusal q free (refusals.Violation p c a) j = (of_violation j.0 j.1 (record { part = p; condition = c; attr = a }) j.2 refl, j.2)
-tells_refusal q free (refusals.Limit which value m) j = (tells_limit q which value free j.0, j)
-tells_refusal q free (refusals.Pool needed f) j = absurd j
-tells_refusal q free refusals.Memory j = (tt, tt)
+pub tells_refusal : (shared : Bool) (q : QueryValue) (free : ℕ) (why : CreateError) → IsJudged shared q (Err why) → TellsVerdict shared q free (Err why) × CarriesWhy shared q free (Err why)
+tells_refusal shared q free (refusals.Violation p c a) j = (of_violation j.0 j.1 (record { part = p; condition = c; attr = a }) j.2 refl, j.2)
+tells_refusal shared q free (refusals.Limit which value m) j = (tells_limit shared q which value free j.0, j)
+tells_refusal shared q free (refusals.Pool needed f) j = absurd j
+tells_refusal shared q free refusals.Memory j = (tt, tt)

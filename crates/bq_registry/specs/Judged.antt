@@ -1,5 +1,5 @@
 -- What CREATE QUERY comes to.
-use Rattle.std.specs.Prelude.{◌≡◌, ℕ, ◌<◌, List, [], ◌∷◌, ◌++◌, IsFalse, IfSome, ⊤}
+use Rattle.std.specs.Prelude.{◌≡◌, ℕ, Bool, ◌<◌, List, [], ◌∷◌, ◌++◌, IsFalse, IfSome, ⊤}
 use Rattle.std.specs.declared.option.Option.{Option}
 use Rattle.std.specs.declared.option.Option.TheVariants.{None, Some}
 use Rattle.std.specs.declared.result.Result.{Result}
@@ -24,18 +24,18 @@ use Rattle.bq_registry.specs.Live.{Live, LiveQuery, newly}
 use Rattle.bq_registry.specs.Registry.{RegistryValue, StandsFor, IsQuiet, GivenUpto}
 
 -- a number of the query that is above its limit: there are too many parts, or else it is the first that its plan has
-pub data IsTooLarge (q : QueryValue) (which : Which) (value : ℕ) : Type 0 where
-  many : IsFalse (is_filter q) → HasMoreParts q (most Parts) → which ≡ Parts → value ≡ 4097 → IsTooLarge q which value
-  large : ¬ HasMoreParts q (most Parts) → IsViolation q None → IsOver q which value → IsTooLarge q which value
+pub data IsTooLarge (shared : Bool) (q : QueryValue) (which : Which) (value : ℕ) : Type 0 where
+  many : IsFalse (is_filter q) → HasMoreParts q (most Parts) → which ≡ Parts → value ≡ 4097 → IsTooLarge shared q which value
+  large : ¬ HasMoreParts q (most Parts) → IsViolation q None → IsOver shared q which value → IsTooLarge shared q which value
 
 -- the plan of a query that is accepted if its pages are free; or why it is refused, whatever pages are free
-abbrev pub IsJudged : QueryValue → Result Plan CreateError → Type 0
-IsJudged q (Ok plan) = IsAccepted q plan × (IsFalse (is_filter q) → ¬ HasMoreParts q (most Parts))
-IsJudged q (Err (refusals.Limit which value limit)) = IsTooLarge q which value × (limit ≡ most which)
-IsJudged q (Err (refusals.Violation part condition attr)) =
+abbrev pub IsJudged : Bool → QueryValue → Result Plan CreateError → Type 0
+IsJudged shared q (Ok plan) = IsAccepted shared q plan × (IsFalse (is_filter q) → ¬ HasMoreParts q (most Parts))
+IsJudged shared q (Err (refusals.Limit which value limit)) = IsTooLarge shared q which value × (limit ≡ most which)
+IsJudged shared q (Err (refusals.Violation part condition attr)) =
     IsFalse (is_filter q) × (¬ HasMoreParts q (most Parts)) × IsViolation q (Some record { part = part; condition = condition; attr = attr })
-IsJudged q (Err (refusals.Pool needed free)) = ⊥
-IsJudged q (Err refusals.Memory) = ⊤
+IsJudged shared q (Err (refusals.Pool needed free)) = ⊥
+IsJudged shared q (Err refusals.Memory) = ⊤
 
 -- how a query with this plan runs
 abbrev pub verdict_of : Plan → Verdict
@@ -52,27 +52,27 @@ told (Err (refusals.Pool needed free)) = Some model.pool
 told (Err refusals.Memory) = None
 
 -- what an answer tells is the verdict
-abbrev pub TellsVerdict : QueryValue → ℕ → Result Verdict CreateError → Type 0
-TellsVerdict q free result = IfSome (told result) (IsVerdict q free)
+abbrev pub TellsVerdict : Bool → QueryValue → ℕ → Result Verdict CreateError → Type 0
+TellsVerdict shared q free result = IfSome (told result) (IsVerdict shared q free)
 
 -- so many pages are needed by the plan of a query that meets all conditions
-abbrev pub NeedsPages : QueryValue → ℕ → Type 0
-NeedsPages q needed = (plan : Plan) × IsAccepted q plan × (needed ≡ pages_of plan)
+abbrev pub NeedsPages : Bool → QueryValue → ℕ → Type 0
+NeedsPages shared q needed = (plan : Plan) × IsAccepted shared q plan × (needed ≡ pages_of plan)
 
 -- what a refusal carries: the violation; the number that is too large and its limit; how many pages are needed and how many are free
-abbrev pub CarriesWhy : QueryValue → ℕ → Result Verdict CreateError → Type 0
-CarriesWhy q available (Ok verdict) = ⊤
-CarriesWhy q available (Err (refusals.Violation part condition attr)) = IsViolation q (Some record { part = part; condition = condition; attr = attr })
-CarriesWhy q available (Err (refusals.Limit which value limit)) = IsTooLarge q which value × (limit ≡ most which)
-CarriesWhy q available (Err (refusals.Pool needed free)) = (available < needed) × (free ≡ available) × NeedsPages q needed
-CarriesWhy q available (Err refusals.Memory) = ⊤
+abbrev pub CarriesWhy : Bool → QueryValue → ℕ → Result Verdict CreateError → Type 0
+CarriesWhy shared q available (Ok verdict) = ⊤
+CarriesWhy shared q available (Err (refusals.Violation part condition attr)) = IsViolation q (Some record { part = part; condition = condition; attr = attr })
+CarriesWhy shared q available (Err (refusals.Limit which value limit)) = IsTooLarge shared q which value × (limit ≡ most which)
+CarriesWhy shared q available (Err (refusals.Pool needed free)) = (available < needed) × (free ≡ available) × NeedsPages shared q needed
+CarriesWhy shared q available (Err refusals.Memory) = ⊤
 
 -- the query is live, the last in order of creation, with its plan and no history; the other live queries are as before
-pub record Registered (old : RegistryValue) (name : List ℕ) (q : QueryValue) (verdict : Verdict) (new : RegistryValue) : Type 0 where
+pub record Registered (old : RegistryValue) (name : List ℕ) (q : QueryValue) (shared : Bool) (verdict : Verdict) (new : RegistryValue) : Type 0 where
   pub plan : Plan
-  pub accepted : IsAccepted q plan
+  pub accepted : IsAccepted shared q plan
   pub told : verdict ≡ verdict_of plan
-  pub stands : (queries : List LiveQuery) → StandsFor old queries → StandsFor new (queries ++ newly name q plan ∷ [])
+  pub stands : (queries : List LiveQuery) → StandsFor old queries → StandsFor new (queries ++ newly name q shared plan ∷ [])
   pub quiet : IsQuiet old → IsQuiet new
   pub given : (n : ℕ) → GivenUpto n old → GivenUpto n new
   pub last : Live
@@ -86,6 +86,6 @@ pub record IsUnchanged (old new : RegistryValue) : Type 0 where
   pub stands : (queries : List LiveQuery) → StandsFor old queries → StandsFor new queries
 
 -- What `create` does: a query that is accepted is live, and on a refusal all is as before.
-abbrev pub Creates : RegistryValue → List ℕ → QueryValue → Result Verdict CreateError → RegistryValue → Type 0
-Creates old name q (Ok verdict) new = Registered old name q verdict new
-Creates old name q (Err refusal) new = IsUnchanged old new
+abbrev pub Creates : RegistryValue → List ℕ → QueryValue → Bool → Result Verdict CreateError → RegistryValue → Type 0
+Creates old name q shared (Ok verdict) new = Registered old name q shared verdict new
+Creates old name q shared (Err refusal) new = IsUnchanged old new

@@ -18,6 +18,14 @@ use bq_pool::{Extent, Pool, PoolError};
 use bq_text::Name;
 use std::alloc::{AllocError, AllocFailed, Global};
 
+/// A query that is accepted, whether its cells are shared, and its plan.
+#[derive(Drop)]
+pub struct Planned {
+    pub query: Query,
+    pub shared: bool,
+    pub plan: Plan,
+}
+
 // Takes a query among the live ones whose pages were taken; none of them has its name. For want of memory its pages are given
 // back.
 fn settle_in(
@@ -25,24 +33,29 @@ fn settle_in(
     pool: &mut Pool,
     live: &mut Queries,
     name: Name,
-    query: Query,
-    plan: Plan,
+    planned: Planned,
     extent: Extent,
 ) -> Result<(), AllocError>
-    requires accepted { IsAccepted query plan }
+    requires accepted { IsAccepted planned.shared planned.query planned.plan }
     requires new { list_any (λ l. bytes_eq l.name name) live.old ≡ false }
-    requires pages { extent.pages ≡ pages_of plan }
+    requires pages { extent.pages ≡ pages_of planned.plan }
     requires there { IsLive pool.old extent }
     requires empty { cells_of pool.old extent ≡ replicate (64 * extent.pages) cell.Empty }
-    ensures { SettlesIn result name query plan extent pool.old live.old pool.new live.new }
+    ensures { SettlesIn result name planned.query planned.shared planned.plan extent pool.old live.old pool.new live.new }
 {
-    let executor = match Executor::new(alloc, query, plan, extent) {
+    let Planned {
+        query,
+        shared,
+        plan,
+    } = planned;
+    let executor = match Executor::new(alloc, query, shared, plan, extent) {
         Ok(executor) => executor,
         Err((extent, error)) => {
             pool.give_back(extent);
             return Err(error);
         }
     };
+    // Read for the proof alone: the call tells what holds of its plan.
     let _sound = executor.plan();
     match live.add_last(name, executor) {
         Ok(()) => Ok(()),
@@ -59,19 +72,18 @@ pub fn admit(
     pool: &mut Pool,
     live: &mut Queries,
     name: Name,
-    query: Query,
-    plan: Plan,
+    planned: Planned,
 ) -> Result<Verdict, CreateError>
-    requires accepted { IsAccepted query plan }
+    requires accepted { IsAccepted planned.shared planned.query planned.plan }
     requires new { list_any (λ l. bytes_eq l.name name) live.old ≡ false }
     requires sound { IsSound pool.old live.old }
     requires room { length live.old < 64 }
-    ensures { Admits result name query plan pool.old live.old pool.new live.new }
+    ensures { Admits result name planned.query planned.shared planned.plan pool.old live.old pool.new live.new }
 {
-    let verdict = verdict_of(&plan);
-    match pool.take(pages_of(&plan)) {
+    let verdict = verdict_of(&planned.plan);
+    match pool.take(pages_of(&planned.plan)) {
         Err(PoolError::Full { needed, free }) => Err(CreateError::Pool { needed, free }),
-        Ok(extent) => match settle_in(alloc, pool, live, name, query, plan, extent) {
+        Ok(extent) => match settle_in(alloc, pool, live, name, planned, extent) {
             Ok(()) => Ok(verdict),
             Err(_) => Err(CreateError::Memory),
         },

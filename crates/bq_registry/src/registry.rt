@@ -3,12 +3,12 @@ ghost use Rattle.std.specs.Prelude.{◌≡◌, ◌<◌, ◌≤◌, ◌+◌, ◌^
 ghost use Rattle.std.specs.List.{flat_map, position, list_any};
 ghost use Rattle.std.specs.Str.{bytes_eq};
 ghost use Rattle.bq_io.specs.Sink.{Writes};
-ghost use Rattle.bq_model.specs.Numbers.{IsPlanOf};
+ghost use Rattle.bq_model.specs.Sharing.{IsPlanOf};
 ghost use Rattle.bq_executor.specs.Executor.{arrival};
 ghost use Rattle.bq_registry.specs.Live.{Live, LiveQuery, with_row, without, free_pages};
 ghost use Rattle.bq_registry.specs.Registry.{IsSound, KeepQueries, waiting_text, most_reads, most_writes};
 
-use crate::admission::{admit, drop_at};
+use crate::admission::{Planned, admit, drop_at};
 use crate::queries::Queries;
 use crate::refusal::CreateError;
 use crate::taking::take_all;
@@ -66,7 +66,7 @@ impl Registry {
     /// The most live queries.
     pub const MOST_QUERIES: usize = 64;
 
-    /// A registry with no live query and a pool of 16,384 pages, all of them free.
+    /// Returns a registry with no live query and a pool of 16,384 pages, all of them free.
     pub fn new(alloc: Global) -> Result<Registry, AllocError>
         ensures stands { IfOk result (λ r. StandsFor r []) }
         ensures none { IfOk result (λ r. r.live ≡ []) }
@@ -83,7 +83,7 @@ impl Registry {
         })
     }
 
-    /// The number of live queries. Each of them keeps within the numbers that its plan announces.
+    /// Returns the number of live queries. Each of them keeps within the numbers that its plan announces.
     pub fn len(&self) -> usize
         ensures value { result ≡ length self.now.live }
         ensures few { result ≤ 64 }
@@ -92,7 +92,7 @@ impl Registry {
         self.live.len()
     }
 
-    /// The number of free pages: all but those of the live queries.
+    /// Returns the number of free pages: all but those of the live queries.
     pub fn free(&self) -> u32
         ensures free { result ≡ self.now.pool.free }
         ensures queries { (queries : List LiveQuery) → StandsFor self.now queries → result ≡ free_pages queries }
@@ -100,21 +100,21 @@ impl Registry {
         self.pool.free()
     }
 
-    /// The place of the live query of this name, in order of creation from 0.
+    /// Returns the place of the live query of this name, in order of creation from 0.
     pub fn find(&self, name: &Name) -> Option<usize>
         ensures place { result ≡ position (λ l. bytes_eq l.name name.now) self.now.live }
     {
         self.live.place_of(name)
     }
 
-    /// Whether a live query has this name.
+    /// Returns whether a live query has this name.
     pub fn has(&self, name: &Name) -> bool
         ensures { result ≡ list_any (λ l. bytes_eq l.name name.now) self.now.live }
     {
         self.live.has(name)
     }
 
-    /// The live query at a place.
+    /// Returns the live query at a place.
     pub fn query(&self, place: usize) -> &Query
         requires { place < length self.now.live }
         ensures { (d : Live) → result.now ≡ (slice_index_or self.now.live place d).executor.query }
@@ -122,32 +122,35 @@ impl Registry {
         self.live.executor_at(place).query()
     }
 
-    /// The plan of the live query at a place.
+    /// Returns the plan of the live query at a place.
     pub fn plan(&self, place: usize) -> &Plan
         requires { place < length self.now.live }
         ensures value { (d : Live) → result.now ≡ (slice_index_or self.now.live place d).executor.plan }
-        ensures plan { (d : Live) → IsPlanOf (slice_index_or self.now.live place d).executor.query result.now }
+        ensures plan { (d : Live) → IsPlanOf (slice_index_or self.now.live place d).executor.shared (slice_index_or self.now.live place d).executor.query result.now }
     {
         self.live.executor_at(place).plan()
     }
 
-    /// Takes a query among the live ones, under a name that none of them has, or says why it is refused: the verdict with the
-    /// pages that are free. On a refusal, and for want of memory, all is as before.
-    pub fn create(&mut self, name: Name, query: Query) -> Result<Verdict, CreateError>
+    /// Takes a query among the live ones, under a name that none of them has, with shared cells or without, or says why it is refused:
+    /// the verdict with the pages that are free. On a refusal, and for want of memory, all is as before.
+    pub fn create(&mut self, name: Name, query: Query, shared: bool) -> Result<Verdict, CreateError>
         requires room { length self.old.live < 64 }
         requires new { list_any (λ l. bytes_eq l.name name) self.old.live ≡ false }
-        ensures verdict { (queries : List LiveQuery) → StandsFor self.old queries → TellsVerdict query (free_pages queries) result }
-        ensures why { CarriesWhy query self.old.pool.free result }
-        ensures creates { Creates self.old name query result self.new }
+        ensures verdict { (queries : List LiveQuery) → StandsFor self.old queries → TellsVerdict shared query (free_pages queries) result }
+        ensures why { CarriesWhy shared query self.old.pool.free result }
+        ensures creates { Creates self.old name query shared result self.new }
     {
-        match judge(self.alloc, &query) {
+        match judge(self.alloc, &query, shared) {
             Ok(plan) => admit(
                 self.alloc,
                 &mut self.pool,
                 &mut self.live,
                 name,
-                query,
-                plan,
+                Planned {
+                    query,
+                    shared,
+                    plan,
+                },
             ),
             Err(why) => Err(why),
         }

@@ -1,5 +1,5 @@
 -- What stands behind the query.
-use Rattle.std.proofs.Common.{ℕ, List, ◌++◌, refl, ap, ◌∙◌, append_assoc, ◌∷◌}
+use Rattle.std.proofs.Common.{ℕ, Bool, List, ◌++◌, refl, ap, ◌∙◌, append_assoc, ◌∷◌}
 use Rattle.bq_io.specs.Source.{SourceState}
 use Rattle.bq_feed.specs.Reading.{Reading}
 use Rattle.bq_model.specs.Query.{QueryValue}
@@ -34,8 +34,8 @@ behind answers.ReadFault source now given reader t = t
 behind answers.ByteLimit source now given reader t = t
 
 -- lines that ask for a query still do where more lines stand behind them
-pub asks-more : (lines more : List (List ℕ)) (streams : List Shape) (name : List ℕ) (select : SelectAst) (q : QueryValue) (number : ℕ) → Asks lines streams name select q number → Asks (lines ++ more) streams name select q number
-asks-more lines more streams name select q number a = record {
+pub asks-more : (lines more : List (List ℕ)) (streams : List Shape) (name : List ℕ) (select : SelectAst) (shared : Bool) (q : QueryValue) (number : ℕ) → Asks lines streams name select shared q number → Asks (lines ++ more) streams name select shared q number
+asks-more lines more streams name select shared q number a = record {
   before = a.before;
   line = a.line;
   behind = a.behind ++ more;

@@ -1,5 +1,5 @@
 -- A script comes to one end.
-use Rattle.std.proofs.Common.{◌≡◌, ℕ, suc, List, [], ◌∷◌, ◌++◌, length, refl, sym, ap, ◌∙◌, subst, Some, None, arith}
+use Rattle.std.proofs.Common.{◌≡◌, ℕ, suc, Bool, List, [], ◌∷◌, ◌++◌, length, refl, sym, ap, ◌∙◌, subst, Some, None, arith}
 use Rattle.bq_model.specs.Query.{QueryValue}
 use Rattle.bq_schema.specs.Streams.{Shape}
 use Rattle.bq_parser.specs.declared.line.LineKind.{LineKind}
@@ -27,7 +27,7 @@ limits-differ s t what e p q =
 -- a statement that creates nothing has no place
 no-place : (streams : List Shape) (s : Statement) → ¬ (Creates s) → statement_line streams s ≡ refused Syntax
 no-place streams (statements.CreateStream name columns) c = absurd (c tt)
-no-place streams (statements.CreateQuery name select) c = absurd (c tt)
+no-place streams (statements.CreateQuery name select shared) c = absurd (c tt)
 no-place streams (statements.Explain name) c = refl
 no-place streams (statements.DropQuery name) c = refl
 
@@ -67,7 +67,7 @@ one_line streams line a b (fits m p) (fits n q) = one_of_text streams (kind_of_l
 abbrev IsEnd : ScriptLine → Type 0
 IsEnd nothing = ⊥
 IsEnd (stream shape) = ⊥
-IsEnd (query name select q) = Unit {0}
+IsEnd (query name select shared q) = Unit {0}
 IsEnd (refused word) = Unit {0}
 
 -- What lines come to behind some that created streams, and the streams then: the first that creates no stream is this, at this number;
@@ -113,10 +113,10 @@ stop-behind (scripts.one shape p rest) = adds shape p (stop-behind rest) refl
 abbrev Comes : List (List ℕ) → List Shape → ScriptLine → ℕ → Type 0
 Comes lines streams r n = Stop [] lines streams r n
 
-asked : (lines : List (List ℕ)) (streams : List Shape) (name : List ℕ) (select : SelectAst) (q : QueryValue) (n : ℕ) → Asks lines streams name select q n → Comes lines streams (query name select q) n
-asked lines streams name select q n a =
-    subst (λ l. Comes l streams (query name select q) n) (sym a.whole)
-    (subst (λ k. Comes (a.before ++ a.line ∷ a.behind) streams (query name select q) k) (sym a.number_is) (stop-line a.line a.behind (query name select q) a.create a.is tt))
+asked : (lines : List (List ℕ)) (streams : List Shape) (name : List ℕ) (select : SelectAst) (shared : Bool) (q : QueryValue) (n : ℕ) → Asks lines streams name select shared q n → Comes lines streams (query name select shared q) n
+asked lines streams name select shared q n a =
+    subst (λ l. Comes l streams (query name select shared q) n) (sym a.whole)
+    (subst (λ k. Comes (a.before ++ a.line ∷ a.behind) streams (query name select shared q) k) (sym a.number_is) (stop-line a.line a.behind (query name select shared q) a.create a.is tt))
 
 -- the streams behind which a script is refused
 abbrev streams-of : {lines : List (List ℕ)} {n : ℕ} {word : Word} → IsRefusedAt lines n word → List Shape
@@ -130,25 +130,25 @@ was_refused lines n word (at_line before line others streams whole create is num
 was_refused lines n word (at_end streams create word_is number_is) =
     subst (λ w. Comes lines streams (refused w) n) (sym word_is) (subst (λ k. Comes lines streams (refused Syntax) k) (sym number_is) (stop-behind create))
 
-same-query : (name title : List ℕ) (select choice : SelectAst) (q r : QueryValue) → query name select q ≡ query title choice r → (name ≡ title) × (select ≡ choice) × (q ≡ r)
-same-query name title select choice q r e = (cc, cc, cc)
+same-query : (name title : List ℕ) (select choice : SelectAst) (shared joint : Bool) (q r : QueryValue) → query name select shared q ≡ query title choice joint r → (name ≡ title) × (select ≡ choice) × (shared ≡ joint) × (q ≡ r)
+same-query name title select choice shared joint q r e = (cc, cc, cc, cc)
 
 same-word : (v w : Word) → refused v ≡ refused w → v ≡ w
 same-word v w e = cc
 
-not-refused : (name : List ℕ) (select : SelectAst) (q : QueryValue) (word : Word) → query name select q ≡ refused word → ⊥
-not-refused name select q word e = cc
+not-refused : (name : List ℕ) (select : SelectAst) (shared : Bool) (q : QueryValue) (word : Word) → query name select shared q ≡ refused word → ⊥
+not-refused name select shared q word e = cc
 
 pub one_end : HasOneEnd
 one_end lines = (
-  (λ streams others name title select choice q r m n a b.
-      let i = one_stop (asked lines streams name select q m a) (asked lines others title choice r n b) in
-      let same = same-query name title select choice q r i.1 in
-      (i.0, same.0, same.1, same.2, i.2)),
+  (λ streams others name title select choice shared joint q r m n a b.
+      let i = one_stop (asked lines streams name select shared q m a) (asked lines others title choice joint r n b) in
+      let same = same-query name title select choice shared joint q r i.1 in
+      (i.0, same.0, same.1, same.2, same.3, i.2)),
   (λ m n v w a b.
       let i = one_stop (was_refused lines m v a) (was_refused lines n w b) in
       (i.2, same-word v w i.1)),
-  (λ streams name select q m n word a b.
-      let i = one_stop (asked lines streams name select q m a) (was_refused lines n word b) in
-      not-refused name select q word i.1),
+  (λ streams name select shared q m n word a b.
+      let i = one_stop (asked lines streams name select shared q m a) (was_refused lines n word b) in
+      not-refused name select shared q word i.1),
 )

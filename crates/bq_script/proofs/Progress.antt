@@ -66,7 +66,7 @@ pub ends-query : (source now now' : SourceState) (old new : Reading) (streams st
     → TakesLine (Ok (Query asked)) streams new.line streams' → GaveQuery asked streams' source now' new
 ends-query source now now' old new streams streams' asked p t took =
     let q = took.takes in
-    let line : ScriptLine = query q.name q.select asked.query in
+    let line : ScriptLine = query q.name q.select q.shared asked.query in
     let is : IsScriptLine streams t.line line = subst (λ l. IsScriptLine streams l line) t.holds.1 (subst (IsScriptLine streams new.line) q.is took.is_line) in
     rw q.same record {
       front = t.front;
@@ -74,6 +74,7 @@ ends-query source now now' old new streams streams' asked p t took =
       lines = t.lines;
       name = q.name;
       select = q.select;
+      shared = q.shared;
       states = q.states;
       asks = record {
         before = p.given ++ t.blanks;

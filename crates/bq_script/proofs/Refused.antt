@@ -31,7 +31,7 @@ first_says_create (l ∷ ls) = says_create l
 -- whether the statement creates a stream or a query
 abbrev creates : Statement → Bool
 creates (statements.CreateStream name columns) = true
-creates (statements.CreateQuery name select) = true
+creates (statements.CreateQuery name select shared) = true
 creates (statements.Explain name) = false
 creates (statements.DropQuery name) = false
 
@@ -57,13 +57,13 @@ tokens_say text (t ∷ ts) = kind_says t.kind _
 
 statement_says : (s : Statement) → first_says_create (statement_tokens s) ≡ creates s
 statement_says (statements.CreateStream name columns) = refl
-statement_says (statements.CreateQuery name select) = refl
+statement_says (statements.CreateQuery name select shared) = refl
 statement_says (statements.Explain name) = refl
 statement_says (statements.DropQuery name) = refl
 
 ended_says : (s : Statement) → first_says_create (statement_tokens s ++ semicolon ∷ []) ≡ creates s
 ended_says (statements.CreateStream name columns) = refl
-ended_says (statements.CreateQuery name select) = refl
+ended_says (statements.CreateQuery name select shared) = refl
 ended_says (statements.Explain name) = refl
 ended_says (statements.DropQuery name) = refl
 
@@ -76,13 +76,13 @@ text_says text s is = ap begin_with_create is.lexed ∙ tokens_say text is.its_t
 
 does_create : (s : Statement) → creates s ≡ true → Creates s
 does_create (statements.CreateStream name columns) e = tt
-does_create (statements.CreateQuery name select) e = tt
+does_create (statements.CreateQuery name select shared) e = tt
 does_create (statements.Explain name) e = absurd (false≢true e)
 does_create (statements.DropQuery name) e = absurd (false≢true e)
 
 creates_nothing : (s : Statement) → creates s ≡ false → ¬ (Creates s)
 creates_nothing (statements.CreateStream name columns) e = absurd (false≢true (sym e))
-creates_nothing (statements.CreateQuery name select) e = absurd (false≢true (sym e))
+creates_nothing (statements.CreateQuery name select shared) e = absurd (false≢true (sym e))
 creates_nothing (statements.Explain name) e = λ c. c
 creates_nothing (statements.DropQuery name) e = λ c. c
 

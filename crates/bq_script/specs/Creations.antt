@@ -43,8 +43,9 @@ pub record TakesStream (streams : List Shape) (line : ScriptLine) (now : List Sh
 pub record TakesQuery (asked : Asked) (streams : List Shape) (line : ScriptLine) (now : List Shape) : Type 0 where
   pub name : List ℕ
   pub select : SelectAst
-  pub states : asked.statement ≡ CreateQuery name select
-  pub is : line ≡ query name select asked.query
+  pub shared : Bool
+  pub states : asked.statement ≡ CreateQuery name select shared
+  pub is : line ≡ query name select shared asked.query
   pub same : now ≡ streams
   pub named : HasNamed streams asked.query
 

@@ -1,5 +1,5 @@
 -- How reading a script ends.
-use Rattle.std.specs.Prelude.{◌≡◌, ℕ, suc, ◌-◌, ◌^◌, ◌<◌, ◌≤◌, ⊤, List, [], ◌∷◌, ◌++◌, length}
+use Rattle.std.specs.Prelude.{◌≡◌, ℕ, suc, ◌-◌, ◌^◌, ◌<◌, ◌≤◌, ⊤, Bool, List, [], ◌∷◌, ◌++◌, length}
 use Rattle.std.specs.List.{AllByRecursion}
 use Rattle.std.specs.declared.result.Result.{Result}
 use Rattle.std.specs.declared.result.Result.TheVariants.{Ok, Err}
@@ -86,8 +86,9 @@ pub record GaveQuery (asked : Asked) (streams : List Shape) (source now : Source
   pub lines : GivenLines source now reader front given
   pub name : List ℕ
   pub select : SelectAst
-  pub states : asked.statement ≡ CreateQuery name select
-  pub asks : Asks given streams name select asked.query (length given)
+  pub shared : Bool
+  pub states : asked.statement ≡ CreateQuery name select shared
+  pub asks : Asks given streams name select shared asked.query (length given)
   pub named : HasNamed streams asked.query
 
 -- this holds where a script ends before its query
@@ -137,8 +138,9 @@ pub record GaveScript (script : Script) (source now : SourceState) (reader : Rea
   pub lines : GivenLines source now reader front given
   pub name : List ℕ
   pub select : SelectAst
-  pub states : script.statement ≡ CreateQuery name select
-  pub asks : Asks given script.catalog name select script.query script.line
+  pub shared : Bool
+  pub states : script.statement ≡ CreateQuery name select shared
+  pub asks : Asks given script.catalog name select shared script.query script.line
   pub last : script.line ≡ length given
   pub named : HasNamed script.catalog script.query
 

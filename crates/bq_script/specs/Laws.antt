@@ -1,5 +1,5 @@
 -- The laws of scripts.
-use Rattle.std.specs.Prelude.{◌≡◌, ℕ, List}
+use Rattle.std.specs.Prelude.{◌≡◌, ℕ, Bool, List}
 use Rattle.bq_model.specs.Query.{QueryValue}
 use Rattle.bq_schema.specs.Streams.{Shape}
 use Rattle.bq_parser.specs.declared.tree.SelectAst.{SelectAst}
@@ -8,8 +8,8 @@ use Rattle.bq_script.specs.Script.{Asks, IsRefusedAt}
 
 -- these lines ask for one query at most, by one statement in one line, over one list of streams
 abbrev pub AskForOne : List (List ℕ) → Type 0
-AskForOne lines = (streams : List Shape) → (others : List Shape) → (name : List ℕ) → (title : List ℕ) → (select : SelectAst) → (choice : SelectAst) → (q : QueryValue) → (r : QueryValue) → (m : ℕ) → (n : ℕ)
-    → Asks lines streams name select q m → Asks lines others title choice r n → (streams ≡ others) × (name ≡ title) × (select ≡ choice) × (q ≡ r) × (m ≡ n)
+AskForOne lines = (streams : List Shape) → (others : List Shape) → (name : List ℕ) → (title : List ℕ) → (select : SelectAst) → (choice : SelectAst) → (shared : Bool) → (joint : Bool) → (q : QueryValue) → (r : QueryValue) → (m : ℕ) → (n : ℕ)
+    → Asks lines streams name select shared q m → Asks lines others title choice joint r n → (streams ≡ others) × (name ≡ title) × (select ≡ choice) × (shared ≡ joint) × (q ≡ r) × (m ≡ n)
 
 -- they are refused at one line at most, by one word
 abbrev pub AreRefusedOnce : List (List ℕ) → Type 0
@@ -17,7 +17,7 @@ AreRefusedOnce lines = (m : ℕ) → (n : ℕ) → (v : Word) → (w : Word) →
 
 -- they are not refused where they ask for a query
 abbrev pub AreNotBoth : List (List ℕ) → Type 0
-AreNotBoth lines = (streams : List Shape) → (name : List ℕ) → (select : SelectAst) → (q : QueryValue) → (m : ℕ) → (n : ℕ) → (word : Word) → Asks lines streams name select q m → ¬ (IsRefusedAt lines n word)
+AreNotBoth lines = (streams : List Shape) → (name : List ℕ) → (select : SelectAst) → (shared : Bool) → (q : QueryValue) → (m : ℕ) → (n : ℕ) → (word : Word) → Asks lines streams name select shared q m → ¬ (IsRefusedAt lines n word)
 
 -- the lines of a script determine its query, or the line that is refused and the word
 abbrev pub HasOneEnd : Type 0

@@ -1,5 +1,5 @@
 -- Scripts of one query: CREATE STREAM lines and then one CREATE QUERY line, between blank lines and comments.
-use Rattle.std.specs.Prelude.{◌≡◌, ℕ, suc, ◌<◌, ◌≤◌, List, [], ◌∷◌, ◌++◌, length, Some, None}
+use Rattle.std.specs.Prelude.{◌≡◌, ℕ, suc, ◌<◌, ◌≤◌, Bool, List, [], ◌∷◌, ◌++◌, length, Some, None}
 use Rattle.std.specs.declared.result.Result.{Result}
 use Rattle.std.specs.declared.result.Result.TheVariants.{Ok, Err}
 use Rattle.bq_model.specs.Query.{QueryValue}
@@ -20,11 +20,11 @@ use Rattle.bq_session.specs.Requests.{stream_word, resolve_word}
 use Rattle.bq_session.specs.declared.word.Word.{Word}
 use Rattle.bq_session.specs.declared.word.Word.TheVariants.{LineTooLong, Syntax, Limit}
 
--- What a line is in a script before its query: nothing, a stream, the query under its name, or it is refused.
+-- What a line is in a script before its query: nothing, a stream, the query under its name, which is shared or not, or it is refused.
 pub data ScriptLine : Type 0 where
   nothing : ScriptLine
   stream : Shape → ScriptLine
-  query : List ℕ → SelectAst → QueryValue → ScriptLine
+  query : List ℕ → SelectAst → Bool → QueryValue → ScriptLine
   refused : Word → ScriptLine
 
 -- a stream is created where it can be added
@@ -33,21 +33,21 @@ stream_line shape (Ok number) = stream shape
 stream_line shape (Err error) = refused (stream_word error)
 
 -- the query, where its names stand for one
-abbrev pub query_line : List ℕ → SelectAst → Result QueryValue ResolveError → ScriptLine
-query_line name select (Ok q) = query name select q
-query_line name select (Err error) = refused (resolve_word error)
+abbrev pub query_line : List ℕ → SelectAst → Bool → Result QueryValue ResolveError → ScriptLine
+query_line name select shared (Ok q) = query name select shared q
+query_line name select shared (Err error) = refused (resolve_word error)
 
 -- a statement creates a stream or the query; no other has a place
 abbrev pub statement_line : List Shape → Statement → ScriptLine
 statement_line streams (statements.CreateStream name columns) = stream_line (record { name = name; columns = columns.items }) (added streams (record { name = name; columns = columns.items }))
-statement_line streams (statements.CreateQuery name select) = query_line name select (resolved streams select)
+statement_line streams (statements.CreateQuery name select shared) = query_line name select shared (resolved streams select)
 statement_line streams (statements.Explain name) = refused Syntax
 statement_line streams (statements.DropQuery name) = refused Syntax
 
 -- a statement creates a stream or a query
 abbrev pub Creates : Statement → Type 0
 Creates (statements.CreateStream name columns) = Unit {0}
-Creates (statements.CreateQuery name select) = Unit {0}
+Creates (statements.CreateQuery name select shared) = Unit {0}
 Creates (statements.Explain name) = ⊥
 Creates (statements.DropQuery name) = ⊥
 
@@ -79,13 +79,13 @@ pub data CreateStreams : List Shape → List (List ℕ) → List Shape → Type 
       → IsScriptLine streams line (stream shape) → CreateStreams (streams ++ shape ∷ []) lines all → CreateStreams streams (line ∷ lines) all
 
 -- A script's query, and the streams before it: the lines before its line create the streams, and its line the query.
-pub record Asks (lines : List (List ℕ)) (streams : List Shape) (name : List ℕ) (select : SelectAst) (q : QueryValue) (number : ℕ) : Type 0 where
+pub record Asks (lines : List (List ℕ)) (streams : List Shape) (name : List ℕ) (select : SelectAst) (shared : Bool) (q : QueryValue) (number : ℕ) : Type 0 where
   pub before : List (List ℕ)
   pub line : List ℕ
   pub behind : List (List ℕ)
   pub whole : lines ≡ before ++ line ∷ behind
   pub create : CreateStreams [] before streams
-  pub is : IsScriptLine streams line (query name select q)
+  pub is : IsScriptLine streams line (query name select shared q)
   pub number_is : number ≡ suc (length before)
 
 -- The first line that is refused before the query, by its number from 1; or the script ends before its query, which is refused at the

@@ -71,9 +71,17 @@ fn take_statement(catalog: &mut Catalog, statement: Statement) -> Result<Creatio
                 Err(error) => Err(stream_word(error)),
             }
         }
-        Statement::CreateQuery { name, select } => match resolve(&select, catalog) {
+        Statement::CreateQuery {
+            name,
+            select,
+            shared,
+        } => match resolve(&select, catalog) {
             Ok(query) => {
-                let statement = Statement::CreateQuery { name, select };
+                let statement = Statement::CreateQuery {
+                    name,
+                    select,
+                    shared,
+                };
                 Ok(Creation::Query(Asked { statement, query }))
             }
             Err(error) => Err(resolve_word(error)),

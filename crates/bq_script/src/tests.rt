@@ -13,6 +13,12 @@ const SCRIPT: &[u8] =
 /// Its statements in printed form.
 const PRINTED: &[u8] = b"CREATE STREAM S (a IN 0..5, b)\nCREATE QUERY q AS SELECT S.a FROM S\n";
 
+/// A script whose query is shared.
+const SHARED: &[u8] = b"create stream S(a)\ncreate Shared query q as select S.a from S;";
+
+/// Its statements in printed form.
+const SHARED_PRINTED: &[u8] = b"CREATE STREAM S (a)\nCREATE SHARED QUERY q AS SELECT S.a FROM S\n";
+
 #[test]
 fn a_script_is_read_and_printed(rt: HostRuntime) -> Result<(), Fail> {
     let mut input = MemSource::new(rt.alloc(), SCRIPT, 5, &[])?;
@@ -26,5 +32,17 @@ fn a_script_is_read_and_printed(rt: HostRuntime) -> Result<(), Fail> {
     assert_eq!(rt; reader.lines(), 6);
     assert_eq!(rt; text(&reader), b"end 1".as_slice());
     assert!(rt; read_blank(&mut reader, &mut input).is_ok());
+    Ok(())
+}
+
+#[test]
+fn a_query_of_a_script_may_be_shared(rt: HostRuntime) -> Result<(), Fail> {
+    let mut input = MemSource::new(rt.alloc(), SHARED, 5, &[])?;
+    let mut output = MemSink::new(rt.alloc(), 3, &[])?;
+    let mut reader = LineReader::new(rt.alloc())?;
+    let script = read_script(rt.alloc(), &mut reader, &mut input).expect(&rt, "a whole script");
+    assert_eq!(rt; script.line, 2);
+    assert!(rt; print_script(&script, &mut output).is_ok());
+    assert_eq!(rt; output.bytes(), SHARED_PRINTED);
     Ok(())
 }

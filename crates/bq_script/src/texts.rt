@@ -59,14 +59,14 @@ pub fn next_text<I: Source>(reader: &mut LineReader, input: &mut I) -> TextAnswe
     }
 }
 
-/// The line that was given last, without one CR at its end and then without blanks at both ends.
+/// Returns the line that was given last, without one CR at its end and then without blanks at both ends.
 pub fn text(reader: &LineReader) -> &[u8]
     ensures { result.now ≡ stripped reader.now.line }
 {
     classify(reader.line()).1
 }
 
-/// The end of a script at the line that was given last, which this word refuses.
+/// Returns the end of a script at the line that was given last, which this word refuses.
 pub fn refused(reader: &LineReader, word: Word) -> ScriptEnd
     ensures { result ≡ ScriptEnd.Refused reader.now.lines word }
 {

@@ -1,5 +1,5 @@
 -- A query that no word refuses, and the verdict on it.
-use Rattle.std.proofs.Common.{◌≡◌, ℕ, List, [], ◌∷◌, ◌++◌, codes, decimal, refl, sym, ap, ◌∙◌, Ok, subst}
+use Rattle.std.proofs.Common.{◌≡◌, ℕ, Bool, List, [], ◌∷◌, ◌++◌, codes, decimal, refl, sym, ap, ◌∙◌, Ok, subst}
 use Rattle.std.specs.declared.result.Result.{Result}
 use Rattle.bq_io.specs.Sink.{SinkState, Writes}
 use Rattle.bq_model.specs.declared.atom.Attr.{Attr}
@@ -40,19 +40,19 @@ same_text : (name : List ℕ) (plan : Plan) → acceptance_text name (verdict_of
 same_text name plans.Filter = refl
 same_text name (plans.Parts ps numbers) = refl
 
-same_verdict : (q : QueryValue) (free : ℕ) (plan : Plan) → TellsVerdict q free (Ok (verdict_of plan)) → IsVerdict q free (acceptance plan)
-same_verdict q free plans.Filter t = t
-same_verdict q free (plans.Parts ps numbers) t = t
+same_verdict : (shared : Bool) (q : QueryValue) (free : ℕ) (plan : Plan) → TellsVerdict shared q free (Ok (verdict_of plan)) → IsVerdict shared q free (acceptance plan)
+same_verdict shared q free plans.Filter t = t
+same_verdict shared q free (plans.Parts ps numbers) t = t
 
 -- a query is accepted
-pub takes : {T E : Type 0} (written : Result T E) (outcome : LineOutcome) (s : State) (name : List ℕ) (q : QueryValue) (k : Kept) (r : RegistryValue) (v : Verdict) (before after : SinkState)
-    → outcome ≡ outcome_of written → StandsFor k (one_line_more s) → TellsVerdict q (free_pages s.queries) (Ok v) → Registered k.registry name q v r
+pub takes : {T E : Type 0} (written : Result T E) (outcome : LineOutcome) (s : State) (name : List ℕ) (q : QueryValue) (shared : Bool) (k : Kept) (r : RegistryValue) (v : Verdict) (before after : SinkState)
+    → outcome ≡ outcome_of written → StandsFor k (one_line_more s) → TellsVerdict shared q (free_pages s.queries) (Ok v) → Registered k.registry name q shared v r
     → Writes written before after (acceptance_text name v)
-    → Does outcome s (asked name q) (with_registry k r) before after
-takes written outcome s name q k r v before after o old tells reg w =
-    let told = subst (λ (x : Verdict). TellsVerdict q (free_pages s.queries) (Ok x)) reg.told tells in
-    given written outcome s (asked name q) (registered name q reg.plan) (with_registry k r) before after o
-    (accepted reg.plan reg.accepted.plan (same_verdict q (free_pages s.queries) reg.plan told) refl)
+    → Does outcome s (asked name q shared) (with_registry k r) before after
+takes written outcome s name q shared k r v before after o old tells reg w =
+    let told = subst (λ (x : Verdict). TellsVerdict shared q (free_pages s.queries) (Ok x)) reg.told tells in
+    given written outcome s (asked name q shared) (registered name q shared reg.plan) (with_registry k r) before after o
+    (accepted reg.plan reg.accepted.plan (same_verdict shared q (free_pages s.queries) reg.plan told) refl)
     (record { limit = old.limit; streams = old.streams; queries = reg.stands s.queries old.queries; quiet = reg.quiet old.quiet; taken = old.taken; lines = old.lines })
     (subst (λ t. Writes written before after t) (ap (acceptance_text name) reg.told ∙ same_text name reg.plan) w)
 
@@ -68,29 +68,29 @@ unchanged k r s u old = record {
 }
 
 -- a number of the query is above its limit
-pub too_large : {T E : Type 0} (written : Result T E) (outcome : LineOutcome) (s : State) (name : List ℕ) (q : QueryValue) (k : Kept) (r : RegistryValue) (which : Which) (before after : SinkState)
-    → outcome ≡ outcome_of written → StandsFor k (one_line_more s) → IsVerdict q (free_pages s.queries) (verdicts.limit which) → IsUnchanged k.registry r
+pub too_large : {T E : Type 0} (written : Result T E) (outcome : LineOutcome) (s : State) (name : List ℕ) (q : QueryValue) (shared : Bool) (k : Kept) (r : RegistryValue) (which : Which) (before after : SinkState)
+    → outcome ≡ outcome_of written → StandsFor k (one_line_more s) → IsVerdict shared q (free_pages s.queries) (verdicts.limit which) → IsUnchanged k.registry r
     → Writes written before after (codes "refused " ++ name ++ codes " limit " ++ which_text which ++ 10 ∷ [])
-    → Does outcome s (asked name q) (with_registry k r) before after
-too_large written outcome s name q k r which before after o old v u w =
-    given written outcome s (asked name q) (decided name q (verdicts.limit which)) (with_registry k r) before after o (rejected (verdicts.limit which) v refl refl) (unchanged k r (one_line_more s) u old) w
+    → Does outcome s (asked name q shared) (with_registry k r) before after
+too_large written outcome s name q shared k r which before after o old v u w =
+    given written outcome s (asked name q shared) (decided name q (verdicts.limit which)) (with_registry k r) before after o (rejected (verdicts.limit which) v refl refl) (unchanged k r (one_line_more s) u old) w
 
 -- too few pages are free
-pub no_room : {T E : Type 0} (written : Result T E) (outcome : LineOutcome) (s : State) (name : List ℕ) (q : QueryValue) (k : Kept) (r : RegistryValue) (before after : SinkState)
-    → outcome ≡ outcome_of written → StandsFor k (one_line_more s) → IsVerdict q (free_pages s.queries) verdicts.pool → IsUnchanged k.registry r
+pub no_room : {T E : Type 0} (written : Result T E) (outcome : LineOutcome) (s : State) (name : List ℕ) (q : QueryValue) (shared : Bool) (k : Kept) (r : RegistryValue) (before after : SinkState)
+    → outcome ≡ outcome_of written → StandsFor k (one_line_more s) → IsVerdict shared q (free_pages s.queries) verdicts.pool → IsUnchanged k.registry r
     → Writes written before after (codes "refused " ++ name ++ codes " limit pool" ++ 10 ∷ [])
-    → Does outcome s (asked name q) (with_registry k r) before after
-no_room written outcome s name q k r before after o old v u w =
-    given written outcome s (asked name q) (decided name q verdicts.pool) (with_registry k r) before after o (rejected verdicts.pool v refl refl) (unchanged k r (one_line_more s) u old) w
+    → Does outcome s (asked name q shared) (with_registry k r) before after
+no_room written outcome s name q shared k r before after o old v u w =
+    given written outcome s (asked name q shared) (decided name q verdicts.pool) (with_registry k r) before after o (rejected verdicts.pool v refl refl) (unchanged k r (one_line_more s) u old) w
 
 -- a part of a query breaks a condition
-pub violated : {T E : Type 0} (written : Result T E) (outcome : LineOutcome) (s : State) (name : List ℕ) (q : QueryValue) (k : Kept) (r : RegistryValue) (part : ℕ) (condition : Condition) (attr : Attr) (column : ColumnAst) (before after : SinkState)
-    → outcome ≡ outcome_of written → StandsFor k (one_line_more s) → IsVerdict q (free_pages s.queries) (verdicts.violation record { part = part; condition = condition; attr = attr }) → IsUnchanged k.registry r
+pub violated : {T E : Type 0} (written : Result T E) (outcome : LineOutcome) (s : State) (name : List ℕ) (q : QueryValue) (shared : Bool) (k : Kept) (r : RegistryValue) (part : ℕ) (condition : Condition) (attr : Attr) (column : ColumnAst) (before after : SinkState)
+    → outcome ≡ outcome_of written → StandsFor k (one_line_more s) → IsVerdict shared q (free_pages s.queries) (verdicts.violation record { part = part; condition = condition; attr = attr }) → IsUnchanged k.registry r
     → column ≡ column_named k.streams q.from attr
     → Writes written before after (codes "refused " ++ name ++ codes " part " ++ decimal part ++ 32 ∷ condition_text condition ++ 32 ∷ column_text column ++ 10 ∷ [])
-    → Does outcome s (asked name q) (with_registry k r) before after
-violated written outcome s name q k r part condition attr column before after o old v u named w =
+    → Does outcome s (asked name q shared) (with_registry k r) before after
+violated written outcome s name q shared k r part condition attr column before after o old v u named w =
     let text : ColumnAst → List ℕ = λ c. codes "refused " ++ name ++ codes " part " ++ decimal part ++ 32 ∷ condition_text condition ++ 32 ∷ column_text c ++ 10 ∷ [] in
-    given written outcome s (asked name q) (decided name q (verdicts.violation record { part = part; condition = condition; attr = attr })) (with_registry k r) before after o
+    given written outcome s (asked name q shared) (decided name q (verdicts.violation record { part = part; condition = condition; attr = attr })) (with_registry k r) before after o
     (rejected (verdicts.violation record { part = part; condition = condition; attr = attr }) v refl refl) (unchanged k r (one_line_more s) u old)
     (subst (λ c. Writes written before after (text c)) (named ∙ ap (λ streams. column_named streams q.from attr) old.streams) w)

@@ -11,7 +11,7 @@ use Rattle.bq_pool.specs.Extents.{PoolValue}
 use Rattle.bq_explain.specs.Text.{explain_text}
 use Rattle.bq_registry.specs.Live.{Live, LiveQuery}
 use Rattle.bq_model.specs.declared.plan.Plan.{Plan}
-use Rattle.bq_model.specs.Numbers.{IsPlanOf}
+use Rattle.bq_model.specs.Sharing.{IsPlanOf}
 use Rattle.std.specs.declared.result.Result.{Result}
 use Rattle.bq_registry.specs.declared.refusal.CreateError.{CreateError}
 use Rattle.bq_registry.specs.declared.verdict.Verdict.{Verdict}
@@ -73,9 +73,10 @@ query_is_named streams q [] place within all e = absurd (omega (arith, within))
 query_is_named streams q (l ∷ live) place within all e = subst (HasNamed streams) (sym (e l)) (all place l within)
 
 pub plan_is_its : (q : QueryValue) (p : Plan) (live : List Live) (place : ℕ) → place < length live → ((d : Live) → q ≡ (slice_index_or live place d).executor.query)
-    → ((d : Live) → IsPlanOf (slice_index_or live place d).executor.query p) → IsPlanOf q p
+    → ((d : Live) → IsPlanOf (slice_index_or live place d).executor.shared (slice_index_or live place d).executor.query p) → (shared : Bool) × IsPlanOf shared q p
 plan_is_its q p [] place within e i = absurd (omega (arith, within))
-plan_is_its q p (l ∷ live) place within e i = subst (λ (x : QueryValue). IsPlanOf x p) (sym (e l)) (i l)
+plan_is_its q p (l ∷ live) place within e i =
+    let shared : Bool = (slice_index_or (l ∷ live) place l).executor.shared in (shared, subst (λ (x : QueryValue). IsPlanOf shared x p) (sym (e l)) (i l))
 
 pub text_is_its : (streams : List Shape) (name : List ℕ) (pool : PoolValue) (live : List Live) (queries : List LiveQuery) (place : ℕ) (q : QueryValue) (p : Plan) → AreLiveFor pool live queries
     → position (λ (l : Live). bytes_eq l.name name) live ≡ Some place → place < length live → ((d : Live) → q ≡ (slice_index_or live place d).executor.query)
@@ -87,16 +88,16 @@ text_is_its streams name pool (l ∷ live) queries place q p all found within e 
     ∙ sym (explained_here streams name pool (l ∷ live) queries place l all found)
 
 -- the names are there after the decision on a query
-pub named_decided : (streams : List Shape) (name : List ℕ) (q : QueryValue) (result : Result Verdict CreateError) (old new : RegistryValue) → HasNamed streams q
-    → All (λ (l : Live). HasNamed streams l.executor.query) old.live → Creates old name q result new → All (λ (l : Live). HasNamed streams l.executor.query) new.live
-named_decided streams name q (Ok verdict) old new h all c =
+pub named_decided : (streams : List Shape) (name : List ℕ) (q : QueryValue) (shared : Bool) (result : Result Verdict CreateError) (old new : RegistryValue) → HasNamed streams q
+    → All (λ (l : Live). HasNamed streams l.executor.query) old.live → Creates old name q shared result new → All (λ (l : Live). HasNamed streams l.executor.query) new.live
+named_decided streams name q shared (Ok verdict) old new h all c =
     subst (λ (x : List Live). All (λ (l : Live). HasNamed streams l.executor.query) x) (sym c.list) (named_added streams q old.live c.last all c.asked h)
-named_decided streams name q (Err why) old new h all c = subst (λ (x : List Live). All (λ (l : Live). HasNamed streams l.executor.query) x) (sym c.live) all
+named_decided streams name q shared (Err why) old new h all c = subst (λ (x : List Live). All (λ (l : Live). HasNamed streams l.executor.query) x) (sym c.live) all
 
 -- no live query was given more after the decision on a query
-pub given_decided : (n : ℕ) (name : List ℕ) (q : QueryValue) (result : Result Verdict CreateError) (old new : RegistryValue) → GivenUpto n old → Creates old name q result new → GivenUpto n new
-given_decided n name q (Ok verdict) old new g c = c.given n g
-given_decided n name q (Err why) old new g c = subst (λ (x : List Live). All (λ (l : Live). l.executor.given ≤ n) x) (sym c.live) g
+pub given_decided : (n : ℕ) (name : List ℕ) (q : QueryValue) (shared : Bool) (result : Result Verdict CreateError) (old new : RegistryValue) → GivenUpto n old → Creates old name q shared result new → GivenUpto n new
+given_decided n name q shared (Ok verdict) old new g c = c.given n g
+given_decided n name q shared (Err why) old new g c = subst (λ (x : List Live). All (λ (l : Live). l.executor.given ≤ n) x) (sym c.live) g
 
 -- the names are there where a stream may have been added
 pub named_with : (streams : List Shape) (shape : Shape) (live : List Live) → All (λ (l : Live). HasNamed streams l.executor.query) live → All (λ (l : Live). HasNamed (with_stream streams shape) l.executor.query) live

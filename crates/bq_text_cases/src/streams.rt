@@ -108,7 +108,7 @@ fn show_read<O: Sink>(
     }
 }
 
-/// The row that a line is: the number of its stream and its values, or why it is refused.
+/// Writes the row that a line is: the number of its stream and its values, or why it is refused.
 pub fn show_row<O: Sink>(
     alloc: Global,
     catalog: &Catalog,
@@ -159,7 +159,7 @@ fn show_asked<O: Sink>(
     Ok(())
 }
 
-/// The query that a text creates, printed from SELECT on, or why it is refused.
+/// Writes the query that a text creates, printed from SELECT on, or why it is refused.
 pub fn show_query<O: Sink>(
     alloc: Global,
     catalog: &Catalog,

@@ -18,7 +18,7 @@ fn show_tokens<O: Sink>(alloc: Global, tokens: &Tokens, out: &mut O) -> Result<(
     Ok(())
 }
 
-/// The tokens of a text, or where none begins.
+/// Writes the tokens of a text, or where none begins.
 pub fn show_lexed<O: Sink>(alloc: Global, text: &[u8], out: &mut O) -> Result<(), Fault> {
     if text.len() > 1024 {
         return Err(Fault::Line);
@@ -33,7 +33,7 @@ pub fn show_lexed<O: Sink>(alloc: Global, text: &[u8], out: &mut O) -> Result<()
     }
 }
 
-/// Why a text is no statement that is taken.
+/// Writes why a text is no statement that is taken.
 pub fn show_refused<O: Sink>(alloc: Global, error: ParseError, out: &mut O) -> Result<(), Fault> {
     let refusal = match error {
         ParseError::Syntax { at } => format!(in alloc; "Syntax at {at}")?,
@@ -43,7 +43,7 @@ pub fn show_refused<O: Sink>(alloc: Global, error: ParseError, out: &mut O) -> R
     Ok(())
 }
 
-/// The statement that a text is, in its printed form.
+/// Writes the statement that a text is, in its printed form.
 pub fn show_parsed<O: Sink>(alloc: Global, text: &[u8], out: &mut O) -> Result<(), Fault> {
     if text.len() > 1024 {
         return Err(Fault::Line);
@@ -55,7 +55,7 @@ pub fn show_parsed<O: Sink>(alloc: Global, text: &[u8], out: &mut O) -> Result<(
     Ok(())
 }
 
-/// The kind of a line, and what is left of it.
+/// Writes the kind of a line, and what is left of it.
 pub fn show_kind<O: Sink>(alloc: Global, text: &[u8], out: &mut O) -> Result<(), Fault> {
     let (kind, left) = classify(text);
     let kind = format!(in alloc; "{kind:?}")?;
@@ -64,7 +64,7 @@ pub fn show_kind<O: Sink>(alloc: Global, text: &[u8], out: &mut O) -> Result<(),
     Ok(())
 }
 
-/// The name that a text is.
+/// Writes the name that a text is.
 pub fn show_name<O: Sink>(text: &[u8], out: &mut O) -> Result<(), Fault> {
     match Name::read(text) {
         Some(name) => write_all(out, name.bytes())?,
@@ -73,7 +73,7 @@ pub fn show_name<O: Sink>(text: &[u8], out: &mut O) -> Result<(), Fault> {
     Ok(())
 }
 
-/// The value that a text is.
+/// Writes the value that a text is.
 pub fn show_value<O: Sink>(alloc: Global, text: &[u8], out: &mut O) -> Result<(), Fault> {
     match read_i64(text) {
         Some(value) => {

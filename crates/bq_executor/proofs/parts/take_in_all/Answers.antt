@@ -4,6 +4,8 @@ use Rattle.bq_model.specs.declared.plan.PartPlan.{PartPlan}
 use Rattle.bq_model.specs.Meaning.{by_column}
 use Rattle.bq_model.specs.Parts.{pairs}
 use Rattle.bq_executor.specs.Chains.{buckets_of, row_bucket, IsNext}
+use Rattle.bq_executor.proofs.Inserting.{part_plan}
+use Rattle.bq_executor.proofs.Owning.{first-has, has-several}
 use Rattle.bq_executor.proofs.Taken.{taken_step, ready_part, room_part, room_now, table_more, work_more}
 use Rattle.bq_executor.proofs.Chained.{passed_by, led_within, led_there}
 use Rattle.bq_executor.proofs.PassedOver.{HaveDone, nothing_done, same_state, passed_one, passed_over}
@@ -36,33 +38,44 @@ spot_of-spot-requires-clause-prepared g c =
     = slice_get-get_or c.args.parts.now c.parts.i c.get-part.result.now (omega arith) ∙ ap (λ (p : PartPlan). Some p) (sym (c.get-part.ensures c.get-part.result.now)) in
     c.part-known.ensures c.get-part.result.now at_n
 
-pub take_row-requires-clause-ready : goal.take_row-requires-clause-ready
-take_row-requires-clause-ready g c =
+pub answer_row-requires-clause-ready : goal.answer_row-requires-clause-ready
+answer_row-requires-clause-ready g c =
     let at_n : slice_get c.args.parts.now c.parts.i ≡ Some c.get-part.result.now
     = slice_get-get_or c.args.parts.now c.parts.i c.get-part.result.now (omega arith) ∙ ap (λ (p : PartPlan). Some p) (sym (c.get-part.ensures c.get-part.result.now)) in
     ready_part c.args.q.now c.args.parts.now c.args.e.now c.args.pos c.requires.here c.args.row.now.items c.args.pool.now c.requires.ready c.parts.i c.get-part.result.now at_n c.parts.pool c.parts.invariant.done.taken
 
-pub take_row-requires-clause-prepared : goal.take_row-requires-clause-prepared
-take_row-requires-clause-prepared g c =
+pub put_row-requires-clause-ready : goal.put_row-requires-clause-ready
+put_row-requires-clause-ready g c =
+    let at_n : slice_get c.args.parts.now c.parts.i ≡ Some c.get-part.result.now
+    = slice_get-get_or c.args.parts.now c.parts.i c.get-part.result.now (omega arith) ∙ ap (λ (p : PartPlan). Some p) (sym (c.get-part.ensures c.get-part.result.now)) in
+    ready_part c.args.q.now c.args.parts.now c.args.e.now c.args.pos c.requires.here c.args.row.now.items c.args.pool.now c.requires.ready c.parts.i c.get-part.result.now at_n c.parts.pool c.parts.invariant.done.taken
+
+pub answer_row-requires-clause-prepared : goal.answer_row-requires-clause-prepared
+answer_row-requires-clause-prepared g c =
     let at_n : slice_get c.args.parts.now c.parts.i ≡ Some c.get-part.result.now
     = slice_get-get_or c.args.parts.now c.parts.i c.get-part.result.now (omega arith) ∙ ap (λ (p : PartPlan). Some p) (sym (c.get-part.ensures c.get-part.result.now)) in
     c.part-known.ensures c.get-part.result.now at_n
 
-pub take_row-requires-clause-counts : goal.take_row-requires-clause-counts
-take_row-requires-clause-counts g c =
+pub put_row-requires-clause-counts : goal.put_row-requires-clause-counts
+put_row-requires-clause-counts g c = λ own.
     let at_n : slice_get c.args.parts.now c.parts.i ≡ Some c.get-part.result.now
     = slice_get-get_or c.args.parts.now c.parts.i c.get-part.result.now (omega arith) ∙ ap (λ (p : PartPlan). Some p) (sym (c.get-part.ensures c.get-part.result.now)) in
     room_part c.args.q.now c.args.parts.now c.args.e.now c.args.pos c.requires.here c.args.row.now.items c.args.pool.now c.requires.ready c.parts.i c.get-part.result.now at_n c.parts.pool c.parts.invariant.done.taken
+    (first-has c.args.q.now c.args.parts.now c.get-part.result.now c.args.pos c.parts.i (sym c.owns-owns.ensures ∙ own))
 
-pub take_row-requires-clause-room : goal.take_row-requires-clause-room
-take_row-requires-clause-room g c =
+pub put_row-requires-clause-several : goal.put_row-requires-clause-several
+put_row-requires-clause-several g c = λ own.
+    has-several c.args.q.now c.args.parts.now c.get-part.result.now c.args.pos c.parts.i (sym c.owns-owns.ensures ∙ own)
+
+pub answer_row-requires-clause-room : goal.answer_row-requires-clause-room
+answer_row-requires-clause-room g c =
     let at_n : slice_get c.args.parts.now c.parts.i ≡ Some c.get-part.result.now
     = slice_get-get_or c.args.parts.now c.parts.i c.get-part.result.now (omega arith) ∙ ap (λ (p : PartPlan). Some p) (sym (c.get-part.ensures c.get-part.result.now)) in
     room_now c.args.q.now c.args.parts.now c.args.e.now c.args.pos c.requires.here c.args.row.now.items c.args.pool.now c.requires.ready c.parts.i c.get-part.result.now at_n c.parts.pool c.parts.invariant.done.taken
     c.args.q.now.distinct c.args.table.now c.parts.table c.requires.room c.parts.invariant.done.found
 
-pub take_row-requires-clause-full : goal.take_row-requires-clause-full
-take_row-requires-clause-full g c = λ full.
+pub answer_row-requires-clause-full : goal.answer_row-requires-clause-full
+answer_row-requires-clause-full g c = λ full.
     let at_n : slice_get c.args.parts.now c.parts.i ≡ Some c.get-part.result.now
     = slice_get-get_or c.args.parts.now c.parts.i c.get-part.result.now (omega arith) ∙ ap (λ (p : PartPlan). Some p) (sym (c.get-part.ensures c.get-part.result.now)) in
     full-part c.args.q.now c.args.parts.now c.parts.filled c.parts.table.entries c.parts.i c.get-part.result.now c.parts.invariant.filled at_n
@@ -70,7 +83,7 @@ take_row-requires-clause-full g c = λ full.
 
 pub advance-requires : goal.advance-requires
 advance-requires g c =
-    filled-later c.args.q.now c.args.parts.now c.parts.filled _ c.parts.table c.take_row.new.table c.take_row.ensures.table c.parts.invariant.filled
+    filled-later c.args.q.now c.args.parts.now c.parts.filled _ c.parts.table c.answer_row.new.table c.answer_row.ensures.table c.parts.invariant.filled
 
 pub parts-preserved : goal.parts-preserved
 parts-preserved g c =
@@ -86,12 +99,12 @@ parts-preserved g c =
       | then-is_inside w ↦ record {
         taken =
             taken_step c.args.q.now c.args.parts.now c.args.e.now c.args.pos c.requires.here c.args.row.now.items c.args.pool.now c.requires.ready c.parts.i c.get-part.result.now at_n c.parts.pool c.parts.invariant.done.taken
-            c.if-is_inside.pool (w.pool-is ∙ w.take_row.ensures.pool);
+            w.owns-owns.result w.owns-owns.ensures c.if-is_inside.pool (w.pool-is ∙ w.put_row.ensures.pool);
         found =
             table_more c.args.q.now c.args.parts.now c.args.e.now c.args.pos c.requires.here c.args.row.now.items c.args.pool.now c.requires.ready c.parts.i c.get-part.result.now at_n c.parts.pool c.parts.invariant.done.taken
-            c.args.q.now.distinct c.args.table.now c.parts.table c.if-is_inside.table c.parts.invariant.done.found (w.table-is ∙ w.take_row.ensures.table);
-        reads = (let a = c.parts.invariant.done.reads in let b = w.take_row.ensures.reads in let s = ap (λ (x : StepsValue). x.reads) w.steps-is in omega (arith, more, a, b, s));
-        writes = (let a = c.parts.invariant.done.writes in let b = w.take_row.ensures.writes in let s = ap (λ (x : StepsValue). x.writes) w.steps-is in omega (arith, a, b, s));
+            c.args.q.now.distinct c.args.table.now c.parts.table c.if-is_inside.table c.parts.invariant.done.found (w.table-is ∙ w.answer_row.ensures.table);
+        reads = (let a = c.parts.invariant.done.reads in let b = w.answer_row.ensures.reads in let d = w.put_row.ensures.reads in let s = ap (λ (x : StepsValue). x.reads) w.steps-is in omega (arith, more, a, b, d, s));
+        writes = (let a = c.parts.invariant.done.writes in let b = w.answer_row.ensures.writes in let d = w.put_row.ensures.writes in let s = ap (λ (x : StepsValue). x.writes) w.steps-is in omega (arith, a, b, d, s));
       }
       | else-is_inside w ↦
           same_state c.args.q.now c.args.parts.now c.args.e.now c.args.pos c.args.row.now.items c.args.pool.now c.args.table.now c.args.steps.now (c.parts.i + 1) c.parts.pool c.if-is_inside.pool c.parts.table c.if-is_inside.table c.parts.steps c.if-is_inside.steps w.pool-is w.table-is w.steps-is
@@ -100,7 +113,7 @@ parts-preserved g c =
     ] in
     let filled : AreFilled c.args.q.now c.args.parts.now c.if-is_inside.filled c.if-is_inside.table.entries
     = elim c.if-is_inside.branch [
-      | then-is_inside w ↦ subst (λ (t : TableValue). AreFilled c.args.q.now c.args.parts.now c.if-is_inside.filled t.entries) (sym w.table-is) (subst (λ (f : Filled). AreFilled c.args.q.now c.args.parts.now f w.take_row.new.table.entries) (sym w.filled-is) w.advance.ensures)
+      | then-is_inside w ↦ subst (λ (t : TableValue). AreFilled c.args.q.now c.args.parts.now c.if-is_inside.filled t.entries) (sym w.table-is) (subst (λ (f : Filled). AreFilled c.args.q.now c.args.parts.now f w.answer_row.new.table.entries) (sym w.filled-is) w.advance.ensures)
       | else-is_inside w ↦ subst (λ (t : TableValue). AreFilled c.args.q.now c.args.parts.now c.if-is_inside.filled t.entries) (sym w.table-is) (subst (λ (f : Filled). AreFilled c.args.q.now c.args.parts.now f c.parts.table.entries) (sym w.filled-is) c.parts.invariant.filled)
     ] in
     record {
@@ -116,3 +129,15 @@ parts-preserved g c =
 pub spot_of-spot-requires-clause-part : goal.spot_of-spot-requires-clause-part
 spot_of-spot-requires-clause-part g c =
     slice_get-get_or c.args.parts.now c.parts.i c.get-part.result.now (omega arith) ∙ ap (λ (p : PartPlan). Some p) (sym (c.get-part.ensures c.get-part.result.now))
+
+pub owns-owns-requires-clause-part : goal.owns-owns-requires-clause-part
+owns-owns-requires-clause-part g c =
+    slice_get-get_or c.args.parts.now c.parts.i c.get-part.result.now (omega arith) ∙ ap (λ (p : PartPlan). Some p) (sym (c.get-part.ensures c.get-part.result.now))
+
+pub spot_of-spot-requires-clause-here : goal.spot_of-spot-requires-clause-here
+spot_of-spot-requires-clause-here g c =
+    let at_n : slice_get c.args.parts.now c.parts.i ≡ Some c.get-part.result.now
+    = slice_get-get_or c.args.parts.now c.parts.i c.get-part.result.now (omega arith) ∙ ap (λ (p : PartPlan). Some p) (sym (c.get-part.ensures c.get-part.result.now)) in
+    let n = (part_plan c.args.q.now c.args.parts.now c.requires.ready.limits c.requires.ready.plan c.parts.i c.get-part.result.now at_n).count in
+    let l = c.requires.here in
+    omega (arith, n, l)

@@ -14,7 +14,7 @@ returns-in-CreateStream g c =
 pub returns-in-CreateQuery : goal.returns-in-CreateQuery
 returns-in-CreateQuery g c =
     writes_as c.put_query.result _ _ _ _
-    (ap printed_form c.in-CreateQuery.is ∙ sym (query_printed c.in-CreateQuery.name c.in-CreateQuery.select))
+    (ap printed_form c.in-CreateQuery.is ∙ sym (query_printed c.in-CreateQuery.name c.in-CreateQuery.select c.in-CreateQuery.shared))
     c.put_query.ensures
 
 pub returns-in-DropQuery : goal.returns-in-DropQuery

@@ -13,10 +13,10 @@ returns-in-Ok c = (
 
 pub returns-in-Err-Violation : goal.returns-in-Err-Violation
 returns-in-Err-Violation c =
-    let h = subst (λ e. IsLayout c.args.query.now (Err e)) c.in-Err-Violation.field-0-is c.in-Err-Violation.ensures in
+    let h = subst (λ e. IsLayout c.args.shared c.args.query.now (Err e)) c.in-Err-Violation.field-0-is c.in-Err-Violation.ensures in
     (c.requires.plain, few_parts c.args.query.now c.args.parts.now 4096 c.requires.parts c.requires.few, h.1)
 
 pub returns-in-Err-Limit : goal.returns-in-Err-Limit
 returns-in-Err-Limit c =
-    let h = subst (λ e. IsLayout c.args.query.now (Err e)) c.in-Err-Limit.field-0-is c.in-Err-Limit.ensures in
+    let h = subst (λ e. IsLayout c.args.shared c.args.query.now (Err e)) c.in-Err-Limit.field-0-is c.in-Err-Limit.ensures in
     (large (few_parts c.args.query.now c.args.parts.now 4096 c.requires.parts c.requires.few) h.1 h.0, c.most.ensures)

@@ -13,26 +13,26 @@ use Rattle.bq_executor.proofs.executor.Executor.give_up.Goals as goal
 
 pub invariant_of-self : goal.invariant_of-self
 invariant_of-self c =
-    let e : ExecutorValue = record { query = c.self.inside.query; plan = c.self.inside.plan; extent = c.self.inside.extent; given = c.self.inside.given; table = c.self.inside.table } in
-    (subst (λ (t : TableValue). IsSound (let o : ExecutorValue = record { query = c.self.inside.query; plan = c.self.inside.plan; extent = c.self.inside.extent; given = c.self.inside.given; table = t } in o)) (sym c.settle.ensures) (written-sound e c.self.invariant.0), c.self.invariant.1, c.self.invariant.2, filled-settled c.self.inside.query (parts_of c.self.inside.plan) c.self.inside.filled c.self.inside.table _ c.settle.ensures c.self.invariant.3)
+    let e : ExecutorValue = record { query = c.self.inside.query; shared = c.self.inside.shared; plan = c.self.inside.plan; extent = c.self.inside.extent; given = c.self.inside.given; table = c.self.inside.table } in
+    (subst (λ (t : TableValue). IsSound (let o : ExecutorValue = record { query = c.self.inside.query; shared = c.self.inside.shared; plan = c.self.inside.plan; extent = c.self.inside.extent; given = c.self.inside.given; table = t } in o)) (sym c.settle.ensures) (written-sound e c.self.invariant.0), c.self.invariant.1, c.self.invariant.2, filled-settled c.self.inside.query (parts_of c.self.inside.plan) c.self.inside.filled c.self.inside.table _ c.settle.ensures c.self.invariant.3)
 
 pub returns-clause-none : goal.returns-clause-none
 returns-clause-none c =
-    ap (λ (t : TableValue). waiting_in (let o : ExecutorValue = record { query = c.self.inside.query; plan = c.self.inside.plan; extent = c.self.inside.extent; given = c.self.inside.given; table = t } in o)) c.settle.ensures ∙ settled-spelled c.self.inside.table.entries
+    ap (λ (t : TableValue). waiting_in (let o : ExecutorValue = record { query = c.self.inside.query; shared = c.self.inside.shared; plan = c.self.inside.plan; extent = c.self.inside.extent; given = c.self.inside.given; table = t } in o)) c.settle.ensures ∙ settled-spelled c.self.inside.table.entries
 
 pub returns-clause-tuples : goal.returns-clause-tuples
 returns-clause-tuples c =
-    ap (λ (t : TableValue). tuples_in (let o : ExecutorValue = record { query = c.self.inside.query; plan = c.self.inside.plan; extent = c.self.inside.extent; given = c.self.inside.given; table = t } in o)) c.settle.ensures ∙ settled-tuples c.self.inside.table.entries
+    ap (λ (t : TableValue). tuples_in (let o : ExecutorValue = record { query = c.self.inside.query; shared = c.self.inside.shared; plan = c.self.inside.plan; extent = c.self.inside.extent; given = c.self.inside.given; table = t } in o)) c.settle.ensures ∙ settled-tuples c.self.inside.table.entries
     ∙ ap tuples_in c.self.view_is
 
 pub returns-clause-history : goal.returns-clause-history
 returns-clause-history c =
-    let e : ExecutorValue = record { query = c.self.inside.query; plan = c.self.inside.plan; extent = c.self.inside.extent; given = c.self.inside.given; table = c.self.inside.table } in
-    subst (λ (x : ExecutorValue). (pool : PoolValue) (history : List Arrival) → StandsFor x pool history → StandsFor (let o : ExecutorValue = record { query = c.self.inside.query; plan = c.self.inside.plan; extent = c.self.inside.extent; given = c.self.inside.given; table = c.settle.new.self } in o) pool history) c.self.view_is
-    (λ pool history h. subst (λ (t : TableValue). StandsFor (let o : ExecutorValue = record { query = c.self.inside.query; plan = c.self.inside.plan; extent = c.self.inside.extent; given = c.self.inside.given; table = t } in o) pool history) (sym c.settle.ensures) (written-stands e pool history h))
+    let e : ExecutorValue = record { query = c.self.inside.query; shared = c.self.inside.shared; plan = c.self.inside.plan; extent = c.self.inside.extent; given = c.self.inside.given; table = c.self.inside.table } in
+    subst (λ (x : ExecutorValue). (pool : PoolValue) (history : List Arrival) → StandsFor x pool history → StandsFor (let o : ExecutorValue = record { query = c.self.inside.query; shared = c.self.inside.shared; plan = c.self.inside.plan; extent = c.self.inside.extent; given = c.self.inside.given; table = c.settle.new.self } in o) pool history) c.self.view_is
+    (λ pool history h. subst (λ (t : TableValue). StandsFor (let o : ExecutorValue = record { query = c.self.inside.query; shared = c.self.inside.shared; plan = c.self.inside.plan; extent = c.self.inside.extent; given = c.self.inside.given; table = t } in o) pool history) (sym c.settle.ensures) (written-stands e pool history h))
 
 pub returns-clause-within : goal.returns-clause-within
 returns-clause-within c =
-    let e : ExecutorValue = record { query = c.self.inside.query; plan = c.self.inside.plan; extent = c.self.inside.extent; given = c.self.inside.given; table = c.self.inside.table } in
-    subst (λ (x : ExecutorValue). (pool : PoolValue) → KeepsWithin x pool → KeepsWithin (let o : ExecutorValue = record { query = c.self.inside.query; plan = c.self.inside.plan; extent = c.self.inside.extent; given = c.self.inside.given; table = c.settle.new.self } in o) pool) c.self.view_is
-    (λ pool w. subst (λ (t : TableValue). KeepsWithin (let o : ExecutorValue = record { query = c.self.inside.query; plan = c.self.inside.plan; extent = c.self.inside.extent; given = c.self.inside.given; table = t } in o) pool) (sym c.settle.ensures) (written-within e c.self.invariant.0 pool w))
+    let e : ExecutorValue = record { query = c.self.inside.query; shared = c.self.inside.shared; plan = c.self.inside.plan; extent = c.self.inside.extent; given = c.self.inside.given; table = c.self.inside.table } in
+    subst (λ (x : ExecutorValue). (pool : PoolValue) → KeepsWithin x pool → KeepsWithin (let o : ExecutorValue = record { query = c.self.inside.query; shared = c.self.inside.shared; plan = c.self.inside.plan; extent = c.self.inside.extent; given = c.self.inside.given; table = c.settle.new.self } in o) pool) c.self.view_is
+    (λ pool w. subst (λ (t : TableValue). KeepsWithin (let o : ExecutorValue = record { query = c.self.inside.query; shared = c.self.inside.shared; plan = c.self.inside.plan; extent = c.self.inside.extent; given = c.self.inside.given; table = t } in o) pool) (sym c.settle.ensures) (written-within e c.self.invariant.0 pool w))

@@ -1,11 +1,20 @@
 use Rattle.std.proofs.Common.{ap, sym, subst, refl, ◌∙◌, length, arith}
 use Rattle.bq_answers.specs.Entries.{TableValue, Ascends}
 use Rattle.bq_model.specs.Numbers.{parts_of}
+use Rattle.bq_executor.proofs.PlanFacts.{has_parts}
+use Rattle.bq_executor.proofs.Behind.{plan-behind}
 use Rattle.bq_executor.proofs.FilledLaws.{filled-empty}
 use Rattle.bq_executor.proofs.Keeping.{keeps}
 use Rattle.bq_executor.proofs.Settled.{begins, none_within}
 use Rattle.bq_executor.specs.Executor.{ExecutorValue}
 use Rattle.bq_executor.proofs.executor.Executor.new.Goals as goal
+
+pub new-requires-clause-accepted : goal.new-requires-clause-accepted
+new-requires-clause-accepted c =
+    (has_parts c.args.shared c.args.query c.args.plan c.requires.accepted.plan, c.requires.accepted.violation)
+
+pub prepare_all-requires : goal.prepare_all-requires
+prepare_all-requires c = plan-behind c.args.shared c.args.query c.args.plan c.requires.accepted.plan
 
 pub invariant_of-result : goal.invariant_of-result
 invariant_of-result c =
@@ -27,12 +36,12 @@ invariant_of-result c =
 
 pub returns-in-Ok-new-2-clause-history : goal.returns-in-Ok-new-2-clause-history
 returns-in-Ok-new-2-clause-history c =
-    let e : ExecutorValue = record { query = c.args.query; plan = c.args.plan; extent = c.args.extent; given = 0; table = c.in-Ok-new-2.table } in
+    let e : ExecutorValue = record { query = c.args.query; shared = c.args.shared; plan = c.args.plan; extent = c.args.extent; given = 0; table = c.in-Ok-new-2.table } in
     let is = c.in-Ok-new-2.ensures in
     begins e (invariant_of-result c).0 refl (ap (λ (t : TableValue). t.entries) is)
 
 pub returns-in-Ok-new-2-clause-within : goal.returns-in-Ok-new-2-clause-within
 returns-in-Ok-new-2-clause-within c = λ pool live empty.
-    let e : ExecutorValue = record { query = c.args.query; plan = c.args.plan; extent = c.args.extent; given = 0; table = c.in-Ok-new-2.table } in
+    let e : ExecutorValue = record { query = c.args.query; shared = c.args.shared; plan = c.args.plan; extent = c.args.extent; given = 0; table = c.in-Ok-new-2.table } in
     let sound = (invariant_of-result c).0 in
     keeps e sound pool live (begins e sound refl (ap (λ (t : TableValue). t.entries) c.in-Ok-new-2.ensures) pool live empty).rest

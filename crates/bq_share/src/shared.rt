@@ -1,0 +1,125 @@
+//! A live query with shared cells: a clause sees the executor that it is.
+ghost use Rattle.std.specs.Prelude.{◌≡◌, ◌+◌, ◌*◌, ◌≤◌, ◌^◌, ◌==◌, ℤ, List, [], min, true, false, IsTrue, MatchResult, IfOk, length, replicate};
+ghost use Rattle.std.specs.List.{list_any};
+ghost use Rattle.bq_model.specs.declared.cell.Cell.TheVariants as cell;
+ghost use Rattle.bq_model.specs.Query.{is_filter};
+ghost use Rattle.bq_model.specs.Meaning.{Arrival};
+ghost use Rattle.bq_model.specs.Domains.{RowKeeps};
+ghost use Rattle.bq_model.specs.Merge.{merged_table};
+ghost use Rattle.bq_model.specs.Numbers.{page_count, pages_of, work};
+ghost use Rattle.bq_model.specs.Sharing.{shared_cells};
+ghost use Rattle.bq_laws.specs.Growth.{occurs};
+ghost use Rattle.bq_io.specs.Sink.{Writes};
+ghost use Rattle.bq_pool.specs.Extents.{PoolValue, cells_of, IsLive, IsGivenBack};
+ghost use Rattle.bq_answers.specs.Entries.{waiting_of, settled};
+ghost use Rattle.bq_executor.specs.Executor.{IsAccepted, IsSound, arrival, most_answers, parts_in, tuples_in, waiting_in, with_given};
+ghost use Rattle.bq_executor.specs.Standing.{AreKept, KeepsWithin, IsReady, future_in, pool_with};
+ghost use Rattle.bq_executor.specs.Written.{answer_lines};
+ghost use Rattle.bq_share.specs.Shared.{StandsForShared, TookSharedRow};
+
+use bq_executor::Executor;
+use bq_io::{Sink, WriteFault};
+use bq_model::{Plan, Query, Row};
+use bq_pool::{Extent, Pool, Steps};
+use bq_text::Name;
+use std::alloc::{AllocError, Global};
+use std::marker::Model;
+use std::sync::ledger::Ledger;
+
+/// A live query with shared cells. Like its extent it cannot be dropped: `close` spends it.
+pub struct SharedExecutor {
+    inner: Executor,
+}
+
+impl Model for SharedExecutor {
+    ghost use Rattle.std.specs.Prelude.{◌≡◌, true};
+    ghost use Rattle.bq_executor.specs.Executor.{ExecutorValue};
+
+    ghost Value = { ExecutorValue };
+
+    ghost view = { λ e. e.inner };
+
+    ghost invariant = { λ e. e.inner.shared ≡ true };
+}
+
+impl SharedExecutor {
+    /// Returns the executor of an accepted query by its plan with shared cells, to which no row was given. An error says that memory was not
+    /// found, and gives the extent back; no other call takes any.
+    pub fn new(
+        alloc: Global,
+        query: Query,
+        plan: Plan,
+        extent: Extent,
+    ) -> Result<SharedExecutor, (Extent, AllocError)>
+        requires accepted { IsAccepted true query plan }
+        requires pages { extent.pages ≡ pages_of plan }
+        ensures value { MatchResult result (λ e. e ≡ record { query = query; shared = true; plan = plan; extent = extent; given = 0; table = record { width = length query.select; capacity = most_answers plan; entries = [] } }) (λ refused. refused.0 ≡ extent) }
+        ensures history { IfOk result (λ e. (pool : PoolValue) → IsLive pool extent → cells_of pool extent ≡ replicate (64 * extent.pages) cell.Empty → StandsForShared e pool []) }
+        ensures within { IfOk result (λ e. (pool : PoolValue) → IsLive pool extent → cells_of pool extent ≡ replicate (64 * extent.pages) cell.Empty → KeepsWithin e pool) }
+    {
+        match Executor::new(alloc, query, true, plan, extent) {
+            Ok(inner) => Ok(SharedExecutor { inner }),
+            Err(refused) => Err(refused),
+        }
+    }
+
+    /// Takes a row as an executor does: each box that it lies in takes it once. Where the query stood for a history, the new answers
+    /// wait, and it then stands for the history with the row. It reads at most three cells for each unit of announced work and one for
+    /// each part, and writes at most one for each part.
+    pub fn row<L: Ledger>(&mut self, pool: &mut Pool, stream: u8, row: &Row, steps: &mut Steps<L>)
+        requires ready { IsReady self.old pool.old }
+        requires keeps { RowKeeps self.old.query (arrival stream row.now.items) }
+        ensures waits { (t : List ℤ) → waiting_of t self.new.table.entries ≡ min (occurs t (future_in self.old pool.old (arrival stream row.now.items))) (2 ^ 127) }
+        ensures cells { pool.new ≡ pool_with self.old pool.old (arrival stream row.now.items) }
+        ensures tuples { self.old.query.distinct ≡ true → tuples_in self.new ≡ merged_table (tuples_in self.old) (future_in self.old pool.old (arrival stream row.now.items)) }
+        ensures same { self.new ≡ with_given self.old (self.old.given + 1) self.new.table.entries }
+        ensures kept { AreKept self.new pool.new }
+        ensures within { KeepsWithin self.old pool.old → KeepsWithin self.new pool.new }
+        ensures reads { steps.new.reads ≤ steps.old.reads + 3 * work (parts_in self.old) + length (parts_in self.old) }
+        ensures writes { steps.new.writes ≤ steps.old.writes + length (parts_in self.old) }
+        ensures alone { IsTrue (is_filter self.old.query) → steps.new ≡ steps.old }
+        ensures outside { list_any (λ s. stream == s) self.old.query.from ≡ false → steps.new ≡ steps.old }
+        ensures history { TookSharedRow self.old pool.old (arrival stream row.now.items) self.new pool.new }
+    {
+        self.inner.row(pool, stream, row, steps);
+    }
+
+    /// Writes a line for each answer that waits, in ascending order. Then nothing waits, also after a fault; all else is as before.
+    pub fn emit<O: Sink>(&mut self, name: &Name, out: &mut O) -> Result<(), WriteFault>
+        ensures writes { Writes result (O.seen out.old) (O.seen out.new) (answer_lines name.now (waiting_in self.old)) }
+        ensures none { waiting_in self.new ≡ [] }
+        ensures same { self.new ≡ with_given self.old self.old.given (settled self.old.table.entries) }
+        ensures tuples { tuples_in self.new ≡ tuples_in self.old }
+        ensures kept { (pool : PoolValue) → AreKept self.old pool → AreKept self.new pool }
+        ensures within { (pool : PoolValue) → KeepsWithin self.old pool → KeepsWithin self.new pool }
+        ensures history { (pool : PoolValue) (history : List Arrival) → StandsForShared self.old pool history → StandsForShared self.new pool history }
+    {
+        self.inner.emit(name, out)
+    }
+
+    /// Returns the query.
+    pub fn query(&self) -> &Query
+        ensures value { result.now ≡ self.now.query }
+        ensures sound { IsSound self.now }
+    {
+        self.inner.query()
+    }
+
+    /// Returns its plan, with shared cells. The extent has just the pages of the different boxes, and those of a filter are none.
+    pub fn plan(&self) -> &Plan
+        ensures value { result.now ≡ self.now.plan }
+        ensures shared { self.now.shared ≡ true }
+        ensures pages { self.now.extent.pages ≡ page_count (shared_cells self.now.query (parts_in self.now)) }
+    {
+        self.inner.plan()
+    }
+
+    /// Gives the pages of the cells back.
+    pub fn close(self, pool: &mut Pool)
+        requires { IsLive pool.old self.extent }
+        ensures { IsGivenBack pool.old self.extent pool.new }
+    {
+        let SharedExecutor { inner } = self;
+        inner.close(pool);
+    }
+}
