@@ -1,5 +1,5 @@
 -- Rows like the blank ones of a catalog are rows that a session takes.
-use Rattle.std.proofs.Common.{◌≡◌, ℕ, zero, suc, ◌<◌, ◌≤◌, ◌⊎◌, inl, inr, Bool, true, false, not, ◌&&◌, List, [], ◌∷◌, map, length, Option, None, Some, Result, Ok, Err, refl, sym, ap, ◌∙◌, subst, arith, ℤ, pos, ◌≤ℤ◌, int_lt, slice_index_or, Contains}
+use Rattle.std.proofs.Common.{◌≡◌, ℕ, zero, suc, ◌<◌, ◌≤◌, ◌⊎◌, inl, inr, Bool, true, false, not, ◌&&◌, List, [], ◌∷◌, map, length, Option, None, Some, Result, Ok, Err, refl, sym, ap, ◌∙◌, subst, arith, ℤ, pos, negsuc, ◌≤ℤ◌, int_lt, slice_index_or, FitsSigned, w64, Contains}
 use Rattle.std.proofs.lemmas.Int.{ints}
 use Rattle.std.proofs.lemmas.List.{length-map}
 use Rattle.std.proofs.lemmas.List.Elements.{All-contains, Contains-get_or}
@@ -10,7 +10,7 @@ use Rattle.bq_model.specs.declared.atom.Domain.{Domain}
 use Rattle.bq_model.specs.declared.condition.Condition.{Condition}
 use Rattle.bq_model.specs.declared.decision.Decision.{Decision}
 use Rattle.bq_model.specs.declared.decision.Decision.TheVariants as decision
-use Rattle.bq_model.specs.Query.{QueryValue, attrs_of, attr_eq, attr_lt, with_new}
+use Rattle.bq_model.specs.Query.{QueryValue, IsShort, attrs_of, attr_eq, attr_lt, with_new}
 use Rattle.bq_model.specs.Assignment.{lies_in}
 use Rattle.bq_model.specs.Meaning.{Arrival, by_column}
 use Rattle.bq_model.proofs.Elements.{with_new-has_new, with_new-has_old, attr_separates}
@@ -34,7 +34,17 @@ use Rattle.bq_families.specs.Answer.{IsTakenRow, AnswersBroken, IsFamilyAnswer}
 least-lies : (ends : ℤ × ℤ) → ends.0 ≤ℤ ends.1 → (not (int_lt ends.0 ends.0) && not (int_lt ends.1 ends.0)) ≡ true
 least-lies ends l = grind (arith, ints, l)
 
-get-map : {X Y : Type 0} (g : X → Y) (xs : List X) (i : ℕ) (d : X) (e : Y) → i < length xs → slice_index_or (map g xs) i e ≡ g (slice_index_or xs i d)
+-- what may be written in a statement fits in 64 bits
+short-fits : (x : ℤ) → IsShort x → FitsSigned w64 x
+short-fits (pos m) s = record { sfits = (let h = s.high in omega (arith, ints, h)) }
+short-fits (negsuc m) s = record { sfits = (let l = s.low in omega (arith, ints, l)) }
+
+-- the least value of a domain fits, and 0
+least-fits : (domain : Option (ℤ × ℤ)) → HasEnds domain → FitsSigned w64 (least domain)
+least-fits None h = record { sfits = omega arith }
+least-fits (Some ends) h = short-fits ends.0 h.short_low
+
+pub get-map : {X Y : Type 0} (g : X → Y) (xs : List X) (i : ℕ) (d : X) (e : Y) → i < length xs → slice_index_or (map g xs) i e ≡ g (slice_index_or xs i d)
 get-map g [] i d e l = absurd (omega (arith, l))
 get-map g (x ∷ xs) zero d e l = refl
 get-map g (x ∷ xs) (suc i) d e l = get-map g xs i d e (omega (arith, l))
@@ -69,10 +79,13 @@ shape-ends [] f s = λ k d l. absurd (omega (arith, l))
 shape-ends (x ∷ xs) f zero = (f x first).domains
 shape-ends (x ∷ xs) f (suc s) = shape-ends xs (λ y h. f y (later h)) s
 
+has-ends : (streams : List Shape) → IsCatalog streams → (stream c : ℕ) → HasEnds (domain_at streams stream c)
+has-ends streams is stream c =
+    column-ends (shape_at streams stream).columns (shape-ends streams (λ x i. All-contains IsShape streams x is.shapes (Contains-from_has streams x i)) stream) c
+
 domain-ends : (streams : List Shape) → IsCatalog streams → (stream c : ℕ) (ends : ℤ × ℤ) → domain_at streams stream c ≡ Some ends → ends.0 ≤ℤ ends.1
 domain-ends streams is stream c ends e =
-    let h : HasEnds (domain_at streams stream c) = column-ends (shape_at streams stream).columns (shape-ends streams (λ x i. All-contains IsShape streams x is.shapes (Contains-from_has streams x i)) stream) c in
-    (subst HasEnds e h).some
+    (subst HasEnds e (has-ends streams is stream c)).some
 
 -- a domain that is made of that of a column
 record From (a : Attr) (domain : Option (ℤ × ℤ)) (d : Domain) : Type 0 where
@@ -125,8 +138,17 @@ module _ (streams : List Shape) (q : QueryValue) (named : HasNamed streams q) (i
       (subst (λ z. lies_in (record { attr = m.0; lo = f.ends.0; hi = f.ends.1 }) z ≡ true) (sym (blank-value m.0.stream m.0.column k.stream k.column ∙ ap least f.there))
       (least-lies f.ends (domain-ends streams is (slice_index_or q.from m.0.stream 0) m.0.column f.ends f.there)))
 
+  fits : (place : ℕ) → place < length q.from → All (FitsSigned w64) (slice_index_or blanks place [])
+  fits place l =
+      subst (All (FitsSigned w64)) (sym (blank-at place l))
+      (λ c d j.
+      let stream : ℕ = slice_index_or q.from place 0 in
+      let m : c < length (shape_at streams stream).columns = (let e = long stream in omega (arith, e, j)) in
+      subst (FitsSigned w64) (sym (get-upto (λ column. least (domain_at streams stream column)) (length (shape_at streams stream).columns) c d m))
+      (least-fits (domain_at streams stream c) (has-ends streams is stream c)))
+
   pub are-blanks : AreBlanks q blanks
-  are-blanks = record { many = length-map q.from (blank_row streams); wide = wide; keeps = keeps }
+  are-blanks = record { many = length-map q.from (blank_row streams); wide = wide; keeps = keeps; fits = fits }
 
   -- a row like a blank one lies in the domain of each column
   lies : (place : ℕ) → place < length q.from → (row : List ℤ) → IsLike q blanks place row → (c : ℕ) (domain : Option (ℤ × ℤ))
@@ -168,6 +190,7 @@ module _ (streams : List Shape) (q : QueryValue) (named : HasNamed streams q) (i
     there = subst (λ (s : ℕ). s < length streams) (sym k.stream) (All-contains (λ (n : ℕ). n < length streams) q.from (slice_index_or q.from k.place 0) named.from (Contains-get_or q.from k.place 0 k.there));
     wide = k.like.wide ∙ ap length (blank-at k.place k.there) ∙ long (slice_index_or q.from k.place 0) ∙ ap (λ (s : ℕ). length (shape_at streams s).columns) (sym k.stream);
     keeps = λ c. subst (λ (s : ℕ). lies_within (domain_at streams s c) (by_column r.values c) ≡ true) (sym k.stream) (lies k.place k.there r.values k.like c (domain_at streams (slice_index_or q.from k.place 0) c) refl);
+    fits = k.like.fits;
   }
 
   broken : (condition : Condition) (a : Attr) (n : ℕ) (result : Result FamilyValue LowerError) → LowersBroken q blanks condition a n result → AnswersBroken streams q condition a n result

@@ -1,5 +1,6 @@
 -- What is answered where a family over the streams of a catalog is asked for.
-use Rattle.std.specs.Prelude.{◌≡◌, ℕ, ◌<◌, ⊤, List, length, Contains, Result, Ok, Err}
+use Rattle.std.specs.Prelude.{◌≡◌, ℕ, ◌<◌, ⊤, List, length, All, Contains, FitsSigned, Result, Ok, Err}
+use Rattle.std.specs.Int.{w64}
 use Rattle.bq_model.specs.declared.atom.Attr.{Attr}
 use Rattle.bq_model.specs.declared.condition.Condition.{Condition}
 use Rattle.bq_model.specs.declared.condition.Condition.TheVariants.{C2, C3}
@@ -14,11 +15,12 @@ use Rattle.bq_lower.specs.Family.{FamilyValue, IsFamily, row_at, asking_at, as_a
 use Rattle.bq_lower.specs.Laws.{AreLocalFor}
 use Rattle.bq_lower.specs.Lowered.{HasPairAcross}
 
--- the arrival is a row of one of the streams, with a value for each of its columns, in the domains of the columns
+-- the arrival is a row of one of the streams, with a value of 64 bits for each of its columns, in the domains of the columns
 pub record IsTakenRow (streams : List Shape) (r : Arrival) : Type 0 where
   pub there : r.stream < length streams
   pub wide : length r.values ≡ length (shape_at streams r.stream).columns
   pub keeps : KeepsDomains streams r.stream r.values
+  pub fits : All (FitsSigned w64) r.values
 
 -- so have all rows of a family
 pub record AreTakenRows (streams : List Shape) (n : ℕ) (f : FamilyValue) : Type 0 where

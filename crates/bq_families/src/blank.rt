@@ -31,7 +31,7 @@ fn blank_row(catalog: &Catalog, stream: u8) -> Row
     row
 }
 
-/// Such a row for each of these streams.
+/// Returns such a row for each of these streams.
 pub fn blanks(catalog: &Catalog, from: &[u8]) -> ArrayVec<Row, 4>
     requires few { length from.now ≤ 4 }
     requires known { All (λ n. n < length catalog.now) from.now }

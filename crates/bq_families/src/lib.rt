@@ -3,5 +3,7 @@
 
 mod blank;
 mod making;
+mod printing;
 
 pub use making::family;
+pub use printing::write_rows;

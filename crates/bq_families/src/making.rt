@@ -11,7 +11,7 @@ use bq_model::{Decision, Part, Query};
 use bq_schema::Catalog;
 use std::alloc::Global;
 
-/// A family of n rows for the condition that the decision names, at its column. Its rows are rows of the catalog's streams, in the domains of
+/// Returns a family of n rows for the condition that the decision names, at its column. Its rows are rows of the catalog's streams, in the domains of
 /// their columns; a column that does not matter has the least value of its domain, or 0. `Bounded` where the query breaks no condition; `C3`
 /// where it breaks the third; `C2` where it breaks the second and one of its pairs lies between streams; `Memory` where there is none.
 pub fn family(

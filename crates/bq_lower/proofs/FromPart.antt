@@ -75,10 +75,10 @@ ground-made q s a g known free attrs from named node low high small_low small_hi
         record { low = x; high = y; above = u.above; below = w.below }
 
 -- the rows that were made are a family of rows from assignments of the part
-pub family-of : (q : QueryValue) (s : List Sign) (a : Attr) (g : Ground) (n : ℕ) (f : FamilyValue) (blanks : List (List ℤ)) → IsWithinLimits q → IsPart q s → IsGroundOf q s a g → IsRead q a
+pub family-of : (q : QueryValue) (s : List Sign) (a : Attr) (g : Ground) (n : ℕ) (f : FamilyValue) (blanks : List (List ℤ)) → n ≤ 65536 → IsWithinLimits q → IsPart q s → IsGroundOf q s a g → IsRead q a
     → (IsBounded q s a → ⊥) → a.stream < length q.from → rows_in g.blanks.now ≡ blanks → AreBlanks q blanks → f.stream ≡ slice_index_or q.from a.stream 0
     → AreMembers g a.stream n f.rows f.asking → IsMadeFamily q s a blanks n f
-family-of q s a g n f blanks within part ground read free there same are stream made =
+family-of q s a g n f blanks few within part ground read free there same are stream made =
     let b : AreBlanks q (rows_in g.blanks.now) = subst (AreBlanks q) (sym same) are in
     subst (λ (z : List (List ℤ)). IsMadeFamily q s a z n f) same record {
       stream = stream;
@@ -86,7 +86,7 @@ family-of q s a g n f blanks within part ground read free there same are stream 
       many = made.asked;
       asks = family-asks q within s part a g n f ground read free there b stream made;
       made = family-made q within s part a g n f ground read free there b stream made;
-      like = family-like q within s part a g n f ground read free there b stream made;
+      like = family-like q within s part a g n f ground read free there b stream made few;
     }
 
 read-of : (q : QueryValue) (s : List Sign) (condition : Condition) (a : Attr) → Breaks q s condition a → AreLocalFor q condition → IsRead q a

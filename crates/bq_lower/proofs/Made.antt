@@ -1,5 +1,5 @@
 -- What is made from solutions of the bounds of a part is a family.
-use Rattle.std.proofs.Common.{◌≡◌, ◌≢◌, ℕ, zero, suc, ◌<◌, ◌≤◌, ◌==◌, ◌⊎◌, inl, inr, nat_eq, List, [], ◌∷◌, ◌++◌, map, length, cond, Bool, true, false, Option, None, Some, refl, sym, ap, ap₂, ◌∙◌, subst, arith, ℤ, pos, ◌+ℤ◌, ◌-ℤ◌, slice_index_or, Contains}
+use Rattle.std.proofs.Common.{◌≡◌, ◌≢◌, ℕ, zero, suc, ◌<◌, ◌≤◌, ◌==◌, ◌⊎◌, inl, inr, nat_eq, List, [], ◌∷◌, ◌++◌, map, length, cond, Bool, true, false, Option, None, Some, refl, sym, ap, ap₂, ◌∙◌, subst, arith, ℤ, pos, ◌+ℤ◌, ◌-ℤ◌, slice_index_or, All, FitsSigned, w64, Contains}
 use Rattle.std.proofs.lemmas.Int.{ints}
 use Rattle.std.proofs.lemmas.Bool.Decides.{nat_tests}
 use Rattle.std.proofs.lemmas.List.Elements.{All-contains}
@@ -35,6 +35,8 @@ use Rattle.bq_lower.specs.Blanks.{IsRead, AreBlanks, IsLike}
 use Rattle.bq_lower.specs.Shown.{rows_in}
 use Rattle.bq_lower.specs.Lowered.{IsLikeBlank, AreLike}
 use Rattle.bq_lower.specs.Members.{value_for, target_for, cell_for, blank_at, others_for, asked_for, row_of, AreMembers, IsGroundOf}
+use Rattle.bq_lower.proofs.Cells.{cell-fits}
+use Rattle.bq_lower.proofs.Points.{value-fits, values-far}
 use Rattle.bq_lower.proofs.Telling.{at-row, holds-same, rows-joined}
 
 -- different numbers have different values
@@ -295,26 +297,42 @@ module _ (q : QueryValue) (within : IsWithinLimits q) (s : List Sign) (part : Is
           (ap (λ h. rows h f.stream) (several-asked k l e)
           ∙ lacks (row k) q.from a.stream (length q.from) f.stream (λ i m d. ap (λ (z : ℕ). slice_index_or q.from i 0 == z) stream ∙ differ i a.stream m there d))
 
-  like : (k : ℕ) → k < n → (place : ℕ) → place < length q.from → IsLike q (rows_in g.blanks.now) place (row k place)
-  like k l place m = record {
+  -- the values of a row fit in 64 bits
+  fits : n ≤ 65536 → (k : ℕ) → k < n → (place : ℕ) → place < length q.from → All (FitsSigned w64) (row k place)
+  fits few k l place m = λ c d j.
+      let b : Attr = record { stream = place; column = c } in
+      let w : c < length (blank_at g.blanks.now place) = (
+      let e = length-upto (λ column. cell_for g.attrs.now (xs k) g.named (val k) (record { stream = place; column = column }) (by_column (blank_at g.blanks.now place) column)) (length (blank_at g.blanks.now place)) in
+      omega (arith, e, j)) in
+      let small : k < 65536 = omega (arith, few, l) in
+      subst (FitsSigned w64)
+      (sym (get-upto (λ column. cell_for g.attrs.now (xs k) g.named (val k) (record { stream = place; column = column }) (by_column (blank_at g.blanks.now place) column)) (length (blank_at g.blanks.now place)) c d w))
+      (cell-fits g.attrs.now (xs k) g.named (val k) b (by_column (blank_at g.blanks.now place) c)
+      (value-fits g.low g.high k ground.ground.low ground.ground.high small)
+      (values-far g ground.ground k small (xs k) (xs k) (solved k l) refl)
+      (blanks.fits place m c (pos 0) w))
+
+  like : n ≤ 65536 → (k : ℕ) → k < n → (place : ℕ) → place < length q.from → IsLike q (rows_in g.blanks.now) place (row k place)
+  like few k l place m = record {
     wide = length-upto _ (length (blank_at g.blanks.now place));
     keeps = λ d c e.
         let h : Has q.domains d = Has-from_contains q.domains d c in
         subst (λ z. lies_in d z ≡ true) (at-is k d.attr (well.domains d c) ∙ ap (λ (m : ℕ). by_column (row k m) d.attr.column) e) (keeps-one k l d h);
+    fits = fits few k l place m;
     blank = λ column j nr.
         let b : Attr = record { stream = place; column = column } in
         cell-is k b (let e = length-upto (λ column. cell_for g.attrs.now (xs k) g.named (val k) (record { stream = place; column = column }) (by_column (blank_at g.blanks.now place) column)) (length (blank_at g.blanks.now place)) in omega (arith, e, j))
         ∙ stays k b (λ o. nr (subst (IsRead q) (sym o) read)) (λ i. nr (inl i));
   }
 
-  pub family-like : AreLike q (rows_in g.blanks.now) n f
-  family-like = record {
-    rows = λ k l. record { place = a.stream; there = there; stream = stream; like = subst (IsLike q (rows_in g.blanks.now) a.stream) (sym (own-row k l)) (like k l a.stream there) };
+  pub family-like : n ≤ 65536 → AreLike q (rows_in g.blanks.now) n f
+  family-like few = record {
+    rows = λ k l. record { place = a.stream; there = there; stream = stream; like = subst (IsLike q (rows_in g.blanks.now) a.stream) (sym (own-row k l)) (like few k l a.stream there) };
     asking = λ k l r c. by k l r (nat_eq (length q.from) 1) refl (Has-from_contains (asking_at f k) r c);
   }
     where
       row-like : (k : ℕ) → k < n → (r : Arrival) (place : ℕ) → place < length q.from → (record { stream = slice_index_or q.from place 0; values = row k place }) ≡ r → IsLikeBlank q (rows_in g.blanks.now) r
-      row-like k l r place m e = subst (IsLikeBlank q (rows_in g.blanks.now)) e record { place = place; there = m; stream = refl; like = like k l place m }
+      row-like k l r place m e = subst (IsLikeBlank q (rows_in g.blanks.now)) e record { place = place; there = m; stream = refl; like = like few k l place m }
 
       by : (k : ℕ) → k < n → (r : Arrival) (t : Bool) → nat_eq (length q.from) 1 ≡ t → Has (asking_at f k) r → IsLikeBlank q (rows_in g.blanks.now) r
       by k l r true e h =

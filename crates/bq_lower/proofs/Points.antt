@@ -1,5 +1,5 @@
 -- What holds of the point of a number, and rows one behind the other.
-use Rattle.std.proofs.Common.{◌≡◌, ℕ, zero, suc, ◌+◌, ◌<◌, ◌≤◌, nat_eq, cond, Bool, true, false, ◌⊎◌, inl, inr, List, [], ◌∷◌, ◌++◌, length, slice_index_or, All, Option, None, Some, refl, sym, ap, ap₂, ◌∙◌, subst, arith, ℤ, pos, negsuc, neg_ℤ, ◌+ℤ◌, ◌-ℤ◌, ◌≤ℤ◌, nat_abs, length-append}
+use Rattle.std.proofs.Common.{◌≡◌, ℕ, zero, suc, ◌+◌, ◌<◌, ◌≤◌, nat_eq, cond, Bool, true, false, ◌⊎◌, inl, inr, List, [], ◌∷◌, ◌++◌, length, slice_index_or, All, FitsSigned, w64, Option, None, Some, refl, sym, ap, ap₂, ◌∙◌, subst, arith, ℤ, pos, negsuc, neg_ℤ, ◌+ℤ◌, ◌-ℤ◌, ◌≤ℤ◌, nat_abs, length-append}
 use Rattle.std.proofs.lemmas.Int.{ints}
 use Rattle.std.proofs.lemmas.List.{map-append}
 use Rattle.arrayvec.specs.ArrayVec.{ArrayVec as Items}
@@ -18,6 +18,14 @@ value-near : (low high : Option ℤ) (number : ℕ) → IsSmall low → IsSmall 
 value-near (Some l) high number a b f = (let u = a.0 in let w = a.1 in abs-bound (l +ℤ pos number) 100000000000065536 (omega (arith, ints, u, w, f)) (omega (arith, ints, u, w, f)))
 value-near None (Some h) number a b f = (let u = b.0 in let w = b.1 in abs-bound (h -ℤ pos number) 100000000000065536 (omega (arith, ints, u, w, f)) (omega (arith, ints, u, w, f)))
 value-near None None number a b f = abs-bound (pos number) 100000000000065536 (omega (arith, ints, f)) (omega (arith, ints, f))
+
+-- so they fit in 64 bits
+pub value-fits : (low high : Option ℤ) (number : ℕ) → IsSmall low → IsSmall high → number < 65536 → FitsSigned w64 (value_for low high number)
+value-fits low high number a b f = by (value_for low high number) (value-near low high number a b f)
+  where
+    by : (x : ℤ) → nat_abs x ≤ 100000000000065536 → FitsSigned w64 x
+    by (pos m) l = record { sfits = omega (arith, l) }
+    by (negsuc m) l = record { sfits = omega (arith, l) }
 
 target-near : (node : ℕ) (value : ℤ) → nat_abs value ≤ 100000000000065536 → nat_abs (target_for node value) ≤ 100000000000065536
 target-near node value f = by (nat_eq node 0)

@@ -15,7 +15,7 @@ fn is_local(pair: Pair) -> bool
     }
 }
 
-/// The first pair that lies between streams, or none where none does.
+/// Returns the first pair that lies between streams, or none where none does.
 pub fn pair_across(pairs: &[Pair]) -> Option<Pair>
     ensures { IsAcross pairs.now result }
 {

@@ -21,7 +21,7 @@ pub struct Ground<'a> {
     pub high: Option<i128>,
 }
 
-/// The value of a number: so far above the least value, or below the greatest where there is no least, or the number itself.
+/// Returns the value of a number: so far above the least value, or below the greatest where there is no least, or the number itself.
 pub fn value_of(low: Option<i128>, high: Option<i128>, number: u16) -> i128
     requires low { IsSmall low }
     requires high { IsSmall high }
@@ -46,7 +46,7 @@ fn target(node: u8, value: i128) -> i128
     if node == 0 { 0 } else { value }
 }
 
-/// A solution of the bounds in which the column has the value of a number.
+/// Returns a solution of the bounds in which the column has the value of a number.
 pub fn solution(ground: &Ground, number: u16) -> ArrayVec<i128, 12>
     requires { IsGround ground.now }
     ensures { IsSolvedAt ground.now.bounds.now.attrs ground.now.bounds.now.constraints ground.now.node (target_for ground.now.node (value_for ground.now.low ground.now.high number)) result.items }

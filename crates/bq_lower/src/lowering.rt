@@ -71,6 +71,7 @@ fn ground_of<'a>(
     ensures ground { IsGroundOf q.now p.now.signs.items attr result }
     ensures blanks { result.blanks.now ≡ blanks.now }
 {
+    // Named for the proof alone: the contract speaks of it.
     let _part = p;
     let attrs = q.attrs();
     let node = node_of(attrs, attr);
@@ -104,6 +105,7 @@ fn make(
 {
     let basis = Basis::new(q);
     let mut bounds = basis.room();
+    // The bounds of the part are left behind, which is what is wanted here.
     let _refs = refs(q, p, &basis, &mut bounds);
     let ground = ground_of(q, p, &bounds, blanks, attr);
     let mut m = Vec::new(alloc);
@@ -133,6 +135,7 @@ fn make_for(
     requires blanks { AreBlanks q.now (rows_in blanks.now) }
     ensures { LowersBroken q.now (rows_in blanks.now) condition attr n result }
 {
+    // Named for the proof alone: the contract speaks of it.
     let _condition = condition;
     make(alloc, q, p, attr, blanks, n)
 }
@@ -180,7 +183,7 @@ fn part_at<'a>(
     &parts[part as usize - 1]
 }
 
-/// A family of n rows for the condition that the decision names, at its column, or why there is none. `blanks` has for each place of
+/// Returns a family of n rows for the condition that the decision names, at its column, or why there is none. `blanks` has for each place of
 /// FROM a row with a value for each column that the query reads, in the domains of the query; what the query does not read stays as it is there.
 pub fn family_over(
     alloc: Global,

@@ -151,7 +151,7 @@ fn asked_at(point: &Point, own: u8) -> Asked
     }
 }
 
-/// The row of a number at a place of FROM, and what asks for it.
+/// Returns the row of a number at a place of FROM, and what asks for it.
 pub fn member_of(ground: &Ground, own: u8, number: u16) -> Member
     requires ground { IsGround ground.now }
     requires many { length ground.now.from.now ≡ length ground.now.blanks.now }

@@ -10,7 +10,11 @@ mod comments;
 #[cfg(test)]
 mod edge;
 #[cfg(test)]
+mod families;
+#[cfg(test)]
 mod faults;
+#[cfg(test)]
+mod feeds;
 #[cfg(test)]
 mod join_faults;
 #[cfg(test)]

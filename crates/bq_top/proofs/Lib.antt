@@ -5,6 +5,7 @@ pub mod Given
 pub mod Held
 pub mod LoadForms
 pub mod LoadSteps
+pub mod LowerForms
 pub mod OneCommand
 pub mod Passing
 pub mod Progress

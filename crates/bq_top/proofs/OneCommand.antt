@@ -3,9 +3,10 @@ use Rattle.std.proofs.Common.{◌≡◌, ℕ, List, String, [], ◌∷◌, map, 
 use Rattle.std.specs.declared.alloc.Global.{Global}
 use Rattle.std.specs.String.{string_bytes}
 use Rattle.std.proofs.lemmas.Fmt.{decimal_injective}
-use Rattle.bq_top.specs.declared.command.Command.TheVariants.{Run, Load, Certify, Check, Help, Version}
+use Rattle.bq_top.specs.declared.command.Command.TheVariants.{Run, Load, Lower, Certify, Check, Help, Version}
 use Rattle.bq_top.specs.Words.{AreRunTexts, alone, limited}
 use Rattle.bq_top.specs.LoadWords.{AreLoadTexts}
+use Rattle.bq_top.specs.LowerWords.{AreLowerTexts}
 use Rattle.bq_top.specs.CertificateWords.{AreCertify, AreCheck}
 use Rattle.bq_top.specs.HelpWords.{AreHelp, AreVersion}
 use Rattle.bq_top.specs.Laws.{AskForOne}
@@ -36,6 +37,22 @@ other_word texts word n e differ (limited number f q) = let bad : word ∷ [] �
 no_size : (texts : List (List ℕ)) (word : List ℕ) (n : ℕ) → texts ≡ word ∷ [] → AreLoadTexts texts n → ⊥
 no_size texts word n e q = let bad : word ∷ [] ≡ codes "load" ∷ q.number ∷ [] = sym e ∙ q.words in cc
 
+one_family : (texts : List (List ℕ)) (m n : ℕ) → AreLowerTexts texts m → AreLowerTexts texts n → m ≡ n
+one_family texts m n p q =
+    let both : codes "lower" ∷ p.number ∷ [] ≡ codes "lower" ∷ q.number ∷ [] = sym p.words ∙ q.words in
+    let same : p.number ≡ q.number = cc in
+    decimal_injective m n (omega (arith, p.size.few)) (omega (arith, q.size.few)) (sym p.size.digits ∙ same ∙ q.size.digits)
+
+run_or_lower : (texts : List (List ℕ)) (m n : ℕ) → AreRunTexts texts m → AreLowerTexts texts n → ⊥
+run_or_lower texts m n (alone e p) q = let bad : codes "run" ∷ [] ≡ codes "lower" ∷ q.number ∷ [] = sym e ∙ q.words in cc
+run_or_lower texts m n (limited number e p) q = let bad : codes "run" ∷ codes "--rows" ∷ number ∷ [] ≡ codes "lower" ∷ q.number ∷ [] = sym e ∙ q.words in cc
+
+load_or_lower : (texts : List (List ℕ)) (m n : ℕ) → AreLoadTexts texts m → AreLowerTexts texts n → ⊥
+load_or_lower texts m n p q = let bad : codes "load" ∷ p.number ∷ [] ≡ codes "lower" ∷ q.number ∷ [] = sym p.words ∙ q.words in cc
+
+no_family : (texts : List (List ℕ)) (word : List ℕ) (n : ℕ) → texts ≡ word ∷ [] → AreLowerTexts texts n → ⊥
+no_family texts word n e q = let bad : word ∷ [] ≡ codes "lower" ∷ q.number ∷ [] = sym e ∙ q.words in cc
+
 certify_or_run : codes "certify" ≡ codes "run" → ⊥
 certify_or_run e = cc
 
@@ -61,6 +78,10 @@ neither_run texts u v n (inr p) q first second = other_word texts v n p second q
 neither_load : (texts : List (List ℕ)) (u v : List ℕ) (n : ℕ) → (texts ≡ u ∷ []) ⊎ (texts ≡ v ∷ []) → AreLoadTexts texts n → ⊥
 neither_load texts u v n (inl p) q = no_size texts u n p q
 neither_load texts u v n (inr p) q = no_size texts v n p q
+
+neither_lower : (texts : List (List ℕ)) (u v : List ℕ) (n : ℕ) → (texts ≡ u ∷ []) ⊎ (texts ≡ v ∷ []) → AreLowerTexts texts n → ⊥
+neither_lower texts u v n (inl p) q = no_family texts u n p q
+neither_lower texts u v n (inr p) q = no_family texts v n p q
 
 help_or_run : (words : List (String Global)) (n : ℕ) → AreHelp words → AreRunTexts (map string_bytes words) n → ⊥
 help_or_run words n p q = neither_run (map string_bytes words) (codes "--help") (codes "-h") n p q (λ e. cc) (λ e. cc)
@@ -121,3 +142,16 @@ one_command words Version Certify p q = absurd (version_or_certify words p q)
 one_command words Certify Version p q = absurd (version_or_certify words q p)
 one_command words Version Check p q = absurd (version_or_check words p q)
 one_command words Check Version p q = absurd (version_or_check words q p)
+one_command words (Lower m) (Lower n) p q = ap Lower (one_family (map string_bytes words) m n p q)
+one_command words (Run m) (Lower n) p q = absurd (run_or_lower (map string_bytes words) m n p q)
+one_command words (Lower m) (Run n) p q = absurd (run_or_lower (map string_bytes words) n m q p)
+one_command words (Load m) (Lower n) p q = absurd (load_or_lower (map string_bytes words) m n p q)
+one_command words (Lower m) (Load n) p q = absurd (load_or_lower (map string_bytes words) n m q p)
+one_command words (Lower m) Certify p q = absurd (no_family (map string_bytes words) (codes "certify") m q p)
+one_command words Certify (Lower n) p q = absurd (no_family (map string_bytes words) (codes "certify") n p q)
+one_command words (Lower m) Check p q = absurd (no_family (map string_bytes words) (codes "check") m q p)
+one_command words Check (Lower n) p q = absurd (no_family (map string_bytes words) (codes "check") n p q)
+one_command words Help (Lower n) p q = absurd (neither_lower (map string_bytes words) (codes "--help") (codes "-h") n p q)
+one_command words (Lower n) Help p q = absurd (neither_lower (map string_bytes words) (codes "--help") (codes "-h") n q p)
+one_command words Version (Lower n) p q = absurd (neither_lower (map string_bytes words) (codes "--version") (codes "-V") n p q)
+one_command words (Lower n) Version p q = absurd (neither_lower (map string_bytes words) (codes "--version") (codes "-V") n q p)

@@ -5,7 +5,7 @@ use Rattle.std.specs.declared.alloc.Global.{Global}
 use Rattle.std.specs.declared.option.Option.{Option}
 use Rattle.std.specs.declared.option.Option.TheVariants.{None, Some}
 use Rattle.bq_top.specs.declared.command.Command.{Command}
-use Rattle.bq_top.specs.declared.command.Command.TheVariants.{Run, Load, Certify, Check, Help, Version}
+use Rattle.bq_top.specs.declared.command.Command.TheVariants.{Run, Load, Lower, Certify, Check, Help, Version}
 
 -- the one word `certify`
 abbrev pub AreCertify : List (String Global) → Type 0
@@ -20,6 +20,7 @@ abbrev pub CertificateCommand : List (String Global) → Option Command → Type
 CertificateCommand words None = (¬ AreCertify words) × (¬ AreCheck words)
 CertificateCommand words (Some (Run limit)) = ⊥
 CertificateCommand words (Some (Load rows)) = ⊥
+CertificateCommand words (Some (Lower rows)) = ⊥
 CertificateCommand words (Some Certify) = AreCertify words
 CertificateCommand words (Some Check) = AreCheck words
 CertificateCommand words (Some Help) = ⊥

@@ -2,9 +2,10 @@
 use Rattle.std.specs.Prelude.{◌<◌, ◌≤◌, ◌^◌, ⊤, List, String}
 use Rattle.std.specs.declared.alloc.Global.{Global}
 use Rattle.bq_top.specs.declared.command.Command.{Command}
-use Rattle.bq_top.specs.declared.command.Command.TheVariants.{Run, Load, Certify, Check, Help, Version}
+use Rattle.bq_top.specs.declared.command.Command.TheVariants.{Run, Load, Lower, Certify, Check, Help, Version}
 use Rattle.bq_top.specs.Words.{AreRun}
 use Rattle.bq_top.specs.LoadWords.{AreLoad}
+use Rattle.bq_top.specs.LowerWords.{AreLower}
 use Rattle.bq_top.specs.CertificateWords.{AreCertify, AreCheck}
 use Rattle.bq_top.specs.HelpWords.{AreHelp, AreVersion}
 
@@ -12,6 +13,7 @@ use Rattle.bq_top.specs.HelpWords.{AreHelp, AreVersion}
 abbrev pub Asks : List (String Global) → Command → Type 0
 Asks words (Run limit) = AreRun words limit
 Asks words (Load rows) = AreLoad words rows
+Asks words (Lower rows) = AreLower words rows
 Asks words Certify = AreCertify words
 Asks words Check = AreCheck words
 Asks words Help = AreHelp words
@@ -21,6 +23,7 @@ Asks words Version = AreVersion words
 abbrev pub IsAllowed : Command → Type 0
 IsAllowed (Run limit) = (0 < limit) × (limit ≤ 2 ^ 40)
 IsAllowed (Load rows) = (0 < rows) × (rows ≤ 100000)
+IsAllowed (Lower rows) = (0 < rows) × (rows ≤ 1000)
 IsAllowed Certify = ⊤
 IsAllowed Check = ⊤
 IsAllowed Help = ⊤

@@ -6,10 +6,11 @@ use Rattle.bq_io.specs.declared.status.Status.TheVariants as status
 use Rattle.bq_io.specs.Source.{SourceState}
 use Rattle.bq_io.specs.Sink.{SinkState}
 use Rattle.bq_top.specs.declared.command.Command.{Command}
-use Rattle.bq_top.specs.declared.command.Command.TheVariants.{Run, Load, Certify, Check, Help, Version}
+use Rattle.bq_top.specs.declared.command.Command.TheVariants.{Run, Load, Lower, Certify, Check, Help, Version}
 use Rattle.bq_certify.specs.Commands as certificates
 use Rattle.bq_certify.specs.Certifying.{Certifies}
 use Rattle.bq_certify.specs.Checking.{Checks}
+use Rattle.bq_lowering.specs.Lowering.{Lowers}
 use Rattle.bq_top.specs.Commands.{Runs, AreOther}
 use Rattle.bq_top.specs.Help.{TextEnds, help_text, version_text}
 use Rattle.bq_top.specs.Load.{LoadEnds}
@@ -19,6 +20,7 @@ use Rattle.bq_top.specs.Run.{DidNothing, SessionEnds}
 abbrev pub CommandEnds : Status → Command → SourceState → SourceState → SinkState → SinkState → Type 0
 CommandEnds s (Run limit) source source' sink sink' = SessionEnds s limit source source' sink sink'
 CommandEnds s (Load rows) source source' sink sink' = (source' ≡ source) × LoadEnds s rows sink sink'
+CommandEnds s (Lower rows) source source' sink sink' = certificates.CommandEnds (Lowers rows) s source source' sink sink'
 CommandEnds s Certify source source' sink sink' = certificates.CommandEnds Certifies s source source' sink sink'
 CommandEnds s Check source source' sink sink' = certificates.CommandEnds Checks s source source' sink sink'
 CommandEnds s Help source source' sink sink' = (source' ≡ source) × TextEnds s help_text sink sink'

@@ -5,7 +5,7 @@ use Rattle.std.specs.declared.alloc.Global.{Global}
 use Rattle.std.specs.declared.option.Option.{Option}
 use Rattle.std.specs.declared.option.Option.TheVariants.{None, Some}
 use Rattle.bq_top.specs.declared.command.Command.{Command}
-use Rattle.bq_top.specs.declared.command.Command.TheVariants.{Run, Load, Certify, Check, Help, Version}
+use Rattle.bq_top.specs.declared.command.Command.TheVariants.{Run, Load, Lower, Certify, Check, Help, Version}
 
 -- the one word `--help`, or `-h`
 abbrev pub AreHelp : List (String Global) → Type 0
@@ -20,6 +20,7 @@ abbrev pub HelpCommand : List (String Global) → Option Command → Type 0
 HelpCommand words None = (¬ AreHelp words) × (¬ AreVersion words)
 HelpCommand words (Some (Run limit)) = ⊥
 HelpCommand words (Some (Load rows)) = ⊥
+HelpCommand words (Some (Lower rows)) = ⊥
 HelpCommand words (Some Certify) = ⊥
 HelpCommand words (Some Check) = ⊥
 HelpCommand words (Some Help) = AreHelp words

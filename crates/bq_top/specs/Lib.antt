@@ -8,6 +8,7 @@ pub mod HelpWords
 pub mod Laws
 pub mod Load
 pub mod LoadWords
+pub mod LowerWords
 pub mod Loading
 pub mod Run
 pub mod Turned

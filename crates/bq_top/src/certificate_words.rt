@@ -4,7 +4,7 @@ ghost use Rattle.bq_top.specs.CertificateWords.{CertificateCommand};
 use crate::command::Command;
 use crate::words::is_alone;
 
-/// The command on certificates that the words ask for, where they do.
+/// Returns the command on certificates that the words ask for, where they do.
 pub fn certificate_command(words: &[String]) -> Option<Command>
     ensures { CertificateCommand words.now result }
 {

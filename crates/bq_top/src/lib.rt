@@ -13,6 +13,7 @@ mod help_words;
 pub mod laws;
 mod load;
 mod load_words;
+mod lower_words;
 mod one_turn;
 mod program;
 mod stream;

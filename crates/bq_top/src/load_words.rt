@@ -25,7 +25,7 @@ fn read_load_size(text: &str) -> Option<u32>
     }
 }
 
-/// How many rows a load has, where the words are `load N`; nothing for all other words.
+/// Returns how many rows a load has, where the words are `load N`; nothing for all other words.
 pub fn load_rows(words: &[String]) -> Option<u32>
     ensures rows { MatchOption result ((n : ℕ) → AreLoad words.now n → ⊥) (λ n. AreLoad words.now n) }
     ensures within { IfSome result (λ n. (0 < n) × (n ≤ 100000)) }

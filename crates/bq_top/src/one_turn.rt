@@ -31,7 +31,9 @@ pub enum Turn {
     Memory,
 }
 
-// Answers the line that the reader gave last, or one that was too long.
+// Answers the line that the reader gave last, or one that was too long. The loops of `run` and of a session over feeds share it, so
+// LLVM would leave it aside.
+#[inline(always)]
 fn answer<O: Sink, L: Ledger>(
     session: &mut Session,
     reader: &LineReader,
@@ -57,6 +59,7 @@ fn answer<O: Sink, L: Ledger>(
 /// A line that lies whole in what the reader took is answered at once; else all that is held is written before the source is
 /// read. `Turned` says of each answer what was read and written, for every state that the session stands for. The session must
 /// have room for one more line, or have answered no more lines than this reader gave.
+#[inline(always)]
 pub fn take_turn<I: Source, O: Sink, L: Ledger>(
     reader: &mut LineReader,
     session: &mut Session,

@@ -15,6 +15,7 @@ use crate::stream::stream;
 use bq_certify::{certify, check_script};
 use bq_feed::LineReader;
 use bq_io::{Gathered, Sink, Source, Status};
+use bq_lowering::lower;
 use bq_pool::Steps;
 use bq_session::Session;
 use std::alloc::Global;
@@ -98,7 +99,7 @@ fn run_session<I: Source, O: Sink>(
     status_of(ending)
 }
 
-/// All that the program does over the words after its name.
+/// Does all that the program does over the words after its name.
 ///
 /// `run` and `run --rows N` answer each line of the input before they read on, without end, in buffers of fixed size. Replies are
 /// gathered, and written before each read, at the end and where 4,096 bytes are held. `Ends` says of each status what was read and
@@ -114,6 +115,10 @@ fn run_session<I: Source, O: Sink>(
 /// `certify` reads a script of one query, and writes its statements with a certificate of the query's parts and decision. `check`
 /// reads such a text, and writes what the certificate shows, or its first fault. Both write when all is known, and end with `Invalid`
 /// where a line is refused or the certificate has a fault. For `ReadFault`, `ByteLimit` and `Memory` nothing was written.
+///
+/// `lower N` reads such a script, and writes a family of N rows for its query, 1 to 1,000, with the rows that ask for each of them: whatever set of
+/// the N rows came before, the answers to the rows that ask tell the set. Where the query has no family, one line says so. It writes when all
+/// is known, and ends with `Invalid` where a line is refused. For `ReadFault`, `ByteLimit` and `Memory` nothing was written.
 ///
 /// `--help` or `-h`, alone, writes how the program is used, and `--version` or `-V`, alone, its version. Nothing is read.
 ///
@@ -138,6 +143,7 @@ pub fn run<I: Source, O: Sink>(
     match command_of(words) {
         Some(Command::Run(limit)) => run_session(alloc, limit, input, output),
         Some(Command::Load(rows)) => load(alloc, rows, output),
+        Some(Command::Lower(rows)) => lower(alloc, rows, input, output),
         Some(Command::Certify) => certify(alloc, input, output),
         Some(Command::Check) => check_script(alloc, input, output),
         Some(Command::Help) => help(output),

@@ -13,7 +13,7 @@ use bq_pool::Steps;
 use bq_session::Session;
 use std::sync::ledger::Ledger;
 
-// Answers the lines of a source, one after another, from the state that the session stands for.
+/// Answers the lines of a source, one after another, from the state that the session stands for.
 pub fn stream<I: Source, O: Sink, L: Ledger>(
     reader: &mut LineReader,
     session: &mut Session,

@@ -6,7 +6,7 @@ use arrayvec::ArrayVec;
 use bq_session::Announced;
 use itoa::Buffer;
 
-/// How many LF a text has.
+/// Returns how many LF a text has.
 pub fn line_count(text: &[u8]) -> u64
     ensures { result ≡ line_count text.now }
 {
@@ -35,7 +35,7 @@ fn push_labelled(text: &mut ArrayVec<u8, 256>, label: &[u8], number: u128)
     push_text(text, buffer.format(number).as_bytes());
 }
 
-/// The summary of a load of so many rows, whose replies have so many lines.
+/// Returns the summary of a load of so many rows, whose replies have so many lines.
 pub fn summary(rows: u32, lines: u128, announced: Announced) -> ArrayVec<u8, 256>
     ensures { result.items ≡ summary_text rows lines announced }
 {

@@ -10,7 +10,7 @@ use itoa::Buffer;
 /// The most rows that a session may take.
 const MOST_ROWS: u64 = Session::MOST_ROWS;
 
-/// The number that a text is in its shortest form.
+/// Returns the number that a text is in its shortest form.
 pub fn read_number(text: &str) -> Option<u64>
     ensures { MatchOption result ((n : ℕ) → n < 2 ^ 64 → text.now ≡ decimal n → ⊥) (λ n. text.now ≡ decimal n) }
 {
@@ -27,7 +27,7 @@ pub fn read_number(text: &str) -> Option<u64>
     }
 }
 
-/// The number of rows of a session that a text is: 1 to 2^40, in its shortest form.
+/// Returns the number of rows of a session that a text is: 1 to 2^40, in its shortest form.
 pub fn read_row_limit(text: &str) -> Option<u64>
     ensures { MatchOption result ((n : ℕ) → IsRowLimit text.now n → ⊥) (λ n. IsRowLimit text.now n) }
 {
@@ -45,14 +45,14 @@ pub fn read_row_limit(text: &str) -> Option<u64>
     }
 }
 
-/// Whether the word is this text.
+/// Returns whether the word is this text.
 pub fn is_word(word: &String, text: &str) -> bool
     ensures { result ≡ bytes_eq (string_bytes word.now) text.now }
 {
     word.as_str() == text
 }
 
-/// Whether the words are this one alone.
+/// Returns whether the words are this one alone.
 pub fn is_alone(words: &[String], text: &str) -> bool
     ensures { IsTrue result ↔ map string_bytes words.now ≡ text.now ∷ [] }
 {
@@ -62,7 +62,7 @@ pub fn is_alone(words: &[String], text: &str) -> bool
     }
 }
 
-/// How many rows a session may take, where the words are `run` or `run --rows N`; nothing for all other words.
+/// Returns how many rows a session may take, where the words are `run` or `run --rows N`; nothing for all other words.
 pub fn row_limit(words: &[String]) -> Option<u64>
     ensures limit { MatchOption result ((n : ℕ) → AreRun words.now n → ⊥) (λ n. AreRun words.now n) }
     ensures within { IfSome result (λ n. (0 < n) × (n ≤ 2 ^ 40)) }

@@ -1,0 +1,5 @@
+pub mod Found
+pub mod Lowered
+pub mod OneOutcome
+pub mod Texts
+pub mod Written

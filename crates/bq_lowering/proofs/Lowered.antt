@@ -1,0 +1,134 @@
+-- What a script comes to.
+use Rattle.std.proofs.Common.{◌≡◌, ℕ, ◌+◌, Bool, None, Some, List, [], ◌∷◌, ◌++◌, length, refl, sym, ap, ◌∙◌, subst, append_assoc, append-nil, length-append, arith, Err}
+use Rattle.std.specs.Prelude.{⊤}
+use Rattle.std.proofs.lemmas.List.Elements.{All-from_recursion}
+use Rattle.bq_io.specs.Source.{SourceState}
+use Rattle.bq_model.specs.Query.{QueryValue}
+use Rattle.bq_model.specs.Parts.{HasMoreParts}
+use Rattle.bq_text.specs.Lines.{lines}
+use Rattle.bq_feed.specs.Reading.{Reading}
+use Rattle.bq_feed.specs.Texts.{ended_part}
+use Rattle.bq_feed.proofs.GivenEnds.{front-lines, took-lines, took-all}
+use Rattle.bq_schema.specs.Streams.{Shape}
+use Rattle.bq_parser.specs.declared.tree.SelectAst.{SelectAst}
+use Rattle.bq_parser.specs.declared.tree.Statement.{Statement}
+use Rattle.bq_session.specs.declared.word.Word.{Word}
+use Rattle.bq_session.specs.declared.word.Word.TheVariants.{Limit}
+use Rattle.bq_script.specs.declared.end.ScriptEnd.{ScriptEnd}
+use Rattle.bq_script.specs.declared.end.ScriptEnd.TheVariants.{Refused, ReadFault, ByteLimit, Memory}
+use Rattle.bq_script.specs.declared.script.Script.{Script}
+use Rattle.bq_script.specs.Script.{Asks, IsBlank, IsMisplaced}
+use Rattle.bq_script.specs.Ends.{GaveScript, GaveLine, GaveAll, GaveLast, IsFull, ReadsBlank}
+use Rattle.bq_certify.specs.Commands.{Outcome, ComesTo, TookUnsettled}
+use Rattle.bq_certify.specs.Certifying.{refusal}
+use Rattle.bq_certify.specs.Collecting.{name_of}
+use Rattle.bq_certify.specs.Ending.{StopsAt}
+use Rattle.bq_lowering.specs.declared.finding.Finding.{Finding}
+use Rattle.bq_lowering.specs.Finding.{IsFinding}
+use Rattle.bq_lowering.specs.Found.{FindsFor}
+use Rattle.bq_lowering.specs.Lowering.{Lowers, found}
+use Rattle.bq_lowering.specs.Lowering as lowering
+use Rattle.bq_lowering.proofs.OneOutcome.{needs-one}
+
+no-more : (xs : List (List ℕ)) → length xs ≡ 0 → xs ≡ []
+no-more [] e = refl
+no-more (x ∷ xs) e = absurd (omega arith)
+
+-- the line of the query is the last of those that were given up to it
+none-behind : (given : List (List ℕ)) (streams : List Shape) (name : List ℕ) (select : SelectAst) (shared : Bool) (q : QueryValue) (number : ℕ)
+    → (a : Asks given streams name select shared q number) → number ≡ length given → a.behind ≡ []
+none-behind given streams name select shared q number a last =
+    no-more a.behind (omega (arith, last, a.number_is, ap length a.whole, length-append a.before (a.line ∷ a.behind)))
+
+-- lines that ask for a query, and more lines behind them
+abbrev asks-then : (given more all : List (List ℕ)) (streams : List Shape) (name : List ℕ) (select : SelectAst) (shared : Bool) (q : QueryValue) (number : ℕ)
+    → (a : Asks given streams name select shared q number) → a.behind ≡ [] → all ≡ given ++ more → Asks all streams name select shared q number
+asks-then given more all streams name select shared q number a none e = record {
+  before = a.before;
+  line = a.line;
+  behind = more;
+  whole = e ∙ ap (λ l. l ++ more) (a.whole ∙ ap (λ l. a.before ++ a.line ∷ l) none) ∙ append_assoc a.before (a.line ∷ []) more;
+  create = a.create;
+  is = a.is;
+  number_is = a.number_is;
+}
+
+-- the query of a script is too large
+pub comes-large : (n : ℕ) (script : Script) (source now : SourceState) (reader : Reading) → GaveScript script source now reader → HasMoreParts script.query 4096 → ComesTo (Lowers n) source now (refusal script.line Limit)
+comes-large n script source now reader g large =
+    let none = none-behind g.given script.catalog g.name g.select g.shared script.query script.line g.asks g.last in
+    let all : lines g.front ≡ g.given ++ [] = front-lines source now reader g.front g.given g.lines ∙ sym (append-nil g.given) in
+    record {
+      text = g.front;
+      took = took-lines source now reader g.front g.given (omega (arith, g.last, g.asks.number_is)) g.lines;
+      comes = lowering.large script.catalog g.name g.select g.shared script.query script.line
+          (asks-then g.given [] (lines g.front) script.catalog g.name g.select g.shared script.query script.line g.asks none all) large refl;
+      needed = omega (arith, ap length (front-lines source now reader g.front g.given g.lines), g.last);
+    }
+
+-- a line behind the query says something
+pub comes-misplaced : (n : ℕ) (script : Script) (source now now' : SourceState) (old new : Reading) (number : ℕ) (word : Word) (g : GaveScript script source now old) → ¬ HasMoreParts script.query 4096
+    → GaveLine source now' g.given new (λ place line. (number ≡ place) × IsMisplaced line word) → ComesTo (Lowers n) source now' (refusal number word)
+comes-misplaced n script source now now' old new number word g small t =
+    let more = t.blanks ++ t.line ∷ [] in
+    let none = none-behind g.given script.catalog g.name g.select g.shared script.query script.line g.asks g.last in
+    let all : lines t.front ≡ g.given ++ more = front-lines source now' new t.front (g.given ++ more) t.lines in
+    let place : number ≡ script.line + length t.blanks + 1 = omega (arith, t.holds.0, g.last, length-append g.given t.blanks) in
+    record {
+      text = t.front;
+      took = took-lines source now' new t.front (g.given ++ more) (omega (arith, g.last, g.asks.number_is, length-append g.given more)) t.lines;
+      comes = lowering.misplaced script.catalog g.name g.select g.shared script.query script.line
+          (asks-then g.given more (lines t.front) script.catalog g.name g.select g.shared script.query script.line g.asks none all) small t.blanks t.line [] word refl
+          (All-from_recursion IsBlank t.blanks t.blank) t.holds.1 (ap (λ n. refusal n word) place);
+      needed = omega (arith, ap length all, length-append g.given more, length-append t.blanks (t.line ∷ []), t.holds.0, length-append g.given t.blanks);
+    }
+
+-- blank lines stand behind the query, up to the end of the source
+pub comes-whole : (n : ℕ) (script : Script) (finding : Finding) (source now now' : SourceState) (old new : Reading) (g : GaveScript script source now old) → ¬ HasMoreParts script.query 4096
+    → IsFinding script.catalog script.query n finding → GaveAll source now' g.given new → ComesTo (Lowers n) source now' (found script.catalog (name_of script.statement) script.query n finding)
+comes-whole n script finding source now now' old new g small is t =
+    let none = none-behind g.given script.catalog g.name g.select g.shared script.query script.line g.asks g.last in
+    let written : List ℕ → Outcome = λ m. found script.catalog m script.query n finding in
+    record {
+      text = t.text;
+      took = took-all source now' t.text t.lines.all;
+      comes = lowering.whole script.catalog g.name g.select g.shared script.query script.line
+          (asks-then g.given t.blanks (lines t.text) script.catalog g.name g.select g.shared script.query script.line g.asks none t.lines.are) small
+          (All-from_recursion IsBlank t.blanks t.blank) finding is (ap written (ap name_of g.states));
+      needed = (t.lines.all, t.lines.few);
+    }
+
+-- The reader broke off behind the query. The lines that came whole settle nothing: were they all, the family would be written.
+unsettled-behind : (n : ℕ) (script : Script) (finding : Finding) (source now now' : SourceState) (old new : Reading) (P : List ℕ → Type 0) (g : GaveScript script source now old) → ¬ HasMoreParts script.query 4096
+    → IsFinding script.catalog script.query n finding → GaveLast source now' g.given new P → TookUnsettled (Lowers n) source now' P
+unsettled-behind n script finding source now now' old new P g small is t =
+    let none = none-behind g.given script.catalog g.name g.select g.shared script.query script.line g.asks g.last in
+    let all = lines (ended_part t.text) in
+    let whole : (Lowers n) all (found script.catalog g.name script.query n finding) =
+    lowering.whole script.catalog g.name g.select g.shared script.query script.line
+    (asks-then g.given t.blanks all script.catalog g.name g.select g.shared script.query script.line g.asks none t.lines.are) small
+    (All-from_recursion IsBlank t.blanks t.blank) finding is refl in
+    record {
+      text = t.text;
+      taken = t.lines.taken;
+      unsettled = λ o it. needs-one n all o (found script.catalog g.name script.query n finding) it whole refl;
+      holds = t.holds;
+    }
+
+-- reading the lines behind the query stops
+pub stops-behind : (n : ℕ) (script : Script) (finding : Finding) (end : ScriptEnd) (source now now' : SourceState) (old new : Reading) (g : GaveScript script source now old) → ¬ HasMoreParts script.query 4096
+    → IsFinding script.catalog script.query n finding → ReadsBlank (Err end) source now' g.given new → StopsAt (Lowers n) end source now'
+stops-behind n script finding (Refused number word) source now now' old new g small is t = record { needs = Some number; comes = comes-misplaced n script source now now' old new number word g small t }
+stops-behind n script finding ReadFault source now now' old new g small is t = (t.0, unsettled-behind n script finding source now now' old new (λ text. ⊤) g small is t.1)
+stops-behind n script finding ByteLimit source now now' old new g small is t = unsettled-behind n script finding source now now' old new IsFull g small is t
+stops-behind n script finding Memory source now now' old new g small is t = absurd t
+
+-- no family was found
+pub stops-unmade : (n : ℕ) (script : Script) (end : ScriptEnd) (source now : SourceState) (reader : Reading) → GaveScript script source now reader → FindsFor (Err end) script n → StopsAt (Lowers n) end source now
+stops-unmade n script (Refused number word) source now reader g m =
+    let P : Outcome → Type 0 = λ o. ComesTo (Lowers n) source now o in
+    let same : refusal number word ≡ refusal script.line Limit = ap (λ n. refusal n word) m.0 ∙ ap (λ w. refusal script.line w) m.1 in
+    record { needs = Some number; comes = subst P (sym same) (comes-large n script source now reader g m.2) }
+stops-unmade n script ReadFault source now reader g m = absurd m
+stops-unmade n script ByteLimit source now reader g m = absurd m
+stops-unmade n script Memory source now reader g m = tt

@@ -1,0 +1,59 @@
+-- Where one outcome over some lines needs all of them, each does.
+use Rattle.std.proofs.Common.{◌≡◌, ℕ, suc, Bool, None, Some, List, [], ◌∷◌, ◌++◌, length, sym, ap, ◌∙◌, subst, arith}
+use Rattle.std.specs.List.{All, AllByRecursion}
+use Rattle.std.proofs.lemmas.List.Elements.{recursion_from_All}
+use Rattle.bq_model.specs.Query.{QueryValue}
+use Rattle.bq_model.specs.Parts.{HasMoreParts}
+use Rattle.bq_session.specs.declared.word.Word.{Word}
+use Rattle.bq_session.specs.declared.word.Word.TheVariants.{Limit}
+use Rattle.bq_script.specs.Script as scripts
+use Rattle.bq_script.specs.Script.{IsBlank, IsMisplaced}
+use Rattle.bq_script.proofs.OneEnd.{one_end}
+use Rattle.bq_certify.specs.Commands.{Outcome}
+use Rattle.bq_certify.specs.Certifying.{refusal, early_refusal}
+use Rattle.bq_certify.proofs.OneRefusal.{behind-same, early-same}
+use Rattle.bq_lowering.specs.Lowering as lowering
+use Rattle.bq_lowering.specs.Lowering.{Lowers}
+
+-- a line that has no place is not blank
+misplaced-loud : (line : List ℕ) (w : Word) → IsMisplaced line w → IsBlank line → ⊥
+misplaced-loud line w (scripts.IsMisplaced.too_long m p) b = omega (arith, m, b.short)
+misplaced-loud line w (scripts.loud short n p) b = n b
+
+-- none of blank lines is misplaced
+blank-placed : (xs : List (List ℕ)) (x : List ℕ) (rest : List (List ℕ)) (w : Word) → AllByRecursion IsBlank (xs ++ x ∷ rest) → IsMisplaced x w → ⊥
+blank-placed [] x rest w all i = misplaced-loud x w i all.0
+blank-placed (z ∷ xs) x rest w all i = blank-placed xs x rest w all.1 i
+
+all-placed : (texts xs : List (List ℕ)) (x : List ℕ) (rest : List (List ℕ)) (w : Word) → texts ≡ xs ++ x ∷ rest → All IsBlank texts → IsMisplaced x w → ⊥
+all-placed texts xs x rest w e all i = blank-placed xs x rest w (subst (AllByRecursion IsBlank) e (recursion_from_All IsBlank texts all)) i
+
+-- an outcome that is a refusal needs some lines
+needs-some : (p : Outcome) (number : ℕ) (word : Word) → p ≡ refusal number word → p.needs ≡ None → ⊥
+needs-some p number word e none =
+    let bad : Some number ≡ None = sym (ap (λ (x : Outcome). x.needs) e) ∙ none in
+    cc
+
+pub needs-one : (n : ℕ) (all : List (List ℕ)) (o p : Outcome) → Lowers n all o → Lowers n all p → p.needs ≡ None → o.needs ≡ None
+needs-one n all o p (lowering.early m v a e) (lowering.early k w b f) none = ap (λ (x : Outcome). x.needs) (e ∙ early-same all m k v w a b ∙ sym f) ∙ none
+needs-one n all o p (lowering.early m v a e) (lowering.large streams name select shared q k asks large f) none = absurd (needs-some p k Limit f none)
+needs-one n all o p (lowering.early m v a e) (lowering.misplaced streams name select shared q k asks small blanks line others w is blank wrong f) none = absurd (needs-some p _ w f none)
+needs-one n all o p (lowering.early m v a e) (lowering.whole streams name select shared q k asks small blank finding is f) none = absurd ((one_end all).2 streams name select shared q k m v asks a)
+needs-one n all o p (lowering.large streams name select shared q k asks large e) (lowering.early m v a f) none = absurd ((one_end all).2 streams name select shared q k m v asks a)
+needs-one n all o p (lowering.large streams name select shared q m asks large e) (lowering.large shapes title choice joint r k also great f) none = absurd (needs-some p k Limit f none)
+needs-one n all o p (lowering.large streams name select shared q m asks large e) (lowering.misplaced shapes title choice joint r k also small blanks line others w is blank wrong f) none =
+    absurd (needs-some p _ w f none)
+needs-one n all o p (lowering.large streams name select shared q m asks large e) (lowering.whole shapes title choice joint r k also small blank finding is f) none =
+    let i = (one_end all).0 streams shapes name title select choice shared joint q r m k asks also in
+    absurd (small (subst (λ (z : QueryValue). HasMoreParts z 4096) i.4 large))
+needs-one n all o p (lowering.misplaced streams name select shared q k asks small blanks line others w is blank wrong e) (lowering.early m v a f) none =
+    absurd ((one_end all).2 streams name select shared q k m v asks a)
+needs-one n all o p (lowering.misplaced streams name select shared q m asks small blanks line others v is blank wrong e) (lowering.large shapes title choice joint r k also large f) none =
+    absurd (needs-some p k Limit f none)
+needs-one n all o p (lowering.misplaced streams name select shared q m asks small blanks line others v is blank wrong e)
+    (lowering.misplaced shapes title choice joint r k also little empty text more w it bare bad f) none = absurd (needs-some p _ w f none)
+needs-one n all o p (lowering.misplaced streams name select shared q m asks small blanks line others v is blank wrong e) (lowering.whole shapes title choice joint r k also little bare finding it f) none =
+    let i = (one_end all).0 streams shapes name title select choice shared joint q r m k asks also in
+    let behind : asks.behind ≡ also.behind = behind-same all streams shapes name title select choice shared joint q r m k asks also i.5 in
+    absurd (all-placed also.behind blanks line others v (sym behind ∙ is) bare wrong)
+needs-one n all o p (lowering.whole streams name select shared q k asks small blank finding is e) other none = ap (λ (x : Outcome). x.needs) e

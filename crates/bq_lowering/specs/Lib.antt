@@ -1,0 +1,4 @@
+pub mod Finding
+pub mod Lowering
+pub mod Found
+pub mod Text

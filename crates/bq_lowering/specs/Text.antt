@@ -1,0 +1,34 @@
+-- The text of what is found for a query.
+use Rattle.std.specs.Prelude.{ℕ, List, [], ◌∷◌, ◌++◌, codes, decimal}
+use Rattle.bq_model.specs.declared.atom.Attr.{Attr}
+use Rattle.bq_model.specs.declared.condition.Condition.{Condition}
+use Rattle.bq_model.specs.Query.{QueryValue}
+use Rattle.bq_schema.specs.Streams.{Shape}
+use Rattle.bq_parser.specs.Resolution.{column_named}
+use Rattle.bq_explain.specs.Text.{column_text}
+use Rattle.bq_session.specs.Replies.{condition_text}
+use Rattle.bq_families.specs.Text.{rows_text}
+use Rattle.bq_lowering.specs.declared.finding.NoFamily.{NoFamily}
+use Rattle.bq_lowering.specs.declared.finding.NoFamily.TheVariants as why
+use Rattle.bq_lowering.specs.declared.finding.Finding.{Finding}
+use Rattle.bq_lowering.specs.declared.finding.Finding.TheVariants.{Nothing, Rows}
+
+-- the line of a query that has no family, as `no family C3`
+abbrev pub nothing_text : NoFamily → List ℕ
+nothing_text why.Bounded = codes "no family bounded" ++ 10 ∷ []
+nothing_text why.C2 = codes "no family C2" ++ 10 ∷ []
+nothing_text why.C3 = codes "no family C3" ++ 10 ∷ []
+
+-- the first line of a family, as `family q part 1 C1 S.a size 2`, by its parts
+abbrev pub head_text : List ℕ → List ℕ → List ℕ → List ℕ → List ℕ → List ℕ
+head_text name part condition column size = codes "family " ++ name ++ codes " part " ++ part ++ 32 ∷ condition ++ 32 ∷ column ++ codes " size " ++ size ++ 10 ∷ []
+
+-- the last line of a family
+abbrev pub end_text : List ℕ → List ℕ
+end_text name = codes "end " ++ name ++ 10 ∷ []
+
+-- the text of what is found for the query of this name: the rows of a family stand between its first and its last line
+abbrev pub finding_text : List Shape → List ℕ → QueryValue → ℕ → Finding → List ℕ
+finding_text streams name q n (Nothing reason) = nothing_text reason
+finding_text streams name q n (Rows part condition attr family) =
+    head_text name (decimal part) (condition_text condition) (column_text (column_named streams q.from attr)) (decimal n) ++ (rows_text streams n family ++ end_text name)

@@ -1,0 +1,33 @@
+//! How the command ends where it stops before it has an answer.
+ghost use Rattle.std.specs.Prelude.{◌≤◌};
+ghost use Rattle.bq_io.specs.declared.status.Status.TheVariants as status;
+ghost use Rattle.bq_certify.specs.Commands.{error_text};
+ghost use Rattle.bq_certify.specs.Ending.{EndsBy, EndsWith};
+
+use bq_io::{Sink, Status};
+use bq_script::ScriptEnd;
+use bq_session::{Word, write_refused};
+
+// Writes the line of a refusal.
+fn refuse<O: Sink>(line: u64, word: Word, output: &mut O) -> Status
+    ensures ends { EndsWith status.Invalid (error_text line word) result (O.seen output.old) (O.seen output.new) }
+    ensures later { (O.seen output.old).faults ≤ (O.seen output.new).faults }
+{
+    match write_refused(output, line, word) {
+        Ok(()) => Status::Invalid,
+        Err(_) => Status::WriteFault,
+    }
+}
+
+/// Writes the line of a refusal, and else nothing; the status says why the command stops, or that the sink failed.
+pub fn end_early<O: Sink>(end: ScriptEnd, output: &mut O) -> Status
+    ensures ends { EndsBy end result (O.seen output.old) (O.seen output.new) }
+    ensures later { (O.seen output.old).faults ≤ (O.seen output.new).faults }
+{
+    match end {
+        ScriptEnd::Refused { line, word } => refuse(line, word, output),
+        ScriptEnd::ReadFault => Status::ReadFault,
+        ScriptEnd::ByteLimit => Status::ByteLimit,
+        ScriptEnd::Memory => Status::Memory,
+    }
+}

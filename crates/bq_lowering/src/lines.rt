@@ -1,0 +1,66 @@
+//! The lines before and behind the rows of a family, and those of a query that has none. Each is one call that writes a list of pieces.
+ghost use Rattle.std.specs.Prelude.{◌≡◌, ◌++◌, ◌∷◌, [], codes};
+ghost use Rattle.bq_io.specs.Sink.{Writes};
+ghost use Rattle.bq_session.specs.Replies as replies;
+ghost use Rattle.bq_lowering.specs.Text.{nothing_text, head_text, end_text};
+
+use crate::finding::NoFamily;
+use bq_io::{Sink, WriteFault, write_all, write_pieces};
+use bq_model::Condition;
+use bq_text::Name;
+
+/// Returns the name of a condition.
+pub fn condition_text(condition: Condition) -> &'static [u8]
+    ensures { result.now ≡ replies.condition_text condition }
+{
+    match condition {
+        Condition::C1 => b"C1",
+        Condition::C2 => b"C2",
+        Condition::C3 => b"C3",
+    }
+}
+
+// `no family C3`
+fn nothing_line(reason: NoFamily) -> &'static [u8]
+    ensures { result.now ≡ nothing_text reason }
+{
+    match reason {
+        NoFamily::Bounded => b"no family bounded\n",
+        NoFamily::C2 => b"no family C2\n",
+        NoFamily::C3 => b"no family C3\n",
+    }
+}
+
+/// Writes that a query has no family, as `no family C3`.
+pub fn write_nothing<O: Sink>(out: &mut O, reason: NoFamily) -> Result<(), WriteFault>
+    ensures { Writes result (O.seen out.old) (O.seen out.new) (nothing_text reason) }
+{
+    write_all(out, nothing_line(reason))
+}
+
+/// Writes the first line of a family, by its parts: `family q part 1 C1 S.a size 2`.
+pub fn write_head<'a, O: Sink>(
+    out: &mut O,
+    name: &'a [u8],
+    part: &'a [u8],
+    condition: &'a [u8],
+    stream: &'a [u8],
+    column: &'a [u8],
+    size: &'a [u8],
+) -> Result<(), WriteFault>
+    ensures { Writes result (O.seen out.old) (O.seen out.new) (head_text name.now part.now condition.now (stream.now ++ 46 ∷ column.now) size.now) }
+{
+    let pieces: [&[u8]; 13] = [
+        b"family ", name, b" part ", part, b" ", condition, b" ", stream, b".", column, b" size ",
+        size, b"\n",
+    ];
+    write_pieces(out, &pieces)
+}
+
+/// Writes the last line of a family: `end q`.
+pub fn write_end<O: Sink>(out: &mut O, name: &Name) -> Result<(), WriteFault>
+    ensures { Writes result (O.seen out.old) (O.seen out.new) (end_text name.now) }
+{
+    let pieces: [&[u8]; 3] = [b"end ", name.bytes(), b"\n"];
+    write_pieces(out, &pieces)
+}
