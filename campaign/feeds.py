@@ -1,9 +1,11 @@
 """Feeds that take turns: the output is that of their lines in turn, whatever pipes do.
 
 Also: what happens where a feed is a folder, is not there or may not be read, and where the
-writer of a pipe goes away, which ends its feed.
+writer of a pipe is killed in the middle of a line, which ends its feed as any other end does.
 """
 import os
+import shutil
+import signal
 import subprocess
 import tempfile
 import threading
@@ -91,19 +93,40 @@ def session(part, program, kind):
 
 
 def no_rights(part, program):
-    """A file that may not be read is a fault; who is root may read it, and is not asked."""
-    if os.geteuid() == 0:
-        return
+    """A file that may not be read is a fault. Root may read every file, and so runs a copy of the program as nobody."""
+    nobody = {"user": 65534, "group": 65534, "extra_groups": []} if os.geteuid() == 0 else {}
     with tempfile.TemporaryDirectory() as folder:
+        os.chmod(folder, 0o711)
+        mine = shutil.copy(program, os.path.join(folder, "bq"))
         names = [os.path.join(folder, name) for name in ("one", "two")]
         for name in names:
             with open(name, "wb") as file:
                 file.write(b"CREATE STREAM S (a)\n")
+            os.chmod(name, 0o644)
         os.chmod(names[1], 0)
-        ran = subprocess.run([program, "feeds", *names], capture_output=True, timeout=PATIENCE)
+        ran = subprocess.run([mine, "feeds", *names], capture_output=True, timeout=PATIENCE, **nobody)
     part.count("files that may not be read")
     if (ran.returncode, ran.stdout) != (4, b"ok stream S\nfeed 2 fault\n"):
         part.differs(f"no rights: status {ran.returncode}, output {ran.stdout[:80]!r}")
+
+
+def killed_writer(part, program):
+    """A writer that is killed behind half a line looks like one that has finished: its feed ends, and no fault is told."""
+    first, half = b"CREATE STREAM S (a)\nCREATE QUERY q AS SELECT S.a FROM S\n", b"\n\nS,12"
+    with tempfile.TemporaryDirectory() as folder:
+        names = [os.path.join(folder, name) for name in ("one", "two")]
+        os.mkfifo(names[0])
+        os.mkfifo(names[1])
+        writers = [subprocess.Popen(["sh", "-c", 'cat > "$0"; kill -9 $$', name], stdin=subprocess.PIPE) for name in names]
+        for writer, text in zip(writers, (first, half)):
+            writer.stdin.write(text)
+            writer.stdin.close()
+        ran = subprocess.run([program, "feeds", *names], stdin=subprocess.DEVNULL, capture_output=True, timeout=PATIENCE)
+        ends = {writer.wait() for writer in writers}
+    part.count("writers that were killed", len(writers))
+    wanted = session_text(text_of(turns([first.splitlines(), half.split(b"\n")])))
+    if (ran.returncode, ran.stdout, ends) != (0, wanted, {-signal.SIGKILL}):
+        part.differs(f"killed writers: status {ran.returncode}, output {ran.stdout[:80]!r}, writers {ends}")
 
 
 def run(program, seed, scale):
@@ -112,4 +135,5 @@ def run(program, seed, scale):
         for kind in ("files", "pipes", "folders", "names that are not there"):
             session(part, program, kind)
     no_rights(part, program)
+    killed_writer(part, program)
     return part

@@ -1,13 +1,11 @@
 //! The program `bq`: standard input, or feeds that its words name, to standard output.
 #![tactic(auto)]
 
-mod file;
 mod top;
 
-use crate::file::FileSource;
 use crate::top::serve;
 use bq_feeds::feeds_of;
-use bq_io::{Status, StdSink, StdSource};
+use bq_io::{FileSource, Status, StdSink, StdSource};
 use std::env;
 use std::io::ErrorKind;
 use std::process::ExitCode;

@@ -4,7 +4,7 @@ ghost use Rattle.bq_feed.specs.Reading.{IsPlain};
 
 use memchr::memchr;
 
-/// The first place at which an LF stands.
+/// Returns the first place at which an LF stands.
 pub fn feed_place(bytes: &[u8]) -> Option<usize>
     ensures { MatchOption result (IsPlain bytes.now) (λ n. (n < length bytes.now) × (slice_index bytes.now n ≡ 10) × IsPlain (take n bytes.now)) }
 {

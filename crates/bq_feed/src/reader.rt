@@ -121,7 +121,7 @@ fn read_front<I: Source>(input: &mut I, buffer: &mut [u8], most: usize) -> ReadA
 }
 
 impl LineReader {
-    /// A reader that has taken nothing. Its two buffers are all the memory that it ever takes.
+    /// Returns a reader that has taken nothing. Its two buffers are all the memory that it ever takes.
     pub fn new(alloc: Global) -> Result<LineReader, AllocError>
         ensures { IfOk result (λ reader. reader ≡ fresh) }
     {
@@ -139,7 +139,7 @@ impl LineReader {
         })
     }
 
-    /// The bytes of the last line that was given, without its LF.
+    /// Returns the bytes of the last line that was given, without its LF.
     pub fn line(&self) -> &[u8]
         ensures { result.now ≡ self.now.line }
     {
@@ -150,7 +150,7 @@ impl LineReader {
         }
     }
 
-    /// How many lines were given or called too long, which is the number of the last one, from 1.
+    /// Returns how many lines were given or called too long, which is the number of the last one, from 1.
     pub fn lines(&self) -> u64
         ensures { result ≡ self.now.lines }
     {
@@ -158,7 +158,8 @@ impl LineReader {
     }
 
     /// Gives the next line exactly where it lies whole in what was read and is not too long. It takes nothing from the source.
-    /// Where the answer is `false`, nothing is changed.
+    /// Where the answer is `false`, nothing is changed. The loops over one source and over several call it, so it is not inlined unasked.
+    #[inline(always)]
     pub fn buffered_line(&mut self) -> bool
         ensures { GivesBuffered result self.old self.new }
     {

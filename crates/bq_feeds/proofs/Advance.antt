@@ -1,5 +1,5 @@
 -- One turn after another.
-use Rattle.std.proofs.Common.{◌≡◌, ℕ, zero, suc, ◌+◌, ◌-◌, ◌^◌, ◌<◌, ◌≤◌, ◌⊎◌, inl, inr, Bool, true, false, List, [], ◌∷◌, ◌++◌, map, length, refl, sym, ap, ◌∙◌, subst, append_assoc, append-nil, length-append, arith, slice_index_or, slice_set}
+use Rattle.std.proofs.Common.{◌≡◌, ℕ, suc, ◌+◌, ◌<◌, true, false, List, [], ◌∷◌, ◌++◌, length, refl, sym, ap, ◌∙◌, subst, append_assoc, append-nil, length-append, arith, slice_set}
 use Rattle.std.proofs.lemmas.Bool.{false≢true}
 use Rattle.bq_io.specs.Source.{SourceState}
 use Rattle.bq_io.specs.Sink.{SinkState, Wrote}
@@ -12,15 +12,13 @@ use Rattle.bq_feed.specs.Reading.{NextLine}
 use Rattle.bq_session.specs.Session.{Kept, StandsFor}
 use Rattle.bq_top.specs.Events.{Event, line, fault, lines_of}
 use Rattle.bq_top.specs.Fetched.{Read}
-use Rattle.bq_top.specs.declared.one_turn.Turn.TheVariants as turn
 use Rattle.bq_top.proofs.Told.{Told, at, events_of, event_of, events_of-append, at-push, lines_of-append, lines_of-here}
 use Rattle.bq_top.proofs.Told as told
-use Rattle.bq_top.proofs.Held.{Held, Moves, sink, moves-all, held-flushed, held-more}
+use Rattle.bq_top.proofs.Held.{Moves, sink, moves-all, held-flushed, held-more}
 use Rattle.bq_top.proofs.Given.{Given}
 use Rattle.bq_top.proofs.Progress.{pushed}
 use Rattle.bq_top.specs.Turned.{AnsweredLine}
 use Rattle.bq_feeds.specs.declared.stage.Lane.{Lane}
-use Rattle.bq_feeds.specs.declared.stage.Stage.{Stage}
 use Rattle.bq_feeds.specs.declared.stage.Stage.TheVariants as stage
 use Rattle.bq_feeds.specs.Lanes.{is_open, FaultMet}
 use Rattle.bq_feeds.specs.Turns.{Feed}
@@ -28,7 +26,7 @@ use Rattle.bq_feeds.specs.Turns as turns
 use Rattle.bq_feeds.specs.Taken.{told_in, line_count}
 use Rattle.bq_feeds.specs.Visited.{new_lane, no_source, slot}
 use Rattle.bq_feeds.proofs.Rounds.{event-past, event-ended, event-fault, event-grown, event-here, told-set, told-round}
-use Rattle.bq_feeds.proofs.Rows.{Row, Each, each-at, each-set, each-round, feeds_of, lanes_of, nows_of, sources_of, map-set, map-at, map-kept, set-same}
+use Rattle.bq_feeds.proofs.Rows.{Row, each-at, each-set, each-round, feeds_of, map-set, map-at, map-kept, set-same}
 use Rattle.bq_feeds.proofs.Around.{Stands, gives, done, broken, other-line, stands-moved, stands-pushed, Standing, Around, no_row, line_count-append}
 
 length-map : (rs : List Row) → length (feeds_of rs) ≡ length rs

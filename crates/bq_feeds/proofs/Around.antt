@@ -1,23 +1,21 @@
 -- How far a session over feeds is: which events there were, what of their texts was passed on, and what is known of each feed.
-use Rattle.std.proofs.Common.{◌≡◌, ℕ, zero, suc, ◌+◌, ◌-◌, ◌^◌, ◌<◌, ◌≤◌, ◌⊎◌, inl, inr, Bool, true, false, List, [], ◌∷◌, ◌++◌, map, length, refl, sym, ap, ◌∙◌, subst, append_assoc, append-nil, length-append, arith, slice_index_or, slice_set}
-use Rattle.std.proofs.lemmas.Bool.{ne_eqb, false≢true}
+use Rattle.std.proofs.Common.{◌≡◌, ℕ, ◌+◌, ◌<◌, true, false, List, [], ◌∷◌, ◌++◌, length, refl, sym, ap, ◌∙◌, subst, append_assoc, append-nil, arith}
+use Rattle.std.proofs.lemmas.Bool.{ne_eqb}
 use Rattle.bq_io.specs.Counts.{Rose}
 use Rattle.bq_io.specs.Source.{SourceState}
 use Rattle.bq_io.specs.Sink.{SinkState}
-use Rattle.bq_feed.specs.Reading.{Reading, fresh}
 use Rattle.bq_feed.specs.GivenLines.{AllGiven, LastGiven}
 use Rattle.bq_session.specs.State.{State}
 use Rattle.bq_session.specs.Session.{Kept, StandsFor}
 use Rattle.bq_top.specs.Events.{Event, line, fault, lines_of}
 use Rattle.bq_top.proofs.Told.{Told, at, events_of, events_of-append, lines_of-append}
-use Rattle.bq_top.proofs.Held.{Held, Moves, stay, sink, moves-all}
+use Rattle.bq_top.proofs.Held.{Held, Moves, stay, sink}
 use Rattle.bq_top.proofs.Given.{Given, given-sunk, given-other}
 use Rattle.bq_feeds.specs.declared.stage.Lane.{Lane}
 use Rattle.bq_feeds.specs.declared.stage.Stage.TheVariants as stage
-use Rattle.bq_feeds.specs.Turns.{Feed}
 use Rattle.bq_feeds.specs.Taken.{told_in, line_count}
 use Rattle.bq_feeds.specs.Visited.{new_lane, no_source}
-use Rattle.bq_feeds.proofs.Rows.{Row, Each, each-map, feeds_of, lanes_of, nows_of, sources_of}
+use Rattle.bq_feeds.proofs.Rows.{Row, Each, feeds_of, lanes_of, nows_of, sources_of}
 
 -- What is known of a feed, by how far it is, in the turn that it takes next: it has given a line in each turn before, or ended in one of them.
 pub data Stands (answered pending : List Event) (number turn : ℕ) (row : Row) : Type 0 where

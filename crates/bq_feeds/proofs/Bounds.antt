@@ -18,7 +18,7 @@ use Rattle.bq_feeds.specs.Lanes.{is_open}
 use Rattle.bq_feeds.specs.Taken.{line_count}
 use Rattle.bq_feeds.specs.Visited.{new_lane}
 use Rattle.bq_feeds.proofs.Rows.{Row, Each, lanes_of, nows_of, sources_of}
-use Rattle.bq_feeds.proofs.Around.{Stands, gives, done, broken, Standing, Around}
+use Rattle.bq_feeds.proofs.Around.{Stands, gives, done, broken, Around}
 
 -- a feed of which nothing was taken
 abbrev new_row : SourceState → Row

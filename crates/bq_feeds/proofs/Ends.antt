@@ -1,6 +1,5 @@
 -- How a session over feeds ends, by how far it was.
-use Rattle.std.proofs.Common.{◌≡◌, ℕ, zero, suc, ◌+◌, ◌-◌, ◌^◌, ◌<◌, ◌≤◌, ◌⊎◌, inl, inr, Bool, true, false, ◌||◌, List, [], ◌∷◌, ◌++◌, map, length, refl, sym, ap, ◌∙◌, subst, append_assoc, append-nil, arith, slice_index_or, slice_set, IfSome}
-use Rattle.std.specs.Prelude.{⊤}
+use Rattle.std.proofs.Common.{◌≡◌, ℕ, zero, ◌+◌, ◌-◌, ◌^◌, ◌<◌, ◌≤◌, inl, inr, Bool, true, false, ◌||◌, List, [], ◌∷◌, ◌++◌, map, length, refl, sym, ap, ◌∙◌, subst, append_assoc, append-nil, arith}
 use Rattle.std.specs.List.{list_any}
 use Rattle.std.specs.Io.KnownBytes.{Appends}
 use Rattle.std.proofs.lemmas.Bool.{false≢true}
@@ -10,24 +9,23 @@ use Rattle.bq_io.specs.Gathered.{StaysHeld}
 use Rattle.bq_io.proofs.Writing.{Rose-earlier}
 use Rattle.bq_io.specs.declared.status.Status.{Status}
 use Rattle.bq_io.specs.declared.status.Status.TheVariants as status
-use Rattle.bq_session.specs.Answers.{IsAnswer}
-use Rattle.bq_session.specs.State.{State, after, next_of}
+use Rattle.bq_session.specs.State.{State, next_of}
 use Rattle.bq_session.specs.Replies.{reply_to}
 use Rattle.bq_session.specs.Session.{Kept}
-use Rattle.bq_top.specs.Events.{Event, line, fault, fault_text, lines_of, IsClose}
+use Rattle.bq_top.specs.Events.{Event, fault_text, lines_of, IsClose}
 use Rattle.bq_top.proofs.Passing.{IfSome-map}
 use Rattle.bq_top.proofs.Stops.{Stopped}
 use Rattle.bq_top.proofs.Told.{Told, at, replied, answers_of, events_of, event_of, events_of-append, at-after, AreTold, AreTold-front, IsTold}
 use Rattle.bq_top.proofs.Told as told
-use Rattle.bq_top.proofs.Held.{Held, held-all, held-stopped}
+use Rattle.bq_top.proofs.Held.{held-all, held-stopped}
 use Rattle.bq_feeds.specs.declared.stage.Lane.{Lane}
 use Rattle.bq_feeds.specs.declared.stage.Stage.{Stage}
 use Rattle.bq_feeds.specs.declared.stage.Stage.TheVariants as stage
 use Rattle.bq_feeds.specs.Lanes.{is_open, is_failed}
-use Rattle.bq_feeds.specs.Turns.{Feed, turns}
-use Rattle.bq_feeds.specs.Taken.{TakenFeed, feed_of, IsTaken, OfEach, FeedsTaken, WroteEvents, AtEvent, IsEventText, StopsAtEvent, told_in, line_count}
+use Rattle.bq_feeds.specs.Turns.{turns}
+use Rattle.bq_feeds.specs.Taken.{TakenFeed, feed_of, OfEach, FeedsTaken, WroteEvents, IsEventText, StopsAtEvent, told_in, line_count}
 use Rattle.bq_feeds.specs.FeedsText.{AreEvents, event_replies}
-use Rattle.bq_feeds.specs.FeedsEnd.{SomeFailed, StopsAtLimit, Ran, RanLater}
+use Rattle.bq_feeds.specs.FeedsEnd.{SomeFailed, HasRoom, RanLater}
 use Rattle.bq_feeds.specs.Visited.{Finished, well, faulty, unwritten}
 use Rattle.bq_feeds.proofs.Rounds.{told-agrees, told-all, told-front, AllPast}
 use Rattle.bq_feeds.proofs.Rows.{Row, Each, each-map, feeds_of, lanes_of}
@@ -135,24 +133,6 @@ ends-blocked s starts ends all session before below below' held held' lines roun
       later = omega (arith, i.has.later, stays.wrote.later.faults);
     }
 
--- as many lines were given as a session over feeds takes
-pub ends-many : (s : State) (starts ends : List SourceState) (all : List Lane) (session : Kept) (before below below' : SinkState) (held : List ℕ) (lines round place : ℕ) → (i : Around s starts ends all session before below held lines round place)
-    → lines ≡ 2 ^ 64 - 2 → Wrote below below' held → RanLater status.ByteLimit s starts ends before below'
-ends-many s starts ends all session before below below' held lines round place i many wrote =
-    let c = cut-standing starts ends all (events_of i.answered) (events_of i.pending) round place i.standing in
-    record {
-      ends = (
-        c.f,
-        record {
-          round = round;
-          place = place;
-          cause = inr (ap line_count (sym c.told) ∙ i.many ∙ many);
-          wrote = wrote-events s (i.answered ++ i.pending) (told_in round place (map feed_of c.f.taken)) before below' (events_of-append i.answered i.pending ∙ c.told) i.has.are (held-all s i.answered i.pending before below below' held i.has wrote.bytes);
-        },
-      );
-      later = omega (arith, i.has.later, wrote.later.faults);
-    }
-
 -- one of two is true
 or-false : (b c : Bool) → (b || c) ≡ false → (b ≡ false) × (c ≡ false)
 or-false true c e = absurd (false≢true (sym e))
@@ -231,10 +211,11 @@ record AllOver (s : State) (starts ends : List SourceState) (all : List Lane) (b
   pub well : list_any (λ (lane : Lane). is_failed lane.stage) all ≡ false → OfEach (λ m t. t.stage ≡ stage.Ended) 1 f.taken
   pub faulty : list_any (λ (lane : Lane). is_failed lane.stage) all ≡ true → SomeFailed f.taken
   pub wrote : WroteEvents s (turns (map feed_of f.taken)) before below
+  pub room : HasRoom (turns (map feed_of f.taken))
 
 all-over : (s : State) (starts ends : List SourceState) (all : List Lane) (session : Kept) (before below below' : SinkState) (held : List ℕ) (lines round : ℕ) → (i : Around s starts ends all session before below held lines round 0)
-    → list_any (λ (lane : Lane). is_open lane.stage) all ≡ false → Wrote below below' held → AllOver s starts ends all before below'
-all-over s starts ends all session before below below' held lines round i closed wrote =
+    → lines ≤ 2 ^ 64 - 2 → list_any (λ (lane : Lane). is_open lane.stage) all ≡ false → Wrote below below' held → AllOver s starts ends all before below'
+all-over s starts ends all session before below below' held lines round i few closed wrote =
     let A = events_of i.answered in
     let P = events_of i.pending in
     let z = i.standing in
@@ -242,22 +223,24 @@ all-over s starts ends all session before below below' held lines round i closed
     let a = all-grown (NearEach A P) 1 round 0 z.rows (each-map (Stands A P) (Grown (NearEach A P)) 1 round 0 z.rows (grown A P) z.each) in
     let whole : events_of (i.answered ++ i.pending) ≡ turns (map feed_of a.taken) =
     events_of-append i.answered i.pending ∙ z.events ∙ told-all round (feeds_of z.rows) (all-past A P 1 round z.rows none z.each) ∙ ap turns (sym (a.same none)) in
+    let size : line_count (turns (map feed_of a.taken)) ≡ lines = ap line_count (sym whole ∙ events_of-append i.answered i.pending) ∙ i.many in
     record {
       f = record { taken = a.taken; before = a.sources ∙ z.sources; after = a.nows ∙ z.nows; are = a.are };
       closed = closed-each 1 a.taken z.rows a.stages none;
       well = λ any. ended-each 1 a.taken z.rows a.stages none (ap (list_any (λ (lane : Lane). is_failed lane.stage)) z.lanes ∙ any);
       faulty = λ any. some-failed a.taken z.rows a.stages (ap (list_any (λ (lane : Lane). is_failed lane.stage)) z.lanes ∙ any);
       wrote = wrote-events s (i.answered ++ i.pending) (turns (map feed_of a.taken)) before below' whole i.has.are (held-all s i.answered i.pending before below below' held i.has wrote.bytes);
+      room = omega (arith, size, few);
     }
 
 -- all feeds have ended
 pub ends-finished : (result : Status) (s : State) (starts ends : List SourceState) (all : List Lane) (session : Kept) (before below below' : SinkState) (held held' : List ℕ) (lines round : ℕ) → (i : Around s starts ends all session before below held lines round 0)
-    → list_any (λ (lane : Lane). is_open lane.stage) all ≡ false → Finished result all below below' held held' → RanLater result s starts ends before below'
-ends-finished result s starts ends all session before below below' held held' lines round i closed (well e none wrote) =
-    let o = all-over s starts ends all session before below below' held lines round i closed wrote in
-    rw e (record { ends = (o.f, o.well none, o.wrote); later = omega (arith, i.has.later, wrote.later.faults) })
-ends-finished result s starts ends all session before below below' held held' lines round i closed (faulty e some wrote) =
-    let o = all-over s starts ends all session before below below' held lines round i closed wrote in
-    rw e (record { ends = (o.f, o.closed, o.faulty some, o.wrote); later = omega (arith, i.has.later, wrote.later.faults) })
-ends-finished result s starts ends all session before below below' held held' lines round i closed (unwritten e stays) =
+    → lines ≤ 2 ^ 64 - 2 → list_any (λ (lane : Lane). is_open lane.stage) all ≡ false → Finished result all below below' held held' → RanLater result s starts ends before below'
+ends-finished result s starts ends all session before below below' held held' lines round i few closed (well e none wrote) =
+    let o = all-over s starts ends all session before below below' held lines round i few closed wrote in
+    rw e (record { ends = (o.f, o.well none, o.wrote, o.room); later = omega (arith, i.has.later, wrote.later.faults) })
+ends-finished result s starts ends all session before below below' held held' lines round i few closed (faulty e some wrote) =
+    let o = all-over s starts ends all session before below below' held lines round i few closed wrote in
+    rw e (record { ends = (o.f, o.closed, o.faulty some, o.wrote, o.room); later = omega (arith, i.has.later, wrote.later.faults) })
+ends-finished result s starts ends all session before below below' held held' lines round i few closed (unwritten e stays) =
     rw e (ends-blocked s starts ends all session before below below' held held' lines round 0 i stays)

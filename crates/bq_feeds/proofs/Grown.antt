@@ -1,21 +1,15 @@
 -- What was taken of each feed in the end, of which what was told is a front.
-use Rattle.std.proofs.Common.{◌≡◌, ℕ, zero, suc, ◌+◌, ◌-◌, ◌^◌, ◌<◌, ◌≤◌, ◌⊎◌, inl, inr, Bool, true, false, ◌||◌, cond, List, [], ◌∷◌, ◌++◌, map, length, refl, sym, ap, ◌∙◌, subst, append_assoc, append-nil, arith, IfSome}
+use Rattle.std.proofs.Common.{◌≡◌, ℕ, zero, suc, ◌+◌, ◌<◌, inl, inr, Bool, true, false, ◌||◌, cond, List, [], ◌∷◌, ◌++◌, map, length, refl, sym, ap, ◌∙◌, subst, append_assoc, append-nil, arith, IfSome}
 use Rattle.std.specs.Prelude.{⊤}
 use Rattle.std.specs.List.{list_any}
-use Rattle.std.specs.Io.KnownBytes.{Consumes}
 use Rattle.std.proofs.lemmas.Bool.{false≢true}
-use Rattle.bq_io.specs.Source.{SourceState}
 use Rattle.bq_text.specs.Lines.{is_line_feed, lines}
 use Rattle.bq_feed.specs.Texts.{text_of, ended_part}
-use Rattle.bq_feed.specs.GivenLines.{GivenLines}
 use Rattle.bq_feed.proofs.GivenEnds.{text-lines}
 use Rattle.bq_top.specs.Events.{Event, lines_of, IsClose}
 use Rattle.bq_top.proofs.Given.{Given, given-close}
-use Rattle.bq_feeds.specs.declared.stage.Lane.{Lane}
-use Rattle.bq_feeds.specs.declared.stage.Stage.{Stage}
 use Rattle.bq_feeds.specs.declared.stage.Stage.TheVariants as stage
-use Rattle.bq_feeds.specs.Lanes.{is_failed}
-use Rattle.bq_feeds.specs.Turns.{Feed, event_of}
+use Rattle.bq_feeds.specs.Turns.{event_of}
 use Rattle.bq_feeds.specs.Taken.{TakenFeed, feed_of, IsTaken, OfEach}
 use Rattle.bq_feeds.proofs.Rounds.{event-grown, AgreeBelow}
 use Rattle.bq_feeds.proofs.Rows.{Row, Each, feeds_of, sources_of, nows_of}

@@ -9,5 +9,6 @@ pub mod Outcomes
 pub mod Rounds
 pub mod Rows
 pub mod Stopping
+pub mod Turned
 pub mod Turns
 pub mod Visits

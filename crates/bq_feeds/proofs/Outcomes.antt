@@ -1,14 +1,18 @@
 -- How a session over feeds ends, by its status.
-use Rattle.std.proofs.Common.{◌≡◌, ℕ, zero, suc, ◌+◌, ◌<◌, ◌≤◌, List, [], ◌∷◌, ◌++◌, map, length, drop, replicate, inr, refl, sym, ap, ◌∙◌, subst, arith, String, codes}
+use Rattle.std.proofs.Common.{◌≡◌, ℕ, zero, suc, ◌+◌, List, [], ◌∷◌, ◌++◌, map, length, drop, replicate, inl, inr, refl, sym, ap, ◌∙◌, subst, arith, String, codes}
 use Rattle.std.specs.String.{string_bytes}
 use Rattle.std.specs.declared.alloc.Global.{Global}
 use Rattle.bq_io.specs.Source.{SourceState}
 use Rattle.bq_io.specs.Sink.{SinkState}
 use Rattle.bq_io.specs.declared.status.Status.{Status}
 use Rattle.bq_io.specs.declared.status.Status.TheVariants as status
-use Rattle.bq_session.specs.State.{empty}
+use Rattle.bq_io.specs.Counts.{Rose}
+use Rattle.bq_session.specs.State.{State, empty}
+use Rattle.bq_top.specs.Run.{IsNoFault}
+use Rattle.bq_feeds.specs.declared.stage.Stage.{Stage}
+use Rattle.bq_feeds.specs.Taken.{TakenFeed, AreLinesOf, IsTaken, OfEach, FeedsTaken}
 use Rattle.bq_feeds.specs.declared.words.FeedWords.{FeedWords}
-use Rattle.bq_feeds.specs.FeedsEnd.{Ran, SessionRan, FeedsEnd, Asked}
+use Rattle.bq_feeds.specs.FeedsEnd.{SomeFailed, Ran, SomeRose, NoneFell, SessionRan, FeedsEnd, Asked}
 use Rattle.bq_feeds.specs.Words.{AreFeeds, AreFeedNames, AreFeedsTexts, plain, limited}
 
 pub session-ran : (how : Status) (limit : ℕ) (sources nows : List SourceState) (sink sink' : SinkState) → Ran how (empty limit) sources nows sink sink' → SessionRan how limit sources nows sink sink'
@@ -19,6 +23,48 @@ session-ran status.ReadFault limit sources nows sink sink' h = h
 session-ran status.WriteFault limit sources nows sink sink' h = h
 session-ran status.Memory limit sources nows sink sink' h = inr h
 session-ran status.ByteLimit limit sources nows sink sink' h = h
+
+-- a feed that has failed counted a fault
+some-rose : (number : ℕ) (taken : List TakenFeed) → OfEach (λ m t. IsTaken t) number taken → SomeFailed taken → SomeRose (map (λ (t : TakenFeed). t.source) taken) (map (λ (t : TakenFeed). t.now) taken)
+some-rose number [] are some = some
+some-rose number (t ∷ taken) are (inl e) = inl (subst (λ (x : Stage). AreLinesOf x t) e are.0.are).0
+some-rose number (t ∷ taken) are (inr some) = inr (some-rose (number + 1) taken are.1 some)
+
+pub failed-rose : (sources nows : List SourceState) → (f : FeedsTaken sources nows) → SomeFailed f.taken → SomeRose sources nows
+failed-rose sources nows f some =
+    subst (λ (xs : List SourceState). SomeRose xs nows) f.before (subst (λ (xs : List SourceState). SomeRose (map (λ (t : TakenFeed). t.source) f.taken) xs) f.after (some-rose 1 f.taken f.are some))
+
+-- a session over feeds in which nothing failed ends by none of the two faults
+pub no-fault : (how : Status) (s : State) (sources nows : List SourceState) (sink sink' : SinkState) → (SomeRose sources nows → ⊥) → (Rose sink.faults sink'.faults → ⊥) → Ran how s sources nows sink sink' → IsNoFault how
+no-fault status.Done s sources nows sink sink' feeds output h = tt
+no-fault status.Invalid s sources nows sink sink' feeds output h = tt
+no-fault status.Usage s sources nows sink sink' feeds output h = tt
+no-fault status.ReadFault s sources nows sink sink' feeds output h = feeds (failed-rose sources nows h.0 h.2)
+no-fault status.WriteFault s sources nows sink sink' feeds output h = output h.0
+no-fault status.Memory s sources nows sink sink' feeds output h = tt
+no-fault status.ByteLimit s sources nows sink sink' feeds output h = tt
+
+none-fell : (number : ℕ) (taken : List TakenFeed) → OfEach (λ m t. IsTaken t) number taken → NoneFell (map (λ (t : TakenFeed). t.source) taken) (map (λ (t : TakenFeed). t.now) taken)
+none-fell number [] are = tt
+none-fell number (t ∷ taken) are = (are.0.later, none-fell (number + 1) taken are.1)
+
+taken-later : (sources nows : List SourceState) → FeedsTaken sources nows → NoneFell sources nows
+taken-later sources nows f =
+    subst (λ (xs : List SourceState). NoneFell xs nows) f.before (subst (λ (xs : List SourceState). NoneFell (map (λ (t : TakenFeed). t.source) f.taken) xs) f.after (none-fell 1 f.taken f.are))
+
+pub same-later : (sources : List SourceState) → NoneFell sources sources
+same-later [] = tt
+same-later (source ∷ sources) = (omega arith, same-later sources)
+
+-- no count of faults of the feeds fell
+pub feeds-later : (how : Status) (s : State) (sources nows : List SourceState) (sink sink' : SinkState) → Ran how s sources nows sink sink' → NoneFell sources nows
+feeds-later status.Done s sources nows sink sink' h = taken-later sources nows h.0
+feeds-later status.Invalid s sources nows sink sink' h = absurd h
+feeds-later status.Usage s sources nows sink sink' h = absurd h
+feeds-later status.ReadFault s sources nows sink sink' h = taken-later sources nows h.0
+feeds-later status.WriteFault s sources nows sink sink' h = taken-later sources nows h.1
+feeds-later status.Memory s sources nows sink sink' h = taken-later sources nows h.0
+feeds-later status.ByteLimit s sources nows sink sink' h = taken-later sources nows h.0
 
 asked : (words : List (String Global)) (count limit : ℕ) (P : ℕ → Type 0) → AreFeeds words limit count → P limit → Asked words count P
 asked words count limit P are h = record { limit = limit; asks = are; holds = h }

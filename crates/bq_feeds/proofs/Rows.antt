@@ -1,5 +1,5 @@
 -- What is known of each feed, by its number and how many turns it had.
-use Rattle.std.proofs.Common.{◌≡◌, ℕ, zero, suc, ◌+◌, ◌<◌, ◌≤◌, List, [], ◌∷◌, ◌++◌, map, length, refl, sym, ap, ◌∙◌, subst, arith, slice_index_or, slice_set}
+use Rattle.std.proofs.Common.{◌≡◌, ℕ, zero, suc, ◌+◌, ◌<◌, List, [], ◌∷◌, map, length, refl, ap, subst, arith, slice_index_or, slice_set}
 use Rattle.std.specs.Prelude.{⊤}
 use Rattle.bq_io.specs.Source.{SourceState}
 use Rattle.bq_feeds.specs.declared.stage.Lane.{Lane}

@@ -1,5 +1,5 @@
 -- How a session over feeds ends in the turn of one of them.
-use Rattle.std.proofs.Common.{◌≡◌, ℕ, zero, suc, ◌+◌, ◌-◌, ◌^◌, ◌<◌, ◌≤◌, ◌⊎◌, inl, inr, Bool, true, false, List, [], ◌∷◌, ◌++◌, map, length, refl, sym, ap, ◌∙◌, subst, append_assoc, append-nil, arith, slice_set, IfSome}
+use Rattle.std.proofs.Common.{◌≡◌, ℕ, zero, suc, ◌+◌, ◌-◌, ◌^◌, ◌<◌, inl, inr, Bool, List, [], ◌∷◌, ◌++◌, map, length, refl, sym, ap, ◌∙◌, subst, append_assoc, append-nil, arith, slice_set}
 use Rattle.std.specs.Io.KnownBytes.{Appends}
 use Rattle.bq_io.specs.Source.{SourceState}
 use Rattle.bq_io.specs.Sink.{SinkState, Wrote, BrokeOff}
@@ -8,7 +8,9 @@ use Rattle.bq_io.proofs.Writing.{Rose-earlier}
 use Rattle.bq_io.specs.declared.status.Status.TheVariants as status
 use Rattle.bq_feed.specs.declared.reader.LineAnswer.TheVariants as reads
 use Rattle.bq_feed.specs.GivenLines.{GivenLines}
+use Rattle.bq_feed.specs.Reading.{answer_to}
 use Rattle.bq_feed.proofs.GivenEnds.{last-text, last-given}
+use Rattle.bq_feed.proofs.GivenLines.{step-read}
 use Rattle.bq_session.specs.declared.outcome.LineOutcome.{LineOutcome}
 use Rattle.bq_session.specs.declared.outcome.LineOutcome.TheVariants as outcome
 use Rattle.bq_session.specs.Requests.{IsRequest}
@@ -21,23 +23,22 @@ use Rattle.bq_top.proofs.Passing.{IfSome-map}
 use Rattle.bq_top.proofs.Stops.{Stopped}
 use Rattle.bq_top.proofs.Told.{Told, at, events_of, answers_of, replied, events_of-append, at-after, AreTold, AreTold-push, IsTold}
 use Rattle.bq_top.proofs.Told as told
-use Rattle.bq_top.proofs.Held.{Held, Moves, moves-all, held-all, held-still, held-flushed, held-stopped, held-broke}
-use Rattle.bq_top.proofs.Given.{Given}
+use Rattle.bq_top.proofs.Given.{Given, given-read}
+use Rattle.bq_top.proofs.Held.{Held, sink, moves-all, held-all, held-still, held-flushed, held-stopped, held-broke}
 use Rattle.bq_top.proofs.Progress.{waits}
 use Rattle.bq_feeds.specs.declared.stage.Lane.{Lane}
 use Rattle.bq_feeds.specs.declared.stage.Stage.TheVariants as stage
 use Rattle.bq_feeds.specs.Lanes.{FaultMet}
 use Rattle.bq_feeds.specs.Turns.{Feed}
 use Rattle.bq_feeds.specs.Turns as turns
-use Rattle.bq_feeds.specs.Taken.{TakenFeed, feed_of, OfEach, StopsAtEvent, StopsAtCreate, told_in}
-use Rattle.bq_feeds.specs.FeedsText.{event_replies}
+use Rattle.bq_feeds.specs.Taken.{TakenFeed, feed_of, OfEach, StopsAtEvent, told_in, line_count}
 use Rattle.bq_feeds.specs.FeedsEnd.{IsFullAt, RanLater}
-use Rattle.bq_feeds.specs.Visited.{new_lane, no_source, slot}
+use Rattle.bq_feeds.specs.Visited.{no_source, slot}
 use Rattle.bq_feeds.proofs.Rounds.{told-put}
-use Rattle.bq_feeds.proofs.Rows.{Row, Each, each-put, feeds_of, nows_of, sources_of, map-set, map-at, map-kept, set-same}
+use Rattle.bq_feeds.proofs.Rows.{Row, each-put, feeds_of, map-set, map-at, map-kept, set-same}
 use Rattle.bq_feeds.proofs.Around.{Stands, Standing, Around, no_row}
-use Rattle.bq_feeds.proofs.Advance.{Opened, Here, standing-line, standing-fault}
-use Rattle.bq_feeds.proofs.Grown.{NearEach, Grown, grown, AllGrown, all-grown, of-each-map}
+use Rattle.bq_feeds.proofs.Advance.{Here, standing-line, standing-fault}
+use Rattle.bq_feeds.proofs.Grown.{NearEach, Grown, grown, all-grown, of-each-map}
 use Rattle.bq_feeds.proofs.Ends.{Cut, cut, cut-standing, stops-cut, wrote-events, are-events, replied-events, ends-blocked}
 
 -- as many bytes were taken of the feed of this number as can be counted, and its lines were given in the rounds before
@@ -103,12 +104,52 @@ ends-full s starts ends all session before below below' held held' lines round p
     record {
       ends = (
         c.f,
-        record {
+        inl (record {
           round = round;
           place = place;
-          cause = inl (full-at n round 1 place c.f.taken refl size c.hold);
+          full = full-at n round 1 place c.f.taken refl size c.hold;
           wrote = wrote-events s (i.answered ++ i.pending) (told_in round place (map feed_of c.f.taken)) before below' (events_of-append i.answered i.pending ∙ c.told) i.has.are (held-all s i.answered i.pending before below below' held i.has r.wrote.bytes);
-        },
+        }),
+      );
+      later = omega (arith, i.has.later, r.wrote.later.faults);
+    }
+
+-- the feed of a place has another line, and the session takes no more
+pub ends-more : (s : State) (starts ends : List SourceState) (all : List Lane) (session : Kept) (before below below' : SinkState) (held held' : List ℕ) (lines round place : ℕ) (lane : Lane) (source : SourceState) (long : Bool)
+    → (i : Around s starts ends all session before below held lines round place) → place < length i.standing.rows → (h : Here s starts ends all session before below held lines round place i) → lane.stage ≡ stage.Open
+    → lines ≡ 2 ^ 64 - 2 → Read (answer_to long) (slot i.standing.rows place no_row).lane.reader lane.reader (slot i.standing.rows place no_row).now source below below' held held'
+    → RanLater status.ByteLimit s starts (slice_set ends place source) before below'
+ends-more s starts ends all session before below below' held held' lines round place lane source long i l h yet-open many r =
+    let row = slot i.standing.rows place no_row in
+    let n = 1 + place in
+    let ts = i.answered ++ i.pending in
+    let step = step-read long row.lane.reader lane.reader row.now source r.next in
+    let e = line n step.line in
+    let ends' = slice_set ends place source in
+    let given = subst (λ es. Given n row.source source lane.reader es (e ∷ [])) (sym (events_of-append i.answered i.pending))
+    (given-read long n row.source row.now source row.lane.reader lane.reader (events_of i.answered) (events_of i.pending) h.yet-open.given step) in
+    let z = standing-line starts ends all i.answered i.pending ts [] round place lane source step.line i.standing l h.yet-open (sink refl refl) yet-open given in
+    let c = cut-standing starts ends' (slice_set all place lane) (events_of ts) (e ∷ []) round (suc place) z in
+    record {
+      ends = (
+        c.f,
+        inr (record {
+          at_event = record {
+            told = events_of ts;
+            event = e;
+            others = c.more;
+            whole = c.whole ∙ append_assoc (events_of ts) (e ∷ []) c.more;
+            near = of-each-map (NearEach (events_of ts) (e ∷ [])) (λ number t. t.stage ≡ stage.Open → IsClose t.text (lines_of number (events_of ts ++ e ∷ [])) t.now.last) 1 c.f.taken
+                (λ number t near yet. near yet [] e [] refl) c.hold;
+            answers = answers_of ts;
+            are = are-events s ts i.has.are;
+          };
+          number = n;
+          text = step.line;
+          is_line = refl;
+          many = ap line_count (events_of-append i.answered i.pending) ∙ i.many ∙ many;
+          written = subst (λ t. Appends before.written below'.written t) (replied-events s ts) (held-all s i.answered i.pending before below below' held i.has r.wrote.bytes);
+        }),
       );
       later = omega (arith, i.has.later, r.wrote.later.faults);
     }

@@ -1,12 +1,12 @@
 -- The turns of one feed, and that the events of a round stay.
-use Rattle.std.proofs.Common.{◌≡◌, ℕ, zero, suc, ◌+◌, ◌<◌, ◌≤◌, ◌&&◌, ◌⊎◌, inl, inr, Bool, true, false, nat_eq, nat_lt, cond, max, min, List, [], ◌∷◌, ◌++◌, map, length, take, drop, refl, sym, ap, ◌∙◌, subst, arith, slice_index_or, append-nil}
+use Rattle.std.proofs.Common.{◌≡◌, ℕ, zero, suc, ◌+◌, ◌<◌, ◌≤◌, ◌&&◌, ◌⊎◌, inl, inr, Bool, true, false, nat_eq, nat_lt, cond, max, min, List, [], ◌∷◌, ◌++◌, map, length, take, drop, refl, sym, ap, ◌∙◌, arith, slice_index_or}
 use Rattle.std.specs.List.{flat_map, range_with_len}
 use Rattle.std.proofs.lemmas.Bool.Decides.{nat_tests}
 use Rattle.std.proofs.lemmas.List.{length-take, get_or-take}
 use Rattle.std.proofs.Math.Seq.{drop-cons}
-use Rattle.bq_top.specs.Events.{Event, line, fault}
-use Rattle.bq_feeds.specs.Turns.{Feed, event_of, round_of, rounds, turns, GrowsTo}
-use Rattle.bq_feeds.specs.Laws.{OneFeedGivesItsLines, HaveGrown, RoundsStay}
+use Rattle.bq_top.specs.Events.{line, fault}
+use Rattle.bq_feeds.specs.Turns.{Feed, event_of, round_of, GrowsTo}
+use Rattle.bq_feeds.specs.Laws.{OneFeedGivesItsLines, RoundsStay}
 
 -- a line in its round
 event-line : (number round : ℕ) (feed : Feed) → round < length feed.lines → event_of number round feed ≡ line number (slice_index_or feed.lines round []) ∷ []

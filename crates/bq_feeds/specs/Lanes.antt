@@ -1,10 +1,9 @@
 -- What a turn of a feed does.
-use Rattle.std.specs.Prelude.{◌≡◌, ◌⊎◌, ℕ, ◌+◌, ◌-◌, ◌^◌, ◌<◌, Bool, true, false, List, length}
-use Rattle.std.specs.List.{slice_index_or, slice_set}
+use Rattle.std.specs.Prelude.{◌≡◌, ◌⊎◌, ℕ, Bool, true, false, List}
 use Rattle.bq_io.specs.Source.{SourceState}
 use Rattle.bq_io.specs.Sink.{SinkState, Wrote, BrokeOff}
 use Rattle.bq_io.specs.Gathered.{gathered_seen}
-use Rattle.bq_feed.specs.Reading.{Reading}
+use Rattle.bq_feed.specs.Reading.{Reading, answer_to}
 use Rattle.bq_feed.specs.declared.reader.LineAnswer.TheVariants as line
 use Rattle.bq_session.specs.declared.outcome.LineOutcome.TheVariants as outcome
 use Rattle.bq_session.specs.State.{State}
@@ -12,7 +11,7 @@ use Rattle.bq_session.specs.Session.{Kept}
 use Rattle.bq_top.specs.declared.one_turn.Turn.{Turn}
 use Rattle.bq_top.specs.declared.one_turn.Turn.TheVariants as turns
 use Rattle.bq_top.specs.Events.{fault_text}
-use Rattle.bq_top.specs.Fetched.{Read}
+use Rattle.bq_top.specs.Fetched.{Read, StoppedHere}
 use Rattle.bq_top.specs.Turned.{AnsweredLine, LacksMemory, SinkFailed}
 use Rattle.bq_feeds.specs.declared.stage.Stage.{Stage}
 use Rattle.bq_feeds.specs.declared.stage.Stage.TheVariants.{Open, Ended, Failed}
@@ -30,6 +29,30 @@ is_failed Open = false
 is_failed Ended = false
 is_failed Failed = true
 
+-- How a look at the next line of a source goes, which the session does not take. Full: there is one, or the source has more bytes than can be
+-- counted.
+abbrev pub Looked : Turn → Reading → Reading → SourceState → SourceState → SinkState → SinkState → List ℕ → List ℕ → Type 0
+Looked turns.Answered old new source now below after held kept = ⊥
+Looked turns.Ended old new source now below after held kept = Read line.End old new source now below after held kept
+Looked turns.Failed old new source now below after held kept = Read line.ReadFault old new source now below after held kept
+Looked turns.Full old new source now below after held kept = Read line.ByteLimit old new source now below after held kept ⊎ ((long : Bool) × Read (answer_to long) old new source now below after held kept)
+Looked turns.Stopped old new source now below after held kept = StoppedHere old new source now below after held kept
+Looked turns.Memory old new source now below after held kept = ⊥
+
+-- A source has more bytes than can be counted; or the session takes no more lines, and the source has another one.
+pub data Filled (more : Bool) (old new : Reading) (source now : SourceState) (below after : SinkState) (held kept : List ℕ) : Type 0 where
+  bytes : Read line.ByteLimit old new source now below after held kept → Filled more old new source now below after held kept
+  lines : more ≡ false → (long : Bool) → Read (answer_to long) old new source now below after held kept → Filled more old new source now below after held kept
+
+-- How a turn of a source goes in a session that takes one more line, or no more: a line is answered only where it takes one.
+abbrev pub TurnedWith : Turn → Bool → State → Reading → Reading → SourceState → SourceState → Kept → Kept → SinkState → SinkState → List ℕ → List ℕ → Type 0
+TurnedWith turns.Answered more s old new source now session session' below after held kept = AnsweredLine outcome.Done s old new source now session' below after held kept × (more ≡ true)
+TurnedWith turns.Ended more s old new source now session session' below after held kept = Read line.End old new source now below after held kept × (session' ≡ session)
+TurnedWith turns.Failed more s old new source now session session' below after held kept = Read line.ReadFault old new source now below after held kept × (session' ≡ session)
+TurnedWith turns.Full more s old new source now session session' below after held kept = Filled more old new source now below after held kept
+TurnedWith turns.Stopped more s old new source now session session' below after held kept = SinkFailed s old new source now session session' below after held kept
+TurnedWith turns.Memory more s old new source now session session' below after held kept = LacksMemory s old new source now session' below held (λ lower full. Wrote lower after full)
+
 -- The source failed, and this holds of the sink before and after the line that says so was written.
 pub record FaultMet (number : ℕ) (old new : Reading) (source now : SourceState) (below after : SinkState) (held kept : List ℕ) (P : SinkState → SinkState → List ℕ → Type 0) : Type 0 where
   pub between : SinkState
@@ -40,12 +63,12 @@ pub record FaultMet (number : ℕ) (old new : Reading) (source now : SourceState
   pub told : P (gathered_seen between name left) (gathered_seen after name' kept) (fault_text number)
 
 -- How a turn of the feed of this number goes that has not ended: as the turn of its source, and a fault is written.
-abbrev pub LaneTurned : Turn → State → ℕ → Lane → Lane → SourceState → SourceState → Kept → Kept → SinkState → SinkState → List ℕ → List ℕ → Type 0
-LaneTurned turns.Answered s number old new source now session session' below after held kept = AnsweredLine outcome.Done s old.reader new.reader source now session' below after held kept × (new.stage ≡ Open)
-LaneTurned turns.Ended s number old new source now session session' below after held kept = Read line.End old.reader new.reader source now below after held kept × (session' ≡ session) × (new.stage ≡ Ended)
-LaneTurned turns.Failed s number old new source now session session' below after held kept = FaultMet number old.reader new.reader source now below after held kept Wrote × (session' ≡ session) × (new.stage ≡ Failed)
-LaneTurned turns.Full s number old new source now session session' below after held kept = Read line.ByteLimit old.reader new.reader source now below after held kept × (new.stage ≡ Open)
-LaneTurned turns.Stopped s number old new source now session session' below after held kept =
+abbrev pub LaneTurned : Turn → Bool → State → ℕ → Lane → Lane → SourceState → SourceState → Kept → Kept → SinkState → SinkState → List ℕ → List ℕ → Type 0
+LaneTurned turns.Answered more s number old new source now session session' below after held kept = AnsweredLine outcome.Done s old.reader new.reader source now session' below after held kept × (new.stage ≡ Open)
+LaneTurned turns.Ended more s number old new source now session session' below after held kept = Read line.End old.reader new.reader source now below after held kept × (session' ≡ session) × (new.stage ≡ Ended)
+LaneTurned turns.Failed more s number old new source now session session' below after held kept = FaultMet number old.reader new.reader source now below after held kept Wrote × (session' ≡ session) × (new.stage ≡ Failed)
+LaneTurned turns.Full more s number old new source now session session' below after held kept = Filled more old.reader new.reader source now below after held kept × (new.stage ≡ Open)
+LaneTurned turns.Stopped more s number old new source now session session' below after held kept =
     (SinkFailed s old.reader new.reader source now session session' below after held kept × (new.stage ≡ Open))
     ⊎ (FaultMet number old.reader new.reader source now below after held kept BrokeOff × (new.stage ≡ Failed))
-LaneTurned turns.Memory s number old new source now session session' below after held kept = LacksMemory s old.reader new.reader source now session' below held (λ lower full. Wrote lower after full) × (new.stage ≡ Open)
+LaneTurned turns.Memory more s number old new source now session session' below after held kept = LacksMemory s old.reader new.reader source now session' below held (λ lower full. Wrote lower after full) × (new.stage ≡ Open)

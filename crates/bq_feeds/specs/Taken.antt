@@ -1,5 +1,5 @@
 -- What was taken of the feeds of a call, and what was written over them.
-use Rattle.std.specs.Prelude.{◌≡◌, ◌⊎◌, ℕ, ◌+◌, ◌-◌, ◌^◌, ◌<◌, ◌≤◌, ⊤, IfSome, IsTrue, Bool, true, false, List, [], ◌∷◌, ◌++◌, map, length, take}
+use Rattle.std.specs.Prelude.{◌≡◌, ◌⊎◌, ℕ, ◌+◌, ◌-◌, ◌^◌, ◌<◌, ◌≤◌, ⊤, IfSome, IsTrue, List, [], ◌∷◌, ◌++◌, map, length, take}
 use Rattle.std.specs.List.{flat_map, range_with_len}
 use Rattle.std.specs.Io.KnownBytes.{Consumes, Appends}
 use Rattle.bq_io.specs.Counts.{Rose}

@@ -1,5 +1,5 @@
 -- Feeds that take turns: in each round every feed that has not ended gives one line, in order.
-use Rattle.std.specs.Prelude.{◌≡◌, ℕ, ◌+◌, ◌<◌, ◌≤◌, Bool, true, false, ◌&&◌, nat_eq, nat_lt, List, [], ◌∷◌, ◌++◌, length, take, max, if◌then◌else◌}
+use Rattle.std.specs.Prelude.{◌≡◌, ℕ, ◌+◌, Bool, true, ◌&&◌, nat_eq, nat_lt, List, [], ◌∷◌, ◌++◌, length, take, max, if◌then◌else◌}
 use Rattle.std.specs.List.{flat_map, range_with_len, slice_index_or}
 use Rattle.bq_top.specs.Events.{Event, line, fault}
 

@@ -1,5 +1,5 @@
 -- What the turn of a feed at a place does.
-use Rattle.std.specs.Prelude.{◌≡◌, ℕ, ◌+◌, ◌-◌, ◌^◌, Bool, true, false, List, []}
+use Rattle.std.specs.Prelude.{◌≡◌, ℕ, ◌+◌, ◌-◌, ◌^◌, Bool, true, false, List, nat_lt}
 use Rattle.std.specs.List.{slice_index_or, slice_set, list_any}
 use Rattle.std.specs.declared.option.Option.{Option}
 use Rattle.std.specs.declared.option.Option.TheVariants.{None, Some}
@@ -47,23 +47,19 @@ lines_after turns.Stopped lines = lines
 lines_after turns.Memory lines = lines
 
 -- The feed of this place took a turn, and the others stayed as they were.
-pub record FeedTurned (turn : Turn) (s : State) (place : ℕ) (lanes lanes' : List Lane) (nows nows' : List SourceState) (session session' : Kept) (below after : SinkState) (held kept : List ℕ) : Type 0 where
+pub record FeedTurned (turn : Turn) (more : Bool) (s : State) (place : ℕ) (lanes lanes' : List Lane) (nows nows' : List SourceState) (session session' : Kept) (below after : SinkState) (held kept : List ℕ) : Type 0 where
   pub lane : Lane
   pub source : SourceState
   pub lanes_set : lanes' ≡ slice_set lanes place lane
   pub sources_set : nows' ≡ slice_set nows place source
-  pub turned : LaneTurned turn s (place + 1) (slot lanes place new_lane) lane (slot nows place no_source) source session session' below after held kept
+  pub turned : LaneTurned turn more s (place + 1) (slot lanes place new_lane) lane (slot nows place no_source) source session session' below after held kept
 
--- What a visit to the feed of a place does. It has ended, and nothing is changed; or as many lines were given as a session over feeds takes, and what was
--- held is written, or not; or it took its turn.
+-- What a visit to the feed of a place does. It has ended, and nothing is changed; or it took its turn, in which a line was taken only where fewer
+-- were given than a session over feeds takes.
 pub data Visited (result : Option Status) (s : State) (place : ℕ) (lanes lanes' : List Lane) (nows nows' : List SourceState) (session session' : Kept) (below after : SinkState) (held kept : List ℕ) (lines lines' : ℕ) : Type 0 where
   skipped : result ≡ None → is_open (slot lanes place new_lane).stage ≡ false → lanes' ≡ lanes → nows' ≡ nows → session' ≡ session → after ≡ below → kept ≡ held → lines' ≡ lines
       → Visited result s place lanes lanes' nows nows' session session' below after held kept lines lines'
-  full : result ≡ Some status.ByteLimit → lines ≡ 2 ^ 64 - 2 → lanes' ≡ lanes → nows' ≡ nows → Wrote below after held
-      → Visited result s place lanes lanes' nows nows' session session' below after held kept lines lines'
-  blocked : result ≡ Some status.WriteFault → lanes' ≡ lanes → nows' ≡ nows → StaysHeld below after held kept
-      → Visited result s place lanes lanes' nows nows' session session' below after held kept lines lines'
-  turned : (turn : Turn) → result ≡ status_after turn → is_open (slot lanes place new_lane).stage ≡ true → FeedTurned turn s place lanes lanes' nows nows' session session' below after held kept → lines' ≡ lines_after turn lines
+  turned : (turn : Turn) → result ≡ status_after turn → is_open (slot lanes place new_lane).stage ≡ true → FeedTurned turn (nat_lt lines (2 ^ 64 - 2)) s place lanes lanes' nows nows' session session' below after held kept → lines' ≡ lines_after turn lines
       → Visited result s place lanes lanes' nows nows' session session' below after held kept lines lines'
 
 -- How a session ends whose feeds have ended: what was held was written, and then it tells whether a feed failed; or the sink failed.

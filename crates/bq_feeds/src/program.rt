@@ -1,9 +1,10 @@
 //! A session over feeds, from the words to the status.
 ghost use Rattle.std.specs.Prelude.{◌≡◌, ◌⊎◌, ◌<◌, ◌≤◌, ◌^◌, [], length, map, replicate, IfOk};
+ghost use Rattle.bq_io.specs.Counts.{Rose};
 ghost use Rattle.bq_session.specs.State.{State, empty};
 ghost use Rattle.bq_session.specs.Session.{StandsFor};
-ghost use Rattle.bq_top.specs.Run.{HasState};
-ghost use Rattle.bq_feeds.specs.FeedsEnd.{FeedsEnd, RanLater, SessionRan};
+ghost use Rattle.bq_top.specs.Run.{HasState, IsNoFault};
+ghost use Rattle.bq_feeds.specs.FeedsEnd.{FeedsEnd, NoneFell, RanLater, SessionRan, SomeRose};
 ghost use Rattle.bq_feeds.specs.Visited.{new_lane};
 
 use crate::stage::{Lane, Stage};
@@ -87,6 +88,8 @@ fn run_session<I: Source, O: Sink>(
     requires few { limit ≤ 2 ^ 40 }
     requires feeds { length feeds.old ≤ 8 }
     ensures ran { SessionRan result limit (map I.seen feeds.old) (map I.seen feeds.new) (O.seen output.old) (O.seen output.new) }
+    ensures complete { ¬ (SomeRose (map I.seen feeds.old) (map I.seen feeds.new)) → ¬ (Rose (O.seen output.old).faults (O.seen output.new).faults) → IsNoFault result }
+    ensures feeds_later { NoneFell (map I.seen feeds.old) (map I.seen feeds.new) }
     ensures later { (O.seen output.old).faults ≤ (O.seen output.new).faults }
 {
     let Ok(mut lanes) = open_lanes(alloc, feeds.len()) else {
@@ -100,7 +103,7 @@ fn run_session<I: Source, O: Sink>(
     status
 }
 
-/// One session over the feeds, where the words are `feeds [--rows N] F1 .. Fk` with 2 to 8 names, one for each feed.
+/// Runs one session over the feeds, where the words are `feeds [--rows N] F1 .. Fk` with 2 to 8 names, one for each feed.
 ///
 /// In each round every feed that has not ended gives one line, in order; it is answered before the next turn. A line that is too
 /// long is a line. A feed whose source fails ends, and `feed i fault` is written in its turn; the others go on. Lines are numbered
@@ -111,8 +114,8 @@ fn run_session<I: Source, O: Sink>(
 /// text; for `ReadFault` the same, where some feeds failed, each of which counted a fault in this call; for `WriteFault` the texts
 /// of the events before one event and a front of its text; for `Memory` nothing, or the texts of the events before a line that
 /// creates a stream or a query; for `ByteLimit` the texts of the events before a turn of a feed that has more bytes than can be
-/// counted, or before which 2^64 - 2 lines were given. `Usage` comes exactly where the words are none of this form or name another
-/// number of feeds, and then nothing was read or written.
+/// counted, or that has another line where 2^64 - 2 lines were given. `Usage` comes exactly where the words are none of this form or
+/// name another number of feeds, and then nothing was read or written. `Invalid` does not come.
 pub fn run_feeds<I: Source, O: Sink>(
     alloc: Global,
     words: &[String],
@@ -120,6 +123,10 @@ pub fn run_feeds<I: Source, O: Sink>(
     output: &mut O,
 ) -> Status
     ensures ends { FeedsEnd result words.now (map I.seen feeds.old) (map I.seen feeds.new) (O.seen output.old) (O.seen output.new) }
+
+    // Where no feed and not the sink fails, the status is Done, Memory, ByteLimit or Usage.
+    ensures complete { ¬ (SomeRose (map I.seen feeds.old) (map I.seen feeds.new)) → ¬ (Rose (O.seen output.old).faults (O.seen output.new).faults) → IsNoFault result }
+    ensures feeds_later { NoneFell (map I.seen feeds.old) (map I.seen feeds.new) }
     ensures output_later { (O.seen output.old).faults ≤ (O.seen output.new).faults }
 {
     match feeds_of(words) {

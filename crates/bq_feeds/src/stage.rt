@@ -23,7 +23,7 @@ pub struct Lane {
 }
 
 impl Stage {
-    /// Whether the feed has not ended.
+    /// Returns whether the feed has not ended.
     pub fn is_open(self) -> bool
         ensures { result ≡ is_open self }
     {
@@ -34,7 +34,7 @@ impl Stage {
         }
     }
 
-    /// Whether the feed has ended by a fault.
+    /// Returns whether the feed has ended by a fault.
     pub fn is_failed(self) -> bool
         ensures { result ≡ is_failed self }
     {

@@ -1,17 +1,19 @@
 //! The turns of feeds, each answered before the next one.
-ghost use Rattle.std.specs.Prelude.{◌≡◌, ◌≢◌, ℕ, ◌+◌, ◌<◌, ◌≤◌, ◌-◌, ◌^◌, [], true, false, length, map, replicate};
+ghost use Rattle.std.specs.Prelude.{◌≡◌, ◌≢◌, ℕ, ◌+◌, ◌<◌, ◌≤◌, ◌-◌, ◌^◌, [], true, false, length, map, nat_lt, replicate};
 ghost use Rattle.std.specs.List.{list_any};
 ghost use Rattle.bq_io.specs.Sink.{Writes};
 ghost use Rattle.bq_io.specs.Source.{SourceState};
 ghost use Rattle.bq_session.specs.State.{State};
 ghost use Rattle.bq_session.specs.Session.{StandsFor};
 ghost use Rattle.bq_top.specs.Events.{fault_text};
+ghost use Rattle.bq_top.specs.declared.one_turn.Turn.TheVariants as turns;
 ghost use Rattle.bq_top.specs.Run.{HasState};
-ghost use Rattle.bq_feeds.specs.Lanes.{is_open, is_failed, LaneTurned};
+ghost use Rattle.bq_feeds.specs.Lanes.{is_open, is_failed, Looked, TurnedWith, LaneTurned};
 ghost use Rattle.bq_feeds.specs.Visited.{new_lane, status_after, lines_after, slot, FeedTurned, Visited, Finished};
 ghost use Rattle.bq_feeds.specs.FeedsEnd.{RanLater};
 
 use crate::stage::{Lane, Stage};
+use bq_feed::{LineAnswer, LineReader};
 use bq_io::{Gathered, Sink, Source, Status, WriteFault, write_pieces};
 use bq_pool::Steps;
 use bq_session::Session;
@@ -32,9 +34,56 @@ fn write_fault<O: Sink>(out: &mut O, number: u64) -> Result<(), WriteFault>
     write_pieces(out, &pieces)
 }
 
-// One turn of the feed of this number, which has not ended. Where its source fails, that is written.
+// Asks a source for its next line, which the session does not take any more. What is held is written first.
+fn look<I: Source, O: Sink>(
+    reader: &mut LineReader,
+    feed: &mut I,
+    output: &mut Gathered<'_, O>,
+) -> Turn
+    ensures looked { Looked result reader.old reader.new (I.seen feed.old) (I.seen feed.new)
+        (O.seen output.old.sink.now) (O.seen output.new.sink.now) output.old.held.items output.new.held.items }
+    ensures same_reference { output.new.sink.ghost_name ≡ output.old.sink.ghost_name }
+{
+    match output.flush() {
+        Ok(()) => match reader.next_line(feed) {
+            LineAnswer::Line => Turn::Full,
+            LineAnswer::TooLong => Turn::Full,
+            LineAnswer::End => Turn::Ended,
+            LineAnswer::ReadFault => Turn::Failed,
+            LineAnswer::ByteLimit => Turn::Full,
+        },
+        Err(_) => Turn::Stopped,
+    }
+}
+
+// One turn of a source in a session that takes one more line, or no more.
+fn turn_with<I: Source, O: Sink, L: Ledger>(
+    more: bool,
+    reader: &mut LineReader,
+    feed: &mut I,
+    session: &mut Session,
+    output: &mut Gathered<'_, O>,
+    steps: &mut Steps<L>,
+) -> Turn
+    requires stands { HasState session.old }
+    requires room { more ≡ true → session.old.lines + 1 < 2 ^ 64 }
+    ensures turned { (s : State) → StandsFor session.old s
+        → TurnedWith result more s reader.old reader.new (I.seen feed.old) (I.seen feed.new) session.old session.new
+        (O.seen output.old.sink.now) (O.seen output.new.sink.now) output.old.held.items output.new.held.items }
+    ensures same_reference { output.new.sink.ghost_name ≡ output.old.sink.ghost_name }
+    ensures taken { result ≡ turns.Answered → more ≡ true }
+{
+    if !more {
+        return look(reader, feed, output);
+    }
+    take_turn(reader, session, feed, output, steps)
+}
+
+// One turn of the feed of this number, which has not ended, in a session that takes one more line, or no more. Where its source
+// fails, that is written.
 fn turn_lane<I: Source, O: Sink, L: Ledger>(
     number: u64,
+    more: bool,
     lane: &mut Lane,
     feed: &mut I,
     session: &mut Session,
@@ -43,13 +92,14 @@ fn turn_lane<I: Source, O: Sink, L: Ledger>(
 ) -> Turn
     requires yet { is_open lane.old.stage ≡ true }
     requires stands { HasState session.old }
-    requires room { session.old.lines + 1 < 2 ^ 64 }
+    requires room { more ≡ true → session.old.lines + 1 < 2 ^ 64 }
     ensures turned { (s : State) → StandsFor session.old s
-        → LaneTurned result s number lane.old lane.new (I.seen feed.old) (I.seen feed.new) session.old session.new
+        → LaneTurned result more s number lane.old lane.new (I.seen feed.old) (I.seen feed.new) session.old session.new
         (O.seen output.old.sink.now) (O.seen output.new.sink.now) output.old.held.items output.new.held.items }
     ensures same_reference { output.new.sink.ghost_name ≡ output.old.sink.ghost_name }
+    ensures taken { result ≡ turns.Answered → more ≡ true }
 {
-    match take_turn(&mut lane.reader, session, feed, output, steps) {
+    match turn_with(more, &mut lane.reader, feed, session, output, steps) {
         Turn::Answered => Turn::Answered,
         Turn::Ended => {
             lane.stage = Stage::Ended;
@@ -84,7 +134,7 @@ fn status_after(turn: Turn) -> Option<Status>
 
 // How many lines were given after a turn.
 fn lines_after(turn: Turn, lines: u64) -> u64
-    requires { lines < 2 ^ 64 - 2 }
+    requires { lines ≤ 2 ^ 64 - 2 }
     ensures { result ≡ lines_after turn lines }
 {
     match turn {
@@ -105,9 +155,10 @@ fn is_open_at(lanes: &[Lane], place: usize) -> bool
     lanes[place].stage.is_open()
 }
 
-// One turn of the feed of a place, from 0, which has not ended.
+// One turn of the feed of a place, from 0, which has not ended, in a session that takes one more line, or no more.
 fn turn_at<I: Source, O: Sink, L: Ledger>(
     place: usize,
+    more: bool,
     lanes: &mut [Lane],
     feeds: &mut [I],
     session: &mut Session,
@@ -119,14 +170,16 @@ fn turn_at<I: Source, O: Sink, L: Ledger>(
     requires few { length lanes.old ≤ 8 }
     requires yet { is_open (slot lanes.old place new_lane).stage ≡ true }
     requires stands { HasState session.old }
-    requires room { session.old.lines + 1 < 2 ^ 64 }
+    requires room { more ≡ true → session.old.lines + 1 < 2 ^ 64 }
     ensures turned { (s : State) → StandsFor session.old s
-        → FeedTurned result s place lanes.old lanes.new (map I.seen feeds.old) (map I.seen feeds.new) session.old session.new
+        → FeedTurned result more s place lanes.old lanes.new (map I.seen feeds.old) (map I.seen feeds.new) session.old session.new
         (O.seen output.old.sink.now) (O.seen output.new.sink.now) output.old.held.items output.new.held.items }
     ensures same_reference { output.new.sink.ghost_name ≡ output.old.sink.ghost_name }
+    ensures taken { result ≡ turns.Answered → more ≡ true }
 {
     turn_lane(
         place as u64 + 1,
+        more,
         &mut lanes[place],
         &mut feeds[place],
         session,
@@ -136,6 +189,7 @@ fn turn_at<I: Source, O: Sink, L: Ledger>(
 }
 
 // Visits the feed of a place: it takes its turn, where it has not ended. Gives the status with which the session ends, if it does.
+// Where as many lines were given as a session takes, the session ends at the next one, and goes on while there is none.
 fn visit<I: Source, O: Sink, L: Ledger>(
     place: usize,
     lanes: &mut [Lane],
@@ -160,13 +214,8 @@ fn visit<I: Source, O: Sink, L: Ledger>(
     if !is_open_at(lanes, place) {
         return None;
     }
-    if *lines == MOST_LINES {
-        return match output.flush() {
-            Ok(()) => Some(Status::ByteLimit),
-            Err(_) => Some(Status::WriteFault),
-        };
-    }
-    let turn = turn_at(place, lanes, feeds, session, output, steps);
+    let more = *lines < MOST_LINES;
+    let turn = turn_at(place, more, lanes, feeds, session, output, steps);
     *lines = lines_after(turn, *lines);
     status_after(turn)
 }

@@ -36,7 +36,7 @@ fn names_from(words: &[String], limit: u64, first: usize) -> Option<FeedWords>
     }
 }
 
-/// What the words ask for, where they are `feeds [--rows N] F1 .. Fk` with 2 to 8 names; nothing for all other words. Where the
+/// Returns what the words ask for, where they are `feeds [--rows N] F1 .. Fk` with 2 to 8 names; nothing for all other words. Where the
 /// second word is `--rows`, it is the option and never a name.
 pub fn feeds_of(words: &[String]) -> Option<FeedWords>
     ensures found { MatchOption result ((limit : ℕ) → (names : List (List ℕ)) → AreFeedNames words.now limit names → ⊥)

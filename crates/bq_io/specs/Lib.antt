@@ -1,4 +1,5 @@
 pub mod Counts
+pub mod Files
 pub mod Gathered
 pub mod Memory
 pub mod Sink

@@ -5,6 +5,7 @@
 //! or a front of it, and then the sink failed.
 #![tactic(auto)]
 
+mod file;
 mod gathered;
 mod memory;
 mod sink;
@@ -13,6 +14,7 @@ mod standard;
 mod status;
 mod write;
 
+pub use file::FileSource;
 pub use gathered::Gathered;
 pub use memory::{MemSink, MemSource, SureSource};
 pub use sink::{Sink, WriteAnswer, WriteFault};

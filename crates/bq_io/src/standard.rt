@@ -13,7 +13,7 @@ use std::io::{ErrorKind, Read, Write};
 mod tests;
 
 // Reads, and again where a signal interrupts the read. A read that fails gives nothing.
-fn read_again<R: Read>(inner: &mut R, buffer: &mut [u8]) -> Option<usize>
+pub(crate) fn read_again<R: Read>(inner: &mut R, buffer: &mut [u8]) -> Option<usize>
     ensures { ReadsUpTo result buffer.new (R.remaining inner.old) (R.remaining inner.new) }
 {
     for _ in 0..u64::MAX {
@@ -52,7 +52,7 @@ pub struct StdSource<R: Read + Drop> {
 impl<R: Read + Drop> StdSource<R> {
     ghost use Rattle.bq_io.specs.Standard.{source_faults, source_inner, source_last};
 
-    /// Nothing was read yet, and no read has failed.
+    /// Makes a source of which nothing was read yet, and no read has failed.
     pub fn new(inner: R) -> StdSource<R>
         ensures faults { source_faults result ≡ 0 }
         ensures inner { source_inner result ≡ inner }
@@ -96,7 +96,7 @@ pub struct StdSink<W: Write + Drop> {
 impl<W: Write + Drop> StdSink<W> {
     ghost use Rattle.bq_io.specs.Standard.{sink_faults, sink_inner};
 
-    /// No write has failed yet.
+    /// Makes a sink of which no write has failed yet.
     pub fn new(inner: W) -> StdSink<W>
         ensures faults { sink_faults result ≡ 0 }
         ensures inner { sink_inner result ≡ inner }

@@ -22,7 +22,7 @@ pub enum Status {
 }
 
 impl Status {
-    /// The number with which the process ends.
+    /// Returns the number with which the process ends.
     pub fn number(self) -> u8
         ensures { result ≡ number_of self }
     {

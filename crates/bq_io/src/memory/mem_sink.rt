@@ -32,7 +32,7 @@ impl Model for MemSink {
 }
 
 impl MemSink {
-    /// A sink with nothing written, of which no call was made.
+    /// Returns a sink with nothing written, of which no call was made.
     pub fn new(alloc: Global, most: usize, fails: &[u64]) -> Result<MemSink, AllocError>
         requires { 0 < most }
         ensures { IfOk result (λ s. s ≡ record { bytes = []; most = most; fails = fails.now; calls = 0; failed = 0; lacked = 0 }) }
@@ -47,14 +47,14 @@ impl MemSink {
         })
     }
 
-    /// The bytes written.
+    /// Returns the bytes written.
     pub fn bytes(&self) -> &[u8]
         ensures { result.now ≡ self.now.bytes }
     {
         &self.bytes
     }
 
-    /// How many writes failed because no memory was found.
+    /// Returns how many writes failed because no memory was found.
     pub fn lacked(&self) -> u64
         ensures { result ≡ self.now.lacked }
     {

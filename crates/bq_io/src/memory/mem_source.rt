@@ -33,7 +33,7 @@ impl Model for MemSource {
 }
 
 impl MemSource {
-    /// A source of these bytes, of which no call was made.
+    /// Returns a source of these bytes, of which no call was made.
     pub fn new(
         alloc: Global,
         bytes: &[u8],

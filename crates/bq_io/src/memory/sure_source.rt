@@ -29,7 +29,7 @@ impl Model for SureSource {
 }
 
 impl SureSource {
-    /// A source of these bytes, of which none was read.
+    /// Returns a source of these bytes, of which none was read.
     pub fn new(alloc: Global, bytes: &[u8]) -> Result<SureSource, AllocError>
         ensures { IfOk result (λ s. s ≡ record { left = bytes.now; last = 0 }) }
     {

@@ -1,11 +1,11 @@
-use Rattle.std.proofs.Common.{◌≡◌, refl}
+use Rattle.std.proofs.Common.{refl}
 use Rattle.bq_feeds.proofs.Rows.{map-set, any-at, map-any}
 use Rattle.bq_feeds.proofs.Visits.{feed-turned}
 use Rattle.bq_feeds.specs.Visited.{new_lane, no_source}
 use Rattle.bq_feeds.proofs.taking.turn_at.Goals as goal
 
 pub returns-clause-turned : goal.returns-clause-turned
-returns-clause-turned g c = λ s stands. feed-turned _ s _ _ _ _ _ _ _ _ _ _ _ _ _ _ _
+returns-clause-turned g c = λ s stands. feed-turned _ _ s _ _ _ _ _ _ _ _ _ _ _ _ _ _ _
     (any-at c.args.lanes.now c.args.place new_lane c.index-lanes-place.result c.requires.lane)
     (map-any g.I.Source.seen c.args.feeds.now c.args.place no_source c.index-feeds-place.result c.requires.feed)
     refl

@@ -1,4 +1,4 @@
-use Rattle.std.proofs.Common.{◌≡◌, ◌∙◌, sym}
+use Rattle.std.proofs.Common.{◌∙◌, sym}
 use Rattle.bq_feeds.specs.Visited.{turned}
 use Rattle.bq_feeds.proofs.taking.visit.Goals as goal
 

@@ -1,10 +1,13 @@
 //! The trusted edge: a file, or a named pipe, that is opened when it is read first.
 ghost use Rattle.std.specs.Prelude.{◌≡◌, ℕ};
 
-use bq_io::{ReadAnswer, Source};
+use crate::source::{ReadAnswer, Source};
+use crate::standard::read_again;
 use std::fs;
-use std::io::Read;
 use std::rt::Files;
+
+#[cfg(test)]
+mod tests;
 
 // How far a file is. The path is there until it is opened.
 #[derive(Drop)]
@@ -27,9 +30,9 @@ pub struct FileSource<'a, R: Files> {
 }
 
 impl<'a, R: Files> FileSource<'a, R> {
-    ghost use Rattle.bq.specs.Files.{file_faults, file_last};
+    ghost use Rattle.bq_io.specs.Files.{file_faults, file_last};
 
-    /// The file of this name, which is not open yet. No read has failed.
+    /// Returns the file of this name, which is not open yet. No read has failed.
     pub fn new(files: &'a R, path: &'a str) -> FileSource<'a, R>
         ensures faults { file_faults result ≡ 0 }
         ensures last { file_last result ≡ 0 }
@@ -65,10 +68,7 @@ impl<R: Files> Source for FileSource<'_, R> {
     fn read(&mut self, buffer: &mut [u8]) -> ReadAnswer {
         self.open();
         let read = match &mut self.opening {
-            Opening::Open(file) => match file.read(buffer) {
-                Ok(n) => Some(n),
-                Err(_) => None
-            },
+            Opening::Open(file) => read_again(file, buffer),
             Opening::Closed(_) => None,
             Opening::Failed => None,
         };

@@ -1,6 +1,6 @@
 -- A file as a source.
 use Rattle.std.specs.Prelude.{ℕ}
-use Rattle.bq.specs.declared.file.FileSource.{FileSource}
+use Rattle.bq_io.specs.declared.file.FileSource.{FileSource}
 
 -- how often opening or reading has failed
 abbrev pub file_faults : {R A B : Type 0} → FileSource R A B → ℕ
