@@ -30,6 +30,7 @@ pub fn insert_row(
     ensures order_room { vec_capacity order.old ≤ vec_capacity order.new }
 {
     let number = counts.len() as u32;
+    // There is room, so this is done.
     let _values_stored = values.extend_from_slice(t).is_ok();
     let _count_stored = counts.push(0).is_ok();
     let _number_stored = order.insert(place, number).is_ok();
@@ -66,6 +67,7 @@ pub fn set_count(
         }
     } else if count > 0 {
         let i = rank(values, due, width, row(values, width, k));
+        // There is room, so this is done.
         let _number_stored = due.insert(i, number).is_ok();
     }
 }
@@ -81,12 +83,13 @@ pub fn clear_counts(counts: &mut [u128], numbers: &[u32])
     }
 }
 
-/// The values of a row as a tuple.
+/// Returns the values of a row as a tuple.
 pub fn tuple_of(row: &[i64]) -> Tuple
     requires { length row.now ≤ 8 }
     ensures { result.items ≡ row.now }
 {
     let mut tuple = ArrayVec::new();
+    // There is room, so this is done.
     let _whole = tuple.try_extend_from_slice(row).is_ok();
     tuple
 }

@@ -59,7 +59,7 @@ fn add_path(
     Some(place + 1)
 }
 
-/// The bounds that the paths at the front of some lines give. None where they are no paths of a leaf.
+/// Returns the bounds that the paths at the front of some lines give. None where they are no paths of a leaf.
 pub fn bounds_of(attrs: u8, cs: &[Constraint], lines: &[Line]) -> Option<[Option<i64>; 169]>
     requires attrs { attrs ≤ 12 }
     requires within { All (IsWithin 12) cs.now }
@@ -76,7 +76,7 @@ pub fn bounds_of(attrs: u8, cs: &[Constraint], lines: &[Line]) -> Option<[Option
     Some(bounds)
 }
 
-/// The bound of a node above another.
+/// Returns the bound of a node above another.
 pub fn between(bounds: &[Option<i64>; 169], left: u8, right: u8) -> Option<i64>
     ensures { result ≡ bound_at bounds.now left right }
 {
@@ -89,7 +89,7 @@ pub fn between(bounds: &[Option<i64>; 169], left: u8, right: u8) -> Option<i64>
     }
 }
 
-/// Whether there is a bound, and it is at most the limit.
+/// Returns whether there is a bound, and it is at most the limit.
 pub fn is_at_most(bound: Option<i64>, limit: i64) -> bool
     ensures { IsTrue result ↔ IsAtMost bound limit }
 {
@@ -127,7 +127,7 @@ fn keeps_each(attrs: u8, bounds: &[Option<i64>; 169], c: Constraint) -> bool
     true
 }
 
-/// Whether each constraint before a bound gives nothing less than the bound of its left node.
+/// Returns whether each constraint before a bound gives nothing less than the bound of its left node.
 pub fn is_closed(attrs: u8, cs: &[Constraint], bounds: &[Option<i64>; 169]) -> bool
     requires attrs { attrs ≤ 12 }
     requires within { All (IsWithin 12) cs.now }

@@ -139,7 +139,7 @@ fn chosen(first: Option<Attr>, second: Option<Attr>, third: Option<Attr>) -> Opt
     }
 }
 
-/// The first condition that the part of the leaf breaks, with the first column that shows it, or none where it meets all.
+/// Returns the first condition that the part of the leaf breaks, with the first column that shows it, or none where it meets all.
 pub fn first_break(leaf: &Leaf) -> Option<Break>
     requires { IsLeaf leaf.now }
     ensures { IsFirstBreak leaf.now.query.now leaf.now.signs.now result }

@@ -34,7 +34,7 @@ impl Model for Certificate {
 }
 
 impl Certificate {
-    /// A certificate without lines. It takes no memory.
+    /// Returns a certificate without lines. It takes no memory.
     pub fn new(alloc: Global) -> Certificate
         ensures { result ≡ [] }
     {
@@ -44,7 +44,7 @@ impl Certificate {
         }
     }
 
-    /// The lines.
+    /// Returns the lines.
     pub fn lines(&self) -> &[Line]
         ensures lines { result.now ≡ self.now }
         ensures are_lines { AreLines self.now }

@@ -44,7 +44,7 @@ fn chain_from(cs: &[Constraint], numbers: &[u16], from: u8) -> Option<Chain>
     Some(Chain { from, to, sum })
 }
 
-/// The chain of these constraints, by their numbers from 1. None where there is none, or no number.
+/// Returns the chain of these constraints, by their numbers from 1. None where there is none, or no number.
 pub fn chain_of(cs: &[Constraint], numbers: &[u16]) -> Option<Chain>
     requires within { All (IsWithin 12) cs.now }
     requires few { length numbers.now ≤ 13 }
@@ -63,7 +63,7 @@ fn closes(chain: Chain) -> bool
     chain.from == chain.to && chain.sum < 0
 }
 
-/// Whether these constraints close a chain with a negative sum.
+/// Returns whether these constraints close a chain with a negative sum.
 pub fn is_negative_cycle(cs: &[Constraint], numbers: &[u16]) -> bool
     requires within { All (IsWithin 12) cs.now }
     requires few { length numbers.now ≤ 13 }

@@ -46,7 +46,7 @@ fn check_lines(q: &Query, lines: &[Line]) -> CheckAnswer
     ended(q, &walk)
 }
 
-/// Whether a certificate is good for the query, whoever made it: then the number of the query's parts and the decision on it; else
+/// Returns whether a certificate is good for the query, whoever made it: then the number of the query's parts and the decision on it; else
 /// the place of the first fault, and the rule that is broken there. It takes no memory, and knows nothing of how a certificate is
 /// made.
 pub fn check(q: &Query, certificate: &Certificate) -> CheckAnswer

@@ -33,7 +33,7 @@ fn decision_at(number: u32, found: Option<Break>) -> Decision
 }
 
 impl DecisionSoFar {
-    /// Before the first leaf.
+    /// Begins before the first leaf.
     pub fn new() -> DecisionSoFar
         ensures { (q : QueryValue) → IsSoFar q [] result }
     {
@@ -42,7 +42,7 @@ impl DecisionSoFar {
         }
     }
 
-    /// With one more leaf, whose number from 1 this is.
+    /// Goes on by one more leaf, whose number from 1 this is.
     pub fn with_leaf(self, leaf: &Leaf, number: u32) -> DecisionSoFar
         requires { IsLeaf leaf.now }
         ensures { TakesLeaf leaf.now.query.now leaf.now.signs.now number self result }
@@ -55,10 +55,11 @@ impl DecisionSoFar {
         }
     }
 
-    /// The decision on the query, once all leaves of a good tree were read.
+    /// Returns the decision on the query, once all leaves of a good tree were read.
     pub fn finish(self, q: &Query) -> Decision
         ensures { (nodes : List Node) → IsGood q.now nodes → IsSoFar q.now (leaves_of (Some []) nodes) self → IsDecision q.now result }
     {
+        // Read for the proof alone: the call tells how many columns there are.
         let _columns = q.select();
         if q.is_filter() {
             Decision::Bounded

@@ -28,7 +28,7 @@ fn sooner(found: Option<Attr>, attr: Attr) -> Option<Attr>
     }
 }
 
-/// The same where the other counts, and else the column found.
+/// Does the same where the other counts, and else the column found.
 pub fn sooner_if(counts: bool, found: Option<Attr>, attr: Attr) -> Option<Attr>
     ensures { result ≡ sooner_if counts found attr }
 {

@@ -43,16 +43,19 @@ fn is_whole(line: &Line) -> bool
 {
     match line {
         Line::Split(pair) => {
+            // Read for the proof alone: a value of this type is within its range.
             let _pair = *pair;
             true
         }
         Line::Infeasible(numbers) => has_numbers(numbers.as_slice()),
         Line::Against(comparison) => {
+            // Read for the proof alone: a value of this type is within its range.
             let _comparison = *comparison;
             true
         }
         Line::Leaf => true,
         Line::Path(path) => {
+            // Read for the proof alone: a value of this type is within its range.
             let _from = path.from;
             let _to = path.to;
             has_numbers(path.numbers.as_slice())
@@ -77,7 +80,7 @@ fn count(line: &Line) -> u32
     }
 }
 
-/// The number of nodes with one more line, or why that line may not stand behind the one before it.
+/// Returns the number of nodes with one more line, or why that line may not stand behind the one before it.
 pub fn count_with(nodes: u32, before: Option<&Line>, line: &Line) -> Result<u32, CertError>
     requires { nodes ≤ 262144 }
     ensures { Counts result nodes (option_copied before.entry) line.now }

@@ -39,7 +39,7 @@ fn is_equality(leaf: &Leaf, x: Attr, y: Attr) -> bool
     x.stream != y.stream && is_equal(leaf, Element::Attr(x), Element::Attr(y))
 }
 
-/// Whether an attribute is equal to some attribute of another stream.
+/// Returns whether an attribute is equal to some attribute of another stream.
 pub fn has_equality(leaf: &Leaf, attr: Attr) -> bool
     requires leaf { IsLeaf leaf.now }
     requires among { Contains (attrs_of leaf.now.query.now.atoms) attr }
@@ -188,7 +188,7 @@ fn has_link(leaf: &Leaf, side: Side, attr: Attr) -> bool
     false
 }
 
-/// Whether an attribute is a reference on this side.
+/// Returns whether an attribute is a reference on this side.
 pub fn is_ref(leaf: &Leaf, side: Side, attr: Attr) -> bool
     requires leaf { IsLeaf leaf.now }
     requires among { Contains (attrs_of leaf.now.query.now.atoms) attr }
@@ -251,7 +251,7 @@ fn some_second(leaf: &Leaf, side: Side, attr: Attr) -> bool
     false
 }
 
-/// Whether the stream of a reference on this side has two that are not of one class on one side.
+/// Returns whether the stream of a reference on this side has two that are not of one class on one side.
 pub fn has_two_refs(leaf: &Leaf, side: Side, attr: Attr) -> bool
     requires leaf { IsLeaf leaf.now }
     requires among { Contains (attrs_of leaf.now.query.now.atoms) attr }

@@ -11,7 +11,7 @@ use crate::leaf::Leaf;
 use bq_constraints::{difference, node, place_of};
 use bq_model::{Attr, Domain, Element};
 
-/// Whether a column is among some.
+/// Returns whether a column is among some.
 pub fn is_among(columns: &[Attr], attr: Attr) -> bool
     ensures { IsTrue result ↔ Contains columns.now attr }
 {
@@ -31,7 +31,7 @@ fn says_above(leaf: &Leaf, x: Element, y: Element, by: i64) -> bool
     is_at_most(bound, difference(x, y, by))
 }
 
-/// Whether x is less than y in every assignment of the part.
+/// Returns whether x is less than y in every assignment of the part.
 pub fn is_less(leaf: &Leaf, x: Element, y: Element) -> bool
     requires leaf { IsLeaf leaf.now }
     requires left { IsElement leaf.now.query.now x }
@@ -41,7 +41,7 @@ pub fn is_less(leaf: &Leaf, x: Element, y: Element) -> bool
     says_above(leaf, x, y, -1)
 }
 
-/// Whether x is equal to y in every assignment of the part.
+/// Returns whether x is equal to y in every assignment of the part.
 pub fn is_equal(leaf: &Leaf, x: Element, y: Element) -> bool
     requires leaf { IsLeaf leaf.now }
     requires left { IsElement leaf.now.query.now x }
@@ -75,7 +75,7 @@ fn has_domain(domains: &[Domain], attr: Attr) -> bool
     domains.iter().any(|d| d.attr.stream == attr.stream && d.attr.column == attr.column)
 }
 
-/// Whether two integers enclose the column over all assignments of the part. Where no comparison names it, they do exactly
+/// Returns whether two integers enclose the column over all assignments of the part. Where no comparison names it, they do exactly
 /// where it has a domain.
 pub fn is_bounded(leaf: &Leaf, attr: Attr) -> bool
     requires leaf { IsLeaf leaf.now }

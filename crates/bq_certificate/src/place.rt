@@ -38,7 +38,7 @@ fn next_sign(sign: Sign) -> Option<Sign>
 }
 
 impl Place {
-    /// Where the first node stands: there is no sign yet.
+    /// Begins at the first node: there is no sign yet.
     pub fn root(q: &Query, pairs: &[Pair]) -> Place
         requires pairs { pairs.now ≡ pairs_of q.now }
         requires few { length pairs.now ≤ 114 }

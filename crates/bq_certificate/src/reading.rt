@@ -142,7 +142,7 @@ fn read_path(behind: Option<&[u8]>) -> Option<Line>
     }))
 }
 
-/// The line of a certificate that a text is, or none where it is no line.
+/// Returns the line of a certificate that a text is, or none where it is no line.
 #[tactic(auto, using(crate::proofs::Spelled::reading_of))]
 pub fn read_line(text: &[u8]) -> Option<Line>
     ensures { IsReading text.now result }

@@ -37,7 +37,7 @@ fn is_refuted(atom: &Atom, pairs: &[Pair], signs: &[Sign]) -> bool
     denies_itself(atom) || is_false_under(atom, pairs, signs)
 }
 
-/// Whether there is a comparison with this number, from 1, and it is refuted where the first pairs have these signs: it is soft and
+/// Returns whether there is a comparison with this number, from 1, and it is refuted where the first pairs have these signs: it is soft and
 /// false under the sign of its pair, or says that an element is not itself.
 pub fn refutes(atoms: &[Atom], pairs: &[Pair], signs: &[Sign], number: u16) -> bool
     ensures { result ≡ is_there_refuted pairs.now signs.now (comparison atoms.now number) }
@@ -48,7 +48,7 @@ pub fn refutes(atoms: &[Atom], pairs: &[Pair], signs: &[Sign], number: u16) -> b
     }
 }
 
-/// Whether some comparison is refuted.
+/// Returns whether some comparison is refuted.
 pub fn any_refuted(atoms: &[Atom], pairs: &[Pair], signs: &[Sign]) -> bool
     ensures { result ≡ some_refuted pairs.now signs.now atoms.now }
 {

@@ -16,7 +16,7 @@ use crate::refuting::{any_refuted, refutes};
 use bq_constraints::Constraint;
 use bq_model::{Pair, Query, Sign};
 
-/// The rule of a split: it is at the next pair.
+/// Returns the rule of a split: it is at the next pair.
 pub fn judge_split(pairs: &[Pair], signs: &[Sign], pair: u16) -> Result<(), Reason>
     ensures { IsUnless ((pair ≡ suc (length signs.now)) × (length signs.now < length pairs.now)) Reason.Shape result }
 {
@@ -27,7 +27,7 @@ pub fn judge_split(pairs: &[Pair], signs: &[Sign], pair: u16) -> Result<(), Reas
     }
 }
 
-/// The rule of an infeasible node: the constraints close a chain with a negative sum.
+/// Returns the rule of an infeasible node: the constraints close a chain with a negative sum.
 pub fn judge_cycle(cs: &[Constraint], numbers: &[u16]) -> Result<(), Reason>
     requires within { All (IsWithin 12) cs.now }
     requires few { length numbers.now ≤ 13 }
@@ -40,7 +40,7 @@ pub fn judge_cycle(cs: &[Constraint], numbers: &[u16]) -> Result<(), Reason>
     }
 }
 
-/// The rule of a branch that a comparison closes: there is one with this number, and it is refuted.
+/// Returns the rule of a branch that a comparison closes: there is one with this number, and it is refuted.
 pub fn judge_against(q: &Query, pairs: &[Pair], signs: &[Sign], number: u16) -> Result<(), Reason>
     requires { pairs.now ≡ pairs_of q.now }
     ensures { IsUnless (IsRefuted q.now signs.now number) Reason.Cycle result }
@@ -60,7 +60,7 @@ fn may_be_part(q: &Query, pairs: &[Pair], signs: &[Sign]) -> bool
     signs.len() == pairs.len() && !any_refuted(q.atoms(), pairs, signs)
 }
 
-/// The rules of a leaf, with the paths at the front of the lines behind it: the bounds that the paths give, or the first rule
+/// Returns the rules of a leaf, with the paths at the front of the lines behind it: the bounds that the paths give, or the first rule
 /// that is broken.
 pub fn judge_leaf(
     q: &Query,

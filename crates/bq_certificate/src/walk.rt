@@ -27,7 +27,7 @@ pub struct Walk {
 }
 
 impl Walk {
-    /// Before the first node.
+    /// Begins before the first node.
     pub fn new(q: &Query, pairs: &[Pair]) -> Walk
         requires pairs { pairs.now ≡ pairs_of q.now }
         requires few { length pairs.now ≤ 114 }

@@ -31,7 +31,7 @@ fn number(place: usize) -> u16
     place as u16 + 1
 }
 
-/// The number, from 1, of a comparison that closes the branch at these signs and one more.
+/// Returns the number, from 1, of a comparison that closes the branch at these signs and one more.
 pub fn next_against(
     q: &Query,
     pairs: &[Pair],
@@ -43,6 +43,7 @@ pub fn next_against(
     requires room { length signs.now < length pairs.now }
     ensures { ClosesAgainst q.now (signs.now ++ sign ∷ []) result }
 {
+    // Named for the proof alone: the contract speaks of it.
     let _bounds = bounds;
     match first_failing(q.atoms(), pairs[signs.len()], sign) {
         Some(place) => Some(number(place)),
@@ -50,7 +51,7 @@ pub fn next_against(
     }
 }
 
-/// The number, from 1, of a comparison that closes the whole tree.
+/// Returns the number, from 1, of a comparison that closes the whole tree.
 pub fn root_against(q: &Query) -> Option<u16>
     ensures against { ClosesAgainst q.now [] result }
     ensures limits { IsWithinLimits q.now }

@@ -19,6 +19,7 @@ fn path_line(from: u8, to: u8, numbers: ArrayVec<u16, 12>) -> Line
     ensures is { result ≡ line.Path record { from = from; to = to; numbers = numbers } }
     ensures few { length numbers.items ≤ 12 }
 {
+    // Read for the proof alone: the call tells how many there are at most.
     let _numbers = numbers.as_slice();
     Line::Path(Path {
         from: u16::from(from),

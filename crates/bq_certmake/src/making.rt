@@ -7,7 +7,7 @@ use bq_certificate::Certificate;
 use bq_model::Query;
 use std::alloc::Global;
 
-/// A certificate of the query. `Limit` exactly where the query has more than 4,096 parts, or its certificate more than 262,144
+/// Returns a certificate of the query. `Limit` exactly where the query has more than 4,096 parts, or its certificate more than 262,144
 /// nodes; `Memory` where there is none left.
 pub fn make(alloc: Global, q: &Query) -> Result<Certificate, MakeError>
     ensures { Makes q.now result }

@@ -9,7 +9,7 @@ use bq_closure::Bounds;
 use bq_constraints::of_next_sign;
 use bq_model::{Pair, Query, Sign, Signs};
 
-/// The bounds of a node that is one sign deeper. It is not inlined: its copies would stay on the stack at each level of the tree.
+/// Returns the bounds of a node that is one sign deeper. It is not inlined: its copies would stay on the stack at each level of the tree.
 #[inline(never)]
 pub fn deeper(q: &Query, pairs: &[Pair], bounds: &Bounds, signs: &[Sign], sign: Sign) -> Bounds
     requires node { IsNode q.now pairs.now signs.now bounds.now }
@@ -23,7 +23,7 @@ pub fn deeper(q: &Query, pairs: &[Pair], bounds: &Bounds, signs: &[Sign], sign: 
     next
 }
 
-/// These signs and one more.
+/// Returns these signs and one more.
 pub fn with_sign(signs: &[Sign], sign: Sign) -> Signs
     requires { length signs.now < 114 }
     ensures { result.items ≡ signs.now ++ sign ∷ [] }

@@ -20,6 +20,7 @@ fn cycle_line(numbers: ArrayVec<u16, 13>) -> Line
     ensures is { result ≡ line.Infeasible numbers }
     ensures few { length numbers.items ≤ 13 }
 {
+    // Read for the proof alone: the call tells how many there are at most.
     let _numbers = numbers.as_slice();
     Line::Infeasible(numbers)
 }

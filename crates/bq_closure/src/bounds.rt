@@ -36,7 +36,7 @@ impl Bounds {
     ghost use Rattle.bq_closure.specs.Answers.{IsSmall, IsPathAnswer, IsCycleAnswer, IsSolveAnswer, list_of};
     ghost use Rattle.bq_constraints.specs.Nodes.{IsAlwaysLess, IsAlwaysEqual, IsAlwaysAbove};
 
-    /// No constraint, for at most 12 attributes.
+    /// Makes bounds with no constraint, for at most 12 attributes.
     pub fn new(attrs: u8) -> Bounds
         requires { attrs < 13 }
         ensures attrs { result.attrs ≡ attrs }
@@ -48,7 +48,7 @@ impl Bounds {
         }
     }
 
-    /// The constraints of the query's comparisons and domains, between its attributes.
+    /// Returns the constraints of the query's comparisons and domains, between its attributes.
     pub fn of_query(q: &Query) -> Bounds
         ensures attrs { result.attrs ≡ length (attrs_of q.now.atoms) }
         ensures constraints { result.constraints ≡ of_base q.now }
@@ -61,7 +61,7 @@ impl Bounds {
         bounds
     }
 
-    /// The same bounds.
+    /// Returns the same bounds.
     pub fn copy(&self) -> Bounds
         ensures attrs { result.attrs ≡ self.now.attrs }
         ensures constraints { result.constraints ≡ self.now.constraints }
@@ -85,7 +85,7 @@ impl Bounds {
         replace(&mut self.constraints, other.constraints.as_slice());
     }
 
-    /// Whether some integers for the nodes, node 0 being 0, meet all constraints.
+    /// Returns whether some integers for the nodes, node 0 being 0, meet all constraints.
     pub fn satisfiable(&self) -> bool
         ensures { IsTrue result ↔ IsSatisfiable self.now.constraints }
     {
@@ -115,7 +115,7 @@ impl Bounds {
         }
     }
 
-    /// The least bound of `i - j` over all solutions, within 10^17 either way. None where there is no bound.
+    /// Returns the least bound of `i - j` over all solutions, within 10^17 either way. None where there is no bound.
     pub fn upper(&self, i: u8, j: u8) -> Option<i128>
         requires left { i ≤ self.now.attrs }
         requires right { j ≤ self.now.attrs }
@@ -129,7 +129,7 @@ impl Bounds {
         }
     }
 
-    /// The greatest value of a node over all solutions, within 10^17 either way. None where there is none.
+    /// Returns the greatest value of a node over all solutions, within 10^17 either way. None where there is none.
     pub fn hi(&self, i: u8) -> Option<i128>
         requires node { i ≤ self.now.attrs }
         requires satisfiable { IsSatisfiable self.now.constraints }
@@ -139,7 +139,7 @@ impl Bounds {
         self.upper(i, 0)
     }
 
-    /// The least value of a node over all solutions, within 10^17 either way. None where there is none.
+    /// Returns the least value of a node over all solutions, within 10^17 either way. None where there is none.
     pub fn lo(&self, i: u8) -> Option<i128>
         requires node { i ≤ self.now.attrs }
         requires satisfiable { IsSatisfiable self.now.constraints }
@@ -152,7 +152,7 @@ impl Bounds {
         }
     }
 
-    /// The numbers, from 1, of at most 12 constraints that lead from `i` to `j` and sum to the least bound of `i - j`. None
+    /// Returns the numbers, from 1, of at most 12 constraints that lead from `i` to `j` and sum to the least bound of `i - j`. None
     /// where there is no bound.
     pub fn path(&self, i: u8, j: u8) -> Option<ArrayVec<u16, 12>>
         requires left { i ≤ self.now.attrs }
@@ -166,7 +166,7 @@ impl Bounds {
         }
     }
 
-    /// The numbers, from 1, of at most 13 constraints that close a chain with a negative sum. None where the constraints
+    /// Returns the numbers, from 1, of at most 13 constraints that close a chain with a negative sum. None where the constraints
     /// are satisfiable.
     pub fn cycle(&self) -> Option<ArrayVec<u16, 13>>
         ensures { IsCycleAnswer self.now.constraints (list_of result) }
@@ -195,7 +195,7 @@ impl Bounds {
         }
     }
 
-    /// Whether x is less than y in all solutions. Both are elements of a query with as many attributes.
+    /// Returns whether x is less than y in all solutions. Both are elements of a query with as many attributes.
     pub fn lt(&self, x: Element, y: Element, q: &Query) -> bool
         requires attrs { self.now.attrs ≡ length (attrs_of q.now.atoms) }
         requires left { IsElement q.now x }
@@ -206,7 +206,7 @@ impl Bounds {
         self.keeps(q.attrs(), x, y, -1)
     }
 
-    /// Whether x is equal to y in all solutions. Both are elements of a query with as many attributes.
+    /// Returns whether x is equal to y in all solutions. Both are elements of a query with as many attributes.
     pub fn eq(&self, x: Element, y: Element, q: &Query) -> bool
         requires attrs { self.now.attrs ≡ length (attrs_of q.now.atoms) }
         requires left { IsElement q.now x }
@@ -222,7 +222,7 @@ impl Bounds {
         }
     }
 
-    /// A value for each attribute, which together meet all constraints and give node `i` the value. Each lies within
+    /// Returns a value for each attribute, which together meet all constraints and give node `i` the value. Each lies within
     /// 10^17 plus the size of the value, which is within 10^30 either way. None where the value is below the least or above
     /// the greatest of the node.
     pub fn solve_at(&self, i: u8, value: i128) -> Option<ArrayVec<i128, 12>>

@@ -26,7 +26,7 @@ impl Model for Choice {
 }
 
 impl Choice {
-    /// The constraints that the pair adds by a sign.
+    /// Returns the constraints that the pair adds by a sign.
     pub fn by(&self, sign: Sign) -> &[Constraint]
         ensures { result.now ≡ chosen self.now sign }
     {
@@ -52,7 +52,7 @@ fn choice_of(q: &Query, pair: Pair) -> Choice
     }
 }
 
-/// What each pair of the query adds, in order.
+/// Returns what each pair of the query adds, in order.
 pub fn choices(q: &Query) -> ArrayVec<Choice, 114>
     ensures { AreChoices q.now result.items }
 {

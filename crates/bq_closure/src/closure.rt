@@ -32,7 +32,7 @@ impl Model for Cycle {
 }
 
 impl Cycle {
-    /// Its numbers as a list.
+    /// Returns its numbers as a list.
     pub fn list(&self) -> ArrayVec<u16, 13>
         ensures { result.items ≡ self.now }
     {
@@ -81,7 +81,7 @@ impl Closure {
     ghost use Rattle.bq_constraints.specs.Reach.{reach};
     ghost use Rattle.bq_closure.specs.Cycles.{IsClosing, IsImplied};
 
-    /// No constraint, for at most 12 attributes.
+    /// Makes a closure of no constraint, for at most 12 attributes.
     pub fn new(attrs: u8) -> Closure
         requires { attrs < 13 }
         ensures { IsClosureOf result attrs [] }
@@ -154,14 +154,14 @@ impl Closure {
         self.count += 1;
     }
 
-    /// Whether some integers for the nodes, node 0 being 0, meet all constraints.
+    /// Returns whether some integers for the nodes, node 0 being 0, meet all constraints.
     pub fn satisfiable(&self) -> bool
         ensures { (n : ℕ) (cs : List Constraint) → IsClosureOf self.now n cs → IsTrue result ↔ IsSatisfiable cs }
     {
         !self.is_broken()
     }
 
-    /// Whether some integers meet the constraint beside those that were added.
+    /// Returns whether some integers meet the constraint beside those that were added.
     pub fn allows(&self, c: Constraint) -> bool
         requires known { HasRoom self.now 0 }
         requires within { IsWithin self.now.attrs c }
@@ -176,7 +176,7 @@ impl Closure {
         }
     }
 
-    /// Whether all integers that meet the constraints that were added meet this one.
+    /// Returns whether all integers that meet the constraints that were added meet this one.
     pub fn implies(&self, c: Constraint) -> bool
         requires known { HasRoom self.now 0 }
         requires within { IsWithin self.now.attrs c }
@@ -199,7 +199,7 @@ impl Closure {
         }
     }
 
-    /// Whether for each of these constraints some integers meet it beside those that were added.
+    /// Returns whether for each of these constraints some integers meet it beside those that were added.
     pub fn allows_each(&self, cs: &[Constraint]) -> bool
         requires known { HasRoom self.now 0 }
         requires within { All (IsWithin self.now.attrs) cs.now }
@@ -213,7 +213,7 @@ impl Closure {
         true
     }
 
-    /// Whether all integers that meet the constraints that were added meet each of these.
+    /// Returns whether all integers that meet the constraints that were added meet each of these.
     pub fn implies_each(&self, cs: &[Constraint]) -> bool
         requires known { HasRoom self.now 0 }
         requires within { All (IsWithin self.now.attrs) cs.now }

@@ -32,7 +32,7 @@ impl Model for Path {
 impl Path {
     ghost use Rattle.bq_closure.specs.Ways.{walked};
 
-    /// The constraints of the chain between two nodes, of which there are `length`.
+    /// Returns the constraints of the chain between two nodes, of which there are `length`.
     pub fn walk(ways: &[Option<Way>; 169], from: u8, to: u8, length: u8) -> Path
         requires { length ≤ 12 }
         ensures { result ≡ walked ways.now length from to }
@@ -57,7 +57,7 @@ impl Path {
         }
     }
 
-    /// Its numbers as a list.
+    /// Returns its numbers as a list.
     pub fn list(&self) -> ArrayVec<u16, 12>
         ensures { result.items ≡ self.now }
     {

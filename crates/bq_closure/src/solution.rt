@@ -60,7 +60,7 @@ fn value_of(ways: &[Option<Way>; 169], nodes: u8, k: u8, i: u8, value: i128, lar
     least
 }
 
-/// The values of the attributes in a solution that gives node i the value, which is within the bounds of that node.
+/// Returns the values of the attributes in a solution that gives node i the value, which is within the bounds of that node.
 pub fn solution(ways: &[Option<Way>; 169], attrs: u8, i: u8, value: i128) -> ArrayVec<i128, 12>
     requires attrs { attrs ≤ 12 }
     requires low { neg_ℤ (pos (10 ^ 30)) ≤ℤ value }

@@ -15,7 +15,7 @@ pub struct Way {
     pub length: u8,
 }
 
-/// The way from one node to another.
+/// Returns the way from one node to another.
 pub fn way_between(ways: &[Option<Way>; 169], left: u8, right: u8) -> Option<Way>
     ensures { result ≡ slice_index_or ways.now (13 * left + right) None }
 {
@@ -25,7 +25,7 @@ pub fn way_between(ways: &[Option<Way>; 169], left: u8, right: u8) -> Option<Way
     }
 }
 
-/// The sum of two bounds.
+/// Returns the sum of two bounds.
 pub fn total(before: i64, after: i64) -> i64
     requires low { neg_ℤ (pos 200000000000000000) ≤ℤ before }
     requires high { before ≤ℤ pos 200000000000000000 }
@@ -81,7 +81,7 @@ fn head(before: Way, here: bool, c: Constraint, number: u16) -> Way
     }
 }
 
-/// Whether the way back and the constraint close a chain with a negative sum.
+/// Returns whether the way back and the constraint close a chain with a negative sum.
 pub fn closes(back: Way, c: Constraint) -> bool
     requires modest { AreModest back }
     requires low { neg_ℤ (pos 1000000000000000) ≤ℤ c.bound }
@@ -142,7 +142,7 @@ fn unlinked_at(k: usize) -> Option<Way>
     }
 }
 
-/// The ways with no constraint: each node reaches itself.
+/// Returns the ways with no constraint: each node reaches itself.
 pub fn unlinked() -> [Option<Way>; 169]
     ensures { (k : ℕ) → k < 169 → IsUnlinkedAt result k }
 {
@@ -153,7 +153,7 @@ pub fn unlinked() -> [Option<Way>; 169]
     ways
 }
 
-/// The ways with one constraint more.
+/// Returns the ways with one constraint more.
 pub fn tighten(ways: &mut [Option<Way>; 169], nodes: usize, c: Constraint, number: u16)
     requires nodes { nodes ≤ 13 }
     requires left { c.left < nodes }

@@ -9,7 +9,7 @@ use crate::constraint::Constraint;
 use arrayvec::ArrayVec;
 use bq_model::{Attr, Element, Query, Sign};
 
-/// The place of an attribute among some, or their number where it is none of them.
+/// Returns the place of an attribute among some, or their number where it is none of them.
 pub fn place_of(attrs: &[Attr], attr: Attr) -> usize
     ensures value { result ≡ place_of attrs.now attr }
     ensures within { result ≤ length attrs.now }
@@ -22,7 +22,7 @@ pub fn place_of(attrs: &[Attr], attr: Attr) -> usize
     attrs.len()
 }
 
-/// The node of an element.
+/// Returns the node of an element.
 pub fn node(attrs: &[Attr], element: Element) -> u8
     requires { length attrs.now ≤ 12 }
     ensures value { result ≡ node_of attrs.now element }
@@ -44,7 +44,7 @@ fn offset(element: Element) -> i64
     }
 }
 
-/// How much the node of x is above that of y, where x is so much above y.
+/// Returns how much the node of x is above that of y, where x is so much above y.
 pub fn difference(x: Element, y: Element, by: i64) -> i64
     requires left { IsWithinLimit x }
     requires right { IsWithinLimit y }
@@ -71,7 +71,7 @@ fn above(attrs: &[Attr], left: Element, right: Element, by: i64) -> Constraint
     }
 }
 
-/// The sign read from the right.
+/// Returns the sign read from the right.
 pub fn turn(sign: Sign) -> Sign
     ensures { result ≡ turned sign }
 {
@@ -101,7 +101,7 @@ fn compared(attrs: &[Attr], left: Element, sign: Sign, right: Element) -> ArrayV
     list
 }
 
-/// The constraints that two elements of a query stand so to each other: one for less or greater, by a bound that is 1
+/// Returns the constraints that two elements of a query stand so to each other: one for less or greater, by a bound that is 1
 /// below that of at most, and two for equal. An assignment meets them exactly where it gives the elements this sign. A
 /// constant stands on the right, or is first brought there.
 pub fn constraints(left: Element, sign: Sign, right: Element, q: &Query) -> ArrayVec<Constraint, 2>

@@ -8,7 +8,7 @@ use crate::nodes::constraints;
 use arrayvec::ArrayVec;
 use bq_model::{Element, Pair, Query, Sign};
 
-/// The constraints that one more sign adds to those of the first signs.
+/// Returns the constraints that one more sign adds to those of the first signs.
 pub fn of_next_sign(
     q: &Query,
     pairs: &[Pair],

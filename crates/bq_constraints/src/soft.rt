@@ -90,7 +90,7 @@ fn sides_sign(atom: &Atom, pair: Pair, sign: Sign) -> Sign
     }
 }
 
-/// Whether a comparison is soft, names the pair, and is false where the pair has the sign.
+/// Returns whether a comparison is soft, names the pair, and is false where the pair has the sign.
 pub fn fails_by(atom: &Atom, pair: Pair, sign: Sign) -> bool
     ensures { result ≡ fails_by atom.now pair sign }
 {
@@ -108,7 +108,7 @@ fn is_unequal(op: Op) -> bool
     }
 }
 
-/// Whether a comparison says that an element is not itself.
+/// Returns whether a comparison says that an element is not itself.
 pub fn denies_itself(atom: &Atom) -> bool
     ensures { result ≡ denies_itself atom.now }
 {

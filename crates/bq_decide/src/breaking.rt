@@ -109,7 +109,7 @@ fn first_reference(q: &Query, p: &Part, refs: &Refs) -> Option<Attr>
     first_among(q, p, refs, Condition::C3, q.attrs())
 }
 
-/// The first condition that the part breaks with the first column that shows it, or none where it meets all.
+/// Returns the first condition that the part breaks with the first column that shows it, or none where it meets all.
 pub fn violation_of(q: &Query, p: &Part, refs: &Refs) -> Option<Break>
     requires part { IsPart q.now p.now.signs.items }
     requires refs { AreRefs q.now p.now.signs.items refs.now }

@@ -21,7 +21,7 @@ fn break_of(q: &Query, p: &Part, basis: &Basis, bounds: &mut Bounds) -> Option<B
     violation_of(q, p, &refs)
 }
 
-/// What the parts of a query say: all conditions are met, or the first part that breaks one, in it the first condition,
+/// Returns what the parts of a query say: all conditions are met, or the first part that breaks one, in it the first condition,
 /// and for it the first column. A filter meets all.
 pub fn decide(q: &Query, parts: &[Part]) -> Decision
     requires parts { AreParts q.now (sign_lists parts.now) }

@@ -100,7 +100,7 @@ fn breaks_as_max(q: &Query, p: &Part, refs: &Refs, attr: Attr) -> bool
     is_among(refs.max_ref.as_slice(), attr) && is_too_many_max(q, p, refs, attr)
 }
 
-/// Whether a column is a reference too many: any without DISTINCT, and with it one whose stream has references that are
+/// Returns whether a column is a reference too many: any without DISTINCT, and with it one whose stream has references that are
 /// not of one class on one side.
 pub fn breaks_third(q: &Query, p: &Part, refs: &Refs, attr: Attr) -> bool
     requires refs { AreRefs q.now p.now.signs.items refs.now }

@@ -8,7 +8,7 @@ use itoa::Buffer;
 /// A line, without its LF.
 pub type Line = ArrayVec<u8, 128>;
 
-/// The number after this one.
+/// Returns the number after this one.
 #[tactic(auto, unfolding(crate::specs::Script::step), using(crate::proofs::Sums::sum_mod))]
 pub fn next_number(number: u64) -> u64
     ensures { result ≡ step number }
@@ -18,7 +18,7 @@ pub fn next_number(number: u64) -> u64
         .wrapping_add(1_442_695_040_888_963_407)
 }
 
-/// A line with this text.
+/// Returns a line with this text.
 pub fn line_of(text: &[u8]) -> Line
     requires { length text.now ≤ 128 }
     ensures { result.items ≡ text.now }
@@ -45,7 +45,7 @@ fn push_field(line: &mut Line, value: u64)
     }
 }
 
-/// The row that a number makes.
+/// Returns the row that a number makes.
 #[tactic(auto, unfolding(crate::specs::Script::row))]
 pub fn row_line(number: u64) -> Line
     ensures { result.items ≡ row number }

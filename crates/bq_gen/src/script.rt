@@ -47,7 +47,7 @@ fn head_line(place: usize) -> &'static [u8]
 }
 
 impl Script {
-    /// The script of this many rows, of which no line was given.
+    /// Returns the script of this many rows, of which no line was given.
     #[tactic(auto, using(crate::proofs::Left::length_script))]
     pub fn new(rows: u32) -> Script
         ensures lines { result ≡ script_lines rows }
@@ -61,7 +61,7 @@ impl Script {
         }
     }
 
-    /// The next line, without its LF; None, and for good, where every line was given.
+    /// Returns the next line, without its LF; None, and for good, where every line was given.
     #[tactic(auto, using(crate::proofs::Left::none_left, crate::proofs::Left::row_left))]
     pub fn next(&mut self) -> Option<Line>
         ensures { MatchOption result ((self.old ≡ []) × (self.new ≡ [])) (λ line. self.old ≡ line.items ∷ self.new) }

@@ -114,7 +114,7 @@ fn first_token(bytes: &[u8]) -> Option<(TokenKind, usize)>
     }
 }
 
-/// The tokens of a line, in order; or the first place at which no token begins.
+/// Returns the tokens of a line, in order; or the first place at which no token begins.
 pub fn lex(line: &[u8]) -> Result<Tokens, LexError>
     requires { length line.now ≤ 1024 }
     ensures tokens { MatchResult result (λ found. tokens line.now ≡ Ok found.items) (λ fault. tokens line.now ≡ Err fault.at) }

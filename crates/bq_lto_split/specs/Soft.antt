@@ -1,11 +1,11 @@
 -- By which signs of pairs soft comparisons are false.
-use Rattle.std.specs.Prelude.{◌≡◌, Bool, List}
+use Rattle.std.specs.Prelude.{◌≡◌, ℕ, ◌≤◌, Bool, false, List, length, take, slice_get}
 use Rattle.std.specs.List.{list_any, AllZip}
 use Rattle.bq_model.specs.declared.part.Pair.{Pair}
 use Rattle.bq_model.specs.declared.part.Sign.{Sign}
 use Rattle.bq_model.specs.Query.{QueryValue}
 use Rattle.bq_model.specs.Parts.{pairs}
-use Rattle.bq_constraints.specs.Soft.{fails_by}
+use Rattle.bq_constraints.specs.Soft.{fails_by, next_fails}
 use Rattle.bq_lto_split.specs.declared.soft.Fails.{Fails}
 
 -- whether a comparison is false by the sign
@@ -18,6 +18,7 @@ fails_at f Sign.Gt = f.greater
 pub record IsFails (q : QueryValue) (p : Pair) (f : Fails) : Type 0 where
   pub says : (s : Sign) → fails_at f s ≡ list_any (λ t. fails_by t p s) q.atoms
 
--- the same for each pair of the query, in order
-abbrev pub AreFails : QueryValue → List Fails → Type 0
-AreFails q fs = AllZip (IsFails q) (pairs q) fs
+-- the same for the first pairs of the query, in order, and no comparison is false by a sign of a pair behind them
+pub record AreFails (q : QueryValue) (fs : List Fails) : Type 0 where
+  pub first : AllZip (IsFails q) (take (length fs) (pairs q)) fs
+  pub others : (n : ℕ) (s : Sign) → length fs ≤ n → next_fails q.atoms (slice_get (pairs q) n) s ≡ false

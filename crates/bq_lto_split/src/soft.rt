@@ -1,6 +1,7 @@
 //! Soft comparisons under the signs of pairs.
-ghost use Rattle.std.specs.Prelude.{◌≡◌, length, slice_get};
+ghost use Rattle.std.specs.Prelude.{◌≡◌, ◌≤◌, length, filter, slice_get};
 ghost use Rattle.std.specs.List.{list_any};
+ghost use Rattle.bq_model.specs.Query.{is_soft};
 ghost use Rattle.bq_model.specs.Parts.{pairs};
 ghost use Rattle.bq_constraints.specs.Soft.{fails_by, next_fails, denies_itself};
 ghost use Rattle.bq_lto_split.specs.Soft.{fails_at, IsFails, AreFails};
@@ -48,24 +49,34 @@ fn fails_of(q: &Query, pair: Pair) -> Fails
     }
 }
 
-/// By which signs of each pair a soft comparison of the query is false, in order.
+// How many comparisons of the query are soft.
+fn count_soft(q: &Query) -> usize
+    ensures { result ≡ length (filter (λ t. is_soft t.op) q.now.atoms) }
+{
+    q.atoms().iter().filter(|t| t.op.is_soft()).count()
+}
+
+/// Lists by which signs of the first pairs, in order, a soft comparison of the query is false: of at least those that soft comparisons
+/// name, and of no more than there are soft comparisons.
 pub fn failing_signs(q: &Query) -> ArrayVec<Fails, 114>
-    ensures { AreFails q.now result.items }
+    ensures fails { AreFails q.now result.items }
+    ensures few { length result.items ≤ length (filter (λ t. is_soft t.op) q.now.atoms) }
 {
     let pairs = q.pairs();
     let pairs = pairs.as_slice();
     let mut list = ArrayVec::new();
-    for i in 0..pairs.len() {
+    for i in 0..count_soft(q).min(pairs.len()) {
         list.push(fails_of(q, pairs[i]));
     }
     list
 }
 
-/// Whether a comparison of the query is false where the next pair has this sign.
+/// Returns whether a comparison of the query is false where the next pair has this sign.
 pub fn next_fails(q: &Query, fails: &[Fails], signs: &[Sign], sign: Sign) -> bool
     requires { AreFails q.now fails.now }
     ensures { result ≡ next_fails q.now.atoms (slice_get (pairs q.now) (length signs.now)) sign }
 {
+    // Named for the proof alone: the contract speaks of it.
     let _query = q;
     let place = signs.len();
     if place < fails.len() {
@@ -75,7 +86,7 @@ pub fn next_fails(q: &Query, fails: &[Fails], signs: &[Sign], sign: Sign) -> boo
     }
 }
 
-/// Whether a comparison of the query says that an element is not itself.
+/// Returns whether a comparison of the query says that an element is not itself.
 pub fn has_denial(q: &Query) -> bool
     ensures { result ≡ list_any (λ t. denies_itself t) q.now.atoms }
 {

@@ -15,7 +15,7 @@ pub struct Kept {
     pub row: Row,
 }
 
-/// A copy of a row.
+/// Returns a copy of a row.
 pub fn copy_of(row: &Row) -> Row
     ensures { result.items ≡ row.now.items }
 {
@@ -63,7 +63,7 @@ fn push_answers(
     }
 }
 
-/// The answers of a query over the kept rows.
+/// Returns the answers of a query over the kept rows.
 pub fn answers(alloc: Global, query: &Query, kept: &[Kept]) -> Result<Vec<Tuple>, AllocError>
     ensures { IfOk result (λ v. values_of v.items ≡ answers query.now (history_of kept.now)) }
 {

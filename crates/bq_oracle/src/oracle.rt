@@ -27,7 +27,7 @@ impl Model for Oracle {
 }
 
 impl Oracle {
-    /// The oracle of a query, before any row.
+    /// Returns the oracle of a query, before any row.
     pub fn new(alloc: Global, query: Query) -> Oracle
         ensures { result ≡ record { query = query; history = [] } }
     {
@@ -38,7 +38,7 @@ impl Oracle {
         }
     }
 
-    /// The answers to a row after the rows so far, in ascending order. The row is kept, but for want of memory: then
+    /// Returns the answers to a row after the rows so far, in ascending order. The row is kept, but for want of memory: then
     /// the oracle is as before.
     pub fn row(&mut self, stream: u8, row: &Row) -> Result<Vec<Tuple>, AllocError>
         ensures answers { IfOk result (λ v. map (λ t. t.items) v.items

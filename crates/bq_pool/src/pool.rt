@@ -61,7 +61,7 @@ impl Model for Pool {
 }
 
 impl Pool {
-    /// A pool of at most 16,384 pages, all of them free, with 64 slots for extents. An error says that memory was not
+    /// Returns a pool of at most 16,384 pages, all of them free, with 64 slots for extents. An error says that memory was not
     /// found; no other call takes any.
     pub fn new(alloc: Global, pages: u16) -> Result<Pool, AllocError>
         requires { pages ≤ 16384 }
@@ -79,7 +79,7 @@ impl Pool {
         })
     }
 
-    /// The number of free pages: all pages but those of the live extents, which have no page in common.
+    /// Returns the number of free pages: all pages but those of the live extents, which have no page in common.
     pub fn free(&self) -> u32
         ensures count { result ≡ self.now.free }
         ensures others { result + lent_pages self.now ≡ self.now.pages }
@@ -116,7 +116,7 @@ impl Pool {
         })
     }
 
-    /// The cell of an extent with that number. This is one read.
+    /// Returns the cell of an extent with that number. This is one read.
     pub fn read<L: Ledger>(&self, extent: &Extent, index: u32, steps: &mut Steps<L>) -> Cell
         requires live { IsLive self.now extent.now }
         requires within { index < 64 * extent.now.pages }
@@ -130,7 +130,7 @@ impl Pool {
         self.cells[usize::from(page) * CELLS_PER_PAGE + i % CELLS_PER_PAGE]
     }
 
-    /// The first cell of a line of an extent that is not empty, from one place up to another, if one is not. Each cell that is
+    /// Returns the first cell of a line of an extent that is not empty, from one place up to another, if one is not. Each cell that is
     /// seen is one read.
     pub fn first_filled<L: Ledger>(
         &self,

@@ -86,7 +86,7 @@ fn cell_of<'a>(cells: &'a [Cell], places: &[u16], slot: usize, number: usize) ->
     &cells[page * 64 + number % 64]
 }
 
-/// The first cell of a slot that is not empty, among those from one place up to another, counted from its cell `first` on.
+/// Returns the first cell of a slot that is not empty, among those from one place up to another, counted from its cell `first` on.
 pub fn first_beside<L: Ledger>(
     cells: &[Cell],
     places: &[u16],
@@ -119,7 +119,7 @@ pub fn first_beside<L: Ledger>(
     None
 }
 
-/// The first cell of a line of a slot that is not empty, from one place up to another.
+/// Returns the first cell of a line of a slot that is not empty, from one place up to another.
 pub fn first_along<L: Ledger>(
     cells: &[Cell],
     places: &[u16],

@@ -24,7 +24,8 @@ impl<L: Ledger> Model for Steps<L> {
 }
 
 impl<L: Ledger> Steps<L> {
-    /// No cell was read and none was written. A ledger gives one blank, `Blank::new(2)`: one part for the reads, one for the writes.
+    /// Makes a counter by which no cell was read and none was written. A ledger gives one blank, `Blank::new(2)`: one part for the reads, one for
+    /// the writes.
     pub fn new(blank: Blank) -> Steps<L>
         requires name { blank.name ≡ L.name }
         requires parts { blank.parts ≡ L.parts }

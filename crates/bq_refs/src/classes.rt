@@ -37,7 +37,7 @@ fn class_of(q: &Query, p: &Part, bounds: &Bounds, attr: Attr) -> u8
     0
 }
 
-/// For each attribute the place of the attribute that names its class.
+/// Returns for each attribute the place of the attribute that names its class.
 pub fn classes(q: &Query, p: &Part, bounds: &Bounds) -> ArrayVec<u8, 12>
     requires { IsKnown q.now p.now.signs.items bounds.now }
     ensures { AllZip (IsClassPlace q.now p.now.signs.items) (attrs_of q.now.atoms) result.items }

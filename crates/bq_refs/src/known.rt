@@ -29,7 +29,7 @@ impl Model for Basis {
 }
 
 impl Basis {
-    /// What the parts of a query share.
+    /// Returns what the parts of a query share.
     pub fn new(q: &Query) -> Basis
         ensures { IsBasis q.now result }
     {
@@ -40,7 +40,7 @@ impl Basis {
         }
     }
 
-    /// The links of each attribute with each.
+    /// Returns the links of each attribute with each.
     pub fn links(&self) -> &[Link]
         ensures { result.now ≡ self.now.links }
     {
@@ -60,6 +60,7 @@ fn of_sign<'a>(q: &Query, choices: &'a [Choice], signs: &[Sign], i: usize) -> &'
     requires sign { i + 1 ≤ length signs.now }
     ensures { AddsSign q.now signs.now i result.now }
 {
+    // Named for the proof alone: the contract speaks of it.
     let _query = q;
     choices[i].by(signs[i])
 }

@@ -32,7 +32,7 @@ fn push_row(list: &mut ArrayVec<Link, 144>, left: Attr, attrs: &[Attr])
     }
 }
 
-/// Each column with each.
+/// Returns each column with each.
 pub fn all_links(attrs: &[Attr]) -> ArrayVec<Link, 144>
     requires { length attrs.now ≤ 12 }
     ensures { result.items ≡ links_among attrs.now attrs.now }
@@ -78,7 +78,7 @@ fn is_inequality(q: &Query, p: &Part, bounds: &Bounds, l: Link) -> bool
         && !is_redundant(q, p, bounds, Element::Attr(l.left), Element::Attr(l.right))
 }
 
-/// Of all links the equalities between streams, each once and with the earlier attribute on the left.
+/// Returns of all links the equalities between streams, each once and with the earlier attribute on the left.
 pub fn equalities(q: &Query, p: &Part, bounds: &Bounds, links: &[Link]) -> ArrayVec<Link, 66>
     requires known { IsKnown q.now p.now.signs.items bounds.now }
     requires links { links.now ≡ links_among (attrs_of q.now.atoms) (attrs_of q.now.atoms) }
@@ -93,7 +93,7 @@ pub fn equalities(q: &Query, p: &Part, bounds: &Bounds, links: &[Link]) -> Array
     list
 }
 
-/// Of all links the nonredundant inequalities between streams.
+/// Returns of all links the nonredundant inequalities between streams.
 pub fn inequalities(q: &Query, p: &Part, bounds: &Bounds, links: &[Link]) -> ArrayVec<Link, 66>
     requires known { IsKnown q.now p.now.signs.items bounds.now }
     requires links { links.now ≡ links_among (attrs_of q.now.atoms) (attrs_of q.now.atoms) }

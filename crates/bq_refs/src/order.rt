@@ -6,7 +6,7 @@ ghost use Rattle.bq_refs.specs.Known.{IsKnown};
 use bq_closure::Bounds;
 use bq_model::{Element, Part, Query};
 
-/// Whether x is less than y in every assignment of the part.
+/// Returns whether x is less than y in every assignment of the part.
 pub fn is_less(q: &Query, p: &Part, bounds: &Bounds, x: Element, y: Element) -> bool
     requires known { IsKnown q.now p.now.signs.items bounds.now }
     requires left { IsElement q.now x }
@@ -16,7 +16,7 @@ pub fn is_less(q: &Query, p: &Part, bounds: &Bounds, x: Element, y: Element) -> 
     bounds.lt(x, y, q)
 }
 
-/// Whether x is equal to y in every assignment of the part.
+/// Returns whether x is equal to y in every assignment of the part.
 pub fn is_equal(q: &Query, p: &Part, bounds: &Bounds, x: Element, y: Element) -> bool
     requires known { IsKnown q.now p.now.signs.items bounds.now }
     requires left { IsElement q.now x }

@@ -43,7 +43,7 @@ fn node_at(i: usize) -> u8
     i as u8 + 1
 }
 
-/// The range of the attribute at a place, or none where it is not bounded.
+/// Returns the range of the attribute at a place, or none where it is not bounded.
 pub fn range_at(q: &Query, p: &Part, bounds: &Bounds, i: usize) -> Option<Range>
     requires known { IsKnown q.now p.now.signs.items bounds.now }
     requires place { i < length (attrs_of q.now.atoms) }

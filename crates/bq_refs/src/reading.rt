@@ -121,7 +121,7 @@ fn max_refs(q: &Query, p: &Part, ranges: &[Option<Range>], less: &[Link]) -> Arr
     list
 }
 
-/// What holds in a part of the query. The bounds are room to work in: what they hold before does not matter, and afterwards they
+/// Returns what holds in a part of the query. The bounds are room to work in: what they hold before does not matter, and afterwards they
 /// are those of the part.
 pub fn refs(q: &Query, p: &Part, basis: &Basis, bounds: &mut Bounds) -> Refs
     requires part { IsPart q.now p.now.signs.items }

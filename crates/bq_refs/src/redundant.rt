@@ -90,7 +90,7 @@ fn some_const_parts(q: &Query, p: &Part, bounds: &Bounds, x: Element, y: Element
     false
 }
 
-/// Whether x < y is redundant in the part.
+/// Returns whether x < y is redundant in the part.
 pub fn is_redundant(q: &Query, p: &Part, bounds: &Bounds, x: Element, y: Element) -> bool
     requires known { IsKnown q.now p.now.signs.items bounds.now }
     requires left { IsElement q.now x }

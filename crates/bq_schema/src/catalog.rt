@@ -43,7 +43,7 @@ impl Catalog {
     /// The most streams.
     pub const MOST_STREAMS: usize = 16;
 
-    /// A catalog with no streams. An error says that memory was not found; no other call takes any.
+    /// Returns a catalog with no streams. An error says that memory was not found; no other call takes any.
     pub fn new(alloc: Global) -> Result<Catalog, AllocError>
         ensures { IfOk result (λ c. c ≡ []) }
     {
@@ -52,7 +52,7 @@ impl Catalog {
         })
     }
 
-    /// The number of streams, at most 16.
+    /// Returns the number of streams, at most 16.
     pub fn len(&self) -> u8
         ensures len { result ≡ length self.now }
         ensures catalog { IsCatalog self.now }
@@ -80,7 +80,7 @@ impl Catalog {
         Ok(number)
     }
 
-    /// Whether there are 16 streams.
+    /// Returns whether there are 16 streams.
     pub fn is_full(&self) -> bool
         ensures { result ≡ not (nat_lt (length self.now) 16) }
     {
@@ -94,7 +94,7 @@ impl Catalog {
         has_name(&self.streams, name)
     }
 
-    /// The number of the stream of this name.
+    /// Returns the number of the stream of this name.
     pub fn find(&self, name: &Name) -> Option<u8>
         ensures number { result ≡ stream_number self.now name.now }
         ensures inside { IfSome result (λ number. number < length self.now) }
@@ -103,7 +103,7 @@ impl Catalog {
         Some(place as u8)
     }
 
-    /// The number of the stream that has these bytes as its name.
+    /// Returns the number of the stream that has these bytes as its name.
     pub fn find_bytes(&self, name: &[u8]) -> Option<u8>
         ensures number { result ≡ stream_number self.now name.now }
         ensures inside { IfSome result (λ number. number < length self.now) }
@@ -113,7 +113,7 @@ impl Catalog {
         Some(place as u8)
     }
 
-    /// The place of the column of this name, from 0, in the stream of this number.
+    /// Returns the place of the column of this name, from 0, in the stream of this number.
     pub fn column(&self, stream: u8, name: &Name) -> Option<u8>
         requires { stream < length self.now }
         ensures place { result ≡ column_place (shape_at self.now stream).columns name.now }
@@ -123,7 +123,7 @@ impl Catalog {
         Some(place as u8)
     }
 
-    /// How many columns the stream of this number has: 1 to 8.
+    /// Returns how many columns the stream of this number has: 1 to 8.
     pub fn width(&self, stream: u8) -> u8
         requires { stream < length self.now }
         ensures width { result ≡ length (shape_at self.now stream).columns }
@@ -133,7 +133,7 @@ impl Catalog {
         self.columns(stream).as_slice().len() as u8
     }
 
-    /// The name of the stream of this number.
+    /// Returns the name of the stream of this number.
     pub fn stream_name(&self, stream: u8) -> &Name
         requires { stream < length self.now }
         ensures { result.now ≡ (shape_at self.now stream).name }
@@ -141,7 +141,7 @@ impl Catalog {
         name_at(&self.streams, usize::from(stream))
     }
 
-    /// The name of a column of the stream of this number.
+    /// Returns the name of a column of the stream of this number.
     pub fn column_name(&self, stream: u8, column: u8) -> &Name
         requires stream { stream < length self.now }
         requires column { column < length (shape_at self.now stream).columns }
@@ -151,7 +151,7 @@ impl Catalog {
         &columns[usize::from(column)].name
     }
 
-    /// The least and the greatest value of a column of the stream of this number, where the column has a domain.
+    /// Returns the least and the greatest value of a column of the stream of this number, where the column has a domain.
     pub fn domain(&self, stream: u8, column: u8) -> Option<(i64, i64)>
         requires stream { stream < length self.now }
         requires column { column < length (shape_at self.now stream).columns }
@@ -162,7 +162,7 @@ impl Catalog {
         columns[usize::from(column)].domain
     }
 
-    /// Whether each value of a row of the stream of this number lies in the domain of its column.
+    /// Returns whether each value of a row of the stream of this number lies in the domain of its column.
     pub fn keeps(&self, stream: u8, row: &Row) -> bool
         requires stream { stream < length self.now }
         requires width { length row.now.items ≡ length (shape_at self.now stream).columns }
@@ -193,8 +193,8 @@ impl Catalog {
         }
     }
 
-    // The columns of the stream of this number, 1 to 8.
-    fn columns(&self, stream: u8) -> &Columns
+    /// Returns the columns of the stream of this number, 1 to 8, in order.
+    pub fn columns(&self, stream: u8) -> &Columns
         requires { stream < length self.now }
         ensures columns { result.now ≡ (shape_at self.now stream).columns }
         ensures some { 0 < length result.now }

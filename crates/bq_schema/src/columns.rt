@@ -41,7 +41,7 @@ impl Model for Columns {
 }
 
 impl Columns {
-    /// These columns, at most 8.
+    /// Keeps these columns, at most 8.
     pub fn new(columns: &[ColumnDef]) -> Columns
         requires { length columns.now ≤ 8 }
         ensures columns { result ≡ columns.now }
@@ -53,14 +53,14 @@ impl Columns {
         }
     }
 
-    /// The columns.
+    /// Returns the columns.
     pub fn as_slice(&self) -> &[ColumnDef]
         ensures { result.now ≡ self.now }
     {
         self.columns.as_slice()
     }
 
-    /// Whether each of as many values lies in the domain of its column.
+    /// Returns whether each of as many values lies in the domain of its column.
     pub fn keep(&self, values: &[i64]) -> bool
         requires { length values.now ≡ length self.now }
         ensures { result ≡ lie_within self.now values.now }
@@ -69,11 +69,12 @@ impl Columns {
     }
 }
 
-/// The same name, with what holds of every name.
+/// Returns the same name, with what holds of every name.
 pub fn checked(name: &Name) -> Name
     ensures same { result ≡ name.now }
     ensures name { IsName name.now }
 {
+    // Read for the proof alone: the call tells what holds of every name.
     let _bytes = name.bytes();
     *name
 }
@@ -83,6 +84,7 @@ fn checked_column(column: &ColumnDef) -> ColumnDef
     ensures same { result ≡ column.now }
     ensures name { IsName column.now.name }
 {
+    // Read for the proof alone: the call tells what holds of every name.
     let _name = checked(&column.name);
     *column
 }
@@ -161,7 +163,7 @@ fn is_among(name: &Name, names: &[Name]) -> bool
     names.iter().any(|other| *name == *other)
 }
 
-/// Whether all names differ.
+/// Returns whether all names differ.
 pub fn all_differ(names: &[Name]) -> bool
     ensures { result ≡ streams.all_differ names.now }
 {
@@ -178,7 +180,7 @@ fn is_column(name: &Name, columns: &[ColumnDef]) -> bool
     columns.iter().any(|other| *name == other.name)
 }
 
-/// Whether the names of all columns differ.
+/// Returns whether the names of all columns differ.
 pub fn columns_differ(columns: &[ColumnDef]) -> bool
     ensures { result ≡ streams.all_differ (column_names columns.now) }
 {
@@ -188,7 +190,7 @@ pub fn columns_differ(columns: &[ColumnDef]) -> bool
     }
 }
 
-/// The place of the column of this name.
+/// Returns the place of the column of this name.
 pub fn place_of_column(columns: &[ColumnDef], name: &Name) -> Option<usize>
     ensures place { result ≡ streams.column_place columns.now name.now }
     ensures inside { IfSome result (λ place. place < length columns.now) }

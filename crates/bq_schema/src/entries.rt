@@ -9,14 +9,14 @@ use crate::columns::Columns;
 use bq_text::Name;
 use indexmap::IndexMap;
 
-/// Whether a stream has the name.
+/// Returns whether a stream has the name.
 pub fn has_name(streams: &IndexMap<Name, Columns>, name: &Name) -> bool
     ensures { result ≡ list_any (λ s. bytes_eq s.name name.now) (shapes_of streams.now.entries) }
 {
     streams.contains_key(name)
 }
 
-/// The place of the stream of this name.
+/// Returns the place of the stream of this name.
 pub fn place_of_name(streams: &IndexMap<Name, Columns>, name: &Name) -> Option<usize>
     ensures place { result ≡ stream_number (shapes_of streams.now.entries) name.now }
     ensures inside { IfSome result (λ place. place < index_map_len streams.now) }
@@ -24,7 +24,7 @@ pub fn place_of_name(streams: &IndexMap<Name, Columns>, name: &Name) -> Option<u
     streams.get_index_of(name)
 }
 
-/// The name of the stream at a place.
+/// Returns the name of the stream at a place.
 pub fn name_at(streams: &IndexMap<Name, Columns>, place: usize) -> &Name
     requires { place < index_map_len streams.now }
     ensures { result.now ≡ (shape_at (shapes_of streams.now.entries) place).name }
@@ -32,7 +32,7 @@ pub fn name_at(streams: &IndexMap<Name, Columns>, place: usize) -> &Name
     streams.get_index(place).unwrap().0
 }
 
-/// The columns of the stream at a place.
+/// Returns the columns of the stream at a place.
 pub fn columns_at(streams: &IndexMap<Name, Columns>, place: usize) -> &Columns
     requires { place < index_map_len streams.now }
     ensures { result.now ≡ (shape_at (shapes_of streams.now.entries) place).columns }
@@ -40,7 +40,7 @@ pub fn columns_at(streams: &IndexMap<Name, Columns>, place: usize) -> &Columns
     streams.get_index(place).unwrap().1
 }
 
-/// The place of the stream that has these bytes as its name. It hashes nothing, since names are few and short.
+/// Returns the place of the stream that has these bytes as its name. It hashes nothing, since names are few and short.
 pub fn place_of_bytes(streams: &IndexMap<Name, Columns>, name: &[u8]) -> Option<usize>
     ensures place { result ≡ stream_number (shapes_of streams.now.entries) name.now }
     ensures inside { IfSome result (λ place. place < index_map_len streams.now) }
@@ -61,5 +61,6 @@ pub fn add_entry(streams: &mut IndexMap<Name, Columns>, name: Name, columns: Col
     ensures entries { shapes_of streams.new.entries ≡ shapes_of streams.old.entries ++ record { name = name; columns = columns } ∷ [] }
     ensures room { index_map_len streams.old + spare streams.old ≤ index_map_len streams.new + spare streams.new }
 {
+    // There is room, so this is done.
     let _stored = streams.insert(name, columns).is_ok();
 }

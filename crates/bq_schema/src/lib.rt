@@ -16,7 +16,7 @@ mod stream_error;
 
 pub use catalog::Catalog;
 pub use column::ColumnDef;
-pub use columns::all_differ;
+pub use columns::{Columns, all_differ};
 pub use row_error::RowError;
 pub use row_line::is_row_line;
 pub use stream_error::StreamError;

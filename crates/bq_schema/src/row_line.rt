@@ -18,7 +18,7 @@ fn begins_comma(text: &[u8]) -> bool
     }
 }
 
-/// Whether a text is a row line: one word, blanks or none, and then a comma. `Catalog::read_row` reads such lines.
+/// Returns whether a text is a row line: one word, blanks or none, and then a comma. `Catalog::read_row` reads such lines.
 pub fn is_row_line(text: &[u8]) -> bool
     ensures { result ≡ rows.is_row_line text.now }
 {
@@ -26,7 +26,7 @@ pub fn is_row_line(text: &[u8]) -> bool
     begins_word(text) && begins_comma(trim_start(rest))
 }
 
-/// A text without the blanks at its front, up to its first comma, and what stands behind that comma. Mostly the text begins with the
+/// Returns a text without the blanks at its front, up to its first comma, and what stands behind that comma. Mostly the text begins with the
 /// comma, or nothing is left of it.
 pub fn cut_behind(text: &[u8]) -> (&[u8], Option<&[u8]>)
     ensures parts { slice_split rows.is_comma (without_blanks_before text.now) ≡ result.0.now ∷ parts_behind 44 result.1 }
@@ -44,7 +44,7 @@ pub fn cut_behind(text: &[u8]) -> (&[u8], Option<&[u8]>)
     }
 }
 
-/// The word at the front of a line, and the text of the fields behind it, which is cut at commas.
+/// Returns the word at the front of a line, and the text of the fields behind it, which is cut at commas.
 pub fn split_fields(line: &[u8]) -> (&[u8], Option<&[u8]>)
     ensures word { result.0.now ≡ word_of line.now }
     ensures fields { rows.fields_of line.now ≡ parts_behind 44 result.1 }

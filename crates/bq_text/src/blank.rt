@@ -4,7 +4,7 @@ ghost use Rattle.std.specs.List.{prefix_len, suffix_len};
 ghost use Rattle.bq_text.specs.Blank as blanks;
 ghost use Rattle.bq_text.specs.Blank.{without_blanks_before, without_blanks_behind, trimmed};
 
-/// Whether the byte is a space or a tab.
+/// Returns whether the byte is a space or a tab.
 pub fn is_blank(byte: u8) -> bool
     ensures { result ≡ blanks.is_blank byte }
 {
@@ -25,21 +25,21 @@ fn blanks_behind(text: &[u8]) -> usize
     text.iter().rev().take_while(|b| is_blank(**b)).count()
 }
 
-/// The text without the blanks at its front.
+/// Returns the text without the blanks at its front.
 pub fn trim_start(text: &[u8]) -> &[u8]
     ensures { result.now ≡ without_blanks_before text.now }
 {
     text.split_at(blanks_before(text)).1
 }
 
-/// The text without the blanks at its end.
+/// Returns the text without the blanks at its end.
 pub fn trim_end(text: &[u8]) -> &[u8]
     ensures { result.now ≡ without_blanks_behind text.now }
 {
     text.split_at(text.len() - blanks_behind(text)).0
 }
 
-/// The text without the blanks at both ends.
+/// Returns the text without the blanks at both ends.
 #[tactic(auto, unfolding(crate::specs::Blank::trimmed))]
 pub fn trim(text: &[u8]) -> &[u8]
     ensures { result.now ≡ trimmed text.now }

@@ -22,7 +22,7 @@ pub enum Key {
     ResumeKey,
 }
 
-/// The reserved word that a word is, in any case of letters.
+/// Returns the reserved word that a word is, in any case of letters.
 #[tactic(auto, unfolding(crate::specs::Key::key_of))]
 pub fn key_of(word: &[u8]) -> Option<Key>
     ensures { result ≡ reserved.key_of word.now }

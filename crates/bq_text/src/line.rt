@@ -10,7 +10,7 @@ fn place_of(text: &[u8], at: u8) -> Option<usize>
     text.iter().position(|b| *b == at)
 }
 
-/// The part of a text before the first such byte, and what stands behind that byte; or the whole text, where there is none.
+/// Returns the part of a text before the first such byte, and what stands behind that byte; or the whole text, where there is none.
 pub fn cut(text: &[u8], at: u8) -> (&[u8], Option<&[u8]>)
     ensures parts { slice_split (λ b. b == at) text.now ≡ result.0.now ∷ parts_behind at result.1 }
     ensures whole { IfNone result.1 (result.0.now ≡ text.now) }
@@ -22,7 +22,7 @@ pub fn cut(text: &[u8], at: u8) -> (&[u8], Option<&[u8]>)
     }
 }
 
-/// The first line of a text, without its LF, and the text of the other lines.
+/// Returns the first line of a text, without its LF, and the text of the other lines.
 pub fn first_line(text: &[u8]) -> (&[u8], &[u8])
     requires { 0 < length text.now }
     ensures lines { lines text.now ≡ result.0.now ∷ lines result.1.now }

@@ -34,7 +34,7 @@ impl Name {
     /// The most bytes of a name.
     pub const MOST_BYTES: usize = 24;
 
-    /// The name that the text is, where it is one.
+    /// Returns the name that the text is, where it is one.
     #[tactic(auto, unfolding(crate::specs::Name::is_name))]
     pub fn read(text: &[u8]) -> Option<Name>
         ensures { result ≡ (if is_name text.now then Some text.now else None) }
@@ -52,7 +52,7 @@ impl Name {
         })
     }
 
-    /// The bytes of the name.
+    /// Returns the bytes of the name.
     pub fn bytes(&self) -> &[u8]
         ensures bytes { result.now ≡ self.now }
         ensures name { IsTrue (is_name self.now) }

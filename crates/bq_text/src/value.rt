@@ -98,7 +98,7 @@ fn signed_value(digits: usize, negative: bool, amount: u64) -> Option<i64>
     }
 }
 
-/// The integer at the front of a text, which is a sign or none and then digits, and what stands behind it. None says that
+/// Returns the integer at the front of a text, which is a sign or none and then digits, and what stands behind it. None says that
 /// there is no digit, or that the integer does not have 64 bits. `+5`, `005` and `-0` are integers.
 pub fn leading_i64(text: &[u8]) -> (Option<i64>, &[u8])
     ensures value { result.0 ≡ value_of (take (integer_len text.now) text.now) }
@@ -112,7 +112,7 @@ pub fn leading_i64(text: &[u8]) -> (Option<i64>, &[u8])
     )
 }
 
-/// The integer that the text is: a sign or none, and digits, within 64 bits. `+5`, `005` and `-0` are integers.
+/// Returns the integer that the text is: a sign or none, and digits, within 64 bits. `+5`, `005` and `-0` are integers.
 pub fn read_i64(text: &[u8]) -> Option<i64>
     ensures { result ≡ value_of text.now }
 {

@@ -3,14 +3,14 @@ ghost use Rattle.std.specs.Prelude.{◌≡◌};
 ghost use Rattle.std.specs.List.{list_all, prefix_len};
 ghost use Rattle.bq_text.specs.Word as words;
 
-/// Whether a word may begin with the byte.
+/// Returns whether a word may begin with the byte.
 pub fn is_letter(byte: u8) -> bool
     ensures { result ≡ words.is_letter byte }
 {
     byte.is_ascii_alphabetic() || byte == b'_'
 }
 
-/// Whether a word may go on with the byte.
+/// Returns whether a word may go on with the byte.
 pub fn is_word_byte(byte: u8) -> bool
     ensures { result ≡ words.is_word_byte byte }
 {
@@ -23,7 +23,7 @@ fn are_word_bytes(bytes: &[u8]) -> bool
     bytes.iter().all(|b| is_word_byte(*b))
 }
 
-/// Whether the whole text is one word.
+/// Returns whether the whole text is one word.
 #[tactic(auto, using(crate::proofs::WordLists::is_word_first))]
 pub fn is_word(text: &[u8]) -> bool
     ensures { result ≡ words.is_word text.now }
@@ -34,7 +34,7 @@ pub fn is_word(text: &[u8]) -> bool
     }
 }
 
-/// Whether a word begins the text.
+/// Returns whether a word begins the text.
 pub fn begins_word(text: &[u8]) -> bool
     ensures { result ≡ words.begins_word text.now }
 {
@@ -51,7 +51,7 @@ fn word_len(text: &[u8]) -> usize
     text.iter().take_while(|b| is_word_byte(**b)).count()
 }
 
-/// The longest front of bytes that a word may go on with, and what stands behind it. The front is a word where `begins_word`.
+/// Returns the longest front of bytes that a word may go on with, and what stands behind it. The front is a word where `begins_word`.
 pub fn split_word(text: &[u8]) -> (&[u8], &[u8])
     ensures word { result.0.now ≡ words.word_of text.now }
     ensures behind { result.1.now ≡ words.behind_word text.now }

@@ -1,4 +1,5 @@
 use Rattle.std.proofs.Common.{◌≡◌, ◌∙◌, arith, ◌+◌, ◌++◌, ◌∷◌, [], length, length-append, ap, refl}
+use Rattle.bq_model.specs.declared.part.Sign.{Sign}
 use Rattle.bq_constraints.specs.PartConstraints.{AddsSign}
 use Rattle.bq_constraints.proofs.Joined.{allows_each}
 use Rattle.bq_lto_split.proofs.Steps.{room_next, room_here, room_more, not_feasible, before_added}
@@ -11,10 +12,10 @@ branch-returns-then-next_fails t c =
     let b = c.requires.before in
     nothing _ _ _ (room_next _ _ _ _ c.args.sign b c.requires.room) c.requires.few (next_refutes _ _ _ _ refl (rw c.next_fails.ensures at c.if-next_fails.true))
 
-pub deeper-returns-then-next_fails : goal.deeper-returns-then-next_fails
-deeper-returns-then-next_fails t c =
+pub greater-returns-then-next_fails : goal.greater-returns-then-next_fails
+greater-returns-then-next_fails t c =
     let b = c.requires.before in
-    nothing _ _ _ (room_next _ _ _ _ c.args.sign b c.requires.room) c.requires.few (next_refutes _ _ _ _ refl (rw (c.next_fails.ensures, c.as_slice.ensures.value) at c.if-next_fails.true))
+    nothing _ _ _ (room_next _ _ _ _ Sign.Gt b c.requires.room) c.requires.few (next_refutes _ _ _ _ refl (rw (c.next_fails.ensures, c.as_slice.ensures.value) at c.if-next_fails.true))
 
 pub branch-returns-then-not-allows_each : goal.branch-returns-then-not-allows_each
 branch-returns-then-not-allows_each t c =
@@ -27,24 +28,24 @@ branch-allows_each-requires-clause-known t c = room_here _ _ _ _ c.args.sign _ c
 
 pub deeper-add_all-requires-clause-known : goal.deeper-add_all-requires-clause-known
 deeper-add_all-requires-clause-known t c =
-    let a : AddsSign c.args.q.now c.args.signs.items c.args.sign c.next_constraints.result.now = rw c.as_slice-2.ensures.value at c.next_constraints.ensures in
+    let a : AddsSign c.args.q.now c.args.signs.items c.args.sign c.next_constraints.result.now = rw c.as_slice.ensures.value at c.next_constraints.ensures in
     room_more _ _ _ _ c.args.sign _ c.requires.before a c.requires.room
 
 pub deeper-returns-then-not-satisfiable : goal.deeper-returns-then-not-satisfiable
 deeper-returns-then-not-satisfiable t c =
     let b = c.requires.before in
-    let a : AddsSign c.args.q.now c.args.signs.items c.args.sign c.next_constraints.result.now = rw c.as_slice-2.ensures.value at c.next_constraints.ensures in
+    let a : AddsSign c.args.q.now c.args.signs.items c.args.sign c.next_constraints.result.now = rw c.as_slice.ensures.value at c.next_constraints.ensures in
     let h = c.add_all.ensures _ _ b.closure.closure in
     nothing _ _ _ (room_next _ _ _ _ c.args.sign b c.requires.room) c.requires.few (not_feasible _ _ _ _ _ _ b a (λ s. let y = (c.satisfiable.ensures _ _ h).1 s in cc))
 
 pub deeper-walk-requires : goal.deeper-walk-requires
 deeper-walk-requires t c =
     let b = c.requires.before in
-    let a : AddsSign c.args.q.now c.args.signs.items c.args.sign c.next_constraints.result.now = rw c.as_slice-2.ensures.value at c.next_constraints.ensures in
+    let a : AddsSign c.args.q.now c.args.signs.items c.args.sign c.next_constraints.result.now = rw c.as_slice.ensures.value at c.next_constraints.ensures in
     let h = c.add_all.ensures _ _ b.closure.closure in
     let n : length (c.args.signs.items ++ c.args.sign ∷ []) ≡ length c.args.signs.items + 1 = length-append c.args.signs.items (c.args.sign ∷ []) in
     let m : length c.push.new.self.items ≡ length c.args.signs.items + 1 = ap length c.push.ensures.items ∙ n in
-    (omega (arith, m, c.requires.room), (c.requires.fails, (rw c.push.ensures.items (before_added _ _ _ _ _ _ b a c.requires.room (rw (c.next_fails.ensures, c.as_slice.ensures.value) at c.if-next_fails.false) _ h ((c.satisfiable.ensures _ _ h).0 c.if-not-satisfiable.false)), c.requires.few)))
+    (omega (arith, m, c.requires.room), (c.requires.fails, (rw c.push.ensures.items (before_added _ _ _ _ _ _ b a c.requires.room c.requires.agrees _ h ((c.satisfiable.ensures _ _ h).0 c.if-not-satisfiable.false)), c.requires.few)))
 
 pub walk-returns-then-len-choices : goal.walk-returns-then-len-choices
 walk-returns-then-len-choices t c =

@@ -15,3 +15,6 @@ decreases-branch l = 5 * (length l.choices.now - length l.signs.now) + 1
 
 abbrev pub decreases-deeper : goal.decreases-deeper
 decreases-deeper l = 5 * (length l.choices.now - length l.signs.items)
+
+abbrev pub decreases-greater : goal.decreases-greater
+decreases-greater l = 5 * (length l.choices.now - length l.signs.items) + 1
