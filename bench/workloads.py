@@ -142,4 +142,122 @@ def worst():
     return Workload("a row that finds nothing, in a query of work 1.9 million", head, lambda r: f"S,{1 + r.randrange(124)}", share=100)
 
 
-WORKLOADS = [no_query(), filters(), four_conditions(False), four_conditions(True), joins(), distinct(), worst()]
+# a peer for DISTINCT joins by a room: the greatest value of one stream and the least of the other
+EXTREMES = """import sys
+out = sys.stdout.write
+most, least, told = {{}}, {{}}, set()
+for line in sys.stdin:
+    name, room, value = line.split(',')
+    room, value = int(room), int(value)
+    if name == '{stream}':
+        most[room] = max(value, most.get(room, value))
+    else:
+        least[room] = min(value, least.get(room, value))
+    if {told} and room not in told and room in most and room in least and most[room] > least[room]:
+        told.add(room)
+        out({line})
+"""
+
+
+def rooms(shared):
+    """The hot rooms with rooms 1 to 39 and no bound of the values: 25 parts. Values lie among the rooms, as 0 to 60 degrees do."""
+    word = "SHARED " if shared else ""
+    head = ["CREATE STREAM Reading (room, celsius)", "CREATE STREAM Cap (room, celsius)"]
+    head += [
+        f"CREATE {word}QUERY hot AS SELECT DISTINCT Reading.room FROM Reading, Cap WHERE Reading.room = Cap.room "
+        "AND Reading.room > 0 AND Reading.room < 40 AND Reading.celsius > Cap.celsius"
+    ]
+
+    def one(r):
+        return f"{r.choice(('Reading', 'Cap'))},{r.randrange(45)},{r.randrange(61)}"
+
+    python = EXTREMES.format(stream="Reading", told="0 < room < 40", line="'hot,%d\\n' % room")
+    name = "hot rooms of 25 parts with SHARED, 14,838 cells" if shared else "hot rooms of 25 parts, 23,970 cells"
+    return Workload(name, head, one, python=python)
+
+
+def rooms_that_count(shared):
+    """16 joins that count, each of two parts by a column of one stream alone: with SHARED the other stream has half of the cells."""
+    word = "SHARED " if shared else ""
+    head = ["CREATE STREAM S (a, b)", "CREATE STREAM T (a, b)"]
+    head += [
+        f"CREATE {word}QUERY j{i} AS SELECT S.a FROM S, T WHERE S.a = T.a AND S.a > {1024 * i} AND S.a < {1024 * (i + 1) + 1} AND S.b <> -5 AND S.b < 0"
+        for i in range(16)
+    ]
+
+    def one(r):
+        return f"{r.choice('ST')},{1 + r.randrange(16384)},{-r.randrange(1000)}"
+
+    python = """import sys
+out = sys.stdout.write
+s, t = [0] * 16385, [0] * 16385
+for line in sys.stdin:
+    name, a, b = line.split(',')
+    a, b = int(a), int(b)
+    if name == 'T':
+        t[a] += 1
+        out('j%d,%d\\n' % ((a - 1) // 1024, a) * s[a])
+    elif b < 0 and b != -5:
+        s[a] += 1
+        out('j%d,%d\\n' % ((a - 1) // 1024, a) * t[a])
+"""
+    name = "16 joins of two parts with SHARED, 3,072 cells each" if shared else "16 joins of two parts, 4,096 cells each"
+    return Workload(name, head, one, python=python)
+
+
+def filters_apart():
+    """64 filters of which a row concerns one, by the range of a column; half of the rows answer it."""
+    head = ["CREATE STREAM S (a, b, c)"]
+    head += [f"CREATE QUERY q{i} AS SELECT S.a FROM S WHERE S.b > {1000 * i - 1} AND S.b < {1000 * (i + 1)} AND S.c < 500" for i in range(64)]
+    python = """import sys
+out = sys.stdout.write
+for line in sys.stdin:
+    _, a, b, c = line.split(',')
+    if int(c) < 500:
+        out('q%d,%d\\n' % (int(b) // 1000, int(a)))
+"""
+    name = "64 filters of which a row concerns one"
+    return Workload(name, head, lambda r: f"S,{r.randrange(1000)},{r.randrange(64000)},{r.randrange(1000)}", python=python)
+
+
+def joins_apart():
+    """64 DISTINCT joins of which a row concerns one, by its room."""
+    head = ["CREATE STREAM S (a, b)", "CREATE STREAM T (a, c)"]
+    head += [
+        f"CREATE QUERY d{i} AS SELECT DISTINCT S.a FROM S, T WHERE S.a = T.a AND S.a > {100 * i + 9999} AND S.a < {100 * (i + 1) + 10000} "
+        "AND S.b > T.c AND S.b < 1000"
+        for i in range(64)
+    ]
+
+    def one(r):
+        return f"{r.choice('ST')},{10000 + r.randrange(6400)},{r.randrange(1000)}"
+
+    python = EXTREMES.format(stream="S", told="True", line="'d%d,%d\\n' % ((room - 10000) // 100, room)")
+    return Workload("64 DISTINCT joins of which a row concerns one", head, one, python=python)
+
+
+def with_cr(workload):
+    """The same rows, each with CR before its LF."""
+    return Workload(f"{workload.name}, with CR LF", workload.head, lambda r: workload.one(r) + "\r")
+
+
+def many_answers(different):
+    """A row that has 100 answers: as many equal lines, or as many different ones, of which the first column is the row's."""
+    head = ["CREATE STREAM S (a)", "CREATE STREAM T (c)"]
+    if different:
+        head += ["CREATE QUERY q AS SELECT S.a, T.c FROM S, T WHERE S.a > 0 AND S.a < 101 AND T.c > 1000 AND T.c < 1101"]
+        head += [f"T,{1001 + value}" for value in range(100)]
+    else:
+        head += ["CREATE QUERY q AS SELECT S.a FROM S, T WHERE S.a = T.c AND S.a > 0 AND S.a < 101"]
+        head += [f"T,{1 + value % 100}" for value in range(10000)]
+    lines = "''.join('q,%d,%d\\n' % (a, 1001 + c) for c in range(100))" if different else "'q,%d\\n' % a * 100"
+    python = f"import sys\nfor line in sys.stdin:\n    a = int(line.split(',')[1])\n    sys.stdout.write({lines})\n"
+    name = "a row with 100 different answers" if different else "a row with 100 equal answers"
+    return Workload(name, head, lambda r: f"S,{1 + r.randrange(100)}", python=python, share=20)
+
+
+WORKLOADS = [
+    no_query(), with_cr(no_query()), filters(), filters_apart(), four_conditions(False), four_conditions(True), with_cr(filters()),
+    joins(), joins_apart(), distinct(), rooms(False), rooms(True), rooms_that_count(False), rooms_that_count(True),
+    many_answers(False), many_answers(True), worst(),
+]

@@ -9,6 +9,9 @@ is one sign of it. Each sign of which an operator is written is one that meets i
 
 A query has the domains of its columns, each the column with its least and its greatest value. The
 ends of a domain are no constants: they bound a column, and no pair has them.
+
+A query that is shared keeps the cells of a stream once where several parts would keep equal ones;
+all else of the analysis is the same.
 """
 from collections import namedtuple
 from itertools import combinations
@@ -340,18 +343,39 @@ def extreme_of(facts, place):
     return None
 
 
-def numbers_of(query, parts):
+def box_of(query, part, place):
+    """What tells a box of a part from others: its stream, the signs within it, the dims with their
+    ranges, and what a cell keeps.
+    """
+    signs = tuple(sign for pair, sign in zip(pairs_of(query), part.signs) if is_local(pair, place))
+    dims = tuple((it, part.facts.range(it)) for it in part.dims[place])
+    kept = part.extremes[place] or "present" if query.distinct else "count"
+    return place, signs, dims, kept
+
+
+def boxes_of(query, parts):
+    """The different boxes with their sizes, in the order of their first part, then of FROM."""
+    return {box_of(query, part, place): size_of(part.facts, dims)
+            for part in parts for place, dims in enumerate(part.dims)}
+
+
+def cells_of(query, parts, shared):
+    """How many cells are kept: those of each part, or if shared those of the different boxes."""
+    if query.places == 1:
+        return 0
+    if shared:
+        return sum(boxes_of(query, parts).values())
+    return sum(size_of(part.facts, dims) for part in parts for dims in part.dims)
+
+
+def numbers_of(query, parts, shared):
     """Cells, answers and work of a query that meets all conditions."""
-    cells = answers = work = 0
-    for part in parts:
-        if query.places > 1:
-            cells += sum(size_of(part.facts, dims) for dims in part.dims)
-        answers += size_of(part.facts, sorted(set(query.select)))
-        work += work_of(query, part.facts, part.dims)
-    return cells, answers, work
+    answers = sum(size_of(part.facts, sorted(set(query.select))) for part in parts)
+    work = sum(work_of(query, part.facts, part.dims) for part in parts)
+    return cells_of(query, parts, shared), answers, work
 
 
-def analyse(query):
+def analyse(query, shared=False):
     """The verdict on a query, the pool aside, and its parts.
 
     A verdict is ("filter",), ("limit", word), ("violation", part, condition, attribute) or
@@ -370,7 +394,12 @@ def analyse(query):
         if violation:
             return Analysis(("violation", number, *violation), [])
         parts.append(part)
-    cells, answers, work = numbers_of(query, parts)
+    return of_parts(query, parts, shared)
+
+
+def of_parts(query, parts, shared):
+    """The verdict on a query that meets all conditions, by its parts."""
+    cells, answers, work = numbers_of(query, parts, shared)
     for word, value, most in (("cells", cells, MOST_CELLS), ("answers", answers, MOST_ANSWERS),
                               ("work", work, MOST_WORK)):
         if value > most:

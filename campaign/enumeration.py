@@ -138,7 +138,7 @@ def fault_of(query):
         fault = fault_of_facts(facts, members) or fault_of_links(pairs, signs, facts, members)
         if fault:
             return f"{fault} in {signs}"
-    return fault_of_numbers(query, by_box)
+    return fault_of_numbers(query, pairs, by_box)
 
 
 def fault_of_facts(facts, members):
@@ -213,18 +213,30 @@ class Seen:
 
     def violation(self):
         """The condition that fails first with the column at fault, or None."""
-        equal, less = self.links()
+        equal = self.links()[0]
         free = sorted(it for it, ends in self.ranges.items() if ends is None)
         sides = {it for pair in equal for it in pair}
         found = [("C1", it) for it in free if it in self.query.select]
         found += [("C2", it) for it in free if it in sides]
         for place in range(self.query.places):
-            least = {x for x, _ in less if x[0] == place and x in free}
-            greatest = {y for _, y in less if y[0] == place and y in free}
+            least, greatest = self.references(place)
             classes = [len({self.named(it) for it in side}) for side in (least, greatest)]
             if sum(classes) > self.query.distinct:
                 found.append(("C3", min(least | greatest)))
         return found[0] if found else None
+
+    def references(self, place):
+        """The unbounded attributes of a stream that are less, and greater, than others."""
+        less = self.links()[1]
+        return ({x for x, _ in less if x[0] == place and self.ranges[x] is None},
+                {y for _, y in less if y[0] == place and self.ranges[y] is None})
+
+    def box(self, pairs, signs, place, dims):
+        """What the cells of a stream are told by: equal boxes are kept once where they are shared."""
+        within = [it for (x, y), it in zip(pairs, signs)
+                  if x[0] == place and (isinstance(y, int) or y[0] == place)]
+        kept = [sorted(map(self.named, side)) for side in self.references(place)]
+        return place, str(within), str([(it, self.ranges[it]) for it in dims]), str(kept)
 
     def dims(self):
         """Per stream the names of the classes of bounded columns that are wanted."""
@@ -242,10 +254,13 @@ class Seen:
                                          for other in self.attributes)]) for place in (0, 1))
 
 
-def fault_of_numbers(query, by_box):
-    """What is wrong with the verdict, or None; by the assignments of each part."""
+def fault_of_numbers(query, pairs, by_box):
+    """What is wrong with the verdict, or None; by the assignments of each part.
+
+    The cells are counted twice: in each part, and each box that is there once.
+    """
     cells = answers = work = 0
-    wanted = None
+    shared, wanted = {}, None
     for number, signs in enumerate(sorted(by_box), 1):
         seen = Seen(query, by_box[signs])
         violation = seen.violation()
@@ -254,8 +269,12 @@ def fault_of_numbers(query, by_box):
             break
         dims = seen.dims()
         cells += sum(map(seen.size, dims))
+        shared.update((seen.box(pairs, signs, place, it), seen.size(it)) for place, it in enumerate(dims))
         answers += seen.size(set(query.select))
         work += seen.work(dims)
-    wanted = wanted or ("ok", len(by_box), cells, answers, work)
-    got = analysis.analyse(query).verdict
-    return None if got == wanted else f"verdict {got}, wanted {wanted}"
+    for is_shared, kept in ((False, cells), (True, sum(shared.values()))):
+        numbers = wanted or ("ok", len(by_box), kept, answers, work)
+        got = analysis.analyse(query, is_shared).verdict
+        if got != numbers:
+            return f"verdict {got}, wanted {numbers}"
+    return None

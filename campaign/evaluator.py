@@ -49,11 +49,15 @@ def resolve(statement, streams, domains):
     return query._replace(domains=tuple((it, *domain) for it, domain in ends if domain))
 
 
-def verdict_on(query):
+def verdict_on(query, shared=False):
     """The analysis of a query, kept since scripts repeat queries."""
-    if query not in VERDICTS:
-        VERDICTS[query] = analysis.analyse(query)
-    return VERDICTS[query]
+    if (query, shared) not in VERDICTS:
+        other = VERDICTS.get((query, not shared))
+        if other and other.parts:
+            VERDICTS[query, shared] = analysis.of_parts(query, other.parts, shared)
+        else:
+            VERDICTS[query, shared] = other or analysis.analyse(query, shared)
+    return VERDICTS[query, shared]
 
 
 class LiveQuery:
@@ -178,7 +182,7 @@ class Session:
         if len(self.queries) >= MOST_QUERIES:
             raise Refused("TooMany")
         query = self.resolve(statement)
-        found = verdict_on(query)
+        found = verdict_on(query, statement.shared)
         verdict = found.verdict
         name = statement.name
         if verdict[0] == "violation":

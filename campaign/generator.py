@@ -1,14 +1,15 @@
 """Random scripts. The writer asks the evaluator for the reply to each line that it writes.
 
 So it knows which queries live, and drops those whose answers become too many. What share of the
-inequalities is soft, and what share of the columns has a domain, the environment sets; with a share
-of 0 none is or has, and scripts are made without a thought of them.
+inequalities is soft, what share of the columns has a domain, and what share of the queries is shared,
+the environment sets; with a share of 0 none is or has, and scripts are made without a thought of
+them.
 """
 import re
 
 from evaluator import Session
 from language import (DOMAIN_SHARE, GREATEST_VALUE, LARGEST_INTEGER, LEAST_VALUE, MOST_SOFT,
-                      SOFT_SHARE)
+                      SHARED_SHARE, SOFT_SHARE)
 
 MOST_ANSWER_BYTES = 4000
 STREAM_NAMES = [b"S", b"T", b"U", b"W", b"R", b"L", b"s", b"_x", b"temp_1", b"reading", b"Q1", b"Zz",
@@ -48,6 +49,16 @@ DOMAIN_LINES = [b"CREATE STREAM K (a IN 0...9)", b"CREATE STREAM K (a IN 0.9)",
                 b"CREATE STREAM K (a IN 0..9, a)", b"CREATE STREAM K (a IN 0..9;)",
                 b"CREATE QUERY q AS SELECT S.a IN 0..9 FROM S", b"CREATE STREAM K (a IN 0<9)",
                 b"CREATE STREAM K (" + b"n" * 25 + b" IN 0..1)", b"CREATE STREAM K (a IN 0..1.)"]
+SHARED_LINES = [b"CREATE SHARED", b"CREATE SHARED QUERY", b"CREATE SHARED QUERY q", b"shared,1",
+                b"CREATE SHARED STREAM K (a)", b"CREATE STREAM SHARED (a)", b"CREATE STREAM K (shared)",
+                b"CREATE SHARED SHARED QUERY q AS SELECT S.a FROM S", b"DROP SHARED QUERY q",
+                b"CREATE QUERY SHARED q AS SELECT S.a FROM S", b"EXPLAIN SHARED q", b"SHARED",
+                b"CREATE QUERY SHARED AS SELECT S.a FROM S", b"SHARED QUERY q AS SELECT S.a FROM S",
+                b"CREATE SHARED QUERY AS SELECT S.a FROM S", b"CREATE SHAREDQUERY q AS SELECT S.a FROM S",
+                b"CREATE SHARED QUERY q AS SELECT SHARED.a FROM SHARED", b"CREATE SHARED AS QUERY",
+                b"CREATE QUERY q SHARED AS SELECT S.a FROM S", b"CREATE SHARED, QUERY q AS SELECT S.a FROM S",
+                b"CREATE QUERY q AS SHARED SELECT S.a FROM S", b"CREATE SHARED q AS SELECT S.a FROM S"]
+SHARED_FORMS = [b"SHARED"] * 6 + [b"shared", b"Shared", b"sHARed"]
 # a domain as it is printed, and as it may be written besides
 DOMAIN_FORMS = [b" IN %d..%d"] * 6 + [b" IN %d .. %d", b" in %d. .%d", b" In\t%d . . %d",
                                       b" IN %+d..%+d", b" iN %04d..%05d", b" IN %d.. %d"]
@@ -233,7 +244,14 @@ class Writer:
         text = text or self.query_text()
         if self.chance(0.03):
             text = self.spoiled(text)
-        return self.statement(b"CREATE QUERY " + name + b" AS " + text)
+        return self.statement(self.created(name, text))
+
+    def created(self, name, text):
+        """The statement that creates a query, shared or not."""
+        word = b""
+        if SHARED_SHARE and self.chance(SHARED_SHARE):
+            word = self.random.choice(SHARED_FORMS) + b" "
+        return b"CREATE " + word + b"QUERY " + name + b" AS " + text
 
     def spoiled(self, text):
         """A query with a fault of its own kind."""
@@ -282,7 +300,7 @@ class Writer:
             self.statement(b"DROP QUERY " + max(set(names), key=names.count))
 
     def hostile(self):
-        lines = LINES + DOMAIN_LINES if DOMAIN_SHARE else LINES
+        lines = LINES + (DOMAIN_LINES if DOMAIN_SHARE else []) + (SHARED_LINES if SHARED_SHARE else [])
         self.write(self.spaced(self.random.choice(lines)))
 
     # whole scripts

@@ -4,7 +4,8 @@ Everything here works on bytes. A statement that is refused raises Refused with 
 
 The comparisons `<=`, `>=` and `<>` are called soft. CAMPAIGN_SOFT in the environment is the share
 of them in random queries. A column may have a domain, the integers from one to another, and a row
-outside it is refused. CAMPAIGN_DOMAINS is the share of columns with a domain in random streams.
+outside it is refused. CAMPAIGN_DOMAINS is the share of columns with a domain in random streams. A
+query may be shared. CAMPAIGN_SHARED is the share of such ones among random queries.
 """
 import os
 import re
@@ -27,6 +28,8 @@ SOFT_SHARE = float(os.environ.get("CAMPAIGN_SOFT") or 0.4)
 # the share of the columns of random streams that have a domain; with 0 none has, and there is no
 # line about domains among the random ones
 DOMAIN_SHARE = float(os.environ.get("CAMPAIGN_DOMAINS") or 0.4)
+# the share of the random queries that are shared; with 0 none is, and no random line says so
+SHARED_SHARE = float(os.environ.get("CAMPAIGN_SHARED") or 0.4)
 HARD_OPERATORS = ("<", "=", ">")
 SOFT_OPERATORS = ("<=", ">=", "<>")
 OPERATORS = HARD_OPERATORS + SOFT_OPERATORS
@@ -43,7 +46,7 @@ VALUE = re.compile(rb"[+-]?[0-9]+\Z")
 
 # The domains stand beside the columns: each a pair of integers, or None.
 CreateStream = namedtuple("CreateStream", "name columns domains")
-CreateQuery = namedtuple("CreateQuery", "name distinct select streams atoms")
+CreateQuery = namedtuple("CreateQuery", "name distinct select streams atoms shared", defaults=[False])
 Explain = namedtuple("Explain", "name")
 DropQuery = namedtuple("DropQuery", "name")
 # A column is a pair of names; an operand is such a pair or an integer.
@@ -169,6 +172,7 @@ def read_stream(reader):
 
 
 def read_query(reader):
+    shared = reader.takes("SHARED")
     reader.take("QUERY")
     name = reader.name()
     reader.take("AS")
@@ -178,7 +182,7 @@ def read_query(reader):
     reader.take("FROM")
     streams = reader.list_of(reader.name, ",")
     atoms = reader.list_of(reader.atom, "AND") if reader.takes("WHERE") else []
-    return CreateQuery(name, distinct, select, streams, atoms)
+    return CreateQuery(name, distinct, select, streams, atoms, shared)
 
 
 def read_statement(reader):
@@ -288,4 +292,5 @@ def print_statement(statement):
     if isinstance(statement, CreateStream):
         columns = b", ".join(map(print_column, statement.columns, statement.domains))
         return b"CREATE STREAM " + statement.name + b" (" + columns + b")"
-    return b"CREATE QUERY " + statement.name + b" AS " + print_select(statement)
+    words = b"CREATE SHARED QUERY " if statement.shared else b"CREATE QUERY "
+    return words + statement.name + b" AS " + print_select(statement)

@@ -5,8 +5,8 @@ and marks at random. At the end known rows must still be answered rightly.
 """
 from common import Part, compare, scaled
 from evaluator import Session
-from generator import DOMAIN_LINES, QUERY_NAMES, Writer
-from language import DOMAIN_SHARE
+from generator import DOMAIN_LINES, QUERY_NAMES, SHARED_LINES, Writer
+from language import DOMAIN_SHARE, SHARED_SHARE
 
 SCRIPTS = 600
 LENGTH = 120
@@ -39,6 +39,17 @@ if DOMAIN_SHARE:
     SHAPES += DOMAIN_SHAPES + DOMAIN_LINES
     KNOWN += DOMAIN_HEAD
     TAIL += DOMAIN_TAIL
+# with shared cells a known stream and a query more, of which some boxes are shared
+SHARED_HEAD = [b"CREATE STREAM beyond (c)",
+               b"CREATE SHARED QUERY k5 AS SELECT DISTINCT known.a FROM known, beyond WHERE "
+               b"known.b < beyond.c AND known.a > 0 AND known.a < 4"]
+SHARED_TAIL = [b"beyond,5", b"beyond,20", b"known,2,7", b"known,2,0", b"EXPLAIN k5"]
+if SHARED_SHARE:
+    WORDS += [b"SHARED", b"Shared", b"SHARED QUERY"]
+    SHAPES += [b"CREATE SHARED QUERY # AS SELECT DISTINCT S.a FROM S # WHERE S.a # # AND S.a < 3 #",
+               b"CREATE # QUERY q AS SELECT S.a FROM S", *SHARED_LINES]
+    KNOWN += SHARED_HEAD
+    TAIL += SHARED_TAIL
 
 
 def changed(random, line):

@@ -1,8 +1,11 @@
 """The campaign's own files tried on each other; no program is run.
 
 The checker must take certificates of the campaign's own making, and say nothing wrong of changed
-ones. An evaluator over cells must answer each row as the evaluator over rows does.
+ones. An evaluator over cells must answer each row as the evaluator over rows does, and so must one
+over shared cells; at the end the cells of each part and stream must be those of their box.
 """
+import operator
+
 import analysis
 import checker
 import language
@@ -74,26 +77,36 @@ def try_cells(part, scale):
 
 
 def compare_over_cells(part, writer, live):
-    """Gives some rows to one query in both ways."""
-    cells = Synopsis(live.query, live.found.parts)
-    part.count("queries over cells")
-    part.count("of them with an extreme", int(any(any(it.extremes) for it in live.found.parts)))
-    part.count("with a domain", int(bool(live.query.domains)))
-    part.count("with a soft comparison between streams", int(any(
-        not analysis.is_local(it, it[0][0]) for it in analysis.soft_pairs(live.query))))
+    """Gives some rows to one query over its rows, over its cells, and over cells that are shared."""
+    query, parts = live.query, live.found.parts
+    apart, shared = (Synopsis(query, parts, it) for it in (False, True))
+    most = [analysis.cells_of(query, parts, it) for it in (False, True)]
+    count_over_cells(part, live, most)
     streams = live.statement.streams
     for _ in range(ROWS_OVER_CELLS):
         stream = writer.random.choice(streams)
         row = [writer.number_in(it, -3, 9) for it in writer.session.domains[stream]]
         wanted = live.answers(stream, row)
         part.count("answers over cells", len(wanted))
-        if cells.answers(streams.index(stream), row) != wanted:
+        if any(it.answers(streams.index(stream), row) != wanted for it in (apart, shared)):
             part.differs(f"cells answer {stream},{row} otherwise: "
                          f"{language.print_statement(live.statement)}")
             return
-    _, _, announced, answers, _ = live.found.verdict
-    if cells.in_use() > announced or len(cells.printed) > answers:
+    if any(apart.kept(*it) != shared.kept(*it) for it in apart.boxes):
+        part.differs(f"shared cells keep something else: {language.print_statement(live.statement)}")
+    used = [it.in_use() for it in (apart, shared)]
+    if any(map(operator.gt, used, most)) or len(apart.printed) > live.found.verdict[3]:
         part.differs(f"too many cells or answers: {language.print_statement(live.statement)}")
+
+
+def count_over_cells(part, live, most):
+    """Counts a query by what it has."""
+    part.count("queries over cells")
+    part.count("of them with fewer cells where they are shared", int(most[1] < most[0]))
+    part.count("with an extreme", int(any(any(it.extremes) for it in live.found.parts)))
+    part.count("with a domain", int(bool(live.query.domains)))
+    part.count("with a soft comparison between streams", int(any(
+        not analysis.is_local(it, it[0][0]) for it in analysis.soft_pairs(live.query))))
 
 
 def run(program, seed, scale):

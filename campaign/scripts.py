@@ -3,7 +3,7 @@ import analysis
 import evaluator
 from common import Part, compare, scaled
 from generator import Writer
-from language import DOMAIN_SHARE
+from language import DOMAIN_SHARE, SHARED_SHARE
 
 LINES = 102_000
 LENGTH = 300
@@ -36,6 +36,18 @@ DOMAIN_LARGE = [
 ]
 if DOMAIN_SHARE:
     LARGE += DOMAIN_LARGE
+# cells at the limit: some pass it only where they are not shared, and some even where they are
+SHARED_LARGE = [
+    (b"SELECT V.b FROM V, T WHERE V.a = T.c AND V.a > 10 AND V.a < %d AND V.b = 0 AND V.d < 2",
+     (43701, 43702, 65547, 65548)),
+    (b"SELECT V.b FROM V, T, U WHERE V.a = T.c AND V.a > 10 AND V.a < %d AND V.b = 0 AND V.d < 2",
+     (43701, 65546, 65547)),
+    (b"SELECT DISTINCT S.a FROM S, T WHERE S.b < T.c AND S.a > 0 AND S.a < %d", (359, 360, 361, 362)),
+    (b"SELECT DISTINCT S.a FROM S, T WHERE S.b < T.c AND S.b < 3 AND S.a > 10 AND S.a < %d",
+     (100, 9373, 9374)),
+]
+if SHARED_SHARE:
+    LARGE += SHARED_LARGE
 
 
 def count_replies(part, writer):
@@ -54,10 +66,12 @@ def count_replies(part, writer):
 
 def count_queries(part):
     """Counts the different accepted queries by what they are."""
-    for query, found in evaluator.VERDICTS.items():
+    for (query, shared), found in evaluator.VERDICTS.items():
         if found.verdict[0] != "ok":
             continue
         part.count("different accepted queries")
+        part.count("shared", int(shared))
+        part.count("with fewer cells", int(shared and has_equal_boxes(query, found)))
         part.count("with a domain", int(bool(query.domains)))
         soft = bool(analysis.soft_atoms(query))
         part.count("with a soft comparison", int(soft))
@@ -66,6 +80,11 @@ def count_queries(part):
         part.count("with DISTINCT", int(query.distinct))
         extremes = query.distinct and any(any(it.extremes) for it in found.parts)
         part.count("with an extreme", int(extremes))
+
+
+def has_equal_boxes(query, found):
+    """Whether some cells of an accepted query are kept once for several parts."""
+    return analysis.cells_of(query, found.parts, False) > found.verdict[2]
 
 
 def large(part):
@@ -77,7 +96,7 @@ def large(part):
     for number in range(40):
         text, sizes = part.random.choice(LARGE)
         size = part.random.choice(sizes)
-        writer.write(b"CREATE QUERY n%d AS " % number + text.replace(b"%d", b"%d" % size))
+        writer.write(writer.created(b"n%d" % number, text.replace(b"%d", b"%d" % size)))
         if writer.chance(0.3) and writer.session.queries:
             writer.write(b"DROP QUERY " + part.random.choice(list(writer.session.queries)))
     for _ in range(30):

@@ -2,7 +2,8 @@
 
 A cell belongs to a part, a stream and values of its dims, and has what the plan keeps of the rows
 that the part admits with these values. The answers to a row are all combinations of one cell of
-each other stream that meet the links of the part.
+each other stream that meet the links of the part. If the query is shared, parts with the same box of
+a stream have its cells together, and a row changes them once.
 """
 from collections import Counter, defaultdict
 from itertools import product
@@ -15,10 +16,12 @@ COUNT, PRESENT = "count", "present"
 class Synopsis:
     """The cells of an accepted query that is no filter, and what it has printed."""
 
-    def __init__(self, query, parts):
+    def __init__(self, query, parts, shared=False):
         self.query, self.parts, self.printed = query, parts, set()
         self.pairs = analysis.pairs_of(query)
-        # by the number of the part and the place of the stream: contents by values of the dims
+        # the box of each part and place, and by it the contents by values of the dims
+        self.boxes = {(number, place): analysis.box_of(query, part, place) if shared else (number, place)
+                      for number, part in enumerate(parts) for place in range(query.places)}
         self.cells = defaultdict(dict)
 
     def admits(self, part, place, of):
@@ -39,7 +42,8 @@ class Synopsis:
 
     def keep(self, number, part, place, of):
         """Changes the one cell of a part that the row belongs to."""
-        cells, values = self.cells[number, place], tuple(of[it] for it in part.dims[place])
+        cells = self.kept(number, place)
+        values = tuple(of[it] for it in part.dims[place])
         word, column = self.kind(part, place)
         old = cells.get(values)
         if word == COUNT:
@@ -53,11 +57,15 @@ class Synopsis:
     def cells_of(self, number, part, place):
         """The cells that are not empty, each as values of attributes and a count."""
         word, column = self.kind(part, place)
-        for values, content in self.cells[number, place].items():
+        for values, content in self.kept(number, place).items():
             of = dict(zip(part.dims[place], values))
             if column is not None:
                 of[column] = content
             yield of, content if word == COUNT else 1
+
+    def kept(self, number, place):
+        """What is kept of a stream for a part: contents by values of the dims."""
+        return self.cells[self.boxes[number, place]]
 
     def in_use(self):
         """How many cells are not empty."""
@@ -66,7 +74,7 @@ class Synopsis:
     def answers(self, place, row):
         """The new answers that a row gives, ascending; `row` has the value of each column."""
         of = {(place, column): value for column, value in enumerate(row)}
-        found = Counter()
+        found, changed = Counter(), set()
         for number, part in enumerate(self.parts):
             if not self.admits(part, place, of):
                 continue
@@ -74,7 +82,8 @@ class Synopsis:
             cells = [list(self.cells_of(number, part, it)) for it in others]
             for chosen in product(*cells):
                 self.combine(part, of, chosen, found)
-            if self.query.places > 1:
+            if self.query.places > 1 and self.boxes[number, place] not in changed:
+                changed.add(self.boxes[number, place])
                 self.keep(number, part, place, of)
         if not self.query.distinct:
             return sorted(found.elements())
