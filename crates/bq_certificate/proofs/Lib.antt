@@ -34,3 +34,4 @@ pub mod LeafOrder
 pub mod LeafRefs
 pub mod Choosing
 pub mod LeavesDecided
+pub mod AcrossGroups

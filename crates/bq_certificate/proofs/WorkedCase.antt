@@ -1,5 +1,5 @@
 -- A certificate that is good: that of SELECT DISTINCT S.a FROM S WHERE S.a > 5 AND S.a < 7, which has one part.
-use Rattle.std.proofs.Common.{◌≡◌, ℕ, zero, suc, ◌<◌, ◌≤◌, ◌-◌, ℤ, pos, neg_ℤ, ◌+ℤ◌, ◌<ℤ◌, true, inl, refl, sym, subst, arith, Some, List, [], ◌∷◌, length, slice_get}
+use Rattle.std.proofs.Common.{◌≡◌, ℕ, zero, suc, ◌<◌, ◌≤◌, ◌-◌, ℤ, pos, neg_ℤ, ◌+ℤ◌, ◌<ℤ◌, true, false, inl, refl, sym, subst, arith, Some, List, [], ◌∷◌, length, slice_get}
 use Rattle.std.proofs.lemmas.Int.{ints}
 use Rattle.bq_model.specs.declared.atom.Attr.{Attr}
 use Rattle.bq_model.specs.declared.atom.Element.TheVariants as element
@@ -35,6 +35,7 @@ query = record {
   select = column ∷ [];
   atoms = record { left = element.Attr column; op = Op.Gt; right = element.Const (pos 5) } ∷ record { left = element.Attr column; op = Op.Lt; right = element.Const (pos 7) } ∷ [];
   domains = [];
+  compact = false;
 }
 
 -- the certificate

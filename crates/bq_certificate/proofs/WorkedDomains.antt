@@ -51,6 +51,7 @@ query = record {
   select = column ∷ other ∷ plain ∷ [];
   atoms = record { left = element.Attr column; op = Op.Ne; right = element.Const (pos 2) } ∷ record { left = element.Attr column; op = Op.Gt; right = element.Const (pos 1) } ∷ [];
   domains = record { attr = column; lo = pos 1; hi = pos 3 } ∷ record { attr = other; lo = pos 0; hi = pos 9 } ∷ [];
+  compact = false;
 }
 
 -- the two paths of the leaf

@@ -30,6 +30,7 @@ query = record {
       ∷ record { left = element.Attr column; op = Op.Ne; right = element.Const (pos 6) }
       ∷ [];
   domains = [];
+  compact = false;
 }
 
 -- the certificate

@@ -9,6 +9,7 @@ pub mod Certificate
 pub mod Laws
 pub mod TreeLaws
 pub mod LeafLaws
+pub mod GroupLaws
 pub mod Chained
 pub mod Bounds
 pub mod Standing

@@ -2,6 +2,7 @@
 ghost use Rattle.bq_certificate.specs.Laws.{OneLine, LinesAreWhole, PrintsBack, CertificatesPrintBack, CertificatesAreTaken};
 ghost use Rattle.bq_certificate.specs.TreeLaws.{GoodIsTree, ListOneTree, LeavesOfTreeAreParts, LeavesAreParts, HasOneAnswer, HasOneFault, FaultsAreBad};
 ghost use Rattle.bq_certificate.specs.LeafLaws.{LeavesAreTight};
+ghost use Rattle.bq_certificate.specs.GroupLaws.{EqualAcrossIsFixed};
 
 /// No text is two lines.
 pub fn one_line()
@@ -67,4 +68,9 @@ pub fn one_fault()
 /// Nodes with a fault are no good tree.
 pub fn faults_are_bad()
     ensures { FaultsAreBad }
+{}
+
+/// Two columns of different groups that are equal in every assignment of a part have one value there, and so they are bounded.
+pub fn equal_across_is_fixed()
+    ensures { EqualAcrossIsFixed }
 {}

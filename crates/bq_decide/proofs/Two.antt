@@ -1,15 +1,13 @@
 -- References that are not of one class on one side.
-use Rattle.std.proofs.Common.{◌≡◌, ◌↔◌, Bool, true, false, IsTrue, List, Contains, refl, sym, ◌∙◌, subst}
+use Rattle.std.proofs.Common.{◌≡◌, ◌↔◌, Bool, true, false, IsTrue, List, Contains, refl, sym, subst}
 use Rattle.std.specs.List.{Any}
 use Rattle.bq_model.specs.declared.atom.Attr.{Attr}
-use Rattle.bq_model.specs.declared.atom.Element.TheVariants as element
 use Rattle.bq_model.specs.declared.part.Sign.{Sign}
 use Rattle.bq_model.specs.Query.{QueryValue}
-use Rattle.bq_model.specs.Order.{IsEqual}
-use Rattle.bq_model.specs.Links.{IsMinRef, IsMaxRef, HasTwoRefs, AreTwoRefs, two_mins, two_maxes, both}
+use Rattle.bq_model.specs.Links.{AreOneClass, IsMinRef, IsMaxRef, HasTwoRefs, AreTwoRefs, two_mins, two_maxes, both}
 use Rattle.bq_refs.specs.declared.told.Refs.{Refs}
 use Rattle.bq_refs.specs.Refs.{AreRefs}
-use Rattle.bq_decide.proofs.Told.{contains_from_any, any_from_contains}
+use Rattle.bq_decide.proofs.Told.{contains_from_any, any_from_contains, turned, joined}
 use Rattle.bq_decide.specs.Deciding.{AreNamedAll, IsOther}
 
 module _ (q : QueryValue) (s : List Sign) (refs : Refs) (r : AreRefs q s refs) where
@@ -32,8 +30,8 @@ module _ (q : QueryValue) (s : List Sign) (refs : Refs) (r : AreRefs q s refs) w
   any_from_max a xs e m = any_from_contains xs a (subst (λ (z : List Attr). Contains z a) (sym e) ((r.max_ref a).1 m))
 
   -- what is not apart from one is not apart from another
-  not_apart : (a b c : Attr) → ¬ (¬ IsEqual q s (element.Attr a) (element.Attr b)) → ¬ (¬ IsEqual q s (element.Attr a) (element.Attr c)) → ¬ IsEqual q s (element.Attr b) (element.Attr c) → ⊥
-  not_apart a b c f g n = f (λ h. g (λ k. n record { equal = λ v j. sym (h.equal v j) ∙ k.equal v j }))
+  not_apart : (a b c : Attr) → ¬ (¬ AreOneClass q s a b) → ¬ (¬ AreOneClass q s a c) → ¬ AreOneClass q s b c → ⊥
+  not_apart a b c f g n = f (λ h. g (λ k. n (joined q s b a c (turned q s a b h) k)))
 
   module _ (a : Attr) (mins maxes : List Attr) (e : mins ≡ refs.min_ref.items) (f : maxes ≡ refs.max_ref.items) where
     is_min : (b : Attr) → Contains mins b → IsMinRef q s b
@@ -60,7 +58,7 @@ module _ (q : QueryValue) (s : List Sign) (refs : Refs) (r : AreRefs q s refs) w
     pub max_and_max : IsMaxRef q s a → Any (IsOther q s a) maxes → HasTwoRefs q s a.stream
     max_and_max m w = record { first = a; second = w.1; here = refl; there = sym w.4.0; two = two_maxes m (is_max w.1 (w.0, w.2, w.3)) w.4.1 }
 
-    other_in : (xs : List Attr) (b : Attr) → Contains xs b → b.stream ≡ a.stream → ¬ Any (IsOther q s a) xs → ¬ (¬ IsEqual q s (element.Attr a) (element.Attr b))
+    other_in : (xs : List Attr) (b : Attr) → Contains xs b → b.stream ≡ a.stream → ¬ Any (IsOther q s a) xs → ¬ (¬ AreOneClass q s a b)
     other_in xs b c h n g = n (c.0, b, c.1, c.2, (sym h, g))
 
     two_with_min : (b c : Attr) → b.stream ≡ a.stream → c.stream ≡ a.stream → AreTwoRefs q s b c → ¬ Any (λ z. z.stream ≡ a.stream) maxes → ¬ Any (IsOther q s a) mins → ⊥

@@ -8,7 +8,7 @@ ghost use Rattle.bq_model.specs.Violation.{Breaks};
 ghost use Rattle.bq_refs.specs.Refs.{AreRefs};
 ghost use Rattle.bq_decide.specs.Deciding.{AreNamedAll, IsOther};
 
-use crate::bounded::are_equal;
+use crate::bounded::are_one_class;
 use crate::looking::{has_stream, is_among};
 use bq_model::{Attr, Part, Query};
 use bq_refs::Refs;
@@ -20,7 +20,7 @@ fn is_other(q: &Query, p: &Part, refs: &Refs, a: Attr, b: Attr) -> bool
     requires right { Contains (attrs_of q.now.atoms) b }
     ensures { IsTrue result ↔ IsOther q.now p.now.signs.items a b }
 {
-    a.stream == b.stream && !are_equal(q, p, refs, a, b)
+    a.stream == b.stream && !are_one_class(q, p, refs, a, b)
 }
 
 // Whether some column is of the stream of another, and not of its class.

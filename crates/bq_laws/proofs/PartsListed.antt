@@ -1,11 +1,13 @@
 -- That a list has all parts of a query, by going through the signs of its pairs with a table of bounds.
-use Rattle.std.proofs.Common.{◌≡◌, inl, inr, List, [], ◌∷◌, ◌++◌, map, cond, Bool, true, false, ◌&&◌, ◌||◌, not, refl, subst, arith, ℤ, pos, ◌+ℤ◌, ◌≤ℤ◌}
+use Rattle.std.proofs.Common.{◌≡◌, inl, inr, List, [], ◌∷◌, ◌++◌, map, cond, Bool, true, false, ◌&&◌, ◌||◌, not, refl, subst, arith, ℤ, pos, ◌+ℤ◌, ◌-ℤ◌, ◌≤ℤ◌}
 use Rattle.std.proofs.lemmas.Int.{ints}
 use Rattle.std.specs.List.{list_all, list_any}
 use Rattle.bq_model.proofs.Has.{Has, first, later}
+use Rattle.bq_model.proofs.Domains.{keeps_each, lies_low, lies_high}
 use Rattle.bq_model.proofs.Holding.{Compares-from_test}
 use Rattle.bq_model.proofs.Local.{lt_from_sign, eq_from_sign, gt_from_sign}
 use Rattle.bq_model.specs.declared.atom.Atom.{Atom}
+use Rattle.bq_model.specs.declared.atom.Domain.{Domain}
 use Rattle.bq_model.specs.declared.atom.Element.{Element}
 use Rattle.bq_model.specs.declared.atom.Element.TheVariants as element
 use Rattle.bq_model.specs.declared.atom.Op.{Op}
@@ -13,7 +15,7 @@ use Rattle.bq_model.specs.declared.part.Pair.{Pair}
 use Rattle.bq_model.specs.declared.part.Sign.{Sign}
 use Rattle.bq_model.specs.Query.{QueryValue, attrs_of, consts_of}
 use Rattle.bq_model.specs.Admission.{sign_eq}
-use Rattle.bq_model.specs.Assignment.{Assignment, value, compares, meets}
+use Rattle.bq_model.specs.Assignment.{Assignment, value, compares, meets, lies_in, KeepsDomains}
 use Rattle.bq_model.specs.Parts.{pairs, sign, sign_at, InPart}
 use Rattle.bq_laws.proofs.Tests.{and-left, and-right, sign_eq-is}
 use Rattle.bq_laws.proofs.OnePartFits.{has_cases}
@@ -75,11 +77,42 @@ with_signs-holds v all table (p ∷ ps) t =
     (with_sign-holds v all table (sign_at v p) (element.Attr p.left) p.right
     (stands-signed (sign_at v p) (v p.left) (value p.right v) refl) t)
 
-abbrev pub root_table : QueryValue → List (List Bound)
-root_table q = with_atoms (elements_of q) (first_table (elements_of q)) q.atoms
+-- and of domains, over a constant
+abbrev pub with_domain : List Element → List (List Bound) → ℤ → Domain → List (List Bound)
+with_domain all table k d =
+    with_bound all (with_bound all table (element.Attr d.attr) (element.Const k) (d.hi -ℤ k)) (element.Const k) (element.Attr d.attr) (k -ℤ d.lo)
 
-root-holds : (q : QueryValue) (v : Assignment) → list_all (meets v) q.atoms ≡ true → TableHolds v (elements_of q) (elements_of q) (root_table q)
-root-holds q v h = with_atoms-holds v (elements_of q) (first_table (elements_of q)) q.atoms h (first_table-holds v (elements_of q))
+abbrev pub with_domains : List Element → List (List Bound) → ℤ → List Domain → List (List Bound)
+with_domains all table k [] = table
+with_domains all table k (d ∷ ds) = with_domains all (with_domain all table k d) k ds
+
+-- where there is one
+abbrev pub with_ends : List Element → List (List Bound) → List ℤ → List Domain → List (List Bound)
+with_ends all table [] ds = table
+with_ends all table (k ∷ ks) ds = with_domains all table k ds
+
+with_domains-holds : (v : Assignment) (all : List Element) (table : List (List Bound)) (k : ℤ) (ds : List Domain)
+    → ((d : Domain) → Has ds d → lies_in d (v d.attr) ≡ true) → TableHolds v all all table → TableHolds v all all (with_domains all table k ds)
+with_domains-holds v all table k [] f t = t
+with_domains-holds v all table k (d ∷ ds) f t =
+    let low : d.lo ≤ℤ v d.attr = lies_low d (v d.attr) (f d first) in
+    let high : v d.attr ≤ℤ d.hi = lies_high d (v d.attr) (f d first) in
+    with_domains-holds v all (with_domain all table k d) k ds (λ e i. f e (later i))
+    (with_bound-holds v all (with_bound all table (element.Attr d.attr) (element.Const k) (d.hi -ℤ k)) (element.Const k) (element.Attr d.attr) (k -ℤ d.lo) (omega (arith, ints, low))
+    (with_bound-holds v all table (element.Attr d.attr) (element.Const k) (d.hi -ℤ k) (omega (arith, ints, high)) t))
+
+with_ends-holds : (v : Assignment) (all : List Element) (table : List (List Bound)) (ks : List ℤ) (ds : List Domain)
+    → ((d : Domain) → Has ds d → lies_in d (v d.attr) ≡ true) → TableHolds v all all table → TableHolds v all all (with_ends all table ks ds)
+with_ends-holds v all table [] ds f t = t
+with_ends-holds v all table (k ∷ ks) ds f t = with_domains-holds v all table k ds f t
+
+abbrev pub root_table : QueryValue → List (List Bound)
+root_table q = with_ends (elements_of q) (with_atoms (elements_of q) (first_table (elements_of q)) q.atoms) (consts_of q.atoms) q.domains
+
+root-holds : (q : QueryValue) (v : Assignment) → list_all (meets v) q.atoms ≡ true → KeepsDomains q v → TableHolds v (elements_of q) (elements_of q) (root_table q)
+root-holds q v h k =
+    with_ends-holds v (elements_of q) (with_atoms (elements_of q) (first_table (elements_of q)) q.atoms) (consts_of q.atoms) q.domains (keeps_each q v k)
+    (with_atoms-holds v (elements_of q) (first_table (elements_of q)) q.atoms h (first_table-holds v (elements_of q)))
 
 -- the table of a part
 abbrev pub part_table : QueryValue → List Sign → List (List Bound)
@@ -88,7 +121,7 @@ part_table q s = with_signs (elements_of q) (root_table q) (pairs q) s
 pub part_table-holds : (q : QueryValue) (s : List Sign) (v : Assignment) → InPart q s v → TableHolds v (elements_of q) (elements_of q) (part_table q s)
 part_table-holds q s v i =
     subst (λ (t : List Sign). TableHolds v (elements_of q) (elements_of q) (with_signs (elements_of q) (root_table q) (pairs q) t)) i.signs
-    (with_signs-holds v (elements_of q) (root_table q) (pairs q) (root-holds q v i.holds))
+    (with_signs-holds v (elements_of q) (root_table q) (pairs q) (root-holds q v i.holds i.domains))
 
 -- what follows a sign in the vectors that begin with it
 abbrev pub behind : Sign → List (List Sign) → List (List Sign)
@@ -168,5 +201,5 @@ module _ (v : Assignment) (all : List Element) where
       by table p ps xs t (sign_at v p) refl (three _ _ _ h) (λ s ys u k. covers-has (with_sign all table s (element.Attr p.left) p.right) ps ys u k)
 
 pub all-parts : (q : QueryValue) (v : Assignment) (xs : List (List Sign)) → covers (elements_of q) (root_table q) (pairs q) xs ≡ true
-    → list_all (meets v) q.atoms ≡ true → Has xs (map (sign_at v) (pairs q))
-all-parts q v xs c h = covers-has v (elements_of q) (root_table q) (pairs q) xs (root-holds q v h) c
+    → list_all (meets v) q.atoms ≡ true → KeepsDomains q v → Has xs (map (sign_at v) (pairs q))
+all-parts q v xs c h k = covers-has v (elements_of q) (root_table q) (pairs q) xs (root-holds q v h k) c

@@ -112,7 +112,7 @@ is-plan q plan wss h =
       parts = record {
         ascending = pairs-ascend signs_lt signs (and-left _ _ r1);
         each = all-of (IsPart q) signs (λ s i. (let r = Has-map_from (λ (part : PartPlan). part.signs.items) plan s i in subst (IsPart q) r.2 (each r.0 r.1).some));
-        all = λ s p. Contains-from_has signs s (subst (Has signs) p.inside.signs (all-parts q p.one signs (and-left _ _ r2) p.inside.holds));
+        all = λ s p. Contains-from_has signs s (subst (Has signs) p.inside.signs (all-parts q p.one signs (and-left _ _ r2) p.inside.holds p.inside.domains));
       };
       plans = all-of (IsPartPlan q) plan (λ part i. (each part i).planned);
       bases = follow-if plan 0 (and-right (covers (elements_of q) (root_table q) (pairs q) signs) _ r2);

@@ -1,5 +1,5 @@
 -- A plan that passes a further test is of a query that breaks no condition.
-use Rattle.std.proofs.Common.{◌≡◌, ◌-◌, ℕ, zero, suc, ◌⊎◌, inl, inr, List, [], ◌∷◌, map, cond, Bool, true, false, ◌&&◌, ◌||◌, not, sym, ◌∙◌, subst, arith, Some, None, slice_get}
+use Rattle.std.proofs.Common.{◌≡◌, ◌-◌, ℕ, zero, suc, ◌⊎◌, inl, inr, List, [], ◌∷◌, map, cond, Bool, true, false, ◌&&◌, ◌||◌, not, sym, ◌∙◌, subst, arith, Some, None, slice_get, Contains}
 use Rattle.std.specs.List.{list_all}
 use Rattle.bq_model.proofs.Has.{Has, first, later, Has-from_contains, Has-map_from}
 use Rattle.bq_model.specs.declared.atom.Attr.{Attr}
@@ -9,11 +9,12 @@ use Rattle.bq_model.specs.declared.condition.Condition.TheVariants.{C1, C2, C3}
 use Rattle.bq_model.specs.declared.part.Sign.{Sign}
 use Rattle.bq_model.specs.declared.plan.Link.{Link}
 use Rattle.bq_model.specs.declared.plan.PartPlan.{PartPlan}
-use Rattle.bq_model.specs.Query.{QueryValue, is_filter}
+use Rattle.bq_model.specs.Query.{QueryValue, attrs_of, is_filter}
+use Rattle.bq_model.specs.Groups.{in_one_group}
 use Rattle.bq_model.specs.Assignment.{Assignment}
 use Rattle.bq_model.specs.Parts.{same_stream, InPart}
 use Rattle.bq_model.specs.Order.{IsBounded}
-use Rattle.bq_model.specs.Links.{IsEquality, IsMinRef, IsMaxRef, AreTwoRefs, two_mins, two_maxes, both, HasTwoRefs}
+use Rattle.bq_model.specs.Links.{IsEquality, IsMinRef, IsMaxRef, AreOneClass, AreTwoRefs, two_mins, two_maxes, both, HasTwoRefs}
 use Rattle.bq_model.specs.Violation as Violation
 use Rattle.bq_model.specs.Violation.{Breaks, Fails, Failure, IsViolation}
 use Rattle.bq_model.specs.Plan.{link}
@@ -30,7 +31,7 @@ module _ (q : QueryValue) (table : List (List Bound)) (ws : List Assignment) whe
 
   -- two links do not make two references of one stream
   abbrev pub one_ref : Attr → Attr → Bool
-  one_ref a b = not (same_stream a b) || bounded_by q table ws a || bounded_by q table ws b || equal_by q table ws (element.Attr a) (element.Attr b)
+  one_ref a b = not (same_stream a b) || bounded_by q table ws a || bounded_by q table ws b || (in_one_group q a (element.Attr b) && equal_by q table ws (element.Attr a) (element.Attr b))
 
   abbrev pub no_two : Attr → Attr → Bool
   no_two a b = not (same_stream a b) || bounded_by q table ws a || bounded_by q table ws b
@@ -99,19 +100,28 @@ module _ (q : QueryValue) (part : PartPlan) (ws : List Assignment) (inside : (w 
         all_at (links_agree q t ws (link x y)) part.less.items (link z w)
         (all_at (λ l. list_all (links_agree q t ws l) part.less.items) part.less.items (link x y) (with_distinct q.distinct _ _ d refs) i) j
 
+    one-class : (a b : Attr) → Contains (attrs_of q.atoms) a → Contains (attrs_of q.atoms) b → a.stream ≡ b.stream
+        → (in_one_group q a (element.Attr b) && equal_by q t ws (element.Attr a) (element.Attr b)) ≡ true → AreOneClass q s a b
+    one-class a b i j e h = record {
+      named = inr (i, j);
+      stream = e;
+      group = and-left _ _ h;
+      equal = equal-if q s ws inside (element.Attr a) (element.Attr b) (and-right (in_one_group q a (element.Attr b)) _ h);
+    }
+
     no-two : (a b : Attr) → a.stream ≡ b.stream → AreTwoRefs q s a b → ⊥
     no-two a b e (two_mins m n differ) = elim (four-or _ _ _ _ (and-left _ _ (agree a m.other b n.other (min-link a m) (min-link b n)))) [
       | inl h ↦ same a b e h
       | inr o ↦ elim o [
         | inl h ↦ m.unbounded (bounded a h)
-        | inr o ↦ elim o [ inl h ↦ n.unbounded (bounded b h) | inr h ↦ differ (equal-if q s ws inside (element.Attr a) (element.Attr b) h) ]
+        | inr o ↦ elim o [ inl h ↦ n.unbounded (bounded b h) | inr h ↦ differ (one-class a b m.inequality.across.left n.inequality.across.left e h) ]
       ]
     ]
     no-two a b e (two_maxes m n differ) = elim (four-or _ _ _ _ (and-left _ _ (and-right (one_ref q t ws m.other n.other) _ (agree m.other a n.other b (max-link a m) (max-link b n))))) [
       | inl h ↦ same a b e h
       | inr o ↦ elim o [
         | inl h ↦ m.unbounded (bounded a h)
-        | inr o ↦ elim o [ inl h ↦ n.unbounded (bounded b h) | inr h ↦ differ (equal-if q s ws inside (element.Attr a) (element.Attr b) h) ]
+        | inr o ↦ elim o [ inl h ↦ n.unbounded (bounded b h) | inr h ↦ differ (one-class a b m.inequality.across.right n.inequality.across.right e h) ]
       ]
     ]
     no-two a b e (both m n) = elim (three-or _ _ _ (and-right (one_ref q t ws m.other b) _ (and-right (one_ref q t ws a n.other) _ (agree a m.other n.other b (min-link a m) (max-link b n))))) [

@@ -26,6 +26,7 @@ selects distinct t = record {
   select = col 0 0 ∷ [];
   atoms = t ∷ [];
   domains = record { attr = col 0 0; lo = pos 1; hi = pos 2 } ∷ [];
+  compact = false;
 }
 
 abbrev pub one_or_two : Attr → Dim

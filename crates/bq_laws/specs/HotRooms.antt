@@ -35,6 +35,7 @@ hot_rooms = record {
       ∷ atom (element.Attr (col 0 1)) Op.Gt (element.Attr (col 1 1))
       ∷ [];
   domains = [];
+  compact = false;
 }
 
 -- a value below 0: how the room stands to 0, to 4 and to the value, and the value to 0 and to 4

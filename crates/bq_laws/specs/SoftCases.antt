@@ -1,5 +1,5 @@
 -- Worked queries with soft comparisons.
-use Rattle.std.specs.Prelude.{◌≡◌, true, List, [], ◌∷◌, ◌++◌, ℤ, pos}
+use Rattle.std.specs.Prelude.{◌≡◌, true, false, List, [], ◌∷◌, ◌++◌, ℤ, pos}
 use Rattle.std.specs.declared.option.Option.TheVariants.{None}
 use Rattle.bq_model.specs.declared.atom.Op.{Op}
 use Rattle.bq_model.specs.declared.atom.Element.TheVariants as element
@@ -38,6 +38,7 @@ one_to_three = record {
       ∷ atom (element.Attr (col 0 0)) Op.Le (element.Const (pos 3))
       ∷ [];
   domains = [];
+  compact = false;
 }
 
 -- one of its parts: S.a has this value
@@ -67,6 +68,7 @@ unlike = record {
       ∷ atom (element.Attr (col 1 0)) Op.Lt (element.Const (pos 3))
       ∷ [];
   domains = [];
+  compact = false;
 }
 
 -- its two parts: 1 and 2, and 2 and 1

@@ -41,7 +41,7 @@ fn hot_rooms() -> Query {
             }),
         },
     ];
-    Query::new(true, &[0, 1], &[room], &atoms, &[])
+    Query::new(true, &[0, 1], &[room], &atoms, &[], false)
 }
 
 // The numbers of a plan, or none where there is none.

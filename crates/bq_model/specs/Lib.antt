@@ -1,4 +1,5 @@
 pub mod Query
+pub mod Groups
 pub mod Assignment
 pub mod Tuples
 pub mod Meaning

@@ -79,21 +79,21 @@ a_unbounded b = unbounded_over_all q [] one_part s_a (λ k h. under k (Has-from_
       | inr i ↦ elim (has_cases (pos 2) k [] i) [ inl e ↦ omega (arith, ints, e, a_three) | inr j ↦ Has-nil j ]
     ]
 
-needed : ¬ IsRedundant q [] (element.Attr t_c) (element.Attr s_a)
+needed : ¬ IsRedundant q [] t_c s_a
 needed (between (element.Attr z) h l m) =
     let x : one_part.one t_c <ℤ one_part.one z = l.less one_part.one one_part.inside in
     let y : one_part.one z <ℤ one_part.one s_a = m.less one_part.one one_part.inside in
     omega (arith, ints, x, y, a_three, c_two)
-needed (between (element.Const k) h l m) = Has-nil (Has-from_contains [] k h)
-needed (equal_left k h l m) = Has-nil (Has-from_contains [] k h)
-needed (equal_right k h l m) = Has-nil (Has-from_contains [] k h)
+needed (between (element.Const k) h l m) = Has-nil (Has-from_contains [] k h.named)
+needed (equal_left k h l m) = Has-nil (Has-from_contains [] k h.named)
+needed (equal_right k h l m) = Has-nil (Has-from_contains [] k h.named)
 
 reference : IsMaxRef q [] s_a
 reference = record {
   unbounded = a_unbounded;
   other = t_c;
   inequality = record {
-    across = record { left = (1, omega arith, refl); right = (0, omega arith, refl); across = λ e. omega (arith, e) };
+    across = record { left = (1, omega arith, refl); right = (0, omega arith, refl); across = λ e. omega (arith, e); group = refl };
     less = record { less = λ v i. less v i.holds };
     needed = needed;
   };
@@ -158,5 +158,5 @@ domains-may-mislead = record {
   refused = refused;
   written_limits = written_limits;
   accepted = accepted;
-  enough = λ n. (domain-verdict-is-exact q written_limits (inr refl) None accepted).0 n refl;
+  enough = λ n. (domain-verdict-is-exact q written_limits refl (inr refl) None accepted).0 n refl;
 }

@@ -58,7 +58,7 @@ verdict-is-exact q within plain r violation = (from r violation, into r violatio
     into (Some f) v n = refused-needs-states q within plain f v
 
 pub counted-verdict-is-exact : CountedVerdictIsExact
-counted-verdict-is-exact q within none d r violation = (from r violation, into r violation)
+counted-verdict-is-exact q within none whole d r violation = (from r violation, into r violation)
   where
     from : (r : Option Failure) → IsViolation q r → NeedsStates q → r ≢ None
     from None v n e = some-right q within none v (λ (h : HasRight q). n h.0 h.1 h.2)
@@ -66,4 +66,4 @@ counted-verdict-is-exact q within none d r violation = (from r violation, into r
 
     into : (r : Option Failure) → IsViolation q r → r ≢ None → NeedsStates q
     into None v n = absurd (n refl)
-    into (Some f) v n = telling-needs-states q within none f v (no_distinct d)
+    into (Some f) v n = telling-needs-states q within none whole f v (no_distinct d)

@@ -176,7 +176,7 @@ violated = Violation.first refl parts are_parts (
 pub counted-refused : IsRefused hot_counted failure
 counted-refused = record {
   limits = within-limits hot_counted refl;
-  plain = plain-if hot_counted refl refl;
+  plain = plain-if hot_counted refl refl refl;
   violation = violated;
-  needs = refused-needs-states hot_counted (within-limits hot_counted refl) (plain-if hot_counted refl refl) failure violated;
+  needs = refused-needs-states hot_counted (within-limits hot_counted refl) (plain-if hot_counted refl refl refl) failure violated;
 }

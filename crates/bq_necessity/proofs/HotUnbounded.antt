@@ -52,7 +52,7 @@ are_parts : AreParts hot_unbounded parts
 are_parts = record {
   ascending = pairs-ascend signs_lt parts refl;
   each = λ k d l. each _ (Has-from_contains _ _ (Contains-get_or parts k d l));
-  all = λ s p. Contains-from_has parts s (subst (Has parts) p.inside.signs (all-parts hot_unbounded p.one parts covered p.inside.holds));
+  all = λ s p. Contains-from_has parts s (subst (Has parts) p.inside.signs (all-parts hot_unbounded p.one parts covered p.inside.holds p.inside.domains));
 }
 
 none_before : (c : Condition) → condition_lt c C1 ≡ true → ⊥
@@ -75,7 +75,7 @@ violated = Violation.first refl parts are_parts (
 pub hot-refused : IsRefused hot_unbounded (at_first C1)
 hot-refused = record {
   limits = within-limits hot_unbounded refl;
-  plain = plain-if hot_unbounded refl refl;
+  plain = plain-if hot_unbounded refl refl refl;
   violation = violated;
-  needs = refused-needs-states hot_unbounded (within-limits hot_unbounded refl) (plain-if hot_unbounded refl refl) record { part = 1; condition = C1; attr = s_a } violated;
+  needs = refused-needs-states hot_unbounded (within-limits hot_unbounded refl) (plain-if hot_unbounded refl refl refl) record { part = 1; condition = C1; attr = s_a } violated;
 }

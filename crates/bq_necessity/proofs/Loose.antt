@@ -121,7 +121,7 @@ module _ (distinct : Bool) where
   sides_equal : IsEquality q equal_signs s_a t_c
   unfolding pairs
   sides_equal = record {
-    across = record { left = (0, omega arith, refl); right = (2, omega arith, refl); across = λ e. omega (arith, e) };
+    across = record { left = (0, omega arith, refl); right = (2, omega arith, refl); across = λ e. omega (arith, e); group = refl };
     equal = record { equal = λ v i. eq_from_sign (v s_a) (v t_c) (head (sign (v s_a) (v t_c)) Sign.Eq _ _ (sym (shape_is v) ∙ i.signs)) };
   }
     where
@@ -253,6 +253,6 @@ pub soft-may-mislead : SoftMayMislead
 soft-may-mislead = record {
   limits = limits;
   refused = refused;
-  needs = telling-needs-states (at_least false) (limits false) refl (at_first C2) (refused false) (no_distinct refl);
+  needs = telling-needs-states (at_least false) (limits false) refl refl (at_first C2) (refused false) (no_distinct refl);
   enough = enough;
 }

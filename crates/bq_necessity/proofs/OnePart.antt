@@ -12,7 +12,6 @@ use Rattle.bq_model.proofs.Bounded.{unbounded_over_all}
 use Rattle.bq_laws.proofs.Tests.{all_at, and-left, and-right, or-cases}
 use Rattle.bq_laws.proofs.OnePartFits.{has_cases}
 use Rattle.bq_model.specs.declared.atom.Attr.{Attr}
-use Rattle.bq_model.specs.declared.atom.Element.TheVariants as element
 use Rattle.bq_model.specs.declared.part.Sign.{Sign}
 use Rattle.bq_model.specs.declared.condition.Condition.{Condition}
 use Rattle.bq_model.specs.Query.{QueryValue, attrs_of, consts_of, attr_lt, is_filter}
@@ -84,17 +83,17 @@ module _ (q : QueryValue) (s : List Sign) (p : IsPart q s) (none : HasNoDomains 
   unbounded a l b = unbounded_over_all q s p a (over-ends q none (λ k. k <ℤ p.one a) (λ k h. (let e : pos 5 ≡ k = five k h in omega (arith, ints, e, l)))) b
 
   -- nothing lies between the sides of an inequality that are next to each other in one assignment
-  pub needed : (x y : Attr) → p.one y ≡ p.one x +ℤ pos 1 → pos 5 <ℤ p.one x → ¬ IsRedundant q s (element.Attr x) (element.Attr y)
+  pub needed : (x y : Attr) → p.one y ≡ p.one x +ℤ pos 1 → pos 5 <ℤ p.one x → ¬ IsRedundant q s x y
   needed x y e l (between z h a b) =
       let m : p.one x <ℤ value z p.one = a.less p.one p.inside in
       let n : value z p.one <ℤ p.one y = b.less p.one p.inside in
       omega (arith, ints, e, m, n)
   needed x y e l (equal_left k h a b) =
-      let f : pos 5 ≡ k = five k h in
+      let f : pos 5 ≡ k = five k h.named in
       let m : p.one x ≡ k = a.equal p.one p.inside in
       omega (arith, ints, f, m, l)
   needed x y e l (equal_right k h a b) =
-      let f : pos 5 ≡ k = five k h in
+      let f : pos 5 ≡ k = five k h.named in
       let m : p.one x <ℤ k = a.less p.one p.inside in
       omega (arith, ints, f, m, l)
 

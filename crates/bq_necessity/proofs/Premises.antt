@@ -13,7 +13,7 @@ use Rattle.bq_necessity.proofs.WorkedRefusals.{refusals-are-these}
 
 -- SELECT S.a FROM S
 abbrev all_rows : QueryValue
-all_rows = record { distinct = false; from = 0 ∷ []; select = s_a ∷ []; atoms = []; domains = [] }
+all_rows = record { distinct = false; from = 0 ∷ []; select = s_a ∷ []; atoms = []; domains = []; compact = false }
 
 no_row : (e : Evaluator) (bound : ℕ) (history : List Arrival) → length history ≤ 0 → AreWithin bound history → Contains (e.start ∷ []) (after e e.start history)
 no_row e bound [] l w = (0, omega arith, refl)
@@ -23,7 +23,7 @@ pub premises-are-needed : PremisesAreNeeded
 premises-are-needed = record {
   violation = λ f. (
       let one = filters-need-few-states all_rows refl in
-      f all_rows (within-limits all_rows refl) (plain-if all_rows refl refl) one.0 one.1 one.2
+      f all_rows (within-limits all_rows refl) (plain-if all_rows refl refl refl) one.0 one.1 one.2
       );
   right = λ f. (
       let one = filters-need-few-states all_rows refl in

@@ -209,8 +209,8 @@ tells-written q f (no_distinct d) = no_distinct d
 tells-written q f (by_selected e) = by_selected e
 
 pub domains-need-states : DomainsNeedStates
-domains-need-states q within f violation tells =
-    (written-decides-at q (formed q within)).1 (telling-need (written q) (formed-written q within) refl f violation (tells-written q f tells))
+domains-need-states q within whole f violation tells =
+    (written-decides-at q (formed q within)).1 (telling-need (written q) (formed-written q within) refl whole f violation (tells-written q f tells))
 
 -- on the rows of a catalog
 row-of-catalog : (width : ℕ → ℕ) (h : List Arrival) → AreRows width h → All (IsRow width) h
@@ -227,10 +227,10 @@ over-written q within width over a (inr h) = elim (written-attrs q a (Has-from_c
 ]
 
 pub catalog-domains-need-states : CatalogDomainsNeedStates
-catalog-domains-need-states q within f violation tells width over =
+catalog-domains-need-states q within whole f violation tells width over =
     skipped q (formed q within) (IsRow width) (λ e right few.
     over-needs width (written q) (formed-written q within) (over-written q within width over)
-    (telling-need (written q) (formed-written q within) refl f violation (tells-written q f tells))
+    (telling-need (written q) (formed-written q within) refl whole f violation (tells-written q f tells))
     e (λ h r k i. right h r (row-of-catalog width h k) i) (λ b. (
     let o : HasFewOn (IsRow width) e b = few b in
     record {
@@ -240,13 +240,13 @@ catalog-domains-need-states q within f violation tells width over =
       few = o.few;
     })))
 
-verdict-of-written : (q : QueryValue) → IsWithinLimits (written q) → All (λ t. IsFalse (is_soft t.op)) q.atoms ⊎ (q.distinct ≡ false) → (r : Option Failure) → IsViolation (written q) r
+verdict-of-written : (q : QueryValue) → IsWithinLimits (written q) → q.compact ≡ false → All (λ t. IsFalse (is_soft t.op)) q.atoms ⊎ (q.distinct ≡ false) → (r : Option Failure) → IsViolation (written q) r
     → NeedsStates (written q) ↔ (r ≢ None)
-verdict-of-written q within (inl hard) r violation = verdict-is-exact (written q) within record { hard = hard-written q hard; domains = refl } r violation
-verdict-of-written q within (inr d) r violation = counted-verdict-is-exact (written q) within refl d r violation
+verdict-of-written q within whole (inl hard) r violation = verdict-is-exact (written q) within record { hard = hard-written q hard; domains = refl; compact = whole } r violation
+verdict-of-written q within whole (inr d) r violation = counted-verdict-is-exact (written q) within refl whole d r violation
 
 pub domain-verdict-is-exact : DomainVerdictIsExact
-domain-verdict-is-exact q within o r violation =
+domain-verdict-is-exact q within whole o r violation =
     let same : NeedsStatesWithin q ↔ NeedsStates (written q) = written-decides-at q (formed-before q within) in
-    let exact : NeedsStates (written q) ↔ (r ≢ None) = verdict-of-written q within o r violation in
+    let exact : NeedsStates (written q) ↔ (r ≢ None) = verdict-of-written q within whole o r violation in
     ((λ n. exact.0 (same.0 n)), (λ n. same.1 (exact.1 n)))

@@ -64,7 +64,7 @@ module _ (distinct : Bool) where
 
   seen-refused : IsRefused (seen distinct) (at_first C1)
   seen-refused =
-      is_refused (seen distinct) C1 (within-limits (seen distinct) refl) (plain-if (seen distinct) refl refl)
+      is_refused (seen distinct) C1 (within-limits (seen distinct) refl) (plain-if (seen distinct) refl refl refl)
       (refused-by (seen distinct) (Sign.Gt ∷ []) seen_part seen_alone C1 no_filter seen_breaks first_condition)
     where
       first_condition : (d : Condition) → condition_lt d C1 ≡ true → (b : Attr) → Breaks (seen distinct) (Sign.Gt ∷ []) d b → ⊥
@@ -127,7 +127,7 @@ module _ (distinct : Bool) where
 
   paid_equal : IsEquality q three_signs s_a t_c
   paid_equal = record {
-    across = record { left = (0, omega arith, refl); right = (2, omega arith, refl); across = λ e. omega (arith, e) };
+    across = record { left = (0, omega arith, refl); right = (2, omega arith, refl); across = λ e. omega (arith, e); group = refl };
     equal = record { equal = λ v i. paid_same v i.holds };
   }
 
@@ -140,7 +140,7 @@ module _ (distinct : Bool) where
 
   paid-refused : IsRefused q (at_first C2)
   paid-refused =
-      is_refused q C2 (within-limits q refl) (plain-if q refl refl)
+      is_refused q C2 (within-limits q refl) (plain-if q refl refl refl)
       (refused-by q three_signs paid_part paid_alone C2 paid_filter (unbounded q three_signs paid_part refl refl s_a paid_six, t_c, inl paid_equal) first_condition)
     where
       first_condition : (d : Condition) → condition_lt d C2 ≡ true → (b : Attr) → Breaks q three_signs d b → ⊥
@@ -194,7 +194,7 @@ under_link = record {
   unbounded = unbounded u three_signs under_part refl refl s_a under_six;
   other = t_c;
   inequality = record {
-    across = record { left = (0, omega arith, refl); right = (2, omega arith, refl); across = λ e. omega (arith, e) };
+    across = record { left = (0, omega arith, refl); right = (2, omega arith, refl); across = λ e. omega (arith, e); group = refl };
     less = record { less = λ v i. under_less v i.holds };
     needed = needed u three_signs under_part refl refl s_a t_c under_next under_six;
   };
@@ -202,7 +202,7 @@ under_link = record {
 
 under-refused : IsRefused u (at_first C3)
 under-refused =
-    is_refused u C3 (within-limits u refl) (plain-if u refl refl)
+    is_refused u C3 (within-limits u refl) (plain-if u refl refl refl)
     (refused-by u three_signs under_part under_alone C3 refl (inl under_link, (λ e. absurd cc)) first_condition)
   where
     first_condition : (d : Condition) → condition_lt d C3 ≡ true → (b : Attr) → Breaks u three_signs d b → ⊥
@@ -283,7 +283,7 @@ module _ (distinct : Bool) where
     unbounded = unbounded w four_signs window_part refl refl s_a window_seven;
     other = t_d;
     inequality = record {
-      across = record { left = (0, omega arith, refl); right = (3, omega arith, refl); across = λ e. omega (arith, e) };
+      across = record { left = (0, omega arith, refl); right = (3, omega arith, refl); across = λ e. omega (arith, e); group = refl };
       less = record { less = λ v i. window_right v i.holds };
       needed = needed w four_signs window_part refl refl s_a t_d window_last window_seven;
     };
@@ -294,7 +294,7 @@ module _ (distinct : Bool) where
     unbounded = unbounded w four_signs window_part refl refl s_a window_seven;
     other = t_c;
     inequality = record {
-      across = record { left = (2, omega arith, refl); right = (0, omega arith, refl); across = λ e. omega (arith, e) };
+      across = record { left = (2, omega arith, refl); right = (0, omega arith, refl); across = λ e. omega (arith, e); group = refl };
       less = record { less = λ v i. window_left v i.holds };
       needed = needed w four_signs window_part refl refl t_c s_a window_next window_six;
     };
@@ -312,7 +312,7 @@ module _ (distinct : Bool) where
 
   window-refused : IsRefused w (at_first C3)
   window-refused =
-      is_refused w C3 (within-limits w refl) (plain-if w refl refl)
+      is_refused w C3 (within-limits w refl) (plain-if w refl refl refl)
       (refused-by w four_signs window_part window_alone C3 window_filter (inl window_min, (λ e. two_refs)) first_condition)
     where
       first_condition : (d : Condition) → condition_lt d C3 ≡ true → (b : Attr) → Breaks w four_signs d b → ⊥

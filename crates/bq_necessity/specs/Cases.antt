@@ -37,7 +37,7 @@ above_five a = atom (element.Attr a) Op.Gt (element.Const (pos 5))
 
 -- a query over S and T
 abbrev pub over_two : Bool → Attr → List Atom → QueryValue
-over_two distinct selected atoms = record { distinct = distinct; from = 0 ∷ 1 ∷ []; select = selected ∷ []; atoms = atoms; domains = [] }
+over_two distinct selected atoms = record { distinct = distinct; from = 0 ∷ 1 ∷ []; select = selected ∷ []; atoms = atoms; domains = []; compact = false }
 
 -- SELECT [DISTINCT] S.a FROM S, T WHERE S.a > 5
 abbrev pub seen : Bool → QueryValue

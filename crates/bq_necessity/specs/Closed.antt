@@ -18,6 +18,7 @@ under_closed = record {
   select = t_c ∷ [];
   atoms = atom (element.Attr t_c) Op.Lt (element.Attr s_a) ∷ [];
   domains = record { attr = t_c; lo = pos 1; hi = pos 2 } ∷ [];
+  compact = false;
 }
 
 -- it is refused, the written query is not, and so few states are enough: a refusal tells only of the written query

@@ -14,14 +14,14 @@ pub data RefusalTells (q : QueryValue) (f : Failure) : Type 0 where
   no_distinct : IsFalse q.distinct → RefusalTells q f
   by_selected : f.condition ≡ C1 → RefusalTells q f
 
--- then a query without domains that is refused has no evaluator of few states
+-- then a query without domains that is not compact, and is refused, has no evaluator of few states
 abbrev pub TellingNeedsStates : Type 0
 TellingNeedsStates =
-    (q : QueryValue) → IsWithinLimits q → HasNoDomains q → (f : Failure) → IsViolation q (Some f) → RefusalTells q f → NeedsStates q
+    (q : QueryValue) → IsWithinLimits q → HasNoDomains q → IsFalse q.compact → (f : Failure) → IsViolation q (Some f) → RefusalTells q f → NeedsStates q
 
--- without DISTINCT and domains no evaluator that is right has few states, exactly where a condition is violated
+-- without DISTINCT and domains, where the query is not compact, no evaluator that is right has few states, exactly where a condition is violated
 abbrev pub CountedVerdictIsExact : Type 0
 CountedVerdictIsExact =
-    (q : QueryValue) → IsWithinLimits q → HasNoDomains q → IsFalse q.distinct
+    (q : QueryValue) → IsWithinLimits q → HasNoDomains q → IsFalse q.compact → IsFalse q.distinct
     → (violation : Option Failure) → IsViolation q violation
     → NeedsStates q ↔ (violation ≢ None)

@@ -61,17 +61,17 @@ WrittenDecides = (q : QueryValue) → IsWithinLimits q → NeedsStatesWithin q �
 
 -- so where the written query is refused, no evaluator of the query has few states on rows within its domains
 abbrev pub DomainsNeedStates : Type 0
-DomainsNeedStates = (q : QueryValue) → IsWithinLimits q → (f : Failure) → IsViolation (written q) (Some f) → RefusalTells q f → NeedsStatesWithin q
+DomainsNeedStates = (q : QueryValue) → IsWithinLimits q → IsFalse q.compact → (f : Failure) → IsViolation (written q) (Some f) → RefusalTells q f → NeedsStatesWithin q
 
 -- nor even one that is right only on those of them that a catalog has, of so many values for each stream
 abbrev pub CatalogDomainsNeedStates : Type 0
 CatalogDomainsNeedStates =
-    (q : QueryValue) → IsWithinLimits q → (f : Failure) → IsViolation (written q) (Some f) → RefusalTells q f
+    (q : QueryValue) → IsWithinLimits q → IsFalse q.compact → (f : Failure) → IsViolation (written q) (Some f) → RefusalTells q f
     → (width : ℕ → ℕ) → IsOver width q → NeedsStatesOn (λ r. IsRow width r × RowKeeps q r) q
 
 -- and where no comparison is soft or there is no DISTINCT, none has exactly where the written query violates a condition
 abbrev pub DomainVerdictIsExact : Type 0
 DomainVerdictIsExact =
-    (q : QueryValue) → IsWithinLimits (written q) → All (λ t. IsFalse (is_soft t.op)) q.atoms ⊎ IsFalse q.distinct
+    (q : QueryValue) → IsWithinLimits (written q) → IsFalse q.compact → All (λ t. IsFalse (is_soft t.op)) q.atoms ⊎ IsFalse q.distinct
     → (violation : Option Failure) → IsViolation (written q) violation
     → NeedsStatesWithin q ↔ (violation ≢ None)

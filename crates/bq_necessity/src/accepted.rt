@@ -13,12 +13,12 @@ pub fn accepted_has_states()
     ensures { AcceptedHasStates }
 {}
 
-/// A query without soft comparisons and domains that has a plan has an evaluator that is right and has few states, exactly where no condition is violated.
+/// A query that is not compact, has no soft comparisons and no domains, and has a plan, has an evaluator that is right and has few states, exactly where no condition is violated.
 pub fn few_states_decide()
     ensures { FewStatesDecide }
 {}
 
-/// No evaluator that is right on a query without soft comparisons and domains has few states, exactly where a condition is violated.
+/// No evaluator that is right on a query that is not compact and has no soft comparisons and no domains has few states, exactly where a condition is violated.
 pub fn verdict_is_exact()
     ensures { VerdictIsExact }
 {}

@@ -1,15 +1,15 @@
-//! What is known of refusals beyond plain queries: soft comparisons without DISTINCT, and domains.
+//! What is known of refusals beyond plain queries: soft comparisons without DISTINCT, and domains. Nothing is said of the refusal of a compact query.
 ghost use Rattle.bq_necessity.specs.Closed.{DomainsMayMislead};
 ghost use Rattle.bq_necessity.specs.Loose.{SoftMayMislead};
 ghost use Rattle.bq_necessity.specs.Soft.{TellingNeedsStates, CountedVerdictIsExact};
 ghost use Rattle.bq_necessity.specs.Within.{WrittenIsAlike, WrittenDecides, DomainsNeedStates, CatalogDomainsNeedStates, DomainVerdictIsExact};
 
-/// An evaluator that is right on a query without domains that is refused is in at least 2^n states after n rows, where no comparison is soft, there is no DISTINCT, or the refusal names a selected column.
+/// An evaluator that is right on a query without domains that is refused, and is not compact, is in at least 2^n states after n rows, where no comparison is soft, there is no DISTINCT, or the refusal names a selected column.
 pub fn telling_needs_states()
     ensures { TellingNeedsStates }
 {}
 
-/// No evaluator that is right on a query without DISTINCT and domains has few states, exactly where a condition is violated.
+/// No evaluator that is right on a query that is not compact and has neither DISTINCT nor domains has few states, exactly where a condition is violated.
 pub fn counted_verdict_is_exact()
     ensures { CountedVerdictIsExact }
 {}
@@ -24,7 +24,7 @@ pub fn written_decides()
     ensures { WrittenDecides }
 {}
 
-/// Where the written query is refused, and that tells, the query needs many states on rows within its domains.
+/// Where the written query is refused, and that tells, a query that is not compact needs many states on rows within its domains.
 pub fn domains_need_states()
     ensures { DomainsNeedStates }
 {}
@@ -34,7 +34,7 @@ pub fn catalog_domains_need_states()
     ensures { CatalogDomainsNeedStates }
 {}
 
-/// Where no comparison is soft or there is no DISTINCT, a query needs many states on rows within its domains, exactly where the written one violates a condition.
+/// Where no comparison is soft or there is no DISTINCT, a query that is not compact needs many states on rows within its domains, exactly where the written one violates a condition.
 pub fn domain_verdict_is_exact()
     ensures { DomainVerdictIsExact }
 {}

@@ -4,7 +4,7 @@ ghost use Rattle.bq_necessity.specs.Catalog.{CatalogNeedsStates};
 ghost use Rattle.bq_necessity.specs.Premises.{PremisesAreNeeded};
 ghost use Rattle.bq_necessity.specs.States.{RefusedNeedsStates, WholeHistoriesAreRight, FiltersNeedFewStates};
 
-/// An evaluator that is right on a query that is refused, without soft comparisons and domains, is in at least 2^n states after n rows with values within a multiple of n.
+/// An evaluator that is right on a query that is refused, is not compact, and has no soft comparisons and no domains is in at least 2^n states after n rows with values within a multiple of n.
 pub fn refused_needs_states()
     ensures { RefusedNeedsStates }
 {}

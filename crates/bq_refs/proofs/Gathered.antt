@@ -8,7 +8,6 @@ use mir.Syntax.{w64}
 use Rattle.bq_model.proofs.Has.{Has, Has-from_contains, Contains-from_has}
 use Rattle.bq_model.proofs.Ascending.{Ascends-attrs_of}
 use Rattle.bq_model.specs.declared.atom.Attr.{Attr}
-use Rattle.bq_model.specs.declared.atom.Element.{Element}
 use Rattle.bq_model.specs.declared.atom.Element.TheVariants as element
 use Rattle.bq_model.specs.declared.plan.Link.{Link}
 use Rattle.bq_model.specs.declared.part.Sign.{Sign}
@@ -126,25 +125,25 @@ module _ (q : QueryValue) (s : List Sign) where
 
   -- ---- redundant inequalities
 
-  pub redundant_by_attr : (x y : Element) → Any (λ a. LiesBetween q s x y (element.Attr a)) (attrs_of q.atoms) → IsRedundant q s x y
-  redundant_by_attr x y w = between (element.Attr w.1) (w.0, w.2, w.3) w.4.0 w.4.1
+  pub redundant_by_attr : (x y : Attr) → Any (λ a. LiesBetween q s x y (element.Attr a)) (attrs_of q.atoms) → IsRedundant q s x y
+  redundant_by_attr x y w = between (element.Attr w.1) record { named = (w.0, w.2, w.3); group = w.4.0 } w.4.1 w.4.2
 
-  by_parts : (x y : Element) (k : ℤ) → Contains (consts_of q.atoms) k → Parts q s x y (element.Const k) → IsRedundant q s x y
-  by_parts x y k h (middle m) = between (element.Const k) h m.0 m.1
-  by_parts x y k h (left m) = equal_left k h m.0 m.1
-  by_parts x y k h (right m) = equal_right k h m.0 m.1
+  by_parts : (x y : Attr) (k : ℤ) → Contains (consts_of q.atoms) k → Parts q s x y (element.Const k) → IsRedundant q s x y
+  by_parts x y k h (middle m) = between (element.Const k) record { named = h; group = m.0 } m.1 m.2
+  by_parts x y k h (left m) = equal_left k record { named = h; group = m.0 } m.1 m.2
+  by_parts x y k h (right m) = equal_right k record { named = h; group = m.0 } m.1 m.2
 
-  pub redundant_by_const : (x y : Element) → Any (λ k. Parts q s x y (element.Const k)) (consts_of q.atoms) → IsRedundant q s x y
+  pub redundant_by_const : (x y : Attr) → Any (λ k. Parts q s x y (element.Const k)) (consts_of q.atoms) → IsRedundant q s x y
   redundant_by_const x y w = by_parts x y w.1 (w.0, w.2, w.3) w.4
 
   any_of : {X : Type 0} (P : X → Type 0) (xs : List X) (x : X) → Contains xs x → P x → Any P xs
   any_of P xs x h p = (h.0, x, h.1, h.2, p)
 
-  pub const_where_no_attr : (x y : Element) → ¬ Any (λ a. LiesBetween q s x y (element.Attr a)) (attrs_of q.atoms) → IsRedundant q s x y → Any (λ k. Parts q s x y (element.Const k)) (consts_of q.atoms)
-  const_where_no_attr x y n (between (element.Attr a) h l m) = absurd (n (any_of (λ a. LiesBetween q s x y (element.Attr a)) (attrs_of q.atoms) a h (l, m)))
-  const_where_no_attr x y n (between (element.Const k) h l m) = any_of (λ k. Parts q s x y (element.Const k)) (consts_of q.atoms) k h (middle (l, m))
-  const_where_no_attr x y n (equal_left k h e l) = any_of (λ k. Parts q s x y (element.Const k)) (consts_of q.atoms) k h (left (e, l))
-  const_where_no_attr x y n (equal_right k h l e) = any_of (λ k. Parts q s x y (element.Const k)) (consts_of q.atoms) k h (right (l, e))
+  pub const_where_no_attr : (x y : Attr) → ¬ Any (λ a. LiesBetween q s x y (element.Attr a)) (attrs_of q.atoms) → IsRedundant q s x y → Any (λ k. Parts q s x y (element.Const k)) (consts_of q.atoms)
+  const_where_no_attr x y n (between (element.Attr a) h l m) = absurd (n (any_of (λ a. LiesBetween q s x y (element.Attr a)) (attrs_of q.atoms) a h.named (h.group, l, m)))
+  const_where_no_attr x y n (between (element.Const k) h l m) = any_of (λ k. Parts q s x y (element.Const k)) (consts_of q.atoms) k h.named (middle (h.group, l, m))
+  const_where_no_attr x y n (equal_left k h e l) = any_of (λ k. Parts q s x y (element.Const k)) (consts_of q.atoms) k h.named (left (h.group, e, l))
+  const_where_no_attr x y n (equal_right k h l e) = any_of (λ k. Parts q s x y (element.Const k)) (consts_of q.atoms) k h.named (right (h.group, l, e))
 
   -- ---- references
 

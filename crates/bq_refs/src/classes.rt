@@ -1,4 +1,4 @@
-//! The classes of attributes of one stream that are equal in a part.
+//! The classes of attributes of one stream and one group that are equal in a part.
 ghost use Rattle.std.specs.Prelude.{◌↔◌, IsTrue, Contains};
 ghost use Rattle.std.specs.List.{AllZip};
 ghost use Rattle.bq_model.specs.Query.{attrs_of};
@@ -18,7 +18,9 @@ fn are_one_class(q: &Query, p: &Part, bounds: &Bounds, a: Attr, b: Attr) -> bool
     requires right { Contains (attrs_of q.now.atoms) b }
     ensures { IsTrue result ↔ AreOneClass q.now p.now.signs.items a b }
 {
-    a.stream == b.stream && is_equal(q, p, bounds, Element::Attr(a), Element::Attr(b))
+    a.stream == b.stream
+        && q.in_one_group(a, Element::Attr(b))
+        && is_equal(q, p, bounds, Element::Attr(a), Element::Attr(b))
 }
 
 // The place of the attribute that names the class of another.

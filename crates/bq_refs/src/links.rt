@@ -53,10 +53,11 @@ fn is_equality(q: &Query, p: &Part, bounds: &Bounds, l: Link) -> bool
 {
     is_before(l.left, l.right)
         && l.left.stream != l.right.stream
+        && q.in_one_group(l.left, Element::Attr(l.right))
         && is_equal(q, p, bounds, Element::Attr(l.left), Element::Attr(l.right))
 }
 
-// Whether the sides are of different streams, and the left one is less than the right one.
+// Whether the sides are of different streams and one group, and the left one is less than the right one.
 fn is_less_across(q: &Query, p: &Part, bounds: &Bounds, l: Link) -> bool
     requires known { IsKnown q.now p.now.signs.items bounds.now }
     requires left { Contains (attrs_of q.now.atoms) l.left }
@@ -64,6 +65,7 @@ fn is_less_across(q: &Query, p: &Part, bounds: &Bounds, l: Link) -> bool
     ensures { IsTrue result ↔ IsLessAcross q.now p.now.signs.items l }
 {
     l.left.stream != l.right.stream
+        && q.in_one_group(l.left, Element::Attr(l.right))
         && is_less(q, p, bounds, Element::Attr(l.left), Element::Attr(l.right))
 }
 
@@ -74,8 +76,7 @@ fn is_inequality(q: &Query, p: &Part, bounds: &Bounds, l: Link) -> bool
     requires right { Contains (attrs_of q.now.atoms) l.right }
     ensures { IsTrue result ↔ IsInequality q.now p.now.signs.items l.left l.right }
 {
-    is_less_across(q, p, bounds, l)
-        && !is_redundant(q, p, bounds, Element::Attr(l.left), Element::Attr(l.right))
+    is_less_across(q, p, bounds, l) && !is_redundant(q, p, bounds, l.left, l.right)
 }
 
 /// Returns of all links the equalities between streams, each once and with the earlier attribute on the left.

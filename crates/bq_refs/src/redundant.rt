@@ -10,46 +10,52 @@ ghost use Rattle.bq_refs.specs.Redundant.{LiesBetween, EqualsLeft, EqualsRight, 
 
 use crate::order::{is_equal, is_less};
 use bq_closure::Bounds;
-use bq_model::{Element, Part, Query};
+use bq_model::{Attr, Element, Part, Query};
 
-// Whether e lies between x and y.
-fn lies_between(q: &Query, p: &Part, bounds: &Bounds, x: Element, y: Element, e: Element) -> bool
+// Whether e is in one group with x, and lies between x and y.
+fn lies_between(q: &Query, p: &Part, bounds: &Bounds, x: Attr, y: Attr, e: Element) -> bool
     requires known { IsKnown q.now p.now.signs.items bounds.now }
-    requires left { IsElement q.now x }
-    requires right { IsElement q.now y }
+    requires left { Contains (attrs_of q.now.atoms) x }
+    requires right { Contains (attrs_of q.now.atoms) y }
     requires middle { IsElement q.now e }
     ensures { IsTrue result ↔ LiesBetween q.now p.now.signs.items x y e }
 {
-    is_less(q, p, bounds, x, e) && is_less(q, p, bounds, e, y)
+    q.in_one_group(x, e)
+        && is_less(q, p, bounds, Element::Attr(x), e)
+        && is_less(q, p, bounds, e, Element::Attr(y))
 }
 
-// Whether e equals x and is less than y.
-fn equals_left(q: &Query, p: &Part, bounds: &Bounds, x: Element, y: Element, e: Element) -> bool
+// Whether e is in one group with x, equals x and is less than y.
+fn equals_left(q: &Query, p: &Part, bounds: &Bounds, x: Attr, y: Attr, e: Element) -> bool
     requires known { IsKnown q.now p.now.signs.items bounds.now }
-    requires left { IsElement q.now x }
-    requires right { IsElement q.now y }
+    requires left { Contains (attrs_of q.now.atoms) x }
+    requires right { Contains (attrs_of q.now.atoms) y }
     requires middle { IsElement q.now e }
     ensures { IsTrue result ↔ EqualsLeft q.now p.now.signs.items x y e }
 {
-    is_equal(q, p, bounds, x, e) && is_less(q, p, bounds, e, y)
+    q.in_one_group(x, e)
+        && is_equal(q, p, bounds, Element::Attr(x), e)
+        && is_less(q, p, bounds, e, Element::Attr(y))
 }
 
-// Whether x is less than e, and e equals y.
-fn equals_right(q: &Query, p: &Part, bounds: &Bounds, x: Element, y: Element, e: Element) -> bool
+// Whether e is in one group with x, x is less than e, and e equals y.
+fn equals_right(q: &Query, p: &Part, bounds: &Bounds, x: Attr, y: Attr, e: Element) -> bool
     requires known { IsKnown q.now p.now.signs.items bounds.now }
-    requires left { IsElement q.now x }
-    requires right { IsElement q.now y }
+    requires left { Contains (attrs_of q.now.atoms) x }
+    requires right { Contains (attrs_of q.now.atoms) y }
     requires middle { IsElement q.now e }
     ensures { IsTrue result ↔ EqualsRight q.now p.now.signs.items x y e }
 {
-    is_less(q, p, bounds, x, e) && is_equal(q, p, bounds, e, y)
+    q.in_one_group(x, e)
+        && is_less(q, p, bounds, Element::Attr(x), e)
+        && is_equal(q, p, bounds, e, Element::Attr(y))
 }
 
-// Whether a constant lies between x and y, or equals one and parts it from the other.
-fn parts(q: &Query, p: &Part, bounds: &Bounds, x: Element, y: Element, e: Element) -> bool
+// Whether a constant of the group lies between x and y, or equals one and parts it from the other.
+fn parts(q: &Query, p: &Part, bounds: &Bounds, x: Attr, y: Attr, e: Element) -> bool
     requires known { IsKnown q.now p.now.signs.items bounds.now }
-    requires left { IsElement q.now x }
-    requires right { IsElement q.now y }
+    requires left { Contains (attrs_of q.now.atoms) x }
+    requires right { Contains (attrs_of q.now.atoms) y }
     requires middle { IsElement q.now e }
     ensures { IsTrue result ↔ Parts q.now p.now.signs.items x y e }
 {
@@ -58,11 +64,11 @@ fn parts(q: &Query, p: &Part, bounds: &Bounds, x: Element, y: Element, e: Elemen
         || equals_right(q, p, bounds, x, y, e)
 }
 
-// Whether an attribute lies between x and y.
-fn some_attr_between(q: &Query, p: &Part, bounds: &Bounds, x: Element, y: Element) -> bool
+// Whether an attribute of the group lies between x and y.
+fn some_attr_between(q: &Query, p: &Part, bounds: &Bounds, x: Attr, y: Attr) -> bool
     requires known { IsKnown q.now p.now.signs.items bounds.now }
-    requires left { IsElement q.now x }
-    requires right { IsElement q.now y }
+    requires left { Contains (attrs_of q.now.atoms) x }
+    requires right { Contains (attrs_of q.now.atoms) y }
     ensures { IsTrue result ↔ Any (λ a. LiesBetween q.now p.now.signs.items x y (element.Attr a)) (attrs_of q.now.atoms) }
 {
     let attrs = q.attrs();
@@ -74,11 +80,11 @@ fn some_attr_between(q: &Query, p: &Part, bounds: &Bounds, x: Element, y: Elemen
     false
 }
 
-// Whether a constant parts x from y.
-fn some_const_parts(q: &Query, p: &Part, bounds: &Bounds, x: Element, y: Element) -> bool
+// Whether a constant of the group parts x from y.
+fn some_const_parts(q: &Query, p: &Part, bounds: &Bounds, x: Attr, y: Attr) -> bool
     requires known { IsKnown q.now p.now.signs.items bounds.now }
-    requires left { IsElement q.now x }
-    requires right { IsElement q.now y }
+    requires left { Contains (attrs_of q.now.atoms) x }
+    requires right { Contains (attrs_of q.now.atoms) y }
     ensures { IsTrue result ↔ Any (λ k. Parts q.now p.now.signs.items x y (element.Const k)) (consts_of q.now.atoms) }
 {
     let consts = q.consts();
@@ -91,10 +97,10 @@ fn some_const_parts(q: &Query, p: &Part, bounds: &Bounds, x: Element, y: Element
 }
 
 /// Returns whether x < y is redundant in the part.
-pub fn is_redundant(q: &Query, p: &Part, bounds: &Bounds, x: Element, y: Element) -> bool
+pub fn is_redundant(q: &Query, p: &Part, bounds: &Bounds, x: Attr, y: Attr) -> bool
     requires known { IsKnown q.now p.now.signs.items bounds.now }
-    requires left { IsElement q.now x }
-    requires right { IsElement q.now y }
+    requires left { Contains (attrs_of q.now.atoms) x }
+    requires right { Contains (attrs_of q.now.atoms) y }
     ensures { IsTrue result ↔ IsRedundant q.now p.now.signs.items x y }
 {
     some_attr_between(q, p, bounds, x, y) || some_const_parts(q, p, bounds, x, y)
