@@ -6,11 +6,12 @@ use Rattle.std.specs.declared.option.Option.{Option}
 use Rattle.std.specs.declared.option.Option.TheVariants.{None, Some}
 use Rattle.std.specs.declared.result.Result.{Result}
 use Rattle.std.specs.declared.result.Result.TheVariants.{Ok, Err}
+use Rattle.std.specs.Str.{bytes_eq}
 use Rattle.bq_text.specs.Blank.{is_blank, without_blanks_before, trimmed}
 use Rattle.bq_text.specs.Word.{is_word, begins_word, word_of, behind_word}
 use Rattle.bq_text.specs.Key.{key_of}
 use Rattle.bq_text.specs.Value.{value_of}
-use Rattle.bq_schema.specs.Streams.{Shape, stream_number, shape_at, lie_within}
+use Rattle.bq_schema.specs.Streams.{Shape, IsName, stream_number, shape_at, lie_within}
 use Rattle.bq_schema.specs.declared.column.ColumnDef.{ColumnDef}
 use Rattle.bq_schema.specs.declared.row_error.RowError.{RowError}
 use Rattle.bq_schema.specs.declared.row_error.RowError.TheVariants.{Syntax, Limit, UnknownStream, Arity, Value, Domain}
@@ -31,6 +32,26 @@ is_row_line line = begins_word line && begins_comma (without_blanks_before (behi
 -- the same, said by the parts of the line
 abbrev pub IsRowText : List ℕ → Type 0
 IsRowText line = (word : List ℕ) × (blanks : List ℕ) × (rest : List ℕ) × (line ≡ word ++ (blanks ++ 44 ∷ rest)) × (is_word word ≡ true) × (list_all is_blank blanks ≡ true)
+
+-- whether a text begins with this name as its word, and a comma behind it
+abbrev pub is_named : List ℕ → List ℕ → Bool
+is_named name text = begins_comma (behind_word text) && bytes_eq name (word_of text)
+
+-- the word of a text is this name, and behind it stand a comma and this text of fields
+pub record IsNamed (name text fields : List ℕ) : Type 0 where
+  pub known : IsName name
+  pub word : name ≡ word_of text
+  pub behind : behind_word text ≡ 44 ∷ fields
+
+-- a text begins with the name of this stream, and behind it stand a comma and this text of fields
+pub record HasStream (streams : List Shape) (text : List ℕ) (stream : ℕ) (fields : List ℕ) : Type 0 where
+  pub known : IsName (word_of text)
+  pub number : stream_number streams (word_of text) ≡ Some stream
+  pub behind : behind_word text ≡ 44 ∷ fields
+
+-- no stream has the word of a text as its name, where a comma stands behind that word
+abbrev pub LacksStream : List Shape → List ℕ → Type 0
+LacksStream streams text = begins_comma (behind_word text) ≡ true → stream_number streams (word_of text) ≡ None
 
 -- the fields of a row: the parts between its commas, but for the first part, which has its stream's name
 abbrev pub fields_of : List ℕ → List (List ℕ)
