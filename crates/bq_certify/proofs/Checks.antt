@@ -9,7 +9,7 @@ use Rattle.bq_text.specs.Lines.{lines}
 use Rattle.bq_model.specs.Query.{QueryValue}
 use Rattle.bq_schema.specs.Streams.{Shape}
 use Rattle.bq_parser.specs.declared.tree.SelectAst.{SelectAst}
-use Rattle.bq_session.specs.declared.word.Word.{Word}
+use Rattle.bq_reply.specs.declared.word.Word.{Word}
 use Rattle.bq_certificate.specs.declared.line.Line.{Line}
 use Rattle.bq_certificate.specs.declared.answer.CheckAnswer.{CheckAnswer}
 use Rattle.bq_certificate.specs.Nodes.{nodes_of}

@@ -7,8 +7,8 @@ use Rattle.bq_feed.specs.Reading.{Reading}
 use Rattle.bq_feed.specs.GivenLines.{GivenLines}
 use Rattle.bq_feed.proofs.GivenEnds.{front-lines, took-lines}
 use Rattle.bq_parser.specs.LineKind.{stripped}
-use Rattle.bq_session.specs.declared.word.Word.{Word}
-use Rattle.bq_session.specs.declared.word.Word.TheVariants as words
+use Rattle.bq_reply.specs.declared.word.Word.{Word}
+use Rattle.bq_reply.specs.declared.word.Word.TheVariants as words
 use Rattle.bq_certificate.specs.declared.line.Line.{Line}
 use Rattle.bq_certificate.specs.declared.error.CertError.{CertError}
 use Rattle.bq_certificate.specs.declared.error.CertError.TheVariants as why

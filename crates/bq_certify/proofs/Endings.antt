@@ -10,8 +10,8 @@ use Rattle.bq_io.specs.Sink.{SinkState, BrokeOff}
 use Rattle.bq_text.specs.Lines.{lines}
 use Rattle.bq_feed.specs.Reading.{Reading, TakesAll}
 use Rattle.bq_feed.specs.Texts.{ended_part}
-use Rattle.bq_session.specs.declared.word.Word.{Word}
-use Rattle.bq_session.specs.declared.word.Word.TheVariants.{Syntax}
+use Rattle.bq_reply.specs.declared.word.Word.{Word}
+use Rattle.bq_reply.specs.declared.word.Word.TheVariants.{Syntax}
 use Rattle.bq_script.specs.declared.end.ScriptEnd.{ScriptEnd}
 use Rattle.bq_script.specs.declared.end.ScriptEnd.TheVariants.{Refused, ReadFault, ByteLimit, Memory}
 use Rattle.bq_script.specs.Script.{CreateStreams, IsRefusedAt, at_line, at_end}

@@ -3,7 +3,7 @@ use Rattle.std.proofs.Common.{◌≡◌, ℕ, Bool, List, ◌∷◌, ◌++◌, N
 use Rattle.bq_model.specs.Query.{QueryValue}
 use Rattle.bq_schema.specs.Streams.{Shape}
 use Rattle.bq_parser.specs.declared.tree.SelectAst.{SelectAst}
-use Rattle.bq_session.specs.declared.word.Word.{Word}
+use Rattle.bq_reply.specs.declared.word.Word.{Word}
 use Rattle.bq_script.specs.Script.{Asks, IsRefusedAt, at_line, at_end}
 use Rattle.bq_certify.specs.Commands.{Outcome}
 use Rattle.bq_certify.specs.Certifying as certifying

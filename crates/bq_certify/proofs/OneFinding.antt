@@ -1,7 +1,7 @@
 -- What is found behind a query: the lines of a certificate, or the first line that is refused.
 use Rattle.std.proofs.Common.{◌≡◌, ℕ, suc, List, [], ◌∷◌, ◌++◌, ◌≤◌, length, refl, sym, ap, ◌∙◌, subst, arith}
 use Rattle.bq_parser.specs.LineKind.{stripped}
-use Rattle.bq_session.specs.declared.word.Word.{Word}
+use Rattle.bq_reply.specs.declared.word.Word.{Word}
 use Rattle.bq_certificate.specs.declared.line.Line.{Line}
 use Rattle.bq_certificate.specs.Text.{IsLine, words}
 use Rattle.bq_certificate.specs.Certificate.{IsNext, HasRoom, last_of}

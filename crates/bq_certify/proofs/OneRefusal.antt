@@ -4,7 +4,7 @@ use Rattle.bq_io.specs.declared.status.Status.TheVariants as status
 use Rattle.bq_model.specs.Query.{QueryValue}
 use Rattle.bq_schema.specs.Streams.{Shape}
 use Rattle.bq_parser.specs.declared.tree.SelectAst.{SelectAst}
-use Rattle.bq_session.specs.declared.word.Word.{Word}
+use Rattle.bq_reply.specs.declared.word.Word.{Word}
 use Rattle.bq_script.specs.Script.{Asks, IsRefusedAt, at_line, at_end}
 use Rattle.bq_script.proofs.OneEnd.{one_end}
 use Rattle.bq_certify.specs.Commands.{Outcome, error_text}

@@ -2,7 +2,7 @@
 use Rattle.std.proofs.Common.{List, ◌++◌, ℕ, refl}
 use Rattle.std.specs.declared.result.Result.{Result}
 use Rattle.bq_io.specs.Sink.{SinkState, Wrote, Writes}
-use Rattle.bq_parser.proofs.WritesBehind.{writes_then}
+use Rattle.bq_print.proofs.WritesBehind.{writes_then}
 
 -- a text was written, and then a second one
 pub writes_behind : {T E : Type 0} (r : Result T E) (a b c : SinkState) (s t : List ℕ) → Wrote a b s → Writes r b c t → Writes r a c (s ++ t)

@@ -9,9 +9,9 @@ use Rattle.bq_parser.specs.declared.tree.SelectAst.{SelectAst}
 use Rattle.bq_parser.specs.Resolution.{column_named}
 use Rattle.bq_parser.specs.LineKind.{stripped}
 use Rattle.bq_explain.specs.Text.{column_text}
-use Rattle.bq_session.specs.Replies.{condition_text}
-use Rattle.bq_session.specs.declared.word.Word.{Word}
-use Rattle.bq_session.specs.declared.word.Word.TheVariants.{LineTooLong, Syntax, Limit}
+use Rattle.bq_reply.specs.Texts.{condition_text}
+use Rattle.bq_reply.specs.declared.word.Word.{Word}
+use Rattle.bq_reply.specs.declared.word.Word.TheVariants.{LineTooLong, Syntax, Limit}
 use Rattle.bq_certificate.specs.declared.line.Line.{Line}
 use Rattle.bq_certificate.specs.declared.answer.Reason.{Reason}
 use Rattle.bq_certificate.specs.declared.answer.Reason.TheVariants as reason

@@ -13,8 +13,8 @@ use Rattle.bq_feed.specs.GivenLines.{GivenLines, TookLines}
 use Rattle.bq_parser.specs.declared.tree.Statement.{Statement}
 use Rattle.bq_parser.specs.declared.tree.Statement.TheVariants as statements
 use Rattle.bq_parser.specs.Resolution.{HasNamed}
-use Rattle.bq_session.specs.declared.word.Word.{Word}
-use Rattle.bq_session.specs.declared.word.Word.TheVariants as words
+use Rattle.bq_reply.specs.declared.word.Word.{Word}
+use Rattle.bq_reply.specs.declared.word.Word.TheVariants as words
 use Rattle.bq_certificate.specs.declared.line.Line.{Line}
 use Rattle.bq_certificate.specs.declared.error.CertError.{CertError}
 use Rattle.bq_certificate.specs.declared.error.CertError.TheVariants as why
@@ -27,12 +27,17 @@ use Rattle.bq_certify.specs.declared.checking.Checked.{Checked}
 use Rattle.bq_certify.specs.Commands.{Outcome, ComesTo, TookUnsettled, error_text}
 use Rattle.bq_certify.specs.Checking.{Collect, IsRefusedLine, answered, Checks}
 
--- the name in a statement
+-- the name in a statement, and nothing where it has none
 abbrev pub name_of : Statement → List ℕ
 name_of (statements.CreateStream name columns) = name
 name_of (statements.CreateQuery name select shared) = name
 name_of (statements.Explain name) = name
 name_of (statements.DropQuery name) = name
+name_of statements.Checkpoint = []
+name_of (statements.ResumeRows rows) = []
+name_of (statements.ResumeGiven name rows) = name
+name_of (statements.ResumeCell name index content) = name
+name_of (statements.ResumeTuple name values) = name
 
 -- some lines were given, since the source was in some state
 pub record HasGiven (now : SourceState) (reader : Reading) : Type 0 where

@@ -11,8 +11,8 @@ use Rattle.bq_feed.specs.Reading.{TakesAll}
 use Rattle.bq_feed.specs.Texts.{ended_part}
 use Rattle.bq_feed.specs.GivenLines.{TookLines}
 use Rattle.bq_script.specs.Ends.{IsFull}
-use Rattle.bq_session.specs.Replies.{word_text}
-use Rattle.bq_session.specs.declared.word.Word.{Word}
+use Rattle.bq_reply.specs.Texts.{word_text}
+use Rattle.bq_reply.specs.declared.word.Word.{Word}
 
 -- What a command comes to over some lines: its status, what it writes, and how many lines must be read for it; all of them, where no
 -- number is told.

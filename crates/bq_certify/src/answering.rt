@@ -3,7 +3,7 @@ ghost use Rattle.std.specs.Prelude.{◌≡◌, ◌++◌, ◌∷◌, [], codes, d
 ghost use Rattle.bq_io.specs.Sink.{Writes};
 ghost use Rattle.bq_explain.specs.Text.{column_text};
 ghost use Rattle.bq_parser.specs.Resolution.{HasNamed};
-ghost use Rattle.bq_session.specs.Replies as replies;
+ghost use Rattle.bq_reply.specs.Texts as texts;
 ghost use Rattle.bq_model.specs.Verdict.{IsDecision};
 ghost use Rattle.bq_certify.specs.Checking as checking;
 ghost use Rattle.bq_certify.specs.Checking.{decision_text};
@@ -12,25 +12,29 @@ ghost use Rattle.bq_certify.specs.Collecting as collecting;
 use bq_certificate::Reason;
 use bq_io::{Sink, WriteFault, write_pieces};
 use bq_model::{Condition, Decision};
-use bq_parser::{ColumnAst, Statement, column_named};
+use bq_parser::{ColumnAst, Statement};
+use bq_print::column_named;
 use bq_script::Script;
-use bq_text::Name;
 use itoa::Buffer;
 
-// The name in a statement.
-fn name_of(statement: &Statement) -> &Name
+// The name in a statement, and nothing where it has none.
+fn name_of(statement: &Statement) -> &[u8]
     ensures { result.now ≡ collecting.name_of statement.now }
 {
     match statement {
-        Statement::CreateStream { name, .. } => name,
-        Statement::CreateQuery { name, .. } => name,
-        Statement::Explain { name } => name,
-        Statement::DropQuery { name } => name,
+        Statement::CreateStream { name, .. } => name.bytes(),
+        Statement::CreateQuery { name, .. } => name.bytes(),
+        Statement::Explain { name } => name.bytes(),
+        Statement::DropQuery { name } => name.bytes(),
+        Statement::ResumeGiven { name, .. } => name.bytes(),
+        Statement::ResumeCell { name, .. } => name.bytes(),
+        Statement::ResumeTuple { name, .. } => name.bytes(),
+        Statement::Checkpoint | Statement::ResumeRows { .. } => b"",
     }
 }
 
 fn condition_text(condition: Condition) -> &'static [u8]
-    ensures { result.now ≡ replies.condition_text condition }
+    ensures { result.now ≡ texts.condition_text condition }
 {
     match condition {
         Condition::C1 => b"C1",
@@ -63,12 +67,12 @@ fn write_bounded_text<'a, O: Sink>(
 }
 
 // `certified q bounded parts N`
-fn write_bounded<O: Sink>(out: &mut O, name: &Name, parts: u32) -> Result<(), WriteFault>
+fn write_bounded<O: Sink>(out: &mut O, name: &[u8], parts: u32) -> Result<(), WriteFault>
     ensures { Writes result (O.seen out.old) (O.seen out.new) (codes "certified " ++ name.now ++ codes " bounded parts " ++ decimal parts ++ 10 ∷ []) }
 {
     let mut buffer = Buffer::new();
     let number = buffer.format(parts).as_bytes();
-    write_bounded_text(out, name.bytes(), number)
+    write_bounded_text(out, name, number)
 }
 
 // `certified q part N C3 S.b`, by its parts.
@@ -102,20 +106,20 @@ fn write_violation_text<'a, O: Sink>(
 // `certified q part N C3 S.b`
 fn write_violation<O: Sink>(
     out: &mut O,
-    name: &Name,
+    name: &[u8],
     part: u32,
     condition: Condition,
     column: &ColumnAst,
 ) -> Result<(), WriteFault>
     ensures { Writes result (O.seen out.old) (O.seen out.new)
-        (codes "certified " ++ name.now ++ codes " part " ++ decimal part ++ 32 ∷ replies.condition_text condition ++ 32 ∷ column_text column.now ++ 10 ∷ []) }
+        (codes "certified " ++ name.now ++ codes " part " ++ decimal part ++ 32 ∷ texts.condition_text condition ++ 32 ∷ column_text column.now ++ 10 ∷ []) }
 {
     let mut buffer = Buffer::new();
     let number = buffer.format(part).as_bytes();
     let condition = condition_text(condition);
     write_violation_text(
         out,
-        name.bytes(),
+        name,
         number,
         condition,
         column.stream.bytes(),

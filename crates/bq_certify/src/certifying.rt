@@ -15,8 +15,8 @@ use bq_certificate::Certificate;
 use bq_certmake::{MakeError, make};
 use bq_feed::LineReader;
 use bq_io::{Gathered, Sink, Source, Status, WriteFault};
+use bq_reply::Word;
 use bq_script::{Script, ScriptEnd, print_script, read_blank, read_script};
-use bq_session::Word;
 use std::alloc::Global;
 
 /// A script, and a certificate of its query.

@@ -8,8 +8,8 @@ ghost use Rattle.bq_certify.specs.Collecting.{HasGiven, ReadsCertificate};
 use bq_certificate::{CertError, Certificate};
 use bq_feed::LineReader;
 use bq_io::Source;
+use bq_reply::Word;
 use bq_script::{ScriptEnd, TextAnswer, next_text, text};
-use bq_session::Word;
 use std::alloc::Global;
 
 // The end of a script at the line that was given last, which this word refuses.

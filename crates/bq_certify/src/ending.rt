@@ -5,8 +5,8 @@ ghost use Rattle.bq_certify.specs.Commands.{error_text};
 ghost use Rattle.bq_certify.specs.Ending.{EndsBy, EndsWith};
 
 use bq_io::{Sink, Status};
+use bq_reply::{Word, write_refused};
 use bq_script::ScriptEnd;
-use bq_session::{Word, write_refused};
 
 // Writes the line of a refusal.
 fn refuse<O: Sink>(line: u64, word: Word, output: &mut O) -> Status

@@ -14,3 +14,4 @@ mod telling;
 
 pub use certifying::certify;
 pub use checking::check_script;
+pub use ending::end_early;

@@ -4,8 +4,8 @@ ghost use Rattle.bq_certify.specs.Telling as telling;
 ghost use Rattle.bq_certify.specs.Telling.{TellsEnd};
 
 use bq_io::{Sink, Status, WriteFault};
+use bq_reply::write_refused;
 use bq_script::ScriptEnd;
-use bq_session::write_refused;
 
 /// Returns the status behind a write: this one, or that the sink failed.
 pub fn status_after(written: Result<(), WriteFault>, aim: Status) -> Status

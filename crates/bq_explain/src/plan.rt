@@ -9,7 +9,7 @@ use crate::lines::write_name_line;
 use crate::parts::write_parts;
 use bq_io::{Sink, WriteFault, write_all};
 use bq_model::{Plan, Query};
-use bq_parser::print_query;
+use bq_print::print_query;
 use bq_schema::Catalog;
 use bq_text::Name;
 

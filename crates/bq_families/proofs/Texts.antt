@@ -11,7 +11,7 @@ use Rattle.bq_io.proofs.Writing.{Wrote-trans, BrokeOff-then, BrokeOff-stop}
 use Rattle.bq_model.specs.Meaning.{Arrival}
 use Rattle.bq_model.specs.Cells.{upto}
 use Rattle.bq_schema.specs.Streams.{Shape}
-use Rattle.bq_parser.proofs.WritesBehind.{writes_then}
+use Rattle.bq_print.proofs.WritesBehind.{writes_then}
 use Rattle.bq_lower.specs.Family.{FamilyValue, row_at, asking_at}
 use Rattle.bq_lower.specs.Shown.{rows_in, arrivals, asking_in}
 use Rattle.bq_families.specs.Answer.{AreTakenRows}

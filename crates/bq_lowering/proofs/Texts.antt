@@ -2,7 +2,7 @@
 use Rattle.std.proofs.Common.{◌≡◌, List, [], ◌∷◌, ◌++◌, ℕ, codes, append_assoc, refl, sym, ap, ◌∙◌}
 use Rattle.std.specs.declared.result.Result.{Result}
 use Rattle.bq_io.specs.Sink.{SinkState, Wrote, Writes}
-use Rattle.bq_parser.proofs.WritesBehind.{writes_then}
+use Rattle.bq_print.proofs.WritesBehind.{writes_then}
 use Rattle.bq_lowering.specs.Text.{head_text}
 
 -- a text was written, and then a second one

@@ -11,7 +11,7 @@ use Rattle.bq_schema.specs.Streams.{Shape}
 use Rattle.bq_parser.specs.declared.tree.ColumnAst.{ColumnAst}
 use Rattle.bq_parser.specs.Resolution.{column_named}
 use Rattle.bq_explain.specs.Text.{column_text}
-use Rattle.bq_session.specs.Replies.{condition_text}
+use Rattle.bq_reply.specs.Texts.{condition_text}
 use Rattle.bq_lower.specs.Family.{FamilyValue}
 use Rattle.bq_families.specs.Answer.{HasFamilyOver, AreTakenRows}
 use Rattle.bq_families.specs.Text.{rows_text}

@@ -6,8 +6,8 @@ use Rattle.bq_model.specs.Query.{QueryValue}
 use Rattle.bq_model.specs.Parts.{HasMoreParts}
 use Rattle.bq_schema.specs.Streams.{Shape}
 use Rattle.bq_parser.specs.declared.tree.SelectAst.{SelectAst}
-use Rattle.bq_session.specs.declared.word.Word.{Word}
-use Rattle.bq_session.specs.declared.word.Word.TheVariants.{Limit}
+use Rattle.bq_reply.specs.declared.word.Word.{Word}
+use Rattle.bq_reply.specs.declared.word.Word.TheVariants.{Limit}
 use Rattle.bq_script.specs.Script.{Asks, IsRefusedAt, IsBlank, IsMisplaced}
 use Rattle.bq_certify.specs.Commands.{Outcome}
 use Rattle.bq_certify.specs.Certifying.{refusal, early_refusal}

@@ -11,8 +11,8 @@ use bq_families::family;
 use bq_lower::{Family, LowerError};
 use bq_lto_split::{SplitError, split};
 use bq_model::{Attr, Condition, Decision, Part};
+use bq_reply::Word;
 use bq_script::{Script, ScriptEnd};
-use bq_session::Word;
 use std::alloc::Global;
 
 /// Why a query has no family.

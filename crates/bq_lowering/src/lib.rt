@@ -4,7 +4,6 @@
 //! query has none, it says why. It writes nothing before all is known.
 #![tactic(auto)]
 
-mod ending;
 mod finding;
 mod lines;
 mod lower_command;

@@ -1,17 +1,16 @@
 //! The lines before and behind the rows of a family, and those of a query that has none. Each is one call that writes a list of pieces.
 ghost use Rattle.std.specs.Prelude.{◌≡◌, ◌++◌, ◌∷◌, [], codes};
 ghost use Rattle.bq_io.specs.Sink.{Writes};
-ghost use Rattle.bq_session.specs.Replies as replies;
+ghost use Rattle.bq_reply.specs.Texts as texts;
 ghost use Rattle.bq_lowering.specs.Text.{nothing_text, head_text, end_text};
 
 use crate::finding::NoFamily;
 use bq_io::{Sink, WriteFault, write_all, write_pieces};
 use bq_model::Condition;
-use bq_text::Name;
 
 /// Returns the name of a condition.
 pub fn condition_text(condition: Condition) -> &'static [u8]
-    ensures { result.now ≡ replies.condition_text condition }
+    ensures { result.now ≡ texts.condition_text condition }
 {
     match condition {
         Condition::C1 => b"C1",
@@ -58,9 +57,9 @@ pub fn write_head<'a, O: Sink>(
 }
 
 /// Writes the last line of a family: `end q`.
-pub fn write_end<O: Sink>(out: &mut O, name: &Name) -> Result<(), WriteFault>
+pub fn write_end<O: Sink>(out: &mut O, name: &[u8]) -> Result<(), WriteFault>
     ensures { Writes result (O.seen out.old) (O.seen out.new) (end_text name.now) }
 {
-    let pieces: [&[u8]; 3] = [b"end ", name.bytes(), b"\n"];
+    let pieces: [&[u8]; 3] = [b"end ", name, b"\n"];
     write_pieces(out, &pieces)
 }

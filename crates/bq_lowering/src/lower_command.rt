@@ -10,9 +10,9 @@ ghost use Rattle.bq_certify.specs.Ending.{EndsWith, WritesText};
 ghost use Rattle.bq_lowering.specs.Lowering.{Lowers};
 ghost use Rattle.bq_lowering.specs.Found.{IsSound, ReadsLowered, text_of};
 
-use crate::ending::end_early;
 use crate::finding::{Finding, find};
 use crate::printing::print;
+use bq_certify::end_early;
 use bq_feed::LineReader;
 use bq_io::{Gathered, Sink, Source, Status, WriteFault};
 use bq_script::{Script, ScriptEnd, read_blank, read_script};

@@ -5,7 +5,7 @@ ghost use Rattle.bq_model.specs.declared.decision.Decision.TheVariants as decisi
 ghost use Rattle.bq_model.specs.Verdict.{IsDecision};
 ghost use Rattle.bq_parser.specs.Resolution.{HasNamed};
 ghost use Rattle.bq_explain.specs.Text.{column_text};
-ghost use Rattle.bq_session.specs.Replies as replies;
+ghost use Rattle.bq_reply.specs.Texts as texts;
 ghost use Rattle.bq_certify.specs.Collecting as collecting;
 ghost use Rattle.bq_families.specs.Answer.{AreTakenRows, HasFamilyOver};
 ghost use Rattle.bq_families.specs.Text.{rows_text};
@@ -20,34 +20,38 @@ use bq_families::write_rows;
 use bq_io::{Sink, WriteFault};
 use bq_lower::Family;
 use bq_model::{Attr, Condition};
-use bq_parser::{ColumnAst, Statement, column_named};
+use bq_parser::{ColumnAst, Statement};
+use bq_print::column_named;
 use bq_schema::Catalog;
 use bq_script::Script;
-use bq_text::Name;
 use itoa::Buffer;
 
-// The name in a statement.
-fn name_of(statement: &Statement) -> &Name
+// The name in a statement, and nothing where it has none.
+fn name_of(statement: &Statement) -> &[u8]
     ensures { result.now ≡ collecting.name_of statement.now }
 {
     match statement {
-        Statement::CreateStream { name, .. } => name,
-        Statement::CreateQuery { name, .. } => name,
-        Statement::Explain { name } => name,
-        Statement::DropQuery { name } => name,
+        Statement::CreateStream { name, .. } => name.bytes(),
+        Statement::CreateQuery { name, .. } => name.bytes(),
+        Statement::Explain { name } => name.bytes(),
+        Statement::DropQuery { name } => name.bytes(),
+        Statement::ResumeGiven { name, .. } => name.bytes(),
+        Statement::ResumeCell { name, .. } => name.bytes(),
+        Statement::ResumeTuple { name, .. } => name.bytes(),
+        Statement::Checkpoint | Statement::ResumeRows { .. } => b"",
     }
 }
 
 // `family q part 1 C1 S.a size 2`
 fn write_first<O: Sink>(
     out: &mut O,
-    name: &Name,
+    name: &[u8],
     part: u32,
     condition: Condition,
     column: &ColumnAst,
     size: u16,
 ) -> Result<(), WriteFault>
-    ensures { Writes result (O.seen out.old) (O.seen out.new) (head_text name.now (decimal part) (replies.condition_text condition) (column_text column.now) (decimal size)) }
+    ensures { Writes result (O.seen out.old) (O.seen out.new) (head_text name.now (decimal part) (texts.condition_text condition) (column_text column.now) (decimal size)) }
 {
     let mut number = Buffer::new();
     let part = number.format(part).as_bytes();
@@ -55,7 +59,7 @@ fn write_first<O: Sink>(
     let size = count.format(size).as_bytes();
     write_head(
         out,
-        name.bytes(),
+        name,
         part,
         condition_text(condition),
         column.stream.bytes(),
@@ -68,7 +72,7 @@ fn write_first<O: Sink>(
 #[tactic(auto, using(crate::proofs::Texts::writes_behind))]
 fn write_behind<O: Sink>(
     out: &mut O,
-    name: &Name,
+    name: &[u8],
     catalog: &Catalog,
     family: &Family,
 ) -> Result<(), WriteFault>

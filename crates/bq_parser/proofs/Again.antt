@@ -1,9 +1,10 @@
 -- Each statement's tokens are read as it.
-use Rattle.std.proofs.Common.{◌≡◌, ℕ, ◌<◌, ◌⊎◌, Bool, true, false, List, [], ◌∷◌, ◌++◌, length, Option, Some, None, ℤ, refl, ap, ◌∙◌, append_assoc, arith, inl, inr, Ok}
+use Rattle.std.proofs.Common.{◌≡◌, ℕ, ◌<◌, ◌⊎◌, Bool, true, false, cond, codes, List, [], ◌∷◌, ◌++◌, length, map, Option, Some, None, ℤ, refl, ap, sym, ◌∙◌, append_assoc, append-nil, arith, inl, inr, Ok}
 use Rattle.std.specs.List.{AllByRecursion}
 use Rattle.bq_text.specs.declared.key.Key.TheVariants.{CreateKey, QueryKey, AsKey, SelectKey, FromKey, AndKey}
 use Rattle.bq_parser.specs.declared.places.Place.{Place}
-use Rattle.bq_parser.specs.declared.places.Place.TheVariants.{Start, ColumnName, QuerySelect, FirstSelected, SelectedStream, AfterSelected, FromName, AfterFrom, AtomLeft, AfterAtom, Complete, Ended}
+use Rattle.bq_parser.specs.declared.places.Place.TheVariants.{Start, AfterCompact, ColumnName, QuerySelect, FirstSelected, SelectedStream, AfterSelected, FromName, AfterFrom, AtomLeft, AfterAtom, AfterValue, Complete, Ended}
+use Rattle.bq_parser.specs.declared.places.Action.TheVariants.{BeginCompact, BeginSharedCompact}
 use Rattle.bq_schema.specs.declared.column.ColumnDef.{ColumnDef}
 use Rattle.bq_parser.specs.declared.tree.ColumnAst.{ColumnAst}
 use Rattle.bq_parser.specs.declared.tree.OperandAst.{OperandAst}
@@ -12,10 +13,10 @@ use Rattle.bq_parser.specs.declared.tree.AtomAst.{AtomAst}
 use Rattle.bq_parser.specs.declared.tree.Statement.{Statement}
 use Rattle.bq_model.specs.declared.atom.Op.{Op}
 use Rattle.bq_model.specs.declared.atom.Op.TheVariants.{Lt, Eq, Gt, Le, Ge, Ne}
-use Rattle.bq_parser.specs.Grammar.{Lexeme, word, key, comma, closing, semicolon, separated, name_tokens, coldef_tokens, column_tokens, atom_tokens, where_tokens, distinct_tokens, shared_tokens, statement_tokens, IsColumn, HasColumn, IsWhole, Spells}
+use Rattle.bq_parser.specs.Grammar.{Lexeme, word, number, key, comma, closing, semicolon, separated, name_tokens, coldef_tokens, column_tokens, atom_tokens, where_tokens, distinct_tokens, shared_tokens, compact_tokens, tokens_with, is_compact, IsColumn, HasColumn, IsWhole, Spells}
 use Rattle.bq_parser.specs.declared.draft.Form.TheVariants as forms
-use Rattle.bq_parser.specs.Reading.{Parts, no_parts, built, finished, walk}
-use Rattle.bq_parser.specs.declared.tree.Statement.TheVariants.{CreateStream, CreateQuery, Explain, DropQuery}
+use Rattle.bq_parser.specs.Reading.{Parts, no_parts, built, finished, walk, walk_on}
+use Rattle.bq_parser.specs.declared.tree.Statement.TheVariants.{CreateStream, CreateQuery, Explain, DropQuery, Checkpoint, ResumeRows, ResumeGiven, ResumeCell, ResumeTuple}
 use Rattle.bq_parser.proofs.WalkLaws.{walk_append}
 
 -- the parts q are those of p with these columns, and what is left of the last one
@@ -112,27 +113,31 @@ atoms_walk p a (b ∷ atoms) h =
     )
 
 -- the tokens lead to a place where the statement may end, and where a semicolon may stand
-pub record IsRead (s : Statement) : Type 0 where
+pub record IsRead (w : List ℕ) (s : Statement) : Type 0 where
   pub to : Place
   pub parts : Parts
-  pub read : walk Start no_parts (statement_tokens s) ≡ Ok (to, parts)
+  pub read : walk Start no_parts (tokens_with (word w ∷ []) s) ≡ Ok (to, parts)
   pub finished_there : finished to parts ≡ Some s
   pub ends : walk to parts (semicolon ∷ []) ≡ Ok (Ended, parts)
   pub finished_behind : finished Ended parts ≡ Some s
 
-stream_read : (name : List ℕ) (c : ColumnDef) (cs : List ColumnDef) → IsRead (CreateStream name (record { items = c ∷ cs }))
-stream_read name c cs =
+stream_read : (w name : List ℕ) (c : ColumnDef) (cs : List ColumnDef) → IsRead w (CreateStream name (record { items = c ∷ cs }))
+stream_read w name c cs =
     let read = columns_walk (record no_parts { form = forms.Stream; name = name }) c cs in
     record { to = Complete; parts = read.0; read = read.1; finished_there = ap (λ m. Some (built m.form m)) read.2; ends = refl; finished_behind = ap (λ m. Some (built m.form m)) read.2 }
 
 -- the parts behind AS
-abbrev pub query_named : List ℕ → Bool → Parts
-query_named name shared = record no_parts { form = forms.Query; name = name; shared = shared }
+abbrev pub query_named : List ℕ → List ℕ → Bool → Bool → Parts
+query_named w name shared k = record no_parts { form = forms.Query; name = name; shared = shared; compact = k; spelling = cond k w (codes "COMPACT") }
 
 -- the tokens up to AS
-query_head : (name : List ℕ) (shared : Bool) (more : List Lexeme) → walk Start no_parts (key CreateKey ∷ shared_tokens shared ++ key QueryKey ∷ word name ∷ key AsKey ∷ more) ≡ walk QuerySelect (query_named name shared) more
-query_head name true more = refl
-query_head name false more = refl
+query_head : (w name : List ℕ) (shared k : Bool) (more : List Lexeme) → is_compact w ≡ true → walk Start no_parts (key CreateKey ∷ shared_tokens shared ++ compact_tokens (word w ∷ []) k ++ key QueryKey ∷ word name ∷ key AsKey ∷ more) ≡ walk QuerySelect (query_named w name shared k) more
+query_head w name true false more h = refl
+query_head w name false false more h = refl
+query_head w name true true more h =
+    let ls = key QueryKey ∷ word name ∷ key AsKey ∷ more in ap (λ b. walk_on (cond b (Some (AfterCompact, BeginSharedCompact)) None) no_parts (word w) ls (λ pl r. walk pl r ls)) h
+query_head w name false true more h =
+    let ls = key QueryKey ∷ word name ∷ key AsKey ∷ more in ap (λ b. walk_on (cond b (Some (AfterCompact, BeginCompact)) None) no_parts (word w) ls (λ pl r. walk pl r ls)) h
 
 abbrev pub select_words : Bool → List Lexeme
 select_words d = key SelectKey ∷ distinct_tokens d
@@ -141,58 +146,86 @@ first_selected : (p : Parts) (c : ColumnAst) (cs : List ColumnAst) (more : List 
 first_selected p c [] more = refl
 first_selected p c (d ∷ cs) more = refl
 
-query_begun : (name : List ℕ) (shared d : Bool) (c : ColumnAst) (cs : List ColumnAst) (more : List Lexeme) → walk QuerySelect (query_named name shared) (select_words d ++ (separated comma column_tokens (c ∷ cs) ++ more)) ≡ walk SelectedStream (record (query_named name shared) { distinct = d }) (separated comma column_tokens (c ∷ cs) ++ more)
-query_begun name shared true c cs more = refl
-query_begun name shared false c cs more = first_selected (query_named name shared) c cs more
+query_begun : (w name : List ℕ) (shared k d : Bool) (c : ColumnAst) (cs : List ColumnAst) (more : List Lexeme) → walk QuerySelect (query_named w name shared k) (select_words d ++ (separated comma column_tokens (c ∷ cs) ++ more)) ≡ walk SelectedStream (record (query_named w name shared k) { distinct = d }) (separated comma column_tokens (c ∷ cs) ++ more)
+query_begun w name shared k true c cs more = refl
+query_begun w name shared k false c cs more = first_selected (query_named w name shared k) c cs more
 
 regroup : (a b c d : List Lexeme) → ((a ++ b) ++ c) ++ d ≡ a ++ (b ++ (c ++ d))
 regroup a b c d = simp append_assoc
 
 -- the tokens from SELECT up to the atoms
-query_front : (name : List ℕ) (shared d : Bool) (c : ColumnAst) (cs : List ColumnAst) (n : List ℕ) (ns : List (List ℕ)) (more : List Lexeme) → (stream : List ℕ) × (walk QuerySelect (query_named name shared) (((select_words d ++ separated comma column_tokens (c ∷ cs)) ++ key FromKey ∷ separated comma name_tokens (n ∷ ns)) ++ more) ≡ walk AfterFrom (record (query_named name shared) { distinct = d; select = c ∷ cs; from = n ∷ ns; stream = stream }) more)
-query_front name shared d c cs n ns more =
-    let p1 : Parts = record (query_named name shared) { distinct = d } in
+query_front : (w name : List ℕ) (shared k d : Bool) (c : ColumnAst) (cs : List ColumnAst) (n : List ℕ) (ns : List (List ℕ)) (more : List Lexeme) → (stream : List ℕ) × (walk QuerySelect (query_named w name shared k) (((select_words d ++ separated comma column_tokens (c ∷ cs)) ++ key FromKey ∷ separated comma name_tokens (n ∷ ns)) ++ more) ≡ walk AfterFrom (record (query_named w name shared k) { distinct = d; select = c ∷ cs; from = n ∷ ns; stream = stream }) more)
+query_front w name shared k d c cs n ns more =
+    let p1 : Parts = record (query_named w name shared k) { distinct = d } in
     let chosen = selected_walk p1 c cs in
     let p2 : Parts = record p1 { select = c ∷ cs; stream = chosen.0 } in (
       chosen.0,
-      ap (walk QuerySelect (query_named name shared)) (regroup (select_words d) (separated comma column_tokens (c ∷ cs)) (key FromKey ∷ separated comma name_tokens (n ∷ ns)) more)
-          ∙ query_begun name shared d c cs (key FromKey ∷ separated comma name_tokens (n ∷ ns) ++ more)
+      ap (walk QuerySelect (query_named w name shared k)) (regroup (select_words d) (separated comma column_tokens (c ∷ cs)) (key FromKey ∷ separated comma name_tokens (n ∷ ns)) more)
+          ∙ query_begun w name shared k d c cs (key FromKey ∷ separated comma name_tokens (n ∷ ns) ++ more)
           ∙ walk_append SelectedStream p1 (separated comma column_tokens (c ∷ cs)) (key FromKey ∷ separated comma name_tokens (n ∷ ns) ++ more) AfterSelected p2 chosen.1
           ∙ walk_append FromName p2 (separated comma name_tokens (n ∷ ns)) more AfterFrom (record p2 { from = n ∷ ns }) (from_walk p2 n ns),
     )
 
-query_read : (name : List ℕ) (shared d : Bool) (c : ColumnAst) (cs : List ColumnAst) (n : List ℕ) (ns : List (List ℕ)) (atoms : List AtomAst) → AllByRecursion HasColumn atoms → IsRead (CreateQuery name (record { distinct = d; select = record { items = c ∷ cs }; from = record { items = n ∷ ns }; atoms = record { items = atoms } }) shared)
-query_read name shared d c cs n ns [] h =
-    let front = query_front name shared d c cs n ns [] in
-    record { to = AfterFrom; parts = record (query_named name shared) { distinct = d; select = c ∷ cs; from = n ∷ ns; stream = front.0 }; read = query_head name shared _ ∙ front.1; finished_there = refl; ends = refl; finished_behind = refl }
-query_read name shared d c cs n ns (a ∷ atoms) h =
-    let front = query_front name shared d c cs n ns (where_tokens (a ∷ atoms)) in
-    let p : Parts = record (query_named name shared) { distinct = d; select = c ∷ cs; from = n ∷ ns; stream = front.0 } in
+query_read : (w name : List ℕ) (shared k d : Bool) (c : ColumnAst) (cs : List ColumnAst) (n : List ℕ) (ns : List (List ℕ)) (atoms : List AtomAst) → is_compact w ≡ true → AllByRecursion HasColumn atoms → IsRead w (CreateQuery name (record { compact = k; distinct = d; select = record { items = c ∷ cs }; from = record { items = n ∷ ns }; atoms = record { items = atoms } }) shared)
+query_read w name shared k d c cs n ns [] is h =
+    let front = query_front w name shared k d c cs n ns [] in
+    record { to = AfterFrom; parts = record (query_named w name shared k) { distinct = d; select = c ∷ cs; from = n ∷ ns; stream = front.0 }; read = query_head w name shared k _ is ∙ front.1; finished_there = refl; ends = refl; finished_behind = refl }
+query_read w name shared k d c cs n ns (a ∷ atoms) is h =
+    let front = query_front w name shared k d c cs n ns (where_tokens (a ∷ atoms)) in
+    let p : Parts = record (query_named w name shared k) { distinct = d; select = c ∷ cs; from = n ∷ ns; stream = front.0 } in
     let last = atoms_walk p a atoms h in
     record {
       to = AfterAtom;
       parts = last.0;
-      read = query_head name shared _ ∙ front.1 ∙ last.1;
+      read = query_head w name shared k _ is ∙ front.1 ∙ last.1;
       finished_there = ap (λ m. Some (built forms.Query m)) last.2;
       ends = refl;
       finished_behind = ap (λ m. Some (built m.form m)) last.2;
     }
 
-stream_items : (name : List ℕ) (columns : List ColumnDef) → 0 < length columns → IsRead (CreateStream name (record { items = columns }))
-stream_items name [] h = absurd (omega arith)
-stream_items name (c ∷ cs) h = stream_read name c cs
+-- the integers of a tuple
+values_walk : (p : Parts) (values : List ℤ) → walk AfterValue p (map number values) ≡ Ok (AfterValue, record p { values = p.values ++ values })
+values_walk p [] = ap (λ zs. Ok (AfterValue, record p { values = zs })) (sym (append-nil p.values))
+values_walk p (z ∷ values) = values_walk (record p { values = p.values ++ z ∷ [] }) values ∙ ap (λ zs. Ok (AfterValue, record p { values = zs })) (append_assoc p.values (z ∷ []) values)
 
-query_items : (name : List ℕ) (shared d : Bool) (select : List ColumnAst) (from : List (List ℕ)) (atoms : List AtomAst) → 0 < length select → 0 < length from → AllByRecursion HasColumn atoms → IsRead (CreateQuery name (record { distinct = d; select = record { items = select }; from = record { items = from }; atoms = record { items = atoms } }) shared)
-query_items name shared d [] from atoms h k a = absurd (omega arith)
-query_items name shared d (c ∷ cs) [] atoms h k a = absurd (omega arith)
-query_items name shared d (c ∷ cs) (n ∷ ns) atoms h k a = query_read name shared d c cs n ns atoms a
+-- the parts behind SELECT in a line of a checkpoint
+abbrev tuple_named : List ℕ → Parts
+tuple_named name = record no_parts { form = forms.Tuple; name = name }
+
+tuple_read : (w name : List ℕ) (z : ℤ) (values : List ℤ) → IsRead w (ResumeTuple name (record { items = z ∷ values }))
+tuple_read w name z values = record {
+  to = AfterValue;
+  parts = record (tuple_named name) { values = z ∷ values };
+  read = values_walk (record (tuple_named name) { values = z ∷ [] }) values;
+  finished_there = refl;
+  ends = refl;
+  finished_behind = refl;
+}
+
+tuple_items : (w name : List ℕ) (values : List ℤ) → 0 < length values → IsRead w (ResumeTuple name (record { items = values }))
+tuple_items w name [] h = absurd (omega arith)
+tuple_items w name (z ∷ values) h = tuple_read w name z values
+
+stream_items : (w name : List ℕ) (columns : List ColumnDef) → 0 < length columns → IsRead w (CreateStream name (record { items = columns }))
+stream_items w name [] h = absurd (omega arith)
+stream_items w name (c ∷ cs) h = stream_read w name c cs
+
+query_items : (w name : List ℕ) (shared k d : Bool) (select : List ColumnAst) (from : List (List ℕ)) (atoms : List AtomAst) → is_compact w ≡ true → 0 < length select → 0 < length from → AllByRecursion HasColumn atoms → IsRead w (CreateQuery name (record { compact = k; distinct = d; select = record { items = select }; from = record { items = from }; atoms = record { items = atoms } }) shared)
+query_items w name shared k d [] from atoms is h l a = absurd (omega arith)
+query_items w name shared k d (c ∷ cs) [] atoms is h l a = absurd (omega arith)
+query_items w name shared k d (c ∷ cs) (n ∷ ns) atoms is h l a = query_read w name shared k d c cs n ns atoms is a
 
 -- each whole statement is read from its tokens
-pub is_read : (s : Statement) → IsWhole s → IsRead s
-is_read (CreateStream name columns) w = stream_items name columns.items w
-is_read (CreateQuery name select shared) w = query_items name shared select.distinct select.select.items select.from.items select.atoms.items w.0 w.1 w.2
-is_read (Explain name) w = record { to = Complete; parts = record no_parts { form = forms.Explain; name = name }; read = refl; finished_there = refl; ends = refl; finished_behind = refl }
-is_read (DropQuery name) w = record { to = Complete; parts = record no_parts { form = forms.Drop; name = name }; read = refl; finished_there = refl; ends = refl; finished_behind = refl }
+pub is_read : (w : List ℕ) (s : Statement) → is_compact w ≡ true → IsWhole s → IsRead w s
+is_read w (CreateStream name columns) is h = stream_items w name columns.items h
+is_read w (CreateQuery name select shared) is h = query_items w name shared select.compact select.distinct select.select.items select.from.items select.atoms.items is h.0 h.1 h.2
+is_read w (Explain name) is h = record { to = Complete; parts = record no_parts { form = forms.Explain; name = name }; read = refl; finished_there = refl; ends = refl; finished_behind = refl }
+is_read w (DropQuery name) is h = record { to = Complete; parts = record no_parts { form = forms.Drop; name = name }; read = refl; finished_there = refl; ends = refl; finished_behind = refl }
+is_read w Checkpoint is h = record { to = Complete; parts = record no_parts { form = forms.Checkpoint }; read = refl; finished_there = refl; ends = refl; finished_behind = refl }
+is_read w (ResumeRows rows) is h = record { to = Complete; parts = record no_parts { form = forms.Rows; count = rows }; read = refl; finished_there = refl; ends = refl; finished_behind = refl }
+is_read w (ResumeGiven name rows) is h = record { to = Complete; parts = record no_parts { form = forms.Given; name = name; count = rows }; read = refl; finished_there = refl; ends = refl; finished_behind = refl }
+is_read w (ResumeCell name index content) is h = record { to = Complete; parts = record no_parts { form = forms.Cell; name = name; index = index; count = content }; read = refl; finished_there = refl; ends = refl; finished_behind = refl }
+is_read w (ResumeTuple name values) is h = tuple_items w name values.items h
 
 -- what a spelled statement is read as
 pub record ReadAs (ts : List Lexeme) (s : Statement) : Type 0 where
@@ -202,9 +235,9 @@ pub record ReadAs (ts : List Lexeme) (s : Statement) : Type 0 where
   pub finished_there : finished to parts ≡ Some s
 
 pub spelled_read : (ts : List Lexeme) (s : Statement) → Spells ts s → ReadAs ts s
-spelled_read ts s (w, spelled) =
-    let r = is_read s w in
+spelled_read ts s (whole, w, is, spelled) =
+    let r = is_read w s is whole in
     elim spelled [
       | inl e ↦ record { to = r.to; parts = r.parts; read = ap (walk Start no_parts) e ∙ r.read; finished_there = r.finished_there }
-      | inr e ↦ record { to = Ended; parts = r.parts; read = ap (walk Start no_parts) e ∙ walk_append Start no_parts (statement_tokens s) (semicolon ∷ []) r.to r.parts r.read ∙ r.ends; finished_there = r.finished_behind }
+      | inr e ↦ record { to = Ended; parts = r.parts; read = ap (walk Start no_parts) e ∙ walk_append Start no_parts (tokens_with (word w ∷ []) s) (semicolon ∷ []) r.to r.parts r.read ∙ r.ends; finished_there = r.finished_behind }
     ]

@@ -2,15 +2,17 @@
 use Rattle.std.proofs.Common.{◌≡◌, ℕ, ℤ, Bool, true, false, cond, List, [], ◌∷◌, ◌++◌, length, map, Option, Some, None, refl, ap, sym, ◌∙◌, ◌+◌, ◌≤◌, ◌<◌, inl, inr, nat_lt, take, pos, length-append, lt-ltb, arith}
 use Rattle.std.proofs.Common.{IfSome, ◌&&◌, subst}
 use Rattle.bq_text.specs.Value.{value_of, fits_i64, integer, is_integer}
-use Rattle.bq_text.specs.declared.key.Key.TheVariants.{CreateKey, StreamKey, QueryKey, AsKey, SelectKey, DistinctKey, FromKey, WhereKey, AndKey, InKey}
+use Rattle.bq_text.specs.declared.key.Key.TheVariants.{CreateKey, StreamKey, QueryKey, AsKey, SelectKey, DistinctKey, FromKey, WhereKey, AndKey, InKey, CheckpointKey, ResumeKey}
 use Rattle.bq_lexer.specs.declared.token.TokenKind.{TokenKind}
 use Rattle.bq_lexer.specs.declared.token.TokenKind.TheVariants as kinds
 use Rattle.bq_parser.specs.declared.places.Place.{Place}
-use Rattle.bq_parser.specs.declared.places.Place.TheVariants.{Start, AfterCreate, AfterShared, StreamName, OpenColumns, ColumnName, AfterColumn, DomainLow, FirstPoint, SecondPoint, DomainHigh, AfterDomain, QueryName, QueryAs, QuerySelect, FirstSelected, SelectedStream, SelectedPoint, SelectedColumn, AfterSelected, FromName, AfterFrom, AtomLeft, LeftPoint, LeftColumn, ColumnOp, RightAny, IntegerOp, RightStream, RightPoint, RightColumn, AfterAtom, ExplainName, AfterDrop, DropName, Complete}
-use Rattle.bq_parser.specs.Steps.{step}
+use Rattle.bq_parser.specs.declared.places.Place.TheVariants.{Start, AfterCreate, AfterShared, AfterCompact, StreamName, OpenColumns, ColumnName, AfterColumn, DomainLow, FirstPoint, SecondPoint, DomainHigh, AfterDomain, QueryName, QueryAs, QuerySelect, FirstSelected, SelectedStream, SelectedPoint, SelectedColumn, AfterSelected, FromName, AfterFrom, AtomLeft, LeftPoint, LeftColumn, ColumnOp, RightAny, IntegerOp, RightStream, RightPoint, RightColumn, AfterAtom, ExplainName, AfterDrop, DropName, AfterResume, ResumeWhat, GivenRows, CellIndex, CellContent, TupleValue, AfterValue, Complete, Ended}
+use Rattle.bq_parser.specs.Steps.{step_of}
+use Rattle.bq_parser.specs.Grammar.{is_compact}
 use Rattle.bq_parser.specs.Syntax.{lexeme_as, lexeme_of, lexemes}
 use Rattle.bq_parser.proofs.WalkLaws.{walk_append}
-use Rattle.bq_parser.proofs.Verdict.{kind_same}
+use Rattle.bq_parser.proofs.Verdict.{step_same}
+use Rattle.bq_parser.proofs.Told.{where_some}
 use Rattle.bq_lexer.specs.declared.token.Token.{Token}
 use Rattle.bq_lexer.proofs.TextKinds.{integer_text}
 use Rattle.std.proofs.lemmas.List.{take_all, take-append-le, length-take-le}
@@ -23,6 +25,7 @@ use Rattle.bq_parser.specs.declared.places.Action.TheVariants as actions
 use Rattle.bq_parser.specs.declared.tree.OperandAst.TheVariants.{Column, Integer}
 use Rattle.bq_parser.specs.declared.draft.Draft.{Draft}
 use Rattle.bq_parser.specs.declared.draft.Kept.{Kept}
+use Rattle.bq_parser.specs.declared.draft.Form.TheVariants as forms
 use Rattle.bq_parser.specs.DraftSteps.{kept, or_far, put, drafted}
 use Rattle.bq_parser.specs.Grammar.{Lexeme}
 use Rattle.bq_parser.specs.Keeping.{keep, kept_column, kept_number, kept_def, kept_operand, kept_atom, kept_parts, SaysFor, IsCut, IsRead}
@@ -76,6 +79,8 @@ kept_act actions.BeginDrop l w p e = refl
 kept_act actions.BeginStream l w p e = refl
 kept_act actions.BeginQuery l w p e = refl
 kept_act actions.BeginShared l w p e = refl
+kept_act actions.BeginCompact l w p e = refl
+kept_act actions.BeginSharedCompact l w p e = refl
 kept_act actions.Named l w p e = ap (λ x. record (kept_parts p) { name = kept x }) e
 kept_act actions.BeginColumns l w p e = refl
 kept_act actions.ColumnIs l w p e = ap (λ x. record (kept_parts p) { column = kept x }) e
@@ -98,6 +103,14 @@ kept_act actions.OpGreaterEqual l w p e = refl
 kept_act actions.OpUnequal l w p e = refl
 kept_act actions.AddIntegerAtom l w p e = ap (λ z. record (kept_parts p) { atoms = put 16 (record { left = kept_operand p.left; op = p.op; right = Integer z }) (keep kept_atom 16 p.atoms) }) e ∙ ap (λ k. record (kept_parts p) { atoms = k }) (put_last kept_atom 16 p.atoms (record { left = p.left; op = p.op; right = Integer (number_of l) }))
 kept_act actions.AddColumnAtom l w p e = ap (λ x. record (kept_parts p) { atoms = put 16 (record { left = kept_operand p.left; op = p.op; right = Column (record { stream = kept p.stream; column = kept x }) }) (keep kept_atom 16 p.atoms) }) e ∙ ap (λ k. record (kept_parts p) { atoms = k }) (put_last kept_atom 16 p.atoms (record { left = p.left; op = p.op; right = Column (record { stream = p.stream; column = text_of l }) }))
+kept_act actions.BeginCheckpoint l w p e = refl
+kept_act actions.RowsAre l w p e = ap (λ z. record (kept_parts p) { form = forms.Rows; count = z }) e
+kept_act actions.BeginGiven l w p e = refl
+kept_act actions.BeginCell l w p e = refl
+kept_act actions.IndexIs l w p e = ap (λ z. record (kept_parts p) { index = z }) e
+kept_act actions.CountIs l w p e = ap (λ z. record (kept_parts p) { count = z }) e
+kept_act actions.BeginTuple l w p e = refl
+kept_act actions.AddValue l w p e = ap (λ z. record (kept_parts p) { values = put 8 z (keep kept_number 8 p.values) }) e ∙ ap (λ k. record (kept_parts p) { values = k }) (put_last kept_number 8 p.values (number_of l))
 
 -- the text of each token says what its action takes
 far_cond : (b : Bool) (z : ℤ) → or_far (cond b (Some z) None) ≡ cond b z (pos 9223372036854775807)
@@ -108,11 +121,18 @@ says_value : (w : List ℕ) → is_integer w ≡ true → or_far (value_of w) �
 unfolding value_of
 says_value w h = ap (λ t. or_far (cond (t && fits_i64 (integer w)) (Some (integer w)) None)) h ∙ far_cond (fits_i64 (integer w)) (integer w)
 
-pub says : (place : Place) (k : TokenKind) (w : List ℕ) → (k ≡ kinds.Integer → is_integer w ≡ true) → IfSome (step place k) (λ m. SaysFor m.1 (lexeme_as k w) w)
+pub says : (place : Place) (k : TokenKind) (w : List ℕ) → (k ≡ kinds.Integer → is_integer w ≡ true) → IfSome (step_of place k w) (λ m. SaysFor m.1 (lexeme_as k w) w)
 says AtomLeft kinds.Integer w h = says_value w (h refl)
 says RightAny kinds.Integer w h = says_value w (h refl)
 says DomainLow kinds.Integer w h = says_value w (h refl)
 says DomainHigh kinds.Integer w h = says_value w (h refl)
+says AfterResume kinds.Integer w h = says_value w (h refl)
+says GivenRows kinds.Integer w h = says_value w (h refl)
+says CellIndex kinds.Integer w h = says_value w (h refl)
+says CellContent kinds.Integer w h = says_value w (h refl)
+says TupleValue kinds.Integer w h = says_value w (h refl)
+says AfterValue kinds.Integer w h = says_value w (h refl)
+says AfterResume kinds.Word w h = refl
 says StreamName kinds.Word w h = refl
 says ColumnName kinds.Word w h = refl
 says QueryName kinds.Word w h = refl
@@ -128,8 +148,18 @@ says RightColumn kinds.Word w h = refl
 says ExplainName kinds.Word w h = refl
 says DropName kinds.Word w h = refl
 says Start (kinds.Reserved CreateKey) w h = tt
+says Start (kinds.Reserved CheckpointKey) w h = tt
+says Start (kinds.Reserved ResumeKey) w h = tt
+says ResumeWhat (kinds.Reserved AsKey) w h = tt
+says ResumeWhat (kinds.Reserved FromKey) w h = tt
+says ResumeWhat (kinds.Reserved SelectKey) w h = tt
+says AfterValue kinds.Semi w h = tt
 says AfterCreate (kinds.Reserved StreamKey) w h = tt
 says AfterShared (kinds.Reserved QueryKey) w h = tt
+says AfterCreate kinds.Word w h = where_some (is_compact w) (AfterCompact, actions.BeginCompact) (λ m. SaysFor m.1 (lexeme_as kinds.Word w) w) tt
+says AfterShared kinds.Word w h = where_some (is_compact w) (AfterCompact, actions.BeginSharedCompact) (λ m. SaysFor m.1 (lexeme_as kinds.Word w) w) tt
+says AfterCompact (kinds.Reserved QueryKey) w h = tt
+says Ended kinds.Word w h = tt
 says OpenColumns kinds.Open w h = tt
 says AfterColumn kinds.Comma w h = tt
 says AfterColumn (kinds.Reserved InKey) w h = tt
@@ -155,7 +185,7 @@ says AfterAtom (kinds.Reserved AndKey) w h = tt
 says _ _ _ _ = tt
 
 -- one token more is read
-pub read_more : (line : List ℕ) (ts : List Token) (t : Token) (place to : Place) (a : Action) (d : Draft) (w : List ℕ) → IsRead line ts place d → step place t.kind ≡ Some (to, a) → w ≡ slice_range line t.from t.to → IsCut line t → IsRead line (ts ++ t ∷ []) to (drafted a w d)
+pub read_more : (line : List ℕ) (ts : List Token) (t : Token) (place to : Place) (a : Action) (d : Draft) (w : List ℕ) → IsRead line ts place d → step_of place t.kind (slice_range line t.from t.to) ≡ Some (to, a) → w ≡ slice_range line t.from t.to → IsCut line t → IsRead line (ts ++ t ∷ []) to (drafted a w d)
 read_more line ts t place to a d w r e same cut =
     let l = lexeme_of line t in
     let P : Option (Place × Action) → Type 0 = λ o. IfSome o (λ m. SaysFor m.1 l (slice_range line t.from t.to)) in
@@ -164,6 +194,6 @@ read_more line ts t place to a d w r e same cut =
       parts = act a l r.parts;
       read = ap (walk Start no_parts) (map-append (lexeme_of line) ts (t ∷ []))
           ∙ walk_append Start no_parts (lexemes line ts) (l ∷ []) place r.parts r.read
-          ∙ ap (λ o. walk_on o r.parts l [] (λ pl q. walk pl q [])) (ap (step place) (kind_same t.kind (slice_range line t.from t.to)) ∙ e);
+          ∙ ap (λ o. walk_on o r.parts l [] (λ pl q. walk pl q [])) (step_same place t.kind (slice_range line t.from t.to) ∙ e);
       keeps = ap (λ x. drafted a x d) same ∙ ap (drafted a (slice_range line t.from t.to)) r.keeps ∙ kept_act a l (slice_range line t.from t.to) r.parts says_it;
     }

@@ -125,7 +125,7 @@ still : {X : Type 0} (P Q : X → Type 0) → ((x : X) → P x → Q x) → (xs 
 still P Q f xs h = All-from_recursion Q xs (all_still P Q f xs (recursion_from_All P xs h))
 
 -- the shape of a stream stays
-shape_stays : (streams more : List Shape) (n : ℕ) → n < length streams → shape_at (streams ++ more) n ≡ shape_at streams n
+pub shape_stays : (streams more : List Shape) (n : ℕ) → n < length streams → shape_at (streams ++ more) n ≡ shape_at streams n
 shape_stays [] more n h = absurd (omega arith)
 shape_stays (s ∷ streams) more zero h = refl
 shape_stays (s ∷ streams) more (suc n) h = shape_stays streams more n (omega arith)

@@ -165,9 +165,9 @@ resolves_back streams q is limits there =
     let attrs_back = map_same (IsColumnOf streams from) (column_named streams from) (attr_for streams s.from.items) (attr_back streams is from there.from apart) q.select (recursion_from_All (IsColumnOf streams from) q.select there.select) in
     let atoms_back = map_same (HasSides streams from) (atom_named streams from) (atom_for streams s.from.items) (atom_back streams is from there.from apart) q.atoms (recursion_from_All (HasSides streams from) q.atoms there.atoms) in
     let same : query_for streams s ≡ q =
-    ap (λ (f : List ℕ). query_with streams q.distinct f (query_for streams s).select (query_for streams s).atoms) numbers_back
-    ∙ ap₂ (λ (a : List Attr) (t : List Atom). query_with streams q.distinct from a t) attrs_back atoms_back
-    ∙ ap (λ (d : List Domain). let r : QueryValue = record { distinct = q.distinct; from = from; select = q.select; atoms = q.atoms; domains = d } in r) (sym there.domains) in
+    ap (λ (f : List ℕ). let r : QueryValue = record (query_with streams q.distinct f (query_for streams s).select (query_for streams s).atoms) { compact = q.compact } in r) numbers_back
+    ∙ ap₂ (λ (a : List Attr) (t : List Atom). let r : QueryValue = record (query_with streams q.distinct from a t) { compact = q.compact } in r) attrs_back atoms_back
+    ∙ ap (λ (d : List Domain). let r : QueryValue = record { distinct = q.distinct; from = from; select = q.select; atoms = q.atoms; domains = d; compact = q.compact } in r) (sym there.domains) in
     resolves (has_streams streams s) (has_columns streams s) (all_differ s.from.items) (query_for streams s)
     (both (list_all (λ name. is_some (stream_number streams name)) s.from.items) _ (all_known streams is from numbers) placed)
     under

@@ -10,7 +10,7 @@ use Rattle.bq_lexer.proofs.Longest.{all_take}
 use Rattle.bq_schema.specs.Rows.{begins_comma, IsRowText}
 use Rattle.bq_parser.specs.LineKind.{is_row}
 use Rattle.bq_parser.specs.Laws.{RowsAreRows}
-use Rattle.bq_parser.proofs.Spaced.{StopsFor, prefix_stops, and_left, and_right}
+use Rattle.bq_parser.proofs.Prefixes.{StopsFor, prefix_stops, and_left, and_right}
 
 le_same : (m : ℕ) → nat_le m m ≡ true
 le_same m = grind (arith, nat_tests)

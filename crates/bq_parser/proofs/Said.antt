@@ -1,5 +1,5 @@
 -- What the tokens of a statement say of its names and integers.
-use Rattle.std.proofs.Common.{◌≡◌, ℕ, ◌+◌, ◌-◌, ◌<◌, ◌≤◌, Bool, true, false, ◌&&◌, ◌||◌, ℤ, nat_lt, List, [], ◌∷◌, ◌++◌, length, drop, get_or, zero, suc, Option, Some, None, refl, ap, sym, ◌∙◌, arith, append-nil, append_assoc, length-drop, flat_map}
+use Rattle.std.proofs.Common.{◌≡◌, ℕ, ◌+◌, ◌-◌, ◌<◌, ◌≤◌, Bool, true, false, cond, not, ◌&&◌, ◌||◌, ℤ, nat_lt, List, [], ◌∷◌, ◌++◌, length, map, drop, get_or, is_none, zero, suc, codes, Option, Some, None, refl, ap, sym, ◌∙◌, arith, append-nil, append_assoc, length-drop, flat_map}
 use Rattle.std.specs.Prelude.{slice_range}
 use Rattle.std.specs.List.{list_any, AllByRecursion}
 use Rattle.std.proofs.lemmas.Bool.Decides.{nat_tests}
@@ -11,9 +11,10 @@ use Rattle.bq_lexer.specs.declared.token.TokenKind.TheVariants as kinds
 use Rattle.bq_lexer.specs.declared.token.Token.{Token}
 use Rattle.bq_lexer.specs.Tokens.{kind_of}
 use Rattle.bq_lexer.specs.Standing.{StandFrom}
-use Rattle.bq_lexer.proofs.TextKinds.{word_text}
+use Rattle.bq_lexer.proofs.TextKinds.{word_text, integer_text}
+use Rattle.bq_text.specs.Value.{value_of, fits_i64, integer, is_integer}
 use Rattle.bq_text.specs.Name.{is_name}
-use Rattle.bq_text.specs.declared.key.Key.TheVariants.{SelectKey, AndKey, FromKey}
+use Rattle.bq_text.specs.declared.key.Key.TheVariants.{AsKey, SelectKey, AndKey, FromKey}
 use Rattle.bq_model.specs.declared.atom.Op.{Op}
 use Rattle.bq_model.specs.declared.atom.Op.TheVariants.{Lt, Eq, Gt, Le, Ge, Ne}
 use Rattle.bq_schema.specs.declared.column.ColumnDef.{ColumnDef}
@@ -22,12 +23,13 @@ use Rattle.bq_parser.specs.declared.tree.OperandAst.{OperandAst}
 use Rattle.bq_parser.specs.declared.tree.OperandAst.TheVariants.{Column, Integer}
 use Rattle.bq_parser.specs.declared.tree.AtomAst.{AtomAst}
 use Rattle.bq_parser.specs.declared.tree.SelectAst.{SelectAst}
-use Rattle.bq_parser.specs.Grammar.{Lexeme, word, key, comma, semicolon, separated, name_tokens, domain_tokens, coldef_tokens, column_tokens, operand_tokens, op_token, atom_tokens, where_tokens, distinct_tokens, select_tokens, statement_tokens}
+use Rattle.bq_parser.specs.Grammar.{Lexeme, word, number, key, comma, semicolon, separated, name_tokens, domain_tokens, coldef_tokens, column_tokens, operand_tokens, op_token, atom_tokens, where_tokens, distinct_tokens, select_tokens, tokens_with}
 use Rattle.bq_parser.specs.Syntax.{lexeme_as, lexeme_of, lexemes}
 use Rattle.bq_parser.specs.declared.tree.Statement.TheVariants.{CreateQuery}
-use Rattle.bq_parser.specs.Limits.{word_in, number_in, integers_of, integer_in, integers_in, is_long}
-use Rattle.bq_parser.specs.DraftLimits.{is_word_kind, is_long_token, ends_in}
+use Rattle.bq_parser.specs.Limits.{word_in, number_in, integers_of, integer_in, integers_in, is_long, is_wide}
+use Rattle.bq_parser.specs.DraftLimits.{is_word_kind, is_long_token, is_integer_kind, is_wide_token, ends_in}
 use Rattle.bq_parser.specs.Keeping.{IsCut}
+use Rattle.bq_parser.proofs.Compact.{create_tokens}
 use Rattle.bq_parser.proofs.Names.{name_by}
 
 -- what holds of each holds at each place
@@ -81,6 +83,38 @@ long_names line (t ∷ ts) c =
     ∙ ap (λ b. list_any is_long (word_in (lexeme_of line t)) || b) (long_names line ts c.1)
     ∙ sym (list_any-append is_long (word_in (lexeme_of line t)) (flat_map word_in (lexemes line ts)))
 
+none_as : (b : Bool) (z : ℤ) → is_none (cond b (Some z) None) ≡ (not b || false)
+none_as true z = refl
+none_as false z = refl
+
+wide_integer : (w : List ℕ) → is_integer w ≡ true → is_none (value_of w) ≡ list_any is_wide (integer w ∷ [])
+unfolding value_of
+wide_integer w h = ap (λ t. is_none (cond (t && fits_i64 (integer w)) (Some (integer w)) None)) h ∙ none_as (fits_i64 (integer w)) (integer w)
+
+wide_as : (k : TokenKind) (w : List ℕ) → kind_of w ≡ Some k → (is_integer_kind k && is_none (value_of w)) ≡ list_any is_wide (number_in (lexeme_as k w))
+wide_as kinds.Integer w h = wide_integer w (integer_text w h)
+wide_as kinds.Word w h = refl
+wide_as (kinds.Reserved k) w h = refl
+wide_as kinds.Comma w h = refl
+wide_as kinds.Point w h = refl
+wide_as kinds.Open w h = refl
+wide_as kinds.Close w h = refl
+wide_as kinds.Less w h = refl
+wide_as kinds.Equal w h = refl
+wide_as kinds.Greater w h = refl
+wide_as kinds.LessEqual w h = refl
+wide_as kinds.GreaterEqual w h = refl
+wide_as kinds.Unequal w h = refl
+wide_as kinds.Semi w h = refl
+
+-- a token that is an integer of more than 64 bits says one
+pub wide_numbers : (line : List ℕ) (ts : List Token) → AllByRecursion (IsCut line) ts → list_any (is_wide_token line) ts ≡ list_any is_wide (flat_map number_in (lexemes line ts))
+wide_numbers line [] c = refl
+wide_numbers line (t ∷ ts) c =
+    ap (λ b. b || list_any (is_wide_token line) ts) (wide_as t.kind (slice_range line t.from t.to) c.0.kind)
+    ∙ ap (λ b. list_any is_wide (number_in (lexeme_of line t)) || b) (wide_numbers line ts c.1)
+    ∙ sym (list_any-append is_wide (number_in (lexeme_of line t)) (flat_map number_in (lexemes line ts)))
+
 -- a word that can be kept
 abbrev pub IsNamed : Lexeme → Type 0
 IsNamed (word w) = is_name w ≡ true
@@ -128,6 +162,14 @@ all_named line (t ∷ ts) c h =
 -- a semicolon says nothing of names
 pub without_semicolon : (ls : List Lexeme) → flat_map word_in (ls ++ semicolon ∷ []) ≡ flat_map word_in ls
 without_semicolon ls = flat_map-append word_in ls (semicolon ∷ []) ∙ append-nil (flat_map word_in ls)
+
+pub integers_but_semicolon : (ls : List Lexeme) → flat_map number_in (ls ++ semicolon ∷ []) ≡ flat_map number_in ls
+integers_but_semicolon ls = flat_map-append number_in ls (semicolon ∷ []) ∙ append-nil (flat_map number_in ls)
+
+-- the integers of a tuple
+pub numbers_tuple : (values : List ℤ) → flat_map number_in (map number values) ≡ values
+numbers_tuple [] = refl
+numbers_tuple (z ∷ values) = ap (λ zs. z ∷ zs) (numbers_tuple values)
 
 pub all_left : {X : Type 0} (P : X → Type 0) (xs ys : List X) → AllByRecursion P (xs ++ ys) → AllByRecursion P xs
 all_left P [] ys h = tt
@@ -222,12 +264,22 @@ numbers_select s =
     ∙ ap (λ zs. zs ++ flat_map number_in (where_tokens s.atoms.items)) (numbers_names s.from.items)
     ∙ numbers_where s.atoms.items
 
+numbers_behind : (name : List ℕ) (s : SelectAst) (shared k : Bool) → flat_map number_in (create_tokens (word (codes "COMPACT") ∷ []) shared k (word name ∷ key AsKey ∷ select_tokens s)) ≡ integers_in s.atoms.items
+numbers_behind name s true true = numbers_select s
+numbers_behind name s true false = numbers_select s
+numbers_behind name s false true = numbers_select s
+numbers_behind name s false false = numbers_select s
+
 -- the integers of a query are those of its atoms
 pub numbers_query : (name : List ℕ) (s : SelectAst) (shared : Bool) → integers_of (CreateQuery name s shared) ≡ integers_in s.atoms.items
-numbers_query name s true = numbers_select s
-numbers_query name s false = numbers_select s
+numbers_query name s shared = numbers_behind name s shared s.compact
+
+all_behind : (P : Lexeme → Type 0) (w : List ℕ) (shared k : Bool) (more : List Lexeme) → AllByRecursion P (create_tokens (word w ∷ []) shared k more) → AllByRecursion P more
+all_behind P w true true more h = h.1.1.1.1
+all_behind P w true false more h = h.1.1.1
+all_behind P w false true more h = h.1.1.1
+all_behind P w false false more h = h.1.1
 
 -- what holds of each token of a query holds of its name, and of those from SELECT on
-pub all_query : (P : Lexeme → Type 0) (name : List ℕ) (s : SelectAst) (shared : Bool) → AllByRecursion P (statement_tokens (CreateQuery name s shared)) → P (word name) × AllByRecursion P (select_tokens s)
-all_query P name s true h = (h.1.1.1.0, h.1.1.1.1.1)
-all_query P name s false h = (h.1.1.0, h.1.1.1.1)
+pub all_query : (P : Lexeme → Type 0) (w name : List ℕ) (s : SelectAst) (shared : Bool) → AllByRecursion P (tokens_with (word w ∷ []) (CreateQuery name s shared)) → P (word name) × AllByRecursion P (select_tokens s)
+all_query P w name s shared h = let behind = all_behind P w shared s.compact (word name ∷ key AsKey ∷ select_tokens s) h in (behind.0, behind.1.1)

@@ -211,7 +211,7 @@ module _ (streams : List Shape) (from : List (List ℕ)) where
     )
 
 -- the name of a stream that has a number
-named : (streams : List Shape) (name : List ℕ) → is_some (stream_number streams name) ≡ true → (shape_at streams (number_for streams name)).name ≡ name
+pub named : (streams : List Shape) (name : List ℕ) → is_some (stream_number streams name) ≡ true → (shape_at streams (number_for streams name)).name ≡ name
 named streams name h = same_names _ _ (position-Some (λ s. bytes_eq s.name name) streams (number_for streams name) (record { name = []; columns = [] }) (some_is (stream_number streams name) h)).1
 
 -- different streams have different numbers

@@ -1,17 +1,21 @@
 -- The tokens that lead to a place, and each step adds one.
-use Rattle.std.proofs.Common.{◌≡◌, ◌<◌, true, false, List, [], ◌∷◌, ◌++◌, length, Option, Some, None, ℤ, IfSome, refl, ap, sym, ◌∙◌, append_assoc, arith, inl, inr, length-append, append-nil, subst}
+use Rattle.std.proofs.Common.{◌≡◌, ◌<◌, Bool, true, false, cond, List, [], ◌∷◌, ◌++◌, length, map, Option, Some, None, ℤ, IfSome, refl, ap, sym, ◌∙◌, append_assoc, arith, inl, inr, length-append, append-nil, subst}
 use Rattle.std.specs.List.{AllByRecursion}
-use Rattle.bq_text.specs.declared.key.Key.TheVariants.{CreateKey, StreamKey, QueryKey, AsKey, SelectKey, DistinctKey, FromKey, WhereKey, AndKey, ExplainKey, DropKey, InKey, SharedKey}
+use Rattle.std.proofs.lemmas.List.{map-append}
+use Rattle.bq_text.specs.declared.key.Key.TheVariants.{CreateKey, StreamKey, QueryKey, AsKey, SelectKey, DistinctKey, FromKey, WhereKey, AndKey, ExplainKey, DropKey, InKey, SharedKey, CheckpointKey, ResumeKey}
 use Rattle.bq_parser.specs.declared.places.Place.{Place}
-use Rattle.bq_parser.specs.declared.places.Place.TheVariants.{Start, AfterCreate, AfterShared, StreamName, OpenColumns, ColumnName, AfterColumn, DomainLow, FirstPoint, SecondPoint, DomainHigh, AfterDomain, QueryName, QueryAs, QuerySelect, FirstSelected, SelectedStream, SelectedPoint, SelectedColumn, AfterSelected, FromName, AfterFrom, AtomLeft, LeftPoint, LeftColumn, ColumnOp, RightAny, IntegerOp, RightStream, RightPoint, RightColumn, AfterAtom, ExplainName, AfterDrop, DropName, Complete, Ended}
+use Rattle.bq_parser.specs.declared.places.Place.TheVariants.{Start, AfterCreate, AfterShared, AfterCompact, StreamName, OpenColumns, ColumnName, AfterColumn, DomainLow, FirstPoint, SecondPoint, DomainHigh, AfterDomain, QueryName, QueryAs, QuerySelect, FirstSelected, SelectedStream, SelectedPoint, SelectedColumn, AfterSelected, FromName, AfterFrom, AtomLeft, LeftPoint, LeftColumn, ColumnOp, RightAny, IntegerOp, RightStream, RightPoint, RightColumn, AfterAtom, ExplainName, AfterDrop, DropName, AfterResume, ResumeWhat, GivenRows, CellIndex, CellContent, TupleValue, AfterValue, Complete, Ended}
+use Rattle.bq_parser.specs.declared.places.Action.TheVariants.{BeginCompact, BeginSharedCompact}
 use Rattle.bq_schema.specs.declared.column.ColumnDef.{ColumnDef}
 use Rattle.bq_parser.specs.declared.tree.OperandAst.TheVariants.{Column, Integer}
 use Rattle.bq_parser.specs.declared.tree.AtomAst.{AtomAst}
-use Rattle.bq_parser.specs.Steps.{step}
-use Rattle.bq_parser.specs.Grammar.{Lexeme, word, number, key, comma, point, opening, closing, less, equal, greater, less_equal, greater_equal, unequal, semicolon, separated, name_tokens, coldef_tokens, column_tokens, operand_tokens, op_token, atom_tokens, where_tokens, distinct_tokens, shared_tokens, statement_tokens, IsColumn, HasColumn, IsWhole}
+use Rattle.bq_parser.specs.declared.tree.SelectAst.{SelectAst}
+use Rattle.bq_parser.specs.Steps.{step_of}
+use Rattle.bq_parser.specs.Grammar.{Lexeme, word, number, key, comma, point, opening, closing, less, equal, greater, less_equal, greater_equal, unequal, semicolon, separated, name_tokens, coldef_tokens, column_tokens, operand_tokens, op_token, atom_tokens, where_tokens, distinct_tokens, shared_tokens, compact_tokens, tokens_with, is_compact, IsColumn, HasColumn, IsWhole}
 use Rattle.bq_parser.specs.declared.draft.Form.{Form}
 use Rattle.bq_parser.specs.declared.draft.Form.TheVariants as forms
-use Rattle.bq_parser.specs.Reading.{Parts, act, kind_at, built}
+use Rattle.bq_parser.specs.Reading.{Parts, act, text_of, kind_at, built}
+use Rattle.bq_parser.proofs.Said.{select_grouped}
 
 -- each of xs as its tokens, and a separator behind each
 abbrev pub ended_by : {X : Type 0} → Lexeme → (X → List Lexeme) → List X → List Lexeme
@@ -39,7 +43,7 @@ abbrev pub stream_head : Parts → List Lexeme
 stream_head p = key CreateKey ∷ key StreamKey ∷ word p.name ∷ opening ∷ []
 
 abbrev pub create_head : Parts → List Lexeme
-create_head p = key CreateKey ∷ shared_tokens p.shared
+create_head p = key CreateKey ∷ shared_tokens p.shared ++ compact_tokens (word p.spelling ∷ []) p.compact
 
 abbrev pub query_head : Parts → List Lexeme
 query_head p = create_head p ++ key QueryKey ∷ word p.name ∷ key AsKey ∷ key SelectKey ∷ distinct_tokens p.distinct
@@ -53,11 +57,15 @@ where_head p = from_head p ++ separated comma name_tokens p.from ++ key WhereKey
 abbrev pub where_all : Parts → List Lexeme
 where_all p = from_head p ++ separated comma name_tokens p.from ++ where_tokens p.atoms
 
+abbrev pub tuple_head : Parts → List Lexeme
+tuple_head p = key ResumeKey ∷ word p.name ∷ key SelectKey ∷ []
+
 -- the tokens before a place
 abbrev pub told : Place → Parts → List Lexeme
 told Start p = []
 told AfterCreate p = key CreateKey ∷ []
 told AfterShared p = key CreateKey ∷ key SharedKey ∷ []
+told AfterCompact p = create_head p
 told StreamName p = key CreateKey ∷ key StreamKey ∷ []
 told OpenColumns p = key CreateKey ∷ key StreamKey ∷ word p.name ∷ []
 told ColumnName p = stream_head p ++ ended_by comma coldef_tokens p.columns
@@ -90,8 +98,15 @@ told AfterAtom p = where_all p
 told ExplainName p = key ExplainKey ∷ []
 told AfterDrop p = key DropKey ∷ []
 told DropName p = key DropKey ∷ key QueryKey ∷ []
-told Complete p = statement_tokens (built p.form p)
-told Ended p = statement_tokens (built p.form p) ++ semicolon ∷ []
+told AfterResume p = key ResumeKey ∷ []
+told ResumeWhat p = key ResumeKey ∷ word p.name ∷ []
+told GivenRows p = key ResumeKey ∷ word p.name ∷ key AsKey ∷ []
+told CellIndex p = key ResumeKey ∷ word p.name ∷ key FromKey ∷ []
+told CellContent p = key ResumeKey ∷ word p.name ∷ key FromKey ∷ number p.index ∷ []
+told TupleValue p = tuple_head p
+told AfterValue p = tuple_head p ++ map number p.values
+told Complete p = tokens_with (word p.spelling ∷ []) (built p.form p)
+told Ended p = tokens_with (word p.spelling ∷ []) (built p.form p) ++ semicolon ∷ []
 
 -- what holds of the parts at a place
 pub record Selected (p : Parts) : Type 0 where
@@ -117,8 +132,14 @@ Fine AfterDomain p = (p.form ≡ forms.Stream) × (0 < length p.columns)
 Fine ExplainName p = p.form ≡ forms.Explain
 Fine AfterDrop p = p.form ≡ forms.Drop
 Fine DropName p = p.form ≡ forms.Drop
+Fine GivenRows p = p.form ≡ forms.Given
+Fine CellIndex p = p.form ≡ forms.Cell
+Fine CellContent p = p.form ≡ forms.Cell
+Fine TupleValue p = (p.form ≡ forms.Tuple) × (p.values ≡ [])
+Fine AfterValue p = (p.form ≡ forms.Tuple) × (0 < length p.values)
 Fine Complete p = IsWhole (built p.form p)
 Fine Ended p = IsWhole (built p.form p)
+Fine AfterCompact p = p.form ≡ forms.Query
 Fine QueryName p = p.form ≡ forms.Query
 Fine QueryAs p = p.form ≡ forms.Query
 Fine QuerySelect p = p.form ≡ forms.Query
@@ -158,11 +179,17 @@ more_than_none : {X : Type 0} (xs : List X) (x : X) → 0 < length (xs ++ x ∷ 
 more_than_none xs x = omega (arith, length-append xs (x ∷ []))
 
 -- what is built is spelled by what was told
-pub query_spelled : (p : Parts) → statement_tokens (built forms.Query p) ≡ where_all p
-query_spelled p = simp append_assoc
+regroup : (a b c d e f g : List Lexeme) → a ++ (b ++ (c ++ (d ++ (e ++ (f ++ g))))) ≡ ((((a ++ (b ++ c)) ++ d) ++ e) ++ f) ++ g
+regroup a b c d e f g = simp append_assoc
 
-pub query_told : (p : Parts) → p.form ≡ forms.Query → statement_tokens (built p.form p) ≡ where_all p
-query_told p f = ap (λ m. statement_tokens (built m p)) f ∙ query_spelled p
+pub query_spelled : (p : Parts) → tokens_with (word p.spelling ∷ []) (built forms.Query p) ≡ where_all p
+query_spelled p =
+    let s : SelectAst = record { compact = p.compact; distinct = p.distinct; select = record { items = p.select }; from = record { items = p.from }; atoms = record { items = p.atoms } } in
+    ap (λ ls. create_head p ++ (key QueryKey ∷ word p.name ∷ key AsKey ∷ ls)) (select_grouped s)
+    ∙ regroup (create_head p) (key QueryKey ∷ word p.name ∷ key AsKey ∷ key SelectKey ∷ []) (distinct_tokens p.distinct) (separated comma column_tokens p.select) (key FromKey ∷ []) (separated comma name_tokens p.from) (where_tokens p.atoms)
+
+pub query_told : (p : Parts) → p.form ≡ forms.Query → tokens_with (word p.spelling ∷ []) (built p.form p) ≡ where_all p
+query_told p f = ap (λ m. tokens_with (word p.spelling ∷ []) (built m p)) f ∙ query_spelled p
 
 pub none_told : (p : Parts) → p.atoms ≡ [] → where_all p ≡ from_head p ++ separated comma name_tokens p.from
 none_told p e = ap (λ atoms. from_head p ++ separated comma name_tokens p.from ++ where_tokens atoms) e ∙ append-nil (from_head p ++ separated comma name_tokens p.from)
@@ -178,21 +205,45 @@ abbrev pub column_of : Parts → Option (ℤ × ℤ) → ColumnDef
 column_of p domain = record { name = p.column; domain = domain }
 
 -- a stream whose columns are all there
-stream_told : (p : Parts) (columns : List ColumnDef) → p.form ≡ forms.Stream → statement_tokens (built p.form (record p { columns = columns })) ≡ stream_head p ++ (separated comma coldef_tokens columns ++ closing ∷ [])
-stream_told p columns f = ap (λ m. statement_tokens (built m (record p { columns = columns }))) f
+stream_told : (p : Parts) (columns : List ColumnDef) → p.form ≡ forms.Stream → tokens_with (word p.spelling ∷ []) (built p.form (record p { columns = columns })) ≡ stream_head p ++ (separated comma coldef_tokens columns ++ closing ∷ [])
+stream_told p columns f = ap (λ m. tokens_with (word p.spelling ∷ []) (built m (record p { columns = columns }))) f
 
 whole_stream : (p : Parts) (columns : List ColumnDef) → p.form ≡ forms.Stream → 0 < length columns → IsWhole (built p.form (record p { columns = columns }))
 whole_stream p columns f some = let P : Form → Type 0 = λ m. IsWhole (built m (record p { columns = columns })) in subst P (sym f) some
 
+-- a line of a checkpoint with one integer, or with two
+given_told : (p : Parts) (z : ℤ) → p.form ≡ forms.Given → (tokens_with (word p.spelling ∷ []) (built p.form (record p { count = z })) ≡ key ResumeKey ∷ word p.name ∷ key AsKey ∷ number z ∷ []) × IsWhole (built p.form (record p { count = z }))
+given_told p z f = let P : Form → Type 0 = λ m. IsWhole (built m (record p { count = z })) in (ap (λ m. tokens_with (word p.spelling ∷ []) (built m (record p { count = z }))) f, subst P (sym f) tt)
+
+cell_told : (p : Parts) (z : ℤ) → p.form ≡ forms.Cell → (tokens_with (word p.spelling ∷ []) (built p.form (record p { count = z })) ≡ key ResumeKey ∷ word p.name ∷ key FromKey ∷ number p.index ∷ number z ∷ []) × IsWhole (built p.form (record p { count = z }))
+cell_told p z f = let P : Form → Type 0 = λ m. IsWhole (built m (record p { count = z })) in (ap (λ m. tokens_with (word p.spelling ∷ []) (built m (record p { count = z }))) f, subst P (sym f) tt)
+
+-- the tuple of a checkpoint
+pub tuple_told : (p : Parts) → p.form ≡ forms.Tuple → tokens_with (word p.spelling ∷ []) (built p.form p) ≡ tuple_head p ++ map number p.values
+tuple_told p f = ap (λ m. tokens_with (word p.spelling ∷ []) (built m p)) f
+
+pub whole_tuple : (p : Parts) → p.form ≡ forms.Tuple → 0 < length p.values → IsWhole (built p.form p)
+whole_tuple p f some = let P : Form → Type 0 = λ m. IsWhole (built m p) in subst P (sym f) some
+
+-- what may be found holds where it is found
+pub where_some : {X : Type 0} (b : Bool) (x : X) (P : X → Type 0) → P x → IfSome (cond b (Some x) None) P
+where_some true x P h = h
+where_some false x P h = tt
+
 -- each step adds its token
-pub told_step : (place : Place) (p : Parts) (l : Lexeme) → Fine place p → IfSome (step place (kind_at l)) (λ m. (told m.0 (act m.1 l p) ≡ told place p ++ l ∷ []) × Fine m.0 (act m.1 l p))
+pub told_step : (place : Place) (p : Parts) (l : Lexeme) → Fine place p → IfSome (step_of place (kind_at l) (text_of l)) (λ m. (told m.0 (act m.1 l p) ≡ told place p ++ l ∷ []) × Fine m.0 (act m.1 l p))
 told_step Start p (key CreateKey) f = (refl, tt)
 told_step Start p (key ExplainKey) f = (refl, refl)
 told_step Start p (key DropKey) f = (refl, refl)
+told_step Start p (key CheckpointKey) f = (refl, tt)
+told_step Start p (key ResumeKey) f = (refl, tt)
 told_step AfterCreate p (key StreamKey) f = (refl, refl)
 told_step AfterCreate p (key QueryKey) f = (refl, refl)
 told_step AfterCreate p (key SharedKey) f = (refl, tt)
+told_step AfterCreate p (word w) f = where_some (is_compact w) (AfterCompact, BeginCompact) (λ m. (told m.0 (act m.1 (word w) p) ≡ told AfterCreate p ++ word w ∷ []) × Fine m.0 (act m.1 (word w) p)) (refl, refl)
+told_step AfterShared p (word w) f = where_some (is_compact w) (AfterCompact, BeginSharedCompact) (λ m. (told m.0 (act m.1 (word w) p) ≡ told AfterShared p ++ word w ∷ []) × Fine m.0 (act m.1 (word w) p)) (refl, refl)
 told_step AfterShared p (key QueryKey) f = (refl, refl)
+told_step AfterCompact p (key QueryKey) f = (refl, f)
 told_step StreamName p (word w) f = (refl, f)
 told_step OpenColumns p opening f = (refl, f)
 told_step ColumnName p (word w) f = (refl, f)
@@ -274,8 +325,20 @@ told_step RightColumn p (word w) f =
     )
 told_step AfterAtom p (key AndKey) f = (ap (λ r. from_head p ++ separated comma name_tokens p.from ++ r) (sym (where_last p.atoms f.1)) ∙ simp append_assoc, f.0)
 told_step AfterAtom p semicolon f = (ap (λ r. r ++ semicolon ∷ []) (query_told p f.0.form), whole_query p f.0)
-told_step ExplainName p (word w) f = (ap (λ m. statement_tokens (built m (record p { name = w }))) f, (let P : Form → Type 0 = λ m. IsWhole (built m (record p { name = w })) in subst P (sym f) tt))
+told_step ExplainName p (word w) f = (ap (λ m. tokens_with (word p.spelling ∷ []) (built m (record p { name = w }))) f, (let P : Form → Type 0 = λ m. IsWhole (built m (record p { name = w })) in subst P (sym f) tt))
 told_step AfterDrop p (key QueryKey) f = (refl, f)
-told_step DropName p (word w) f = (ap (λ m. statement_tokens (built m (record p { name = w }))) f, (let P : Form → Type 0 = λ m. IsWhole (built m (record p { name = w })) in subst P (sym f) tt))
+told_step DropName p (word w) f = (ap (λ m. tokens_with (word p.spelling ∷ []) (built m (record p { name = w }))) f, (let P : Form → Type 0 = λ m. IsWhole (built m (record p { name = w })) in subst P (sym f) tt))
+told_step AfterResume p (number z) f = (refl, tt)
+told_step AfterResume p (word w) f = (refl, tt)
+told_step ResumeWhat p (key AsKey) f = (refl, refl)
+told_step ResumeWhat p (key FromKey) f = (refl, refl)
+told_step ResumeWhat p (key SelectKey) f = (refl, (refl, refl))
+told_step GivenRows p (number z) f = given_told p z f
+told_step CellIndex p (number z) f = (refl, f)
+told_step CellContent p (number z) f = cell_told p z f
+told_step TupleValue p (number z) f = (ap (λ zs. tuple_head p ++ map number (zs ++ z ∷ [])) f.1, (f.0, more_than_none p.values z))
+told_step AfterValue p (number z) f = (ap (λ ls. tuple_head p ++ ls) (map-append number p.values (z ∷ [])), (f.0, more_than_none p.values z))
+told_step AfterValue p semicolon f = (ap (λ ls. ls ++ semicolon ∷ []) (tuple_told p f.0), whole_tuple p f.0 f.1)
 told_step Complete p semicolon f = (refl, f)
+told_step Ended p (word w) f = tt
 told_step _ _ _ _ = tt

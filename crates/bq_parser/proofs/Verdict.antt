@@ -4,33 +4,36 @@ use Rattle.bq_lexer.specs.declared.token.TokenKind.{TokenKind}
 use Rattle.bq_lexer.specs.declared.token.TokenKind.TheVariants.{Word, Reserved, Integer, Comma, Point, Open, Close, Less, Equal, Greater, LessEqual, GreaterEqual, Unequal, Semi}
 use Rattle.bq_lexer.specs.declared.token.Token.{Token}
 use Rattle.bq_parser.specs.declared.places.Place.{Place}
-use Rattle.bq_parser.specs.declared.places.Place.TheVariants.{Start, AfterFrom, AfterAtom, Complete, Ended}
+use Rattle.bq_parser.specs.declared.places.Place.TheVariants.{Start, AfterFrom, AfterAtom, AfterValue, Complete, Ended}
 use Rattle.bq_parser.specs.declared.places.Action.{Action}
 use Rattle.bq_parser.specs.declared.tree.Statement.{Statement}
-use Rattle.bq_parser.specs.Steps.{step}
+use Rattle.std.specs.Prelude.{slice_range}
+use Rattle.bq_parser.specs.Steps.{step_of}
 use Rattle.bq_parser.specs.Grammar.{Lexeme, Spells, Begins}
 use Rattle.bq_parser.specs.declared.draft.Form.TheVariants as forms
-use Rattle.bq_parser.specs.Reading.{Parts, no_parts, act, kind_at, built, finished, walk, walk_on, may_end}
+use Rattle.bq_parser.specs.Reading.{Parts, no_parts, act, text_of, kind_at, built, finished, walk, walk_on, may_end}
 use Rattle.bq_parser.specs.Syntax.{lexeme_as, lexeme_of, lexemes, StopsAt, EndsEarly, after_step, place_after}
+use Rattle.bq_parser.proofs.Compact.{capitals, spelt_walk}
 use Rattle.bq_parser.proofs.WalkLaws.{walk_told, stopped_always}
 use Rattle.bq_parser.proofs.Begun.{begun}
 use Rattle.bq_parser.proofs.Again.{spelled_read}
 
-pub kind_same : (k : TokenKind) (w : List ℕ) → kind_at (lexeme_as k w) ≡ k
-kind_same Word w = refl
-kind_same (Reserved k) w = refl
-kind_same Integer w = refl
-kind_same Comma w = refl
-kind_same Point w = refl
-kind_same Open w = refl
-kind_same Close w = refl
-kind_same Less w = refl
-kind_same Equal w = refl
-kind_same Greater w = refl
-kind_same LessEqual w = refl
-kind_same GreaterEqual w = refl
-kind_same Unequal w = refl
-kind_same Semi w = refl
+-- a token leads where its kind and text do
+pub step_same : (place : Place) (k : TokenKind) (w : List ℕ) → step_of place (kind_at (lexeme_as k w)) (text_of (lexeme_as k w)) ≡ step_of place k w
+step_same place Word w = refl
+step_same place (Reserved k) w = refl
+step_same place Integer w = refl
+step_same place Comma w = refl
+step_same place Point w = refl
+step_same place Open w = refl
+step_same place Close w = refl
+step_same place Less w = refl
+step_same place Equal w = refl
+step_same place Greater w = refl
+step_same place LessEqual w = refl
+step_same place GreaterEqual w = refl
+step_same place Unequal w = refl
+step_same place Semi w = refl
 
 -- a walk that stops at a token
 pub record StopsIn (line : List ℕ) (place : Place) (p : Parts) (ts : List Token) (at : ℕ) : Type 0 where
@@ -42,10 +45,10 @@ pub record StopsIn (line : List ℕ) (place : Place) (p : Parts) (ts : List Toke
   pub whole : ts ≡ front ++ stop ∷ after
   pub place_is : at ≡ stop.from
   pub read : walk place p (lexemes line front) ≡ Ok (to, parts)
-  pub none : step to (kind_at (lexeme_of line stop)) ≡ None
+  pub none : step_of to (kind_at (lexeme_of line stop)) (text_of (lexeme_of line stop)) ≡ None
 
-stops_on : (line : List ℕ) (place : Place) (p : Parts) (t : Token) (ts : List Token) (at : ℕ) (o : Option (Place × Action)) → step place t.kind ≡ o → ((pl : Place) (r : Parts) → place_after pl ts ≡ Err at → StopsIn line pl r ts at) → after_step o t (λ pl. place_after pl ts) ≡ Err at → StopsIn line place p (t ∷ ts) at
-stops_on line place p t ts at None is ih e = record { front = []; stop = t; after = ts; to = place; parts = p; whole = refl; place_is = cc; read = refl; none = ap (step place) (kind_same t.kind _) ∙ is }
+stops_on : (line : List ℕ) (place : Place) (p : Parts) (t : Token) (ts : List Token) (at : ℕ) (o : Option (Place × Action)) → step_of place t.kind (slice_range line t.from t.to) ≡ o → ((pl : Place) (r : Parts) → place_after line pl ts ≡ Err at → StopsIn line pl r ts at) → after_step o t (λ pl. place_after line pl ts) ≡ Err at → StopsIn line place p (t ∷ ts) at
+stops_on line place p t ts at None is ih e = record { front = []; stop = t; after = ts; to = place; parts = p; whole = refl; place_is = cc; read = refl; none = step_same place t.kind (slice_range line t.from t.to) ∙ is }
 stops_on line place p t ts at (Some m) is ih e =
     let l = lexeme_of line t in
     let s = ih m.0 (act m.1 l p) e in
@@ -57,25 +60,25 @@ stops_on line place p t ts at (Some m) is ih e =
       parts = s.parts;
       whole = ap (λ r. t ∷ r) s.whole;
       place_is = s.place_is;
-      read = ap (λ o. walk_on o p l (lexemes line s.front) (λ pl r. walk pl r (lexemes line s.front))) (ap (step place) (kind_same t.kind _) ∙ is) ∙ s.read;
+      read = ap (λ o. walk_on o p l (lexemes line s.front) (λ pl r. walk pl r (lexemes line s.front))) (step_same place t.kind (slice_range line t.from t.to) ∙ is) ∙ s.read;
       none = s.none;
     }
 
-stops : (line : List ℕ) (place : Place) (p : Parts) (ts : List Token) (at : ℕ) → place_after place ts ≡ Err at → StopsIn line place p ts at
+stops : (line : List ℕ) (place : Place) (p : Parts) (ts : List Token) (at : ℕ) → place_after line place ts ≡ Err at → StopsIn line place p ts at
 stops line place p [] at e = cc
-stops line place p (t ∷ ts) at e = stops_on line place p t ts at (step place t.kind) refl (λ pl r. stops line pl r ts at) e
+stops line place p (t ∷ ts) at e = stops_on line place p t ts at (step_of place t.kind (slice_range line t.from t.to)) refl (λ pl r. stops line pl r ts at) e
 
 -- what is read so far begins a statement
 pub begins_read : (ts : List Lexeme) (to : Place) (q : Parts) → walk Start no_parts ts ≡ Ok (to, q) → Begins ts
-begins_read ts to q e = let t = walk_told Start no_parts ts to q tt e in subst Begins t.0 (begun to q t.1)
+begins_read ts to q e = let t = walk_told Start no_parts ts to q tt e in subst Begins t.0 (begun to q t.1 (spelt_walk Start no_parts ts to q capitals e))
 
-stopped_begins : (front : List Lexeme) (stop : Lexeme) (to : Place) (q : Parts) → walk Start no_parts front ≡ Ok (to, q) → step to (kind_at stop) ≡ None → Begins (front ++ stop ∷ []) → ⊥
+stopped_begins : (front : List Lexeme) (stop : Lexeme) (to : Place) (q : Parts) → walk Start no_parts front ≡ Ok (to, q) → step_of to (kind_at stop) (text_of stop) ≡ None → Begins (front ++ stop ∷ []) → ⊥
 stopped_begins front stop to q read none (more, s, spells) =
     let r = spelled_read ((front ++ stop ∷ []) ++ more) s spells in
     let stuck = ap (walk Start no_parts) (append_assoc front (stop ∷ []) more) ∙ stopped_always Start no_parts front stop more to q read none in
     cc (r.read, stuck)
 
-pub stops_at : (line : List ℕ) (ts : List Token) (at : ℕ) → place_after Start ts ≡ Err at → StopsAt line ts at
+pub stops_at : (line : List ℕ) (ts : List Token) (at : ℕ) → place_after line Start ts ≡ Err at → StopsAt line ts at
 stops_at line ts at e =
     let s = stops line Start no_parts ts at e in
     record {
@@ -92,6 +95,7 @@ stops_at line ts at e =
 not_finished : (place : Place) (p : Parts) → may_end place ≡ false → finished place p ≡ None
 not_finished AfterFrom p e = cc
 not_finished AfterAtom p e = cc
+not_finished AfterValue p e = cc
 not_finished Complete p e = cc
 not_finished Ended p e = cc
 not_finished _ p e = refl
@@ -99,6 +103,7 @@ not_finished _ p e = refl
 pub is_finished : (place : Place) (p : Parts) → may_end place ≡ true → (s : Statement) × (finished place p ≡ Some s)
 is_finished AfterFrom p e = (built forms.Query p, refl)
 is_finished AfterAtom p e = (built forms.Query p, refl)
+is_finished AfterValue p e = (built forms.Tuple p, refl)
 is_finished Complete p e = (built p.form p, refl)
 is_finished Ended p e = (built p.form p, refl)
 is_finished _ p e = cc

@@ -1,13 +1,14 @@
 -- What reading tells of the grammar.
 use Rattle.std.proofs.Common.{◌≡◌, List, [], ◌∷◌, ◌++◌, Option, Some, None, IfSome, refl, ap, sym, ◌∙◌, append_assoc, inl, inr, append-nil, subst, Ok, Err}
 use Rattle.bq_parser.specs.declared.places.Place.{Place}
-use Rattle.bq_parser.specs.declared.places.Place.TheVariants.{AfterFrom, AfterAtom, Complete, Ended}
+use Rattle.bq_parser.specs.declared.places.Place.TheVariants.{AfterFrom, AfterAtom, AfterValue, Complete, Ended}
 use Rattle.bq_parser.specs.declared.tree.Statement.{Statement}
-use Rattle.bq_parser.specs.Steps.{step}
+use Rattle.bq_parser.specs.Steps.{step_of}
 use Rattle.bq_parser.specs.Grammar.{Lexeme, Spells}
 use Rattle.bq_parser.specs.declared.draft.Form.TheVariants as forms
-use Rattle.bq_parser.specs.Reading.{Parts, act, kind_at, built, finished, walk, walk_on}
+use Rattle.bq_parser.specs.Reading.{Parts, act, text_of, kind_at, built, finished, walk, walk_on}
 use Rattle.bq_parser.specs.declared.places.Action.{Action}
+use Rattle.bq_parser.proofs.Compact.{IsSpelt}
 use Rattle.bq_parser.proofs.Told.{told, Fine, told_step, none_told, query_spelled, no_atoms}
 
 -- what one step and the rest of a walk tell
@@ -26,7 +27,7 @@ walk_told place p [] to q f e =
     let same : (place, p) ≡ (to, q) = cc in
     let P : Place × Parts → Type 0 = λ m. WalkTold place p [] m.0 m.1 in
     subst P same (sym (append-nil (told place p)), f)
-walk_told place p (l ∷ ts) to q f e = told_on place p l ts (step place (kind_at l)) to q (λ pl r. walk_told pl r ts to q) (told_step place p l f) e
+walk_told place p (l ∷ ts) to q f e = told_on place p l ts (step_of place (kind_at l) (text_of l)) to q (λ pl r. walk_told pl r ts to q) (told_step place p l f) e
 
 -- where reading stops: a front that is read, and a token that goes on nowhere
 pub record Stopped (place : Place) (p : Parts) (ts rest : List Lexeme) : Type 0 where
@@ -38,9 +39,9 @@ pub record Stopped (place : Place) (p : Parts) (ts rest : List Lexeme) : Type 0 
   pub left : rest ≡ stop ∷ after
   pub whole : ts ≡ front ++ stop ∷ after
   pub read : walk place p front ≡ Ok (to, parts)
-  pub none : step to (kind_at stop) ≡ None
+  pub none : step_of to (kind_at stop) (text_of stop) ≡ None
 
-stopped_on : (place : Place) (p : Parts) (l : Lexeme) (ts rest : List Lexeme) (o : Option (Place × Action)) → step place (kind_at l) ≡ o → ((pl : Place) (r : Parts) → walk pl r ts ≡ Err rest → Stopped pl r ts rest) → walk_on o p l ts (λ pl r. walk pl r ts) ≡ Err rest → Stopped place p (l ∷ ts) rest
+stopped_on : (place : Place) (p : Parts) (l : Lexeme) (ts rest : List Lexeme) (o : Option (Place × Action)) → step_of place (kind_at l) (text_of l) ≡ o → ((pl : Place) (r : Parts) → walk pl r ts ≡ Err rest → Stopped pl r ts rest) → walk_on o p l ts (λ pl r. walk pl r ts) ≡ Err rest → Stopped place p (l ∷ ts) rest
 stopped_on place p l ts rest None is ih e = record { front = []; stop = l; after = ts; to = place; parts = p; left = cc; whole = refl; read = refl; none = is }
 stopped_on place p l ts rest (Some m) is ih e =
     let s = ih m.0 (act m.1 l p) e in
@@ -58,7 +59,7 @@ stopped_on place p l ts rest (Some m) is ih e =
 
 pub walk_stopped : (place : Place) (p : Parts) (ts rest : List Lexeme) → walk place p ts ≡ Err rest → Stopped place p ts rest
 walk_stopped place p [] rest e = cc
-walk_stopped place p (l ∷ ts) rest e = stopped_on place p l ts rest (step place (kind_at l)) refl (λ pl r. walk_stopped pl r ts rest) e
+walk_stopped place p (l ∷ ts) rest e = stopped_on place p l ts rest (step_of place (kind_at l) (text_of l)) refl (λ pl r. walk_stopped pl r ts rest) e
 
 walk_append_on : (o : Option (Place × Action)) (p : Parts) (l : Lexeme) (ts more : List Lexeme) (to : Place) (q : Parts) → ((pl : Place) (r : Parts) → walk pl r ts ≡ Ok (to, q) → walk pl r (ts ++ more) ≡ walk to q more) → walk_on o p l ts (λ pl r. walk pl r ts) ≡ Ok (to, q) → walk_on o p l (ts ++ more) (λ pl r. walk pl r (ts ++ more)) ≡ walk to q more
 walk_append_on None p l ts more to q ih e = cc
@@ -69,28 +70,32 @@ pub walk_append : (place : Place) (p : Parts) (ts more : List Lexeme) (to : Plac
 walk_append place p [] more to q e =
     let same : (place, p) ≡ (to, q) = cc in
     ap (λ (m : Place × Parts). walk m.0 m.1 more) same
-walk_append place p (l ∷ ts) more to q e = walk_append_on (step place (kind_at l)) p l ts more to q (λ pl r. walk_append pl r ts more to q) e
+walk_append place p (l ∷ ts) more to q e = walk_append_on (step_of place (kind_at l) (text_of l)) p l ts more to q (λ pl r. walk_append pl r ts more to q) e
 
 -- what stops a walk stops each that begins so
-pub stopped_always : (place : Place) (p : Parts) (front : List Lexeme) (stop : Lexeme) (more : List Lexeme) (to : Place) (q : Parts) → walk place p front ≡ Ok (to, q) → step to (kind_at stop) ≡ None → walk place p (front ++ stop ∷ more) ≡ Err (stop ∷ more)
+pub stopped_always : (place : Place) (p : Parts) (front : List Lexeme) (stop : Lexeme) (more : List Lexeme) (to : Place) (q : Parts) → walk place p front ≡ Ok (to, q) → step_of to (kind_at stop) (text_of stop) ≡ None → walk place p (front ++ stop ∷ more) ≡ Err (stop ∷ more)
 stopped_always place p front stop more to q e none = walk_append place p front (stop ∷ more) to q e ∙ ap (λ o. walk_on o q stop more (λ pl r. walk pl r more)) none
 
 -- where a statement may end, the tokens are one's
-pub finished_spells : (place : Place) (p : Parts) (s : Statement) → Fine place p → finished place p ≡ Some s → Spells (told place p) s
-finished_spells AfterFrom p s f e =
+pub finished_spells : (place : Place) (p : Parts) (s : Statement) → Fine place p → IsSpelt p → finished place p ≡ Some s → Spells (told place p) s
+finished_spells AfterFrom p s f h e =
     let same : built forms.Query p ≡ s = cc in
     let P : Statement → Type 0 = λ s. Spells (told AfterFrom p) s in
-    subst P same ((f.0.select, f.0.from, no_atoms p f.1), inl (sym (query_spelled p ∙ none_told p f.1)))
-finished_spells AfterAtom p s f e =
+    subst P same ((f.0.select, f.0.from, no_atoms p f.1), p.spelling, h, inl (sym (query_spelled p ∙ none_told p f.1)))
+finished_spells AfterAtom p s f h e =
     let same : built forms.Query p ≡ s = cc in
     let P : Statement → Type 0 = λ s. Spells (told AfterAtom p) s in
-    subst P same ((f.0.select, f.0.from, f.0.atoms), inl (sym (query_spelled p)))
-finished_spells Complete p s f e =
+    subst P same ((f.0.select, f.0.from, f.0.atoms), p.spelling, h, inl (sym (query_spelled p)))
+finished_spells AfterValue p s f h e =
+    let same : built forms.Tuple p ≡ s = cc in
+    let P : Statement → Type 0 = λ s. Spells (told AfterValue p) s in
+    subst P same (f.1, p.spelling, h, inl refl)
+finished_spells Complete p s f h e =
     let same : built p.form p ≡ s = cc in
     let P : Statement → Type 0 = λ s. Spells (told Complete p) s in
-    subst P same (f, inl refl)
-finished_spells Ended p s f e =
+    subst P same (f, p.spelling, h, inl refl)
+finished_spells Ended p s f h e =
     let same : built p.form p ≡ s = cc in
     let P : Statement → Type 0 = λ s. Spells (told Ended p) s in
-    subst P same (f, inr refl)
-finished_spells _ _ _ _ e = cc
+    subst P same (f, p.spelling, h, inr refl)
+finished_spells _ _ _ _ _ e = cc

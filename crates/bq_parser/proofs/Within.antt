@@ -1,5 +1,5 @@
 -- What is kept of a statement passes the limits that the statement passes, and within them it is the statement.
-use Rattle.std.proofs.Common.{◌≡◌, ℕ, ◌^◌, ◌≤◌, ◌⊎◌, inl, inr, Bool, true, false, cond, ◌||◌, ℤ, pos, negsuc, int_eq, nat_lt, List, [], ◌∷◌, ◌++◌, length, map, take, Option, Some, None, refl, ap, ap₂, sym, ◌∙◌, arith, subst, append-nil, flat_map, Ok}
+use Rattle.std.proofs.Common.{◌≡◌, ℕ, ◌^◌, ◌≤◌, ◌⊎◌, inl, inr, Bool, true, false, cond, not, ◌||◌, ℤ, pos, negsuc, int_eq, nat_lt, List, [], ◌∷◌, ◌++◌, length, map, take, Option, Some, None, refl, ap, ap₂, sym, ◌∙◌, arith, subst, append-nil, flat_map, Ok}
 use Rattle.std.specs.List.{list_any, AllByRecursion}
 use Rattle.std.proofs.lemmas.Bool.Decides.{nat_tests}
 use Rattle.std.proofs.lemmas.List.{take_all, length-map, map-append}
@@ -12,7 +12,7 @@ use Rattle.bq_lexer.specs.Tokens.{tokens}
 use Rattle.bq_lexer.specs.Standing.{StandFrom}
 use Rattle.bq_model.specs.Query.{is_soft}
 use Rattle.bq_parser.specs.declared.places.Place.{Place}
-use Rattle.bq_parser.specs.declared.places.Place.TheVariants.{Start, AfterFrom, AfterAtom, Complete, Ended}
+use Rattle.bq_parser.specs.declared.places.Place.TheVariants.{Start, AfterFrom, AfterAtom, AfterValue, Complete, Ended}
 use Rattle.bq_schema.specs.declared.column.ColumnDef.{ColumnDef}
 use Rattle.bq_parser.specs.declared.tree.ColumnAst.{ColumnAst}
 use Rattle.bq_parser.specs.declared.tree.OperandAst.{OperandAst}
@@ -20,24 +20,25 @@ use Rattle.bq_parser.specs.declared.tree.OperandAst.TheVariants.{Column, Integer
 use Rattle.bq_parser.specs.declared.tree.AtomAst.{AtomAst}
 use Rattle.bq_parser.specs.declared.tree.SelectAst.{SelectAst}
 use Rattle.bq_parser.specs.declared.tree.Statement.{Statement}
-use Rattle.bq_parser.specs.declared.tree.Statement.TheVariants.{CreateStream, CreateQuery, Explain, DropQuery}
+use Rattle.bq_parser.specs.declared.tree.Statement.TheVariants.{CreateStream, CreateQuery, Explain, DropQuery, Checkpoint, ResumeRows, ResumeGiven, ResumeCell, ResumeTuple}
 use Rattle.bq_parser.specs.declared.draft.Draft.{Draft}
 use Rattle.bq_parser.specs.declared.draft.Form.{Form}
 use Rattle.bq_parser.specs.declared.draft.Form.TheVariants as forms
 use Rattle.bq_parser.specs.declared.parsing.What.{What}
 use Rattle.bq_parser.specs.declared.parsing.What.TheVariants as limits
 use Rattle.bq_parser.specs.DraftSteps.{kept, statement_by, statement_of}
-use Rattle.bq_parser.specs.DraftLimits.{is_long_token, ends_in, limit_in_atoms, limit_in_columns, limit_by, limit_in}
-use Rattle.bq_parser.specs.Grammar.{Lexeme, key, comma, closing, semicolon, separated, name_tokens, coldef_tokens, column_tokens, operand_tokens, op_token, atom_tokens, where_tokens, distinct_tokens, select_tokens, statement_tokens, Spells}
+use Rattle.bq_parser.specs.DraftLimits.{is_long_token, is_wide_token, ends_in, limit_in_atoms, limit_in_columns, limit_by, limit_in}
+use Rattle.bq_parser.specs.Grammar.{Lexeme, word, number, key, comma, closing, semicolon, separated, name_tokens, coldef_tokens, column_tokens, operand_tokens, op_token, atom_tokens, where_tokens, distinct_tokens, select_tokens, tokens_with, Spells}
 use Rattle.bq_parser.specs.Reading.{Parts, no_parts, built, finished, may_end}
 use Rattle.bq_parser.specs.Syntax.{lexemes, IsStatement}
 use Rattle.bq_parser.specs.Keeping.{kept_column, kept_number, kept_domain, kept_def, kept_operand, kept_atom, kept_parts, IsRead}
-use Rattle.bq_parser.specs.Limits.{word_in, number_in, names_of, integers_of, columns_of, selected_by, streams_of, atoms_of, soft_in, column_in, columns_in, integer_in, integers_in, same_column, number_of_different, is_long, is_far, is_reversed, limit_of}
+use Rattle.bq_parser.specs.Limits.{word_in, number_in, names_of, integers_of, columns_of, selected_by, streams_of, atoms_of, soft_in, column_in, columns_in, integer_in, integers_in, same_column, number_of_different, is_long, is_far, is_wide, is_beyond, values_of, is_reversed, limit_of}
+use Rattle.bq_parser.proofs.Compact.{capitals, spelt_walk, long_with, numbers_with}
 use Rattle.bq_parser.proofs.Told.{Fine}
 use Rattle.bq_parser.proofs.WalkLaws.{walk_told, finished_spells}
 use Rattle.bq_parser.proofs.Verdict.{is_finished}
 use Rattle.bq_parser.proofs.Names.{kept_name}
-use Rattle.bq_parser.proofs.Said.{long_names, IsNamed, all_named, without_semicolon, all_left, all_right, all_separated, all_where, all_query, numbers_coldefs, numbers_query, select_grouped, cut_at, or_right}
+use Rattle.bq_parser.proofs.Said.{long_names, IsNamed, all_named, without_semicolon, wide_numbers, integers_but_semicolon, numbers_tuple, all_left, all_right, all_separated, all_where, all_query, numbers_coldefs, numbers_query, select_grouped, cut_at, or_right}
 
 -- names that are kept
 kept_names : (names : List (List ℕ)) → AllByRecursion (λ n. AllByRecursion IsNamed (name_tokens n)) names → map kept names ≡ names
@@ -261,26 +262,32 @@ limit_of_lists s =
     (cond (nat_lt 16 (length (atoms_of s))) (Some limits.Atoms)
     (cond (nat_lt 8 (length (soft_in (atoms_of s)))) (Some limits.Soft)
     (cond (nat_lt 12 (number_of_different same_column (columns_in (atoms_of s)))) (Some limits.Attrs)
-    (cond (list_any is_far (integers_of s)) (Some limits.Value)
+    (cond (list_any (is_beyond s) (integers_of s)) (Some limits.Value)
     (cond (nat_lt 6 (number_of_different int_eq (integers_in (atoms_of s)))) (Some limits.Consts)
-    (cond (list_any (λ c. is_reversed c.domain) (columns_of s)) (Some limits.Domain) None))))))))
+    (cond (list_any (λ c. is_reversed c.domain) (columns_of s)) (Some limits.Domain)
+    (cond (nat_lt 8 (length (values_of s))) (Some limits.Tuple) None)))))))))
 
-same_limit : (m : Form) (p : Parts) → AllByRecursion IsNamed (statement_tokens (built m p)) → limit_by m (kept_parts p) ≡ limit_of_lists (built m p)
-same_limit forms.Stream p h =
+same_limit : (w : List ℕ) (m : Form) (p : Parts) (wide : Bool) → wide ≡ list_any is_wide (integers_of (built m p)) → AllByRecursion IsNamed (tokens_with (word w ∷ []) (built m p)) → limit_by wide m (kept_parts p) ≡ limit_of_lists (built m p)
+same_limit w forms.Stream p wide e h =
     unless (nat_lt 8 (length p.columns)) (Some limits.Columns) _ _ (λ columns.
     kept_columns_limit p.columns (few (length p.columns) 8 columns)
     ∙ ap (λ b. cond b (Some limits.Value) (cond (any_reversed p.columns) (Some limits.Domain) None)) (sym (far_stream p.name p.columns)))
-same_limit forms.Query p h =
-    let s : SelectAst = record { distinct = p.distinct; select = record { items = p.select }; from = record { items = p.from }; atoms = record { items = p.atoms } } in
-    let words = all_query IsNamed p.name s p.shared h in
+same_limit w forms.Query p wide e h =
+    let s : SelectAst = record { compact = p.compact; distinct = p.distinct; select = record { items = p.select }; from = record { items = p.from }; atoms = record { items = p.atoms } } in
+    let words = all_query IsNamed w p.name s p.shared h in
     let n = named_select s words.1 in
     unless (nat_lt 8 (length p.select)) (Some limits.Select) _ _ (λ selected.
     unless (nat_lt 4 (length p.from)) (Some limits.From) _ _ (λ streams.
     unless (nat_lt 16 (length p.atoms)) (Some limits.Atoms) _ _ (λ atoms.
     kept_limit p.atoms (few (length p.atoms) 16 atoms) n.atoms
     ∙ ap (λ zs. limit_at_end (length (soft_in p.atoms)) (columns_in p.atoms) zs (integers_in p.atoms)) (sym (numbers_query p.name s p.shared)))))
-same_limit forms.Explain p h = refl
-same_limit forms.Drop p h = refl
+same_limit w forms.Explain p wide e h = refl
+same_limit w forms.Drop p wide e h = refl
+same_limit w forms.Checkpoint p wide e h = refl
+same_limit w forms.Rows p wide e h = ap (λ b. cond b (Some limits.Value) None) e
+same_limit w forms.Given p wide e h = ap (λ b. cond b (Some limits.Value) None) e
+same_limit w forms.Cell p wide e h = ap (λ b. cond b (Some limits.Value) None) e
+same_limit w forms.Tuple p wide e h = ap (λ b. cond b (Some limits.Value) (cond (nat_lt 8 (length p.values)) (Some limits.Tuple) None)) e
 
 -- no limit is passed, so none of the first ones is
 not_passed : {X : Type 0} (b : Bool) (x : X) (r : Option X) → cond b (Some x) r ≡ None → (b ≡ false) × (r ≡ None)
@@ -300,12 +307,23 @@ near_atoms (a ∷ atoms) h =
     ∙ ap (λ o. (record { left = a.left; op = a.op; right = o }) ∷ map nearer_atom atoms) (near_operand a.right (or_right (list_any is_far (integer_in a.left)) _ here))
     ∙ ap (λ bs. a ∷ bs) (near_atoms atoms (or_right (list_any is_far (integer_in a.left ++ integer_in a.right)) _ both))
 
+-- an integer that fits is kept
+fits_kept : (z : ℤ) → is_wide z ≡ false → kept_number z ≡ z
+fits_kept z h = elim (flag (fits_i64 z)) [
+  | inl e ↦ ap (λ t. cond t z (pos 9223372036854775807)) e
+  | inr e ↦ absurd (let f : true ≡ false = ap not (sym e) ∙ h in cc)
+]
+
+all_fits_kept : (zs : List ℤ) → list_any is_wide zs ≡ false → map kept_number zs ≡ zs
+all_fits_kept [] h = refl
+all_fits_kept (z ∷ zs) h = ap (λ y. y ∷ map kept_number zs) (fits_kept z (or_left (is_wide z) _ h)) ∙ ap (λ ys. z ∷ ys) (all_fits_kept zs (or_right (is_wide z) _ h))
+
 -- within the limits what is kept is the statement
 kept_list : {X : Type 0} (f : X → X) (n : ℕ) (xs : List X) → nat_lt n (length xs) ≡ false → map f xs ≡ xs → take n (map f xs) ≡ xs
 kept_list f n xs short same = ap (take n) same ∙ take_all n xs (few (length xs) n short)
 
-same_statement : (m : Form) (p : Parts) → p.form ≡ m → AllByRecursion IsNamed (statement_tokens (built m p)) → limit_of_lists (built m p) ≡ None → statement_by m (kept_parts p) ≡ built m p
-same_statement forms.Stream p f h e =
+same_statement : (w : List ℕ) (m : Form) (p : Parts) → p.form ≡ m → AllByRecursion IsNamed (tokens_with (word w ∷ []) (built m p)) → limit_of_lists (built m p) ≡ None → statement_by m (kept_parts p) ≡ built m p
+same_statement w forms.Stream p f h e =
     let names = h.1.1 in
     let cs = not_passed (nat_lt 8 (length p.columns)) limits.Columns _ e in
     let near = not_passed (list_any is_far (integers_of (CreateStream p.name (record { items = p.columns })))) limits.Value _ cs.1 in
@@ -313,9 +331,9 @@ same_statement forms.Stream p f h e =
     ∙ ap (λ xs. CreateStream p.name (record { items = xs }))
     (kept_list kept_def 8 p.columns cs.0
     (defs_kept p.columns (all_separated IsNamed comma coldef_tokens p.columns (all_left IsNamed (separated comma coldef_tokens p.columns) (closing ∷ []) names.1.1)) (sym (far_stream p.name p.columns) ∙ near.0)))
-same_statement forms.Query p f h e =
-    let s : SelectAst = record { distinct = p.distinct; select = record { items = p.select }; from = record { items = p.from }; atoms = record { items = p.atoms } } in
-    let words = all_query IsNamed p.name s p.shared h in
+same_statement w forms.Query p f h e =
+    let s : SelectAst = record { compact = p.compact; distinct = p.distinct; select = record { items = p.select }; from = record { items = p.from }; atoms = record { items = p.atoms } } in
+    let words = all_query IsNamed w p.name s p.shared h in
     let n = named_select s words.1 in
     let a = not_passed (nat_lt 8 (length p.select)) limits.Select _ e in
     let b = not_passed (nat_lt 4 (length p.from)) limits.From _ a.1 in
@@ -323,12 +341,28 @@ same_statement forms.Query p f h e =
     let soft = not_passed (nat_lt 8 (length (soft_in p.atoms))) limits.Soft _ c.1 in
     let d = not_passed (nat_lt 12 (number_of_different same_column (columns_in p.atoms))) limits.Attrs _ soft.1 in
     let near = not_passed (list_any is_far (integers_of (CreateQuery p.name s p.shared))) limits.Value _ d.1 in
-    ap (λ w. CreateQuery w (record { distinct = p.distinct; select = record { items = take 8 (map kept_column p.select) }; from = record { items = take 4 (map kept p.from) }; atoms = record { items = take 16 (map kept_atom p.atoms) } }) p.shared) (kept_name p.name words.0)
-    ∙ ap (λ xs. CreateQuery p.name (record { distinct = p.distinct; select = record { items = xs }; from = record { items = take 4 (map kept p.from) }; atoms = record { items = take 16 (map kept_atom p.atoms) } }) p.shared) (kept_list kept_column 8 p.select a.0 (columns_kept p.select n.select))
-    ∙ ap (λ xs. CreateQuery p.name (record { distinct = p.distinct; select = record { items = p.select }; from = record { items = xs }; atoms = record { items = take 16 (map kept_atom p.atoms) } }) p.shared) (kept_list kept 4 p.from b.0 (kept_names p.from n.from))
-    ∙ ap (λ xs. CreateQuery p.name (record { distinct = p.distinct; select = record { items = p.select }; from = record { items = p.from }; atoms = record { items = xs } }) p.shared) (kept_list kept_atom 16 p.atoms c.0 (atoms_kept p.atoms n.atoms ∙ near_atoms p.atoms (ap (list_any is_far) (sym (numbers_query p.name s p.shared)) ∙ near.0)))
-same_statement forms.Explain p f h e = ap Explain (kept_name p.name h.1.0)
-same_statement forms.Drop p f h e = ap DropQuery (kept_name p.name h.1.1.0)
+    ap (λ w. CreateQuery w (record { compact = p.compact; distinct = p.distinct; select = record { items = take 8 (map kept_column p.select) }; from = record { items = take 4 (map kept p.from) }; atoms = record { items = take 16 (map kept_atom p.atoms) } }) p.shared) (kept_name p.name words.0)
+    ∙ ap (λ xs. CreateQuery p.name (record { compact = p.compact; distinct = p.distinct; select = record { items = xs }; from = record { items = take 4 (map kept p.from) }; atoms = record { items = take 16 (map kept_atom p.atoms) } }) p.shared) (kept_list kept_column 8 p.select a.0 (columns_kept p.select n.select))
+    ∙ ap (λ xs. CreateQuery p.name (record { compact = p.compact; distinct = p.distinct; select = record { items = p.select }; from = record { items = xs }; atoms = record { items = take 16 (map kept_atom p.atoms) } }) p.shared) (kept_list kept 4 p.from b.0 (kept_names p.from n.from))
+    ∙ ap (λ xs. CreateQuery p.name (record { compact = p.compact; distinct = p.distinct; select = record { items = p.select }; from = record { items = p.from }; atoms = record { items = xs } }) p.shared) (kept_list kept_atom 16 p.atoms c.0 (atoms_kept p.atoms n.atoms ∙ near_atoms p.atoms (ap (list_any is_far) (sym (numbers_query p.name s p.shared)) ∙ near.0)))
+same_statement w forms.Explain p f h e = ap Explain (kept_name p.name h.1.0)
+same_statement w forms.Drop p f h e = ap DropQuery (kept_name p.name h.1.1.0)
+same_statement w forms.Checkpoint p f h e = refl
+same_statement w forms.Rows p f h e =
+    let fits = not_passed (list_any is_wide (p.count ∷ [])) limits.Value _ e in
+    ap ResumeRows (fits_kept p.count (or_left (is_wide p.count) false fits.0))
+same_statement w forms.Given p f h e =
+    let fits = not_passed (list_any is_wide (p.count ∷ [])) limits.Value _ e in
+    ap₂ ResumeGiven (kept_name p.name h.1.0) (fits_kept p.count (or_left (is_wide p.count) false fits.0))
+same_statement w forms.Cell p f h e =
+    let fits = not_passed (list_any is_wide (p.index ∷ p.count ∷ [])) limits.Value _ e in
+    ap (λ w. ResumeCell w (kept_number p.index) (kept_number p.count)) (kept_name p.name h.1.0)
+    ∙ ap₂ (λ index count. ResumeCell p.name index count) (fits_kept p.index (or_left (is_wide p.index) _ fits.0)) (fits_kept p.count (or_left (is_wide p.count) false (or_right (is_wide p.index) _ fits.0)))
+same_statement w forms.Tuple p f h e =
+    let fits = not_passed (list_any is_wide (flat_map number_in (map number p.values))) limits.Value _ e in
+    let few_values = not_passed (nat_lt 8 (length p.values)) limits.Tuple _ fits.1 in
+    ap (λ w. ResumeTuple w (record { items = take 8 (map kept_number p.values) })) (kept_name p.name h.1.0)
+    ∙ ap (λ zs. ResumeTuple p.name (record { items = zs })) (kept_list kept_number 8 p.values few_values.0 (all_fits_kept p.values (ap (list_any is_wide) (sym (numbers_tuple p.values)) ∙ fits.0)))
 
 same_some : {X : Type 0} (a b : X) → Some a ≡ Some b → a ≡ b
 same_some a b e = cc
@@ -337,6 +371,7 @@ same_some a b e = cc
 form_there : (place : Place) (p : Parts) (s : Statement) → Fine place p → finished place p ≡ Some s → s ≡ built p.form p
 form_there AfterFrom p s f e = same_some s (built forms.Query p) (sym e) ∙ ap (λ m. built m p) (sym f.0.form)
 form_there AfterAtom p s f e = same_some s (built forms.Query p) (sym e) ∙ ap (λ m. built m p) (sym f.0.form)
+form_there AfterValue p s f e = same_some s (built forms.Tuple p) (sym e) ∙ ap (λ m. built m p) (sym f.0)
 form_there Complete p s f e = same_some s (built p.form p) (sym e)
 form_there Ended p s f e = same_some s (built p.form p) (sym e)
 form_there _ p s f e = cc
@@ -345,32 +380,38 @@ form_there _ p s f e = cc
 pub record Judged (line : List ℕ) (ts : List Token) (d : Draft) : Type 0 where
   pub statement : Statement
   pub is : IsStatement line statement
-  pub limit : limit_in ts d ≡ limit_of statement
+  pub limit : limit_in line ts d ≡ limit_of statement
   pub same : limit_of statement ≡ None → statement_of d ≡ statement
 
--- the names of a spelled statement are those of its tokens
-names_spelled : (ls : List Lexeme) (s : Statement) → Spells ls s → flat_map word_in ls ≡ names_of s
-names_spelled ls s (w, inl e) = ap (flat_map word_in) e
-names_spelled ls s (w, inr e) = ap (flat_map word_in) e ∙ without_semicolon (statement_tokens s)
+-- a name of a spelled statement is too long where one of its tokens is
+long_spelled : (ls : List Lexeme) (s : Statement) → Spells ls s → list_any is_long (flat_map word_in ls) ≡ list_any is_long (names_of s)
+long_spelled ls s (whole, w, is, inl e) = ap (λ r. list_any is_long (flat_map word_in r)) e ∙ long_with w s is
+long_spelled ls s (whole, w, is, inr e) = ap (λ r. list_any is_long (flat_map word_in r)) e ∙ ap (list_any is_long) (without_semicolon (tokens_with (word w ∷ []) s)) ∙ long_with w s is
 
-named_spelled : (ls : List Lexeme) (s : Statement) → Spells ls s → AllByRecursion IsNamed ls → AllByRecursion IsNamed (statement_tokens s)
-named_spelled ls s (w, inl e) h = let P : List Lexeme → Type 0 = λ r. AllByRecursion IsNamed r in subst P e h
-named_spelled ls s (w, inr e) h = let P : List Lexeme → Type 0 = λ r. AllByRecursion IsNamed r in all_left IsNamed (statement_tokens s) (semicolon ∷ []) (subst P e h)
+-- the integers of a spelled statement are those of its tokens
+pub integers_spelled : (ls : List Lexeme) (s : Statement) → Spells ls s → flat_map number_in ls ≡ integers_of s
+integers_spelled ls s (whole, w, is, inl e) = ap (flat_map number_in) e ∙ numbers_with w s
+integers_spelled ls s (whole, w, is, inr e) = ap (flat_map number_in) e ∙ integers_but_semicolon (tokens_with (word w ∷ []) s) ∙ numbers_with w s
+
+named_spelled : (ls : List Lexeme) (s : Statement) (t : Spells ls s) → AllByRecursion IsNamed ls → AllByRecursion IsNamed (tokens_with (word t.1 ∷ []) s)
+named_spelled ls s (whole, w, is, inl e) h = let P : List Lexeme → Type 0 = λ r. AllByRecursion IsNamed r in subst P e h
+named_spelled ls s (whole, w, is, inr e) h = let P : List Lexeme → Type 0 = λ r. AllByRecursion IsNamed r in all_left IsNamed (tokens_with (word w ∷ []) s) (semicolon ∷ []) (subst P e h)
 
 judged_parts : (line : List ℕ) (ts : List Token) (p : Parts) → IsStatement line (built p.form p) → Spells (lexemes line ts) (built p.form p) → StandFrom line 0 ts → Judged line ts (kept_parts p)
 judged_parts line ts p is spells stand =
     let s = built p.form p in
     let cuts = cut_at line 0 ts stand in
-    let long : list_any is_long_token ts ≡ list_any is_long (names_of s) = long_names line ts cuts ∙ ap (list_any is_long) (names_spelled (lexemes line ts) s spells) in
-    let named : list_any is_long (names_of s) ≡ false → AllByRecursion IsNamed (statement_tokens s) = λ short. named_spelled (lexemes line ts) s spells (all_named line ts cuts (sym (long_names line ts cuts) ∙ long ∙ short)) in
+    let long : list_any is_long_token ts ≡ list_any is_long (names_of s) = long_names line ts cuts ∙ long_spelled (lexemes line ts) s spells in
+    let wide : list_any (is_wide_token line) ts ≡ list_any is_wide (integers_of s) = wide_numbers line ts cuts ∙ ap (list_any is_wide) (integers_spelled (lexemes line ts) s spells) in
+    let named : list_any is_long (names_of s) ≡ false → AllByRecursion IsNamed (tokens_with (word spells.1 ∷ []) s) = λ short. named_spelled (lexemes line ts) s spells (all_named line ts cuts (sym (long_names line ts cuts) ∙ long ∙ short)) in
     record {
       statement = s;
       is = is;
-      limit = ap (λ b. cond b (Some limits.Name) (limit_by p.form (kept_parts p))) long
-          ∙ unless (list_any is_long (names_of s)) (Some limits.Name) _ _ (λ short. same_limit p.form p (named short));
+      limit = ap (λ b. cond b (Some limits.Name) (limit_by (list_any (is_wide_token line) ts) p.form (kept_parts p))) long
+          ∙ unless (list_any is_long (names_of s)) (Some limits.Name) _ _ (λ short. same_limit spells.1 p.form p (list_any (is_wide_token line) ts) wide (named short));
       same = λ none.
           let n = not_passed (list_any is_long (names_of s)) limits.Name (limit_of_lists s) none in
-          same_statement p.form p refl (named n.0) n.1;
+          same_statement spells.1 p.form p refl (named n.0) n.1;
     }
 
 pub judged : (line : List ℕ) (ts : List Token) (place : Place) (d : Draft) → tokens line ≡ Ok ts → StandFrom line 0 ts → IsRead line ts place d → may_end place ≡ true → Judged line ts d
@@ -380,7 +421,7 @@ judged line ts place d lexed stand r ends =
     let P : List Lexeme → Type 0 = λ ls. Spells ls f.0 in
     let Q : Statement → Type 0 = λ s. Spells (lexemes line ts) s in
     let form = form_there place r.parts f.0 t.1 f.1 in
-    let spells = subst Q form (subst P t.0 (finished_spells place r.parts f.0 t.1 f.1)) in
+    let spells = subst Q form (subst P t.0 (finished_spells place r.parts f.0 t.1 (spelt_walk Start no_parts (lexemes line ts) place r.parts capitals r.read) f.1)) in
     let D : Draft → Type 0 = λ x. Judged line ts x in
     subst D (sym r.keeps) (judged_parts line ts r.parts (record { its_tokens = ts; lexed = lexed; spelled = spells }) spells stand)
 
@@ -391,9 +432,27 @@ near_fits z h = elim (flag (fits_i64 z)) [
   | inr e ↦ absurd (let f : true ≡ false = sym (unfit_far z e) ∙ h in cc)
 ]
 
--- within the limits no integer is far
-pub not_far : (s : Statement) → limit_of s ≡ None → list_any is_far (integers_of s) ≡ false
-not_far s e =
+-- an integer that a statement may have fits
+beyond_wide : (s : Statement) (z : ℤ) → is_beyond s z ≡ false → is_wide z ≡ false
+beyond_wide (ResumeRows rows) z h = h
+beyond_wide (ResumeGiven name rows) z h = h
+beyond_wide (ResumeCell name index content) z h = h
+beyond_wide (ResumeTuple name values) z h = h
+beyond_wide (CreateStream name columns) z h = ap not (near_fits z h)
+beyond_wide (CreateQuery name select shared) z h = ap not (near_fits z h)
+beyond_wide (Explain name) z h = ap not (near_fits z h)
+beyond_wide (DropQuery name) z h = ap not (near_fits z h)
+beyond_wide Checkpoint z h = ap not (near_fits z h)
+
+none_wide : (s : Statement) (zs : List ℤ) → list_any (is_beyond s) zs ≡ false → list_any is_wide zs ≡ false
+none_wide s [] h = refl
+none_wide s (z ∷ zs) h =
+    ap (λ b. b || list_any is_wide zs) (beyond_wide s z (or_left (is_beyond s z) _ h))
+    ∙ none_wide s zs (or_right (is_beyond s z) _ h)
+
+-- within the limits each integer fits
+pub all_fit : (s : Statement) → limit_of s ≡ None → list_any is_wide (integers_of s) ≡ false
+all_fit s e =
     let n = not_passed (list_any is_long (names_of s)) limits.Name (limit_of_lists s) e in
     let a = not_passed (nat_lt 8 (length (columns_of s))) limits.Columns _ n.1 in
     let b = not_passed (nat_lt 8 (length (selected_by s))) limits.Select _ a.1 in
@@ -401,7 +460,7 @@ not_far s e =
     let d = not_passed (nat_lt 16 (length (atoms_of s))) limits.Atoms _ c.1 in
     let soft = not_passed (nat_lt 8 (length (soft_in (atoms_of s)))) limits.Soft _ d.1 in
     let f = not_passed (nat_lt 12 (number_of_different same_column (columns_in (atoms_of s)))) limits.Attrs _ soft.1 in
-    (not_passed (list_any is_far (integers_of s)) limits.Value _ f.1).0
+    none_wide s (integers_of s) (not_passed (list_any (is_beyond s) (integers_of s)) limits.Value _ f.1).0
 
 -- a stream within the limits has no domain with an end that is far, and none that is reversed
 pub stream_ends : (name : List ℕ) (columns : List ColumnDef) → limit_of (CreateStream name (record { items = columns })) ≡ None → (any_far columns ≡ false) × (any_reversed columns ≡ false)

@@ -1,7 +1,8 @@
 -- The first limit that a draft passes, found by its tokens and its lists.
-use Rattle.std.specs.Prelude.{◌+◌, ℤ, Bool, true, false, ◌&&◌, nat_lt, if◌then◌else◌, List, [], ◌∷◌, length, Option, Some, None}
+use Rattle.std.specs.Prelude.{ℕ, ◌+◌, ℤ, Bool, true, false, ◌&&◌, nat_lt, if◌then◌else◌, List, [], ◌∷◌, length, slice_range, Option, Some, None, is_none}
 use Rattle.std.specs.List.{list_any}
 use Rattle.std.specs.Ordering.{int_eq}
+use Rattle.bq_text.specs.Value.{value_of}
 use Rattle.bq_lexer.specs.declared.token.TokenKind.{TokenKind}
 use Rattle.bq_lexer.specs.declared.token.TokenKind.TheVariants as kinds
 use Rattle.bq_lexer.specs.declared.token.Token.{Token}
@@ -23,6 +24,15 @@ is_word_kind _ = false
 abbrev pub is_long_token : Token → Bool
 is_long_token t = is_word_kind t.kind && nat_lt (t.from + 24) t.to
 
+-- whether a token is an integer
+abbrev pub is_integer_kind : TokenKind → Bool
+is_integer_kind kinds.Integer = true
+is_integer_kind _ = false
+
+-- an integer of more than 64 bits
+abbrev pub is_wide_token : List ℕ → Token → Bool
+is_wide_token line t = is_integer_kind t.kind && is_none (value_of (slice_range line t.from t.to))
+
 -- the first limit that the atoms pass, where there are not too many
 abbrev pub limit_in_atoms : List AtomAst → Option What
 limit_in_atoms atoms =
@@ -42,16 +52,25 @@ limit_in_columns columns =
     if list_any (λ c. list_any is_far (ends_in c.domain)) columns then Some limits.Value else
     (if list_any (λ c. is_reversed c.domain) columns then Some limits.Domain else None)
 
--- the first limit that the lists of a draft pass, by its form
-abbrev pub limit_by : Form → Draft → Option What
-limit_by forms.Stream d = if d.columns.over then Some limits.Columns else limit_in_columns d.columns.list.items
-limit_by forms.Query d =
+-- the first limit that the integers of a line of a checkpoint pass, of which one has more than 64 bits or none, and which are too many or not
+abbrev pub limit_in_values : Bool → Bool → Option What
+limit_in_values wide over = if wide then Some limits.Value else (if over then Some limits.Tuple else None)
+
+-- the first limit that the lists of a draft pass, by its form and by whether an integer of its line has more than 64 bits
+abbrev pub limit_by : Bool → Form → Draft → Option What
+limit_by wide forms.Stream d = if d.columns.over then Some limits.Columns else limit_in_columns d.columns.list.items
+limit_by wide forms.Query d =
     if d.select.over then Some limits.Select else
     (if d.from.over then Some limits.From else
     (if d.atoms.over then Some limits.Atoms else limit_in_atoms d.atoms.list.items))
-limit_by forms.Explain d = None
-limit_by forms.Drop d = None
+limit_by wide forms.Explain d = None
+limit_by wide forms.Drop d = None
+limit_by wide forms.Checkpoint d = None
+limit_by wide forms.Rows d = limit_in_values wide false
+limit_by wide forms.Given d = limit_in_values wide false
+limit_by wide forms.Cell d = limit_in_values wide false
+limit_by wide forms.Tuple d = limit_in_values wide d.values.over
 
 -- the first limit that is passed
-abbrev pub limit_in : List Token → Draft → Option What
-limit_in ts d = if list_any is_long_token ts then Some limits.Name else limit_by d.form d
+abbrev pub limit_in : List ℕ → List Token → Draft → Option What
+limit_in line ts d = if list_any is_long_token ts then Some limits.Name else limit_by (list_any (is_wide_token line) ts) d.form d

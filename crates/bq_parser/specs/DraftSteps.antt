@@ -10,7 +10,7 @@ use Rattle.bq_parser.specs.declared.tree.OperandAst.{OperandAst}
 use Rattle.bq_parser.specs.declared.tree.OperandAst.TheVariants.{Column, Integer}
 use Rattle.bq_parser.specs.declared.tree.AtomAst.{AtomAst}
 use Rattle.bq_parser.specs.declared.tree.Statement.{Statement}
-use Rattle.bq_parser.specs.declared.tree.Statement.TheVariants.{CreateStream, CreateQuery, Explain, DropQuery}
+use Rattle.bq_parser.specs.declared.tree.Statement.TheVariants.{CreateStream, CreateQuery, Explain, DropQuery, Checkpoint, ResumeRows, ResumeGiven, ResumeCell, ResumeTuple}
 use Rattle.bq_parser.specs.declared.draft.Draft.{Draft}
 use Rattle.bq_parser.specs.declared.draft.Kept.{Kept}
 use Rattle.bq_parser.specs.declared.draft.Form.{Form}
@@ -47,8 +47,10 @@ drafted actions.Nothing w d = d
 drafted actions.BeginExplain w d = record d { form = forms.Explain }
 drafted actions.BeginDrop w d = record d { form = forms.Drop }
 drafted actions.BeginStream w d = record d { form = forms.Stream }
-drafted actions.BeginQuery w d = record d { form = forms.Query; shared = false }
-drafted actions.BeginShared w d = record d { form = forms.Query; shared = true }
+drafted actions.BeginQuery w d = record d { form = forms.Query; shared = false; compact = false }
+drafted actions.BeginShared w d = record d { form = forms.Query; shared = true; compact = false }
+drafted actions.BeginCompact w d = record d { form = forms.Query; shared = false; compact = true }
+drafted actions.BeginSharedCompact w d = record d { form = forms.Query; shared = true; compact = true }
 drafted actions.Named w d = record d { name = kept w }
 drafted actions.BeginColumns w d = record d { columns = no_items }
 drafted actions.ColumnIs w d = record d { column = kept w }
@@ -71,13 +73,26 @@ drafted actions.OpGreaterEqual w d = record d { op = Ge }
 drafted actions.OpUnequal w d = record d { op = Ne }
 drafted actions.AddIntegerAtom w d = record d { atoms = put 16 (atom_with d (Integer (or_far (value_of w)))) d.atoms }
 drafted actions.AddColumnAtom w d = record d { atoms = put 16 (atom_with d (Column (column_with d w))) d.atoms }
+drafted actions.BeginCheckpoint w d = record d { form = forms.Checkpoint }
+drafted actions.RowsAre w d = record d { form = forms.Rows; count = or_far (value_of w) }
+drafted actions.BeginGiven w d = record d { form = forms.Given }
+drafted actions.BeginCell w d = record d { form = forms.Cell }
+drafted actions.IndexIs w d = record d { index = or_far (value_of w) }
+drafted actions.CountIs w d = record d { count = or_far (value_of w) }
+drafted actions.BeginTuple w d = record d { form = forms.Tuple; values = no_items }
+drafted actions.AddValue w d = record d { values = put 8 (or_far (value_of w)) d.values }
 
 -- the statement of a form that a draft is
 abbrev pub statement_by : Form → Draft → Statement
 statement_by forms.Stream d = CreateStream d.name d.columns.list
-statement_by forms.Query d = CreateQuery d.name (record { distinct = d.distinct; select = d.select.list; from = d.from.list; atoms = d.atoms.list }) d.shared
+statement_by forms.Query d = CreateQuery d.name (record { compact = d.compact; distinct = d.distinct; select = d.select.list; from = d.from.list; atoms = d.atoms.list }) d.shared
 statement_by forms.Explain d = Explain d.name
 statement_by forms.Drop d = DropQuery d.name
+statement_by forms.Checkpoint d = Checkpoint
+statement_by forms.Rows d = ResumeRows d.count
+statement_by forms.Given d = ResumeGiven d.name d.count
+statement_by forms.Cell d = ResumeCell d.name d.index d.count
+statement_by forms.Tuple d = ResumeTuple d.name d.values.list
 
 -- the statement that a whole draft is
 abbrev pub statement_of : Draft → Statement

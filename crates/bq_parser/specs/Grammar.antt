@@ -1,8 +1,9 @@
 -- The grammar of statements: the tokens that each statement is spelled by.
-use Rattle.std.specs.Prelude.{◌≡◌, ℕ, ◌<◌, ◌⊎◌, Bool, true, false, ℤ, List, [], ◌∷◌, ◌++◌, length, Option, Some, None}
+use Rattle.std.specs.Prelude.{◌≡◌, ℕ, ◌<◌, ◌⊎◌, Bool, true, false, ℤ, List, [], ◌∷◌, ◌++◌, length, map, codes, Option, Some, None}
 use Rattle.std.specs.List.{AllByRecursion}
+use Rattle.std.specs.Str.{str_eq_ignore_ascii_case}
 use Rattle.bq_text.specs.declared.key.Key.{Key}
-use Rattle.bq_text.specs.declared.key.Key.TheVariants.{CreateKey, StreamKey, QueryKey, AsKey, SelectKey, DistinctKey, FromKey, WhereKey, AndKey, ExplainKey, DropKey, InKey, SharedKey}
+use Rattle.bq_text.specs.declared.key.Key.TheVariants.{CreateKey, StreamKey, QueryKey, AsKey, SelectKey, DistinctKey, FromKey, WhereKey, AndKey, ExplainKey, DropKey, InKey, SharedKey, CheckpointKey, ResumeKey}
 use Rattle.bq_model.specs.declared.atom.Op.{Op}
 use Rattle.bq_model.specs.declared.atom.Op.TheVariants.{Lt, Eq, Gt, Le, Ge, Ne}
 use Rattle.bq_schema.specs.declared.column.ColumnDef.{ColumnDef}
@@ -12,7 +13,7 @@ use Rattle.bq_parser.specs.declared.tree.OperandAst.TheVariants.{Column, Integer
 use Rattle.bq_parser.specs.declared.tree.AtomAst.{AtomAst}
 use Rattle.bq_parser.specs.declared.tree.SelectAst.{SelectAst}
 use Rattle.bq_parser.specs.declared.tree.Statement.{Statement}
-use Rattle.bq_parser.specs.declared.tree.Statement.TheVariants.{CreateStream, CreateQuery, Explain, DropQuery}
+use Rattle.bq_parser.specs.declared.tree.Statement.TheVariants.{CreateStream, CreateQuery, Explain, DropQuery, Checkpoint, ResumeRows, ResumeGiven, ResumeCell, ResumeTuple}
 
 -- a token by what it says: a name, an integer, a reserved word or a sign
 pub data Lexeme : Type 0 where
@@ -93,14 +94,29 @@ abbrev pub shared_tokens : Bool → List Lexeme
 shared_tokens true = key SharedKey ∷ []
 shared_tokens false = []
 
--- The tokens of a statement, without a semicolon:
--- CREATE STREAM name "(" coldef { "," coldef } ")"  |  CREATE [ SHARED ] QUERY name AS select  |  EXPLAIN name  |  DROP QUERY name
-abbrev pub statement_tokens : Statement → List Lexeme
-statement_tokens (CreateStream name columns) =
+-- [ COMPACT ], which stands as these tokens
+abbrev pub compact_tokens : List Lexeme → Bool → List Lexeme
+compact_tokens mark true = mark
+compact_tokens mark false = []
+
+-- The tokens of a statement, without a semicolon, where COMPACT stands as the given ones:
+-- CREATE STREAM name "(" coldef { "," coldef } ")"  |  CREATE [ SHARED ] [ COMPACT ] QUERY name AS select  |  EXPLAIN name  |  DROP QUERY name
+-- CHECKPOINT  |  RESUME integer  |  RESUME name AS integer  |  RESUME name FROM integer integer  |  RESUME name SELECT integer { integer }
+abbrev pub tokens_with : List Lexeme → Statement → List Lexeme
+tokens_with mark (CreateStream name columns) =
     key CreateKey ∷ key StreamKey ∷ word name ∷ opening ∷ separated comma coldef_tokens columns.items ++ closing ∷ []
-statement_tokens (CreateQuery name select shared) = key CreateKey ∷ shared_tokens shared ++ key QueryKey ∷ word name ∷ key AsKey ∷ select_tokens select
-statement_tokens (Explain name) = key ExplainKey ∷ word name ∷ []
-statement_tokens (DropQuery name) = key DropKey ∷ key QueryKey ∷ word name ∷ []
+tokens_with mark (CreateQuery name select shared) = key CreateKey ∷ shared_tokens shared ++ compact_tokens mark select.compact ++ key QueryKey ∷ word name ∷ key AsKey ∷ select_tokens select
+tokens_with mark (Explain name) = key ExplainKey ∷ word name ∷ []
+tokens_with mark (DropQuery name) = key DropKey ∷ key QueryKey ∷ word name ∷ []
+tokens_with mark Checkpoint = key CheckpointKey ∷ []
+tokens_with mark (ResumeRows rows) = key ResumeKey ∷ number rows ∷ []
+tokens_with mark (ResumeGiven name rows) = key ResumeKey ∷ word name ∷ key AsKey ∷ number rows ∷ []
+tokens_with mark (ResumeCell name index content) = key ResumeKey ∷ word name ∷ key FromKey ∷ number index ∷ number content ∷ []
+tokens_with mark (ResumeTuple name values) = key ResumeKey ∷ word name ∷ key SelectKey ∷ map number values.items
+
+-- the tokens of a statement as it is printed, COMPACT in capitals; the word is reserved nowhere
+abbrev pub statement_tokens : Statement → List Lexeme
+statement_tokens s = tokens_with (word (codes "COMPACT") ∷ []) s
 
 -- whether a side of an atom is a column
 abbrev pub IsColumn : OperandAst → Type 0
@@ -117,10 +133,19 @@ IsWhole (CreateStream name columns) = 0 < length columns.items
 IsWhole (CreateQuery name select shared) = (0 < length select.select.items) × (0 < length select.from.items) × AllByRecursion HasColumn select.atoms.items
 IsWhole (Explain name) = Unit {0}
 IsWhole (DropQuery name) = Unit {0}
+IsWhole Checkpoint = Unit {0}
+IsWhole (ResumeRows rows) = Unit {0}
+IsWhole (ResumeGiven name rows) = Unit {0}
+IsWhole (ResumeCell name index content) = Unit {0}
+IsWhole (ResumeTuple name values) = 0 < length values.items
 
--- the tokens are the statement's, with or without a semicolon
+-- the word COMPACT, in any case of letters
+unfoldable pub is_compact : List ℕ → Bool
+is_compact w = str_eq_ignore_ascii_case w (codes "COMPACT")
+
+-- the tokens are the statement's, with COMPACT in any case of letters, and with or without a semicolon
 abbrev pub Spells : List Lexeme → Statement → Type 0
-Spells ts s = IsWhole s × ((ts ≡ statement_tokens s) ⊎ (ts ≡ statement_tokens s ++ semicolon ∷ []))
+Spells ts s = IsWhole s × (w : List ℕ) × (is_compact w ≡ true) × ((ts ≡ tokens_with (word w ∷ []) s) ⊎ (ts ≡ tokens_with (word w ∷ []) s ++ semicolon ∷ []))
 
 -- some statement begins so
 abbrev pub Begins : List Lexeme → Type 0

@@ -58,6 +58,7 @@ kept_parts p = record {
   column = kept p.column;
   low = kept_number p.low;
   shared = p.shared;
+  compact = p.compact;
   distinct = p.distinct;
   select = keep kept_column 8 p.select;
   from = keep kept 4 p.from;
@@ -65,12 +66,19 @@ kept_parts p = record {
   stream = kept p.stream;
   left = kept_operand p.left;
   op = p.op;
+  index = kept_number p.index;
+  count = kept_number p.count;
+  values = keep kept_number 8 p.values;
 }
 
 -- what the text of a token has to say for an action
 abbrev pub SaysFor : Action → Lexeme → List ℕ → Type 0
 SaysFor actions.LeftInteger l w = or_far (value_of w) ≡ kept_number (number_of l)
 SaysFor actions.AddIntegerAtom l w = or_far (value_of w) ≡ kept_number (number_of l)
+SaysFor actions.RowsAre l w = or_far (value_of w) ≡ kept_number (number_of l)
+SaysFor actions.IndexIs l w = or_far (value_of w) ≡ kept_number (number_of l)
+SaysFor actions.CountIs l w = or_far (value_of w) ≡ kept_number (number_of l)
+SaysFor actions.AddValue l w = or_far (value_of w) ≡ kept_number (number_of l)
 SaysFor actions.Named l w = w ≡ text_of l
 SaysFor actions.LowIs l w = or_far (value_of w) ≡ kept_number (number_of l)
 SaysFor actions.AddBounded l w = or_far (value_of w) ≡ kept_number (number_of l)

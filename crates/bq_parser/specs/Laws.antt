@@ -1,33 +1,16 @@
 -- The laws of statements and their texts.
-use Rattle.std.specs.Prelude.{true, ◌≡◌, ℕ, List, ◌++◌, None, Ok, IsTrue, All, Contains}
-use Rattle.bq_text.specs.Name.{is_name}
+use Rattle.std.specs.Prelude.{true, ◌≡◌, ℕ, List, ◌++◌, None, Ok, All, Contains}
 use Rattle.bq_model.specs.Query.{QueryValue, IsWithinLimits, attrs_of}
 use Rattle.bq_model.specs.Meaning.{Arrival}
 use Rattle.bq_model.specs.Domains.{RowKeeps}
 use Rattle.bq_schema.specs.declared.column.ColumnDef.{ColumnDef}
 use Rattle.bq_model.specs.declared.atom.Attr.{Attr}
 use Rattle.bq_schema.specs.Streams.{Shape, IsCatalog, HasEnds, KeepsDomains}
-use Rattle.bq_parser.specs.declared.tree.Statement.{Statement}
+use Rattle.bq_parser.specs.declared.tree.SelectAst.{SelectAst}
 use Rattle.bq_parser.specs.declared.tree.Statement.TheVariants.{CreateStream}
-use Rattle.bq_parser.specs.Grammar.{IsWhole}
-use Rattle.bq_parser.specs.Syntax.{IsStatement, IsFault}
-use Rattle.bq_parser.specs.Limits.{names_of, limit_of}
+use Rattle.bq_parser.specs.Limits.{limit_of}
 use Rattle.bq_parser.specs.LineKind.{is_row, IsRowText}
-use Rattle.bq_parser.specs.Printed.{printed_form}
 use Rattle.bq_parser.specs.Resolution.{resolved, HasNamed, named_select, IsColumnOf}
-
--- a line is spelled as one statement at most
-abbrev pub OneReading : Type 0
-OneReading = (line : List ℕ) → (s : Statement) → (t : Statement) → IsStatement line s → IsStatement line t → s ≡ t
-
--- a line that leaves the grammar somewhere is no statement
-abbrev pub FaultsAreNone : Type 0
-FaultsAreNone = (line : List ℕ) → (at : ℕ) → (s : Statement) → IsFault line at → IsStatement line s → ⊥
-
--- The printed form of a statement within the limits says this statement, where its names are names, no list but that of the
--- atoms is empty, and no atom has two integers.
-abbrev pub PrintsBack : Type 0
-PrintsBack = (s : Statement) → IsWhole s → All (λ n. IsTrue (is_name n)) (names_of s) → limit_of s ≡ None → IsStatement (printed_form s) s
 
 -- the test for a row line finds just the lines of one word, blanks or none, and a comma, with anything behind
 abbrev pub RowsAreRows : Type 0
@@ -40,6 +23,14 @@ ResolvesBack = (streams : List Shape) → (q : QueryValue) → IsCatalog streams
 -- the streams and columns that a query names are there after more streams were added
 abbrev pub StaysNamed : Type 0
 StaysNamed = (streams : List Shape) → (more : List Shape) → (q : QueryValue) → HasNamed streams q → HasNamed (streams ++ more) q
+
+-- a query that names stand for is named with these names
+abbrev pub NamesBack : Type 0
+NamesBack = (streams : List Shape) → (s : SelectAst) → (q : QueryValue) → resolved streams s ≡ Ok q → named_select streams q ≡ s
+
+-- a query is named as before after more streams were added
+abbrev pub NamesStay : Type 0
+NamesStay = (streams : List Shape) → (more : List Shape) → (q : QueryValue) → HasNamed streams q → named_select (streams ++ more) q ≡ named_select streams q
 
 -- the columns that the atoms of a query name are there, where the query is named
 abbrev pub AttributesAreNamed : Type 0

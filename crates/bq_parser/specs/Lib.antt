@@ -5,8 +5,6 @@ pub mod Keeping
 pub mod Laws
 pub mod Limits
 pub mod LineKind
-pub mod Printed
-pub mod PrintedParts
 pub mod Reading
 pub mod Refusal
 pub mod Resolution

@@ -1,8 +1,9 @@
 -- The limits of a statement, in their order.
-use Rattle.std.specs.Prelude.{ℕ, ◌+◌, ℤ, pos, neg_ℤ, int_lt, Bool, false, ◌||◌, ◌&&◌, nat_lt, nat_eq, if◌then◌else◌, List, [], ◌∷◌, ◌++◌, filter, length, Option, Some, None}
+use Rattle.std.specs.Prelude.{ℕ, ◌+◌, ℤ, pos, neg_ℤ, int_lt, Bool, false, not, ◌||◌, ◌&&◌, nat_lt, nat_eq, if◌then◌else◌, List, [], ◌∷◌, ◌++◌, filter, length, Option, Some, None}
 use Rattle.std.specs.List.{flat_map, list_any}
 use Rattle.std.specs.Ordering.{int_eq}
 use Rattle.std.specs.Cmp.Lexicographic.{pointwise}
+use Rattle.bq_text.specs.Value.{fits_i64}
 use Rattle.bq_model.specs.Query.{is_soft}
 use Rattle.bq_schema.specs.declared.column.ColumnDef.{ColumnDef}
 use Rattle.bq_parser.specs.declared.parsing.What.{What}
@@ -12,24 +13,24 @@ use Rattle.bq_parser.specs.declared.tree.OperandAst.{OperandAst}
 use Rattle.bq_parser.specs.declared.tree.OperandAst.TheVariants.{Column, Integer}
 use Rattle.bq_parser.specs.declared.tree.AtomAst.{AtomAst}
 use Rattle.bq_parser.specs.declared.tree.Statement.{Statement}
-use Rattle.bq_parser.specs.declared.tree.Statement.TheVariants.{CreateStream, CreateQuery}
-use Rattle.bq_parser.specs.Grammar.{Lexeme, word, number, statement_tokens}
+use Rattle.bq_parser.specs.declared.tree.Statement.TheVariants.{CreateStream, CreateQuery, ResumeRows, ResumeGiven, ResumeCell, ResumeTuple}
+use Rattle.bq_parser.specs.Grammar.{Lexeme, word, number, tokens_with, statement_tokens}
 
 -- the word that a token is
 abbrev pub word_in : Lexeme → List (List ℕ)
 word_in (word w) = w ∷ []
 word_in _ = []
 
--- the names of a statement: the words among its tokens
+-- the names of a statement: the words among its tokens without COMPACT
 abbrev pub names_of : Statement → List (List ℕ)
-names_of s = flat_map word_in (statement_tokens s)
+names_of s = flat_map word_in (tokens_with [] s)
 
 -- the integer that a token is
 abbrev pub number_in : Lexeme → List ℤ
 number_in (number z) = z ∷ []
 number_in _ = []
 
--- the integers of a statement: those that its atoms name, and the ends of the domains
+-- the integers of a statement: those that its atoms name, the ends of the domains, and those of a line of a checkpoint
 abbrev pub integers_of : Statement → List ℤ
 integers_of s = flat_map number_in (statement_tokens s)
 
@@ -52,6 +53,11 @@ streams_of _ = []
 abbrev pub atoms_of : Statement → List AtomAst
 atoms_of (CreateQuery name select shared) = select.atoms.items
 atoms_of _ = []
+
+-- the integers of a tuple
+abbrev pub values_of : Statement → List ℤ
+values_of (ResumeTuple name values) = values.items
+values_of _ = []
 
 -- the soft ones among atoms: those with `<=`, `>=` or `<>`
 abbrev pub soft_in : List AtomAst → List AtomAst
@@ -92,6 +98,18 @@ is_long name = nat_lt 24 (length name)
 abbrev pub is_far : ℤ → Bool
 is_far z = int_lt z (neg_ℤ (pos 999999999999999)) || int_lt (pos 999999999999999) z
 
+-- an integer of more than 64 bits
+abbrev pub is_wide : ℤ → Bool
+is_wide z = not (fits_i64 z)
+
+-- an integer that the statement may not have: one of more than 64 bits in a line of a checkpoint, and one that is far elsewhere
+abbrev pub is_beyond : Statement → ℤ → Bool
+is_beyond (ResumeRows rows) = is_wide
+is_beyond (ResumeGiven name rows) = is_wide
+is_beyond (ResumeCell name index content) = is_wide
+is_beyond (ResumeTuple name values) = is_wide
+is_beyond _ = is_far
+
 -- a domain whose first integer is greater than its second
 abbrev pub is_reversed : Option (ℤ × ℤ) → Bool
 is_reversed None = false
@@ -107,6 +125,7 @@ limit_of s =
     (if nat_lt 16 (length (atoms_of s)) then Some limits.Atoms else
     (if nat_lt 8 (length (soft_in (atoms_of s))) then Some limits.Soft else
     (if nat_lt 12 (number_of_different same_column (columns_in (atoms_of s))) then Some limits.Attrs else
-    (if list_any is_far (integers_of s) then Some limits.Value else
+    (if list_any (is_beyond s) (integers_of s) then Some limits.Value else
     (if nat_lt 6 (number_of_different int_eq (integers_in (atoms_of s))) then Some limits.Consts else
-    (if list_any (λ c. is_reversed c.domain) (columns_of s) then Some limits.Domain else None)))))))))
+    (if list_any (λ c. is_reversed c.domain) (columns_of s) then Some limits.Domain else
+    (if nat_lt 8 (length (values_of s)) then Some limits.Tuple else None))))))))))

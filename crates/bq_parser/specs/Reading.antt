@@ -1,5 +1,5 @@
 -- Reading from left to right: the place, and the parts of the statement so far.
-use Rattle.std.specs.Prelude.{ℕ, Bool, true, false, ℤ, pos, List, [], ◌∷◌, ◌++◌, Option, Some, None, Result, Ok, Err}
+use Rattle.std.specs.Prelude.{ℕ, Bool, true, false, ℤ, pos, List, [], ◌∷◌, ◌++◌, codes, Option, Some, None, Result, Ok, Err}
 use Rattle.bq_lexer.specs.declared.token.TokenKind.{TokenKind}
 use Rattle.bq_lexer.specs.declared.token.TokenKind.TheVariants as kinds
 use Rattle.bq_parser.specs.declared.places.Place.{Place}
@@ -14,13 +14,13 @@ use Rattle.bq_parser.specs.declared.tree.OperandAst.{OperandAst}
 use Rattle.bq_parser.specs.declared.tree.OperandAst.TheVariants.{Column, Integer}
 use Rattle.bq_parser.specs.declared.tree.AtomAst.{AtomAst}
 use Rattle.bq_parser.specs.declared.tree.Statement.{Statement}
-use Rattle.bq_parser.specs.declared.tree.Statement.TheVariants.{CreateStream, CreateQuery, Explain, DropQuery}
+use Rattle.bq_parser.specs.declared.tree.Statement.TheVariants.{CreateStream, CreateQuery, Explain, DropQuery, Checkpoint, ResumeRows, ResumeGiven, ResumeCell, ResumeTuple}
 use Rattle.bq_parser.specs.declared.draft.Form.{Form}
 use Rattle.bq_parser.specs.declared.draft.Form.TheVariants as forms
 use Rattle.bq_parser.specs.Grammar.{Lexeme, word, number, key, comma, point, opening, closing, less, equal, greater, less_equal, greater_equal, unequal, semicolon}
-use Rattle.bq_parser.specs.Steps.{step}
+use Rattle.bq_parser.specs.Steps.{step_of}
 
--- the statement so far
+-- the statement so far, and the spelling of COMPACT in it
 pub record Parts : Type 0 where
   pub form : Form
   pub name : List ℕ
@@ -28,6 +28,8 @@ pub record Parts : Type 0 where
   pub column : List ℕ
   pub low : ℤ
   pub shared : Bool
+  pub compact : Bool
+  pub spelling : List ℕ
   pub distinct : Bool
   pub select : List ColumnAst
   pub from : List (List ℕ)
@@ -35,10 +37,13 @@ pub record Parts : Type 0 where
   pub stream : List ℕ
   pub left : OperandAst
   pub op : Op
+  pub index : ℤ
+  pub count : ℤ
+  pub values : List ℤ
 
 -- nothing is read
 abbrev pub no_parts : Parts
-no_parts = record { form = forms.Explain; name = []; columns = []; column = []; low = pos 0; shared = false; distinct = false; select = []; from = []; atoms = []; stream = []; left = Integer (pos 0); op = Lt }
+no_parts = record { form = forms.Explain; name = []; columns = []; column = []; low = pos 0; shared = false; compact = false; spelling = codes "COMPACT"; distinct = false; select = []; from = []; atoms = []; stream = []; left = Integer (pos 0); op = Lt; index = pos 0; count = pos 0; values = [] }
 
 -- the word that a token is
 abbrev pub text_of : Lexeme → List ℕ
@@ -77,8 +82,10 @@ act actions.Nothing l p = p
 act actions.BeginExplain l p = record p { form = forms.Explain }
 act actions.BeginDrop l p = record p { form = forms.Drop }
 act actions.BeginStream l p = record p { form = forms.Stream }
-act actions.BeginQuery l p = record p { form = forms.Query; shared = false }
-act actions.BeginShared l p = record p { form = forms.Query; shared = true }
+act actions.BeginQuery l p = record p { form = forms.Query; shared = false; compact = false }
+act actions.BeginShared l p = record p { form = forms.Query; shared = true; compact = false }
+act actions.BeginCompact l p = record p { form = forms.Query; shared = false; compact = true; spelling = text_of l }
+act actions.BeginSharedCompact l p = record p { form = forms.Query; shared = true; compact = true; spelling = text_of l }
 act actions.Named l p = record p { name = text_of l }
 act actions.BeginColumns l p = record p { columns = [] }
 act actions.ColumnIs l p = record p { column = text_of l }
@@ -101,18 +108,32 @@ act actions.OpGreaterEqual l p = record p { op = Ge }
 act actions.OpUnequal l p = record p { op = Ne }
 act actions.AddIntegerAtom l p = record p { atoms = p.atoms ++ (record { left = p.left; op = p.op; right = Integer (number_of l) }) ∷ [] }
 act actions.AddColumnAtom l p = record p { atoms = p.atoms ++ (record { left = p.left; op = p.op; right = Column (column_of p l) }) ∷ [] }
+act actions.BeginCheckpoint l p = record p { form = forms.Checkpoint }
+act actions.RowsAre l p = record p { form = forms.Rows; count = number_of l }
+act actions.BeginGiven l p = record p { form = forms.Given }
+act actions.BeginCell l p = record p { form = forms.Cell }
+act actions.IndexIs l p = record p { index = number_of l }
+act actions.CountIs l p = record p { count = number_of l }
+act actions.BeginTuple l p = record p { form = forms.Tuple; values = [] }
+act actions.AddValue l p = record p { values = p.values ++ number_of l ∷ [] }
 
 -- the statement of a form that the parts are
 abbrev pub built : Form → Parts → Statement
 built forms.Stream p = CreateStream p.name (record { items = p.columns })
-built forms.Query p = CreateQuery p.name (record { distinct = p.distinct; select = record { items = p.select }; from = record { items = p.from }; atoms = record { items = p.atoms } }) p.shared
+built forms.Query p = CreateQuery p.name (record { compact = p.compact; distinct = p.distinct; select = record { items = p.select }; from = record { items = p.from }; atoms = record { items = p.atoms } }) p.shared
 built forms.Explain p = Explain p.name
 built forms.Drop p = DropQuery p.name
+built forms.Checkpoint p = Checkpoint
+built forms.Rows p = ResumeRows p.count
+built forms.Given p = ResumeGiven p.name p.count
+built forms.Cell p = ResumeCell p.name p.index p.count
+built forms.Tuple p = ResumeTuple p.name (record { items = p.values })
 
 -- the statement, where one may end there
 abbrev pub finished : Place → Parts → Option Statement
 finished places.AfterFrom p = Some (built forms.Query p)
 finished places.AfterAtom p = Some (built forms.Query p)
+finished places.AfterValue p = Some (built forms.Tuple p)
 finished places.Complete p = Some (built p.form p)
 finished places.Ended p = Some (built p.form p)
 finished _ p = None
@@ -125,12 +146,13 @@ walk_on (Some m) p l ts on = on m.0 (act m.1 l p)
 -- The place and the parts after the tokens; or what is left from the first token on that begins no statement.
 abbrev pub walk : Place → Parts → List Lexeme → Result (Place × Parts) (List Lexeme)
 walk place p [] = Ok (place, p)
-walk place p (l ∷ ts) = walk_on (step place (kind_at l)) p l ts (λ to q. walk to q ts)
+walk place p (l ∷ ts) = walk_on (step_of place (kind_at l) (text_of l)) p l ts (λ to q. walk to q ts)
 
 -- whether a statement may end at a place
 abbrev pub may_end : Place → Bool
 may_end places.AfterFrom = true
 may_end places.AfterAtom = true
+may_end places.AfterValue = true
 may_end places.Complete = true
 may_end places.Ended = true
 may_end _ = false

@@ -1,5 +1,5 @@
 -- What the names of a query stand for over the streams of a catalog.
-use Rattle.std.specs.Prelude.{◌≡◌, ℕ, ◌<◌, ℤ, Bool, not, ◌&&◌, List, [], ◌∷◌, ◌++◌, length, map, slice_index, if◌then◌else◌, is_some, unwrap_or, option_and_then, Option, Some, None, Result, Ok, Err}
+use Rattle.std.specs.Prelude.{◌≡◌, ℕ, ◌<◌, ℤ, Bool, false, not, ◌&&◌, List, [], ◌∷◌, ◌++◌, length, map, slice_index, if◌then◌else◌, is_some, unwrap_or, option_and_then, Option, Some, None, Result, Ok, Err}
 use Rattle.std.specs.List.{All, list_all, flat_map, position, slice_index_or}
 use Rattle.std.specs.Str.{bytes_eq}
 use Rattle.bq_model.specs.declared.atom.Attr.{Attr}
@@ -20,7 +20,7 @@ use Rattle.bq_parser.specs.declared.resolution.ResolveError.TheVariants.{Unknown
 use Rattle.bq_parser.specs.Grammar.{IsWhole}
 use Rattle.bq_parser.specs.Limits.{limit_of, columns_in}
 
--- what stands from SELECT on in a CREATE QUERY statement that passes no limit
+-- a query as it is written in a CREATE QUERY statement that passes no limit
 pub record IsTaken (s : SelectAst) : Type 0 where
   pub name : List ℕ
   pub shared : Bool
@@ -82,7 +82,7 @@ domain_for streams from a = domain_at streams (slice_index_or from a.stream 0) a
 abbrev pub domains_for : List Shape → List ℕ → List Attr → List Domain
 domains_for streams from attrs = flat_map (λ a. domain_with a (domain_for streams from a)) attrs
 
--- a query with the domains that the catalog gives to the columns that it names
+-- a query with the domains that the catalog gives to the columns that it names, which is not compact
 abbrev pub query_with : List Shape → Bool → List ℕ → List Attr → List Atom → QueryValue
 query_with streams distinct from select atoms = record {
   distinct = distinct;
@@ -90,12 +90,13 @@ query_with streams distinct from select atoms = record {
   select = select;
   atoms = atoms;
   domains = domains_for streams from (named_attrs select atoms);
+  compact = false;
 }
 
 -- the query whose names are all there
 abbrev pub query_for : List Shape → SelectAst → QueryValue
 query_for streams s =
-    query_with streams s.distinct (map (number_for streams) s.from.items) (map (attr_for streams s.from.items) s.select.items) (map (atom_for streams s.from.items) s.atoms.items)
+    record (query_with streams s.distinct (map (number_for streams) s.from.items) (map (attr_for streams s.from.items) s.select.items) (map (atom_for streams s.from.items) s.atoms.items)) { compact = s.compact }
 
 -- The query that is asked for, or the first reason why there is none: a name in FROM is no stream, or a column's stream is not in
 -- FROM; a column is none of its stream; FROM names a stream twice.
@@ -149,6 +150,7 @@ atom_named streams from t = record { left = operand_named streams from t.left; o
 -- the query by the names of its streams and columns
 abbrev pub named_select : List Shape → QueryValue → SelectAst
 named_select streams q = record {
+  compact = q.compact;
   distinct = q.distinct;
   select = record { items = map (column_named streams q.from) q.select };
   from = record { items = map (stream_named streams) q.from };

@@ -1,22 +1,26 @@
 -- Where in a statement its next token stands, and what each token there does.
-use Rattle.std.specs.Prelude.{Option, Some, None}
-use Rattle.bq_text.specs.declared.key.Key.TheVariants.{CreateKey, StreamKey, QueryKey, AsKey, SelectKey, DistinctKey, FromKey, WhereKey, AndKey, ExplainKey, DropKey, InKey, SharedKey}
+use Rattle.std.specs.Prelude.{ℕ, if◌then◌else◌, List, Option, Some, None}
+use Rattle.bq_text.specs.declared.key.Key.TheVariants.{CreateKey, StreamKey, QueryKey, AsKey, SelectKey, DistinctKey, FromKey, WhereKey, AndKey, ExplainKey, DropKey, InKey, SharedKey, CheckpointKey, ResumeKey}
 use Rattle.bq_lexer.specs.declared.token.TokenKind.{TokenKind}
 use Rattle.bq_lexer.specs.declared.token.TokenKind.TheVariants.{Word, Reserved, Integer, Comma, Point, Open, Close, Less, Equal, Greater, LessEqual, GreaterEqual, Unequal, Semi}
 use Rattle.bq_parser.specs.declared.places.Place.{Place}
-use Rattle.bq_parser.specs.declared.places.Place.TheVariants.{Start, AfterCreate, AfterShared, StreamName, OpenColumns, ColumnName, AfterColumn, DomainLow, FirstPoint, SecondPoint, DomainHigh, AfterDomain, QueryName, QueryAs, QuerySelect, FirstSelected, SelectedStream, SelectedPoint, SelectedColumn, AfterSelected, FromName, AfterFrom, AtomLeft, LeftPoint, LeftColumn, ColumnOp, RightAny, IntegerOp, RightStream, RightPoint, RightColumn, AfterAtom, ExplainName, AfterDrop, DropName, Complete, Ended}
+use Rattle.bq_parser.specs.declared.places.Place.TheVariants.{Start, AfterCreate, AfterShared, AfterCompact, StreamName, OpenColumns, ColumnName, AfterColumn, DomainLow, FirstPoint, SecondPoint, DomainHigh, AfterDomain, QueryName, QueryAs, QuerySelect, FirstSelected, SelectedStream, SelectedPoint, SelectedColumn, AfterSelected, FromName, AfterFrom, AtomLeft, LeftPoint, LeftColumn, ColumnOp, RightAny, IntegerOp, RightStream, RightPoint, RightColumn, AfterAtom, ExplainName, AfterDrop, DropName, AfterResume, ResumeWhat, GivenRows, CellIndex, CellContent, TupleValue, AfterValue, Complete, Ended}
 use Rattle.bq_parser.specs.declared.places.Action.{Action}
-use Rattle.bq_parser.specs.declared.places.Action.TheVariants.{Nothing, BeginExplain, BeginDrop, BeginStream, BeginQuery, BeginShared, Named, BeginColumns, ColumnIs, AddColumn, LowIs, AddBounded, BeginSelect, SetDistinct, StreamIs, AddSelected, BeginFrom, AddFrom, LeftInteger, LeftColumnIs, OpLess, OpEqual, OpGreater, OpLessEqual, OpGreaterEqual, OpUnequal, AddIntegerAtom, AddColumnAtom}
+use Rattle.bq_parser.specs.declared.places.Action.TheVariants.{Nothing, BeginExplain, BeginDrop, BeginStream, BeginQuery, BeginShared, BeginCompact, BeginSharedCompact, Named, BeginColumns, ColumnIs, AddColumn, LowIs, AddBounded, BeginSelect, SetDistinct, StreamIs, AddSelected, BeginFrom, AddFrom, LeftInteger, LeftColumnIs, OpLess, OpEqual, OpGreater, OpLessEqual, OpGreaterEqual, OpUnequal, AddIntegerAtom, AddColumnAtom, BeginCheckpoint, RowsAre, BeginGiven, BeginCell, IndexIs, CountIs, BeginTuple, AddValue}
+use Rattle.bq_parser.specs.Grammar.{is_compact}
 
 -- the place behind a token of this kind, and what the token adds; nothing, where no statement goes on so
 abbrev pub step : Place → TokenKind → Option (Place × Action)
 step Start (Reserved CreateKey) = Some (AfterCreate, Nothing)
 step Start (Reserved ExplainKey) = Some (ExplainName, BeginExplain)
 step Start (Reserved DropKey) = Some (AfterDrop, BeginDrop)
+step Start (Reserved CheckpointKey) = Some (Complete, BeginCheckpoint)
+step Start (Reserved ResumeKey) = Some (AfterResume, Nothing)
 step AfterCreate (Reserved StreamKey) = Some (StreamName, BeginStream)
 step AfterCreate (Reserved QueryKey) = Some (QueryName, BeginQuery)
 step AfterCreate (Reserved SharedKey) = Some (AfterShared, Nothing)
 step AfterShared (Reserved QueryKey) = Some (QueryName, BeginShared)
+step AfterCompact (Reserved QueryKey) = Some (QueryName, Nothing)
 step StreamName Word = Some (OpenColumns, Named)
 step OpenColumns Open = Some (ColumnName, BeginColumns)
 step ColumnName Word = Some (AfterColumn, ColumnIs)
@@ -69,5 +73,27 @@ step AfterAtom Semi = Some (Ended, Nothing)
 step ExplainName Word = Some (Complete, Named)
 step AfterDrop (Reserved QueryKey) = Some (DropName, Nothing)
 step DropName Word = Some (Complete, Named)
+step AfterResume Integer = Some (Complete, RowsAre)
+step AfterResume Word = Some (ResumeWhat, Named)
+step ResumeWhat (Reserved AsKey) = Some (GivenRows, BeginGiven)
+step ResumeWhat (Reserved FromKey) = Some (CellIndex, BeginCell)
+step ResumeWhat (Reserved SelectKey) = Some (TupleValue, BeginTuple)
+step GivenRows Integer = Some (Complete, CountIs)
+step CellIndex Integer = Some (CellContent, IndexIs)
+step CellContent Integer = Some (Complete, CountIs)
+step TupleValue Integer = Some (AfterValue, AddValue)
+step AfterValue Integer = Some (AfterValue, AddValue)
+step AfterValue Semi = Some (Ended, Nothing)
 step Complete Semi = Some (Ended, Nothing)
 step _ _ = None
+
+-- the same for a word, which is COMPACT where that may stand
+abbrev pub word_step : Place → List ℕ → Option (Place × Action)
+word_step AfterCreate w = if is_compact w then Some (AfterCompact, BeginCompact) else None
+word_step AfterShared w = if is_compact w then Some (AfterCompact, BeginSharedCompact) else None
+word_step place w = step place Word
+
+-- the same for a token of this kind and text
+abbrev pub step_of : Place → TokenKind → List ℕ → Option (Place × Action)
+step_of place Word w = word_step place w
+step_of place kind w = step place kind

@@ -9,7 +9,7 @@ use Rattle.bq_parser.specs.declared.tree.Statement.{Statement}
 use Rattle.bq_parser.specs.declared.places.Place.{Place}
 use Rattle.bq_parser.specs.declared.places.Action.{Action}
 use Rattle.bq_parser.specs.Grammar.{Lexeme, word, number, key, comma, point, opening, closing, less, equal, greater, less_equal, greater_equal, unequal, semicolon, Spells, Begins}
-use Rattle.bq_parser.specs.Steps.{step}
+use Rattle.bq_parser.specs.Steps.{step_of}
 
 -- what a text of a kind says
 abbrev pub lexeme_as : TokenKind → List ℕ → Lexeme
@@ -72,7 +72,7 @@ abbrev pub after_step : Option (Place × Action) → Token → (Place → Result
 after_step None t on = Err t.from
 after_step (Some m) t on = on m.0
 
--- the place after the tokens, or the place in the line of the first one that goes on nowhere
-abbrev pub place_after : Place → List Token → Result Place ℕ
-place_after place [] = Ok place
-place_after place (t ∷ ts) = after_step (step place t.kind) t (λ to. place_after to ts)
+-- the place after the tokens of a line, or the place in the line of the first one that goes on nowhere
+abbrev pub place_after : List ℕ → Place → List Token → Result Place ℕ
+place_after line place [] = Ok place
+place_after line place (t ∷ ts) = after_step (step_of place t.kind (slice_range line t.from t.to)) t (λ to. place_after line to ts)

@@ -24,6 +24,11 @@ pub enum Form {
     Query,
     Explain,
     Drop,
+    Checkpoint,
+    Rows,
+    Given,
+    Cell,
+    Tuple,
 }
 
 /// A list so far: as many as it may have, and whether there were more.
@@ -42,6 +47,7 @@ pub struct Draft {
     pub column: Name,
     pub low: i64,
     pub shared: bool,
+    pub compact: bool,
     pub distinct: bool,
     pub select: Kept<ColumnAst, 8>,
     pub from: Kept<Name, 4>,
@@ -49,6 +55,9 @@ pub struct Draft {
     pub stream: Name,
     pub left: OperandAst,
     pub op: Op,
+    pub index: i64,
+    pub count: i64,
+    pub values: Kept<i64, 8>,
 }
 
 impl<T: Default + Drop, const N: usize> Kept<T, N> {
@@ -115,8 +124,10 @@ impl Draft {
             Action::BeginExplain => self.form = Form::Explain,
             Action::BeginDrop => self.form = Form::Drop,
             Action::BeginStream => self.form = Form::Stream,
-            Action::BeginQuery => self.begin_query(false),
-            Action::BeginShared => self.begin_query(true),
+            Action::BeginQuery => self.begin_query(false, false),
+            Action::BeginShared => self.begin_query(true, false),
+            Action::BeginCompact => self.begin_query(false, true),
+            Action::BeginSharedCompact => self.begin_query(true, true),
             Action::Named => self.name = kept_name(text),
             Action::BeginColumns => {
                 self.columns = Kept::none();
@@ -156,15 +167,30 @@ impl Draft {
                 let atom = self.atom(OperandAst::Column(self.column_of(text)));
                 self.atoms.put(atom);
             }
+            Action::BeginCheckpoint => self.form = Form::Checkpoint,
+            Action::RowsAre => {
+                self.form = Form::Rows;
+                self.count = kept_integer(text);
+            }
+            Action::BeginGiven => self.form = Form::Given,
+            Action::BeginCell => self.form = Form::Cell,
+            Action::IndexIs => self.index = kept_integer(text),
+            Action::CountIs => self.count = kept_integer(text),
+            Action::BeginTuple => {
+                self.form = Form::Tuple;
+                self.values = Kept::none();
+            }
+            Action::AddValue => self.values.put(kept_integer(text)),
         }
     }
 
-    // Begins a query that is shared, or one that is not.
-    fn begin_query(&mut self, shared: bool)
-        ensures { self.new ≡ record self.old { form = forms.Query; shared = shared } }
+    // Begins a query that is shared or not, and compact or not.
+    fn begin_query(&mut self, shared: bool, compact: bool)
+        ensures { self.new ≡ record self.old { form = forms.Query; shared = shared; compact = compact } }
     {
         self.form = Form::Query;
         self.shared = shared;
+        self.compact = compact;
     }
 
     // Adds the column that was named last, with this domain.
@@ -208,6 +234,7 @@ impl Draft {
             Form::Query => Statement::CreateQuery {
                 name: self.name,
                 select: SelectAst {
+                    compact: self.compact,
                     distinct: self.distinct,
                     select: self.select.list,
                     from: self.from.list,
@@ -217,6 +244,21 @@ impl Draft {
             },
             Form::Explain => Statement::Explain { name: self.name },
             Form::Drop => Statement::DropQuery { name: self.name },
+            Form::Checkpoint => Statement::Checkpoint,
+            Form::Rows => Statement::ResumeRows { rows: self.count },
+            Form::Given => Statement::ResumeGiven {
+                name: self.name,
+                rows: self.count,
+            },
+            Form::Cell => Statement::ResumeCell {
+                name: self.name,
+                index: self.index,
+                content: self.count,
+            },
+            Form::Tuple => Statement::ResumeTuple {
+                name: self.name,
+                values: self.values.list,
+            },
         }
     }
 }
@@ -233,6 +275,7 @@ pub fn start() -> Draft
         column: underscore(),
         low: 0,
         shared: false,
+        compact: false,
         distinct: false,
         select: Kept::none(),
         from: Kept::none(),
@@ -240,5 +283,8 @@ pub fn start() -> Draft
         stream: underscore(),
         left: OperandAst::Integer(0),
         op: Op::Lt,
+        index: 0,
+        count: 0,
+        values: Kept::none(),
     }
 }

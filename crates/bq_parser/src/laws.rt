@@ -1,20 +1,5 @@
 //! Laws of the definitions, as public functions without a body: the clause is the law.
-ghost use Rattle.bq_parser.specs.Laws.{OneReading, FaultsAreNone, PrintsBack, RowsAreRows, ResolvesBack, StaysNamed, AttributesAreNamed, DomainsHaveEnds, RowsKeepDomains};
-
-/// No line can be read as two statements.
-pub fn one_reading()
-    ensures { OneReading }
-{}
-
-/// A line that is refused for its syntax is no statement.
-pub fn faults_are_none()
-    ensures { FaultsAreNone }
-{}
-
-/// What is printed for a statement is read as this statement.
-pub fn prints_back()
-    ensures { PrintsBack }
-{}
+ghost use Rattle.bq_parser.specs.Laws.{RowsAreRows, ResolvesBack, NamesBack, NamesStay, StaysNamed, AttributesAreNamed, DomainsHaveEnds, RowsKeepDomains};
 
 /// The row lines are those of one word, blanks or none, and a comma, with anything behind.
 pub fn rows_are_rows()
@@ -24,6 +9,16 @@ pub fn rows_are_rows()
 /// A query that is named with the names of a catalog is the query that these names stand for.
 pub fn resolves_back()
     ensures { ResolvesBack }
+{}
+
+/// A query that names stand for is named with these very names.
+pub fn names_back()
+    ensures { NamesBack }
+{}
+
+/// A query is named as before after more streams were added.
+pub fn names_stay()
+    ensures { NamesStay }
 {}
 
 /// The streams and columns that a query names are still there after more streams were added.

@@ -1,4 +1,4 @@
-//! Statements: their grammar, read and printed.
+//! Statements: their grammar, and how they are read.
 //!
 //! A line is first classified. What is left of a statement line is cut into tokens, and one pass over them walks a table of places
 //! and fills a draft. The grammar itself is a definition from statements to tokens (`specs/Grammar.antt`); the table is a means of
@@ -10,17 +10,13 @@ mod draft;
 pub mod laws;
 mod limits;
 mod line;
-mod naming;
 mod parsing;
 mod places;
-mod printing;
 mod reading;
 mod resolution;
 mod tree;
 
 pub use line::{LineKind, classify};
-pub use naming::{column_named, print_query};
 pub use parsing::{ParseError, What, parse};
-pub use printing::print;
 pub use resolution::{ResolveError, resolve};
 pub use tree::{AtomAst, ColumnAst, OperandAst, SelectAst, Statement};

@@ -1,10 +1,11 @@
 //! The limits of a statement, in their order.
 ghost use Rattle.std.specs.Prelude.{◌≡◌, ◌≤◌, ◌<◌, ◌+◌, ◌++◌, length};
-ghost use Rattle.std.specs.List.{list_any};
+ghost use Rattle.std.specs.List.{All, list_any};
 ghost use Rattle.std.specs.Ordering.{int_eq};
 ghost use Rattle.bq_parser.specs.Limits as limits;
 ghost use Rattle.bq_parser.specs.Limits.{soft_in, column_in, columns_in, integer_in, integers_in, number_of_different, is_reversed};
-ghost use Rattle.bq_parser.specs.DraftLimits.{is_long_token, ends_in, limit_in_atoms, limit_in_columns, limit_by, limit_in};
+ghost use Rattle.bq_parser.specs.DraftLimits.{is_long_token, is_wide_token, ends_in, limit_in_atoms, limit_in_columns, limit_in_values, limit_by, limit_in};
+ghost use Rattle.bq_parser.specs.Keeping.{IsCut};
 
 use crate::draft::{Draft, Form};
 use crate::parsing::What;
@@ -41,6 +42,32 @@ fn has_long_name(tokens: &[Token]) -> bool
     ensures { result ≡ list_any is_long_token tokens.now }
 {
     tokens.iter().any(|token| is_long(token))
+}
+
+// Whether the token is an integer of more than 64 bits.
+fn is_wide(line: &[u8], token: &Token) -> bool
+    requires { (token.now.from ≤ token.now.to) × (token.now.to ≤ length line.now) }
+    ensures { result ≡ is_wide_token line.now token.now }
+{
+    match token.kind {
+        TokenKind::Integer => {
+            bq_text::read_i64(&line[usize::from(token.from)..usize::from(token.to)]).is_none()
+        }
+        _ => false,
+    }
+}
+
+// Whether an integer has more than 64 bits.
+fn has_wide(line: &[u8], tokens: &[Token]) -> bool
+    requires { All (IsCut line.now) tokens.now }
+    ensures { result ≡ list_any (is_wide_token line.now) tokens.now }
+{
+    for token in tokens {
+        if is_wide(line, token) {
+            return true;
+        }
+    }
+    false
 }
 
 // Whether an integer lies outside the range of those that may be written.
@@ -236,9 +263,24 @@ fn columns_limit(columns: &[ColumnDef]) -> Option<What>
     }
 }
 
+// The first limit that the integers of a line of a checkpoint pass, which are too many or not.
+fn values_limit(line: &[u8], tokens: &[Token], over: bool) -> Option<What>
+    requires { All (IsCut line.now) tokens.now }
+    ensures { result ≡ limit_in_values (list_any (is_wide_token line.now) tokens.now) over }
+{
+    if has_wide(line, tokens) {
+        Some(What::Value)
+    } else if over {
+        Some(What::Tuple)
+    } else {
+        None
+    }
+}
+
 // The first limit that the lists of a statement pass.
-fn lists_limit(draft: &Draft) -> Option<What>
-    ensures { result ≡ limit_by draft.now.form draft.now }
+fn lists_limit(line: &[u8], tokens: &[Token], draft: &Draft) -> Option<What>
+    requires { All (IsCut line.now) tokens.now }
+    ensures { result ≡ limit_by (list_any (is_wide_token line.now) tokens.now) draft.now.form draft.now }
 {
     match draft.form {
         Form::Stream => {
@@ -259,16 +301,19 @@ fn lists_limit(draft: &Draft) -> Option<What>
                 atoms_limit(draft.atoms.list.as_slice())
             }
         }
-        Form::Explain | Form::Drop => None,
+        Form::Explain | Form::Drop | Form::Checkpoint => None,
+        Form::Rows | Form::Given | Form::Cell => values_limit(line, tokens, false),
+        Form::Tuple => values_limit(line, tokens, draft.values.over),
     }
 }
 
-/// Returns the first limit that a statement passes, by its tokens and what is kept of it.
-pub fn limit_passed(tokens: &[Token], draft: &Draft) -> Option<What>
-    ensures { result ≡ limit_in tokens.now draft.now }
+/// Returns the first limit that a statement passes, by its line, its tokens and what is kept of it.
+pub fn limit_passed(line: &[u8], tokens: &[Token], draft: &Draft) -> Option<What>
+    requires { All (IsCut line.now) tokens.now }
+    ensures { result ≡ limit_in line.now tokens.now draft.now }
 {
     if has_long_name(tokens) {
         return Some(What::Name);
     }
-    lists_limit(draft)
+    lists_limit(line, tokens, draft)
 }

@@ -25,6 +25,7 @@ pub enum What {
     Value,
     Consts,
     Domain,
+    Tuple,
 }
 
 /// Why a line is no statement that is taken.
@@ -44,7 +45,7 @@ fn is_end(place: Place) -> bool
 {
     matches!(
         place,
-        Place::AfterFrom | Place::AfterAtom | Place::Complete | Place::Ended
+        Place::AfterFrom | Place::AfterAtom | Place::AfterValue | Place::Complete | Place::Ended
     )
 }
 
@@ -66,7 +67,7 @@ pub fn parse(line: &[u8]) -> Result<Statement, ParseError>
             at: line.len() as u16,
         });
     }
-    match limit_passed(tokens.as_slice(), &draft) {
+    match limit_passed(line, tokens.as_slice(), &draft) {
         Some(what) => Err(ParseError::Limit { what }),
         None => Ok(draft.finish()),
     }

@@ -1,6 +1,8 @@
 //! Where in a statement its next token stands, and what each token there does.
-ghost use Rattle.std.specs.Prelude.{◌≡◌};
-ghost use Rattle.bq_parser.specs.Steps.{step};
+ghost use Rattle.std.specs.Prelude.{◌≡◌, Some, None, if◌then◌else◌};
+ghost use Rattle.bq_parser.specs.declared.places.Place.TheVariants as places;
+ghost use Rattle.bq_parser.specs.Grammar as grammar;
+ghost use Rattle.bq_parser.specs.Steps.{step, word_step, step_of};
 
 use bq_lexer::TokenKind;
 use bq_text::Key;
@@ -11,6 +13,7 @@ pub enum Place {
     Start,
     AfterCreate,
     AfterShared,
+    AfterCompact,
     StreamName,
     OpenColumns,
     ColumnName,
@@ -43,6 +46,13 @@ pub enum Place {
     ExplainName,
     AfterDrop,
     DropName,
+    AfterResume,
+    ResumeWhat,
+    GivenRows,
+    CellIndex,
+    CellContent,
+    TupleValue,
+    AfterValue,
     Complete,
     Ended,
 }
@@ -56,6 +66,8 @@ pub enum Action {
     BeginStream,
     BeginQuery,
     BeginShared,
+    BeginCompact,
+    BeginSharedCompact,
     Named,
     BeginColumns,
     ColumnIs,
@@ -78,10 +90,18 @@ pub enum Action {
     OpUnequal,
     AddIntegerAtom,
     AddColumnAtom,
+    BeginCheckpoint,
+    RowsAre,
+    BeginGiven,
+    BeginCell,
+    IndexIs,
+    CountIs,
+    BeginTuple,
+    AddValue,
 }
 
-/// Returns what a token of a kind does at a place, or `None` where it begins no statement.
-pub fn next(place: Place, kind: TokenKind) -> Option<(Place, Action)>
+// What a token does at a place by its kind, or `None` where it begins no statement.
+fn next(place: Place, kind: TokenKind) -> Option<(Place, Action)>
     ensures { result ≡ step place kind }
 {
     match place {
@@ -92,6 +112,11 @@ pub fn next(place: Place, kind: TokenKind) -> Option<(Place, Action)>
                 Action::BeginExplain,
             )),
             TokenKind::Reserved(Key::DropKey) => Some((Place::AfterDrop, Action::BeginDrop)),
+            TokenKind::Reserved(Key::CheckpointKey) => Some((
+                Place::Complete,
+                Action::BeginCheckpoint,
+            )),
+            TokenKind::Reserved(Key::ResumeKey) => Some((Place::AfterResume, Action::Nothing)),
             _ => None,
         },
         Place::AfterCreate => match kind {
@@ -102,6 +127,10 @@ pub fn next(place: Place, kind: TokenKind) -> Option<(Place, Action)>
         },
         Place::AfterShared => match kind {
             TokenKind::Reserved(Key::QueryKey) => Some((Place::QueryName, Action::BeginShared)),
+            _ => None,
+        },
+        Place::AfterCompact => match kind {
+            TokenKind::Reserved(Key::QueryKey) => Some((Place::QueryName, Action::Nothing)),
             _ => None,
         },
         Place::StreamName => match kind {
@@ -258,10 +287,82 @@ pub fn next(place: Place, kind: TokenKind) -> Option<(Place, Action)>
             TokenKind::Word => Some((Place::Complete, Action::Named)),
             _ => None,
         },
+        Place::AfterResume => match kind {
+            TokenKind::Integer => Some((Place::Complete, Action::RowsAre)),
+            TokenKind::Word => Some((Place::ResumeWhat, Action::Named)),
+            _ => None,
+        },
+        Place::ResumeWhat => match kind {
+            TokenKind::Reserved(Key::AsKey) => Some((Place::GivenRows, Action::BeginGiven)),
+            TokenKind::Reserved(Key::FromKey) => Some((Place::CellIndex, Action::BeginCell)),
+            TokenKind::Reserved(Key::SelectKey) => Some((Place::TupleValue, Action::BeginTuple)),
+            _ => None,
+        },
+        Place::GivenRows => match kind {
+            TokenKind::Integer => Some((Place::Complete, Action::CountIs)),
+            _ => None,
+        },
+        Place::CellIndex => match kind {
+            TokenKind::Integer => Some((Place::CellContent, Action::IndexIs)),
+            _ => None,
+        },
+        Place::CellContent => match kind {
+            TokenKind::Integer => Some((Place::Complete, Action::CountIs)),
+            _ => None,
+        },
+        Place::TupleValue => match kind {
+            TokenKind::Integer => Some((Place::AfterValue, Action::AddValue)),
+            _ => None,
+        },
+        Place::AfterValue => match kind {
+            TokenKind::Integer => Some((Place::AfterValue, Action::AddValue)),
+            TokenKind::Semi => Some((Place::Ended, Action::Nothing)),
+            _ => None,
+        },
         Place::Complete => match kind {
             TokenKind::Semi => Some((Place::Ended, Action::Nothing)),
             _ => None,
         },
         Place::Ended => None,
+    }
+}
+
+// Whether a word is COMPACT, in any case of letters.
+#[tactic(auto, unfolding(crate::specs::Grammar::is_compact))]
+fn is_compact(word: &[u8]) -> bool
+    ensures { result ≡ grammar.is_compact word.now }
+{
+    word.eq_ignore_ascii_case(b"COMPACT")
+}
+
+// What a word does where it may be COMPACT and nothing else.
+fn next_compact(word: &[u8], action: Action) -> Option<(Place, Action)>
+    ensures { result ≡ (if grammar.is_compact word.now then Some (places.AfterCompact, action) else None) }
+{
+    if is_compact(word) {
+        Some((Place::AfterCompact, action))
+    } else {
+        None
+    }
+}
+
+// What a word does at a place.
+fn next_word(place: Place, word: &[u8]) -> Option<(Place, Action)>
+    ensures { result ≡ word_step place word.now }
+{
+    match place {
+        Place::AfterCreate => next_compact(word, Action::BeginCompact),
+        Place::AfterShared => next_compact(word, Action::BeginSharedCompact),
+        _ => next(place, TokenKind::Word),
+    }
+}
+
+/// Returns what a token of a kind and text does at a place, or `None` where it begins no statement.
+pub fn next_of(place: Place, kind: TokenKind, text: &[u8]) -> Option<(Place, Action)>
+    ensures { result ≡ step_of place kind text.now }
+{
+    match kind {
+        TokenKind::Word => next_word(place, text),
+        _ => next(place, kind),
     }
 }

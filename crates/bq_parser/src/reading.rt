@@ -9,7 +9,7 @@ ghost use Rattle.bq_parser.specs.Keeping.{kept_parts, IsCut, IsRead};
 ghost use Rattle.bq_parser.specs.declared.places.Place.TheVariants.{Start};
 
 use crate::draft::{Draft, start};
-use crate::places::{Place, next};
+use crate::places::{Place, next_of};
 use bq_lexer::Token;
 
 // The bytes of a token.
@@ -23,14 +23,15 @@ fn text_at<'a>(line: &'a [u8], token: &Token) -> &'a [u8]
 /// Returns the place behind the tokens and what is kept of them, or where the first token stands that begins no statement.
 pub fn read_parts(line: &[u8], tokens: &[Token]) -> Result<(Place, Draft), u16>
     requires { All (IsCut line.now) tokens.now }
-    ensures { MatchResult result (λ found. IsRead line.now tokens.now found.0 found.1) (λ at. place_after Start tokens.now ≡ Err at) }
+    ensures { MatchResult result (λ found. IsRead line.now tokens.now found.0 found.1) (λ at. place_after line.now Start tokens.now ≡ Err at) }
 {
     let mut place = Place::Start;
     let mut draft = start();
     for token in tokens {
-        match next(place, token.kind) {
+        let text = text_at(line, token);
+        match next_of(place, token.kind, text) {
             Some((to, action)) => {
-                draft.take(action, text_at(line, token));
+                draft.take(action, text);
                 place = to;
             }
             None => return Err(token.from),

@@ -205,6 +205,7 @@ fn query_for(select: &SelectAst, catalog: &Catalog) -> Query
         attrs.as_slice(),
         atoms.as_slice(),
         domains.as_slice(),
+        select.compact,
     )
 }
 

@@ -33,9 +33,11 @@ pub struct AtomAst {
     pub right: OperandAst,
 }
 
-/// What stands from SELECT on: whether an answer counts once, the selected columns, the streams and the atoms.
+/// A query as it is written: whether columns are compared within their groups alone, whether an answer counts once, the selected
+/// columns, the streams and the atoms.
 #[derive(Drop)]
 pub struct SelectAst {
+    pub compact: bool,
     pub distinct: bool,
     pub select: ArrayVec<ColumnAst, 8>,
     pub from: ArrayVec<Name, 4>,
@@ -43,6 +45,9 @@ pub struct SelectAst {
 }
 
 /// A statement; a query is shared where its parts keep their equal boxes of cells once.
+///
+/// The lines of a checkpoint say how many rows were taken, how many were given to a query, what one of its cells holds, and one
+/// of the tuples that it has answered.
 #[derive(Drop)]
 pub enum Statement {
     CreateStream {
@@ -59,5 +64,22 @@ pub enum Statement {
     },
     DropQuery {
         name: Name,
+    },
+    Checkpoint,
+    ResumeRows {
+        rows: i64,
+    },
+    ResumeGiven {
+        name: Name,
+        rows: i64,
+    },
+    ResumeCell {
+        name: Name,
+        index: i64,
+        content: i64,
+    },
+    ResumeTuple {
+        name: Name,
+        values: ArrayVec<i64, 8>,
     },
 }

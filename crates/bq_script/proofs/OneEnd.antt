@@ -10,9 +10,9 @@ use Rattle.bq_parser.specs.declared.tree.Statement.{Statement}
 use Rattle.bq_parser.specs.declared.tree.Statement.TheVariants as statements
 use Rattle.bq_parser.specs.LineKind.{stripped, kind_of_line}
 use Rattle.bq_parser.specs.Limits.{limit_of}
-use Rattle.bq_parser.proofs.ReadBack.{one_statement}
-use Rattle.bq_session.specs.declared.word.Word.{Word}
-use Rattle.bq_session.specs.declared.word.Word.TheVariants.{Syntax}
+use Rattle.bq_print.proofs.ReadBack.{one_statement}
+use Rattle.bq_reply.specs.declared.word.Word.{Word}
+use Rattle.bq_reply.specs.declared.word.Word.TheVariants.{Syntax}
 use Rattle.bq_script.specs.Script as scripts
 use Rattle.bq_script.specs.Script.{ScriptLine, nothing, stream, query, refused, statement_line, Creates, IsScriptStatement, outside, misplaced, limited, stated, IsScriptText, IsScriptLine, fits, CreateStreams, Asks, IsRefusedAt, at_line, at_end}
 use Rattle.bq_script.specs.Laws.{HasOneEnd}
@@ -28,8 +28,7 @@ limits-differ s t what e p q =
 no-place : (streams : List Shape) (s : Statement) → ¬ (Creates s) → statement_line streams s ≡ refused Syntax
 no-place streams (statements.CreateStream name columns) c = absurd (c tt)
 no-place streams (statements.CreateQuery name select shared) c = absurd (c tt)
-no-place streams (statements.Explain name) c = refl
-no-place streams (statements.DropQuery name) c = refl
+no-place streams _ c = refl
 
 misplaced-stated : (streams : List Shape) (s t : Statement) → s ≡ t → ¬ (Creates s) → refused Syntax ≡ statement_line streams t
 misplaced-stated streams s t e c = sym (no-place streams t (subst (λ x. ¬ (Creates x)) e c))

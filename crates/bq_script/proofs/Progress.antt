@@ -6,8 +6,8 @@ use Rattle.bq_feed.specs.GivenLines.{GivenLines}
 use Rattle.bq_feed.proofs.GivenLines.{given-none}
 use Rattle.bq_feed.proofs.GivenEnds.{front-lines, took-lines, took-all}
 use Rattle.bq_schema.specs.Streams.{Shape}
-use Rattle.bq_session.specs.declared.word.Word.{Word}
-use Rattle.bq_session.specs.declared.word.Word.TheVariants.{LineTooLong, Syntax}
+use Rattle.bq_reply.specs.declared.word.Word.{Word}
+use Rattle.bq_reply.specs.declared.word.Word.TheVariants.{LineTooLong, Syntax}
 use Rattle.bq_script.specs.declared.end.ScriptEnd.{ScriptEnd}
 use Rattle.bq_script.specs.declared.end.ScriptEnd.TheVariants.{Refused, ReadFault, ByteLimit}
 use Rattle.bq_script.specs.declared.texts.TextAnswer.TheVariants as answers

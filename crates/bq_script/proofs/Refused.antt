@@ -10,12 +10,12 @@ use Rattle.bq_parser.specs.declared.parsing.ParseError.{ParseError}
 use Rattle.bq_parser.specs.declared.parsing.ParseError.TheVariants as parse_errors
 use Rattle.bq_parser.specs.declared.tree.Statement.{Statement}
 use Rattle.bq_parser.specs.declared.tree.Statement.TheVariants as statements
-use Rattle.bq_parser.specs.Grammar.{Lexeme, key, statement_tokens, semicolon, Spells}
+use Rattle.bq_parser.specs.Grammar.{Lexeme, word, key, tokens_with, semicolon, Spells}
 use Rattle.bq_parser.specs.Syntax.{IsStatement, lexemes, lexeme_as}
 use Rattle.bq_parser.specs.Refusal.{IsRefusal}
-use Rattle.bq_parser.proofs.RoundTrip.{faults_are_none}
-use Rattle.bq_session.specs.declared.word.Word.TheVariants.{Syntax}
-use Rattle.bq_session.specs.Decided.{parse_word}
+use Rattle.bq_print.proofs.RoundTrip.{faults_are_none}
+use Rattle.bq_reply.specs.declared.word.Word.TheVariants.{Syntax}
+use Rattle.bq_reply.specs.Words.{parse_word}
 use Rattle.bq_script.specs.Script.{Creates, IsScriptStatement, refused, outside, misplaced, limited}
 use Rattle.bq_script.specs.Creations.{is_create_key, is_create, begin_with_create}
 
@@ -32,8 +32,7 @@ first_says_create (l ∷ ls) = says_create l
 abbrev creates : Statement → Bool
 creates (statements.CreateStream name columns) = true
 creates (statements.CreateQuery name select shared) = true
-creates (statements.Explain name) = false
-creates (statements.DropQuery name) = false
+creates _ = false
 
 kind_says : (k : TokenKind) (w : List ℕ) → is_create k ≡ says_create (lexeme_as k w)
 kind_says kinds.Word w = refl
@@ -55,21 +54,17 @@ tokens_say : (text : List ℕ) (ts : List Token) → begin_with_create (Ok ts) �
 tokens_say text [] = refl
 tokens_say text (t ∷ ts) = kind_says t.kind _
 
-statement_says : (s : Statement) → first_says_create (statement_tokens s) ≡ creates s
-statement_says (statements.CreateStream name columns) = refl
-statement_says (statements.CreateQuery name select shared) = refl
-statement_says (statements.Explain name) = refl
-statement_says (statements.DropQuery name) = refl
+statement_says : (w : List ℕ) (s : Statement) → first_says_create (tokens_with (word w ∷ []) s) ≡ creates s
+statement_says w (statements.CreateStream name columns) = refl
+statement_says w _ = refl
 
-ended_says : (s : Statement) → first_says_create (statement_tokens s ++ semicolon ∷ []) ≡ creates s
-ended_says (statements.CreateStream name columns) = refl
-ended_says (statements.CreateQuery name select shared) = refl
-ended_says (statements.Explain name) = refl
-ended_says (statements.DropQuery name) = refl
+ended_says : (w : List ℕ) (s : Statement) → first_says_create (tokens_with (word w ∷ []) s ++ semicolon ∷ []) ≡ creates s
+ended_says w (statements.CreateStream name columns) = refl
+ended_says w _ = refl
 
 spelled_says : (ls : List Lexeme) (s : Statement) → Spells ls s → first_says_create ls ≡ creates s
-spelled_says ls s (whole, inl e) = ap first_says_create e ∙ statement_says s
-spelled_says ls s (whole, inr e) = ap first_says_create e ∙ ended_says s
+spelled_says ls s (whole, w, is, inl e) = ap first_says_create e ∙ statement_says w s
+spelled_says ls s (whole, w, is, inr e) = ap first_says_create e ∙ ended_says w s
 
 text_says : (text : List ℕ) (s : Statement) → IsStatement text s → begin_with_create (tokens text) ≡ creates s
 text_says text s is = ap begin_with_create is.lexed ∙ tokens_say text is.its_tokens ∙ spelled_says (lexemes text is.its_tokens) s is.spelled
@@ -77,14 +72,12 @@ text_says text s is = ap begin_with_create is.lexed ∙ tokens_say text is.its_t
 does_create : (s : Statement) → creates s ≡ true → Creates s
 does_create (statements.CreateStream name columns) e = tt
 does_create (statements.CreateQuery name select shared) e = tt
-does_create (statements.Explain name) e = absurd (false≢true e)
-does_create (statements.DropQuery name) e = absurd (false≢true e)
+does_create _ e = absurd (false≢true e)
 
 creates_nothing : (s : Statement) → creates s ≡ false → ¬ (Creates s)
 creates_nothing (statements.CreateStream name columns) e = absurd (false≢true (sym e))
 creates_nothing (statements.CreateQuery name select shared) e = absurd (false≢true (sym e))
-creates_nothing (statements.Explain name) e = λ c. c
-creates_nothing (statements.DropQuery name) e = λ c. c
+creates_nothing _ e = λ c. c
 
 -- a text that begins with CREATE is refused by its own word
 pub refused-create : (streams : List Shape) (text : List ℕ) (error : ParseError) → begin_with_create (tokens text) ≡ true → IsRefusal text error → IsScriptStatement streams text (refused (parse_word error))

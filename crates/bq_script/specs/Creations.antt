@@ -11,7 +11,7 @@ use Rattle.bq_schema.specs.Streams.{Shape}
 use Rattle.bq_parser.specs.declared.tree.SelectAst.{SelectAst}
 use Rattle.bq_parser.specs.declared.tree.Statement.TheVariants.{CreateQuery}
 use Rattle.bq_parser.specs.Resolution.{HasNamed}
-use Rattle.bq_session.specs.declared.word.Word.{Word}
+use Rattle.bq_reply.specs.declared.word.Word.{Word}
 use Rattle.bq_script.specs.declared.creation.Asked.{Asked}
 use Rattle.bq_script.specs.declared.creation.Creation.{Creation}
 use Rattle.bq_script.specs.declared.creation.Creation.TheVariants.{Stream, Query}

@@ -16,9 +16,9 @@ use Rattle.bq_parser.specs.LineKind.{stripped, kind_of_line}
 use Rattle.bq_parser.specs.Syntax.{IsStatement}
 use Rattle.bq_parser.specs.Limits.{limit_of}
 use Rattle.bq_parser.specs.Resolution.{resolved}
-use Rattle.bq_session.specs.Requests.{stream_word, resolve_word}
-use Rattle.bq_session.specs.declared.word.Word.{Word}
-use Rattle.bq_session.specs.declared.word.Word.TheVariants.{LineTooLong, Syntax, Limit}
+use Rattle.bq_reply.specs.Words.{stream_word, resolve_word}
+use Rattle.bq_reply.specs.declared.word.Word.{Word}
+use Rattle.bq_reply.specs.declared.word.Word.TheVariants.{LineTooLong, Syntax, Limit}
 
 -- What a line is in a script before its query: nothing, a stream, the query under its name, which is shared or not, or it is refused.
 pub data ScriptLine : Type 0 where
@@ -41,15 +41,13 @@ query_line name select shared (Err error) = refused (resolve_word error)
 abbrev pub statement_line : List Shape → Statement → ScriptLine
 statement_line streams (statements.CreateStream name columns) = stream_line (record { name = name; columns = columns.items }) (added streams (record { name = name; columns = columns.items }))
 statement_line streams (statements.CreateQuery name select shared) = query_line name select shared (resolved streams select)
-statement_line streams (statements.Explain name) = refused Syntax
-statement_line streams (statements.DropQuery name) = refused Syntax
+statement_line streams _ = refused Syntax
 
 -- a statement creates a stream or a query
 abbrev pub Creates : Statement → Type 0
 Creates (statements.CreateStream name columns) = Unit {0}
 Creates (statements.CreateQuery name select shared) = Unit {0}
-Creates (statements.Explain name) = ⊥
-Creates (statements.DropQuery name) = ⊥
+Creates _ = ⊥
 
 -- What a text is that is read as a statement: no statement, or one that has no place, whether or not it passes a limit; one that passes a
 -- limit; or what the statement creates.

@@ -4,7 +4,7 @@ use Rattle.std.specs.List.{flat_map}
 use Rattle.bq_schema.specs.Streams.{Shape}
 use Rattle.bq_parser.specs.declared.tree.Statement.{Statement}
 use Rattle.bq_parser.specs.declared.tree.Statement.TheVariants.{CreateStream}
-use Rattle.bq_parser.specs.Printed.{printed_form}
+use Rattle.bq_print.specs.Printed.{printed_form}
 
 -- the statement that creates a stream
 abbrev pub stream_statement : Shape → Statement

@@ -11,8 +11,8 @@ ghost use Rattle.bq_script.specs.Creations.{Takes, TakesText, TakesLine, begin_w
 use bq_lexer::{Key, TokenKind, lex};
 use bq_model::Query;
 use bq_parser::{LineKind, ParseError, Statement, classify, parse, resolve};
+use bq_reply::{Word, parse_word, resolve_word, stream_word};
 use bq_schema::Catalog;
-use bq_session::{Word, parse_word, resolve_word, stream_word};
 
 /// A query, and the statement that asks for it.
 #[derive(Drop)]
@@ -86,7 +86,13 @@ fn take_statement(catalog: &mut Catalog, statement: Statement) -> Result<Creatio
             }
             Err(error) => Err(resolve_word(error)),
         },
-        Statement::Explain { .. } | Statement::DropQuery { .. } => Err(Word::Syntax),
+        Statement::Explain { .. }
+        | Statement::DropQuery { .. }
+        | Statement::Checkpoint
+        | Statement::ResumeRows { .. }
+        | Statement::ResumeGiven { .. }
+        | Statement::ResumeCell { .. }
+        | Statement::ResumeTuple { .. } => Err(Word::Syntax),
     }
 }
 

@@ -1,5 +1,5 @@
 //! Why a script is not taken.
-use bq_session::Word;
+use bq_reply::Word;
 
 /// Why a script is not taken.
 #[derive(Clone, Copy, Debug, PartialEq, Eq)]

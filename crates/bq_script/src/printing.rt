@@ -8,7 +8,8 @@ ghost use Rattle.bq_script.specs.Texts.{line_text, stream_statement, streams_tex
 use crate::script::Script;
 use arrayvec::ArrayVec;
 use bq_io::{Sink, WriteFault, write_all};
-use bq_parser::{Statement, print};
+use bq_parser::Statement;
+use bq_print::print;
 use bq_schema::{Catalog, ColumnDef};
 
 // A column of the stream of this number, by its place.

@@ -10,8 +10,8 @@ use bq_feed::LineReader;
 use bq_io::Source;
 use bq_model::Query;
 use bq_parser::Statement;
+use bq_reply::Word;
 use bq_schema::Catalog;
-use bq_session::Word;
 use std::alloc::Global;
 
 /// A script, up to the line of its query.

@@ -11,7 +11,7 @@ use crate::end::ScriptEnd;
 use bq_feed::{LineAnswer, LineReader};
 use bq_io::Source;
 use bq_parser::{LineKind, classify};
-use bq_session::Word;
+use bq_reply::Word;
 
 /// What comes next in a script, behind blank lines and comments.
 #[derive(Clone, Copy, Debug, PartialEq, Eq)]

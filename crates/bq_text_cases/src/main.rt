@@ -1,9 +1,9 @@
 //! What the text layer says of the lines of its input, for the worked cases beside it: one line of output for each.
 //!
 //! A line is a letter, a space and a text. `t` asks for the tokens of the text, `s` for the statement in its printed form, `k`
-//! for the kind of line and what is left of it, `n` whether the text is a name, `v` for the integer that it is. Three letters
+//! for the kind of line and what is left of it, `n` whether the text is a name, `v` for the integer that it is. Four letters
 //! speak of the streams that the lines before created: `c` creates a stream and asks for its number, `r` for the stream and
-//! the values of a row, `q` for a query in its printed form.
+//! the values of a row, `q` for a query in its printed form, `l` for the line that creates the query again.
 #![tactic(auto)]
 
 mod fault;
@@ -11,7 +11,7 @@ mod streams;
 mod texts;
 
 use crate::fault::Fault;
-use crate::streams::{show_query, show_row, show_stream};
+use crate::streams::{show_create_line, show_query, show_row, show_stream};
 use crate::texts::{show_kind, show_lexed, show_name, show_parsed, show_value};
 use bq_io::{Sink, StdSink, write_all};
 use bq_schema::Catalog;
@@ -35,6 +35,7 @@ fn show<O: Sink>(
         [b'c', b' ', text @ ..] => show_stream(alloc, catalog, text, out)?,
         [b'r', b' ', text @ ..] => show_row(alloc, catalog, text, out)?,
         [b'q', b' ', text @ ..] => show_query(alloc, catalog, text, out)?,
+        [b'l', b' ', text @ ..] => show_create_line(alloc, catalog, text, out)?,
         _ => return Err(Fault::Line),
     }
     write_all(out, b"\n")?;

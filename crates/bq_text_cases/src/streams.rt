@@ -11,7 +11,8 @@ use crate::fault::Fault;
 use crate::texts::show_refused;
 use bq_io::{Sink, write_all};
 use bq_model::Row;
-use bq_parser::{LineKind, SelectAst, Statement, classify, parse, print_query, resolve};
+use bq_parser::{LineKind, SelectAst, Statement, classify, parse, resolve};
+use bq_print::{print_query, put_create_line};
 use bq_schema::{Catalog, ColumnDef};
 use bq_text::Name;
 use std::alloc::Global;
@@ -171,6 +172,64 @@ pub fn show_query<O: Sink>(
     }
     match parse(text) {
         Ok(statement) => show_asked(alloc, catalog, statement, out),
+        Err(error) => show_refused(alloc, error, out),
+    }
+}
+
+// The line that creates a query again.
+fn show_line<O: Sink>(
+    alloc: Global,
+    catalog: &Catalog,
+    name: &Name,
+    select: &SelectAst,
+    shared: bool,
+    out: &mut O,
+) -> Result<(), Fault>
+    requires { IsTaken select.now }
+{
+    match resolve(select, catalog) {
+        Ok(query) => put_create_line(name, &query, shared, catalog, out)?,
+        Err(error) => {
+            let text = format!(in alloc; "{error:?}")?;
+            write_all(out, text.as_bytes())?;
+        }
+    }
+    Ok(())
+}
+
+// The line that creates again what a statement creates.
+fn show_again<O: Sink>(
+    alloc: Global,
+    catalog: &Catalog,
+    statement: Statement,
+    out: &mut O,
+) -> Result<(), Fault>
+    requires whole { IsWhole statement }
+    requires limits { limit_of statement ≡ None }
+{
+    match statement {
+        Statement::CreateQuery {
+            name,
+            select,
+            shared,
+        } => show_line(alloc, catalog, &name, &select, shared, out)?,
+        _ => write_all(out, b"no query statement")?,
+    }
+    Ok(())
+}
+
+/// Writes the line that creates again the query that a text creates, or why it is refused.
+pub fn show_create_line<O: Sink>(
+    alloc: Global,
+    catalog: &Catalog,
+    text: &[u8],
+    out: &mut O,
+) -> Result<(), Fault> {
+    if text.len() > 1024 {
+        return Err(Fault::Line);
+    }
+    match parse(text) {
+        Ok(statement) => show_again(alloc, catalog, statement, out),
         Err(error) => show_refused(alloc, error, out),
     }
 }

@@ -2,7 +2,8 @@
 use crate::fault::Fault;
 use bq_io::{Sink, write_all, write_pieces};
 use bq_lexer::{Tokens, lex};
-use bq_parser::{ParseError, classify, parse, print};
+use bq_parser::{ParseError, classify, parse};
+use bq_print::print;
 use bq_text::{Name, read_i64};
 use std::alloc::Global;
 

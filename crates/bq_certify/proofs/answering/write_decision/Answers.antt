@@ -1,7 +1,7 @@
 use Rattle.std.proofs.Common.{sym, subst}
 use Rattle.bq_model.specs.Verdict.{IsDecision}
 use Rattle.bq_parser.specs.Resolution.{IsColumnOf}
-use Rattle.bq_session.proofs.Named.{violation_is_named}
+use Rattle.bq_reply.proofs.Named.{violation_is_named}
 use Rattle.bq_certify.proofs.answering.write_decision.Goals as goal
 
 pub column_named-column-requires-clause-column : goal.column_named-column-requires-clause-column

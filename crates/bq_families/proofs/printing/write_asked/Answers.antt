@@ -1,6 +1,6 @@
 use Rattle.std.proofs.Common.{◌<◌, ℕ, ℤ, length, sym, subst}
 use Rattle.arrayvec.specs.ArrayVec.{ArrayVec as Items}
-use Rattle.bq_parser.proofs.WritesBehind.{stops_at_item}
+use Rattle.bq_print.proofs.WritesBehind.{stops_at_item}
 use Rattle.bq_families.specs.Text.{asked_text}
 use Rattle.bq_families.proofs.printing.write_asked.Goals as goal
 

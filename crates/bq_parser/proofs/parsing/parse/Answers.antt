@@ -23,7 +23,14 @@ returns-in-Err-read_parts c =
     let P : Result (List Token) ℕ → Type 0 = λ r. IsFaultOf c.args.line.now r c.in-Err-read_parts.at in
     subst P (sym c.in-Ok.ensures.tokens)
     (inl (stops_at c.args.line.now c.in-Ok.tokens.items c.in-Err-read_parts.at
-    (ap (place_after Start) (sym c.as_slice.ensures.value) ∙ c.in-Err-read_parts.ensures)))
+    (ap (place_after c.args.line.now Start) (sym c.as_slice.ensures.value) ∙ c.in-Err-read_parts.ensures)))
+
+pub limit_passed-requires : goal.limit_passed-requires
+limit_passed-requires c =
+    let line = c.args.line.now in
+    let P : List Token → Type 0 = λ ts. All (IsCut line) ts in
+    let ts = c.in-Ok.tokens.items in
+    subst P (sym c.as_slice-2.ensures.value) (λ k d lt. all_at (IsCut line) ts (cut_at line 0 ts c.in-Ok.ensures.stand) k d lt)
 
 pub returns-then-not-is_end : goal.returns-then-not-is_end
 returns-then-not-is_end c =
@@ -42,7 +49,7 @@ returns-in-Some c =
     let d = c.in-Ok-read_parts.found.1 in
     let Q : List Token → Type 0 = λ us. IsRead line us c.in-Ok-read_parts.found.0 d in
     let j = judged line ts c.in-Ok-read_parts.found.0 d c.in-Ok.ensures.tokens c.in-Ok.ensures.stand (subst Q c.as_slice.ensures.value c.in-Ok-read_parts.ensures) (sym c.if-not-is_end.ensures) in
-    (j.statement, j.is, sym j.limit ∙ ap (λ us. limit_in us d) (sym c.as_slice-2.ensures.value) ∙ sym c.limit_passed.ensures ∙ c.in-Some.is)
+    (j.statement, j.is, sym j.limit ∙ ap (λ us. limit_in line us d) (sym c.as_slice-2.ensures.value) ∙ sym c.limit_passed.ensures ∙ c.in-Some.is)
 
 pub returns-in-None : goal.returns-in-None
 returns-in-None c =
@@ -51,6 +58,6 @@ returns-in-None c =
     let d = c.in-Ok-read_parts.found.1 in
     let Q : List Token → Type 0 = λ us. IsRead line us c.in-Ok-read_parts.found.0 d in
     let j = judged line ts c.in-Ok-read_parts.found.0 d c.in-Ok.ensures.tokens c.in-Ok.ensures.stand (subst Q c.as_slice.ensures.value c.in-Ok-read_parts.ensures) (sym c.if-not-is_end.ensures) in
-    let none : limit_of j.statement ≡ None = sym j.limit ∙ ap (λ us. limit_in us d) (sym c.as_slice-2.ensures.value) ∙ sym c.limit_passed.ensures ∙ c.in-None.is in
+    let none : limit_of j.statement ≡ None = sym j.limit ∙ ap (λ us. limit_in line us d) (sym c.as_slice-2.ensures.value) ∙ sym c.limit_passed.ensures ∙ c.in-None.is in
     let P : Statement → Type 0 = λ s. IsStatement line s × (limit_of s ≡ None) in
     subst P (sym (c.finish.ensures ∙ j.same none)) (j.is, none)

@@ -1,5 +1,5 @@
 use Rattle.std.proofs.Common.{sym, ◌∙◌}
-use Rattle.bq_session.proofs.Stripped.{stripped-short}
+use Rattle.bq_reply.proofs.Stripped.{stripped-short}
 use Rattle.bq_script.proofs.Taking.{of_kind}
 use Rattle.bq_script.proofs.creation.take_line.Goals as goal
 

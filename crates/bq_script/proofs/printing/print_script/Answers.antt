@@ -1,5 +1,5 @@
 use Rattle.std.proofs.Common.{refl}
-use Rattle.bq_parser.proofs.WritesBehind.{writes_then}
+use Rattle.bq_print.proofs.WritesBehind.{writes_then}
 use Rattle.bq_script.proofs.printing.print_script.Goals as goal
 
 pub returns-in-Ok : goal.returns-in-Ok

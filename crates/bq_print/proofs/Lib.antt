@@ -1,0 +1,10 @@
+pub mod PieceLists
+pub mod PrintedText
+pub mod ReadBack
+pub mod RoundTrip
+pub mod ShortApart
+pub mod Shortest
+pub mod Spaced
+pub mod TextSizes
+pub mod WritesBehind
+pub mod CompactSize

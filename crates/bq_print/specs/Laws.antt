@@ -1,0 +1,46 @@
+-- The laws of statements and their texts.
+use Rattle.std.specs.Prelude.{Bool, ◌≡◌, ◌≤◌, ℕ, List, length, None, IsTrue, All}
+use Rattle.bq_text.specs.Name.{is_name}
+use Rattle.bq_parser.specs.declared.tree.SelectAst.{SelectAst}
+use Rattle.bq_parser.specs.declared.tree.Statement.{Statement}
+use Rattle.bq_parser.specs.declared.tree.Statement.TheVariants.{CreateQuery}
+use Rattle.bq_parser.specs.Grammar.{IsWhole}
+use Rattle.bq_parser.specs.Syntax.{IsStatement, IsFault}
+use Rattle.bq_parser.specs.Limits.{names_of, limit_of}
+use Rattle.bq_print.specs.Printed.{printed_form, short_form, create_line}
+
+-- a line is spelled as one statement at most
+abbrev pub OneReading : Type 0
+OneReading = (line : List ℕ) → (s : Statement) → (t : Statement) → IsStatement line s → IsStatement line t → s ≡ t
+
+-- a line that leaves the grammar somewhere is no statement
+abbrev pub FaultsAreNone : Type 0
+FaultsAreNone = (line : List ℕ) → (at : ℕ) → (s : Statement) → IsFault line at → IsStatement line s → ⊥
+
+-- The printed form of a statement within the limits says this statement, where its names are names, no list but that of the
+-- atoms is empty, and no atom has two integers.
+abbrev pub PrintsBack : Type 0
+PrintsBack = (s : Statement) → IsWhole s → All (λ n. IsTrue (is_name n)) (names_of s) → limit_of s ≡ None → IsStatement (printed_form s) s
+
+-- the short form of a statement within the limits is no longer than any line that is spelled as the statement
+abbrev pub ShortIsShortest : Type 0
+ShortIsShortest = (line : List ℕ) → (s : Statement) → IsStatement line s → limit_of s ≡ None → length (short_form s) ≤ length line
+
+-- The short form of a query within the limits says this query, where its names are names, no list but that of the atoms is empty, and no
+-- atom has two integers.
+abbrev pub ShortReadsBack : Type 0
+ShortReadsBack =
+    (name : List ℕ) → (select : SelectAst) → (shared : Bool) → IsWhole (CreateQuery name select shared)
+    → All (λ n. IsTrue (is_name n)) (names_of (CreateQuery name select shared)) → limit_of (CreateQuery name select shared) ≡ None
+    → IsStatement (short_form (CreateQuery name select shared)) (CreateQuery name select shared)
+
+-- the line that creates a query again says this query, under the same conditions
+abbrev pub CreatesAgain : Type 0
+CreatesAgain =
+    (name : List ℕ) → (select : SelectAst) → (shared : Bool) → IsWhole (CreateQuery name select shared)
+    → All (λ n. IsTrue (is_name n)) (names_of (CreateQuery name select shared)) → limit_of (CreateQuery name select shared) ≡ None
+    → IsStatement (create_line (CreateQuery name select shared)) (CreateQuery name select shared)
+
+-- a statement within the limits that some line of at most 1,024 bytes spells has such a line to create it again
+abbrev pub CreateLinesFit : Type 0
+CreateLinesFit = (line : List ℕ) → (s : Statement) → IsStatement line s → limit_of s ≡ None → length line ≤ 1024 → length (create_line s) ≤ 1024

@@ -1,0 +1,4 @@
+pub mod Printed
+pub mod PrintedParts
+pub mod Pieces
+pub mod Laws

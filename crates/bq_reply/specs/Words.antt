@@ -1,0 +1,36 @@
+-- The word that refuses a line, by what was found.
+use Rattle.bq_schema.specs.declared.stream_error.StreamError.{StreamError}
+use Rattle.bq_schema.specs.declared.stream_error.StreamError.TheVariants as stream_errors
+use Rattle.bq_schema.specs.declared.row_error.RowError.{RowError}
+use Rattle.bq_schema.specs.declared.row_error.RowError.TheVariants as row_errors
+use Rattle.bq_parser.specs.declared.parsing.ParseError.{ParseError}
+use Rattle.bq_parser.specs.declared.parsing.ParseError.TheVariants as parse_errors
+use Rattle.bq_parser.specs.declared.resolution.ResolveError.{ResolveError}
+use Rattle.bq_parser.specs.declared.resolution.ResolveError.TheVariants as resolve_errors
+use Rattle.bq_reply.specs.declared.word.Word.{Word}
+use Rattle.bq_reply.specs.declared.word.Word.TheVariants.{Syntax, Limit, Duplicate, TooMany, UnknownStream, UnknownColumn, SelfJoin, Arity, Value, Domain}
+
+-- the word for a refused stream
+abbrev pub stream_word : StreamError → Word
+stream_word stream_errors.Duplicate = Duplicate
+stream_word stream_errors.TooMany = TooMany
+
+-- the word for a refused row
+abbrev pub row_word : RowError → Word
+row_word row_errors.Syntax = Syntax
+row_word row_errors.Limit = Limit
+row_word row_errors.UnknownStream = UnknownStream
+row_word row_errors.Arity = Arity
+row_word row_errors.Value = Value
+row_word row_errors.Domain = Domain
+
+-- the word for a query whose names stand for none
+abbrev pub resolve_word : ResolveError → Word
+resolve_word resolve_errors.UnknownStream = UnknownStream
+resolve_word resolve_errors.UnknownColumn = UnknownColumn
+resolve_word resolve_errors.SelfJoin = SelfJoin
+
+-- the word for a text that is no statement within the limits
+abbrev pub parse_word : ParseError → Word
+parse_word (parse_errors.Syntax at) = Syntax
+parse_word (parse_errors.Limit what) = Limit

@@ -1,0 +1,13 @@
+//! What is replied: the words for a refused line, and the text of each reply that has no row in it.
+//!
+//! The commands that read a script answer with the same words as a session, and stand beside it.
+#![tactic(auto)]
+
+mod reply;
+mod word;
+
+pub use reply::{
+    write_created, write_dropped, write_filter, write_limit, write_no_pages, write_numbers,
+    write_refused, write_violation,
+};
+pub use word::{Word, parse_word, resolve_word, row_word, stream_word};

@@ -1,0 +1,214 @@
+//! What is printed. Each line is one call that writes a list of pieces.
+ghost use Rattle.std.specs.Prelude.{◌≡◌, ◌++◌, ◌∷◌, [], codes, decimal};
+ghost use Rattle.bq_io.specs.Sink.{Writes};
+ghost use Rattle.bq_explain.specs.Text.{column_text};
+ghost use Rattle.bq_reply.specs.Texts.{word_text, which_text, condition_text, numbers_text};
+
+use crate::word::Word;
+use bq_io::{Sink, WriteFault, write_pieces};
+use bq_model::{Condition, Numbers, Which};
+use bq_parser::ColumnAst;
+use bq_text::Name;
+use itoa::Buffer;
+
+/// Writes `ok stream S`
+pub fn write_created<O: Sink>(out: &mut O, name: &Name) -> Result<(), WriteFault>
+    ensures { Writes result (O.seen out.old) (O.seen out.new) (codes "ok stream " ++ name.now ++ 10 ∷ []) }
+{
+    let pieces: [&[u8]; 3] = [b"ok stream ", name.bytes(), b"\n"];
+    write_pieces(out, &pieces)
+}
+
+/// Writes `ok drop q`
+pub fn write_dropped<O: Sink>(out: &mut O, name: &Name) -> Result<(), WriteFault>
+    ensures { Writes result (O.seen out.old) (O.seen out.new) (codes "ok drop " ++ name.now ++ 10 ∷ []) }
+{
+    let pieces: [&[u8]; 3] = [b"ok drop ", name.bytes(), b"\n"];
+    write_pieces(out, &pieces)
+}
+
+/// Writes `refused q limit pool`
+pub fn write_no_pages<O: Sink>(out: &mut O, name: &Name) -> Result<(), WriteFault>
+    ensures { Writes result (O.seen out.old) (O.seen out.new) (codes "refused " ++ name.now ++ codes " limit pool" ++ 10 ∷ []) }
+{
+    let pieces: [&[u8]; 4] = [b"refused ", name.bytes(), b" limit pool", b"\n"];
+    write_pieces(out, &pieces)
+}
+
+// `ok query q parts P cells C answers A work W`, by its parts.
+fn write_numbers_text<'a, O: Sink>(
+    out: &mut O,
+    name: &'a [u8],
+    parts: &'a [u8],
+    cells: &'a [u8],
+    answers: &'a [u8],
+    work: &'a [u8],
+) -> Result<(), WriteFault>
+    ensures { Writes result (O.seen out.old) (O.seen out.new)
+        (codes "ok query " ++ name.now ++ codes " parts " ++ parts.now ++ codes " cells " ++ cells.now ++ codes " answers " ++ answers.now ++ codes " work " ++ work.now ++ 10 ∷ []) }
+{
+    let pieces: [&[u8]; 11] = [
+        b"ok query ",
+        name,
+        b" parts ",
+        parts,
+        b" cells ",
+        cells,
+        b" answers ",
+        answers,
+        b" work ",
+        work,
+        b"\n",
+    ];
+    write_pieces(out, &pieces)
+}
+
+/// Writes `ok query q parts P cells C answers A work W`
+pub fn write_numbers<O: Sink>(out: &mut O, name: &Name, numbers: Numbers) -> Result<(), WriteFault>
+    ensures { Writes result (O.seen out.old) (O.seen out.new) (numbers_text name.now numbers) }
+{
+    let mut parts = Buffer::new();
+    let mut cells = Buffer::new();
+    let mut answers = Buffer::new();
+    let mut work = Buffer::new();
+    write_numbers_text(
+        out,
+        name.bytes(),
+        parts.format(numbers.parts).as_bytes(),
+        cells.format(numbers.cells).as_bytes(),
+        answers.format(numbers.answers).as_bytes(),
+        work.format(numbers.work).as_bytes(),
+    )
+}
+
+/// Writes `ok query q filter`
+pub fn write_filter<O: Sink>(out: &mut O, name: &Name) -> Result<(), WriteFault>
+    ensures { Writes result (O.seen out.old) (O.seen out.new) (codes "ok query " ++ name.now ++ codes " filter" ++ 10 ∷ []) }
+{
+    let pieces: [&[u8]; 3] = [b"ok query ", name.bytes(), b" filter\n"];
+    write_pieces(out, &pieces)
+}
+
+fn which_text(which: Which) -> &'static [u8]
+    ensures { result.now ≡ which_text which }
+{
+    match which {
+        Which::Parts => b"parts",
+        Which::Cells => b"cells",
+        Which::Answers => b"answers",
+        Which::Work => b"work",
+    }
+}
+
+// `refused q limit` and the number's name.
+fn write_limit_text<'a, O: Sink>(
+    out: &mut O,
+    name: &'a [u8],
+    which: &'a [u8],
+) -> Result<(), WriteFault>
+    ensures { Writes result (O.seen out.old) (O.seen out.new) (codes "refused " ++ name.now ++ codes " limit " ++ which.now ++ 10 ∷ []) }
+{
+    let pieces: [&[u8]; 5] = [b"refused ", name, b" limit ", which, b"\n"];
+    write_pieces(out, &pieces)
+}
+
+/// Writes `refused q limit parts`
+pub fn write_limit<O: Sink>(out: &mut O, name: &Name, which: Which) -> Result<(), WriteFault>
+    ensures { Writes result (O.seen out.old) (O.seen out.new) (codes "refused " ++ name.now ++ codes " limit " ++ which_text which ++ 10 ∷ []) }
+{
+    let which = which_text(which);
+    write_limit_text(out, name.bytes(), which)
+}
+
+fn condition_text(condition: Condition) -> &'static [u8]
+    ensures { result.now ≡ condition_text condition }
+{
+    match condition {
+        Condition::C1 => b"C1",
+        Condition::C2 => b"C2",
+        Condition::C3 => b"C3",
+    }
+}
+
+// `refused q part N C2 S.b`, by its parts.
+fn write_violation_text<'a, O: Sink>(
+    out: &mut O,
+    name: &'a [u8],
+    part: &'a [u8],
+    condition: &'a [u8],
+    stream: &'a [u8],
+    column: &'a [u8],
+) -> Result<(), WriteFault>
+    ensures { Writes result (O.seen out.old) (O.seen out.new)
+        (codes "refused " ++ name.now ++ codes " part " ++ part.now ++ 32 ∷ condition.now ++ 32 ∷ (stream.now ++ 46 ∷ column.now) ++ 10 ∷ []) }
+{
+    let pieces: [&[u8]; 11] = [
+        b"refused ",
+        name,
+        b" part ",
+        part,
+        b" ",
+        condition,
+        b" ",
+        stream,
+        b".",
+        column,
+        b"\n",
+    ];
+    write_pieces(out, &pieces)
+}
+
+/// Writes `refused q part N C2 S.b`
+pub fn write_violation<O: Sink>(
+    out: &mut O,
+    name: &Name,
+    part: u32,
+    condition: Condition,
+    column: &ColumnAst,
+) -> Result<(), WriteFault>
+    ensures { Writes result (O.seen out.old) (O.seen out.new)
+        (codes "refused " ++ name.now ++ codes " part " ++ decimal part ++ 32 ∷ condition_text condition ++ 32 ∷ column_text column.now ++ 10 ∷ []) }
+{
+    let mut buffer = Buffer::new();
+    let number = buffer.format(part).as_bytes();
+    let condition = condition_text(condition);
+    write_violation_text(
+        out,
+        name.bytes(),
+        number,
+        condition,
+        column.stream.bytes(),
+        column.column.bytes(),
+    )
+}
+
+fn word_text(word: Word) -> &'static [u8]
+    ensures { result.now ≡ word_text word }
+{
+    match word {
+        Word::LineTooLong => b"LineTooLong",
+        Word::Syntax => b"Syntax",
+        Word::Limit => b"Limit",
+        Word::Duplicate => b"Duplicate",
+        Word::TooMany => b"TooMany",
+        Word::UnknownStream => b"UnknownStream",
+        Word::UnknownColumn => b"UnknownColumn",
+        Word::SelfJoin => b"SelfJoin",
+        Word::UnknownQuery => b"UnknownQuery",
+        Word::Late => b"Late",
+        Word::Arity => b"Arity",
+        Word::Value => b"Value",
+        Word::Domain => b"Domain",
+        Word::RowLimit => b"RowLimit",
+    }
+}
+
+/// Writes `error L Word`
+pub fn write_refused<O: Sink>(out: &mut O, line: u64, word: Word) -> Result<(), WriteFault>
+    ensures { Writes result (O.seen out.old) (O.seen out.new) (codes "error " ++ decimal line ++ 32 ∷ word_text word ++ 10 ∷ []) }
+{
+    let mut buffer = Buffer::new();
+    let number = buffer.format(line).as_bytes();
+    let pieces: [&[u8]; 5] = [b"error ", number, b" ", word_text(word), b"\n"];
+    write_pieces(out, &pieces)
+}
