@@ -1,21 +1,22 @@
 -- An executor that goes on from a base.
-use Rattle.std.proofs.Common.{◌≡◌, ℕ, ◌+◌, ◌^◌, min, cond, true, false, ℤ, List, [], ◌∷◌, ◌++◌, length, take, drop, refl, sym, ap, ◌∙◌, subst, arith, inl, inr, ◌⊎◌, ◌-◌, length-append}
+use Rattle.std.proofs.Common.{◌≡◌, ℕ, zero, suc, ◌+◌, ◌^◌, min, cond, Bool, true, false, ◌&&◌, nat_eq, ℤ, List, [], ◌∷◌, ◌++◌, length, take, drop, replicate, refl, sym, ap, ◌∙◌, subst, arith, inl, inr, ◌⊎◌, ◌-◌, length-append}
+use Rattle.std.specs.List.{list_all}
 use Rattle.std.proofs.lemmas.List.{take-append-le, take_all, drop-append-le, length-drop, length-replicate}
 use Rattle.bq_model.specs.declared.cell.Cell.{Cell}
 use Rattle.bq_model.specs.declared.plan.PartPlan.{PartPlan}
 use Rattle.bq_model.specs.Query.{QueryValue}
 use Rattle.bq_model.specs.Tuples.{at_most}
-use Rattle.bq_model.specs.Meaning.{Arrival}
-use Rattle.bq_model.specs.Domains.{RowsKeep}
+use Rattle.bq_model.specs.Meaning.{Arrival, new_answers}
+use Rattle.bq_model.specs.Domains.{RowKeeps, RowsKeep}
 use Rattle.bq_model.specs.Combinations.{read_from}
 use Rattle.bq_model.specs.Future.{future}
 use Rattle.bq_model.specs.Merge.{merged_table}
 use Rattle.bq_model.specs.Sharing.{Box, sizes_in, synopsis_in, merge_in}
-use Rattle.bq_model.specs.Bases.{Base, answers_from}
+use Rattle.bq_model.specs.Bases.{Base, first_base, base_of, answers_from}
 use Rattle.bq_model.proofs.Has.{Has-append_cases}
 use Rattle.bq_laws.specs.Growth.{occurs}
 use Rattle.bq_laws.specs.Bases.{KeepsOn, StandsForHistories}
-use Rattle.bq_laws.proofs.Tests.{true_or_false}
+use Rattle.bq_laws.proofs.Tests.{true_or_false, and-left, and-right, nat_true}
 use Rattle.bq_laws.proofs.Counts.{times}
 use Rattle.bq_laws.proofs.Order.{ascending-rises, times-ascending}
 use Rattle.bq_laws.proofs.Interleaving.{occurs-is}
@@ -25,11 +26,15 @@ use Rattle.bq_laws.proofs.Bases.{bases-keep-on, bases-stand-for-histories, times
 use Rattle.bq_pool.specs.Extents.{PoolValue, cells_of, IsLive}
 use Rattle.bq_pool.proofs.CallerLemmas.{cells_of_with}
 use Rattle.bq_answers.specs.Entries.{Entry, Ascends, waiting_of, tuples_of}
-use Rattle.bq_executor.specs.Executor.{ExecutorValue, parts_in, list_in, cells_in, rest_in, tuples_in, waiting_in, IsSound, with_given}
-use Rattle.bq_executor.specs.Standing.{future_in}
-use Rattle.bq_executor.specs.Bases.{kept_in, StandsFrom, TakingKeepsOn, BasesAndHistories}
+use Rattle.bq_executor.specs.Executor.{ExecutorValue, parts_in, list_in, cells_in, rest_in, tuples_in, waiting_in, IsSound, with_given, cleared}
+use Rattle.bq_executor.specs.Standing.{StandsFor, IsReady, future_in, Took}
+use Rattle.bq_executor.specs.Bases.{kept_in, is_empty, is_fresh, answers_by, StandsFrom, TookFrom, TakingKeepsOn, BasesAndHistories}
 use Rattle.bq_executor.proofs.Spelled.{spelled_is}
-use Rattle.bq_executor.proofs.Rows.{future-table}
+use Rattle.bq_executor.specs.Taking.{with_all}
+use Rattle.bq_executor.specs.Arriving.{answered_by, HasTaken}
+use Rattle.bq_executor.proofs.Answered.{settled-tuples}
+use Rattle.bq_executor.proofs.Settled.{written}
+use Rattle.bq_executor.proofs.Rows.{future-table, sound_later, waits, cells, tuples, kept, history}
 use Rattle.bq_executor.proofs.PlanFacts.{kept_is}
 
 front : (xs ys : List Cell) (n : ℕ) → n ≡ length xs → take n (xs ++ ys) ≡ xs
@@ -83,6 +88,53 @@ module _ (e : ExecutorValue) (sound : IsSound e) (pool : PoolValue) (r : Arrival
       ∙ sym (ap (λ b. cond b (merged_table was.table (future q parts (read_from was.cells) was.table r)) []) d)
       ∙ sym (ap (λ (b : Base). b.table) ((bases-keep-on q parts (list_in e) base stands.size).row history r))
 
+-- what an executor keeps of a base and rows is what the whole history comes to, where the base is one
+pub histories : (e : ExecutorValue) → IsSound e → StandsForHistories e.query (parts_in e) (list_in e)
+histories e sound =
+    bases-stand-for-histories e.query (parts_in e) (list_in e) sound.limits sound.accepted.violation (kept_is e.shared e.query e.plan sound.accepted.plan)
+
+no-tuples : (ts : List (List ℤ)) → nat_eq (length ts) 0 ≡ true → ts ≡ []
+no-tuples [] h = refl
+no-tuples (t ∷ ts) h = absurd (let e = nat_true (length (t ∷ ts)) 0 h in omega (arith, e))
+
+is-empty : (c : Cell) → is_empty c ≡ true → c ≡ Cell.Empty
+is-empty Cell.Empty h = refl
+is-empty (Cell.Count n) h = absurd cc
+is-empty Cell.Present h = absurd cc
+is-empty (Cell.Extreme z) h = absurd cc
+
+all-empty : (cs : List Cell) (n : ℕ) → length cs ≡ n → list_all is_empty cs ≡ true → cs ≡ replicate n Cell.Empty
+all-empty [] zero e h = refl
+all-empty [] (suc n) e h = absurd (omega (arith, e))
+all-empty (c ∷ cs) zero e h = absurd (omega (arith, e))
+all-empty (c ∷ cs) (suc n) e h =
+    let own : c ≡ Cell.Empty = is-empty c (and-left _ (list_all is_empty cs) h) in
+    λ j. own j ∷ all-empty cs n (omega (arith, e)) (and-right (is_empty c) _ h) j
+
+-- a base as after creation is the first one
+fresh-is : (list : List Box) (base : Base) → length base.cells ≡ sizes_in list → is_fresh base ≡ true → base ≡ first_base list
+fresh-is list base size h =
+    let rest : (nat_eq (length base.table) 0 && list_all is_empty base.cells) ≡ true = and-right (nat_eq base.given 0) _ h in
+    let given : base.given ≡ 0 = nat_true base.given 0 (and-left _ (nat_eq (length base.table) 0 && list_all is_empty base.cells) h) in
+    let table : base.table ≡ [] = no-tuples base.table (and-left _ (list_all is_empty base.cells) rest) in
+    let cells : base.cells ≡ replicate (sizes_in list) Cell.Empty = all-empty base.cells (sizes_in list) size (and-right (nat_eq (length base.table) 0) _ rest) in
+    λ j. record { cells = cells j; table = table j; given = given j }
+
+-- who stands for such a base and rows stands for the rows as a history
+pub fresh-stands : (e : ExecutorValue) (pool : PoolValue) → IsSound e → (base : Base) (history : List Arrival) → is_fresh base ≡ true → StandsFrom e pool base history
+    → StandsFor e pool history
+fresh-stands e pool sound base history h s =
+    let b : kept_in e base history ≡ base_of e.query (list_in e) history
+    = ap (λ (o : Base). kept_in e o history) (fresh-is (list_in e) base s.size h) ∙ (histories e sound).created history s.rows in
+    record {
+      live = s.live;
+      cells = s.cells ∙ ap (λ (o : Base). o.cells) b;
+      rest = s.rest;
+      given = s.given ∙ ap (λ (o : Base). o.given) b;
+      rows = s.rows;
+      tuples = λ d. s.tuples d ∙ ap (λ (o : Base). o.table) b;
+    }
+
 -- the rows of two histories keep to the domains where those of each do
 both-keep : (q : QueryValue) (history later : List Arrival) → RowsKeep q history → RowsKeep q later → RowsKeep q (history ++ later)
 both-keep q history later h k = rows-keep q (history ++ later) (λ r m. elim (Has-append_cases history later r m) [
@@ -92,8 +144,8 @@ both-keep q history later h k = rows-keep q (history ++ later) (λ r m. elim (Ha
 
 pub taking-keeps-on : TakingKeepsOn
 taking-keeps-on before after pool later r sound keep a took base history stands =
-    subst (λ (x : ExecutorValue). (waiting_in x ≡ answers_from before.query (parts_in before) (kept_in before base history) r) × StandsFrom x later base (history ++ r ∷ [])) (sym took.same) (
-      waiting-is before sound pool r es a took.waits took.tuples base history stands,
+    subst (λ (x : ExecutorValue). (waiting_in x ≡ answers_by before.query (parts_in before) list base history r) × StandsFrom x later base (history ++ r ∷ [])) (sym took.same) (
+      waiting (is_fresh base) refl,
       record {
         live = subst (λ (x : ExecutorValue). IsLive later x.extent) took.same took.kept.live;
         size = stands.size;
@@ -114,6 +166,11 @@ taking-keeps-on before after pool later r sound keep a took base history stands 
 
     n : ℕ
     n = sizes_in list
+
+    waiting : (b : Bool) → is_fresh base ≡ b
+        → waiting_in (with_given before (before.given + 1) es) ≡ cond b (new_answers before.query history r) (answers_from before.query (parts_in before) (kept_in before base history) r)
+    waiting true h = sym (ap waiting_in took.same) ∙ (took.history history (fresh-stands before pool sound base history h stands)).0
+    waiting false h = waiting-is before sound pool r es a took.waits took.tuples base history stands
 
     keeps : KeepsOn before.query (parts_in before) list base
     keeps = bases-keep-on before.query (parts_in before) list base stands.size
@@ -167,4 +224,39 @@ bases-and-histories e pool sound = (
 )
   where
     law : StandsForHistories e.query (parts_in e) (list_in e)
-    law = bases-stand-for-histories e.query (parts_in e) (list_in e) sound.limits sound.accepted.violation (kept_is e.shared e.query e.plan sound.accepted.plan)
+    law = histories e sound
+
+-- an executor that took up a row goes on from each base
+pub row-from : (e : ExecutorValue) → IsSound e → (pool : PoolValue) → IsReady e pool → (r : Arrival) → RowKeeps e.query r → (after : PoolValue)
+    → HasTaken e.query (parts_in e) e.extent r (length (parts_in e)) pool after
+    → TookFrom e pool r (with_given e (e.given + 1) (with_all e.query.distinct (answered_by e.query e.plan (read_from (cells_of pool e.extent)) r) (cleared e.query.distinct e.table.entries))) after
+row-from e sound pool ready r keep after taken =
+    let a = sound.ascends in
+    taking-keeps-on e (with_given e (e.given + 1) (with_all e.query.distinct (answered_by e.query e.plan (read_from (cells_of pool e.extent)) r) (cleared e.query.distinct e.table.entries))) pool after r sound keep
+    (sound_later e sound pool ready r a).ascends
+    record {
+      waits = waits e sound pool ready r a;
+      cells = cells e sound pool ready r a after taken;
+      tuples = tuples e sound pool ready r a;
+      same = refl;
+      kept = kept e sound pool ready r a after taken;
+      history = history e sound pool ready r a after taken keep;
+    }
+
+-- so does one that refused a row by its gate, seen by another name
+pub refused-from : (e x : ExecutorValue) → e ≡ x → IsSound e → (pool : PoolValue) (r : Arrival) → RowKeeps x.query r
+    → Took x pool r (with_given e (e.given + 1) e.table.entries) pool → TookFrom x pool r (with_given e (e.given + 1) e.table.entries) pool
+refused-from e x same sound pool r keep took =
+    taking-keeps-on x (with_given e (e.given + 1) e.table.entries) pool pool r (subst IsSound same sound) keep sound.ascends took
+
+-- an executor whose answers were written stands for what it stood for
+pub written-from : (e : ExecutorValue) (pool : PoolValue) (base : Base) (history : List Arrival) → StandsFrom e pool base history → StandsFrom (written e) pool base history
+written-from e pool base history s = record {
+  live = s.live;
+  size = s.size;
+  cells = s.cells;
+  rest = s.rest;
+  given = s.given;
+  rows = s.rows;
+  tuples = λ d. settled-tuples e.table.entries ∙ s.tuples d;
+}

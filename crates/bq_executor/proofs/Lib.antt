@@ -34,3 +34,7 @@ pub mod PlacedBoxes
 pub mod Owning
 pub mod Behind
 pub mod Bases
+pub mod CellKinds
+pub mod ListedTuples
+pub mod Loadings
+pub mod LoadedTuples

@@ -60,7 +60,7 @@ has-placed t (u ∷ us) z h =
     ]
 
 -- the tuples after a change are the old ones and the tuple
-tuples_changed : (t : List ℤ) (f : ℕ → ℕ) (es : List Entry) → Ascends es → (z : List ℤ) → Has (tuples_of (changed f t es)) z → (t ≡ z) ⊎ Has (tuples_of es) z
+pub tuples_changed : (t : List ℤ) (f : ℕ → ℕ) (es : List Entry) → Ascends es → (z : List ℤ) → Has (tuples_of (changed f t es)) z → (t ≡ z) ⊎ Has (tuples_of es) z
 tuples_changed t f es a z h = elim (true_or_false (has t es)) [
   | inl e ↦ inr (subst (λ ts. Has ts z) (tuples_old t f es a e) h)
   | inr e ↦ has-placed t (tuples_of es) z (subst (λ ts. Has ts z) (tuples_new t f es e) h)
@@ -83,7 +83,7 @@ length-new t f es e =
     ∙ ap (λ n. suc n) (length-map es (λ x. x.tuple))
 
 -- a tuple that fits leaves the entries within the capacity
-changed_within : (t : List ℤ) (f : ℕ → ℕ) (table : TableValue) → Ascends table.entries → Fits t table → length table.entries ≤ table.capacity
+pub changed_within : (t : List ℤ) (f : ℕ → ℕ) (table : TableValue) → Ascends table.entries → Fits t table → length table.entries ≤ table.capacity
     → length (changed f t table.entries) ≤ table.capacity
 changed_within t f table a fits few = elim (true_or_false (has t table.entries)) [
   | inl e ↦ (let n = length-old t f table.entries a e in omega (arith, n, few))
@@ -119,7 +119,7 @@ pairs-ascend es a i j d h l =
 
 module _ (q : QueryValue) (plan : List PartPlan) (within : IsWithinLimits q) (no_filter : IsFalse (is_filter q)) (is : ArePartPlans q plan) (violation : IsViolation q None) where
   -- a table within the ranges has room for one more tuple of them
-  room_for : (t : List ℤ) (es : List Entry) → Ascends es → Lie q plan (tuples_of es) → Has (all_tuples q plan) t → has t es ≡ false
+  pub room_for : (t : List ℤ) (es : List Entry) → Ascends es → Lie q plan (tuples_of es) → Has (all_tuples q plan) t → has t es ≡ false
       → length es < answer_bound q plan
   room_for t es a lie k none =
       let own : ℕ → ℕ = λ waiting. waiting in

@@ -158,6 +158,7 @@ module _ (e : ExecutorValue) (sound : IsSound e) (pool : PoolValue) (ready : IsR
     pages = sound.pages;
     width = sound.width;
     capacity = sound.capacity;
+    given = (let f = ready.few in omega (arith, f));
     entries = (let n = entries in let c = sound.capacity in omega (arith, n, c));
     ascends = ascends;
     tuples =

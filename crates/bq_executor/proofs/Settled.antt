@@ -34,6 +34,7 @@ written-sound e s = record {
   pages = s.pages;
   width = s.width;
   capacity = s.capacity;
+  given = s.given;
   entries = (let n = length-map e.table.entries (λ (x : Entry). entry_of x.tuple 0) in let f = s.entries in omega (arith, n, f));
   ascends = cleared-ascends true e.table.entries s.ascends;
   tuples = λ d. subst (All (Contains (all_tuples e.query (parts_in e)))) (sym (settled-tuples e.table.entries)) (s.tuples d);

@@ -1,10 +1,13 @@
 -- What an executor stands for that goes on from a base, as one does whose cells and tuples were read back.
-use Rattle.std.specs.Prelude.{◌≡◌, ◌-◌, ◌*◌, true, List, [], ◌∷◌, ◌++◌, length, replicate}
+use Rattle.std.specs.Prelude.{◌≡◌, ◌-◌, ◌*◌, Bool, true, false, ◌&&◌, nat_eq, ℤ, List, [], ◌∷◌, ◌++◌, length, replicate, if◌then◌else◌}
+use Rattle.std.specs.List.{list_all}
 use Rattle.bq_answers.specs.Entries.{Ascends}
 use Rattle.bq_model.specs.declared.cell.Cell.{Cell}
-use Rattle.bq_model.specs.Meaning.{Arrival}
+use Rattle.bq_model.specs.declared.plan.PartPlan.{PartPlan}
+use Rattle.bq_model.specs.Query.{QueryValue}
+use Rattle.bq_model.specs.Meaning.{Arrival, new_answers}
 use Rattle.bq_model.specs.Domains.{RowKeeps, RowsKeep}
-use Rattle.bq_model.specs.Sharing.{sizes_in}
+use Rattle.bq_model.specs.Sharing.{Box, sizes_in}
 use Rattle.bq_model.specs.Bases.{Base, first_base, base_of, answers_from, kept}
 use Rattle.bq_pool.specs.Extents.{PoolValue, IsLive}
 use Rattle.bq_executor.specs.Executor.{ExecutorValue, parts_in, list_in, cells_in, rest_in, tuples_in, waiting_in, IsSound}
@@ -13,6 +16,22 @@ use Rattle.bq_executor.specs.Standing.{StandsFor, Took}
 -- what an executor keeps that goes on from a base, after the rows since
 abbrev pub kept_in : ExecutorValue → Base → List Arrival → Base
 kept_in e base history = kept e.query (parts_in e) (list_in e) base history
+
+abbrev pub is_empty : Cell → Bool
+is_empty Cell.Empty = true
+is_empty (Cell.Count n) = false
+is_empty Cell.Present = false
+is_empty (Cell.Extreme z) = false
+
+-- whether a base is as after creation
+abbrev pub is_fresh : Base → Bool
+is_fresh base = nat_eq base.given 0 && (nat_eq (length base.table) 0 && list_all is_empty base.cells)
+
+-- what is answered to a row: the new answers of the rows since creation where the base is as after creation, else what the base and the rows
+-- since tell
+abbrev pub answers_by : QueryValue → List PartPlan → List Box → Base → List Arrival → Arrival → List (List ℤ)
+answers_by q plan list base history r =
+    if is_fresh base then new_answers q history r else answers_from q plan (kept q plan list base history) r
 
 -- the executor stands for a base and the rows since, which keep to the domains: its cells, its number of rows and with DISTINCT its tuples
 -- are what they come to
@@ -29,7 +48,7 @@ pub record StandsFrom (e : ExecutorValue) (pool : PoolValue) (base : Base) (hist
 abbrev pub TookFrom : ExecutorValue → PoolValue → Arrival → ExecutorValue → PoolValue → Type 0
 TookFrom before pool r after later =
     (base : Base) (history : List Arrival) → StandsFrom before pool base history
-    → (waiting_in after ≡ answers_from before.query (parts_in before) (kept_in before base history) r) × StandsFrom after later base (history ++ r ∷ [])
+    → (waiting_in after ≡ answers_by before.query (parts_in before) (list_in before) base history r) × StandsFrom after later base (history ++ r ∷ [])
 
 -- an executor that took a row that keeps to the domains goes on from each base that it stood for
 abbrev pub TakingKeepsOn : Type 0

@@ -1,16 +1,18 @@
 -- What contracts see of an executor, and what is true of each.
-use Rattle.std.specs.Prelude.{◌≡◌, ◌≤◌, ℕ, Bool, true, if◌then◌else◌, ℤ, List, [], take, drop, replicate, length, Contains, All}
+use Rattle.std.specs.Prelude.{◌≡◌, ◌≤◌, ◌^◌, ℕ, Bool, true, if◌then◌else◌, ℤ, List, [], take, drop, replicate, length, Contains, All, IsFalse}
 use Rattle.std.specs.List.{flat_map}
 use Rattle.std.specs.declared.option.Option.TheVariants.{None}
 use Rattle.bq_answers.specs.Entries.{Entry, TableValue, with_entries, settled, tuples_of, Ascends}
 use Rattle.bq_model.specs.declared.cell.Cell.{Cell}
+use Rattle.bq_model.specs.declared.decision.Which.TheVariants as which
 use Rattle.bq_model.specs.declared.plan.PartPlan.{PartPlan}
 use Rattle.bq_model.specs.declared.plan.Plan.{Plan}
 use Rattle.bq_model.specs.declared.plan.Plan.TheVariants as plan
-use Rattle.bq_model.specs.Query.{QueryValue, IsWithinLimits}
+use Rattle.bq_model.specs.Query.{QueryValue, IsWithinLimits, is_filter}
 use Rattle.bq_model.specs.Meaning.{Arrival}
+use Rattle.bq_model.specs.Parts.{HasMoreParts}
 use Rattle.bq_model.specs.Violation.{IsViolation}
-use Rattle.bq_model.specs.Verdict.{first_above}
+use Rattle.bq_model.specs.Verdict.{most, first_above}
 use Rattle.bq_model.specs.Numbers.{parts_of, pages_of}
 use Rattle.bq_model.specs.Sharing.{Box, kept_boxes, sizes_in, IsPlanOf}
 use Rattle.bq_model.specs.Ranges.{all_tuples}
@@ -64,20 +66,22 @@ abbrev pub most_answers : Plan → ℕ
 most_answers plan.Filter = 1
 most_answers (plan.Parts parts numbers) = numbers.answers
 
--- the plan is that of the query, of which no condition is violated and no number is above its limit
+-- the plan is that of the query, of which no condition is violated and no number is above its limit, that of its parts too
 pub record IsAccepted (shared : Bool) (q : QueryValue) (p : Plan) : Type 0 where
   pub plan : IsPlanOf shared q p
   pub violation : IsViolation q None
   pub within : IsWithin p
+  pub few : IsFalse (is_filter q) → ¬ HasMoreParts q (most which.Parts)
 
--- what is true of each executor: it has just the pages of its plan, and room for just the answers of it; the table has no more
--- entries than that, in ascending order; and with DISTINCT each of its tuples lies in the ranges of some part
+-- what is true of each executor: it has just the pages of its plan, and room for just the answers of it; at most 2^40 rows were given; the
+-- table has no more entries than there is room for, in ascending order; and with DISTINCT each of its tuples lies in the ranges of some part
 pub record IsSound (e : ExecutorValue) : Type 0 where
   pub limits : IsWithinLimits e.query
   pub accepted : IsAccepted e.shared e.query e.plan
   pub pages : e.extent.pages ≡ pages_of e.plan
   pub width : e.table.width ≡ length e.query.select
   pub capacity : e.table.capacity ≡ most_answers e.plan
+  pub given : e.given ≤ 2 ^ 40
   pub entries : length e.table.entries ≤ most_answers e.plan
   pub ascends : Ascends e.table.entries
   pub tuples : e.query.distinct ≡ true → All (Contains (all_tuples e.query (parts_in e))) (tuples_in e)

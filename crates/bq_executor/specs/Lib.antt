@@ -11,3 +11,4 @@ pub mod Gate
 pub mod Known
 pub mod Filled
 pub mod Bases
+pub mod Loading

@@ -1,5 +1,5 @@
 //! A live query: a clause sees the query, its plan, the extent of its cells, how many rows were given, and the answer table.
-ghost use Rattle.std.specs.Prelude.{◌≡◌, ℕ, ℤ, List, [], ◌+◌, ◌*◌, ◌≤◌, ◌^◌, ◌==◌, min, true, false, IsTrue, MatchResult, IfOk, length, replicate};
+ghost use Rattle.std.specs.Prelude.{◌≡◌, ℕ, ℤ, List, [], ◌+◌, ◌*◌, ◌<◌, ◌≤◌, ◌^◌, ◌==◌, min, nat_eq, true, false, IsTrue, MatchResult, IfOk, length, replicate, slice_index_or, if◌then◌else◌};
 ghost use Rattle.std.specs.List.{list_any};
 ghost use Rattle.bq_model.specs.declared.cell.Cell.TheVariants as cell;
 ghost use Rattle.bq_model.specs.Query.{is_filter};
@@ -7,23 +7,28 @@ ghost use Rattle.bq_model.specs.Meaning.{Arrival};
 ghost use Rattle.bq_model.specs.Domains.{RowKeeps};
 ghost use Rattle.bq_model.specs.Merge.{merged_table};
 ghost use Rattle.bq_model.specs.Numbers.{pages_of, work};
+ghost use Rattle.bq_model.specs.Sharing.{sizes_in};
+ghost use Rattle.bq_model.specs.Bases.{Base, first_base};
 ghost use Rattle.bq_laws.specs.Growth.{occurs};
 ghost use Rattle.bq_io.specs.Sink.{Writes};
-ghost use Rattle.bq_pool.specs.Extents.{PoolValue, cells_of, IsLive, IsGivenBack};
+ghost use Rattle.bq_pool.specs.Extents.{PoolValue, cells_of, with_cells, IsLive, IsGivenBack};
 ghost use Rattle.bq_answers.specs.Entries.{with_entries, waiting_entries, waiting_of, settled};
-ghost use Rattle.bq_executor.specs.Executor.{IsAccepted, IsSound, arrival, cleared, most_answers, parts_in, tuples_in, waiting_in, with_given};
+ghost use Rattle.bq_executor.specs.Executor.{IsAccepted, IsSound, arrival, cells_in, cleared, list_in, most_answers, parts_in, tuples_in, waiting_in, with_given};
 ghost use Rattle.bq_executor.specs.Standing.{StandsFor, AreKept, KeepsWithin, IsReady, TookRow, future_in, pool_with};
+ghost use Rattle.bq_executor.specs.Bases.{StandsFrom, TookFrom};
+ghost use Rattle.bq_executor.specs.Loading.{loaded_given, loaded_cell, loaded_tuple, Loads};
 ghost use Rattle.bq_executor.specs.Gate.{IsRefused};
 ghost use Rattle.bq_executor.specs.Written.{answer_lines};
 
 use crate::arrive::arrive;
 use crate::filled::Filled;
 use crate::gate::{Gate, gate_of};
+use crate::loading::{cell_to_load, fill, put_printed};
 use crate::prepared::{PreparedPlan, prepare_all};
 use crate::written::put_waiting;
 use bq_answers::Answers;
 use bq_io::{Sink, WriteFault};
-use bq_model::{Plan, Query, Row, Tuple};
+use bq_model::{Cell, Plan, Query, Row, Tuple};
 use bq_pool::{Extent, Pool, Steps};
 use bq_synopsis::Room;
 use bq_text::Name;
@@ -98,6 +103,7 @@ impl Executor {
         requires pages { extent.pages ≡ pages_of plan }
         ensures value { MatchResult result (λ e. e ≡ record { query = query; shared = shared; plan = plan; extent = extent; given = 0; table = record { width = length query.select; capacity = most_answers plan; entries = [] } }) (λ refused. refused.0 ≡ extent) }
         ensures history { IfOk result (λ e. (pool : PoolValue) → IsLive pool extent → cells_of pool extent ≡ replicate (64 * extent.pages) cell.Empty → StandsFor e pool []) }
+        ensures bases { IfOk result (λ e. (pool : PoolValue) → IsLive pool extent → cells_of pool extent ≡ replicate (64 * extent.pages) cell.Empty → StandsFrom e pool (first_base (list_in e)) []) }
         ensures within { IfOk result (λ e. (pool : PoolValue) → IsLive pool extent → cells_of pool extent ≡ replicate (64 * extent.pages) cell.Empty → KeepsWithin e pool) }
     {
         let prepared = match prepare_all(alloc, &query, &plan) {
@@ -132,9 +138,9 @@ impl Executor {
     /// Takes a row of any stream of at most 2^40 rows in all, whose values lie in the domains of the query where it names the stream.
     /// What waited before is given up. The answers that cells and table tell come to wait, each at most 2^127 times; the cells become
     /// their merge with the row's own; with DISTINCT the tuples grow by the answers. Where the executor stood for a history, the new
-    /// answers wait, and it then stands for the history with the row. It keeps within the numbers that its plan announces. It reads at
-    /// most three cells for each unit of announced work and one for each part, and writes at most one for each part; a filter, and a
-    /// query that does not name the stream, read and write none.
+    /// answers wait, and it then stands for the history with the row; so it does for a base and the rows since, which tell the answers
+    /// that wait. It keeps within the numbers that its plan announces. It reads at most three cells for each unit of announced work and
+    /// one for each part, and writes at most one for each part; a filter, and a query that does not name the stream, read and write none.
     pub fn row<L: Ledger>(&mut self, pool: &mut Pool, stream: u8, row: &Row, steps: &mut Steps<L>)
         requires ready { IsReady self.old pool.old }
         requires keeps { RowKeeps self.old.query (arrival stream row.now.items) }
@@ -149,6 +155,7 @@ impl Executor {
         ensures alone { IsTrue (is_filter self.old.query) → steps.new ≡ steps.old }
         ensures outside { list_any (λ s. stream == s) self.old.query.from ≡ false → steps.new ≡ steps.old }
         ensures history { TookRow self.old pool.old (arrival stream row.now.items) self.new pool.new }
+        ensures bases { TookFrom self.old pool.old (arrival stream row.now.items) self.new pool.new }
     {
         // Whether something waits is not asked here.
         let _waits = self.take(pool, stream, row, steps);
@@ -190,6 +197,7 @@ impl Executor {
         ensures alone { IsTrue (is_filter self.old.query) → steps.new ≡ steps.old }
         ensures outside { list_any (λ s. stream == s) self.old.query.from ≡ false → steps.new ≡ steps.old }
         ensures history { TookRow self.old pool.old (arrival stream row.now.items) self.new pool.new }
+        ensures bases { TookFrom self.old pool.old (arrival stream row.now.items) self.new pool.new }
     {
         let passes = self.passes(stream, row);
         if !passes && !self.has_waiting() {
@@ -226,6 +234,7 @@ impl Executor {
         ensures alone { IsTrue (is_filter self.old.query) → steps.new ≡ steps.old }
         ensures outside { list_any (λ s. stream == s) self.old.query.from ≡ false → steps.new ≡ steps.old }
         ensures history { TookRow self.old pool.old (arrival stream row.now.items) self.new pool.new }
+        ensures bases { TookFrom self.old pool.old (arrival stream row.now.items) self.new pool.new }
     {
         self.given += 1;
         clear(self.query.distinct(), &mut self.table);
@@ -247,7 +256,7 @@ impl Executor {
     }
 
     /// Writes a line for each answer that waits, in ascending order. Then nothing waits, also after a fault; all else is as
-    /// before, with DISTINCT the tuples too, so that the executor stands for the history that it stood for.
+    /// before, with DISTINCT the tuples too, so that the executor stands for what it stood for, a history or a base.
     pub fn emit<O: Sink>(&mut self, name: &Name, out: &mut O) -> Result<(), WriteFault>
         ensures writes { Writes result (O.seen out.old) (O.seen out.new) (answer_lines name.now (waiting_in self.old)) }
         ensures none { waiting_in self.new ≡ [] }
@@ -256,6 +265,7 @@ impl Executor {
         ensures kept { (pool : PoolValue) → AreKept self.old pool → AreKept self.new pool }
         ensures within { (pool : PoolValue) → KeepsWithin self.old pool → KeepsWithin self.new pool }
         ensures history { (pool : PoolValue) (history : List Arrival) → StandsFor self.old pool history → StandsFor self.new pool history }
+        ensures bases { (pool : PoolValue) (base : Base) (history : List Arrival) → StandsFrom self.old pool base history → StandsFrom self.new pool base history }
     {
         let written = put_waiting(&self.table, name, out);
         self.give_up();
@@ -270,8 +280,120 @@ impl Executor {
         ensures kept { (pool : PoolValue) → AreKept self.old pool → AreKept self.new pool }
         ensures within { (pool : PoolValue) → KeepsWithin self.old pool → KeepsWithin self.new pool }
         ensures history { (pool : PoolValue) (history : List Arrival) → StandsFor self.old pool history → StandsFor self.new pool history }
+        ensures bases { (pool : PoolValue) (base : Base) (history : List Arrival) → StandsFrom self.old pool base history → StandsFrom self.new pool base history }
     {
         self.table.settle();
+    }
+
+    // Whether no row was given.
+    fn is_new(&self) -> bool
+        ensures { result ≡ nat_eq self.now.given 0 }
+    {
+        self.given == 0
+    }
+
+    /// Says how many rows were given before, where none was: whatever base with no rows since the executor stood for, it then stands for this
+    /// base with that number. Returns false, and changes nothing, where rows were given.
+    pub fn load_given(&mut self, n: u64) -> bool
+        requires few { n ≤ 2 ^ 40 }
+        ensures value { result ≡ nat_eq self.old.given 0 }
+        ensures loads { (pool : PoolValue) (base : Base) → StandsFrom self.old pool base [] → Loads result (loaded_given n base) self.old pool self.new pool }
+        ensures same { self.new ≡ with_given self.old self.new.given self.old.table.entries }
+        ensures given { self.new.given ≡ (if result then n else self.old.given) }
+        ensures kept { (pool : PoolValue) → AreKept self.old pool → AreKept self.new pool }
+        ensures within { (pool : PoolValue) → KeepsWithin self.old pool → KeepsWithin self.new pool }
+    {
+        if !self.is_new() {
+            return false;
+        }
+        self.given = n;
+        true
+    }
+
+    /// Puts the content of a cell in its place: whatever base with no rows since the executor stood for, it then stands for this base with that
+    /// cell. Returns false, and changes nothing, where the query keeps no cell of this number, where that cell is not empty, and where the
+    /// content does not fit its kind: a count is 1 up to the rows given, and the content 1 says that there are rows. This is at most one read
+    /// and one write.
+    pub fn load_cell<L: Ledger>(
+        &mut self,
+        pool: &mut Pool,
+        i: u32,
+        v: i64,
+        steps: &mut Steps<L>,
+    ) -> bool
+        requires live { IsLive pool.old self.old.extent }
+        ensures loads { (base : Base) → StandsFrom self.old pool.old base [] → Loads result (loaded_cell (list_in self.old) i v base) self.old pool.old self.new pool.new }
+        ensures same { self.new ≡ self.old }
+        ensures only { pool.new ≡ with_cells pool.old self.old.extent (cells_of pool.new self.old.extent) }
+        ensures kept { AreKept self.old pool.old → AreKept self.new pool.new }
+        ensures within { KeepsWithin self.old pool.old → KeepsWithin self.new pool.new }
+        ensures reads { steps.new.reads ≤ steps.old.reads + min 1 (sizes_in (list_in self.old)) }
+        ensures writes { steps.new.writes ≤ steps.old.writes + min 1 (sizes_in (list_in self.old)) }
+    {
+        match cell_to_load(&self.query, self.shared, &self.plan, self.given, i, v) {
+            Some(cell) => fill(pool, &self.extent, i, cell, steps),
+            None => false,
+        }
+    }
+
+    /// Says that a tuple, as wide as the selected columns, was printed: whatever base with no rows since the executor stood for, it then stands
+    /// for this base with that tuple. Returns false, and changes nothing, without DISTINCT, where the tuple lies in the ranges of no part, and
+    /// where it was printed before.
+    pub fn load_tuple(&mut self, t: &Tuple) -> bool
+        requires width { length t.now.items ≡ length self.old.query.select }
+        ensures loads { (pool : PoolValue) (base : Base) → StandsFrom self.old pool base [] → Loads result (loaded_tuple self.old.query (parts_in self.old) t.now.items base) self.old pool self.new pool }
+        ensures same { self.new ≡ with_given self.old self.old.given self.new.table.entries }
+        ensures quiet { waiting_in self.old ≡ [] → waiting_in self.new ≡ [] }
+        ensures kept { (pool : PoolValue) → AreKept self.old pool → AreKept self.new pool }
+        ensures within { (pool : PoolValue) → KeepsWithin self.old pool → KeepsWithin self.new pool }
+    {
+        put_printed(&self.query, &self.plan, &self.prepared, t, &mut self.table)
+    }
+
+    /// Returns how many rows were given.
+    pub fn given(&self) -> u64
+        ensures value { result ≡ self.now.given }
+        ensures few { result ≤ 2 ^ 40 }
+    {
+        self.given
+    }
+
+    /// Returns whether the query has shared cells.
+    pub fn is_shared(&self) -> bool
+        ensures { result ≡ self.now.shared }
+    {
+        self.shared
+    }
+
+    /// Returns how many tuples were printed, which is 0 without DISTINCT.
+    pub fn printed(&self) -> u32
+        ensures { result ≡ (if self.now.query.distinct then length (tuples_in self.now) else 0) }
+    {
+        if self.query.distinct() {
+            self.table.len()
+        } else {
+            0
+        }
+    }
+
+    /// Returns the printed tuple of a number from 0, in ascending order.
+    pub fn tuple(&self, i: u32) -> Tuple
+        requires { i < (if self.now.query.distinct then length (tuples_in self.now) else 0) }
+        ensures { result.items ≡ slice_index_or (tuples_in self.now) i [] }
+    {
+        let (tuple, _waiting) = self.table.entry(i);
+        tuple
+    }
+
+    /// Returns the cell of a number. This is one read.
+    pub fn cell<L: Ledger>(&self, pool: &Pool, i: u32, steps: &mut Steps<L>) -> Cell
+        requires live { IsLive pool.now self.now.extent }
+        requires there { i < sizes_in (list_in self.now) }
+        ensures value { result ≡ slice_index_or (cells_in self.now pool.now) i cell.Empty }
+        ensures reads { steps.new.reads ≡ steps.old.reads + 1 }
+        ensures writes { steps.new.writes ≡ steps.old.writes }
+    {
+        pool.read(&self.extent, i, steps)
     }
 
     /// Returns the query.

@@ -11,7 +11,11 @@
 //! row. A filter has no cells. Where cells are shared, several parts have one box of cells, and the first of them takes a row into it.
 //!
 //! A clause says what a row does for any cells, and then that an executor which stands for a history answers a row with the
-//! new answers of the query, and then stands for the history with that row. A row takes no memory.
+//! new answers of the query, and then stands for the history with that row; so it does for a base and the rows since. A row takes no
+//! memory.
+//!
+//! An executor tells what it keeps: how many rows were given, its cells, and its printed tuples. A fresh one is told the same, one number
+//! at a time, each of which is taken or refused; then it goes on as the other would. This takes no memory either.
 #![tactic(auto)]
 
 mod alone;
@@ -24,6 +28,7 @@ mod filled;
 mod gate;
 mod known;
 pub mod laws;
+mod loading;
 mod needed;
 mod owners;
 mod part;

@@ -1,11 +1,8 @@
 -- What CREATE QUERY does.
-use Rattle.std.proofs.Common.{◌≡◌, ℕ, Bool, ◌≤◌, List, [], ◌∷◌, ◌++◌, sym, ap, subst, arith, IsFalse, Ok, Err, All, length}
+use Rattle.std.proofs.Common.{◌≡◌, ℕ, Bool, ◌≤◌, List, [], ◌∷◌, ◌++◌, sym, ap, subst, arith, Ok, Err, All, length}
 use Rattle.std.specs.declared.result.Result.{Result}
 use Rattle.bq_model.specs.declared.plan.Plan.{Plan}
-use Rattle.bq_model.specs.declared.decision.Which.TheVariants.{Parts}
-use Rattle.bq_model.specs.Query.{QueryValue, is_filter}
-use Rattle.bq_model.specs.Parts.{HasMoreParts}
-use Rattle.bq_model.specs.Verdict.{most}
+use Rattle.bq_model.specs.Query.{QueryValue}
 use Rattle.bq_pool.specs.Extents.{PoolValue}
 use Rattle.bq_executor.specs.Executor.{IsAccepted, waiting_in}
 use Rattle.bq_registry.specs.declared.refusal.CreateError.{CreateError}
@@ -25,13 +22,13 @@ abbrev pub registry_of : PoolValue → List Live → RegistryValue
 registry_of pool live = record { pool = pool; live = live }
 
 pub tells : (result : Result Verdict CreateError) (name : List ℕ) (q : QueryValue) (shared : Bool) (plan : Plan) (pool : PoolValue) (live : List Live) (later : PoolValue) (after : List Live)
-    → IsAccepted shared q plan → (IsFalse (is_filter q) → ¬ HasMoreParts q (most Parts)) → Admits result name q shared plan pool live later after
+    → IsAccepted shared q plan → Admits result name q shared plan pool live later after
     → TellsVerdict shared q pool.free result × CarriesWhy shared q pool.free result
-tells (Ok verdict) name q shared plan pool live later after a few m = (subst (λ (v : Verdict). TellsVerdict shared q pool.free (Ok v)) (sym m.0) (tells_accepted shared q plan pool.free a few m.1), tt)
-tells (Err (refusals.Violation p c t)) name q shared plan pool live later after a few m = absurd m
-tells (Err (refusals.Limit which value l)) name q shared plan pool live later after a few m = absurd m
-tells (Err (refusals.Pool needed free)) name q shared plan pool live later after a few m = (tells_pool shared q plan pool.free needed a few m.0 m.2, (m.2, m.1, (plan, a, m.0)))
-tells (Err refusals.Memory) name q shared plan pool live later after a few m = (tt, tt)
+tells (Ok verdict) name q shared plan pool live later after a m = (subst (λ (v : Verdict). TellsVerdict shared q pool.free (Ok v)) (sym m.0) (tells_accepted shared q plan pool.free a m.1), tt)
+tells (Err (refusals.Violation p c t)) name q shared plan pool live later after a m = absurd m
+tells (Err (refusals.Limit which value l)) name q shared plan pool live later after a m = absurd m
+tells (Err (refusals.Pool needed free)) name q shared plan pool live later after a m = (tells_pool shared q plan pool.free needed a m.0 m.2, (m.2, m.1, (plan, a, m.0)))
+tells (Err refusals.Memory) name q shared plan pool live later after a m = (tt, tt)
 
 pub creates : (result : Result Verdict CreateError) (name : List ℕ) (q : QueryValue) (shared : Bool) (plan : Plan) (pool : PoolValue) (live : List Live) (later : PoolValue) (after : List Live)
     → IsAccepted shared q plan → Admits result name q shared plan pool live later after
@@ -50,6 +47,8 @@ creates (Ok verdict) name q shared plan pool live later after a m =
       last = l;
       list = last.last;
       asked = last.new.asked;
+      named = last.new.named;
+      sharing = last.new.sharing;
     }
 creates (Err (refusals.Violation p c t)) name q shared plan pool live later after a m = absurd m
 creates (Err (refusals.Limit which value l)) name q shared plan pool live later after a m = absurd m

@@ -1,7 +1,11 @@
 pub mod SideBySide
 pub mod Beside
+pub mod Settling
 pub mod InTurn
 pub mod InWriting
+pub mod Loads
+pub mod KindThere
+pub mod SoundLive
 pub mod FewParts
 pub mod Verdicts
 pub mod Admitting

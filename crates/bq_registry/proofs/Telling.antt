@@ -1,17 +1,15 @@
 -- What an answer to CREATE QUERY tells is the verdict.
-use Rattle.std.proofs.Common.{◌≡◌, ℕ, ◌<◌, ◌≤◌, Bool, true, false, cond, refl, sym, ap, ◌∙◌, arith, IsFalse, None, Ok, Err, nat_lt}
+use Rattle.std.proofs.Common.{◌≡◌, ℕ, ◌<◌, ◌≤◌, Bool, true, false, cond, refl, sym, ap, ◌∙◌, arith, None, Ok, Err, nat_lt}
 use Rattle.std.proofs.lemmas.Bool.Decides.{nat_tests}
 use Rattle.bq_model.specs.declared.decision.Which.{Which}
 use Rattle.bq_model.specs.declared.plan.Plan.{Plan}
 use Rattle.bq_model.specs.declared.plan.Plan.TheVariants as plans
 use Rattle.bq_model.specs.declared.plan.Numbers.{Numbers}
-use Rattle.bq_model.specs.Query.{QueryValue, is_filter}
-use Rattle.bq_model.specs.Parts.{HasMoreParts}
+use Rattle.bq_model.specs.Query.{QueryValue}
 use Rattle.bq_model.specs.Numbers.{page_count, pages_of}
 use Rattle.bq_model.specs.Sharing.{numbers_for}
 use Rattle.bq_model.specs.Verdict.{most, first_above, verdict_after, verdict_by, IsVerdict, of_filter, of_many_parts, of_violation, of_plan}
 use Rattle.bq_model.specs.Verdict as model
-use Rattle.bq_model.specs.declared.decision.Which.TheVariants.{Parts}
 use Rattle.bq_executor.specs.Executor.{IsAccepted}
 use Rattle.bq_registry.specs.declared.refusal.CreateError.{CreateError}
 use Rattle.bq_registry.specs.declared.refusal.CreateError.TheVariants as refusals
@@ -28,18 +26,18 @@ no_room_for n free h = grind (arith, nat_tests)
 decides : (numbers : Numbers) (free : ℕ) (b : Bool) → first_above numbers ≡ None → nat_lt free (page_count numbers.cells) ≡ b → verdict_by numbers free ≡ cond b model.pool (model.accepted numbers)
 decides numbers free b e p = ap (λ w. verdict_after w numbers free) e ∙ ap (λ c. cond c model.pool (model.accepted numbers)) p
 
-pub tells_accepted : (shared : Bool) (q : QueryValue) (plan : Plan) (free : ℕ) → IsAccepted shared q plan → (IsFalse (is_filter q) → ¬ HasMoreParts q (most Parts)) → pages_of plan ≤ free → TellsVerdict shared q free (Ok (verdict_of plan))
-tells_accepted shared q plans.Filter free a few room = of_filter a.plan refl
-tells_accepted shared q (plans.Parts ps numbers) free a few room =
+pub tells_accepted : (shared : Bool) (q : QueryValue) (plan : Plan) (free : ℕ) → IsAccepted shared q plan → pages_of plan ≤ free → TellsVerdict shared q free (Ok (verdict_of plan))
+tells_accepted shared q plans.Filter free a room = of_filter a.plan refl
+tells_accepted shared q (plans.Parts ps numbers) free a room =
     let e : numbers ≡ numbers_for shared q ps = a.plan.2 in
     let v : verdict_by numbers free ≡ model.accepted numbers = decides numbers free false a.within (room_for (page_count numbers.cells) free room) in
-    of_plan a.plan.0 (few a.plan.0) a.violation ps a.plan.1 (sym v ∙ ap (λ n. verdict_by n free) e)
+    of_plan a.plan.0 (a.few a.plan.0) a.violation ps a.plan.1 (sym v ∙ ap (λ n. verdict_by n free) e)
 
-pub tells_pool : (shared : Bool) (q : QueryValue) (plan : Plan) (free needed : ℕ) → IsAccepted shared q plan → (IsFalse (is_filter q) → ¬ HasMoreParts q (most Parts)) → needed ≡ pages_of plan → free < needed → IsVerdict shared q free model.pool
-tells_pool shared q plans.Filter free needed a few e short = absurd (omega (arith, e, short))
-tells_pool shared q (plans.Parts ps numbers) free needed a few e short =
+pub tells_pool : (shared : Bool) (q : QueryValue) (plan : Plan) (free needed : ℕ) → IsAccepted shared q plan → needed ≡ pages_of plan → free < needed → IsVerdict shared q free model.pool
+tells_pool shared q plans.Filter free needed a e short = absurd (omega (arith, e, short))
+tells_pool shared q (plans.Parts ps numbers) free needed a e short =
     let v : verdict_by numbers free ≡ model.pool = decides numbers free true a.within (no_room_for (page_count numbers.cells) free (omega (arith, e, short))) in
-    of_plan a.plan.0 (few a.plan.0) a.violation ps a.plan.1 (sym v ∙ ap (λ n. verdict_by n free) a.plan.2)
+    of_plan a.plan.0 (a.few a.plan.0) a.violation ps a.plan.1 (sym v ∙ ap (λ n. verdict_by n free) a.plan.2)
 
 pub tells_limit : (shared : Bool) (q : QueryValue) (which : Which) (value free : ℕ) → IsTooLarge shared q which value → IsVerdict shared q free (model.limit which)
 tells_limit shared q which value free (many f m e v) = of_many_parts f m (ap (λ w. model.limit w) e)

@@ -30,7 +30,7 @@ pub data IsTooLarge (shared : Bool) (q : QueryValue) (which : Which) (value : �
 
 -- the plan of a query that is accepted if its pages are free; or why it is refused, whatever pages are free
 abbrev pub IsJudged : Bool → QueryValue → Result Plan CreateError → Type 0
-IsJudged shared q (Ok plan) = IsAccepted shared q plan × (IsFalse (is_filter q) → ¬ HasMoreParts q (most Parts))
+IsJudged shared q (Ok plan) = IsAccepted shared q plan
 IsJudged shared q (Err (refusals.Limit which value limit)) = IsTooLarge shared q which value × (limit ≡ most which)
 IsJudged shared q (Err (refusals.Violation part condition attr)) =
     IsFalse (is_filter q) × (¬ HasMoreParts q (most Parts)) × IsViolation q (Some record { part = part; condition = condition; attr = attr })
@@ -78,6 +78,8 @@ pub record Registered (old : RegistryValue) (name : List ℕ) (q : QueryValue) (
   pub last : Live
   pub list : new.live ≡ old.live ++ last ∷ []
   pub asked : last.executor.query ≡ q
+  pub named : last.name ≡ name
+  pub sharing : last.executor.shared ≡ shared
 
 -- the registry stands for what it stood for, and as many pages are free
 pub record IsUnchanged (old new : RegistryValue) : Type 0 where

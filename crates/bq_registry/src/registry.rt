@@ -4,19 +4,25 @@ ghost use Rattle.std.specs.List.{flat_map, position, list_any};
 ghost use Rattle.std.specs.Str.{bytes_eq};
 ghost use Rattle.bq_io.specs.Sink.{Writes};
 ghost use Rattle.bq_model.specs.Sharing.{IsPlanOf};
+ghost use Rattle.bq_model.specs.Numbers.{parts_of};
+ghost use Rattle.bq_pool.specs.Extents.{IsLive};
 ghost use Rattle.bq_executor.specs.Executor.{arrival};
-ghost use Rattle.bq_registry.specs.Live.{Live, LiveQuery, with_row, without, free_pages};
-ghost use Rattle.bq_registry.specs.Registry.{IsSound, KeepQueries, waiting_text, most_reads, most_writes};
+ghost use Rattle.bq_executor.specs.Loading.{loaded_given, loaded_cell, loaded_tuple};
+ghost use Rattle.bq_registry.specs.Live.{Live, LiveQuery, boxes_of, with_row, without, free_pages};
+ghost use Rattle.bq_registry.specs.Loaded.{LoadsAt};
+ghost use Rattle.bq_registry.specs.Registry.{IsSound, KeepQueries, waiting_text, most_cells, most_reads, most_writes};
 
 use crate::admission::{Planned, admit, drop_at};
+use crate::loading;
 use crate::queries::Queries;
 use crate::refusal::CreateError;
 use crate::taking::take_all;
 use crate::verdict::{Verdict, judge};
 use crate::waiting::Places;
 use crate::writing::write_all;
+use bq_executor::Executor;
 use bq_io::{Sink, WriteFault};
-use bq_model::{Plan, Query, Row};
+use bq_model::{Plan, Query, Row, Tuple};
 use bq_pool::{Pool, Steps};
 use bq_text::Name;
 use std::alloc::{AllocError, Global};
@@ -83,11 +89,12 @@ impl Registry {
         })
     }
 
-    /// Returns the number of live queries. Each of them keeps within the numbers that its plan announces.
+    /// Returns the number of live queries. Each of them has an accepted plan, and keeps within the numbers that it announces.
     pub fn len(&self) -> usize
         ensures value { result ≡ length self.now.live }
         ensures few { result ≤ 64 }
         ensures within { KeepWithin self.now }
+        ensures sound { IsSound self.now.pool self.now.live }
     {
         self.live.len()
     }
@@ -112,6 +119,30 @@ impl Registry {
         ensures { result ≡ list_any (λ l. bytes_eq l.name name.now) self.now.live }
     {
         self.live.has(name)
+    }
+
+    /// Returns the name of the live query at a place.
+    pub fn name(&self, place: usize) -> &Name
+        requires { place < length self.now.live }
+        ensures { (d : Live) → result.now ≡ (slice_index_or self.now.live place d).name }
+    {
+        self.live.name_of(place)
+    }
+
+    /// Returns what runs the live query at a place. Its cells are in the pool.
+    pub fn executor(&self, place: usize) -> &Executor
+        requires { place < length self.now.live }
+        ensures value { (d : Live) → result.now ≡ (slice_index_or self.now.live place d).executor }
+        ensures live { IsLive self.now.pool result.now.extent }
+    {
+        self.live.executor_at(place)
+    }
+
+    /// Returns the pool of all cells.
+    pub fn pool(&self) -> &Pool
+        ensures { result.now ≡ self.now.pool }
+    {
+        &self.pool
     }
 
     /// Returns the live query at a place.
@@ -156,9 +187,9 @@ impl Registry {
         }
     }
 
-    /// Takes a row of a stream, whose values lie in the domains of each live query that names the stream: of each live query the new
-    /// answers by its own history wait then, and what waited before is given up. Each live query keeps within the numbers that its
-    /// plan announces, whatever its history. This takes no memory.
+    /// Takes a row of a stream, whose values lie in the domains of each live query that names the stream: of each live query the
+    /// answers by its own base and history wait then, and what waited before is given up. Each live query keeps within the numbers
+    /// that its plan announces, whatever its history. This takes no memory.
     pub fn row<L: Ledger>(&mut self, stream: u8, row: &Row, steps: &mut Steps<L>)
         requires few { All (λ l. l.executor.given < 2 ^ 40) self.old.live }
         requires keeps { KeepsToEach self.old.live (arrival stream row.now.items) }
@@ -207,6 +238,60 @@ impl Registry {
             }
             None => {}
         }
+    }
+
+    /// Sets how many rows were given to the live query at a place, and returns whether it did. One that has seen no row goes on from
+    /// its base with that number, where none was given yet; else the answer is no, and all is as before. The other live queries stand
+    /// for what they stood for.
+    pub fn load_given(&mut self, place: usize, n: u64) -> bool
+        requires there { place < length self.old.live }
+        requires few { n ≤ 2 ^ 40 }
+        ensures loads { LoadsAt result place (λ q. loaded_given n q.base) self.old self.new }
+        ensures quiet { IsQuiet self.old → IsQuiet self.new }
+        ensures given { (m : ℕ) → n ≤ m → GivenUpto m self.old → GivenUpto m self.new }
+        ensures names { map (λ l. l.name) self.new.live ≡ map (λ l. l.name) self.old.live }
+        ensures queries { KeepQueries self.old.live self.new.live }
+    {
+        loading::load_given(&mut self.live, place, n)
+    }
+
+    /// Sets the content of a cell of the live query at a place, and returns whether it did. One that has seen no row goes on from its
+    /// base with that content, where the cell is there and empty and the content fits; else the answer is no, and all is as before.
+    /// The other live queries stand for what they stood for. At most one cell is read and one is written, and none where no cells are
+    /// announced.
+    pub fn load_cell<L: Ledger>(
+        &mut self,
+        place: usize,
+        i: u32,
+        v: i64,
+        steps: &mut Steps<L>,
+    ) -> bool
+        requires there { place < length self.old.live }
+        ensures loads { LoadsAt result place (λ q. loaded_cell (boxes_of q) i v q.base) self.old self.new }
+        ensures quiet { IsQuiet self.old → IsQuiet self.new }
+        ensures given { (m : ℕ) → GivenUpto m self.old → GivenUpto m self.new }
+        ensures names { map (λ l. l.name) self.new.live ≡ map (λ l. l.name) self.old.live }
+        ensures queries { KeepQueries self.old.live self.new.live }
+        ensures reads { steps.new.reads ≤ steps.old.reads + most_cells self.old.live }
+        ensures writes { steps.new.writes ≤ steps.old.writes + most_cells self.old.live }
+        ensures one { (steps.new.reads ≤ steps.old.reads + 1) × (steps.new.writes ≤ steps.old.writes + 1) }
+    {
+        loading::load_cell(&mut self.pool, &mut self.live, place, i, v, steps)
+    }
+
+    /// Puts a tuple among those that the live query at a place printed, and returns whether it did. One that has seen no row goes on
+    /// from its base with that tuple, where it has DISTINCT and the tuple is new and lies in the ranges of some part; else the answer is
+    /// no, and all is as before. The other live queries stand for what they stood for.
+    pub fn load_tuple(&mut self, place: usize, t: &Tuple) -> bool
+        requires there { place < length self.old.live }
+        requires width { (d : Live) → length t.now.items ≡ length (slice_index_or self.old.live place d).executor.query.select }
+        ensures loads { LoadsAt result place (λ q. loaded_tuple q.query (parts_of q.plan) t.now.items q.base) self.old self.new }
+        ensures quiet { IsQuiet self.old → IsQuiet self.new }
+        ensures given { (m : ℕ) → GivenUpto m self.old → GivenUpto m self.new }
+        ensures names { map (λ l. l.name) self.new.live ≡ map (λ l. l.name) self.old.live }
+        ensures queries { KeepQueries self.old.live self.new.live }
+    {
+        loading::load_tuple(&mut self.live, place, t)
     }
 
     /// Gives all pages back and ends the registry.

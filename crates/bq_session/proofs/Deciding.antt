@@ -23,7 +23,7 @@ use Rattle.bq_session.specs.Answer.{registered, decided}
 use Rattle.bq_session.specs.Answers.{accepted, rejected, acceptance}
 use Rattle.bq_session.specs.State.{State, one_line_more}
 use Rattle.bq_explain.specs.Text.{column_text}
-use Rattle.bq_session.specs.Replies.{which_text, condition_text, numbers_text, plan_text}
+use Rattle.bq_reply.specs.Texts.{which_text, condition_text, numbers_text, plan_text}
 use Rattle.bq_session.specs.Session.{Kept, StandsFor, Does, outcome_of}
 use Rattle.bq_session.proofs.Given.{given}
 
@@ -53,7 +53,15 @@ takes written outcome s name q shared k r v before after o old tells reg w =
     let told = subst (λ (x : Verdict). TellsVerdict shared q (free_pages s.queries) (Ok x)) reg.told tells in
     given written outcome s (asked name q shared) (registered name q shared reg.plan) (with_registry k r) before after o
     (accepted reg.plan reg.accepted.plan (same_verdict shared q (free_pages s.queries) reg.plan told) refl)
-    (record { limit = old.limit; streams = old.streams; queries = reg.stands s.queries old.queries; quiet = reg.quiet old.quiet; taken = old.taken; lines = old.lines })
+    (record {
+      limit = old.limit;
+      streams = old.streams;
+      queries = reg.stands s.queries old.queries;
+      quiet = reg.quiet old.quiet;
+      taken = old.taken;
+      lines = old.lines;
+      began = old.began;
+    })
     (subst (λ t. Writes written before after t) (ap (acceptance_text name) reg.told ∙ same_text name reg.plan) w)
 
 -- a session whose registry is unchanged stands for what it stood for
@@ -65,6 +73,7 @@ unchanged k r s u old = record {
   quiet = subst (λ l. IsQuiet (record { pool = r.pool; live = l })) (sym u.live) old.quiet;
   taken = old.taken;
   lines = old.lines;
+  began = old.began;
 }
 
 -- a number of the query is above its limit

@@ -57,7 +57,7 @@ explained_here streams name pool live queries place d all e =
 
 -- the names of the live queries stay there
 pub named_kept : (streams : List Shape) (old new : List Live) → All (λ (l : Live). HasNamed streams l.executor.query) old → KeepQueries old new → All (λ (l : Live). HasNamed streams l.executor.query) new
-named_kept streams old new all keep i l a = (let k = keep i l a in subst (HasNamed streams) (sym k.2) (all k.0 l k.1))
+named_kept streams old new all keep i l a = (let k = keep i l a in subst (HasNamed streams) (sym k.2.query) (all k.0 l k.1))
 
 pub named_more : (streams more : List Shape) (live : List Live) → All (λ (l : Live). HasNamed streams l.executor.query) live → All (λ (l : Live). HasNamed (streams ++ more) l.executor.query) live
 named_more streams more live all i l a = stays_named streams more (slice_index_or live i l).executor.query (all i l a)

@@ -33,6 +33,7 @@ query = record {
       ∷ atom (element.Attr (col 0 0)) Op.Lt (element.Const (pos 101))
       ∷ [];
   domains = [];
+  compact = false;
 }
 
 abbrev signs : List Sign

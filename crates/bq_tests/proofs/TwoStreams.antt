@@ -35,6 +35,7 @@ query = record {
       ∷ atom (element.Attr (col 0 1)) Op.Lt (element.Const (pos 6))
       ∷ [];
   domains = [];
+  compact = false;
 }
 
 abbrev signs : List Sign

@@ -60,6 +60,7 @@ fn query_over_one() -> Query {
         }],
         &atoms,
         &[],
+        false,
     )
 }
 
@@ -101,6 +102,7 @@ fn query_of_values() -> Query {
         ],
         &atoms,
         &[],
+        false,
     )
 }
 
@@ -136,6 +138,7 @@ fn query_by_equality() -> Query {
         }],
         &atoms,
         &[],
+        false,
     )
 }
 

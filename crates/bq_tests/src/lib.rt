@@ -6,6 +6,8 @@ mod certificate_faults;
 #[cfg(test)]
 mod certificates;
 #[cfg(test)]
+mod checkpoints;
+#[cfg(test)]
 mod comments;
 #[cfg(test)]
 mod edge;

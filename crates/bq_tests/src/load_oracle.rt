@@ -56,6 +56,7 @@ fn query_g() -> Query {
         }],
         &atoms,
         &[],
+        false,
     )
 }
 
@@ -99,6 +100,7 @@ fn query_h() -> Query {
         }],
         &atoms,
         &[],
+        false,
     )
 }
 

@@ -70,6 +70,7 @@ fn a_join_counts_each_pair(rt: HostRuntime) -> Result<(), Fail> {
         }],
         &atoms,
         &[],
+        false,
     );
     let rows: [(u8, &[i64]); 4] = [(0, &[11, 5]), (1, &[11]), (0, &[11, 6]), (1, &[11])];
     let told = answers(rt.alloc(), query, &rows)?;
@@ -130,6 +131,7 @@ fn hot_rooms(rt: HostRuntime) -> Result<(), Fail> {
         }],
         &atoms,
         &[],
+        false,
     );
     let rows: [(u8, &[i64]); 4] = [(0, &[2, 30]), (1, &[2, 25]), (1, &[2, 10]), (1, &[3, 0])];
     let told = answers(rt.alloc(), query, &rows)?;
@@ -176,6 +178,7 @@ fn a_product_of_three_streams(rt: HostRuntime) -> Result<(), Fail> {
         }],
         &atoms,
         &[],
+        false,
     );
     let rows: [(u8, &[i64]); 6] = [
         (0, &[1, 0]),
@@ -232,6 +235,7 @@ fn an_extreme_decides(rt: HostRuntime) -> Result<(), Fail> {
         }],
         &atoms,
         &[],
+        false,
     );
     let rows: [(u8, &[i64]); 4] = [(0, &[11, 100]), (1, &[100]), (1, &[101]), (1, &[500])];
     let told = answers(rt.alloc(), query, &rows)?;
@@ -281,6 +285,7 @@ fn a_tuple_comes_once_though_it_is_found_twice(rt: HostRuntime) -> Result<(), Fa
         }],
         &atoms,
         &[],
+        false,
     );
     let rows: [(u8, &[i64]); 4] = [(0, &[11, 5]), (1, &[7]), (0, &[11, 11]), (1, &[12])];
     let told = answers(rt.alloc(), query, &rows)?;

@@ -232,7 +232,7 @@ fn of_two_streams<L: Ledger>(
         compared(R_A, Op::Gt, Element::Const(0)),
         compared(R_C, Op::Lt, Element::Const(6)),
     ];
-    let q = Query::new(false, &[0, 1], &[R_A, S_B], &atoms, &[]);
+    let q = Query::new(false, &[0, 1], &[R_A, S_B], &atoms, &[], false);
     let mut streams = ArrayVec::new();
     streams.push(counted(&[range(R_A, 1, 3), range(R_C, 3, 5)], 0, 9));
     streams.push(counted(&[range(S_A, 1, 3), range(S_B, 2, 4)], 9, 9));
@@ -310,7 +310,7 @@ fn of_a_chain<L: Ledger>(
         compared(R_A, Op::Gt, Element::Const(0)),
         compared(R_A, Op::Lt, Element::Const(101)),
     ];
-    let q = Query::new(false, &[0, 1, 2], &[R_A], &atoms, &[]);
+    let q = Query::new(false, &[0, 1, 2], &[R_A], &atoms, &[], false);
     let mut streams = ArrayVec::new();
     streams.push(counted(&[range(R_A, 1, 100)], 0, 100));
     streams.push(counted(&[range(S_A, 1, 100)], 100, 100));

@@ -30,8 +30,13 @@ The lines of a script; keywords are read in any case of letters:
   CREATE QUERY q AS SELECT DISTINCT S.a FROM S, T WHERE S.b < T.c AND S.b > 1
                                     DISTINCT and WHERE may be left out;
                                     compared by < = > <= >= <>
+  CREATE SHARED QUERY q AS ..       cells that several parts would keep alike
+                                    are kept once
+  CREATE COMPACT QUERY q AS ..      columns that nothing relates stay apart
   EXPLAIN q                         how q runs
   DROP QUERY q
+  CHECKPOINT                        the lines from which a fresh session goes on
+  RESUME ..                         one of these lines
   S,1,2                             a row of S: all new answers are written
 What cannot be taken is answered by error, the number of the line and a word.
 

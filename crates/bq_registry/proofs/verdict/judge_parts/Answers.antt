@@ -6,10 +6,12 @@ use Rattle.bq_registry.proofs.Verdicts.{within_limits}
 use Rattle.bq_registry.proofs.verdict.judge_parts.Goals as goal
 
 pub returns-in-Ok : goal.returns-in-Ok
-returns-in-Ok c = (
-  record { plan = c.in-Ok.ensures.0; violation = c.in-Ok.ensures.2; within = within_limits c.in-Ok.plan c.in-Ok.ensures.1 },
-  λ f. few_parts c.args.query.now c.args.parts.now 4096 c.requires.parts c.requires.few,
-)
+returns-in-Ok c = record {
+  plan = c.in-Ok.ensures.0;
+  violation = c.in-Ok.ensures.2;
+  within = within_limits c.in-Ok.plan c.in-Ok.ensures.1;
+  few = λ f. few_parts c.args.query.now c.args.parts.now 4096 c.requires.parts c.requires.few;
+}
 
 pub returns-in-Err-Violation : goal.returns-in-Err-Violation
 returns-in-Err-Violation c =

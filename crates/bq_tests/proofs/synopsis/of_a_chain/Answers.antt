@@ -8,7 +8,7 @@ use Rattle.bq_tests.proofs.synopsis.of_a_chain.Goals as goal
 pub answers-requires-clause-walked : goal.answers-requires-clause-walked
 answers-requires-clause-walked g c =
     let q : c.new-q.result ≡ query =
-    c.new-q.ensures ∙ (λ k. record { distinct = false; from = 0 ∷ 1 ∷ 2 ∷ []; select = col 0 0 ∷ []; atoms = c.compared.ensures k ∷ c.compared-2.ensures k ∷ c.compared-3.ensures k ∷ c.compared-4.ensures k ∷ []; domains = [] }) in
+    c.new-q.ensures ∙ (λ k. record { distinct = false; from = 0 ∷ 1 ∷ 2 ∷ []; select = col 0 0 ∷ []; atoms = c.compared.ensures k ∷ c.compared-2.ensures k ∷ c.compared-3.ensures k ∷ c.compared-4.ensures k ∷ []; domains = []; compact = false }) in
     let r : c.counted.result ≡ get_or part.streams.items 0 c.counted.result =
     c.counted.ensures ∙ (λ k. record { dims = record { items = c.range.ensures k ∷ [] }; kind = Kind.Count; base = 0; size = 100 }) in
     let s : c.counted-2.result ≡ get_or part.streams.items 1 c.counted.result =

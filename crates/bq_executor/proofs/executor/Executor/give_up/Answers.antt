@@ -3,7 +3,10 @@ use Rattle.bq_pool.specs.Extents.{PoolValue}
 use Rattle.bq_model.specs.Meaning.{Arrival}
 use Rattle.bq_answers.specs.Entries.{TableValue}
 use Rattle.bq_executor.specs.Executor.{ExecutorValue, IsSound, tuples_in, waiting_in}
-use Rattle.bq_executor.specs.Standing.{StandsFor, KeepsWithin}
+use Rattle.bq_executor.specs.Standing.{StandsFor, AreKept, KeepsWithin}
+use Rattle.bq_model.specs.Bases.{Base}
+use Rattle.bq_executor.specs.Bases.{StandsFrom}
+use Rattle.bq_executor.proofs.Bases.{written-from}
 use Rattle.bq_executor.proofs.Keeping.{written-within}
 use Rattle.bq_model.specs.Numbers.{parts_of}
 use Rattle.bq_executor.proofs.FilledLaws.{filled-settled}
@@ -36,3 +39,15 @@ returns-clause-within c =
     let e : ExecutorValue = record { query = c.self.inside.query; shared = c.self.inside.shared; plan = c.self.inside.plan; extent = c.self.inside.extent; given = c.self.inside.given; table = c.self.inside.table } in
     subst (λ (x : ExecutorValue). (pool : PoolValue) → KeepsWithin x pool → KeepsWithin (let o : ExecutorValue = record { query = c.self.inside.query; shared = c.self.inside.shared; plan = c.self.inside.plan; extent = c.self.inside.extent; given = c.self.inside.given; table = c.settle.new.self } in o) pool) c.self.view_is
     (λ pool w. subst (λ (t : TableValue). KeepsWithin (let o : ExecutorValue = record { query = c.self.inside.query; shared = c.self.inside.shared; plan = c.self.inside.plan; extent = c.self.inside.extent; given = c.self.inside.given; table = t } in o) pool) (sym c.settle.ensures) (written-within e c.self.invariant.0 pool w))
+
+pub returns-clause-bases : goal.returns-clause-bases
+returns-clause-bases c =
+    let e : ExecutorValue = record { query = c.self.inside.query; shared = c.self.inside.shared; plan = c.self.inside.plan; extent = c.self.inside.extent; given = c.self.inside.given; table = c.self.inside.table } in
+    subst (λ (x : ExecutorValue). (pool : PoolValue) (base : Base) (history : List Arrival) → StandsFrom x pool base history → StandsFrom (let o : ExecutorValue = record { query = c.self.inside.query; shared = c.self.inside.shared; plan = c.self.inside.plan; extent = c.self.inside.extent; given = c.self.inside.given; table = c.settle.new.self } in o) pool base history) c.self.view_is
+    (λ pool base history h. subst (λ (t : TableValue). StandsFrom (let o : ExecutorValue = record { query = c.self.inside.query; shared = c.self.inside.shared; plan = c.self.inside.plan; extent = c.self.inside.extent; given = c.self.inside.given; table = t } in o) pool base history) (sym c.settle.ensures) (written-from e pool base history h))
+
+pub returns-clause-kept : goal.returns-clause-kept
+returns-clause-kept c pool k =
+    let e : ExecutorValue = record { query = c.self.inside.query; shared = c.self.inside.shared; plan = c.self.inside.plan; extent = c.self.inside.extent; given = c.self.inside.given; table = c.self.inside.table } in
+    let own : AreKept e pool = subst (λ (x : ExecutorValue). AreKept x pool) (sym c.self.view_is) k in
+    record { live = own.live; fitting = own.fitting; counts = own.counts }

@@ -1,6 +1,7 @@
-use Rattle.std.proofs.Common.{ap, sym, subst, refl, ◌∙◌, length, arith}
+use Rattle.std.proofs.Common.{[], ap, sym, subst, refl, ◌∙◌, length, arith}
 use Rattle.bq_answers.specs.Entries.{TableValue, Ascends}
 use Rattle.bq_model.specs.Numbers.{parts_of}
+use Rattle.bq_executor.proofs.Bases.{bases-and-histories}
 use Rattle.bq_executor.proofs.PlanFacts.{has_parts}
 use Rattle.bq_executor.proofs.Behind.{plan-behind}
 use Rattle.bq_executor.proofs.FilledLaws.{filled-empty}
@@ -25,6 +26,7 @@ invariant_of-result c =
         pages = c.requires.pages;
         width = ap (λ (t : TableValue). t.width) is ∙ ap length c.select.ensures.value;
         capacity = ap (λ (t : TableValue). t.capacity) is ∙ c.most_answers-capacity.ensures;
+        given = omega arith;
         entries = (let none = ap (λ (t : TableValue). length t.entries) is in omega (arith, none));
         ascends = subst (λ (t : TableValue). Ascends t.entries) (sym is) tt;
         tuples = λ d. none_within c.args.query (parts_of c.args.plan) c.in-Ok-new-2.table.entries (ap (λ (t : TableValue). t.entries) is);
@@ -45,3 +47,9 @@ returns-in-Ok-new-2-clause-within c = λ pool live empty.
     let e : ExecutorValue = record { query = c.args.query; shared = c.args.shared; plan = c.args.plan; extent = c.args.extent; given = 0; table = c.in-Ok-new-2.table } in
     let sound = (invariant_of-result c).0 in
     keeps e sound pool live (begins e sound refl (ap (λ (t : TableValue). t.entries) c.in-Ok-new-2.ensures) pool live empty).rest
+
+pub returns-in-Ok-new-2-clause-bases : goal.returns-in-Ok-new-2-clause-bases
+returns-in-Ok-new-2-clause-bases c = λ pool live empty.
+    let e : ExecutorValue = record { query = c.args.query; shared = c.args.shared; plan = c.args.plan; extent = c.args.extent; given = 0; table = c.in-Ok-new-2.table } in
+    let sound = (invariant_of-result c).0 in
+    (bases-and-histories e pool sound).1 [] (begins e sound refl (ap (λ (t : TableValue). t.entries) c.in-Ok-new-2.ensures) pool live empty)

@@ -1,6 +1,7 @@
 use Rattle.std.proofs.Common.{◌+◌, ◌∙◌, refl, sym, ap, subst}
 use Rattle.bq_executor.specs.Executor.{ExecutorValue, arrival, waiting_in}
 use Rattle.bq_executor.specs.Standing.{KeepsWithin}
+use Rattle.bq_executor.proofs.Bases.{refused-from}
 use Rattle.bq_executor.proofs.Keeping.{counted-within}
 use Rattle.bq_executor.proofs.Refused.{refused_took_as, quiet-spelled}
 use Rattle.bq_executor.proofs.executor.Executor.take.Goals as goal
@@ -33,3 +34,14 @@ pub returns-then-not-has_waiting-clause-within : goal.returns-then-not-has_waiti
 returns-then-not-has_waiting-clause-within g c = λ within.
     let e : ExecutorValue = record { query = c.self.inside.query; shared = c.self.inside.shared; plan = c.self.inside.plan; extent = c.self.inside.extent; given = c.self.inside.given; table = c.self.inside.table } in
     counted-within e (c.self.inside.given + 1) c.args.pool.now (subst (λ (x : ExecutorValue). KeepsWithin x c.args.pool.now) (sym c.self.view_is) within)
+
+pub returns-then-not-has_waiting-clause-bases : goal.returns-then-not-has_waiting-clause-bases
+returns-then-not-has_waiting-clause-bases g c =
+    let e : ExecutorValue = record { query = c.self.inside.query; shared = c.self.inside.shared; plan = c.self.inside.plan; extent = c.self.inside.extent; given = c.self.inside.given; table = c.self.inside.table } in
+    refused-from e c.args.self.now c.self.view_is c.self.invariant.0 c.args.pool.now (arrival c.args.stream c.args.row.now.items) c.requires.keeps
+    (refused_took_as e c.args.self.now c.self.view_is c.self.invariant.0 c.args.pool.now c.requires.ready (arrival c.args.stream c.args.row.now.items) c.requires.keeps (c.if-not-has_waiting.ensures refl) (c.if-not-passes.ensures refl))
+
+pub returns-then-not-has_waiting-clause-kept : goal.returns-then-not-has_waiting-clause-kept
+returns-then-not-has_waiting-clause-kept g c =
+    let e : ExecutorValue = record { query = c.self.inside.query; shared = c.self.inside.shared; plan = c.self.inside.plan; extent = c.self.inside.extent; given = c.self.inside.given; table = c.self.inside.table } in
+    (refused_took_as e c.args.self.now c.self.view_is c.self.invariant.0 c.args.pool.now c.requires.ready (arrival c.args.stream c.args.row.now.items) c.requires.keeps (c.if-not-has_waiting.ensures refl) (c.if-not-passes.ensures refl)).kept

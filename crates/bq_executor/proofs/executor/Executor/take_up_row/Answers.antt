@@ -8,6 +8,8 @@ use Rattle.bq_executor.specs.Executor.{ExecutorValue, arrival, tuples_in, IsSoun
 use Rattle.bq_executor.specs.Standing.{AreKept, KeepsWithin, IsReady, TookRow, future_in, pool_with}
 use Rattle.bq_model.specs.Numbers.{parts_of}
 use Rattle.bq_executor.specs.Gate.{IsRefused}
+use Rattle.bq_executor.specs.Bases.{TookFrom}
+use Rattle.bq_executor.proofs.Bases.{row-from}
 use Rattle.bq_executor.proofs.FilledLaws.{filled-cleared}
 use Rattle.bq_executor.proofs.Rows.{ready_row, room_clear, table_later, sound_later, waits, cells, tuples, kept, within, history}
 use Rattle.bq_executor.proofs.ClearedNone.{quiet-later}
@@ -103,3 +105,13 @@ returns-clause-within g c =
     subst (λ (x : ExecutorValue). KeepsWithin x c.args.pool.now → KeepsWithin (let o : ExecutorValue = record { query = c.self.inside.query; shared = c.self.inside.shared; plan = c.self.inside.plan; extent = c.self.inside.extent; given = c.self.inside.given + 1; table = c.arrive.new.table } in o) c.arrive.new.pool) c.self.view_is
     (λ w. subst (λ (t : TableValue). KeepsWithin (let o : ExecutorValue = record { query = c.self.inside.query; shared = c.self.inside.shared; plan = c.self.inside.plan; extent = c.self.inside.extent; given = c.self.inside.given + 1; table = t } in o) c.arrive.new.pool) (sym table)
     (within e c.self.invariant.0 c.args.pool.now ready r c.self.invariant.0.ascends c.arrive.new.pool c.arrive.ensures.pool w))
+
+pub returns-clause-bases : goal.returns-clause-bases
+returns-clause-bases g c =
+    let e : ExecutorValue = record { query = c.self.inside.query; shared = c.self.inside.shared; plan = c.self.inside.plan; extent = c.self.inside.extent; given = c.self.inside.given; table = c.self.inside.table } in
+    let ready : IsReady e c.args.pool.now = subst (λ (x : ExecutorValue). IsReady x c.args.pool.now) (sym c.self.view_is) c.requires.ready in
+    let r = arrival c.args.stream c.args.row.now.items in
+    let keeps : RowKeeps e.query r = subst (λ (x : ExecutorValue). RowKeeps x.query r) (sym c.self.view_is) c.requires.keeps in
+    let table = table_later e c.self.invariant.0 c.args.pool.now ready r c.self.invariant.0.ascends c.distinct.result c.distinct.ensures c.clear.new.table c.arrive.new.table c.clear.ensures c.arrive.ensures.table in
+    subst (λ (x : ExecutorValue). TookFrom x c.args.pool.now r (let o : ExecutorValue = record { query = c.self.inside.query; shared = c.self.inside.shared; plan = c.self.inside.plan; extent = c.self.inside.extent; given = c.self.inside.given + 1; table = c.arrive.new.table } in o) c.arrive.new.pool) c.self.view_is
+    (subst (λ (t : TableValue). TookFrom e c.args.pool.now r (let o : ExecutorValue = record { query = c.self.inside.query; shared = c.self.inside.shared; plan = c.self.inside.plan; extent = c.self.inside.extent; given = c.self.inside.given + 1; table = t } in o) c.arrive.new.pool) (sym table) (row-from e c.self.invariant.0 c.args.pool.now ready r keeps c.arrive.new.pool c.arrive.ensures.pool))

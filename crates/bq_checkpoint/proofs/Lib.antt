@@ -1,0 +1,4 @@
+pub mod CellLines
+pub mod KeptCells
+pub mod LineTexts
+pub mod StateLines

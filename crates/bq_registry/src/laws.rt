@@ -1,0 +1,12 @@
+//! The laws, as public functions without a body.
+ghost use Rattle.bq_registry.specs.Sound.{LiveQueriesAreSound, LiveQueriesAreGiven};
+
+/// Each live query that a sound registry stands for has an accepted plan, and cells and printed tuples that fit it.
+pub fn live_queries_are_sound()
+    ensures { LiveQueriesAreSound }
+{}
+
+/// To no live query were more rows given than to what the registry keeps of it.
+pub fn live_queries_are_given()
+    ensures { LiveQueriesAreGiven }
+{}

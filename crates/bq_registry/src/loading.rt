@@ -1,0 +1,96 @@
+//! Loading what a checkpoint tells of the live query at a place.
+ghost use Rattle.std.specs.Prelude.{◌≡◌, ℕ, List, ◌<◌, ◌≤◌, ◌+◌, ◌^◌, length, slice_index_or};
+ghost use Rattle.bq_model.specs.Numbers.{parts_of};
+ghost use Rattle.bq_executor.specs.Loading.{loaded_given, loaded_cell, loaded_tuple};
+ghost use Rattle.bq_pool.specs.Extents.{IsLive};
+ghost use Rattle.bq_registry.specs.Live.{Live, boxes_for, named, plan_cells};
+ghost use Rattle.bq_registry.specs.Loaded.{LoadedOne, LoadedAlone, LoadedAt, LoadedAloneAt};
+ghost use Rattle.bq_registry.specs.Registry.{IsSound, most_cells};
+
+use crate::queries::Queries;
+use bq_executor::Executor;
+use bq_model::Tuple;
+use bq_pool::{Pool, Steps};
+use std::sync::ledger::Ledger;
+
+// Says how many rows were given to a live query, whatever its name.
+fn load_given_one(executor: &mut Executor, n: u64) -> bool
+    requires few { n ≤ 2 ^ 40 }
+    ensures { LoadedAlone result n (λ q shared plan base. loaded_given n base) executor.old executor.new }
+{
+    let loads = executor.load_given(n);
+    // Read for the proof alone: the call tells what is true of what runs the query.
+    let _sound = executor.plan();
+    loads
+}
+
+// Sets the content of a cell of a live query, whatever its name.
+#[tactic(auto, using(crate::proofs::Loads::one_cell))]
+fn load_cell_one<L: Ledger>(
+    pool: &mut Pool,
+    executor: &mut Executor,
+    i: u32,
+    v: i64,
+    steps: &mut Steps<L>,
+) -> bool
+    requires live { IsLive pool.old executor.old.extent }
+    ensures loads { (name : List ℕ) → LoadedOne result 0 (λ q shared plan base. loaded_cell (boxes_for q shared plan) i v base) pool.old pool.new (named name executor.old) (named name executor.new) }
+    ensures reads { steps.new.reads ≤ steps.old.reads + plan_cells executor.old.plan }
+    ensures writes { steps.new.writes ≤ steps.old.writes + plan_cells executor.old.plan }
+    ensures one { (steps.new.reads ≤ steps.old.reads + 1) × (steps.new.writes ≤ steps.old.writes + 1) }
+{
+    // Read for the proof alone: the call tells what is true of what runs the query.
+    let _sound = executor.plan();
+    executor.load_cell(pool, i, v, steps)
+}
+
+// Puts a tuple among those that a live query printed, whatever its name.
+fn load_tuple_one(executor: &mut Executor, t: &Tuple) -> bool
+    requires width { length t.now.items ≡ length executor.old.query.select }
+    ensures { LoadedAlone result 0 (λ q shared plan base. loaded_tuple q (parts_of plan) t.now.items base) executor.old executor.new }
+{
+    let loads = executor.load_tuple(t);
+    // Read for the proof alone: the call tells what is true of what runs the query.
+    let _sound = executor.plan();
+    loads
+}
+
+/// Says how many rows were given to the live query at a place, where none were yet.
+#[tactic(auto, using(crate::proofs::SideBySide::size_as, crate::proofs::Loads::loaded_alone))]
+pub fn load_given(live: &mut Queries, place: usize, n: u64) -> bool
+    requires there { place < length live.old }
+    requires few { n ≤ 2 ^ 40 }
+    ensures { LoadedAloneAt place result n (λ q shared plan base. loaded_given n base) live.old live.new }
+{
+    load_given_one(&mut live.executors[place], n)
+}
+
+/// Sets the content of a cell of the live query at a place, where it is empty.
+#[tactic(auto, using(crate::proofs::SideBySide::size_as))]
+pub fn load_cell<L: Ledger>(
+    pool: &mut Pool,
+    live: &mut Queries,
+    place: usize,
+    i: u32,
+    v: i64,
+    steps: &mut Steps<L>,
+) -> bool
+    requires sound { IsSound pool.old live.old }
+    requires there { place < length live.old }
+    ensures loads { LoadedAt place result 0 (λ q shared plan base. loaded_cell (boxes_for q shared plan) i v base) pool.old pool.new live.old live.new }
+    ensures reads { steps.new.reads ≤ steps.old.reads + most_cells live.old }
+    ensures writes { steps.new.writes ≤ steps.old.writes + most_cells live.old }
+    ensures one { (steps.new.reads ≤ steps.old.reads + 1) × (steps.new.writes ≤ steps.old.writes + 1) }
+{
+    load_cell_one(pool, &mut live.executors[place], i, v, steps)
+}
+
+/// Puts a tuple among those that the live query at a place printed.
+#[tactic(auto, using(crate::proofs::SideBySide::size_as, crate::proofs::Loads::loaded_alone))]
+pub fn load_tuple(live: &mut Queries, place: usize, t: &Tuple) -> bool
+    requires there { place < length live.old }
+    requires width { (d : Live) → length t.now.items ≡ length (slice_index_or live.old place d).executor.query.select }
+    ensures { LoadedAloneAt place result 0 (λ q shared plan base. loaded_tuple q (parts_of plan) t.now.items base) live.old live.new }
+{
+    load_tuple_one(&mut live.executors[place], t)
+}

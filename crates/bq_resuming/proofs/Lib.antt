@@ -1,0 +1,11 @@
+pub mod FreshBases
+pub mod Pairs
+pub mod AlikeRequests
+pub mod AlikeReplies
+pub mod AlikeStates
+pub mod Continuing
+pub mod SoundStates
+pub mod Widths
+pub mod ShortLines
+pub mod AtBase
+pub mod Resumed

@@ -1,0 +1,44 @@
+-- What a line does that sets what a live query goes on from.
+use Rattle.std.specs.Prelude.{◌≡◌, ℕ, Bool, List, [], if◌then◌else◌, Option, Some, None}
+use Rattle.std.specs.declared.result.Result.{Result}
+use Rattle.std.specs.declared.result.Result.TheVariants.{Ok, Err}
+use Rattle.bq_model.specs.Bases.{Base}
+use Rattle.bq_registry.specs.Live.{LiveQuery}
+use Rattle.bq_registry.specs.Registry.{RegistryValue}
+use Rattle.bq_registry.specs.Registry as registry
+use Rattle.bq_session.specs.Request.{Request, based, refused}
+use Rattle.bq_session.specs.State.{State, set_base, next_by, one_line_more}
+use Rattle.bq_session.specs.Answer.{plain}
+use Rattle.bq_session.specs.Answers.{Settles}
+use Rattle.bq_session.specs.Replies.{reply_by}
+use Rattle.bq_session.specs.Session.{Kept, StandsFor}
+use Rattle.bq_reply.specs.declared.word.Word.{Word}
+use Rattle.bq_reply.specs.declared.word.Word.TheVariants.{UnknownQuery, Late}
+
+-- the registry stands for the live queries of a state, and a mark says whether a row line was taken
+pub record IsStanding (r : RegistryValue) (mark : Bool) (s : State) : Type 0 where
+  pub queries : registry.StandsFor r s.queries
+  pub began : mark ≡ s.began
+
+-- the place of the live query that a line sets something of, where it was found and no row line was taken
+abbrev pub place_to_set : Bool → Option ℕ → Result ℕ Word
+place_to_set began None = Err UnknownQuery
+place_to_set began (Some place) = if began then Err Late else Ok place
+
+-- a live query goes on from another base, as the line asks
+pub record IsSet (request : Request) (queries : List LiveQuery) (new : RegistryValue) : Type 0 where
+  pub name : List ℕ
+  pub base : Base
+  pub asks : request ≡ based name base
+  pub stands : registry.StandsFor new (set_base name base queries)
+
+-- what such a line did: a live query goes on from another base; or a word refuses the line, and all is as before
+abbrev pub Sets : {T : Type 0} → Result T Word → Request → List LiveQuery → RegistryValue → RegistryValue → Type 0
+Sets (Ok x) request queries old new = IsSet request queries new
+Sets (Err word) request queries old new = (request ≡ refused word) × (new ≡ old)
+
+-- a line is settled that asked so: it comes to what it asks for, without a reply, and the session stands for the next state; or a word
+-- refuses it
+abbrev pub IsSettled : {T : Type 0} → Result T Word → State → Request → Kept → Type 0
+IsSettled (Ok x) s request new = Settles s request (plain request) × (reply_by s request ≡ []) × StandsFor new (next_by s request)
+IsSettled (Err word) s request new = (request ≡ refused word) × StandsFor new (one_line_more s)
