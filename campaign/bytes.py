@@ -6,7 +6,7 @@ import re
 
 from common import Part, compare, scaled
 from evaluator import session_text
-from language import DOMAIN_SHARE
+from language import CHECKPOINT_SHARE, COMPACT_SHARE, DOMAIN_SHARE
 
 TEXTS = 500
 WORDS = rb"LineTooLong|Syntax|Limit|Duplicate|TooMany|UnknownStream|UnknownColumn|SelfJoin|UnknownQuery"
@@ -14,7 +14,9 @@ FORM = re.compile(
     rb"ok stream \w+|ok query \w+ filter|ok drop \w+"
     rb"|ok query \w+ parts \d+ cells \d+ answers \d+ work \d+"
     rb"|refused \w+ part \d+ C[123] \w+\.\w+|refused \w+ limit (parts|cells|answers|work|pool)"
-    rb"|error [1-9]\d* (" + WORDS + rb"|Arity|Value|Domain|RowLimit)|\w+(,-?\d+)+")
+    rb"|error [1-9]\d* (" + WORDS + rb"|Late|Arity|Value|Domain|RowLimit)|\w+(,-?\d+)+"
+    rb"|CREATE STREAM \w+ \(.+\)|CREATE (SHARED )?(COMPACT )?QUERY \w+ AS SELECT .+"
+    rb"|RESUME (\d+|\w+ AS \d+|\w+ FROM \d+ -?\d+|\w+ SELECT -?\d+( -?\d+)*)")
 HEAD = b"CREATE STREAM S (a, b)\nCREATE STREAM T (c)\n" \
        b"CREATE QUERY f AS SELECT S.b, S.a FROM S WHERE S.a > 0\n" \
        b"CREATE QUERY j AS SELECT S.a FROM S, T WHERE S.a = T.c AND S.a > 0 AND S.a < 4\n" \
@@ -26,6 +28,10 @@ if DOMAIN_SHARE:
             b"CREATE QUERY e AS SELECT D.a FROM D, T WHERE D.a = T.c\n" \
             b"CREATE QUERY g AS SELECT DISTINCT D.a, S.a FROM D, S" \
             b" WHERE S.b >= D.b AND S.a > 0 AND S.a < 4\n"
+if COMPACT_SHARE:
+    HEAD += b"CREATE STREAM K (a, b)\n" \
+            b"CREATE COMPACT QUERY k AS SELECT DISTINCT S.a FROM S, K" \
+            b" WHERE S.a = K.a AND S.b > K.b AND S.a > 0 AND S.a < 4\n"
 EDGES = [b"S,1,%s", b"-- %s", b"%s", b"S,%s", b"CREATE STREAM X (%s)", b" %s"]
 ENDS = [b"\n", b"\n", b"\n", b"\r\n", b"\r", b"\r\r\n", b"\n\n", b" \r\n", b"\r \n", b"\x00\n"]
 UTF8 = ["é", "日本", "\u00a0", "\u2028", "\ufeff", "😀", "Ａ", "١"]
@@ -76,6 +82,8 @@ def one_text(part):
         what = random.choices(list(KINDS), SHARES)[0]
         pieces.append(KINDS[what](random) + random.choice(ENDS))
         part.count(what)
+    if CHECKPOINT_SHARE and random.random() < CHECKPOINT_SHARE:
+        pieces.append(b"CHECKPOINT" + random.choice(ENDS))
     text = b"".join(pieces)
     # a third of the texts end without LF
     return text if random.random() < 0.67 else text[:-1]

@@ -47,6 +47,7 @@ def certify(part, program, text):
         return None
     script = checker.read_script(text, False)
     part.count("with a domain", int(bool(script.query.domains)))
+    part.count("compact", int(script.query.compact))
     statements = checker.printed_statements(script)
     if not output.startswith(statements):
         part.differs(f"certify: {first_other_line(output, statements)}", text)

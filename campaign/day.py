@@ -9,6 +9,7 @@ from collections import Counter
 
 from common import Part, scaled
 from evaluator import session_text
+from language import COMPACT_SHARE
 
 ROWS = 10_000_000
 BLOCK = 20_000
@@ -19,6 +20,11 @@ HEAD = b"CREATE STREAM S (a, b)\nCREATE STREAM T (c)\n" \
        b"CREATE QUERY j AS SELECT S.a FROM S, T WHERE S.a = T.c AND S.a > 10 AND S.a < 13\n" \
        b"CREATE QUERY d AS SELECT DISTINCT S.a FROM S, T WHERE S.b < T.c AND S.a > 10 AND S.a < 13\n"
 HEAD_REPLIES = 5
+# a compact query beside the one with DISTINCT, which answers the same
+if COMPACT_SHARE:
+    HEAD += b"CREATE COMPACT QUERY e AS SELECT DISTINCT S.a FROM S, T WHERE S.b < T.c AND S.a > 10 AND S.a < 13\n"
+    HEAD_REPLIES += 1
+DISTINCT_NAMES = [b"d", b"e"] if COMPACT_SHARE else [b"d"]
 
 
 def one_row(random):
@@ -58,7 +64,7 @@ class Answers:
         for a in (11, 12):
             if a not in self.printed and any(b < value for b in self.below[a]):
                 self.printed.add(a)
-                text += b"d,%d\n" % a
+                text += b"".join(b"%s,%d\n" % (name, a) for name in DISTINCT_NAMES)
         return text
 
     def of_stream_s(self, a, b):
@@ -70,7 +76,7 @@ class Answers:
         text += b"j,%d\n" % a * self.seen["T"][a]
         if a not in self.printed and any(b < c for c in self.seen["T"]):
             self.printed.add(a)
-            text += b"d,%d\n" % a
+            text += b"".join(b"%s,%d\n" % (name, a) for name in DISTINCT_NAMES)
         return text
 
 

@@ -2,13 +2,18 @@
 
 The answers to a row are the nested product over the rows kept, filtered and projected. Equal
 rows are kept once with a count. The only thing left out is want of memory.
+
+A query that goes on from a checkpoint has no rows from before it. Its answers are those of cells: those
+that the checkpoint names, merged with those of the rows since.
 """
 import operator
 from collections import Counter
 
 import analysis
 import language
-from language import CreateQuery, CreateStream, Explain, Refused
+from language import (RESUMES, Checkpoint, CreateQuery, CreateStream, Explain, Refused, ResumeCell,
+                      ResumeGiven, ResumeRows)
+from synopsis import Synopsis
 
 MOST_STREAMS = 16
 MOST_QUERIES = 64
@@ -46,7 +51,8 @@ def resolve(statement, streams, domains):
     query = analysis.Query(statement.distinct, len(statement.streams), select, atoms)
     named = sorted(set(select).union(analysis.attributes_of(query)))
     ends = [(it, domains[statement.streams[it[0]]][it[1]]) for it in named]
-    return query._replace(domains=tuple((it, *domain) for it, domain in ends if domain))
+    return query._replace(domains=tuple((it, *domain) for it, domain in ends if domain),
+                          compact=statement.compact)
 
 
 def verdict_on(query, shared=False):
@@ -61,17 +67,68 @@ def verdict_on(query, shared=False):
 
 
 class LiveQuery:
-    """An accepted query with its rows."""
+    """An accepted query with its rows, and what it goes on from where lines of a checkpoint said so."""
 
     def __init__(self, statement, query, found):
         self.statement, self.query, self.found = statement, query, found
         verdict = found.verdict
-        self.pages = 0 if verdict[0] == "filter" else analysis.pages_of(verdict[2])
+        self.pages = 0 if self.is_filter() else analysis.pages_of(verdict[2])
         named = set(query.select) | set(analysis.attributes_of(query))
         # per place of FROM the columns that the query names, and the rows by these with counts
         self.columns = [sorted(c for p, c in named if p == place) for place in range(query.places)]
         self.rows = [Counter() for _ in range(query.places)]
         self.printed = set()
+        # the cells before all rows, those of now, and how many rows were given before and since
+        self.base = self.running = None
+        self.given_before = self.given_since = 0
+
+    def is_filter(self):
+        return self.found.verdict[0] == "filter"
+
+    def new_synopsis(self):
+        return Synopsis(self.query, self.found.parts, self.statement.shared)
+
+    def resume(self, line, rows_taken):
+        """Takes a line of a checkpoint about this query; Refused where it cannot be."""
+        if self.base is None and not self.is_filter():
+            self.base = self.new_synopsis()
+            self.base.printed = self.printed
+        if isinstance(line, ResumeGiven):
+            taken = 0 <= line.rows <= rows_taken and not self.given_before
+            self.given_before = line.rows if taken else self.given_before
+        elif isinstance(line, ResumeCell):
+            taken = self.base is not None and self.base.load(line.index, line.content, self.given_before)
+        else:
+            if len(line.values) != len(self.query.select):
+                raise Refused("Arity")
+            taken = self.base is not None and self.base.load_tuple(line.values)
+        if not taken:
+            raise Refused("Value")
+
+    def cells_now(self):
+        """The cells of the base merged with those of the rows since."""
+        since = self.new_synopsis()
+        for place, rows in enumerate(self.rows):
+            for row, times in rows.items():
+                since.take(place, {(place, c): v for c, v in zip(self.columns[place], row)}, times)
+        return since if self.base is None else self.base.merged(since)
+
+    def checkpoint(self):
+        """The lines of a checkpoint that say what this query goes on from."""
+        name = self.statement.name
+        lines = [b"RESUME %s AS %d" % (name, self.given_before + self.given_since)]
+        if not self.is_filter():
+            lines += [b"RESUME %s FROM %d %d" % (name, *it) for it in self.cells_now().numbered()]
+        lines += [b"RESUME %s SELECT %s" % (name, b" ".join(b"%d" % value for value in it))
+                  for it in sorted(self.printed)]
+        return lines
+
+    def from_cells(self, place, row):
+        """The new answers to a row by the cells of now, which begin as those of the base."""
+        if self.running is None:
+            self.running = self.base.merged(self.new_synopsis())
+            self.running.printed = self.printed
+        return self.running.answers(place, row)
 
     def atoms_by_step(self, order):
         """For each step of a product in this order, the atoms that can be tried from then on."""
@@ -97,17 +154,21 @@ class LiveQuery:
 
     def answers(self, stream, row):
         """The new answers that a row gives, ascending; the row is kept."""
+        self.given_since += 1
         if stream not in self.statement.streams:
             return []
         place = self.statement.streams.index(stream)
         kept = tuple(row[c] for c in self.columns[place])
+        if self.base is not None:
+            self.rows[place][kept] += 1
+            return self.from_cells(place, row)
         chosen = list(self.rows)
         chosen[place] = Counter([kept])
         order = [place] + [it for it in range(self.query.places) if it != place]
         found = Counter()
         for values, count in self.combine(order, chosen):
             found[tuple(values[it] for it in self.query.select)] += count
-        if self.found.verdict[0] != "filter":
+        if not self.is_filter():
             self.rows[place][kept] += 1
         if not self.query.distinct:
             return sorted(found.elements())
@@ -125,6 +186,8 @@ class Session:
         self.streams, self.domains = {}, {}
         self.queries = {}
         self.rows_taken = self.line_number = 0
+        # whether a row line was taken: from then on no line of a checkpoint is
+        self.began = False
 
     def reply(self, line):
         self.line_number += 1
@@ -146,8 +209,14 @@ class Session:
             return self.create_stream(statement)
         if isinstance(statement, CreateQuery):
             return self.create_query(statement)
+        if isinstance(statement, Checkpoint):
+            return b"".join(it + b"\n" for it in self.checkpoint())
+        if isinstance(statement, ResumeRows):
+            return self.resume_rows(statement.rows)
         if statement.name not in self.queries:
             raise Refused("UnknownQuery")
+        if isinstance(statement, RESUMES):
+            return self.resume(statement)
         if isinstance(statement, Explain):
             return self.explain(statement.name)
         del self.queries[statement.name]
@@ -156,12 +225,39 @@ class Session:
     def take_row(self, stream, row):
         if self.rows_taken >= self.most_rows:
             raise Refused("RowLimit")
+        self.began = True
         self.rows_taken += 1
         lines = []
         for name, live in self.queries.items():
             lines += [b",".join((name, *(b"%d" % it for it in values))) + b"\n"
                       for values in live.answers(stream, row)]
         return b"".join(lines)
+
+    def resume_rows(self, rows):
+        """Takes over how many rows were taken before."""
+        if self.began or self.rows_taken:
+            raise Refused("Late")
+        if rows < 0:
+            raise Refused("Value")
+        if rows > self.most_rows:
+            raise Refused("RowLimit")
+        self.rows_taken = rows
+        return b""
+
+    def resume(self, line):
+        """Takes over what a query knew before."""
+        if self.began:
+            raise Refused("Late")
+        self.queries[line.name].resume(line, self.rows_taken)
+        return b""
+
+    def checkpoint(self):
+        """The lines from which a fresh session goes on."""
+        streams = [language.print_statement(CreateStream(name, columns, self.domains[name]))
+                   for name, columns in self.streams.items()]
+        lives = self.queries.values()
+        return [*streams, *(language.print_line(it.statement) for it in lives),
+                b"RESUME %d" % self.rows_taken, *(line for it in lives for line in it.checkpoint())]
 
     def create_stream(self, statement):
         columns = statement.columns

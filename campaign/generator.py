@@ -1,15 +1,15 @@
 """Random scripts. The writer asks the evaluator for the reply to each line that it writes.
 
 So it knows which queries live, and drops those whose answers become too many. What share of the
-inequalities is soft, what share of the columns has a domain, and what share of the queries is shared,
-the environment sets; with a share of 0 none is or has, and scripts are made without a thought of
-them.
+inequalities is soft, what share of the columns has a domain, what share of the queries is shared or
+compact, and what share of the scripts has lines about checkpoints, the environment sets; with a share of
+0 none is or has, and scripts are made without a thought of them.
 """
 import re
 
 from evaluator import Session
-from language import (DOMAIN_SHARE, GREATEST_VALUE, LARGEST_INTEGER, LEAST_VALUE, MOST_SOFT,
-                      SHARED_SHARE, SOFT_SHARE)
+from language import (CHECKPOINT_SHARE, COMPACT_SHARE, DOMAIN_SHARE, GREATEST_VALUE, LARGEST_INTEGER,
+                      LEAST_VALUE, MOST_SOFT, SHARED_SHARE, SOFT_SHARE)
 
 MOST_ANSWER_BYTES = 4000
 STREAM_NAMES = [b"S", b"T", b"U", b"W", b"R", b"L", b"s", b"_x", b"temp_1", b"reading", b"Q1", b"Zz",
@@ -25,7 +25,7 @@ LINES = [b"", b"   ", b"\t", b"-- nothing", b"  -- S,1", b"--", b"-", b"- -", b"
          b"CREATE QUERY q AS SELECT", b"DROP q", b"DROP QUERY", b"EXPLAIN", b"SELECT,1", b"resume,1",
          b"x" * 1024, b"x" * 1025, b"-- " + b"y" * 1021, b"-- " + b"y" * 1022, b"S," + b"1" * 1022,
          b"S," + b"0" * 1023, b" " * 1024, b" " * 1025, b"create stream K (a);;", b"\r", b" \r", b"\r\r",
-         b"CHECKPOINT", b"RESUME 1", b"CREATE STREAM i (a IN 1 TO 5)", b"drop query nobody", b"nobody,1",
+         b"CHECKPOINT q", b"RESUME x", b"CREATE STREAM i (a IN 1 TO 5)", b"drop query nobody", b"nobody,1",
          b"n" * 25 + b",1", b"CREATE STREAM " + b"n" * 25 + b" (a)", b"\xef\xbb\xbfS,1", b"S\x00,1"]
 COMPARISON = re.compile(rb" ([<=>]) ")
 SOFTER = {b"<": [b"<=", b"<=", b"<>"], b">": [b">=", b">=", b"<>"], b"=": [b"<=", b">=", b"<>"]}
@@ -58,6 +58,29 @@ SHARED_LINES = [b"CREATE SHARED", b"CREATE SHARED QUERY", b"CREATE SHARED QUERY 
                 b"CREATE SHARED QUERY q AS SELECT SHARED.a FROM SHARED", b"CREATE SHARED AS QUERY",
                 b"CREATE QUERY q SHARED AS SELECT S.a FROM S", b"CREATE SHARED, QUERY q AS SELECT S.a FROM S",
                 b"CREATE QUERY q AS SHARED SELECT S.a FROM S", b"CREATE SHARED q AS SELECT S.a FROM S"]
+COMPACT_LINES = [b"CREATE COMPACT", b"CREATE COMPACT QUERY", b"CREATE COMPACT QUERY q", b"compact,1",
+                 b"CREATE COMPACT STREAM K (a)", b"CREATE STREAM COMPACT (a)", b"CREATE STREAM K (compact)",
+                 b"CREATE COMPACT COMPACT QUERY q AS SELECT S.a FROM S", b"DROP COMPACT QUERY q",
+                 b"CREATE COMPACT SHARED QUERY q AS SELECT S.a FROM S", b"EXPLAIN COMPACT q", b"COMPACT",
+                 b"CREATE QUERY COMPACT q AS SELECT S.a FROM S", b"EXPLAIN compact", b"DROP QUERY compact",
+                 b"CREATE QUERY compact AS SELECT S.a FROM S", b"COMPACT QUERY q AS SELECT S.a FROM S",
+                 b"CREATE COMPACT QUERY compact AS SELECT S.a FROM S", b"CREATE COMPACTQUERY q AS SELECT S.a FROM S",
+                 b"CREATE COMPACT QUERY c AS SELECT Compact.a FROM Compact", b"CREATE COMPACT AS QUERY",
+                 b"CREATE QUERY q COMPACT AS SELECT S.a FROM S", b"CREATE STREAM compact (compact, a)",
+                 b"CREATE COMPACT, QUERY q AS SELECT S.a FROM S", b"CREATE COMPACT q AS SELECT S.a FROM S",
+                 b"CREATE COMPACT QUERY c AS SELECT compact.compact FROM compact WHERE compact.compact > 1",
+                 b"CREATE COMPACTED QUERY q AS SELECT S.a FROM S", b"CREATE SHARED COMPACT STREAM K (a)"]
+COMPACT_FORMS = [b"COMPACT"] * 6 + [b"compact", b"Compact", b"cOMPACT"]
+CHECKPOINT_LINES = [b"CHECKPOINT", b"checkpoint;", b"CHECKPOINT q", b"CHECKPOINT;;", b"checkpoint,1", b"RESUME",
+                    b"RESUME 0", b"RESUME 3", b"RESUME -1", b"RESUME 1 2", b"RESUME q", b"RESUME q AS", b"RESUME q 1",
+                    b"RESUME q AS 0", b"RESUME q AS 1;", b"resume q as -1", b"RESUME q FROM 0 1",
+                    b"RESUME q FROM 0", b"RESUME q FROM 0 1 2", b"RESUME q FROM -1 1", b"RESUME q SELECT",
+                    b"RESUME q SELECT 1", b"RESUME q SELECT 1 2", b"RESUME q SELECT 1, 2", b"RESUME q SELECT a",
+                    b"RESUME q SELECT 1 2 3 4 5 6 7 8", b"RESUME q SELECT 1 2 3 4 5 6 7 8 9",
+                    b"RESUME q SELECT 9223372036854775808", b"RESUME q FROM 0 -9223372036854775809",
+                    b"RESUME 9223372036854775807", b"RESUME 9223372036854775808", b"RESUME 2000000000000",
+                    b"RESUME nobody AS 1", b"RESUME nobody FROM 0 1", b"RESUME nobody SELECT 1 2 3",
+                    b"RESUME " + b"n" * 25 + b" AS 1", b"RESUME select AS 1", b"RESUME q AS SELECT 1"]
 SHARED_FORMS = [b"SHARED"] * 6 + [b"shared", b"Shared", b"sHARed"]
 # a domain as it is printed, and as it may be written besides
 DOMAIN_FORMS = [b" IN %d..%d"] * 6 + [b" IN %d .. %d", b" in %d. .%d", b" In\t%d . . %d",
@@ -74,6 +97,8 @@ class Writer:
         self.random = random
         self.session = Session(most_rows) if most_rows else Session()
         self.lines, self.replies = [], []
+        # whether this script has lines about checkpoints
+        self.about_checkpoints = bool(CHECKPOINT_SHARE) and self.chance(CHECKPOINT_SHARE)
 
     def write(self, line):
         reply = self.session.reply(line)
@@ -239,19 +264,52 @@ class Writer:
             right = b"%d" % self.random.choice([-5, 0, 1, 4, 999999999999999])
         return left + b" " + self.random.choice([b"<", b"=", b">"]) + b" " + right
 
+    def keyed_query(self):
+        """A join by a key, with columns compared that have nothing to do with it; its columns are of
+        several groups. None where the streams have too few columns.
+        """
+        streams = [it for it, columns in self.session.streams.items() if len(columns) > 1]
+        if len(streams) < 2:
+            return None
+        chosen = self.random.sample(streams, min(len(streams), self.random.choice([2, 2, 2, 3])))
+        named = {it: self.random.sample(self.columns_of(it), 2) for it in chosen}
+        low = self.random.randint(-1, 2)
+        select, atoms = [named[chosen[0]][0]], self.bound(named[chosen[0]][0], low, self.random.choice([2, 3, 5]))
+        for one, other in zip(chosen, chosen[1:]):
+            atoms.append(named[one][0] + b" = " + named[other][0])
+            if self.chance(0.8):
+                operator = self.random.choice([b" < ", b" < ", b" > ", b" > ", b" = "])
+                atoms.append(named[one][1] + operator + named[other][1])
+        for stream in chosen:
+            if self.chance(0.35):
+                atoms += self.bound(named[stream][1], self.random.randint(0, 9), self.random.choice([1, 4]))
+            if self.chance(0.2):
+                select.append(self.random.choice(named[stream]))
+        if self.chance(0.2):
+            atoms.append(self.any_atom(chosen))
+        atoms = self.softened(atoms)
+        self.random.shuffle(atoms)
+        distinct = b"DISTINCT " if self.chance(0.6) else b""
+        text = b"SELECT " + distinct + b", ".join(select) + b" FROM " + b", ".join(chosen)
+        return text + b" WHERE " + b" AND ".join(atoms)
+
     def query(self, name=None, text=None):
         name = name or self.random.choice(QUERY_NAMES[:8])
+        if not text and COMPACT_SHARE and self.chance(COMPACT_SHARE / 2):
+            text = self.keyed_query()
         text = text or self.query_text()
         if self.chance(0.03):
             text = self.spoiled(text)
         return self.statement(self.created(name, text))
 
     def created(self, name, text):
-        """The statement that creates a query, shared or not."""
-        word = b""
+        """The statement that creates a query, shared or not, compact or not."""
+        words = b""
         if SHARED_SHARE and self.chance(SHARED_SHARE):
-            word = self.random.choice(SHARED_FORMS) + b" "
-        return b"CREATE " + word + b"QUERY " + name + b" AS " + text
+            words = self.random.choice(SHARED_FORMS) + b" "
+        if COMPACT_SHARE and self.chance(COMPACT_SHARE):
+            words += self.random.choice(COMPACT_FORMS) + b" "
+        return b"CREATE " + words + b"QUERY " + name + b" AS " + text
 
     def spoiled(self, text):
         """A query with a fault of its own kind."""
@@ -301,6 +359,9 @@ class Writer:
 
     def hostile(self):
         lines = LINES + (DOMAIN_LINES if DOMAIN_SHARE else []) + (SHARED_LINES if SHARED_SHARE else [])
+        lines = lines + (COMPACT_LINES if COMPACT_SHARE else [])
+        if CHECKPOINT_SHARE and self.about_checkpoints:
+            lines = lines + CHECKPOINT_LINES
         self.write(self.spaced(self.random.choice(lines)))
 
     # whole scripts

@@ -5,7 +5,10 @@ Everything here works on bytes. A statement that is refused raises Refused with 
 The comparisons `<=`, `>=` and `<>` are called soft. CAMPAIGN_SOFT in the environment is the share
 of them in random queries. A column may have a domain, the integers from one to another, and a row
 outside it is refused. CAMPAIGN_DOMAINS is the share of columns with a domain in random streams. A
-query may be shared. CAMPAIGN_SHARED is the share of such ones among random queries.
+query may be shared. CAMPAIGN_SHARED is the share of such ones among random queries. It may be
+compact: the word COMPACT is no reserved one, and is known before QUERY alone. CAMPAIGN_COMPACT is the
+share of such ones. A session may be asked for a checkpoint and go on from one. CAMPAIGN_CHECKPOINTS is
+the share of random scripts in which that is done.
 """
 import os
 import re
@@ -30,6 +33,10 @@ SOFT_SHARE = float(os.environ.get("CAMPAIGN_SOFT") or 0.4)
 DOMAIN_SHARE = float(os.environ.get("CAMPAIGN_DOMAINS") or 0.4)
 # the share of the random queries that are shared; with 0 none is, and no random line says so
 SHARED_SHARE = float(os.environ.get("CAMPAIGN_SHARED") or 0.4)
+# the share of the random queries that are compact; with 0 none is, and no random line says so
+COMPACT_SHARE = float(os.environ.get("CAMPAIGN_COMPACT") or 0.3)
+# the share of the random scripts with lines about checkpoints; with 0 none has any
+CHECKPOINT_SHARE = float(os.environ.get("CAMPAIGN_CHECKPOINTS") or 0.3)
 HARD_OPERATORS = ("<", "=", ">")
 SOFT_OPERATORS = ("<=", ">=", "<>")
 OPERATORS = HARD_OPERATORS + SOFT_OPERATORS
@@ -38,6 +45,7 @@ RESERVED = {
     b"CREATE", b"STREAM", b"QUERY", b"AS", b"SELECT", b"DISTINCT", b"FROM", b"WHERE", b"AND",
     b"EXPLAIN", b"DROP", b"IN", b"SHARED", b"CHECKPOINT", b"RESUME",
 }
+RESERVED_WORDS = {it.decode() for it in RESERVED}
 # the longest token first
 MARK = b"|".join([it.encode() for it in SOFT_OPERATORS] + [rb"[,.()<=>;]"])
 TOKEN = re.compile(rb"[ \t]*(?:([A-Za-z_][A-Za-z0-9_]*)|([+-]?[0-9]+)|(" + MARK + rb"))")
@@ -46,9 +54,17 @@ VALUE = re.compile(rb"[+-]?[0-9]+\Z")
 
 # The domains stand beside the columns: each a pair of integers, or None.
 CreateStream = namedtuple("CreateStream", "name columns domains")
-CreateQuery = namedtuple("CreateQuery", "name distinct select streams atoms shared", defaults=[False])
+CreateQuery = namedtuple("CreateQuery", "name distinct select streams atoms shared compact",
+                         defaults=[False, False])
 Explain = namedtuple("Explain", "name")
 DropQuery = namedtuple("DropQuery", "name")
+Checkpoint = namedtuple("Checkpoint", "")
+# What a session goes on from: rows taken, and of a query rows given, a cell or a printed tuple.
+ResumeRows = namedtuple("ResumeRows", "rows")
+ResumeGiven = namedtuple("ResumeGiven", "name rows")
+ResumeCell = namedtuple("ResumeCell", "name index content")
+ResumeTuple = namedtuple("ResumeTuple", "name values")
+RESUMES = ResumeRows, ResumeGiven, ResumeCell, ResumeTuple
 # A column is a pair of names; an operand is such a pair or an integer.
 Atom = namedtuple("Atom", "left operator right")
 
@@ -125,6 +141,13 @@ class Reader:
         self.place += 1
         return True
 
+    def takes_word(self, word):
+        """Takes the next token where it is a name that spells a word in any letters, and says so."""
+        if self.kind() != "name" or self.tokens[self.place][1].upper() != word:
+            return False
+        self.place += 1
+        return True
+
     def list_of(self, item, separator):
         """One or more items with separators between them."""
         items = [item()]
@@ -173,6 +196,7 @@ def read_stream(reader):
 
 def read_query(reader):
     shared = reader.takes("SHARED")
+    compact = reader.takes_word(b"COMPACT")
     reader.take("QUERY")
     name = reader.name()
     reader.take("AS")
@@ -182,7 +206,24 @@ def read_query(reader):
     reader.take("FROM")
     streams = reader.list_of(reader.name, ",")
     atoms = reader.list_of(reader.atom, "AND") if reader.takes("WHERE") else []
-    return CreateQuery(name, distinct, select, streams, atoms, shared)
+    return CreateQuery(name, distinct, select, streams, atoms, shared, compact)
+
+
+def read_resume(reader):
+    """A line of a checkpoint that no CREATE line is, after its first word."""
+    if reader.kind() == "integer":
+        return ResumeRows(int(reader.take("integer")))
+    name = reader.name()
+    if reader.takes("AS"):
+        return ResumeGiven(name, int(reader.take("integer")))
+    if reader.takes("FROM"):
+        index = int(reader.take("integer"))
+        return ResumeCell(name, index, int(reader.take("integer")))
+    reader.take("SELECT")
+    values = [int(reader.take("integer"))]
+    while reader.kind() == "integer":
+        values.append(int(reader.take("integer")))
+    return ResumeTuple(name, tuple(values))
 
 
 def read_statement(reader):
@@ -191,6 +232,10 @@ def read_statement(reader):
         statement = read_stream(reader) if reader.kind() == "STREAM" else read_query(reader)
     elif reader.takes("EXPLAIN"):
         statement = Explain(reader.name())
+    elif reader.takes("CHECKPOINT"):
+        statement = Checkpoint()
+    elif reader.takes("RESUME"):
+        statement = read_resume(reader)
     else:
         reader.take("DROP")
         reader.take("QUERY")
@@ -222,6 +267,16 @@ def stream_passes_limit(stream):
             or any(low > high for low, high in domains))
 
 
+def resume_passes_limit(resume):
+    """Whether a line of a checkpoint has too many integers, or one that is not of 64 bits."""
+    if isinstance(resume, ResumeTuple):
+        integers = resume.values
+    else:
+        integers = [it for it in resume if isinstance(it, int)]
+    return (len(integers) > MOST_SELECTED
+            or not all(LEAST_VALUE <= it <= GREATEST_VALUE for it in integers))
+
+
 def parse(stripped):
     """The statement that a stripped line spells; Refused with Syntax or Limit."""
     tokens = tokens_of(stripped)
@@ -231,6 +286,8 @@ def parse(stripped):
     if isinstance(statement, CreateStream) and stream_passes_limit(statement):
         raise Refused("Limit")
     if isinstance(statement, CreateQuery) and query_passes_limit(statement):
+        raise Refused("Limit")
+    if isinstance(statement, RESUMES) and resume_passes_limit(statement):
         raise Refused("Limit")
     return statement
 
@@ -292,5 +349,26 @@ def print_statement(statement):
     if isinstance(statement, CreateStream):
         columns = b", ".join(map(print_column, statement.columns, statement.domains))
         return b"CREATE STREAM " + statement.name + b" (" + columns + b")"
-    words = b"CREATE SHARED QUERY " if statement.shared else b"CREATE QUERY "
-    return words + statement.name + b" AS " + print_select(statement)
+    words = b"CREATE " + b"SHARED " * statement.shared + b"COMPACT " * statement.compact
+    return words + b"QUERY " + statement.name + b" AS " + print_select(statement)
+
+
+def print_short(statement):
+    """The short form of a CREATE statement: a space stands between two words, and between a word and
+    an integer that begins with a digit, alone.
+    """
+    text, was_word = b"", False
+    for kind, token in tokens_of(print_statement(statement)):
+        is_word = kind == "name" or kind in RESERVED_WORDS
+        if was_word and (is_word or (kind == "integer" and token[:1].isdigit())):
+            text += b" "
+        text, was_word = text + token, is_word
+    return text
+
+
+def print_line(statement):
+    """The line of a checkpoint that creates a query: the printed form, or the short one where the
+    printed one is too long for a line.
+    """
+    printed = print_statement(statement)
+    return printed if len(printed) <= LONGEST_LINE else print_short(statement)

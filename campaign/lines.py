@@ -5,14 +5,15 @@ and marks at random. At the end known rows must still be answered rightly.
 """
 from common import Part, compare, scaled
 from evaluator import Session
-from generator import DOMAIN_LINES, QUERY_NAMES, SHARED_LINES, Writer
-from language import DOMAIN_SHARE, SHARED_SHARE
+from generator import (CHECKPOINT_LINES, COMPACT_LINES, DOMAIN_LINES, QUERY_NAMES, SHARED_LINES,
+                       Writer)
+from language import CHECKPOINT_SHARE, COMPACT_SHARE, DOMAIN_SHARE, SHARED_SHARE
 
 SCRIPTS = 600
 LENGTH = 120
 TELLING = b"\t \r,;.()<=>+-0159azAZ_\"'*/\\\x00\x0b\x0c\x1b\x7f\x80\xa0\xff"
 WORDS = [b"CREATE", b"STREAM", b"QUERY", b"AS", b"SELECT", b"DISTINCT", b"FROM", b"WHERE", b"AND",
-         b"EXPLAIN", b"DROP", b"in", b"shared", b"checkpoint", b"resume", b"S", b"T", b"a", b"b", b"q",
+         b"EXPLAIN", b"DROP", b"in", b"shared", b"S", b"T", b"a", b"b", b"q",
          b"p", b"Create", b"seLECT", b"n" * 24, b"n" * 25, b"0", b"-1", b"+7", b"999999999999999",
          b"1000000000000000", b"-999999999999999", b",", b".", b"(", b")", b"<", b"=", b">", b";",
          b"S.a", b"T.b", b"--", b"-", b"+", b" ", b"\t", b"\r", b"x", b"'", b"\xc3\xa9", b"1a", b"a1", b"<=", b">=", b"<>"]
@@ -50,6 +51,19 @@ if SHARED_SHARE:
                b"CREATE # QUERY q AS SELECT S.a FROM S", *SHARED_LINES]
     KNOWN += SHARED_HEAD
     TAIL += SHARED_TAIL
+# with compact queries a known one more, whose streams are compared by two groups of columns
+COMPACT_HEAD = [b"CREATE STREAM limit (a, most)",
+                b"CREATE COMPACT QUERY k6 AS SELECT DISTINCT known.a FROM known, limit WHERE known.a = limit.a "
+                b"AND known.b > limit.most AND known.a > 0 AND known.a < 9"]
+COMPACT_TAIL = [b"limit,5,70", b"known,5,70", b"known,5,71", b"known,5,99", b"EXPLAIN k6"]
+if COMPACT_SHARE:
+    WORDS += [b"COMPACT", b"Compact", b"COMPACT QUERY", b"SHARED COMPACT"]
+    SHAPES += [b"CREATE COMPACT QUERY # AS SELECT DISTINCT S.a FROM S # WHERE S.a # # AND S.a < 3 #", *COMPACT_LINES]
+    KNOWN += COMPACT_HEAD
+    TAIL += COMPACT_TAIL
+if CHECKPOINT_SHARE:
+    WORDS += [b"CHECKPOINT", b"checkpoint", b"RESUME", b"resume", b"RESUME q"]
+    SHAPES += [b"RESUME # #", b"RESUME # AS #", b"RESUME # FROM # #", b"RESUME # SELECT # #", *CHECKPOINT_LINES]
 
 
 def changed(random, line):

@@ -15,7 +15,7 @@ import checker
 import refused
 from common import Part, compare, run as run_program, scaled
 from evaluator import LiveQuery
-from language import GREATEST_VALUE, LEAST_VALUE, Refused, lies_in
+from language import COMPACT_SHARE, GREATEST_VALUE, LEAST_VALUE, Refused, lies_in
 
 FAMILIES = 1000
 SIZES = range(1, 13)
@@ -177,6 +177,7 @@ def judge(part, program, text, size):
     part.count(f"families by {failure[1]}")
     output, status, noise = run_program(program, list(words), text)
     part.count("with a domain", int(bool(script.query.domains)))
+    part.count("compact", int(script.query.compact))
     named = script.session.column_name(script.statement.streams, failure[2])
     head, *lines = output.split(b"\n")
     try:
@@ -198,7 +199,8 @@ def judge(part, program, text, size):
 # scripts
 
 def script_of(query, domains):
-    query_line = b"CREATE QUERY q AS " + refused.query_text(query)
+    words = b"CREATE COMPACT QUERY q AS " if query.compact else b"CREATE QUERY q AS "
+    query_line = words + refused.query_text(query)
     return b"\n".join([*refused.streams_with(domains), query_line]) + b"\n"
 
 
@@ -211,7 +213,7 @@ def random_query(part):
 
         atoms = tuple((first(left), op, first(right)) for left, op, right in query.atoms)
         query = query._replace(places=1, select=tuple(map(first, query.select)), atoms=atoms)
-    return query
+    return query._replace(compact=bool(COMPACT_SHARE) and part.random.random() < COMPACT_SHARE)
 
 
 def is_taken(query):

@@ -2,7 +2,8 @@
 
 The checker must take certificates of the campaign's own making, and say nothing wrong of changed
 ones. An evaluator over cells must answer each row as the evaluator over rows does, and so must one
-over shared cells; at the end the cells of each part and stream must be those of their box.
+over shared cells; at the end the cells of each part and stream must be those of their box. The cells of
+the rows up to a place, merged with those of the rows from there on, must be those of all rows.
 """
 import operator
 
@@ -83,17 +84,24 @@ def compare_over_cells(part, writer, live):
     most = [analysis.cells_of(query, parts, it) for it in (False, True)]
     count_over_cells(part, live, most)
     streams = live.statement.streams
-    for _ in range(ROWS_OVER_CELLS):
+    halves = [[Synopsis(query, parts, it) for _ in range(2)] for it in (False, True)]
+    for number in range(ROWS_OVER_CELLS):
         stream = writer.random.choice(streams)
         row = [writer.number_in(it, -3, 9) for it in writer.session.domains[stream]]
-        wanted = live.answers(stream, row)
+        place, wanted = streams.index(stream), live.answers(stream, row)
+        for first, second in halves:
+            (first if number < ROWS_OVER_CELLS / 3 else second).take(
+                place, {(place, column): value for column, value in enumerate(row)})
         part.count("answers over cells", len(wanted))
-        if any(it.answers(streams.index(stream), row) != wanted for it in (apart, shared)):
+        if any(it.answers(place, row) != wanted for it in (apart, shared)):
             part.differs(f"cells answer {stream},{row} otherwise: "
                          f"{language.print_statement(live.statement)}")
             return
     if any(apart.kept(*it) != shared.kept(*it) for it in apart.boxes):
         part.differs(f"shared cells keep something else: {language.print_statement(live.statement)}")
+    if any(one.merged(other).numbered() != whole.numbered()
+           for (one, other), whole in zip(halves, (apart, shared))):
+        part.differs(f"cells merge to something else: {language.print_statement(live.statement)}")
     used = [it.in_use() for it in (apart, shared)]
     if any(map(operator.gt, used, most)) or len(apart.printed) > live.found.verdict[3]:
         part.differs(f"too many cells or answers: {language.print_statement(live.statement)}")
@@ -105,6 +113,7 @@ def count_over_cells(part, live, most):
     part.count("of them with fewer cells where they are shared", int(most[1] < most[0]))
     part.count("with an extreme", int(any(any(it.extremes) for it in live.found.parts)))
     part.count("with a domain", int(bool(live.query.domains)))
+    part.count("compact", int(live.query.compact))
     part.count("with a soft comparison between streams", int(any(
         not analysis.is_local(it, it[0][0]) for it in analysis.soft_pairs(live.query))))
 

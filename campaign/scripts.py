@@ -73,6 +73,7 @@ def count_queries(part):
         part.count("shared", int(shared))
         part.count("with fewer cells", int(shared and has_equal_boxes(query, found)))
         part.count("with a domain", int(bool(query.domains)))
+        part.count("compact", int(query.compact))
         soft = bool(analysis.soft_atoms(query))
         part.count("with a soft comparison", int(soft))
         part.count("with both", int(soft and bool(query.domains)))

@@ -34,6 +34,7 @@ def count_queries(part, session):
         domains, soft = bool(live.query.domains), bool(analysis.soft_atoms(live.query))
         part.count("live queries")
         part.count("with a domain", int(domains))
+        part.count("compact", int(live.query.compact))
         part.count("with a soft comparison", int(soft))
         part.count("with both", int(domains and soft))
 

@@ -13,6 +13,7 @@ import analysis
 import language
 from common import Part, run as run_program, scaled
 from generator import Writer
+from language import COMPACT_SHARE
 
 SCRIPTS = 700
 ROWS = 40
@@ -168,7 +169,8 @@ def one_query(part):
         writer.stream(3)
     text = writer.extreme_query() if extreme else writer.query_text()
     try:
-        statement = language.parse(b"CREATE QUERY whole AS " + text)
+        word = b"COMPACT " if COMPACT_SHARE and writer.chance(COMPACT_SHARE) else b""
+        statement = language.parse(b"CREATE " + word + b"QUERY whole AS " + text)
         query = writer.session.resolve(statement)
     except language.Refused:
         return None
@@ -192,6 +194,7 @@ def run(program, seed, scale):
         part.count("queries" if told else "queries that pass a limit")
         part.count("queries without soft comparisons", len(split.choices))
         part.count("accepted", int(b"whole" in split.session.queries))
+        part.count("compact", int(split.query.compact))
         if fault:
             printed = language.print_statement(split.statement)
             part.differs(f"{fault}: {printed!r}", split.text())

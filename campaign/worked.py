@@ -102,6 +102,7 @@ def try_enumeration(part, scale):
         query = enumeration.random_query(part.random)
         part.count("queries by enumeration")
         part.count("with a domain", int(bool(query.domains)))
+        part.count("compact", int(query.compact))
         fault = enumeration.fault_of(query)
         if fault:
             part.differs(f"the analysis differs from enumeration: {fault} of {query}")

@@ -6,6 +6,8 @@ endif
 syntax case ignore
 syntax keyword bqStatement CREATE STREAM QUERY EXPLAIN DROP CHECKPOINT RESUME
 syntax keyword bqClause AS SELECT DISTINCT FROM WHERE AND IN SHARED
+" known before QUERY alone; elsewhere it is a name
+syntax match bqCompact /\<COMPACT\ze\s\+QUERY\>/
 syntax case match
 
 " the word before a comma at the front of a line is the stream of a row
@@ -21,6 +23,7 @@ syntax match bqFault /==\|=<\|=>\|!=\|<<\|>>\|["'`*/%&|!]/
 
 highlight default link bqStatement Statement
 highlight default link bqClause Keyword
+highlight default link bqCompact Keyword
 highlight default link bqRow Type
 highlight default link bqNumber Number
 highlight default link bqOperator Operator

@@ -1,0 +1,145 @@
+"""Compact queries: a query answers the same whether it is compact or not, and shared or not.
+
+Each random query is created four times in one session: as it is, shared, compact, and both. The output
+is compared with the evaluator's. Then the answers to each row are compared among those of the four that
+were accepted. A query whose columns are all of one group is the same either way: decision, numbers and
+plan too.
+"""
+import re
+from collections import namedtuple
+
+import analysis
+import evaluator
+import language
+from common import Part, fault_of, run as run_program, scaled
+from evaluator import session_text
+from generator import Writer
+from language import COMPACT_SHARE, Refused
+
+SCRIPTS = 1500
+ROWS = [10, 15, 25, 40]
+FORMS = {b"p": b"", b"s": b"SHARED ", b"c": b"COMPACT ", b"b": b"SHARED COMPACT "}
+NUMBERS = re.compile(rb"ok query \w+ parts (\d+) cells (\d+) answers (\d+) work (\d+)\Z")
+COUNTED = ["parts", "cells", "answers", "work"]
+
+Outcome = namedtuple("Outcome", "reply answers plan is_dropped")
+
+
+def write(writer):
+    """Streams, one to three queries in all forms, rows, and EXPLAIN of each; the texts by number."""
+    random, texts = writer.random, []
+    if writer.chance(0.3):
+        writer.extremes(3)
+    while len(writer.session.streams) < random.choice([2, 3]):
+        writer.stream(random.choice([2, 3, 4]))
+    for number in range(random.choice([1, 2, 3])):
+        kind = random.random()
+        if b"X" in writer.session.streams and kind < 0.5:
+            text = writer.extreme_query()
+        else:
+            text = (writer.keyed_query() if kind < 0.75 else None) or writer.query_text()
+        texts.append(text)
+        for form, words in FORMS.items():
+            writer.write(b"CREATE " + words + b"QUERY %s%d AS " % (form, number) + text)
+    for _ in range(random.choice(ROWS)):
+        writer.row()
+    for number in range(len(texts)):
+        for form in FORMS:
+            writer.write(b"EXPLAIN %s%d" % (form, number))
+    return texts
+
+
+def outcome_of(lines, name):
+    """What a session said of a query: when it was created, to rows, and when it was explained."""
+    replies = [it for it in lines if it.startswith((b"ok query " + name + b" ", b"refused " + name + b" "))]
+    answers = [it[len(name):] for it in lines if it.startswith(name + b",")]
+    head, end = b"explain " + name, b"end " + name
+    plan = lines[lines.index(head) + 1:lines.index(end)] if head in lines else []
+    return Outcome(replies[0] if replies else b"", answers, plan, b"ok drop " + name in lines)
+
+
+def are_same_answers(one, other):
+    """Whether two forms of a query answered the same as long as both were live."""
+    if one.is_dropped or other.is_dropped:
+        least = min(len(one.answers), len(other.answers))
+        return one.answers[:least] == other.answers[:least]
+    return one.answers == other.answers
+
+
+def query_of(session, text):
+    """A compact query as it is analysed, or None where it is refused before."""
+    try:
+        return session.resolve(language.parse(b"CREATE COMPACT QUERY q AS " + text))
+    except Refused:
+        return None
+
+
+def is_one_group(session, text):
+    """Whether the columns that a query compares are all of one group."""
+    query = query_of(session, text)
+    return query is not None and len({tuple(it.attributes) for it in analysis.groups_of(query).values()}) <= 1
+
+
+def count_numbers(part, plain, compact):
+    """Counts how a query that both forms accept differs in its numbers."""
+    found = [NUMBERS.match(it.reply) for it in (plain, compact)]
+    if not all(found):
+        return
+    for word, one, other in zip(COUNTED, *(it.groups() for it in found)):
+        part.count(f"compact has fewer {word}", int(int(other) < int(one)))
+        part.count(f"more {word}", int(int(other) > int(one)))
+
+
+def judge(part, writer, lines, number, text):
+    """Compares what the forms of one query said; what is wrong, or None."""
+    of = {form: outcome_of(lines, b"%s%d" % (form, number)) for form in FORMS}
+    accepted = {form: it for form, it in of.items() if it.reply.startswith(b"ok")}
+    part.count("queries")
+    part.count("plain and compact accepted", int(b"p" in accepted and b"c" in accepted))
+    part.count("plain alone accepted", int(b"p" in accepted and b"c" not in accepted))
+    part.count("compact alone accepted", int(b"c" in accepted and b"p" not in accepted))
+    if b"p" in accepted and b"c" in accepted:
+        count_numbers(part, of[b"p"], of[b"c"])
+        part.count("answers of each", len(of[b"p"].answers))
+    for one in accepted.values():
+        for other in accepted.values():
+            if not are_same_answers(one, other):
+                return f"{one.reply} and {other.reply} answer differently"
+    if is_one_group(writer.session, text):
+        part.count("of one group")
+        for plain, compact in ((b"p", b"c"), (b"s", b"b")):
+            said = [it.reply.replace(b" %s%d " % (form, number), b" ")
+                    for form, it in ((plain, of[plain]), (compact, of[compact]))]
+            is_whole = not (of[plain].is_dropped or of[compact].is_dropped)
+            if said[0] != said[1] or (is_whole and of[plain].plan != of[compact].plan):
+                return f"one group, and {of[plain].reply} differs from {of[compact].reply}"
+    return None
+
+
+def one_script(part, program):
+    writer = Writer(part.random)
+    texts = write(writer)
+    ran = run_program(program, ["run"], writer.text())
+    part.count("runs")
+    fault = fault_of(ran, session_text(writer.text()))
+    if fault:
+        part.differs(fault, writer.text())
+        return
+    lines = ran[0].split(b"\n")
+    # the pool may take some forms alone; the answers of those that it took are compared all the same
+    for number, text in enumerate(texts):
+        pool = any(it.endswith(b" limit pool") for it in lines)
+        fault = None if pool else judge(part, writer, lines, number, text)
+        part.count("queries with a full pool", int(pool))
+        if fault:
+            part.differs(fault, writer.text())
+
+
+def run(program, seed, scale):
+    part = Part("compact", seed)
+    part.count("runs", 0)
+    for _ in range(scaled(SCRIPTS, scale) if COMPACT_SHARE else 0):
+        # the verdicts of one script are of no use to another
+        evaluator.VERDICTS.clear()
+        one_script(part, program)
+    return part
