@@ -108,7 +108,7 @@ greatest_inside = record { holds = refl; domains = refl; signs = refl }
 
 equality : (x y : Attr) → Named x → Named y → x.stream ≢ y.stream → IsEquality query signs x y
 equality x y n m e = record {
-  across = record { left = is_there x n; right = is_there y m; across = e };
+  across = record { left = is_there x n; right = is_there y m; across = e; group = refl };
   equal = record { equal = λ v i. (let f = facts v i in sym (is_first v f x n) ∙ is_first v f y m) };
 }
 
@@ -155,7 +155,7 @@ not_before b d t_a s_a s l = omega (arith, s)
 not_before b d t_a t_a s l = cc
 
 itself : (a : Attr) → Named a → AreOneClass query signs a a
-itself a n = record { named = inl refl; stream = refl; equal = record { equal = λ v i. refl } }
+itself a n = record { named = inl refl; stream = refl; group = refl; equal = record { equal = λ v i. refl } }
 
 -- what is in the class of an attribute is one
 other_named : (b a : Attr) → Named a → AreOneClass query signs b a → Named b

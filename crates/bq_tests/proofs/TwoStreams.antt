@@ -111,37 +111,37 @@ unfolding pairs
 greatest_inside = record { holds = refl; domains = refl; signs = refl }
 
 -- no element lies between two that differ by one somewhere, and no constant equals one that has two values
-needed : (x y : Element) → value y least ≡ value x least +ℤ pos 1 → value x least ≢ value x greatest → value y least ≢ value y greatest → ¬ IsRedundant query signs x y
+needed : (x y : Attr) → least y ≡ least x +ℤ pos 1 → least x ≢ greatest x → least y ≢ greatest y → ¬ IsRedundant query signs x y
 needed x y e f g (between z h l m) =
-    let l' : value x least <ℤ value z least = l.less least least_inside in
-    let m' : value z least <ℤ value y least = m.less least least_inside in
+    let l' : least x <ℤ value z least = l.less least least_inside in
+    let m' : value z least <ℤ least y = m.less least least_inside in
     omega (arith, ints, e, l', m')
 needed x y e f g (equal_left k h i l) = f (i.equal least least_inside ∙ sym (i.equal greatest greatest_inside))
 needed x y e f g (equal_right k h l i) = g (sym (i.equal least least_inside) ∙ i.equal greatest greatest_inside)
 
 equality : IsEquality query signs (col 0 0) (col 1 0)
 equality = record {
-  across = record { left = is_there _ r_a; right = is_there _ s_a; across = λ e. omega (arith, e) };
+  across = record { left = is_there _ r_a; right = is_there _ s_a; across = λ e. omega (arith, e); group = refl };
   equal = record { equal = λ v i. (facts v i).same };
 }
 
 first_less : IsInequality query signs (col 0 0) (col 1 1)
 first_less = record {
-  across = record { left = is_there _ r_a; right = is_there _ s_b; across = λ e. omega (arith, e) };
+  across = record { left = is_there _ r_a; right = is_there _ s_b; across = λ e. omega (arith, e); group = refl };
   less = record { less = λ v i. (let f = facts v i in omega (arith, ints, f.same, f.less)) };
-  needed = needed (element.Attr (col 0 0)) (element.Attr (col 1 1)) refl (λ e. cc) (λ e. cc);
+  needed = needed (col 0 0) (col 1 1) refl (λ e. cc) (λ e. cc);
 }
 
 second_less : IsInequality query signs (col 1 1) (col 0 1)
 second_less = record {
-  across = record { left = is_there _ s_b; right = is_there _ r_c; across = λ e. omega (arith, e) };
+  across = record { left = is_there _ s_b; right = is_there _ r_c; across = λ e. omega (arith, e); group = refl };
   less = record { less = λ v i. (facts v i).more };
-  needed = needed (element.Attr (col 1 1)) (element.Attr (col 0 1)) refl (λ e. cc) (λ e. cc);
+  needed = needed (col 1 1) (col 0 1) refl (λ e. cc) (λ e. cc);
 }
 
 -- S.a < R.c is redundant, since S.b lies between
-third_redundant : IsRedundant query signs (element.Attr (col 1 0)) (element.Attr (col 0 1))
-third_redundant = between (element.Attr (col 1 1)) (is_there _ s_b) record { less = λ v i. (facts v i).less } record { less = λ v i. (facts v i).more }
+third_redundant : IsRedundant query signs (col 1 0) (col 0 1)
+third_redundant = between (element.Attr (col 1 1)) record { named = is_there _ s_b; group = refl } record { less = λ v i. (facts v i).less } record { less = λ v i. (facts v i).more }
 
 equal_link : (x y : Attr) → Named x → Named y → IsTrue (attr_lt x y) → least x ≡ least y → x.stream ≢ y.stream → Contains part.equal.items (link x y)
 equal_link x y r_a s_a l e n = (0, omega arith, refl)
@@ -216,7 +216,7 @@ not_before b d s_b s_a s e l = cc
 not_before b d s_b s_b s e l = cc
 
 itself : (a : Attr) → Named a → AreOneClass query signs a a
-itself a n = record { named = inl refl; stream = refl; equal = record { equal = λ v i. refl } }
+itself a n = record { named = inl refl; stream = refl; group = refl; equal = record { equal = λ v i. refl } }
 
 -- what is in the class of an attribute is one
 other_named : (b a : Attr) → Named a → AreOneClass query signs b a → Named b
