@@ -9,3 +9,12 @@ pub mod Widths
 pub mod ShortLines
 pub mod AtBase
 pub mod Resumed
+pub mod PrintedLines
+pub mod Leading
+pub mod StreamLines
+pub mod TupleOrder
+pub mod ToldLines
+pub mod KeptLines
+pub mod Creating
+pub mod QueryLines
+pub mod Restored

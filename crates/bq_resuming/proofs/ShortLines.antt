@@ -27,10 +27,10 @@ use Rattle.bq_session.specs.Checkpoint.{stream_line, query_line, kept_lines}
 use Rattle.bq_resuming.specs.Small.{FitsContent, HasShortLines, CheckpointLinesAreShort}
 use Rattle.bq_resuming.proofs.Widths.{HasShortEnds, IsShortColumn, stream_within, rows_within, given_within, cell_within, tuple_within}
 
-abbrev IsShortLine : List ℕ → Type 0
+abbrev pub IsShortLine : List ℕ → Type 0
 IsShortLine line = length line ≤ 1024
 
-abbrev AreShort : List (List ℕ) → Type 0
+abbrev pub AreShort : List (List ℕ) → Type 0
 AreShort lines = AllByRecursion IsShortLine lines
 
 both_short : (a b : List (List ℕ)) → AreShort a → AreShort b → AreShort (a ++ b)
@@ -49,14 +49,14 @@ short_columns (c ∷ cs) names domains = (
   short_columns cs (All-tail (λ (x : ColumnDef). IsTrue (is_name x.name)) c cs names) (All-tail (λ (x : ColumnDef). HasEnds x.domain) c cs domains),
 )
 
-short_streams : (streams : List Shape) → All IsShape streams → AreShort (map stream_line streams)
+pub short_streams : (streams : List Shape) → All IsShape streams → AreShort (map stream_line streams)
 short_streams [] h = tt
 short_streams (s ∷ streams) h =
     let is : IsShape s = All-head IsShape s streams h in
     (stream_within s.name s.columns (name_facts s.name is.name).short is.few (short_columns s.columns is.names is.domains), short_streams streams (All-tail IsShape s streams h))
 
 -- the lines of live queries
-short_queries : (streams : List Shape) (qs : List LiveQuery) → All (HasShortLines streams) qs → AreShort (map (query_line streams) qs)
+pub short_queries : (streams : List Shape) (qs : List LiveQuery) → All (HasShortLines streams) qs → AreShort (map (query_line streams) qs)
 short_queries streams [] h = tt
 short_queries streams (q ∷ qs) h = ((All-head (HasShortLines streams) q qs h).created, short_queries streams qs (All-tail (HasShortLines streams) q qs h))
 
@@ -65,7 +65,7 @@ small : (n : ℕ) → n ≤ 2 ^ 40 → nat_lt n (2 ^ 63) ≡ true
 small n h = grind (arith, nat_tests)
 
 -- where there is a content it fits
-abbrev Told : Option ℤ → Type 0
+abbrev pub Told : Option ℤ → Type 0
 Told None = Unit {0}
 Told (Some z) = IsTrue (fits_i64 z)
 
@@ -75,7 +75,7 @@ count_fits Kind.Present n h = absurd h
 count_fits (Kind.Least a) n h = absurd h
 count_fits (Kind.Greatest a) n h = absurd h
 
-content_fits : (kind : Kind) (c : Cell) → FitsKind kind c → FitsContent c → Told (content_in c)
+pub content_fits : (kind : Kind) (c : Cell) → FitsKind kind c → FitsContent c → Told (content_in c)
 content_fits kind Cell.Empty h f = tt
 content_fits kind (Cell.Count n) h f = small n (count_fits kind n h)
 content_fits kind Cell.Present h f = small 1 (omega arith)
@@ -105,13 +105,13 @@ tuples_short name most (t ∷ table) short few wide fits =
       tuples_short name most table short few wide.1 (All-tail (All (λ z. IsTrue (fits_i64 z))) t table fits),
     )
 
-tuple_wide : (q : QueryValue) (plan : List PartPlan) (t : List ℤ) → Contains (all_tuples q plan) t → length t ≡ length q.select
+pub tuple_wide : (q : QueryValue) (plan : List PartPlan) (t : List ℤ) → Contains (all_tuples q plan) t → length t ≡ length q.select
 tuple_wide q plan t c =
     let m = Has-flat_map_from _ plan t (Has-from_contains (all_tuples q plan) t c) in
     let o = Has-map_from _ _ t m.2 in
     ap length (sym o.2) ∙ length-map q.select _
 
-all_wide : (q : QueryValue) (plan : List PartPlan) (table : List (List ℤ)) → All (Contains (all_tuples q plan)) table → AllByRecursion (λ t. length t ≡ length q.select) table
+pub all_wide : (q : QueryValue) (plan : List PartPlan) (table : List (List ℤ)) → All (Contains (all_tuples q plan)) table → AllByRecursion (λ t. length t ≡ length q.select) table
 all_wide q plan [] h = tt
 all_wide q plan (t ∷ table) h = (tuple_wide q plan t (All-head (Contains (all_tuples q plan)) t table h), all_wide q plan table (All-tail (Contains (all_tuples q plan)) t table h))
 
@@ -122,7 +122,7 @@ printed_short q true d short sound fits =
 printed_short q false d short sound fits = tt
 
 -- the lines that tell what is kept of a live query
-kept_short : (streams : List Shape) (q : LiveQuery) → IsSoundLive q → HasShortLines streams q → AreShort (kept_lines q)
+pub kept_short : (streams : List Shape) (q : LiveQuery) → IsSoundLive q → HasShortLines streams q → AreShort (kept_lines q)
 kept_short streams q sound has =
     let short : length q.name ≤ 24 = (name_facts q.name has.name).short in
     let size = (cells_of_plan q.shared q.query q.plan sound.accepted.plan sound.accepted.within).1 in

@@ -1,3 +1,4 @@
 pub mod Sound
 pub mod Continuing
 pub mod Small
+pub mod Restores

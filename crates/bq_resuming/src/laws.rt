@@ -1,5 +1,6 @@
 //! States that keep the same are stood for and answered alike.
 ghost use Rattle.bq_resuming.specs.Continuing.{ContinuesAlike, ResumedContinuesAlike};
+ghost use Rattle.bq_resuming.specs.Restores.{StreamsAreRestored, KeptIsRestored, QueriesAreRestored, CheckpointRestores, CheckpointGoesOn};
 ghost use Rattle.bq_resuming.specs.Small.{CheckpointLinesAreShort};
 ghost use Rattle.bq_resuming.specs.Sound.{StatesAreSound};
 
@@ -23,4 +24,29 @@ pub fn resumed_continues_alike()
 /// Each line of a checkpoint has at most 1,024 bytes, where the live queries keep integers of 64 bits.
 pub fn checkpoint_lines_are_short()
     ensures { CheckpointLinesAreShort }
+{}
+
+/// The lines of a checkpoint that create the streams of a catalog lead from the first state to one with these streams and nothing else.
+pub fn streams_are_restored()
+    ensures { StreamsAreRestored }
+{}
+
+/// The lines that tell what is kept of a live query lead from a state in which it was just created to one in which it goes on from that.
+pub fn kept_is_restored()
+    ensures { KeptIsRestored }
+{}
+
+/// The lines that create live queries again lead from a state with none to one in which each was just created.
+pub fn queries_are_restored()
+    ensures { QueriesAreRestored }
+{}
+
+/// From the first state on, the lines of a checkpoint lead to a state that keeps the same as the one that it tells of.
+pub fn checkpoint_restores()
+    ensures { CheckpointRestores }
+{}
+
+/// The state to which the lines of a checkpoint lead goes on as the one that they tell of, and that one as it does.
+pub fn checkpoint_goes_on()
+    ensures { CheckpointGoesOn }
 {}

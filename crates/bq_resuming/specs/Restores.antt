@@ -1,0 +1,83 @@
+-- What the lines of a checkpoint lead to.
+use Rattle.std.specs.Prelude.{◌≡◌, ℕ, ◌+◌, ◌≤◌, false, List, [], length, map, Some, IsTrue, All}
+use Rattle.std.specs.List.{sum_by}
+use Rattle.bq_model.specs.Numbers.{pages_of}
+use Rattle.bq_schema.specs.Streams.{Shape, IsCatalog, all_differ}
+use Rattle.bq_parser.specs.Resolution.{HasNamed}
+use Rattle.bq_registry.specs.Live.{LiveQuery, newly, base_in, names}
+use Rattle.bq_registry.specs.Sound.{IsSoundLive}
+use Rattle.bq_session.specs.Answer.{Answer}
+use Rattle.bq_session.specs.Checkpoint.{stream_line, query_line, kept_lines, checkpoint_lines}
+use Rattle.bq_session.specs.Replies.{AreAnswers}
+use Rattle.bq_session.specs.Requests.{live_named}
+use Rattle.bq_session.specs.Restoring.{AreAlike}
+use Rattle.bq_session.specs.State.{State, empty, set_base, after}
+use Rattle.bq_resuming.specs.Small.{HasShortLines}
+use Rattle.bq_resuming.specs.Sound.{IsSoundState}
+use Rattle.bq_resuming.specs.Continuing.{GoOnAlike}
+
+-- lines come to answers from one state on, and lead to another
+pub record LeadsTo (s : State) (lines : List (List ℕ)) (t : State) : Type 0 where
+  pub answers : List Answer
+  pub answered : AreAnswers s lines answers
+  pub is : after s answers ≡ t
+
+-- the lines of the streams of a catalog lead from the first state to one with these streams and nothing else
+abbrev pub StreamsAreRestored : Type 0
+StreamsAreRestored =
+    (limit : ℕ) (streams : List Shape) → IsCatalog streams
+    → LeadsTo (empty limit) (map stream_line streams) (record (empty limit) { streams = streams; lines = length streams })
+
+-- a live query without DISTINCT keeps no printed tuple
+abbrev pub KeepsTuplesDistinct : LiveQuery → Type 0
+KeepsTuplesDistinct q = q.query.distinct ≡ false → (base_in q).table ≡ []
+
+-- From a state in which a live query was just created, and no row was taken, the lines that tell what is kept of such a one lead to the
+-- state in which it goes on from that.
+abbrev pub KeptIsRestored : Type 0
+KeptIsRestored =
+    (s : State) (q : LiveQuery) → s.began ≡ false → live_named q.name s.queries ≡ Some (newly q.name q.query q.shared q.plan)
+    → IsSoundLive q → HasShortLines s.streams q → (base_in q).given ≤ s.taken → KeepsTuplesDistinct q
+    → LeadsTo s (kept_lines q) (record s { queries = set_base q.name (base_in q) s.queries; lines = s.lines + length (kept_lines q) })
+
+-- what is true of each live query of a session: its streams and columns are there, with their domains; what is kept of it fits its plan; its
+-- lines are short; no more rows were given to it than were taken; and it keeps printed tuples only with DISTINCT
+pub record IsRestorable (streams : List Shape) (taken : ℕ) (q : LiveQuery) : Type 0 where
+  pub named : HasNamed streams q.query
+  pub sound : IsSoundLive q
+  pub short : HasShortLines streams q
+  pub given : (base_in q).given ≤ taken
+  pub tuples : KeepsTuplesDistinct q
+
+-- at most 64 live queries with different names, whose plans have at most 16,384 pages
+pub record FitTogether (queries : List LiveQuery) : Type 0 where
+  pub few : length queries ≤ 64
+  pub differ : IsTrue (all_differ (names queries))
+  pub pages : sum_by (λ (q : LiveQuery). pages_of q.plan) queries ≤ 16384
+
+-- a live query that was just created
+abbrev pub anew : LiveQuery → LiveQuery
+anew q = newly q.name q.query q.shared q.plan
+
+-- From a state with no live query, the lines of live queries lead to one in which each was just created.
+abbrev pub QueriesAreRestored : Type 0
+QueriesAreRestored =
+    (s : State) (taken : ℕ) (queries : List LiveQuery) → s.queries ≡ [] → IsCatalog s.streams → All (IsRestorable s.streams taken) queries → FitTogether queries
+    → LeadsTo s (map (query_line s.streams) queries) (record s { queries = map anew queries; lines = s.lines + length queries })
+
+-- From the first state with the same row limit, the lines of its checkpoint lead to a state that is alike, and no row was taken.
+pub record Restores (s : State) : Type 0 where
+  pub state : State
+  pub leads : LeadsTo (empty s.limit) (checkpoint_lines s) state
+  pub alike : AreAlike state s
+  pub quiet : state.began ≡ false
+
+-- so it is with each sound state whose streams are those of a catalog
+abbrev pub CheckpointRestores : Type 0
+CheckpointRestores = (s : State) → IsSoundState s → IsCatalog s.streams → All (IsRestorable s.streams s.taken) s.queries → FitTogether s.queries → Restores s
+
+-- and that state goes on as the one whose checkpoint was read, and that one as it does
+abbrev pub CheckpointGoesOn : Type 0
+CheckpointGoesOn =
+    (s : State) → IsSoundState s → IsCatalog s.streams → All (IsRestorable s.streams s.taken) s.queries → FitTogether s.queries
+    → (r : Restores s) × GoOnAlike s r.state × GoOnAlike r.state s
