@@ -9,9 +9,9 @@ use Rattle.bq_closure.specs.Ways.{way_bound, IsModest, walked}
 use Rattle.bq_closure.specs.Cycles.{IsImplied, IsClosing, IsClosingOver, closes, agrees}
 use Rattle.bq_constraints.specs.Table.{AtMost}
 use Rattle.bq_closure.specs.Closure.{Next, Chain, step, way_at, bound_at, AreTight, IsNegative, IsSettled, IsClosureOf, Modest}
-use Rattle.bq_closure.proofs.Tighten.{Agrees}
 use Rattle.bq_constraints.proofs.Numbers.{slice_get-append}
 use Rattle.bq_closure.proofs.Chains.{chain_grows, chain_modest, times}
+use Rattle.bq_closure.specs.Tightened.{Agrees}
 use Rattle.bq_closure.proofs.Walks.{HasChain, chain_at, is_short, length-walked}
 use Rattle.bq_closure.proofs.Keep.{last_is}
 use Rattle.bq_constraints.proofs.Options.{some_is}
@@ -76,6 +76,14 @@ negative_when n cs ws vs c k la lb o u number isn h e t = go (way_at ws c.right 
     go None is f = let x : false ≡ true = ap is_some (sym f) ∙ e ∙ ap not t in cc
     go (Some w) is f = over w is o e f
 
+-- the same, where the cycle is there
+pub negative_by : (n : ℕ) (cs : List Constraint) (ws vs : List (Option Way)) (c : Constraint) → AreTight n cs ws → c.left < n → c.right < n → (y : List ℕ) (number : ℕ) → number ≡ suc (length cs) → IsClosing (way_at ws c.right c.left) c.bound number (λ m. walked ws m c.right c.left) (Some y) → IsSettled n (cs ++ c ∷ []) vs (Some y)
+negative_by n cs ws vs c k la lb y number isn h = negative_when n cs ws vs c k la lb (Some y) false number isn h refl refl
+
+-- where there is none, the constraint closes no negative cycle
+pub agrees_by : (ws : List (Option Way)) (a b : ℕ) (bound : ℤ) (number : ℕ) (walk : ℕ → List ℕ) → IsClosing (way_at ws b a) bound number walk None → Agrees (bound_at ws) a b bound
+agrees_by ws a b bound number walk h = agrees_when ws a b bound number walk None true h refl refl
+
 pub closure_with : (k r : ClosureValue) (n : ℕ) (cs : List Constraint) (c : Constraint) → IsClosureOf k n cs → r.attrs ≡ k.attrs → r.count ≡ k.count + 1 → c.left < suc n → c.right < suc n → neg_ℤ (pos 1000000000000000) ≤ℤ c.bound → c.bound ≤ℤ pos 1000000000000000 → IsSettled (suc n) (cs ++ c ∷ []) r.ways r.cycle → IsClosureOf r n (cs ++ c ∷ [])
 closure_with k r n cs c h ea ec la lb lo hi s = record {
   attrs = ea ∙ h.attrs;
@@ -92,11 +100,6 @@ closure_with k r n cs c h ea ec la lb lo hi s = record {
   where
     one_of : (P : Constraint → Type 0) → ((d : Constraint) → Contains cs d → P d) → P c → (d : Constraint) → Contains (cs ++ c ∷ []) d → P d
     one_of P f p d h = elim (Contains-push_cases cs c d h) [ inl i ↦ f d i | inr i ↦ subst P i p ]
-
-pub settled_when : (n : ℕ) (cs : List Constraint) (vs : List (Option Way)) (o : Option (List ℕ)) (b : Bool) → is_some o ≡ not b → b ≡ true → AreTight n cs vs → IsSettled n cs vs o
-settled_when n cs vs None b e t k = k
-settled_when n cs vs (Some y) true e t k = cc
-settled_when n cs vs (Some y) false e t k = cc
 
 pub settled_same : (n : ℕ) (cs : List Constraint) (vs : List (Option Way)) (o : Option (List ℕ)) (b : Bool) → b ≡ is_some o → b ≡ false → AreTight n cs vs → IsSettled n cs vs o
 settled_same n cs vs None b e t k = k

@@ -6,7 +6,7 @@ use Rattle.bq_constraints.specs.declared.constraint.Constraint.{Constraint}
 use Rattle.bq_closure.specs.declared.way.Way.{Way}
 use Rattle.bq_closure.specs.Cycles.{IsImplied}
 use Rattle.bq_constraints.specs.Table.{Table, AtMost, IsClosed, Covers}
-use Rattle.bq_closure.specs.Tightened.{tightened}
+use Rattle.bq_closure.specs.Tightened.{tightened, Agrees}
 use Rattle.bq_constraints.specs.Solutions.{Solves, IsSatisfiable, IsUpper, Allows, Implies}
 use Rattle.bq_closure.specs.Closure.{way_at, bound_at, AreTight, IsSettled, Modest}
 use Rattle.bq_closure.proofs.Chains.{chain_sound}
@@ -14,7 +14,7 @@ use Rattle.bq_closure.proofs.Facts.{no_solution}
 use Rattle.bq_constraints.proofs.Options.{some_is}
 use Rattle.bq_closure.proofs.Keep.{way_of, WayOf}
 use Rattle.bq_constraints.proofs.Solve as solve
-use Rattle.bq_closure.proofs.Tighten.{Agrees, tightened-closed, over-at_most, at_most-trans, at_most-weaker}
+use Rattle.bq_closure.proofs.Tighten.{tightened-closed, over-at_most, at_most-trans, at_most-weaker}
 use Rattle.bq_closure.proofs.Upper.{tight_if_satisfiable, upper_some, upper_none}
 use Rattle.bq_closure.proofs.Walks.{chain_at}
 

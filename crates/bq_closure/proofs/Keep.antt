@@ -5,11 +5,11 @@ use Rattle.std.proofs.lemmas.List.Elements.{Contains-push_cases}
 use Rattle.bq_constraints.specs.declared.constraint.Constraint.{Constraint}
 use Rattle.bq_closure.specs.declared.way.Way.{Way}
 use Rattle.bq_constraints.specs.Table.{Table, AtMost, IsClosed}
-use Rattle.bq_closure.specs.Tightened.{through, lesser, tightened}
+use Rattle.bq_closure.specs.Tightened.{through, lesser, tightened, Agrees}
 use Rattle.bq_closure.specs.Ways.{way_bound, Improves, kept, replaced, IsShorter, IsShorterAt}
 use Rattle.bq_closure.specs.Closure.{way_at, bound_at, Next, AreTight}
 use Rattle.bq_constraints.proofs.Numbers.{contains_at, slice_get-append}
-use Rattle.bq_closure.proofs.Tighten.{Agrees, tightened-closed, old-at_most, over-at_most, at_most-trans}
+use Rattle.bq_closure.proofs.Tighten.{tightened-closed, old-at_most, over-at_most, at_most-trans}
 use Rattle.bq_constraints.proofs.Options.{some_is, none_is}
 
 -- ---- what the code's step means on the table

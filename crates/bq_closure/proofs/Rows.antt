@@ -1,10 +1,14 @@
 -- Steps of the loops that write the table.
-use Rattle.std.proofs.Common.{◌≡◌, ◌≢◌, ℕ, ◌+◌, ◌*◌, ◌/◌, ◌%◌, ◌<◌, ◌≤◌, ℤ, ◌+ℤ◌, List, Option, None, Some, length, get_or, set, below_more, arith, get_or-set_other, get_or-set_same, refl, sym, ◌∙◌, Bool, nat_eq}
+use Rattle.std.proofs.Common.{◌≡◌, ◌≢◌, ℕ, ◌+◌, ◌*◌, ◌/◌, ◌%◌, ◌<◌, ◌≤◌, ℤ, pos, ◌+ℤ◌, ◌≤ℤ◌, ◌<ℤ◌, ◌⊎◌, inl, inr, ap, List, Option, None, Some, length, get_or, set, below_more, arith, get_or-set_other, get_or-set_same, refl, sym, ◌∙◌, Bool, nat_eq}
 use Rattle.std.proofs.lemmas.List.{get_or_default}
 use Rattle.std.proofs.lemmas.Int.{ints, by_lt_z}
 use Rattle.bq_closure.specs.declared.way.Way.{Way}
 use Rattle.bq_constraints.specs.declared.constraint.Constraint.{Constraint}
-use Rattle.bq_closure.specs.Ways.{Improves, IsBetter, kept, IsLed, Writes, IsShorter, IsShorterAt, head_of}
+use Rattle.bq_closure.specs.Ways.{way_bound, Improves, IsBetter, kept, IsLed, Leads, IsShorter, IsShorterAt, head_of}
+use Rattle.bq_closure.specs.Closure.{bound_at}
+use Rattle.bq_closure.specs.Tightened.{Agrees}
+use Rattle.bq_constraints.specs.Table.{AtMost, IsClosed}
+use Rattle.bq_closure.proofs.Keep.{WayOf, way_of}
 
 -- a fact of each place below k, and of what is written at k
 pub set_more : {A : Type 0} (P : ℕ → Option A → Type 0) (ws : List (Option A)) (k : ℕ) (r : Option A) → k < length ws → ((m : ℕ) → m < k → P m (get_or ws m None)) → P k r → (m : ℕ) → m < k + 1 → P m (get_or (set ws k r) m None)
@@ -13,80 +17,140 @@ set_more P ws k r l f h =
     (λ m lm. let ne : m ≢ k = omega arith in rw get_or-set_other (f m lm))
     (rw get_or-set_same h)
 
--- one place more is written
-pub write_more : (ws vs : List (Option Way)) (start j : ℕ) (head : Way) (after : List (Option Way)) (r : Option Way) → start + j < length vs → j < 13 → Writes ws start (start + j) head after vs → IsLed (get_or ws (start + j) None) head (get_or after j None) r → Writes ws start (start + (j + 1)) head after (set vs (start + j) r)
-write_more ws vs start j head after r l lj w h = record {
-  here = λ k lk g. below_more (λ k. IsLed (get_or ws (start + k) None) head (get_or after k None) (get_or (set vs (start + j) r) (start + k) None)) j
-      (λ m lm. let ne : start + m ≢ start + j = omega arith in rw get_or-set_other (w.here m (omega arith) (omega arith)))
-      (rw get_or-set_same h) k (omega arith);
-  before = λ k g. let ne : k ≢ start + j = omega arith in rw get_or-set_other (w.before k g);
-  later = λ k g. let ne : k ≢ start + j = omega arith in rw get_or-set_other (w.later k (omega arith));
+-- one place more is led
+lead_more : (ws vs : List (Option Way)) (i r j : ℕ) (head : Way) (o : Option Way) → 13 * i + j < length vs → Leads ws i r j head vs → IsLed (get_or ws (13 * i + j) None) head (get_or ws (13 * r + j) None) o → Leads ws i r (j + 1) head (set vs (13 * i + j) o)
+lead_more ws vs i r j head o l w h = record {
+  here = λ k lk. below_more (λ k. IsLed (get_or ws (13 * i + k) None) head (get_or ws (13 * r + k) None) (get_or (set vs (13 * i + j) o) (13 * i + k) None)) j
+      (λ m lm. let ne : 13 * i + m ≢ 13 * i + j = omega arith in rw get_or-set_other (w.here m lm))
+      (rw get_or-set_same h) k lk;
+  before = λ k g. let ne : k ≢ 13 * i + j = omega arith in rw get_or-set_other (w.before k g);
+  later = λ k g. let ne : k ≢ 13 * i + j = omega arith in rw get_or-set_other (w.later k (omega arith));
 }
+
+sides : (i r : ℕ) → i ≢ r → (i < r) ⊎ (r < i)
+sides i r ne = grind arith
+
+-- another row stays
+pub other_row : (ws vs : List (Option Way)) (i r n j : ℕ) (head : Way) → i ≢ r → n ≤ 13 → j < 13 → n ≤ j + 13 → Leads ws i r n head vs → get_or vs (13 * r + j) None ≡ get_or ws (13 * r + j) None
+other_row ws vs i r n j head ne ln lj more w = elim (sides i r ne) [
+  | inl lt ↦ w.later (13 * r + j) (omega arith)
+  | inr gt ↦ w.before (13 * r + j) (omega arith)
+]
+
+-- a way that is there, with a bound at most u
+record AtMostWay (now : Option Way) (u : ℤ) : Type 0 where
+  pub way : Way
+  pub is : now ≡ Some way
+  pub small : way.bound ≤ℤ u
+
+not_improved : (now : Option Way) (s : ℤ) → ¬ Improves now s → AtMostWay now s
+not_improved None s n = absurd (n tt)
+not_improved (Some w) s n = record { way = w; is = refl; small = by_lt_z s w.bound (λ l. absurd (n l)) (λ l. omega (arith, ints, l)) }
 
 led_shorter : (now : Option Way) (p : Way) (here : Bool) (c : Constraint) (number : ℕ) (after result : Option Way) → IsLed now (head_of p here c number) after result → IsShorter now (Some p) here c number after result
 led_shorter now p here c number None result h = h
 led_shorter now p here c number (Some q) result h = h
 
 -- a row more has the new constraint
-pub row_more : (ws vs us : List (Option Way)) (n i : ℕ) (c : Constraint) (number : ℕ) (after : List (Option Way)) (p : Way) → n ≤ 13 → i < n → c.left < n → c.right < n
+pub row_more : (ws vs us : List (Option Way)) (n i : ℕ) (c : Constraint) (number : ℕ) (p : Way) → n ≤ 13 → i < n → c.left < n
     → ((m j : ℕ) → m < i → j < n → IsShorterAt ws c number vs (13 * m + j)) → ((k : ℕ) → 13 * i ≤ k → get_or vs k None ≡ get_or ws k None)
-    → ((j : ℕ) → j < 13 → get_or after j None ≡ get_or ws (13 * c.right + j) None) → get_or vs (13 * i + c.left) None ≡ Some p → Writes vs (13 * i) (13 * i + n) (head_of p (nat_eq i c.left) c number) after us
+    → ((j : ℕ) → j < 13 → get_or vs (13 * c.right + j) None ≡ get_or ws (13 * c.right + j) None) → get_or vs (13 * i + c.left) None ≡ Some p → Leads vs i c.right n (head_of p (nat_eq i c.left) c number) us
     → (m j : ℕ) → m < i + 1 → j < n → IsShorterAt ws c number us (13 * m + j)
-row_more ws vs us n i c number after p ln li la lb f same copy is w =
+row_more ws vs us n i c number p ln li la f same right is w =
     λ m j lm lj. below_more (λ m. (j : ℕ) → j < n → IsShorterAt ws c number us (13 * m + j)) i old new m lm j lj
   where
-    at : (m j : ℕ) → j < n → (13 * m + j) / 13 ≡ m
-    at m j l = omega arith
-
-    on : (m j : ℕ) → j < n → (13 * m + j) % 13 ≡ j
-    on m j l = omega arith
-
     old : (m : ℕ) → m < i → (j : ℕ) → j < n → IsShorterAt ws c number us (13 * m + j)
     old m lm j lj = rw (w.before (13 * m + j) (omega arith)) (f m j lm lj)
 
     new : (j : ℕ) → j < n → IsShorterAt ws c number us (13 * i + j)
     new j lj =
-        let h : IsLed (get_or vs (13 * i + j) None) (head_of p (nat_eq i c.left) c number) (get_or after j None) (get_or us (13 * i + j) None) = w.here j (omega arith) (omega arith) in
-        let g = led_shorter (get_or vs (13 * i + j) None) p (nat_eq i c.left) c number (get_or after j None) (get_or us (13 * i + j) None) h in
+        let at : (13 * i + j) / 13 ≡ i = omega arith in
+        let on : (13 * i + j) % 13 ≡ j = omega arith in
+        let g = led_shorter (get_or vs (13 * i + j) None) p (nat_eq i c.left) c number (get_or vs (13 * c.right + j) None) (get_or us (13 * i + j) None) (w.here j lj) in
         let before : get_or ws (13 * i + c.left) None ≡ Some p = sym (same (13 * i + c.left) (omega arith)) ∙ is in
         let g2 : IsShorter (get_or ws (13 * i + j) None) (get_or ws (13 * i + c.left) None) (nat_eq i c.left) c number (get_or ws (13 * c.right + j) None) (get_or us (13 * i + j) None) =
-        rw (before, ← copy j (omega arith), ← same (13 * i + j) (omega arith)) g in
-        rw (at i j lj, on i j lj) g2
+        rw (before, ← right j (omega arith), ← same (13 * i + j) (omega arith)) g in
+        rw (at, on) g2
 
-pub row_same : (ws vs : List (Option Way)) (n i : ℕ) (c : Constraint) (number : ℕ) → n ≤ 13 → i < n → c.left < n
-    → ((m j : ℕ) → m < i → j < n → IsShorterAt ws c number vs (13 * m + j)) → ((k : ℕ) → 13 * i ≤ k → get_or vs k None ≡ get_or ws k None) → get_or vs (13 * i + c.left) None ≡ None
+-- a row that stays has the new constraint, where it says nothing new of each of its places
+row_kept : (ws vs : List (Option Way)) (n i : ℕ) (c : Constraint) (number : ℕ) → n ≤ 13 → i < n → c.left < n
+    → ((m j : ℕ) → m < i → j < n → IsShorterAt ws c number vs (13 * m + j)) → ((k : ℕ) → 13 * i ≤ k → get_or vs k None ≡ get_or ws k None)
+    → ((j : ℕ) → j < n → IsShorter (get_or ws (13 * i + j) None) (get_or ws (13 * i + c.left) None) (nat_eq i c.left) c number (get_or ws (13 * c.right + j) None) (get_or ws (13 * i + j) None))
     → (m j : ℕ) → m < i + 1 → j < n → IsShorterAt ws c number vs (13 * m + j)
-row_same ws vs n i c number ln li la f same is =
+row_kept ws vs n i c number ln li la f same h =
     λ m j lm lj. below_more (λ m. (j : ℕ) → j < n → IsShorterAt ws c number vs (13 * m + j)) i (λ m lm j lj. f m j lm lj) new m lm j lj
   where
     new : (j : ℕ) → j < n → IsShorterAt ws c number vs (13 * i + j)
     new j lj =
-        let before : get_or ws (13 * i + c.left) None ≡ None = sym (same (13 * i + c.left) (omega arith)) ∙ is in
         let at : (13 * i + j) / 13 ≡ i = omega arith in
-        let now : get_or vs (13 * i + j) None ≡ get_or ws (13 * i + j) None = same (13 * i + j) (omega arith) in
-        rw (at, before) now
+        let on : (13 * i + j) % 13 ≡ j = omega arith in
+        let g : IsShorter (get_or ws (13 * i + j) None) (get_or ws (13 * i + c.left) None) (nat_eq i c.left) c number (get_or ws (13 * c.right + j) None) (get_or vs (13 * i + j) None) = rw (same (13 * i + j) (omega arith)) (h j lj) in
+        rw (at, on) g
 
-pub write_better : (ws vs : List (Option Way)) (start j : ℕ) (head : Way) (after : List (Option Way)) (q : Way) (x y r : Option Way) → start + j < length vs → j < 13 → Writes ws start (start + j) head after vs → j < length after → get_or after j x ≡ Some q → IsBetter (get_or vs (start + j) y) head q r → Writes ws start (start + (j + 1)) head after (set vs (start + j) r)
-write_better ws vs start j head after q x y r l lj w la e h =
-    let is : get_or after j None ≡ Some q = get_or_default after j None x la ∙ e in
-    let same : get_or vs (start + j) None ≡ get_or ws (start + j) None = w.later (start + j) (omega arith) in
-    let now : get_or vs (start + j) y ≡ get_or ws (start + j) None = sym (get_or_default vs (start + j) None y l) ∙ same in
-    let b : IsBetter (get_or ws (start + j) None) head q r = rw now at h in
-    let g : IsLed (get_or ws (start + j) None) head (get_or after j None) r = rw is b in
-    write_more ws vs start j head after r l lj w g
+-- where it has no way to the left node
+pub row_same : (ws vs : List (Option Way)) (n i : ℕ) (c : Constraint) (number : ℕ) → n ≤ 13 → i < n → c.left < n
+    → ((m j : ℕ) → m < i → j < n → IsShorterAt ws c number vs (13 * m + j)) → ((k : ℕ) → 13 * i ≤ k → get_or vs k None ≡ get_or ws k None) → get_or vs (13 * i + c.left) None ≡ None
+    → (m j : ℕ) → m < i + 1 → j < n → IsShorterAt ws c number vs (13 * m + j)
+row_same ws vs n i c number ln li la f same is = row_kept ws vs n i c number ln li la f same (λ j lj.
+    let before : get_or ws (13 * i + c.left) None ≡ None = sym (same (13 * i + c.left) (omega arith)) ∙ is in rw before refl)
 
-pub write_none : (ws vs : List (Option Way)) (start j : ℕ) (head : Way) (after : List (Option Way)) (x : Option Way) → j < 13 → j < length after → Writes ws start (start + j) head after vs → get_or after j x ≡ None → Writes ws start (start + (j + 1)) head after vs
-write_none ws vs start j head after x lj la w e = record {
-  here = λ k lk g. below_more (λ k. IsLed (get_or ws (start + k) None) head (get_or after k None) (get_or vs (start + k) None)) j
-      (λ m lm. w.here m (omega arith) (omega arith)) last k (omega arith);
+-- a way that is no longer than the sum over the new constraint stays
+no_shorter : (now : Option Way) (p : Way) (here : Bool) (c : Constraint) (number : ℕ) (after : Option Way) → ((q : Way) → after ≡ Some q → AtMostWay now (p.bound +ℤ c.bound +ℤ q.bound)) → IsShorter now (Some p) here c number after now
+no_shorter now p here c number None h = refl
+no_shorter now p here c number (Some q) h = let a = h q refl in kept a.way a.is a.is a.small
+
+-- where its way to the right node is no longer than that over the new constraint
+pub row_skipped : (ws vs : List (Option Way)) (n i : ℕ) (c : Constraint) (number : ℕ) (p : Way) → n ≤ 13 → i < n → c.left < n → c.right < n → IsClosed n (bound_at ws)
+    → ((m j : ℕ) → m < i → j < n → IsShorterAt ws c number vs (13 * m + j)) → ((k : ℕ) → 13 * i ≤ k → get_or vs k None ≡ get_or ws k None) → get_or vs (13 * i + c.left) None ≡ Some p
+    → ¬ Improves (get_or vs (13 * i + c.right) None) (p.bound +ℤ c.bound)
+    → (m j : ℕ) → m < i + 1 → j < n → IsShorterAt ws c number vs (13 * m + j)
+row_skipped ws vs n i c number p ln li la lb closed f same is high = row_kept ws vs n i c number ln li la f same (λ j lj.
+    let before : get_or ws (13 * i + c.left) None ≡ Some p = sym (same (13 * i + c.left) (omega arith)) ∙ is in
+    let g : IsShorter (get_or ws (13 * i + j) None) (Some p) (nat_eq i c.left) c number (get_or ws (13 * c.right + j) None) (get_or ws (13 * i + j) None) = no_shorter _ p (nat_eq i c.left) c number _ (over j lj) in
+    rw before g)
+  where
+    there : AtMostWay (get_or ws (13 * i + c.right) None) (p.bound +ℤ c.bound)
+    there = not_improved _ _ (rw (same (13 * i + c.right) (omega arith)) at high)
+
+    over : (j : ℕ) → j < n → (q : Way) → get_or ws (13 * c.right + j) None ≡ Some q → AtMostWay (get_or ws (13 * i + j) None) (p.bound +ℤ c.bound +ℤ q.bound)
+    over j lj q e =
+        let r : AtMost (bound_at ws) i j (there.way.bound +ℤ q.bound) = closed.closed i c.right j li lb lj there.way.bound q.bound (ap way_bound there.is) (ap way_bound e) in
+        let w : WayOf ws i j r.bound = way_of ws i j r.bound r.is in
+        let small : r.bound ≤ℤ (there.way.bound +ℤ q.bound) = r.small in
+        let low : there.way.bound ≤ℤ (p.bound +ℤ c.bound) = there.small in
+        record { way = w.way; is = w.is; small = omega (arith, ints, w.bound) }
+
+-- the row of the right node is never led
+pub row_apart : (ws vs : List (Option Way)) (n i : ℕ) (c : Constraint) (p : Way) → n ≤ 13 → i < n → c.left < n → c.right < n → IsClosed n (bound_at ws) → Agrees (bound_at ws) c.left c.right c.bound
+    → ((k : ℕ) → 13 * i ≤ k → get_or vs k None ≡ get_or ws k None) → get_or vs (13 * i + c.left) None ≡ Some p → Improves (get_or vs (13 * i + c.right) None) (p.bound +ℤ c.bound) → i ≢ c.right
+row_apart ws vs n i c p ln li la lb closed agree same is low = λ e.
+    let own : WayOf ws c.right c.right (pos 0) = way_of ws c.right c.right (pos 0) (closed.self c.right lb) in
+    let at : get_or vs (13 * i + c.right) None ≡ Some own.way = same (13 * i + c.right) (omega arith) ∙ ap (λ z. get_or ws (13 * z + c.right) None) e ∙ own.is in
+    let back : get_or ws (13 * c.right + c.left) None ≡ Some p = ap (λ z. get_or ws (13 * z + c.left) None) (sym e) ∙ sym (same (13 * i + c.left) (omega arith)) ∙ is in
+    let round : pos 0 ≤ℤ (p.bound +ℤ c.bound) = agree.agrees p.bound (ap way_bound back) in
+    let less : (p.bound +ℤ c.bound) <ℤ own.way.bound = rw at at low in
+    absurd (omega (arith, ints, own.bound))
+
+pub lead_better : (ws vs : List (Option Way)) (i r j : ℕ) (head q : Way) (x y o : Option Way) → i ≢ r → 13 * i + j < length vs → 13 * r + j < length vs → j < 13 → Leads ws i r j head vs → get_or vs (13 * r + j) x ≡ Some q → IsBetter (get_or vs (13 * i + j) y) head q o → Leads ws i r (j + 1) head (set vs (13 * i + j) o)
+lead_better ws vs i r j head q x y o ne l lr lj w e h =
+    let is : get_or ws (13 * r + j) None ≡ Some q = sym (other_row ws vs i r j j head ne (omega arith) lj (omega arith) w) ∙ get_or_default vs (13 * r + j) None x lr ∙ e in
+    let now : get_or vs (13 * i + j) y ≡ get_or ws (13 * i + j) None = sym (get_or_default vs (13 * i + j) None y l) ∙ w.later (13 * i + j) (omega arith) in
+    let b : IsBetter (get_or ws (13 * i + j) None) head q o = rw now at h in
+    let g : IsLed (get_or ws (13 * i + j) None) head (get_or ws (13 * r + j) None) o = rw is b in
+    lead_more ws vs i r j head o l w g
+
+pub lead_none : (ws vs : List (Option Way)) (i r j : ℕ) (head : Way) (x : Option Way) → i ≢ r → 13 * r + j < length vs → j < 13 → Leads ws i r j head vs → get_or vs (13 * r + j) x ≡ None → Leads ws i r (j + 1) head vs
+lead_none ws vs i r j head x ne lr lj w e = record {
+  here = λ k lk. below_more (λ k. IsLed (get_or ws (13 * i + k) None) head (get_or ws (13 * r + k) None) (get_or vs (13 * i + k) None)) j w.here last k lk;
   before = w.before;
   later = λ k g. w.later k (omega arith);
 }
   where
-    last : IsLed (get_or ws (start + j) None) head (get_or after j None) (get_or vs (start + j) None)
-    last = let is : get_or after j None ≡ None = get_or_default after j None x la ∙ e in rw is (w.later (start + j) (omega arith))
+    last : IsLed (get_or ws (13 * i + j) None) head (get_or ws (13 * r + j) None) (get_or vs (13 * i + j) None)
+    last =
+        let is : get_or ws (13 * r + j) None ≡ None = sym (other_row ws vs i r j j head ne (omega arith) lj (omega arith) w) ∙ get_or_default vs (13 * r + j) None x lr ∙ e in
+        rw is (w.later (13 * i + j) (omega arith))
 
 -- what is there stays where the sum is no lower
 pub kept_if : (now : Option Way) (head after : Way) (s : ℤ) → s ≡ head.bound +ℤ after.bound → ¬ Improves now s → IsBetter now head after now
-kept_if None head after s e n = absurd (n tt)
-kept_if (Some w) head after s e n = kept w refl refl (by_lt_z s w.bound (λ l. absurd (n l)) (λ l. omega (arith, ints, e, l)))
+kept_if now head after s e n = let a : AtMostWay now s = not_improved now s n in let l : a.way.bound ≤ℤ s = a.small in kept a.way a.is a.is (omega (arith, ints, e))

@@ -2,7 +2,7 @@
 use Rattle.std.proofs.Common.{◌≡◌, ℕ, ◌<◌, ℤ, pos, ◌+ℤ◌, ◌≤ℤ◌, int_lt, cond, refl, sym, ◌∙◌, ap, ap₂, arith, Option, Some, None, Bool, true, false}
 use Rattle.std.proofs.lemmas.Int.{ints}
 use Rattle.bq_constraints.specs.Table.{Table, AtMost, IsClosed}
-use Rattle.bq_closure.specs.Tightened.{through, lesser, tightened}
+use Rattle.bq_closure.specs.Tightened.{through, lesser, tightened, Agrees}
 use Rattle.bq_constraints.proofs.Options.{some_is}
 
 -- an entry of the new table is the old one, or a way over the new bound
@@ -58,10 +58,6 @@ at_most-trans t i j u v h l = let s : h.bound ≤ℤ u = h.small in record { bou
 
 pub at_most-weaker : (t : Table) (a b : ℕ) (c : ℤ) (i j : ℕ) (u : ℤ) → AtMost t i j u → AtMost (tightened t a b c) i j u
 at_most-weaker t a b c i j u h = at_most-trans (tightened t a b c) i j h.bound u (old-at_most t a b c i j h.bound h.is) h.small
-
--- the new bound closes no negative cycle
-pub record Agrees (t : Table) (a b : ℕ) (c : ℤ) : Type 0 where
-  pub agrees : (r : ℤ) → t b a ≡ Some r → pos 0 ≤ℤ (r +ℤ c)
 
 module _ (n : ℕ) (t : Table) (k : IsClosed n t) (a b : ℕ) (c : ℤ) (la : a < n) (lb : b < n) (g : Agrees t a b c) where
   -- a way from b to a is no shorter than -c

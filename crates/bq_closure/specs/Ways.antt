@@ -48,11 +48,11 @@ abbrev pub IsLed : Option Way → Way → Option Way → Option Way → Type 0
 IsLed now head None result = result ≡ now
 IsLed now head (Some q) result = IsBetter now head q result
 
--- the places from start to below stop are led by the head, and the others are as before
-pub record Writes (ws : List (Option Way)) (start stop : ℕ) (head : Way) (after : List (Option Way)) (vs : List (Option Way)) : Type 0 where
-  pub here : (k : ℕ) → k < 13 → start + k < stop → IsLed (slice_index_or ws (start + k) None) head (slice_index_or after k None) (slice_index_or vs (start + k) None)
-  pub before : (k : ℕ) → k < start → slice_index_or vs k None ≡ slice_index_or ws k None
-  pub later : (k : ℕ) → stop ≤ k → slice_index_or vs k None ≡ slice_index_or ws k None
+-- the first n places of the row i are led by the head, over the ways of the row r, and the others are as before
+pub record Leads (ws : List (Option Way)) (i r n : ℕ) (head : Way) (vs : List (Option Way)) : Type 0 where
+  pub here : (k : ℕ) → k < n → IsLed (slice_index_or ws (13 * i + k) None) head (slice_index_or ws (13 * r + k) None) (slice_index_or vs (13 * i + k) None)
+  pub before : (k : ℕ) → k < 13 * i → slice_index_or vs k None ≡ slice_index_or ws k None
+  pub later : (k : ℕ) → 13 * i + n ≤ k → slice_index_or vs k None ≡ slice_index_or ws k None
 
 -- a node reaches itself at 0 by no constraint, and no other node
 pub data IsUnlinked (i j : ℕ) (o : Option Way) : Type 0 where

@@ -140,16 +140,15 @@ impl Closure {
         ensures { (n : ℕ) (cs : List Constraint) → IsClosureOf self.old n cs → IsClosureOf self.new n (cs ++ c ∷ []) }
     {
         if !self.is_broken() && !self.has_bound(c) {
-            let closed = self.closed_by(c);
-            if closed.is_none() {
-                tighten(
+            match self.closed_by(c) {
+                Some(cycle) => self.cycle = Some(cycle),
+                None => tighten(
                     &mut self.ways,
                     usize::from(self.attrs) + 1,
                     c,
                     self.count + 1,
-                );
+                ),
             }
-            self.cycle = closed;
         }
         self.count += 1;
     }

@@ -1,7 +1,10 @@
 //! Ways from node to node, and the table of them, with 13 to a row.
 
 ghost use Rattle.std.specs.Prelude.{◌≡◌, ◌≢◌, ℕ, ◌+◌, ◌<◌, ◌≤◌, ◌^◌, ◌∷◌, [], ◌++◌, ◌+ℤ◌, ◌≤ℤ◌, ◌<ℤ◌, IsTrue, ◌↔◌, pos, neg_ℤ, length, ◌*◌, ◌/◌, ◌%◌, slice_index_or, Option, cond, nat_eq};
-ghost use Rattle.bq_closure.specs.Ways.{Improves, IsBetter, IsModest, AreModest, IsUnlinked, IsUnlinkedAt, Writes, IsShorterAt, head_of};
+ghost use Rattle.bq_closure.specs.Ways.{Improves, IsBetter, IsModest, AreModest, IsUnlinked, IsUnlinkedAt, Leads, IsShorterAt, head_of};
+ghost use Rattle.bq_closure.specs.Closure.{bound_at};
+ghost use Rattle.bq_closure.specs.Tightened.{Agrees};
+ghost use Rattle.bq_constraints.specs.Table.{IsClosed};
 
 use bq_constraints::Constraint;
 
@@ -91,37 +94,21 @@ pub fn closes(back: Way, c: Constraint) -> bool
     total(back.bound, c.bound) < 0
 }
 
-// The ways that begin at a node.
-fn row(ways: &[Option<Way>; 169], node: usize) -> [Option<Way>; 13]
-    requires { node < 13 }
-    ensures { (j : ℕ) → j < 13 → slice_index_or result j None ≡ slice_index_or ways.now (13 * node + j) None }
-{
-    let mut copy: [Option<Way>; 13] = [None; 13];
-    for j in 0..13 {
-        copy[j] = ways[13 * node + j];
-    }
-    copy
-}
-
-// Leads the ways of the row at `start` by the head, where they get lower.
-fn lead(
-    ways: &mut [Option<Way>; 169],
-    start: usize,
-    nodes: usize,
-    head: Way,
-    after: &[Option<Way>; 13],
-)
-    requires start { start ≤ 156 }
+// Leads the ways of a row by the head, where over those of the row of the right node they get lower.
+fn lead(ways: &mut [Option<Way>; 169], row: usize, right: usize, nodes: usize, head: Way)
+    requires row { row < 13 }
+    requires right { right < 13 }
+    requires apart { row ≢ right }
     requires nodes { nodes ≤ 13 }
     requires head_low { neg_ℤ (pos 200000000000000000) ≤ℤ head.bound }
     requires head_high { head.bound ≤ℤ pos 200000000000000000 }
     requires head_short { head.length ≤ 13 }
-    requires modest { (j : ℕ) → j < nodes → IsModest (slice_index_or after.now j None) }
-    ensures { Writes ways.old start (start + nodes) head after.now ways.new }
+    requires modest { (j : ℕ) → j < nodes → IsModest (slice_index_or ways.old (13 * right + j) None) }
+    ensures { Leads ways.old row right nodes head ways.new }
 {
     for j in 0..nodes {
-        if let Some(way) = after[j] {
-            ways[start + j] = better(ways[start + j], head, way);
+        if let Some(after) = ways[13 * right + j] {
+            ways[13 * row + j] = better(ways[13 * row + j], head, after);
         }
     }
 }
@@ -153,7 +140,8 @@ pub fn unlinked() -> [Option<Way>; 169]
     ways
 }
 
-/// Returns the ways with one constraint more.
+/// Returns the ways with one constraint more, which closes no negative cycle. The ways are closed, so a row gets lower only where its way
+/// to the right node does.
 pub fn tighten(ways: &mut [Option<Way>; 169], nodes: usize, c: Constraint, number: u16)
     requires nodes { nodes ≤ 13 }
     requires left { c.left < nodes }
@@ -161,13 +149,18 @@ pub fn tighten(ways: &mut [Option<Way>; 169], nodes: usize, c: Constraint, numbe
     requires low { neg_ℤ (pos 1000000000000000) ≤ℤ c.bound }
     requires high { c.bound ≤ℤ pos 1000000000000000 }
     requires modest { (i j : ℕ) → i < nodes → j < nodes → IsModest (slice_index_or ways.old (13 * i + j) None) }
+    requires closed { IsClosed nodes (bound_at ways.old) }
+    requires agrees { Agrees (bound_at ways.old) c.left c.right c.bound }
     ensures { (i j : ℕ) → i < nodes → j < nodes → IsShorterAt ways.old c number ways.new (13 * i + j) }
 {
-    let after = row(ways, usize::from(c.right));
+    let left = usize::from(c.left);
+    let right = usize::from(c.right);
     for i in 0..nodes {
-        if let Some(before) = ways[13 * i + usize::from(c.left)] {
-            let head = head(before, i == usize::from(c.left), c, number);
-            lead(ways, 13 * i, nodes, head, &after);
+        if let Some(before) = ways[13 * i + left] {
+            let head = head(before, i == left, c, number);
+            if is_lower(head.bound, ways[13 * i + right]) {
+                lead(ways, i, right, nodes, head);
+            }
         }
     }
 }

@@ -1,5 +1,5 @@
 -- The lists of a part, each with its members and their order.
-use Rattle.std.proofs.Common.{◌≡◌, ◌↔◌, ℕ, zero, suc, ◌+◌, ◌<◌, ◌≤◌, ℤ, pos, to_z, of_z, All, ◌<ℤ◌, Bool, true, false, not, IsTrue, List, [], ◌∷◌, ◌++◌, length, take, slice_index_or, Contains, Option, None, Some, AllPairs, refl, sym, ◌∙◌, ap, subst, arith}
+use Rattle.std.proofs.Common.{◌≡◌, ◌↔◌, ℕ, zero, suc, ◌+◌, ◌*◌, ◌<◌, ◌≤◌, ℤ, pos, to_z, of_z, All, ◌<ℤ◌, Bool, true, false, not, IsTrue, List, [], ◌∷◌, ◌++◌, length, take, slice_index_or, Contains, Option, None, Some, AllPairs, refl, sym, ◌∙◌, ap, subst, arith}
 use Rattle.std.specs.List.{Any, AllZip}
 use Rattle.std.proofs.lemmas.Int.{ints}
 use Rattle.std.proofs.lemmas.List.{length-take-le}
@@ -19,10 +19,10 @@ use Rattle.bq_model.specs.Plan.{link, link_lt}
 use Rattle.bq_refs.specs.declared.range.Range.{Range}
 use Rattle.bq_refs.specs.declared.told.Refs.{Refs}
 use Rattle.bq_refs.specs.Redundant.{LiesBetween, Parts, middle, left, right}
-use Rattle.bq_refs.specs.Sifting.{Sifts, links_among, IsOrderedEquality, IsOrderedInequality, AreInequalities}
+use Rattle.bq_refs.specs.Sifting.{Sifts, links_among, IsAcross, AreLinksAcross, IsOrderedEquality, IsOrderedInequality, AreInequalities}
 use Rattle.bq_refs.specs.Refs.{IsRange, IsClassPlace, AreRefs}
-use Rattle.bq_refs.proofs.Sifted.{kept_next, dropped_next, sift_end, sift_length, sift_ascends, member_from, member_of, pairs_ascend}
-use Rattle.bq_refs.proofs.AllLinks.{links_have, sides_of, links_ascend, attr_lt-apart}
+use Rattle.bq_refs.proofs.Sifted.{kept_next, dropped_next, sift_end, sift_length, sift_ascends, sift_twice, member_from, member_of, pairs_ascend}
+use Rattle.bq_refs.proofs.AllLinks.{length-links, links_have, sides_of, links_ascend, attr_lt-apart}
 use Rattle.bq_refs.proofs.Room.{AreOneWay, room_next}
 use Rattle.bq_closure.proofs.Zips.{zip_at}
 
@@ -72,6 +72,18 @@ const_kept q ks i w e l =
 
 -- ---- links
 
+-- there is room for the next of the links of each attribute with each
+pub room_among : (xs : List Attr) (Q : Link → Type 0) (ls ys : List Link) (i : ℕ) → ls ≡ links_among xs xs → length xs ≤ 12 → i < length ls → Sifts Q (take i ls) ys → length ys < 144
+room_among xs Q ls ys i e few l s =
+    let a : length ys ≤ length (take i ls) = sift_length Q (take i ls) ys s in
+    let b : length (take i ls) ≡ i = length-take-le i ls (omega arith) in
+    let c : length ls ≡ length xs * length xs = ap length e ∙ length-links xs xs in
+    let h : length xs * length xs ≤ 144 = square_of (length xs) few in
+    omega (arith, a, b, c, h, l)
+  where
+    square_of : (n : ℕ) → n ≤ 12 → n * n ≤ 144
+    square_of n m = grind arith
+
 module _ (q : QueryValue) (s : List Sign) where
   equality_one_way : AreOneWay (IsOrderedEquality q s)
   equality_one_way l m h k e f =
@@ -88,23 +100,28 @@ module _ (q : QueryValue) (s : List Sign) where
       let d : p.one l.right ≡ p.one m.left = ap p.one f in
       omega (arith, ints, a, b, c, d)
 
-  pub room_for_equality : (ls ys : List Link) (i : ℕ) (d : Link) → length (attrs_of q.atoms) ≤ 12 → ls ≡ links_among (attrs_of q.atoms) (attrs_of q.atoms) → i < length ls → IsOrderedEquality q s (slice_index_or ls i d) → Sifts (IsOrderedEquality q s) (take i (links_among (attrs_of q.atoms) (attrs_of q.atoms))) ys → length ys < 66
+  pub room_for_equality : (ls ys : List Link) (i : ℕ) (d : Link) → length (attrs_of q.atoms) ≤ 12 → AreLinksAcross q ls → i < length ls → IsOrderedEquality q s (slice_index_or ls i d) → Sifts (IsOrderedEquality q s) (take i ls) ys → length ys < 66
   room_for_equality ls ys i d few e l p t =
-      room_next (IsOrderedEquality q s) equality_one_way (λ m h. h.1.across.across) (attrs_of q.atoms) (Ascends-attrs_of q.atoms) few ls ys i d e l p
-      (subst (λ (w : List Link). Sifts (IsOrderedEquality q s) (take i w) ys) (sym e) t)
+      room_next (IsOrderedEquality q s) equality_one_way (λ m h. h.1.across.across) (attrs_of q.atoms) (Ascends-attrs_of q.atoms) few (IsAcross q) ls ys i d e l p t
 
-  pub room_for_inequality : IsPart q s → (ls ys : List Link) (i : ℕ) (d : Link) → length (attrs_of q.atoms) ≤ 12 → ls ≡ links_among (attrs_of q.atoms) (attrs_of q.atoms) → i < length ls → IsOrderedInequality q s (slice_index_or ls i d) → Sifts (IsOrderedInequality q s) (take i (links_among (attrs_of q.atoms) (attrs_of q.atoms))) ys → length ys < 66
+  pub room_for_inequality : IsPart q s → (ls ys : List Link) (i : ℕ) (d : Link) → length (attrs_of q.atoms) ≤ 12 → AreLinksAcross q ls → i < length ls → IsOrderedInequality q s (slice_index_or ls i d) → Sifts (IsOrderedInequality q s) (take i ls) ys → length ys < 66
   room_for_inequality r ls ys i d few e l p t =
-      room_next (IsOrderedInequality q s) (inequality_one_way r) (λ m h. h.across.across) (attrs_of q.atoms) (Ascends-attrs_of q.atoms) few ls ys i d e l p
-      (subst (λ (w : List Link). Sifts (IsOrderedInequality q s) (take i w) ys) (sym e) t)
+      room_next (IsOrderedInequality q s) (inequality_one_way r) (λ m h. h.across.across) (attrs_of q.atoms) (Ascends-attrs_of q.atoms) few (IsAcross q) ls ys i d e l p t
 
   -- the sides of a link are attributes
-  pub sides_among : (ls : List Link) (i : ℕ) (d : Link) → ls ≡ links_among (attrs_of q.atoms) (attrs_of q.atoms) → i < length ls → Contains (attrs_of q.atoms) (slice_index_or ls i d).left × Contains (attrs_of q.atoms) (slice_index_or ls i d).right
+  pub sides_among : (ls : List Link) (i : ℕ) (d : Link) → AreLinksAcross q ls → i < length ls → Contains (attrs_of q.atoms) (slice_index_or ls i d).left × Contains (attrs_of q.atoms) (slice_index_or ls i d).right
   sides_among ls i d e l =
       let h : Has ls (slice_index_or ls i d) = Has-from_contains ls _ (Contains-get_or ls i d l) in
-      let g : Has (links_among (attrs_of q.atoms) (attrs_of q.atoms)) (slice_index_or ls i d) = subst (λ (w : List Link). Has w (slice_index_or ls i d)) e h in
+      let g : Has (links_among (attrs_of q.atoms) (attrs_of q.atoms)) (slice_index_or ls i d) = (member_from (IsAcross q) _ e h).0 in
       let r : Has (attrs_of q.atoms) (slice_index_or ls i d).left × Has (attrs_of q.atoms) (slice_index_or ls i d).right = sides_of _ _ _ g in
       (Contains-from_has _ _ r.0, Contains-from_has _ _ r.1)
+
+  -- the equalities of all links are those of the links across
+  pub all_equalities : (ls ys : List Link) → AreLinksAcross q ls → Sifts (IsOrderedEquality q s) ls ys → Sifts (IsOrderedEquality q s) (links_among (attrs_of q.atoms) (attrs_of q.atoms)) ys
+  all_equalities ls ys a t = sift_twice (IsOrderedEquality q s) (IsAcross q) (λ m h. (h.1.across.across, h.1.across.group)) a t
+
+  pub all_inequalities : (ls ys : List Link) → AreLinksAcross q ls → Sifts (IsOrderedInequality q s) ls ys → Sifts (IsOrderedInequality q s) (links_among (attrs_of q.atoms) (attrs_of q.atoms)) ys
+  all_inequalities ls ys a t = sift_twice (IsOrderedInequality q s) (IsAcross q) (λ m h. (h.across.across, h.across.group)) a t
 
   pub are_inequalities : (ls : List Link) → Sifts (IsOrderedInequality q s) (links_among (attrs_of q.atoms) (attrs_of q.atoms)) ls → AreInequalities q s ls
   are_inequalities ls t = record {

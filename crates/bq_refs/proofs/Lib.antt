@@ -7,3 +7,4 @@ pub mod Extent
 pub mod Searching
 pub mod Naming
 pub mod Gathered
+pub mod AtNodes

@@ -100,14 +100,14 @@ few_links P w n xs s few ys a h =
 
 -- there is room for the next link
 pub room_next : (P : Link → Type 0) → AreOneWay P → ((l : Link) → P l → l.left.stream ≢ l.right.stream) → (xs : List Attr) → Ascends attr_lt xs → length xs ≤ 12
-    → (ls ys : List Link) (i : ℕ) (d : Link) → ls ≡ links_among xs xs → i < length ls → P (get_or ls i d) → Sifts P (take i ls) ys → length ys < 66
-room_next P w n xs s few ls ys i d e l p t =
+    → (Q : Link → Type 0) (ls ys : List Link) (i : ℕ) (d : Link) → Sifts Q (links_among xs xs) ls → i < length ls → P (get_or ls i d) → Sifts P (take i ls) ys → length ys < 66
+room_next P w n xs s few Q ls ys i d e l p t =
     let u : Sifts P (take (i + 1) ls) (ys ++ get_or ls i d ∷ []) = kept_next P ls ys i d l p t in
-    let a : Ascends link_lt ls = subst (Ascends link_lt) (sym e) (links_ascend xs xs s s) in
+    let a : Ascends link_lt ls = sift_ascends Q link_lt e (links_ascend xs xs s s) in
     let b : Ascends link_lt (ys ++ get_or ls i d ∷ []) = sift_ascends P link_lt u (Ascends-take link_lt (i + 1) ls a) in
     let k : length (ys ++ get_or ls i d ∷ []) ≤ 66 = few_links P w n xs s few _ b
     (λ m h. let r = member_from P m u h in
-    let g : Has (links_among xs xs) m = subst (λ (z : List Link). Has z m) e (Has-take (i + 1) ls m r.0) in
+    let g : Has (links_among xs xs) m = (member_from Q m e (Has-take (i + 1) ls m r.0)).0 in
     let c : Has xs m.left × Has xs m.right = sides_of xs xs m g in
     (r.1, c.0, c.1)) in
     let j : length (ys ++ get_or ls i d ∷ []) ≡ length ys + 1 = length-append ys (get_or ls i d ∷ []) in

@@ -41,6 +41,13 @@ module _ {X : Type 0} (P : X → Type 0) where
   member_of z (dropped n s) first p = absurd (n p)
   member_of z (dropped n s) (later h) p = member_of z s h p
 
+  -- of what is left by one property, the elements that have another which says more
+  pub sift_twice : (Q : X → Type 0) → ((x : X) → P x → Q x) → {xs ls ys : List X} → Sifts Q xs ls → Sifts P ls ys → Sifts P xs ys
+  sift_twice Q f done done = done
+  sift_twice Q f (kept q s) (kept p t) = kept p (sift_twice Q f s t)
+  sift_twice Q f (kept q s) (dropped n t) = dropped n (sift_twice Q f s t)
+  sift_twice Q f (dropped n s) t = dropped (λ p. n (f _ p)) (sift_twice Q f s t)
+
   pub sift_length : (xs ys : List X) → Sifts P xs ys → length ys ≤ length xs
   sift_length xs ys done = omega arith
   sift_length (x ∷ xs) (y ∷ ys) (kept p s) = let r = sift_length xs ys s in omega (arith, r)

@@ -4,7 +4,7 @@ use Rattle.bq_model.specs.declared.plan.Link.{Link}
 use Rattle.bq_closure.specs.BoundsValue.{BoundsValue}
 use Rattle.bq_closure.specs.ChoiceValue.{ChoiceValue}
 
--- the bounds of the query's comparisons and domains, what each pair adds by each sign, and the links of each attribute with each
+-- the bounds of the query's comparisons and domains, what each pair adds by each sign, and the links of each attribute with each of another stream and its group
 pub record BasisValue : Type 0 where
   pub bounds : BoundsValue
   pub choices : List ChoiceValue

@@ -9,7 +9,7 @@ use Rattle.bq_closure.specs.Choices.{AreChoices}
 use Rattle.bq_constraints.specs.PartConstraints.{of_base, of_prefix}
 use Rattle.bq_constraints.specs.Solutions.{IsWithin}
 use Rattle.bq_refs.specs.BasisValue.{BasisValue}
-use Rattle.bq_refs.specs.Sifting.{links_among}
+use Rattle.bq_refs.specs.Sifting.{AreLinksAcross}
 
 -- the bounds are those of a part of the query
 pub record IsKnown (q : QueryValue) (s : List Sign) (b : BoundsValue) : Type 0 where
@@ -19,7 +19,7 @@ pub record IsKnown (q : QueryValue) (s : List Sign) (b : BoundsValue) : Type 0 w
   pub attrs : b.attrs ≡ length (attrs_of q.atoms)
   pub constraints : b.constraints ≡ of_prefix q s
 
--- the bounds are those of the query's comparisons and domains, there is a choice for each of its pairs, and a link of each attribute with each
+-- the bounds are those of the query's comparisons and domains, there is a choice for each of its pairs, and a link of each attribute with each of another stream and its group
 pub record IsBasis (q : QueryValue) (b : BasisValue) : Type 0 where
   pub few : length (attrs_of q.atoms) ≤ 12
   pub attrs : b.bounds.attrs ≡ length (attrs_of q.atoms)
@@ -27,7 +27,7 @@ pub record IsBasis (q : QueryValue) (b : BasisValue) : Type 0 where
   pub constraints : b.bounds.constraints ≡ of_base q
   pub room : length b.bounds.constraints + 2 * length (filter (λ t. is_soft t.op) q.atoms) ≤ 56
   pub choices : AreChoices q b.choices
-  pub links : b.links ≡ links_among (attrs_of q.atoms) (attrs_of q.atoms)
+  pub links : AreLinksAcross q b.links
 
 -- the constraints of one more sign than the first i
 pub record AddsSign (q : QueryValue) (s : List Sign) (i : ℕ) (cs : List Constraint) : Type 0 where

@@ -3,3 +3,4 @@ pub mod Known
 pub mod Redundant
 pub mod Sifting
 pub mod Refs
+pub mod Placed

@@ -6,7 +6,7 @@ use Rattle.bq_model.specs.Order.{IsLess}
 use Rattle.bq_model.specs.declared.atom.Attr.{Attr}
 use Rattle.bq_model.specs.declared.plan.Link.{Link}
 use Rattle.bq_model.specs.declared.part.Sign.{Sign}
-use Rattle.bq_model.specs.Query.{QueryValue, attr_lt}
+use Rattle.bq_model.specs.Query.{QueryValue, attr_lt, attrs_of}
 use Rattle.bq_model.specs.Plan.{link}
 use Rattle.bq_model.specs.Links.{IsEquality, IsInequality}
 
@@ -20,6 +20,14 @@ pub data Sifts {X : Type 0} (P : X → Type 0) : List X → List X → Type 0 wh
 abbrev pub links_among : List Attr → List Attr → List Link
 links_among [] ys = []
 links_among (x ∷ xs) ys = map (link x) ys ++ links_among xs ys
+
+-- the sides are of different streams and one group
+abbrev pub IsAcross : QueryValue → Link → Type 0
+IsAcross q l = (l.left.stream ≢ l.right.stream) × IsTrue (in_one_group q l.left (element.Attr l.right))
+
+-- the links, in order, of each attribute with each that is of another stream and its group
+abbrev pub AreLinksAcross : QueryValue → List Link → Type 0
+AreLinksAcross q links = Sifts (IsAcross q) (links_among (attrs_of q.atoms) (attrs_of q.atoms)) links
 
 -- an equality between streams with the earlier attribute on the left
 abbrev pub IsOrderedEquality : QueryValue → List Sign → Link → Type 0

@@ -1,38 +1,39 @@
 //! The classes of attributes of one stream and one group that are equal in a part.
-ghost use Rattle.std.specs.Prelude.{◌↔◌, IsTrue, Contains};
+ghost use Rattle.std.specs.Prelude.{◌↔◌, IsTrue};
 ghost use Rattle.std.specs.List.{AllZip};
 ghost use Rattle.bq_model.specs.Query.{attrs_of};
 ghost use Rattle.bq_model.specs.Plan.{AreOneClass};
 ghost use Rattle.bq_refs.specs.Known.{IsKnown};
+ghost use Rattle.bq_refs.specs.Placed.{IsNamed};
 ghost use Rattle.bq_refs.specs.Refs.{IsClassPlace};
 
 use crate::order::is_equal;
+use crate::placed::{Named, as_element, named_at};
 use arrayvec::ArrayVec;
 use bq_closure::Bounds;
-use bq_model::{Attr, Element, Part, Query};
+use bq_model::{Element, Part, Query};
 
 // Whether two attributes are of one class.
-fn are_one_class(q: &Query, p: &Part, bounds: &Bounds, a: Attr, b: Attr) -> bool
+fn are_one_class(q: &Query, p: &Part, bounds: &Bounds, a: Named, b: Named) -> bool
     requires known { IsKnown q.now p.now.signs.items bounds.now }
-    requires left { Contains (attrs_of q.now.atoms) a }
-    requires right { Contains (attrs_of q.now.atoms) b }
-    ensures { IsTrue result ↔ AreOneClass q.now p.now.signs.items a b }
+    requires left { IsNamed q.now a }
+    requires right { IsNamed q.now b }
+    ensures { IsTrue result ↔ AreOneClass q.now p.now.signs.items a.attr b.attr }
 {
-    a.stream == b.stream
-        && q.in_one_group(a, Element::Attr(b))
-        && is_equal(q, p, bounds, Element::Attr(a), Element::Attr(b))
+    a.attr.stream == b.attr.stream
+        && q.in_one_group(a.attr, Element::Attr(b.attr))
+        && is_equal(q, p, bounds, as_element(q, a), as_element(q, b))
 }
 
 // The place of the attribute that names the class of another.
-#[tactic(auto, using(crate::proofs::Naming::class_place))]
-fn class_of(q: &Query, p: &Part, bounds: &Bounds, attr: Attr) -> u8
+fn class_of(q: &Query, p: &Part, bounds: &Bounds, a: Named) -> u8
     requires known { IsKnown q.now p.now.signs.items bounds.now }
-    requires among { Contains (attrs_of q.now.atoms) attr }
-    ensures { IsClassPlace q.now p.now.signs.items attr result }
+    requires among { IsNamed q.now a }
+    ensures { IsClassPlace q.now p.now.signs.items a.attr result }
 {
     let attrs = q.attrs();
     for i in 0..attrs.len() {
-        if are_one_class(q, p, bounds, attrs[i], attr) {
+        if are_one_class(q, p, bounds, named_at(q, i), a) {
             return i as u8;
         }
     }
@@ -47,7 +48,7 @@ pub fn classes(q: &Query, p: &Part, bounds: &Bounds) -> ArrayVec<u8, 12>
     let attrs = q.attrs();
     let mut list = ArrayVec::new();
     for i in 0..attrs.len() {
-        list.push(class_of(q, p, bounds, attrs[i]));
+        list.push(class_of(q, p, bounds, named_at(q, i)));
     }
     list
 }

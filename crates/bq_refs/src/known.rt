@@ -4,7 +4,7 @@ ghost use Rattle.bq_model.specs.Parts.{IsPart};
 ghost use Rattle.bq_closure.specs.Choices.{AreChoices};
 ghost use Rattle.bq_refs.specs.Known.{IsKnown, IsBasis, AddsSign};
 
-use crate::links::all_links;
+use crate::links::links_across;
 use arrayvec::ArrayVec;
 use bq_closure::{Bounds, Choice, choices};
 use bq_constraints::Constraint;
@@ -12,7 +12,7 @@ use bq_model::{Link, Part, Query, Sign};
 use std::marker::Model;
 
 /// What all parts of a query share: the bounds of its comparisons and domains, what each sign of each pair adds to them, and the
-/// links of each attribute with each. A clause sees the bounds' value, and two lists.
+/// links of each attribute with each of another stream and its group. A clause sees the bounds' value, and two lists.
 #[derive(Drop)]
 pub struct Basis {
     bounds: Bounds,
@@ -36,11 +36,11 @@ impl Basis {
         Basis {
             bounds: Bounds::of_query(q),
             choices: choices(q),
-            links: all_links(q.attrs()),
+            links: links_across(q),
         }
     }
 
-    /// Returns the links of each attribute with each.
+    /// Returns the links of each attribute with each of another stream and its group.
     pub fn links(&self) -> &[Link]
         ensures { result.now ≡ self.now.links }
     {

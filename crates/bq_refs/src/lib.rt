@@ -9,6 +9,7 @@ mod classes;
 mod known;
 mod links;
 mod order;
+mod placed;
 mod range;
 mod reading;
 mod redundant;

@@ -1,12 +1,13 @@
 //! The links of a part, which are its equalities and nonredundant inequalities between streams.
 ghost use Rattle.std.specs.Prelude.{◌≡◌, ◌↔◌, ◌+◌, ◌≤◌, ◌++◌, IsTrue, Contains, length, map};
-ghost use Rattle.bq_model.specs.Query.{attrs_of, attr_lt};
+ghost use Rattle.bq_model.specs.Query.{attrs_of, attr_lt, IsWithinLimits};
 ghost use Rattle.bq_model.specs.Links.{IsInequality};
 ghost use Rattle.bq_model.specs.Plan.{link};
 ghost use Rattle.bq_refs.specs.Known.{IsKnown};
-ghost use Rattle.bq_refs.specs.Sifting.{Sifts, links_among, IsOrderedEquality, IsOrderedInequality, IsLessAcross};
+ghost use Rattle.bq_refs.specs.Sifting.{Sifts, links_among, IsAcross, AreLinksAcross, IsOrderedEquality, IsOrderedInequality, IsLessAcross};
 
 use crate::order::{is_equal, is_less};
+use crate::placed::with_node;
 use crate::redundant::is_redundant;
 use arrayvec::ArrayVec;
 use bq_closure::Bounds;
@@ -32,14 +33,38 @@ fn push_row(list: &mut ArrayVec<Link, 144>, left: Attr, attrs: &[Attr])
     }
 }
 
-/// Returns each column with each.
-pub fn all_links(attrs: &[Attr]) -> ArrayVec<Link, 144>
+// Each column with each.
+fn all_links(attrs: &[Attr]) -> ArrayVec<Link, 144>
     requires { length attrs.now ≤ 12 }
     ensures { result.items ≡ links_among attrs.now attrs.now }
 {
     let mut list = ArrayVec::new();
     for i in 0..attrs.len() {
         push_row(&mut list, attrs[i], attrs);
+    }
+    list
+}
+
+// Whether the sides are of different streams and one group.
+fn is_across(q: &Query, l: Link) -> bool
+    ensures { IsTrue result ↔ IsAcross q.now l }
+{
+    let Link { left, right } = l;
+    left.stream != right.stream && q.in_one_group(left, Element::Attr(right))
+}
+
+/// Returns the links of each attribute with each of another stream and its group.
+pub fn links_across(q: &Query) -> ArrayVec<Link, 144>
+    ensures across { AreLinksAcross q.now result.items }
+    ensures limits { IsWithinLimits q.now }
+{
+    let every = all_links(q.attrs());
+    let links = every.as_slice();
+    let mut list = ArrayVec::new();
+    for i in 0..links.len() {
+        if is_across(q, links[i]) {
+            list.push(links[i]);
+        }
     }
     list
 }
@@ -54,7 +79,13 @@ fn is_equality(q: &Query, p: &Part, bounds: &Bounds, l: Link) -> bool
     is_before(l.left, l.right)
         && l.left.stream != l.right.stream
         && q.in_one_group(l.left, Element::Attr(l.right))
-        && is_equal(q, p, bounds, Element::Attr(l.left), Element::Attr(l.right))
+        && is_equal(
+            q,
+            p,
+            bounds,
+            with_node(q, Element::Attr(l.left)),
+            with_node(q, Element::Attr(l.right)),
+        )
 }
 
 // Whether the sides are of different streams and one group, and the left one is less than the right one.
@@ -66,7 +97,13 @@ fn is_less_across(q: &Query, p: &Part, bounds: &Bounds, l: Link) -> bool
 {
     l.left.stream != l.right.stream
         && q.in_one_group(l.left, Element::Attr(l.right))
-        && is_less(q, p, bounds, Element::Attr(l.left), Element::Attr(l.right))
+        && is_less(
+            q,
+            p,
+            bounds,
+            with_node(q, Element::Attr(l.left)),
+            with_node(q, Element::Attr(l.right)),
+        )
 }
 
 // Whether the link is a nonredundant inequality between streams.
@@ -82,7 +119,7 @@ fn is_inequality(q: &Query, p: &Part, bounds: &Bounds, l: Link) -> bool
 /// Returns of all links the equalities between streams, each once and with the earlier attribute on the left.
 pub fn equalities(q: &Query, p: &Part, bounds: &Bounds, links: &[Link]) -> ArrayVec<Link, 66>
     requires known { IsKnown q.now p.now.signs.items bounds.now }
-    requires links { links.now ≡ links_among (attrs_of q.now.atoms) (attrs_of q.now.atoms) }
+    requires links { AreLinksAcross q.now links.now }
     ensures { Sifts (IsOrderedEquality q.now p.now.signs.items) (links_among (attrs_of q.now.atoms) (attrs_of q.now.atoms)) result.items }
 {
     let mut list = ArrayVec::new();
@@ -97,7 +134,7 @@ pub fn equalities(q: &Query, p: &Part, bounds: &Bounds, links: &[Link]) -> Array
 /// Returns of all links the nonredundant inequalities between streams.
 pub fn inequalities(q: &Query, p: &Part, bounds: &Bounds, links: &[Link]) -> ArrayVec<Link, 66>
     requires known { IsKnown q.now p.now.signs.items bounds.now }
-    requires links { links.now ≡ links_among (attrs_of q.now.atoms) (attrs_of q.now.atoms) }
+    requires links { AreLinksAcross q.now links.now }
     ensures { Sifts (IsOrderedInequality q.now p.now.signs.items) (links_among (attrs_of q.now.atoms) (attrs_of q.now.atoms)) result.items }
 {
     let mut list = ArrayVec::new();

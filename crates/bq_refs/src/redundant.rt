@@ -3,61 +3,62 @@ ghost use Rattle.std.specs.Prelude.{◌↔◌, IsTrue, Contains};
 ghost use Rattle.std.specs.List.{Any};
 ghost use Rattle.bq_model.specs.declared.atom.Element.TheVariants as element;
 ghost use Rattle.bq_model.specs.Query.{attrs_of, consts_of};
-ghost use Rattle.bq_model.specs.Order.{IsElement};
 ghost use Rattle.bq_model.specs.Links.{IsRedundant};
 ghost use Rattle.bq_refs.specs.Known.{IsKnown};
+ghost use Rattle.bq_refs.specs.Placed.{IsNamed, IsPlaced};
 ghost use Rattle.bq_refs.specs.Redundant.{LiesBetween, EqualsLeft, EqualsRight, Parts};
 
 use crate::order::{is_equal, is_less};
+use crate::placed::{Named, Placed, as_element, attr_with_node, named_at, with_node};
 use bq_closure::Bounds;
 use bq_model::{Attr, Element, Part, Query};
 
 // Whether e is in one group with x, and lies between x and y.
-fn lies_between(q: &Query, p: &Part, bounds: &Bounds, x: Attr, y: Attr, e: Element) -> bool
+fn lies_between(q: &Query, p: &Part, bounds: &Bounds, x: Named, y: Named, e: Placed) -> bool
     requires known { IsKnown q.now p.now.signs.items bounds.now }
-    requires left { Contains (attrs_of q.now.atoms) x }
-    requires right { Contains (attrs_of q.now.atoms) y }
-    requires middle { IsElement q.now e }
-    ensures { IsTrue result ↔ LiesBetween q.now p.now.signs.items x y e }
+    requires left { IsNamed q.now x }
+    requires right { IsNamed q.now y }
+    requires middle { IsPlaced q.now e }
+    ensures { IsTrue result ↔ LiesBetween q.now p.now.signs.items x.attr y.attr e.element }
 {
-    q.in_one_group(x, e)
-        && is_less(q, p, bounds, Element::Attr(x), e)
-        && is_less(q, p, bounds, e, Element::Attr(y))
+    q.in_one_group(x.attr, e.element)
+        && is_less(q, p, bounds, as_element(q, x), e)
+        && is_less(q, p, bounds, e, as_element(q, y))
 }
 
 // Whether e is in one group with x, equals x and is less than y.
-fn equals_left(q: &Query, p: &Part, bounds: &Bounds, x: Attr, y: Attr, e: Element) -> bool
+fn equals_left(q: &Query, p: &Part, bounds: &Bounds, x: Named, y: Named, e: Placed) -> bool
     requires known { IsKnown q.now p.now.signs.items bounds.now }
-    requires left { Contains (attrs_of q.now.atoms) x }
-    requires right { Contains (attrs_of q.now.atoms) y }
-    requires middle { IsElement q.now e }
-    ensures { IsTrue result ↔ EqualsLeft q.now p.now.signs.items x y e }
+    requires left { IsNamed q.now x }
+    requires right { IsNamed q.now y }
+    requires middle { IsPlaced q.now e }
+    ensures { IsTrue result ↔ EqualsLeft q.now p.now.signs.items x.attr y.attr e.element }
 {
-    q.in_one_group(x, e)
-        && is_equal(q, p, bounds, Element::Attr(x), e)
-        && is_less(q, p, bounds, e, Element::Attr(y))
+    q.in_one_group(x.attr, e.element)
+        && is_equal(q, p, bounds, as_element(q, x), e)
+        && is_less(q, p, bounds, e, as_element(q, y))
 }
 
 // Whether e is in one group with x, x is less than e, and e equals y.
-fn equals_right(q: &Query, p: &Part, bounds: &Bounds, x: Attr, y: Attr, e: Element) -> bool
+fn equals_right(q: &Query, p: &Part, bounds: &Bounds, x: Named, y: Named, e: Placed) -> bool
     requires known { IsKnown q.now p.now.signs.items bounds.now }
-    requires left { Contains (attrs_of q.now.atoms) x }
-    requires right { Contains (attrs_of q.now.atoms) y }
-    requires middle { IsElement q.now e }
-    ensures { IsTrue result ↔ EqualsRight q.now p.now.signs.items x y e }
+    requires left { IsNamed q.now x }
+    requires right { IsNamed q.now y }
+    requires middle { IsPlaced q.now e }
+    ensures { IsTrue result ↔ EqualsRight q.now p.now.signs.items x.attr y.attr e.element }
 {
-    q.in_one_group(x, e)
-        && is_less(q, p, bounds, Element::Attr(x), e)
-        && is_equal(q, p, bounds, e, Element::Attr(y))
+    q.in_one_group(x.attr, e.element)
+        && is_less(q, p, bounds, as_element(q, x), e)
+        && is_equal(q, p, bounds, e, as_element(q, y))
 }
 
 // Whether a constant of the group lies between x and y, or equals one and parts it from the other.
-fn parts(q: &Query, p: &Part, bounds: &Bounds, x: Attr, y: Attr, e: Element) -> bool
+fn parts(q: &Query, p: &Part, bounds: &Bounds, x: Named, y: Named, e: Placed) -> bool
     requires known { IsKnown q.now p.now.signs.items bounds.now }
-    requires left { Contains (attrs_of q.now.atoms) x }
-    requires right { Contains (attrs_of q.now.atoms) y }
-    requires middle { IsElement q.now e }
-    ensures { IsTrue result ↔ Parts q.now p.now.signs.items x y e }
+    requires left { IsNamed q.now x }
+    requires right { IsNamed q.now y }
+    requires middle { IsPlaced q.now e }
+    ensures { IsTrue result ↔ Parts q.now p.now.signs.items x.attr y.attr e.element }
 {
     lies_between(q, p, bounds, x, y, e)
         || equals_left(q, p, bounds, x, y, e)
@@ -65,15 +66,15 @@ fn parts(q: &Query, p: &Part, bounds: &Bounds, x: Attr, y: Attr, e: Element) -> 
 }
 
 // Whether an attribute of the group lies between x and y.
-fn some_attr_between(q: &Query, p: &Part, bounds: &Bounds, x: Attr, y: Attr) -> bool
+fn some_attr_between(q: &Query, p: &Part, bounds: &Bounds, x: Named, y: Named) -> bool
     requires known { IsKnown q.now p.now.signs.items bounds.now }
-    requires left { Contains (attrs_of q.now.atoms) x }
-    requires right { Contains (attrs_of q.now.atoms) y }
-    ensures { IsTrue result ↔ Any (λ a. LiesBetween q.now p.now.signs.items x y (element.Attr a)) (attrs_of q.now.atoms) }
+    requires left { IsNamed q.now x }
+    requires right { IsNamed q.now y }
+    ensures { IsTrue result ↔ Any (λ a. LiesBetween q.now p.now.signs.items x.attr y.attr (element.Attr a)) (attrs_of q.now.atoms) }
 {
     let attrs = q.attrs();
     for i in 0..attrs.len() {
-        if lies_between(q, p, bounds, x, y, Element::Attr(attrs[i])) {
+        if lies_between(q, p, bounds, x, y, as_element(q, named_at(q, i))) {
             return true;
         }
     }
@@ -81,15 +82,15 @@ fn some_attr_between(q: &Query, p: &Part, bounds: &Bounds, x: Attr, y: Attr) -> 
 }
 
 // Whether a constant of the group parts x from y.
-fn some_const_parts(q: &Query, p: &Part, bounds: &Bounds, x: Attr, y: Attr) -> bool
+fn some_const_parts(q: &Query, p: &Part, bounds: &Bounds, x: Named, y: Named) -> bool
     requires known { IsKnown q.now p.now.signs.items bounds.now }
-    requires left { Contains (attrs_of q.now.atoms) x }
-    requires right { Contains (attrs_of q.now.atoms) y }
-    ensures { IsTrue result ↔ Any (λ k. Parts q.now p.now.signs.items x y (element.Const k)) (consts_of q.now.atoms) }
+    requires left { IsNamed q.now x }
+    requires right { IsNamed q.now y }
+    ensures { IsTrue result ↔ Any (λ k. Parts q.now p.now.signs.items x.attr y.attr (element.Const k)) (consts_of q.now.atoms) }
 {
     let consts = q.consts();
     for i in 0..consts.len() {
-        if parts(q, p, bounds, x, y, Element::Const(consts[i])) {
+        if parts(q, p, bounds, x, y, with_node(q, Element::Const(consts[i]))) {
             return true;
         }
     }
@@ -103,5 +104,7 @@ pub fn is_redundant(q: &Query, p: &Part, bounds: &Bounds, x: Attr, y: Attr) -> b
     requires right { Contains (attrs_of q.now.atoms) y }
     ensures { IsTrue result ↔ IsRedundant q.now p.now.signs.items x y }
 {
-    some_attr_between(q, p, bounds, x, y) || some_const_parts(q, p, bounds, x, y)
+    let left = attr_with_node(q, x);
+    let right = attr_with_node(q, y);
+    some_attr_between(q, p, bounds, left, right) || some_const_parts(q, p, bounds, left, right)
 }

@@ -1,35 +1,49 @@
-use Rattle.std.proofs.Common.{◌≡◌, ◌+◌, ◌*◌, ◌<◌, ℕ, get_or, None, Some, nat_eq, sym, ◌∙◌, ap, subst, arith}
-use Rattle.bq_closure.specs.Ways.{IsModest, Writes, head_of}
-use Rattle.bq_closure.proofs.Rows.{row_more, row_same}
+use Rattle.std.proofs.Common.{◌≡◌, ◌≢◌, ◌+◌, ◌*◌, ◌+ℤ◌, get_or, None, Some, nat_eq, sym, ◌∙◌, ap, subst, arith, IsTrue, to_z, of_z, w64}
+use Rattle.std.proofs.lemmas.Int.{ints}
+use Rattle.bq_closure.specs.declared.way.Way.{Way}
+use Rattle.bq_closure.specs.Ways.{IsModest, AreModest, Improves, Leads, head_of}
+use Rattle.bq_closure.proofs.Rows.{row_more, row_same, row_skipped, row_apart, other_row}
 use Rattle.bq_closure.proofs.way.tighten.Goals as goal
-use Rattle.bq_closure.proofs.way.tighten.Goals.{in-Some, in_default}
-
-pub head-head-requires-clause-modest : goal.head-head-requires-clause-modest
-head-head-requires-clause-modest c =
-    let at : get_or c.loop-i.ways (13 * c.loop-i.i + c.from-in-loop-i.result) None ≡ Some c.in-Some.before = c.in-Some.is in
-    let same : get_or c.loop-i.ways (13 * c.loop-i.i + c.args.c.left) None ≡ get_or c.args.ways.now (13 * c.loop-i.i + c.args.c.left) None = c.loop-i.invariant.2 (13 * c.loop-i.i + c.args.c.left) (omega arith) in
-    let is : get_or c.args.ways.now (13 * c.loop-i.i + c.args.c.left) None ≡ Some c.in-Some.before = sym same ∙ (rw c.from-in-loop-i.ensures at at) in
-    subst IsModest is (c.requires.modest c.loop-i.i c.args.c.left (omega arith) (omega arith))
+use Rattle.bq_closure.proofs.way.tighten.Goals.{in-Some+then-is_lower, in-Some+else-is_lower, in_default}
 
 pub loop-i-preserved : goal.loop-i-preserved
 loop-i-preserved c = elim c.match-ways-i.branch [
-  | in-Some w ↦
-      let at : get_or c.loop-i.ways (13 * c.loop-i.i + c.from-in-loop-i.result) None ≡ Some w.in-Some.before = w.in-Some.is in
-      let is : get_or c.loop-i.ways (13 * c.loop-i.i + c.args.c.left) None ≡ Some w.in-Some.before = rw c.from-in-loop-i.ensures at at in
-      let copy : (j : ℕ) → j < 13 → get_or c.row-after.result j None ≡ get_or c.args.ways.now (13 * c.args.c.right + j) None = rw c.from.ensures at c.row-after.ensures in
-      let h1 : Writes c.loop-i.ways (13 * c.loop-i.i) (13 * c.loop-i.i + c.args.nodes) w.head-head.result c.row-after.result w.lead.new.ways = w.lead.ensures in
-      let hd : w.head-head.result ≡ head_of w.in-Some.before (nat_eq c.loop-i.i c.args.c.left) c.args.c c.args.number = w.head-head.ensures ∙ ap (λ z. head_of w.in-Some.before (nat_eq c.loop-i.i z) c.args.c c.args.number) w.from-in-Some.ensures in
-      let h : Writes c.loop-i.ways (13 * c.loop-i.i) (13 * c.loop-i.i + c.args.nodes) (head_of w.in-Some.before (nat_eq c.loop-i.i c.args.c.left) c.args.c c.args.number) c.row-after.result c.match-ways-i.ways = rw w.ways-is (rw hd at h1) in (
+  | in-Some+then-is_lower w ↦
+      let at : get_or c.loop-i.ways (13 * c.loop-i.i + c.from-left.result) None ≡ Some w.in-Some.before = w.in-Some.is in
+      let is : get_or c.loop-i.ways (13 * c.loop-i.i + c.args.c.left) None ≡ Some w.in-Some.before = rw c.from-left.ensures at at in
+      let hd : w.head-head.result ≡ head_of w.in-Some.before (nat_eq c.loop-i.i c.args.c.left) c.args.c c.args.number = w.head-head.ensures ∙ ap (λ z. head_of w.in-Some.before (nat_eq c.loop-i.i z) c.args.c c.args.number) c.from-left.ensures in
+      let modest : AreModest w.in-Some.before = subst IsModest (sym (c.loop-i.invariant.2 (13 * c.loop-i.i + c.args.c.left) (omega arith)) ∙ is) (c.requires.modest c.loop-i.i c.args.c.left (omega arith) (omega arith)) in
+      let bound : w.head-head.result.bound ≡ w.in-Some.before.bound +ℤ c.args.c.bound = ap (λ (z : Way). z.bound) hd in
+      let exact : to_z w64 (of_z w64 w.head-head.result.bound) ≡ w.in-Some.before.bound +ℤ c.args.c.bound = omega (arith, ints, bound, modest.low, modest.high, c.requires.low, c.requires.high) in
+      let low : Improves (get_or c.loop-i.ways (13 * c.loop-i.i + c.args.c.right) None) (w.in-Some.before.bound +ℤ c.args.c.bound) = rw (exact, c.from-right.ensures) at (w.is_lower.ensures.0 w.if-is_lower.true) in
+      let apart : c.loop-i.i ≢ c.args.c.right = row_apart c.args.ways.now c.loop-i.ways c.args.nodes c.loop-i.i c.args.c w.in-Some.before (omega arith) (omega arith) (omega arith) (omega arith) c.requires.closed c.requires.agrees c.loop-i.invariant.2 is low in
+      let led1 : Leads c.loop-i.ways c.loop-i.i c.from-right.result c.args.nodes w.head-head.result w.lead.new.ways = w.lead.ensures in
+      let led : Leads c.loop-i.ways c.loop-i.i c.args.c.right c.args.nodes (head_of w.in-Some.before (nat_eq c.loop-i.i c.args.c.left) c.args.c c.args.number) c.match-ways-i.ways = rw w.ways-is (rw (c.from-right.ensures, hd) at led1) in (
         c.match-ways-i.array_long,
-        row_more c.args.ways.now c.loop-i.ways c.match-ways-i.ways c.args.nodes c.loop-i.i c.args.c c.args.number c.row-after.result w.in-Some.before (omega arith) (omega arith) (omega arith) (omega arith) c.loop-i.invariant.1 c.loop-i.invariant.2 copy is h,
-        λ k g. h.later k (omega arith) ∙ c.loop-i.invariant.2 k (omega arith),
+        row_more c.args.ways.now c.loop-i.ways c.match-ways-i.ways c.args.nodes c.loop-i.i c.args.c c.args.number w.in-Some.before (omega arith) (omega arith) (omega arith) c.loop-i.invariant.1 c.loop-i.invariant.2 c.loop-i.invariant.3 is led,
+        λ k g. led.later k (omega arith) ∙ c.loop-i.invariant.2 k (omega arith),
+        λ j lj. other_row c.loop-i.ways c.match-ways-i.ways c.loop-i.i c.args.c.right c.args.nodes j _ apart (omega arith) lj (omega arith) led ∙ c.loop-i.invariant.3 j lj,
+      )
+  | in-Some+else-is_lower w ↦
+      let at : get_or c.loop-i.ways (13 * c.loop-i.i + c.from-left.result) None ≡ Some w.in-Some.before = w.in-Some.is in
+      let is : get_or c.loop-i.ways (13 * c.loop-i.i + c.args.c.left) None ≡ Some w.in-Some.before = rw c.from-left.ensures at at in
+      let hd : w.head-head.result ≡ head_of w.in-Some.before (nat_eq c.loop-i.i c.args.c.left) c.args.c c.args.number = w.head-head.ensures ∙ ap (λ z. head_of w.in-Some.before (nat_eq c.loop-i.i z) c.args.c c.args.number) c.from-left.ensures in
+      let modest : AreModest w.in-Some.before = subst IsModest (sym (c.loop-i.invariant.2 (13 * c.loop-i.i + c.args.c.left) (omega arith)) ∙ is) (c.requires.modest c.loop-i.i c.args.c.left (omega arith) (omega arith)) in
+      let bound : w.head-head.result.bound ≡ w.in-Some.before.bound +ℤ c.args.c.bound = ap (λ (z : Way). z.bound) hd in
+      let exact : to_z w64 (of_z w64 w.head-head.result.bound) ≡ w.in-Some.before.bound +ℤ c.args.c.bound = omega (arith, ints, bound, modest.low, modest.high, c.requires.low, c.requires.high) in
+      let high : Improves (get_or c.loop-i.ways (13 * c.loop-i.i + c.args.c.right) None) (w.in-Some.before.bound +ℤ c.args.c.bound) → IsTrue w.is_lower.result = rw (exact, c.from-right.ensures) at w.is_lower.ensures.1 in (
+        c.match-ways-i.array_long,
+        rw w.ways-is (row_skipped c.args.ways.now c.loop-i.ways c.args.nodes c.loop-i.i c.args.c c.args.number w.in-Some.before (omega arith) (omega arith) (omega arith) (omega arith) c.requires.closed c.loop-i.invariant.1 c.loop-i.invariant.2 is (λ h. let y = high h in let n = w.if-is_lower.false in cc)),
+        λ k g. rw w.ways-is (c.loop-i.invariant.2 k (omega arith)),
+        rw w.ways-is c.loop-i.invariant.3,
       )
   | in_default w ↦
-      let at : get_or c.loop-i.ways (13 * c.loop-i.i + c.from-in-loop-i.result) None ≡ None = w.in_default.is in
-      let is : get_or c.loop-i.ways (13 * c.loop-i.i + c.args.c.left) None ≡ None = rw c.from-in-loop-i.ensures at at in (
+      let at : get_or c.loop-i.ways (13 * c.loop-i.i + c.from-left.result) None ≡ None = w.in_default.is in
+      let is : get_or c.loop-i.ways (13 * c.loop-i.i + c.args.c.left) None ≡ None = rw c.from-left.ensures at at in (
         c.match-ways-i.array_long,
         rw w.ways-is (row_same c.args.ways.now c.loop-i.ways c.args.nodes c.loop-i.i c.args.c c.args.number (omega arith) (omega arith) (omega arith) c.loop-i.invariant.1 c.loop-i.invariant.2 is),
         λ k g. rw w.ways-is (c.loop-i.invariant.2 k (omega arith)),
+        rw w.ways-is c.loop-i.invariant.3,
       )
 ]
 

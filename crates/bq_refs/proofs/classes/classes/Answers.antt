@@ -1,4 +1,5 @@
-use Rattle.std.proofs.Common.{◌≡◌, length, take, ap, arith}
+use Rattle.std.proofs.Common.{◌≡◌, ◌<◌, List, length, take, ap, subst, refl, arith}
+use Rattle.bq_model.specs.declared.atom.Attr.{Attr}
 use Rattle.std.proofs.lemmas.List.{length-take-le}
 use Rattle.bq_model.specs.Query.{attrs_of}
 use Rattle.bq_refs.specs.Refs.{IsClassPlace}
@@ -14,4 +15,7 @@ push-requires c =
     (omega arith, omega (arith, a, b, e, c.requires.few))
 
 pub loop-i-preserved : goal.loop-i-preserved
-loop-i-preserved c = zip_more_at (IsClassPlace c.args.q.now c.args.p.now.signs.items) (attrs_of c.args.q.now.atoms) _ _ _ c.loop-i.i _ _ c.attrs-attrs.ensures.value c.loop-i-test.true c.loop-i.invariant c.class_of.ensures c.push.ensures.items
+loop-i-preserved c =
+    let d : Attr = record { stream = 0; column = 0 } in
+    let l : c.loop-i.i < length (attrs_of c.args.q.now.atoms) = subst (λ (z : List Attr). c.loop-i.i < length z) c.attrs-attrs.ensures.value c.loop-i-test.true in
+    zip_more_at (IsClassPlace c.args.q.now c.args.p.now.signs.items) (attrs_of c.args.q.now.atoms) (attrs_of c.args.q.now.atoms) _ _ c.loop-i.i d _ refl l c.loop-i.invariant (rw (c.named_at.ensures.attr d) at c.class_of.ensures) c.push.ensures.items

@@ -1,9 +1,8 @@
-use Rattle.std.proofs.Common.{◌<◌, length, ap, arith, ◌∙◌}
+use Rattle.std.proofs.Common.{◌<◌, length, ap, refl, arith, ◌∙◌}
 use Rattle.arrayvec.specs.ArrayVec.{ArrayVec as Items}
 use Rattle.bq_model.specs.declared.plan.Link.{Link}
-use Rattle.bq_model.specs.Query.{attrs_of}
-use Rattle.bq_refs.specs.Sifting.{done, links_among, IsOrderedEquality}
-use Rattle.bq_refs.proofs.Gathered.{kept_at, dropped_at, end_at, sides_among, room_for_equality, not_from}
+use Rattle.bq_refs.specs.Sifting.{done, IsOrderedEquality}
+use Rattle.bq_refs.proofs.Gathered.{kept_at, dropped_at, end_at, all_equalities, sides_among, room_for_equality, not_from}
 use Rattle.bq_refs.proofs.links.equalities.Goals.{then-is_equality, else-is_equality}
 use Rattle.bq_refs.proofs.links.equalities.Goals as goal
 
@@ -28,15 +27,14 @@ push-requires c =
 
 pub loop-i-preserved : goal.loop-i-preserved
 loop-i-preserved c =
-    let e = c.requires.links in
     elim c.if-is_equality.branch [
       | then-is_equality w ↦
-          kept_at (IsOrderedEquality c.args.q.now c.args.p.now.signs.items) (links_among (attrs_of c.args.q.now.atoms) (attrs_of c.args.q.now.atoms)) c.args.links.now c.loop-i.list.items _ c.loop-i.i _ e c.loop-i-test.true (c.is_equality.ensures.0 w.if-is_equality.true) c.loop-i.invariant (ap (λ (v : Items Link). v.items) w.list-is ∙ w.push.ensures.items)
+          kept_at (IsOrderedEquality c.args.q.now c.args.p.now.signs.items) c.args.links.now c.args.links.now c.loop-i.list.items _ c.loop-i.i _ refl c.loop-i-test.true (c.is_equality.ensures.0 w.if-is_equality.true) c.loop-i.invariant (ap (λ (v : Items Link). v.items) w.list-is ∙ w.push.ensures.items)
       | else-is_equality w ↦
-          dropped_at (IsOrderedEquality c.args.q.now c.args.p.now.signs.items) (links_among (attrs_of c.args.q.now.atoms) (attrs_of c.args.q.now.atoms)) c.args.links.now c.loop-i.list.items _ c.loop-i.i _ e c.loop-i-test.true (not_from _ c.is_equality.ensures.1 w.if-is_equality.false) c.loop-i.invariant (ap (λ (v : Items Link). v.items) w.list-is)
+          dropped_at (IsOrderedEquality c.args.q.now c.args.p.now.signs.items) c.args.links.now c.args.links.now c.loop-i.list.items _ c.loop-i.i _ refl c.loop-i-test.true (not_from _ c.is_equality.ensures.1 w.if-is_equality.false) c.loop-i.invariant (ap (λ (v : Items Link). v.items) w.list-is)
     ]
 
 pub returns : goal.returns
 returns c =
     let e = c.requires.links in
-    end_at (IsOrderedEquality c.args.q.now c.args.p.now.signs.items) (links_among (attrs_of c.args.q.now.atoms) (attrs_of c.args.q.now.atoms)) _ c.loop-i.list.items c.loop-i.i e c.loop-i-test.false c.loop-i.invariant
+    all_equalities c.args.q.now c.args.p.now.signs.items _ _ e (end_at (IsOrderedEquality c.args.q.now c.args.p.now.signs.items) c.args.links.now c.args.links.now c.loop-i.list.items c.loop-i.i refl c.loop-i-test.false c.loop-i.invariant)

@@ -1,9 +1,8 @@
-use Rattle.std.proofs.Common.{◌<◌, length, ap, arith, ◌∙◌}
+use Rattle.std.proofs.Common.{◌<◌, length, ap, refl, arith, ◌∙◌}
 use Rattle.arrayvec.specs.ArrayVec.{ArrayVec as Items}
 use Rattle.bq_model.specs.declared.plan.Link.{Link}
-use Rattle.bq_model.specs.Query.{attrs_of}
-use Rattle.bq_refs.specs.Sifting.{done, links_among, IsOrderedInequality}
-use Rattle.bq_refs.proofs.Gathered.{kept_at, dropped_at, end_at, sides_among, room_for_inequality, not_from}
+use Rattle.bq_refs.specs.Sifting.{done, IsOrderedInequality}
+use Rattle.bq_refs.proofs.Gathered.{kept_at, dropped_at, end_at, all_inequalities, sides_among, room_for_inequality, not_from}
 use Rattle.bq_refs.proofs.links.inequalities.Goals.{then-is_inequality, else-is_inequality}
 use Rattle.bq_refs.proofs.links.inequalities.Goals as goal
 
@@ -28,15 +27,14 @@ push-requires c =
 
 pub loop-i-preserved : goal.loop-i-preserved
 loop-i-preserved c =
-    let e = c.requires.links in
     elim c.if-is_inequality.branch [
       | then-is_inequality w ↦
-          kept_at (IsOrderedInequality c.args.q.now c.args.p.now.signs.items) (links_among (attrs_of c.args.q.now.atoms) (attrs_of c.args.q.now.atoms)) c.args.links.now c.loop-i.list.items _ c.loop-i.i _ e c.loop-i-test.true (c.is_inequality.ensures.0 w.if-is_inequality.true) c.loop-i.invariant (ap (λ (v : Items Link). v.items) w.list-is ∙ w.push.ensures.items)
+          kept_at (IsOrderedInequality c.args.q.now c.args.p.now.signs.items) c.args.links.now c.args.links.now c.loop-i.list.items _ c.loop-i.i _ refl c.loop-i-test.true (c.is_inequality.ensures.0 w.if-is_inequality.true) c.loop-i.invariant (ap (λ (v : Items Link). v.items) w.list-is ∙ w.push.ensures.items)
       | else-is_inequality w ↦
-          dropped_at (IsOrderedInequality c.args.q.now c.args.p.now.signs.items) (links_among (attrs_of c.args.q.now.atoms) (attrs_of c.args.q.now.atoms)) c.args.links.now c.loop-i.list.items _ c.loop-i.i _ e c.loop-i-test.true (not_from _ c.is_inequality.ensures.1 w.if-is_inequality.false) c.loop-i.invariant (ap (λ (v : Items Link). v.items) w.list-is)
+          dropped_at (IsOrderedInequality c.args.q.now c.args.p.now.signs.items) c.args.links.now c.args.links.now c.loop-i.list.items _ c.loop-i.i _ refl c.loop-i-test.true (not_from _ c.is_inequality.ensures.1 w.if-is_inequality.false) c.loop-i.invariant (ap (λ (v : Items Link). v.items) w.list-is)
     ]
 
 pub returns : goal.returns
 returns c =
     let e = c.requires.links in
-    end_at (IsOrderedInequality c.args.q.now c.args.p.now.signs.items) (links_among (attrs_of c.args.q.now.atoms) (attrs_of c.args.q.now.atoms)) _ c.loop-i.list.items c.loop-i.i e c.loop-i-test.false c.loop-i.invariant
+    all_inequalities c.args.q.now c.args.p.now.signs.items _ _ e (end_at (IsOrderedInequality c.args.q.now c.args.p.now.signs.items) c.args.links.now c.args.links.now c.loop-i.list.items c.loop-i.i refl c.loop-i-test.false c.loop-i.invariant)

@@ -1,8 +1,11 @@
-use Rattle.bq_refs.proofs.InPartFacts.{satisfiable, equal_if, equal_only}
+use Rattle.bq_refs.proofs.AtNodes.{equal_when, above_when_equal, above_when_equal_turned}
 use Rattle.bq_refs.proofs.order.is_equal.Goals as goal
 
-pub eq-requires-clause-satisfiable : goal.eq-requires-clause-satisfiable
-eq-requires-clause-satisfiable c = satisfiable _ _ _ c.requires.known
+pub returns-then-keeps : goal.returns-then-keeps
+returns-then-keeps c = (
+  (λ h. equal_when _ _ _ c.requires.known _ _ c.requires.left c.requires.right (c.keeps.ensures.0 c.if-keeps.true) (c.keeps-then-keeps.ensures.0 h)),
+  (λ a. c.keeps-then-keeps.ensures.1 (above_when_equal_turned _ _ _ c.requires.known _ _ c.requires.left c.requires.right a)),
+)
 
-pub returns : goal.returns
-returns c = ((λ h. equal_if _ _ _ c.requires.known _ _ c.requires.left c.requires.right (c.eq.ensures.0 h)), (λ a. c.eq.ensures.1 (equal_only _ _ _ c.requires.known _ _ c.requires.left c.requires.right a)))
+pub returns-else-keeps : goal.returns-else-keeps
+returns-else-keeps c = ((λ h. cc), (λ a. let x = c.keeps.ensures.1 (above_when_equal _ _ _ c.requires.known _ _ c.requires.left c.requires.right a) in cc))
