@@ -27,10 +27,7 @@ pub mod OneTuple
 pub mod Chained
 pub mod PassedOver
 pub mod Refused
-pub mod FilledLaws
-pub mod InRanges
 pub mod RangeLaws
-pub mod PlacedBoxes
 pub mod Owning
 pub mod Behind
 pub mod Bases
@@ -38,3 +35,6 @@ pub mod CellKinds
 pub mod ListedTuples
 pub mod Loadings
 pub mod LoadedTuples
+pub mod OldAnswers
+pub mod Closing
+pub mod OwnCells

@@ -5,7 +5,7 @@ use Rattle.std.proofs.lemmas.List.{length-map}
 use Rattle.bq_model.specs.declared.plan.Plan.{Plan}
 use Rattle.bq_model.specs.declared.plan.Plan.TheVariants as plan
 use Rattle.bq_model.specs.Tuples.{is_same, ascending}
-use Rattle.bq_model.specs.Combinations.{Found}
+use Rattle.bq_model.specs.Combinations.{Found, read_from}
 use Rattle.bq_model.specs.Merge.{merged_table}
 use Rattle.bq_model.specs.Numbers.{parts_of}
 use Rattle.bq_model.specs.Ranges.{all_tuples}
@@ -18,18 +18,17 @@ use Rattle.bq_pool.specs.Extents.{PoolValue}
 use Rattle.bq_answers.specs.Entries.{Entry, TableValue, with_entries, entry_of, added, changed, has, settled, tuples_of, Ascends, Fits}
 use Rattle.bq_answers.proofs.Changed.{ascends_changed, ascends_settled}
 use Rattle.bq_answers.proofs.Tuples.{has_tuple}
-use Rattle.bq_executor.specs.declared.filled.Filled.{Filled}
-use Rattle.bq_executor.specs.Executor.{ExecutorValue, parts_in, list_in, tuples_in, waiting_in, most_answers, IsSound}
+use Rattle.bq_executor.specs.Executor.{ExecutorValue, parts_in, list_in, cells_in, tuples_in, waiting_in, most_answers, IsSound}
 use Rattle.bq_executor.specs.Standing.{AreKept, KeepsWithin}
 use Rattle.bq_executor.specs.Arriving.{HasParts}
-use Rattle.bq_executor.specs.Filled.{AreFilled}
 use Rattle.bq_executor.specs.Taking.{with_all}
 use Rattle.bq_executor.specs.Bases.{kept_in, StandsFrom}
 use Rattle.bq_executor.specs.Loading.{loaded_tuple, Loads}
 use Rattle.bq_executor.proofs.Answered.{settled-tuples, settled-has, filter_plain}
 use Rattle.bq_executor.proofs.Room.{Lie, lie_from, lie_all, tuples_changed, changed_within, room_for}
 use Rattle.bq_executor.proofs.TakingNew.{tuples_new_all}
-use Rattle.bq_executor.proofs.FilledLaws.{filled-kept, has-changed}
+use Rattle.bq_executor.proofs.OldAnswers.{has-changed, has-from-tuples, tuples-from-has}
+use Rattle.bq_executor.proofs.Closing.{closed-more}
 use Rattle.bq_executor.proofs.PlanFacts.{has_parts}
 use Rattle.bq_executor.proofs.Settled.{settled-spelled}
 use Rattle.bq_executor.proofs.Keeping.{keeps}
@@ -81,7 +80,7 @@ module _ (e : ExecutorValue) (sound : IsSound e) (t : List ℤ) (wide : length t
   among = list_any (is_same t) (all_tuples e.query (parts_in e))
 
   abbrev told : TableValue → ExecutorValue
-  told table = record { query = e.query; shared = e.shared; plan = e.plan; extent = e.extent; given = e.given; table = table }
+  told table = record { query = e.query; shared = e.shared; plan = e.plan; extent = e.extent; given = e.given; table = table; saturation = e.saturation }
 
   turned : (b : Bool) → not b ≡ true → b ≡ false
   turned true h = absurd cc
@@ -142,16 +141,22 @@ module _ (e : ExecutorValue) (sound : IsSound e) (t : List ℤ) (wide : length t
   pub tuple-sound : IsSound (told after)
   tuple-sound = by-result (λ table. IsSound (told table)) sound more-sound
 
-  pub tuple-filled : (filled : Filled) → AreFilled e.query (parts_in e) filled es → AreFilled e.query (parts_in e) filled after.entries
-  tuple-filled filled h =
-      by-result (λ table. AreFilled e.query (parts_in e) filled table.entries) h
-      (λ r. filled-kept e.query (parts_in e) filled es (settled (added t 1 es)) (λ d z k. settled-has z (added t 1 es) ∙ has-changed z t one_more es k) h)
-
   pub tuple-quiet : waiting_in e ≡ [] → waiting_in (told after) ≡ []
   tuple-quiet quiet = by-result (λ table. waiting_in (told table) ≡ []) quiet (λ r. settled-spelled (added t 1 es))
 
+  -- each tuple stays
+  tuples-stay : (z : List ℤ) → Contains (tuples_of es) z → Contains (tuples_of after.entries) z
+  tuples-stay z h =
+      by-result (λ table. Contains (tuples_of table.entries) z) h
+      (λ r. tuples-from-has z (settled (added t 1 es)) (settled-has z (added t 1 es) ∙ has-changed z t one_more es (has-from-tuples z es h)))
+
   pub tuple-kept : (pool : PoolValue) → AreKept e pool → AreKept (told after) pool
-  tuple-kept pool k = record { live = k.live; fitting = k.fitting; counts = k.counts }
+  tuple-kept pool k = record {
+    live = k.live;
+    fitting = k.fitting;
+    counts = k.counts;
+    saturated = λ s d. closed-more e.query (parts_in e) (read_from (cells_in e pool)) (tuples_of es) (tuples_of after.entries) tuples-stay (k.saturated s d);
+  }
 
   pub tuple-within : (pool : PoolValue) → KeepsWithin e pool → KeepsWithin (told after) pool
   tuple-within pool w = keeps (told after) tuple-sound pool w.live w.rest

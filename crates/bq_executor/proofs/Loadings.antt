@@ -19,12 +19,18 @@ use Rattle.bq_laws.proofs.Bases.{bases-keep-on}
 use Rattle.bq_laws.proofs.Tests.{and-left, and-right, true_or_false, nat_true}
 use Rattle.bq_pool.specs.Extents.{PoolValue, cells_of, with_cells, IsLive}
 use Rattle.bq_pool.proofs.CallerLemmas.{cells_of_with, live_with}
-use Rattle.bq_executor.specs.Executor.{ExecutorValue, parts_in, list_in, cells_in, rest_in, IsSound, with_given}
+use Rattle.bq_executor.specs.declared.saturation.Saturation.TheVariants as saturation
+use Rattle.bq_executor.specs.Executor.{ExecutorValue, parts_in, list_in, cells_in, rest_in, IsSound, with_given, with_saturation}
+use Rattle.bq_executor.proofs.Closing.{stands-saturated, within-saturated}
 use Rattle.bq_executor.specs.Standing.{CountsUpto, AreKept, KeepsWithin}
 use Rattle.bq_executor.specs.Bases.{is_empty, kept_in, StandsFrom}
 use Rattle.bq_executor.specs.Loading.{kind_at, filled_cell, loaded_cell, Loads}
 use Rattle.bq_executor.proofs.CellKinds.{kind-past, kind-of-box}
 use Rattle.bq_executor.proofs.PlanFacts.{parts_plans, parts_boxes, no_boxes, no_parts, cells_of_plan}
+
+-- of none is not of all
+none-are : saturation.None ≡ saturation.All → ⊥
+none-are h = cc
 
 -- what stood for no rows since keeps just the base
 pub keeps-base : (e : ExecutorValue) (pool : PoolValue) (base : Base) → StandsFrom e pool base [] → kept_in e base [] ≡ base
@@ -46,6 +52,7 @@ given-kept e x same n pool none kept =
       live = k.live;
       fitting = k.fitting;
       counts = λ part c place i l s. counts-more e.given n (read_from (cells_in e pool) part place i) (omega (arith, z)) (k.counts part c place i l s);
+      saturated = k.saturated;
     }
 
 -- a front and a back of cells after one of the front was set
@@ -223,11 +230,12 @@ module _ (e : ExecutorValue) (sound : IsSound e) (pool : PoolValue) (live : IsLi
         apart : (a b : ℕ) → nat_eq a b ≡ false → a ≡ b → ⊥
         apart a b f h = grind (arith, f, h)
 
-    filled-kept : AreKept e pool → AreKept e later
+    filled-kept : AreKept e pool → AreKept (with_saturation e saturation.None) later
     filled-kept k = record {
       live = live_later;
       fitting = λ part known place j l s. (kept_at k part known place j l s).0;
       counts = λ part known place j l s. (kept_at k part known place j l s).1;
+      saturated = λ s d. absurd (none-are s);
     }
 
     filled-within : KeepsWithin e pool → KeepsWithin e later
@@ -246,10 +254,17 @@ module _ (e : ExecutorValue) (sound : IsSound e) (pool : PoolValue) (live : IsLi
   Puts (Some c) result after =
       (result ≡ is_empty (get_or all i Cell.Empty)) × (after ≡ cond result (with_cells pool e.extent (set all i c)) pool)
 
+  -- the executor then
+  abbrev pub told : Bool → ExecutorValue
+  told result = with_saturation e (cond result saturation.None e.saturation)
+
+  told-same : (result : Bool) → result ≡ false → told result ≡ e
+  told-same result r = ap told r
+
   pub cell-loads : (o : Option Cell) (result : Bool) (after : PoolValue) → wanted ≡ o → Puts o result after
-      → (base : Base) → StandsFrom e pool base [] → Loads result (loaded_cell list i v base) e pool e after
+      → (base : Base) → StandsFrom e pool base [] → Loads result (loaded_cell list i v base) e pool (told result) after
   cell-loads None result after w p base s =
-      subst (λ (x : Option Base). Loads result x e pool e after) (sym (given_is ∙ nothing (is_empty (get_or base.cells i Cell.Present)))) (p.0, refl, p.1)
+      subst (λ (x : Option Base). Loads result x e pool (told result) after) (sym (given_is ∙ nothing (is_empty (get_or base.cells i Cell.Present)))) (p.0, told-same result p.0, p.1)
     where
       filling : Option Cell → Option Base
       filling o = option_map (λ c. record base { cells = set base.cells i c }) o
@@ -265,7 +280,7 @@ module _ (e : ExecutorValue) (sound : IsSound e) (pool : PoolValue) (live : IsLi
       nothing : (b : Bool) → cond b (filling None) None ≡ None
       nothing true = refl
       nothing false = refl
-  cell-loads (Some c) result after w p base s = subst (λ (x : Option Base). Loads result x e pool e after) (sym given_is) (by (is_empty (get_or all i Cell.Empty)) refl)
+  cell-loads (Some c) result after w p base s = subst (λ (x : Option Base). Loads result x e pool (told result) after) (sym given_is) (by (is_empty (get_or all i Cell.Empty)) refl)
     where
       filling : Option Cell → Option Base
       filling o = option_map (λ d. record base { cells = set base.cells i d }) o
@@ -279,13 +294,13 @@ module _ (e : ExecutorValue) (sound : IsSound e) (pool : PoolValue) (live : IsLi
           ∙ ap (λ o. cond (is_empty (get_or base.cells i Cell.Present)) (filling o) None) w
           ∙ ap (λ (x : Cell). cond (is_empty x) (filling (Some c)) None) (read_base c w base s)
 
-      by : (b : Bool) → is_empty (get_or all i Cell.Empty) ≡ b → Loads result (cond b (Some (record base { cells = set base.cells i c })) None) e pool e after
+      by : (b : Bool) → is_empty (get_or all i Cell.Empty) ≡ b → Loads result (cond b (Some (record base { cells = set base.cells i c })) None) e pool (told result) after
       by true h =
           let r : result ≡ true = p.0 ∙ h in
-          (r, subst (λ (o : PoolValue). StandsFrom e o (record base { cells = set base.cells i c }) []) (sym (p.1 ∙ ap (λ b. cond b (with_cells pool e.extent (set all i c)) pool) r)) (filled-from c w base s))
+          (r, stands-saturated e (cond result saturation.None e.saturation) after (record base { cells = set base.cells i c }) [] (subst (λ (o : PoolValue). StandsFrom e o (record base { cells = set base.cells i c }) []) (sym (p.1 ∙ ap (λ b. cond b (with_cells pool e.extent (set all i c)) pool) r)) (filled-from c w base s)))
       by false h =
           let r : result ≡ false = p.0 ∙ h in
-          (r, refl, p.1 ∙ ap (λ b. cond b (with_cells pool e.extent (set all i c)) pool) r)
+          (r, told-same result r, p.1 ∙ ap (λ b. cond b (with_cells pool e.extent (set all i c)) pool) r)
 
   -- in both cases all else is kept
   put-is : (P : PoolValue → Type 0) (o : Option Cell) (result : Bool) (after : PoolValue) → wanted ≡ o → Puts o result after → P pool
@@ -297,11 +312,17 @@ module _ (e : ExecutorValue) (sound : IsSound e) (pool : PoolValue) (live : IsLi
       by true is = subst P (sym is) (put c w)
       by false is = subst P (sym is) was
 
-  pub cell-kept : (o : Option Cell) (result : Bool) (after : PoolValue) → wanted ≡ o → Puts o result after → AreKept e pool → AreKept e after
-  cell-kept o result after w p k = put-is (AreKept e) o result after w p k (λ c f. filled-kept c f k)
+  pub cell-kept : (o : Option Cell) (result : Bool) (after : PoolValue) → wanted ≡ o → Puts o result after → AreKept e pool → AreKept (told result) after
+  cell-kept None result after w p k = subst (AreKept (told result)) (sym p.1) (subst (λ (x : ExecutorValue). AreKept x pool) (sym (told-same result p.0)) k)
+  cell-kept (Some c) result after w p k = by result refl p.1
+    where
+      by : (b : Bool) → result ≡ b → after ≡ cond b (with_cells pool e.extent (set all i c)) pool → AreKept (told result) after
+      by true r is = subst (AreKept (told result)) (sym is) (subst (λ b. AreKept (told b) (with_cells pool e.extent (set all i c))) (sym r) (filled-kept c w k))
+      by false r is = subst (AreKept (told result)) (sym is) (subst (λ (x : ExecutorValue). AreKept x pool) (sym (told-same result r)) k)
 
-  pub cell-within : (o : Option Cell) (result : Bool) (after : PoolValue) → wanted ≡ o → Puts o result after → KeepsWithin e pool → KeepsWithin e after
-  cell-within o result after w p k = put-is (KeepsWithin e) o result after w p k (λ c f. filled-within c f k)
+  pub cell-within : (o : Option Cell) (result : Bool) (after : PoolValue) → wanted ≡ o → Puts o result after → KeepsWithin e pool → KeepsWithin (told result) after
+  cell-within o result after w p k =
+      within-saturated e (cond result saturation.None e.saturation) after (put-is (KeepsWithin e) o result after w p k (λ c f. filled-within c f k))
 
   -- only the cells of the extent changed
   pub cell-only : (o : Option Cell) (result : Bool) (after : PoolValue) → wanted ≡ o → Puts o result after → pool ≡ with_cells pool e.extent all

@@ -1,8 +1,8 @@
 -- What holds of an executor after it took a row.
-use Rattle.std.proofs.Common.{◌≡◌, ℕ, min, ◌+◌, ◌*◌, ◌<◌, ◌≤◌, ◌^◌, ◌==◌, cond, Bool, true, false, ℤ, List, [], ◌∷◌, ◌++◌, length, sym, ap, ◌∙◌, subst, arith, All, Contains, length-append, inl, inr, ◌⊎◌}
+use Rattle.std.proofs.Common.{◌≡◌, ℕ, min, ◌+◌, ◌*◌, ◌<◌, ◌≤◌, ◌^◌, ◌==◌, cond, Bool, true, false, ℤ, List, [], ◌∷◌, ◌++◌, length, refl, sym, ap, ◌∙◌, subst, arith, All, Contains, length-append, inl, inr, ◌⊎◌}
 use Rattle.std.specs.List.{list_any}
 use Rattle.std.specs.Option.{option_to_list}
-use Rattle.std.proofs.lemmas.List.{length-map}
+use Rattle.std.proofs.lemmas.List.{length-map, length-take-le}
 use Rattle.std.proofs.lemmas.List.Elements.{All-contains}
 use Rattle.bq_model.specs.declared.cell.Cell.{Cell}
 use Rattle.bq_model.specs.declared.plan.PartPlan.{PartPlan}
@@ -14,9 +14,13 @@ use Rattle.bq_model.specs.Meaning.{Arrival, new_answers}
 use Rattle.bq_model.specs.Filter.{filter_tuple}
 use Rattle.bq_model.specs.Plan.{IsPartPlan, stream_at}
 use Rattle.bq_model.specs.Cells.{printed, FitsKind}
-use Rattle.bq_model.specs.Combinations.{Reading, Found, read_from}
+use Rattle.bq_model.specs.Combinations.{Reading, Found, found_in, read_from}
+use Rattle.bq_model.specs.Bases.{Base, kept_row}
+use Rattle.bq_laws.specs.Closed.{IsClosed, IsSaturated, own_place, own_content}
+use Rattle.bq_laws.proofs.Saturated.{saturated-cells-answer-nothing-new}
+use Rattle.bq_laws.proofs.ClosedTables.{cells-stay-saturated}
 use Rattle.bq_model.specs.Future.{waiting, future}
-use Rattle.bq_model.specs.Merge.{merged_table}
+use Rattle.bq_model.specs.Merge.{merged, merged_table}
 use Rattle.bq_model.specs.Numbers.{parts_of, pages_of}
 use Rattle.bq_model.specs.Sharing.{Box, kept_boxes, sizes_in, synopsis_in, merge_in, IsPlanOf}
 use Rattle.bq_laws.specs.Probing.{AreWithin}
@@ -36,11 +40,15 @@ use Rattle.bq_model.specs.Domains.{RowKeeps}
 use Rattle.bq_pool.specs.Extents.{PoolValue, cells_of}
 use Rattle.bq_synopsis.specs.Premises.{AreFitting, HasRoom}
 use Rattle.bq_answers.specs.Entries.{Entry, TableValue, entry_of, with_entries, Ascends, waiting_of, tuples_of}
+use Rattle.bq_executor.specs.declared.saturation.Saturation.TheVariants as saturation
 use Rattle.bq_executor.specs.Executor.{ExecutorValue, list_in, cells_in, tuples_in, waiting_in, IsSound, with_given, cleared}
 use Rattle.bq_executor.specs.Standing.{StandsFor, CountsUpto, AreKept, KeepsWithin, IsReady, future_in, pool_with, TookRow}
 use Rattle.bq_executor.specs.Taking.{with_all, HaveRoom}
-use Rattle.bq_executor.specs.Arriving.{answered_by, HasParts, HasTaken, IsPlanReady, CanCount}
-use Rattle.bq_executor.proofs.Founds.{Agree}
+use Rattle.bq_executor.specs.Arriving.{arrives, answered_by, HasParts, HasTaken, IsPlanReady, CanCount, LeavesCell, AnswersNothingNew}
+use Rattle.bq_executor.proofs.InPart.{place_inside}
+use Rattle.bq_executor.proofs.OldAnswers.{has-cleared}
+use Rattle.bq_executor.proofs.Closing.{distinct-plan}
+use Rattle.bq_executor.proofs.Founds.{Agree, found-same}
 use Rattle.bq_executor.proofs.Spelled.{spelled_is}
 use Rattle.bq_executor.proofs.Answered.{future-rises, cleared-ascends}
 use Rattle.bq_executor.proofs.Room.{all_within}
@@ -178,6 +186,31 @@ module _ (e : ExecutorValue) (sound : IsSound e) (pool : PoolValue) (ready : IsR
   same_found : found ≡ answered_by q e.plan (read_from (cells_in e pool)) r
   same_found = answered-same q e.plan (read_from all_cells) (read_from (cells_in e pool)) r agree
 
+  -- where the table is closed over the cells, a row that leaves its cell as it is is answered nothing new
+  pub nothing-new : (known : Bool) → (known ≡ true → e.saturation ≡ saturation.All) → (known ≡ true → q.distinct ≡ true) → (known ≡ true → 1 < length q.from)
+      → (es : List Entry) → es ≡ cleared q.distinct e.table.entries → known ≡ true → AnswersNothingNew q parts (read_from all_cells) es
+  nothing-new known all once several es is so = record {
+    once = once so;
+    several = several so;
+    old = λ part k pos values here admitted leaves f c.
+        let d = once so in
+        let dp = distinct-plan e sound d in
+        let own : IsPartPlan q part = All-contains (IsPartPlan q) parts part plans k in
+        let there : pos < length part.streams.items = (let n = own.count in omega (arith, n, here)) in
+        let i : ℕ = own_place part pos values in
+        let l : i < (stream_at part pos).size = place_inside q part sound.limits own pos here values (several so) admitted in
+        let same : read_from (cells_in e pool) part pos i ≡ read_from all_cells part pos i = cut part k pos i there l in
+        let fits : AreFitting part (read_from (cells_in e pool)) = ready.kept.fitting part k in
+        let stays : LeavesCell part (read_from (cells_in e pool)) pos values
+        = ap (λ (x : Cell). merged (stream_at part pos).kind x (own_content part pos values)) same ∙ leaves ∙ sym same in
+        let found_cut : found_in q part (read_from all_cells) (arrives q pos values) ≡ found_in q part (read_from (cells_in e pool)) (arrives q pos values)
+        = found-same q part (read_from all_cells) (read_from (cells_in e pool)) (arrives q pos values) (agree part (Has-from_contains parts part k)) in
+        let among : Contains (tuples_in e) f.tuple
+        = saturated-cells-answer-nothing-new q parts dp part k (read_from (cells_in e pool)) fits (tuples_in e) (arrives q pos values) pos here refl l stays
+        (ready.kept.saturated (all so) d part k pos i here l) f (subst (λ fs. Contains fs f) found_cut c) in
+        has-cleared f.tuple q.distinct e.table.entries es d is among;
+  }
+
   inside : AreWithin (length q.from) (sizes_in list) parts
   inside = within_of e.plan sound.accepted.plan
     where
@@ -220,11 +253,22 @@ module _ (e : ExecutorValue) (sound : IsSound e) (pool : PoolValue) (ready : IsR
         subst (λ x. FitsKind kind x × CountsUpto (e.given + 1) x) (sym (read_after q parts plans list of r all_cells (cells_of after e.extent) whole taken.inserted part c place i l s))
         (kept_by _ e.given kind (read_from (cells_in e pool) part place i) r.values ready.few (ready.kept.fitting part c place i l s) (ready.kept.counts part c place i l s))
 
+    -- the table is closed over the cells where it was before
+    closed : q.distinct ≡ true → IsClosed q parts (read_from (cells_in e pool)) (tuples_in e) → IsClosed q parts (read_from (cells_in later after)) (tuples_of now)
+    closed d was part k place i l m =
+        let base : Base = record { cells = cells_in e pool; table = tuples_in e; given = e.given } in
+        let size : length base.cells ≡ sizes_in list = length-take-le (sizes_in list) all_cells whole in
+        let table : tuples_of now ≡ (kept_row q parts list base r).table = tuples d ∙ sym (ap (λ b. cond b (merged_table (tuples_in e) (future_in e pool r)) []) d) in
+        subst (λ (cs : List Cell). IsSaturated q part (read_from cs) (tuples_of now) place i) (sym cells_later)
+        (subst (λ (ts : List (List ℤ)). IsSaturated q part (read_from (kept_row q parts list base r).cells) ts place i) (sym table)
+        ((cells-stay-saturated q parts (distinct-plan e sound d) list of base r size).stay part k place i l m (was part k place i l m)))
+
     pub kept : AreKept later after
     kept = record {
       live = taken.live;
       fitting = λ part c place i l s. (kept_at part c place i l s).0;
       counts = λ part c place i l s. (kept_at part c place i l s).1;
+      saturated = λ s d. closed d (ready.kept.saturated s d);
     }
 
     -- it keeps within its announced numbers where it did

@@ -16,9 +16,14 @@ use Rattle.bq_model.specs.Sharing.{kept_boxes, synopsis_in, IsPlanOf}
 use Rattle.bq_model.proofs.Has.{Has-from_contains}
 use Rattle.bq_laws.proofs.Fitting.{cells-fit}
 use Rattle.bq_laws.proofs.BoxReadings.{boxes-are-read}
-use Rattle.bq_executor.proofs.PlanFacts.{parts_plans, parts_boxes}
+use Rattle.bq_model.specs.declared.cell.Cell.{Cell}
+use Rattle.bq_laws.specs.Sharing.{AreBoxesOf}
+use Rattle.bq_laws.specs.Closed.{IsClosed}
+use Rattle.bq_laws.proofs.ClosedTables.{tables-stay-closed}
+use Rattle.bq_executor.proofs.PlanFacts.{parts_plans, parts_boxes, no_boxes, no_parts}
+use Rattle.bq_executor.proofs.Closing.{distinct-plan}
 use Rattle.bq_pool.specs.Extents.{PoolValue}
-use Rattle.bq_executor.specs.Executor.{ExecutorValue, parts_in, cells_in, IsSound}
+use Rattle.bq_executor.specs.Executor.{ExecutorValue, parts_in, list_in, cells_in, tuples_in, IsSound}
 use Rattle.bq_executor.specs.Standing.{StandsFor, CountsUpto, AreKept}
 use Rattle.bq_executor.specs.Runs.{StandingIsReady}
 
@@ -64,6 +69,13 @@ module _ (e : ExecutorValue) (pool : PoolValue) (history : List Arrival) (sound 
           let own = All-contains (IsPartPlan e.query) list part plans c in
           boxes-are-read e.query list plans (kept_boxes e.shared e.query list) (parts_boxes e.shared e.query list is.1) history part c place i (let n = own.count in omega (arith, n, l)) s
 
+  boxes-are : AreBoxesOf e.query (parts_in e) (list_in e)
+  boxes-are = by e.plan sound.accepted.plan
+    where
+      by : (p : Plan) → IsPlanOf e.shared e.query p → AreBoxesOf e.query (parts_of p) (kept_boxes e.shared e.query (parts_of p))
+      by plan.Filter h = subst (AreBoxesOf e.query []) (sym (no_boxes e.shared e.query)) no_parts
+      by (plan.Parts parts numbers) h = parts_boxes e.shared e.query parts h.1
+
   kept : length history < 2 ^ 40 → AreKept e pool
   kept few = record {
     live = stands.live;
@@ -74,6 +86,11 @@ module _ (e : ExecutorValue) (pool : PoolValue) (history : List Arrival) (sound 
         λ part c place i l s.
         subst (CountsUpto e.given) (sym (cell_is part c place i l s))
         (subst (λ (n : ℕ). CountsUpto n (cell_of e.query history part place i)) (sym stands.given) (cell-counts e.query part history place i));
+    saturated =
+        λ s d.
+        (let closed = (tables-stay-closed e.query (parts_in e) (distinct-plan e sound d) (list_in e) boxes-are).histories history stands.rows in
+        subst (λ (cs : List Cell). IsClosed e.query (parts_in e) (read_from cs) (tuples_in e)) (sym stands.cells)
+        (subst (λ (ts : List (List ℤ)). IsClosed e.query (parts_in e) (read_from (synopsis_in e.query (list_in e) history)) ts) (sym (stands.tuples d)) closed));
   }
 
 pub standing-is-ready : StandingIsReady

@@ -173,7 +173,7 @@ module _ (q : QueryValue) (plan : List PartPlan) (e : Extent) (pos : ℕ) (here 
     first_read = read_from (cells_of before e)
 
     -- what the part finds is what it finds in the cells before the row
-    found_now : found_in q part (read_from (cells_of now e)) r ≡ found_in q part first_read r
+    pub found_now : found_in q part (read_from (cells_of now e)) r ≡ found_in q part first_read r
     found_now = found-beside q part (read_from (cells_of now e)) first_read r same_beside
 
     split : plan ≡ take n plan ++ part ∷ drop (suc n) plan

@@ -21,6 +21,8 @@ use Rattle.bq_laws.specs.Places.{IsBox}
 use Rattle.bq_pool.specs.declared.pool.Extent.{Extent}
 use Rattle.bq_pool.specs.Extents.{PoolValue, cells_of, with_cells, IsLive}
 use Rattle.bq_synopsis.specs.Premises.{AreFitting, HasRoom, row_cell}
+use Rattle.bq_answers.specs.Entries.{Entry, has}
+use Rattle.bq_laws.specs.Closed.{own_place, with_own}
 
 -- a row of the stream at a place of FROM
 abbrev pub arrives : QueryValue → ℕ → List ℤ → Arrival
@@ -87,6 +89,17 @@ pub record AreReady (q : QueryValue) (parts : List PartPlan) (pool : PoolValue) 
   pub within : cells ≤ 64 * extent.pages
   pub fitting : (part : PartPlan) → Contains parts part → AreFitting part (read_from (cells_of pool extent))
   pub room : (part : PartPlan) → Contains parts part → CanCount part (read_from (cells_of pool extent))
+
+-- a row leaves the cell of a part that it falls into as it is
+abbrev pub LeavesCell : PartPlan → Reading → ℕ → List ℤ → Type 0
+LeavesCell part read pos values = with_own part read pos values ≡ read part pos (own_place part pos values)
+
+-- with DISTINCT, where the query has cells: whatever a part answers to a row that leaves its cell as it is has an entry
+pub record AnswersNothingNew (q : QueryValue) (parts : List PartPlan) (read : Reading) (entries : List Entry) : Type 0 where
+  pub once : q.distinct ≡ true
+  pub several : 1 < length q.from
+  pub old : (part : PartPlan) → Contains parts part → (pos : ℕ) (values : List ℤ) → pos < length q.from → admits q part pos (by_column values) ≡ true
+      → LeavesCell part read pos values → (f : Found) → Contains (found_in q part read (arrives q pos values)) f → has f.tuple entries ≡ true
 
 -- what a filter answers to a row by that row alone
 abbrev pub own_found : QueryValue → Arrival → List Found

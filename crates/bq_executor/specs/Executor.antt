@@ -18,8 +18,10 @@ use Rattle.bq_model.specs.Sharing.{Box, kept_boxes, sizes_in, IsPlanOf}
 use Rattle.bq_model.specs.Ranges.{all_tuples}
 use Rattle.bq_pool.specs.declared.pool.Extent.{Extent}
 use Rattle.bq_pool.specs.Extents.{PoolValue, cells_of}
+use Rattle.bq_executor.specs.declared.saturation.Saturation.{Saturation}
 
--- the query, whether its cells are shared, its plan, the extent of its cells, how many rows were given, and the answer table
+-- the query, whether its cells are shared, its plan, the extent of its cells, how many rows were given, the answer table, and of which cells
+-- it is known that the table has all that they tell
 pub record ExecutorValue : Type 0 where
   pub query : QueryValue
   pub shared : Bool
@@ -27,6 +29,7 @@ pub record ExecutorValue : Type 0 where
   pub extent : Extent
   pub given : ℕ
   pub table : TableValue
+  pub saturation : Saturation
 
 -- the parts of the plan
 abbrev pub parts_in : ExecutorValue → List PartPlan
@@ -92,7 +95,11 @@ arrival stream values = record { stream = stream; values = values }
 
 -- the executor after so many rows were given, with other entries in its table
 abbrev pub with_given : ExecutorValue → ℕ → List Entry → ExecutorValue
-with_given e given entries = record { query = e.query; shared = e.shared; plan = e.plan; extent = e.extent; given = given; table = with_entries e.table entries }
+with_given e given entries = record { query = e.query; shared = e.shared; plan = e.plan; extent = e.extent; given = given; table = with_entries e.table entries; saturation = e.saturation }
+
+-- the executor with another saturation
+abbrev pub with_saturation : ExecutorValue → Saturation → ExecutorValue
+with_saturation e saturation = record { query = e.query; shared = e.shared; plan = e.plan; extent = e.extent; given = e.given; table = e.table; saturation = saturation }
 
 -- the entries before a row is taken: with DISTINCT the tuples stay
 abbrev pub cleared : Bool → List Entry → List Entry

@@ -9,6 +9,5 @@ pub mod Chains
 pub mod Prepared
 pub mod Gate
 pub mod Known
-pub mod Filled
 pub mod Bases
 pub mod Loading

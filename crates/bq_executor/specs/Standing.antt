@@ -2,6 +2,7 @@
 use Rattle.std.specs.Prelude.{◌≡◌, ℕ, ◌+◌, ◌-◌, ◌*◌, ◌<◌, ◌≤◌, ◌^◌, min, true, ℤ, List, [], ◌∷◌, ◌++◌, length, replicate, Contains}
 use Rattle.bq_answers.specs.Entries.{waiting_of, Ascends}
 use Rattle.bq_laws.specs.Growth.{occurs}
+use Rattle.bq_laws.specs.Closed.{IsClosed}
 use Rattle.bq_model.specs.declared.cell.Cell.{Cell}
 use Rattle.bq_model.specs.declared.plan.PartPlan.{PartPlan}
 use Rattle.bq_model.specs.Meaning.{Arrival, new_answers}
@@ -15,6 +16,7 @@ use Rattle.bq_model.specs.Numbers.{pages_of}
 use Rattle.bq_model.specs.Sharing.{sizes_in, synopsis_in, merge_in}
 use Rattle.bq_pool.specs.Extents.{PoolValue, with_cells, IsLive}
 use Rattle.bq_synopsis.specs.Premises.{AreFitting}
+use Rattle.bq_executor.specs.declared.saturation.Saturation.TheVariants as saturation
 use Rattle.bq_executor.specs.Executor.{ExecutorValue, parts_in, list_in, cells_in, rest_in, tuples_in, waiting_in, with_given, most_answers}
 
 -- the executor stands for a history of its query: the cells are its synopsis, and with DISTINCT the tuples those printed
@@ -33,12 +35,14 @@ CountsUpto most (Cell.Count n) = n ≤ most
 CountsUpto most Cell.Present = Unit {0}
 CountsUpto most (Cell.Extreme z) = Unit {0}
 
--- the extent is live, and each cell is of its kind and counts at most the rows that were given
+-- the extent is live, each cell is of its kind and counts at most the rows that were given, and with DISTINCT the table is closed over the
+-- cells where all are known to be saturated
 pub record AreKept (e : ExecutorValue) (pool : PoolValue) : Type 0 where
   pub live : IsLive pool e.extent
   pub fitting : (part : PartPlan) → Contains (parts_in e) part → AreFitting part (read_from (cells_in e pool))
   pub counts : (part : PartPlan) → Contains (parts_in e) part → (place i : ℕ) → place < length part.streams.items → i < (stream_at part place).size
       → CountsUpto e.given (read_from (cells_in e pool) part place i)
+  pub saturated : e.saturation ≡ saturation.All → e.query.distinct ≡ true → IsClosed e.query (parts_in e) (read_from (cells_in e pool)) (tuples_in e)
 
 -- a query that keeps within the numbers that its plan announces: its cells lie in just so many pages, those behind the announced ones
 -- are empty, and its table has room for just so many answers, holds no more, and no tuple twice

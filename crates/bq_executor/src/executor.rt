@@ -13,24 +13,25 @@ ghost use Rattle.bq_laws.specs.Growth.{occurs};
 ghost use Rattle.bq_io.specs.Sink.{Writes};
 ghost use Rattle.bq_pool.specs.Extents.{PoolValue, cells_of, with_cells, IsLive, IsGivenBack};
 ghost use Rattle.bq_answers.specs.Entries.{with_entries, waiting_entries, waiting_of, settled};
-ghost use Rattle.bq_executor.specs.Executor.{IsAccepted, IsSound, arrival, cells_in, cleared, list_in, most_answers, parts_in, tuples_in, waiting_in, with_given};
+ghost use Rattle.bq_executor.specs.declared.saturation.Saturation.TheVariants as saturation;
+ghost use Rattle.bq_executor.specs.Executor.{IsAccepted, IsSound, arrival, cells_in, cleared, list_in, most_answers, parts_in, tuples_in, waiting_in, with_given, with_saturation};
 ghost use Rattle.bq_executor.specs.Standing.{StandsFor, AreKept, KeepsWithin, IsReady, TookRow, future_in, pool_with};
 ghost use Rattle.bq_executor.specs.Bases.{StandsFrom, TookFrom};
 ghost use Rattle.bq_executor.specs.Loading.{loaded_given, loaded_cell, loaded_tuple, Loads};
 ghost use Rattle.bq_executor.specs.Gate.{IsRefused};
 ghost use Rattle.bq_executor.specs.Written.{answer_lines};
 
-use crate::arrive::arrive;
-use crate::filled::Filled;
+use crate::arrive::{Arrived, QueryAt, arrive};
 use crate::gate::{Gate, gate_of};
 use crate::loading::{cell_to_load, fill, put_printed};
+use crate::part::Scratch;
 use crate::prepared::{PreparedPlan, prepare_all};
+use crate::saturation::Saturation;
 use crate::written::put_waiting;
 use bq_answers::Answers;
 use bq_io::{Sink, WriteFault};
 use bq_model::{Cell, Plan, Query, Row, Tuple};
 use bq_pool::{Extent, Pool, Steps};
-use bq_synopsis::Room;
 use bq_text::Name;
 use std::alloc::{AllocError, Global};
 use std::marker::Model;
@@ -45,10 +46,9 @@ pub struct Executor {
     shared: bool,
     plan: Plan,
     prepared: PreparedPlan,
-    filled: Filled,
+    saturation: Saturation,
     extent: Extent,
-    room: Room,
-    tuple: Tuple,
+    scratch: Scratch,
 }
 
 impl Model for Executor {
@@ -56,13 +56,12 @@ impl Model for Executor {
     ghost use Rattle.bq_executor.specs.Executor.{ExecutorValue, IsSound};
     ghost use Rattle.bq_executor.specs.Prepared.{IsPreparedPlan};
     ghost use Rattle.bq_executor.specs.Gate.{IsGate};
-    ghost use Rattle.bq_executor.specs.Filled.{AreFilled};
 
     ghost Value = { ExecutorValue };
 
-    ghost view = { λ e. record { query = e.query; shared = e.shared; plan = e.plan; extent = e.extent; given = e.given; table = e.table } };
+    ghost view = { λ e. record { query = e.query; shared = e.shared; plan = e.plan; extent = e.extent; given = e.given; table = e.table; saturation = e.saturation } };
 
-    ghost invariant = { λ e. IsSound (record { query = e.query; shared = e.shared; plan = e.plan; extent = e.extent; given = e.given; table = e.table }) × IsPreparedPlan e.query (parts_of e.plan) e.prepared × IsGate e.query e.plan e.gate × AreFilled e.query (parts_of e.plan) e.filled e.table.entries };
+    ghost invariant = { λ e. IsSound (record { query = e.query; shared = e.shared; plan = e.plan; extent = e.extent; given = e.given; table = e.table; saturation = e.saturation }) × IsPreparedPlan e.query (parts_of e.plan) e.prepared × IsGate e.query e.plan e.gate };
 }
 
 // For how many answers a query with this plan has room.
@@ -101,17 +100,13 @@ impl Executor {
     ) -> Result<Executor, (Extent, AllocError)>
         requires accepted { IsAccepted shared query plan }
         requires pages { extent.pages ≡ pages_of plan }
-        ensures value { MatchResult result (λ e. e ≡ record { query = query; shared = shared; plan = plan; extent = extent; given = 0; table = record { width = length query.select; capacity = most_answers plan; entries = [] } }) (λ refused. refused.0 ≡ extent) }
+        ensures value { MatchResult result (λ e. e ≡ record { query = query; shared = shared; plan = plan; extent = extent; given = 0; table = record { width = length query.select; capacity = most_answers plan; entries = [] }; saturation = saturation.All }) (λ refused. refused.0 ≡ extent) }
         ensures history { IfOk result (λ e. (pool : PoolValue) → IsLive pool extent → cells_of pool extent ≡ replicate (64 * extent.pages) cell.Empty → StandsFor e pool []) }
         ensures bases { IfOk result (λ e. (pool : PoolValue) → IsLive pool extent → cells_of pool extent ≡ replicate (64 * extent.pages) cell.Empty → StandsFrom e pool (first_base (list_in e)) []) }
         ensures within { IfOk result (λ e. (pool : PoolValue) → IsLive pool extent → cells_of pool extent ≡ replicate (64 * extent.pages) cell.Empty → KeepsWithin e pool) }
     {
         let prepared = match prepare_all(alloc, &query, &plan) {
             Ok(prepared) => prepared,
-            Err(error) => return Err((extent, error)),
-        };
-        let filled = match Filled::new(alloc, &query, &plan, &prepared) {
-            Ok(filled) => filled,
             Err(error) => return Err((extent, error)),
         };
         let gate = gate_of(&query, &plan);
@@ -126,10 +121,9 @@ impl Executor {
                 shared,
                 plan,
                 prepared,
-                filled,
+                saturation: Saturation::All,
                 extent,
-                room: Room::default(),
-                tuple: Tuple::new(),
+                scratch: Scratch::new(),
             }),
             Err(error) => Err((extent, error)),
         }
@@ -238,18 +232,21 @@ impl Executor {
     {
         self.given += 1;
         clear(self.query.distinct(), &mut self.table);
+        let known = self.saturation.spares(&self.query);
+        let query = QueryAt {
+            q: &self.query,
+            plan: &self.plan,
+            prepared: &self.prepared,
+            extent: &self.extent,
+            known,
+        };
+        let arrived = Arrived { stream, row };
         arrive(
             passes,
             pool,
-            &self.extent,
-            &self.query,
-            &self.plan,
-            &self.prepared,
-            &mut self.filled,
-            stream,
-            row,
-            &mut self.room,
-            &mut self.tuple,
+            &query,
+            &arrived,
+            &mut self.scratch,
             &mut self.table,
             steps,
         )
@@ -312,8 +309,8 @@ impl Executor {
 
     /// Puts the content of a cell in its place: whatever base with no rows since the executor stood for, it then stands for this base with that
     /// cell. Returns false, and changes nothing, where the query keeps no cell of this number, where that cell is not empty, and where the
-    /// content does not fit its kind: a count is 1 up to the rows given, and the content 1 says that there are rows. This is at most one read
-    /// and one write.
+    /// content does not fit its kind: a count is 1 up to the rows given, and the content 1 says that there are rows. From then on no cell is
+    /// known to be saturated. This is at most one read and one write.
     pub fn load_cell<L: Ledger>(
         &mut self,
         pool: &mut Pool,
@@ -323,17 +320,19 @@ impl Executor {
     ) -> bool
         requires live { IsLive pool.old self.old.extent }
         ensures loads { (base : Base) → StandsFrom self.old pool.old base [] → Loads result (loaded_cell (list_in self.old) i v base) self.old pool.old self.new pool.new }
-        ensures same { self.new ≡ self.old }
+        ensures same { self.new ≡ with_saturation self.old (if result then saturation.None else self.old.saturation) }
         ensures only { pool.new ≡ with_cells pool.old self.old.extent (cells_of pool.new self.old.extent) }
         ensures kept { AreKept self.old pool.old → AreKept self.new pool.new }
         ensures within { KeepsWithin self.old pool.old → KeepsWithin self.new pool.new }
         ensures reads { steps.new.reads ≤ steps.old.reads + min 1 (sizes_in (list_in self.old)) }
         ensures writes { steps.new.writes ≤ steps.old.writes + min 1 (sizes_in (list_in self.old)) }
     {
-        match cell_to_load(&self.query, self.shared, &self.plan, self.given, i, v) {
+        let filled = match cell_to_load(&self.query, self.shared, &self.plan, self.given, i, v) {
             Some(cell) => fill(pool, &self.extent, i, cell, steps),
             None => false,
-        }
+        };
+        self.saturation = self.saturation.after_load(filled);
+        filled
     }
 
     /// Says that a tuple, as wide as the selected columns, was printed: whatever base with no rows since the executor stood for, it then stands
@@ -425,10 +424,9 @@ impl Executor {
             shared: _,
             plan: _plan,
             prepared: _prepared,
-            filled: _filled,
+            saturation: _,
             extent,
-            room: _room,
-            tuple: _tuple,
+            scratch: _scratch,
         } = self;
         pool.give_back(extent);
     }

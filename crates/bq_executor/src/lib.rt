@@ -5,10 +5,9 @@
 //! to a bucket, a chain of parts that ask for the same signs, and is tested by these. Where at most 20 signs tell parts from each
 //! other or do not follow from their ranges, one number tells all signs, and these are compared by it alone. Where a part admits
 //! the row, what a walk over the cells of the other streams finds comes to wait in the table, and then the row's own cell
-//! takes the row. With DISTINCT the table keeps every tuple that was ever answered, and a tuple waits only when it is new;
-//! where the row alone tells the one tuple that a part can answer, and it is old, there is no walk; and once all tuples that a
-//! part can answer are in the table, it is not asked for answers any more. Without DISTINCT the table is emptied with each
-//! row. A filter has no cells. Where cells are shared, several parts have one box of cells, and the first of them takes a row into it.
+//! takes the row. With DISTINCT the table keeps every tuple that was ever answered, and a tuple waits only when it is new; a row
+//! that leaves its cell as it is is answered nothing new, and there is no walk, as long as no cell was loaded; nor is there one
+//! where the row alone tells the one tuple that a part can answer, and it is old. Without DISTINCT the table is emptied with each row. A filter has no cells. Where cells are shared, several parts have one box of cells, and the first of them takes a row into it.
 //!
 //! A clause says what a row does for any cells, and then that an executor which stands for a history answers a row with the
 //! new answers of the query, and then stands for the history with that row; so it does for a base and the rows since. A row takes no
@@ -21,10 +20,8 @@
 mod alone;
 mod arrive;
 mod bounds;
-mod boxes;
 mod chains;
 mod executor;
-mod filled;
 mod gate;
 mod known;
 pub mod laws;
@@ -35,6 +32,7 @@ mod part;
 mod parts;
 mod prepared;
 mod ranges;
+mod saturation;
 mod written;
 
 pub use executor::Executor;

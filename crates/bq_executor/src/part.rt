@@ -1,5 +1,5 @@
 //! What a row does in one part: what the cells answer to it waits in the table, and its own cell takes it.
-ghost use Rattle.std.specs.Prelude.{◌≡◌, ◌<◌, ◌≤◌, ◌+◌, ◌*◌, length, true};
+ghost use Rattle.std.specs.Prelude.{◌≡◌, ◌<◌, ◌≤◌, ◌+◌, ◌*◌, ◌||◌, length, true, false};
 ghost use Rattle.bq_model.specs.Admission.{admits};
 ghost use Rattle.bq_model.specs.Meaning.{by_column};
 ghost use Rattle.bq_model.specs.Combinations.{read_from, found_in};
@@ -12,20 +12,74 @@ ghost use Rattle.bq_synopsis.specs.Preparing.{IsPrepared};
 ghost use Rattle.bq_synopsis.specs.Sides.{IsCell};
 ghost use Rattle.bq_synopsis.specs.Remaining.{as_found};
 ghost use Rattle.bq_answers.specs.Entries.{with_entries, Fits};
-ghost use Rattle.bq_executor.specs.Taking.{with_found, with_all, HaveRoom};
-ghost use Rattle.bq_executor.specs.Arriving.{arrives, with_row, CanCount};
+ghost use Rattle.bq_executor.specs.Taking.{with_found, with_all, HaveRoom, AreOld};
+ghost use Rattle.bq_executor.specs.Arriving.{arrives, with_row, CanCount, LeavesCell};
 ghost use Rattle.bq_executor.specs.Known.{AnswersOne};
-ghost use Rattle.bq_executor.specs.Filled.{IsFull, AreOld};
 
 use crate::known::answers_one;
 use bq_answers::Answers;
-use bq_model::{PartPlan, Query, Row, Tuple};
+use bq_model::{PartPlan, Query, Tuple};
 use bq_pool::{Extent, Pool, Steps};
-use bq_synopsis::{Prepared, Probe, Room, Spot, insert_at, sees_nothing};
+use bq_synopsis::{Admitted, OwnCell, Prepared, Probe, Room, own_cell, put_own, sees_nothing};
 use std::sync::ledger::Ledger;
 
 /// The most times that one answer waits.
 const MOST_TIMES: u128 = 1 << 127;
+
+/// A part of a query: its plan, what it is asked of every row, and the extent of the cells.
+#[derive(Clone, Copy)]
+pub struct PartAt<'a> {
+    pub q: &'a Query,
+    pub plan: &'a PartPlan,
+    pub prepared: &'a Prepared,
+    pub extent: &'a Extent,
+}
+
+/// How a part takes a row: whether it takes it into a box of its own, and whether it is known that a row which leaves its cell as it is
+/// is answered nothing new.
+#[derive(Clone, Copy, Debug, PartialEq, Eq, Drop)]
+pub struct Takes {
+    pub owns: bool,
+    pub known: bool,
+}
+
+impl Takes {
+    // Whether the row's own cell is looked at.
+    fn looks(self) -> bool
+        ensures { result ≡ (self.owns || self.known) }
+    {
+        self.owns || self.known
+    }
+
+    // Whether the row is known to be answered nothing new, by its own cell.
+    fn spares(self, own: &OwnCell) -> bool
+        ensures known { result ≡ true → self.known ≡ true }
+        ensures stays { result ≡ true → own.now.with_row ≡ own.now.held }
+        ensures sure { self.known ≡ true → own.now.with_row ≡ own.now.held → result ≡ true }
+    {
+        if !self.known {
+            return false;
+        }
+        own.stays()
+    }
+}
+
+/// Room to work in, of which nothing is asked.
+#[derive(Drop)]
+pub struct Scratch {
+    pub room: Room,
+    pub tuple: Tuple,
+}
+
+impl Scratch {
+    /// Returns room to work in.
+    pub fn new() -> Scratch {
+        Scratch {
+            room: Room::default(),
+            tuple: Tuple::new(),
+        }
+    }
+}
 
 /// Takes up a tuple that was found: with DISTINCT it waits once, and that only where it has no entry.
 pub fn take_up(distinct: bool, tuple: &Tuple, count: u128, table: &mut Answers)
@@ -40,198 +94,170 @@ pub fn take_up(distinct: bool, tuple: &Tuple, count: u128, table: &mut Answers)
     }
 }
 
-// Takes up the one tuple that a part can answer to a row. Where it has an entry nothing changes, and no cell is read;
-// else the walk ends at the first find.
-fn answer_once<L: Ledger>(
+// Takes up all that a walk over the cells of a part finds for a row.
+fn walk_all<L: Ledger>(
     pool: &Pool,
-    e: &Extent,
-    q: &Query,
-    part: &PartPlan,
-    prepared: &Prepared,
-    pos: u8,
-    row: &Row,
+    part: &PartAt<'_>,
+    at: &Admitted<'_>,
     room: &mut Room,
     tuple: &mut Tuple,
     table: &mut Answers,
     steps: &mut Steps<L>,
 )
-    requires here { pos < length q.now.from }
-    requires ready { IsReady q.now part.now pool.now e.now }
-    requires prepared { IsPrepared (pairs q.now) part.now prepared.now }
-    requires room { HaveRoom q.now.distinct (found_beside q.now part.now (read_from (cells_of pool.now e.now)) pos (by_column row.now.items)) table.old }
-    requires one { AnswersOne q.now part.now pos row.now.items tuple.old.items }
-    ensures table { table.new ≡ with_entries table.old (with_all q.now.distinct (found_beside q.now part.now (read_from (cells_of pool.now e.now)) pos (by_column row.now.items)) table.old.entries) }
-    ensures reads { steps.new.reads ≤ steps.old.reads + 3 * share part.now }
+    requires here { at.now.pos < length part.now.q.now.from }
+    requires ready { IsReady part.now.q.now part.now.plan.now pool.now part.now.extent.now }
+    requires prepared { IsPrepared (pairs part.now.q.now) part.now.plan.now part.now.prepared.now }
+    requires room { HaveRoom part.now.q.now.distinct (found_beside part.now.q.now part.now.plan.now (read_from (cells_of pool.now part.now.extent.now)) at.now.pos (by_column at.now.row.now.items)) table.old }
+    ensures table { table.new ≡ with_entries table.old (with_all part.now.q.now.distinct (found_beside part.now.q.now part.now.plan.now (read_from (cells_of pool.now part.now.extent.now)) at.now.pos (by_column at.now.row.now.items)) table.old.entries) }
+    ensures reads { steps.new.reads ≤ steps.old.reads + 3 * share part.now.plan.now }
+    ensures writes { steps.new.writes ≡ steps.old.writes }
+{
+    let (q, plan, prepared) = (part.q, part.plan, part.prepared);
+    if sees_nothing(
+        pool,
+        part.extent,
+        q,
+        plan,
+        prepared,
+        at.pos,
+        at.row,
+        room,
+        steps,
+    ) {
+        return;
+    }
+    let mut probe = Probe::new(q, plan, prepared, at.pos, at.row, room);
+    'walk: while let Some(count) = probe.next(pool, part.extent, q, plan, tuple, steps) {
+        take_up(q.distinct(), tuple, count, table);
+    }
+}
+
+// Takes up the one tuple that a part can answer to a row. Where it has an entry nothing changes, and no cell is read;
+// else the walk ends at the first find.
+fn answer_once<L: Ledger>(
+    pool: &Pool,
+    part: &PartAt<'_>,
+    at: &Admitted<'_>,
+    room: &mut Room,
+    tuple: &mut Tuple,
+    table: &mut Answers,
+    steps: &mut Steps<L>,
+)
+    requires here { at.now.pos < length part.now.q.now.from }
+    requires ready { IsReady part.now.q.now part.now.plan.now pool.now part.now.extent.now }
+    requires prepared { IsPrepared (pairs part.now.q.now) part.now.plan.now part.now.prepared.now }
+    requires room { HaveRoom part.now.q.now.distinct (found_beside part.now.q.now part.now.plan.now (read_from (cells_of pool.now part.now.extent.now)) at.now.pos (by_column at.now.row.now.items)) table.old }
+    requires one { AnswersOne part.now.q.now part.now.plan.now at.now.pos at.now.row.now.items tuple.old.items }
+    ensures table { table.new ≡ with_entries table.old (with_all part.now.q.now.distinct (found_beside part.now.q.now part.now.plan.now (read_from (cells_of pool.now part.now.extent.now)) at.now.pos (by_column at.now.row.now.items)) table.old.entries) }
+    ensures reads { steps.new.reads ≤ steps.old.reads + 3 * share part.now.plan.now }
     ensures writes { steps.new.writes ≡ steps.old.writes }
 {
     if table.has(tuple) {
         return;
     }
-    if sees_nothing(pool, e, q, part, prepared, pos, row, room, steps) {
+    let (q, plan, prepared) = (part.q, part.plan, part.prepared);
+    if sees_nothing(
+        pool,
+        part.extent,
+        q,
+        plan,
+        prepared,
+        at.pos,
+        at.row,
+        room,
+        steps,
+    ) {
         return;
     }
-    let mut probe = Probe::new(q, part, prepared, pos, row, room);
-    match probe.next(pool, e, q, part, tuple, steps) {
+    let mut probe = Probe::new(q, plan, prepared, at.pos, at.row, room);
+    match probe.next(pool, part.extent, q, plan, tuple, steps) {
         Some(count) => take_up(true, tuple, count, table),
         None => {}
     }
 }
 
-// Takes up all that a walk over the cells of a part finds for a row.
+// Takes up all that the cells of a part answer to a row. It is not inlined: with DISTINCT most rows do without it.
+#[inline(never)]
 fn walk<L: Ledger>(
     pool: &Pool,
-    e: &Extent,
-    q: &Query,
-    part: &PartPlan,
-    prepared: &Prepared,
-    pos: u8,
-    row: &Row,
+    part: &PartAt<'_>,
+    at: &Admitted<'_>,
     room: &mut Room,
     tuple: &mut Tuple,
     table: &mut Answers,
     steps: &mut Steps<L>,
 )
-    requires here { pos < length q.now.from }
-    requires ready { IsReady q.now part.now pool.now e.now }
-    requires prepared { IsPrepared (pairs q.now) part.now prepared.now }
-    requires room { HaveRoom q.now.distinct (found_beside q.now part.now (read_from (cells_of pool.now e.now)) pos (by_column row.now.items)) table.old }
-    ensures table { table.new ≡ with_entries table.old (with_all q.now.distinct (found_beside q.now part.now (read_from (cells_of pool.now e.now)) pos (by_column row.now.items)) table.old.entries) }
-    ensures reads { steps.new.reads ≤ steps.old.reads + 3 * share part.now }
+    requires here { at.now.pos < length part.now.q.now.from }
+    requires ready { IsReady part.now.q.now part.now.plan.now pool.now part.now.extent.now }
+    requires prepared { IsPrepared (pairs part.now.q.now) part.now.plan.now part.now.prepared.now }
+    requires room { HaveRoom part.now.q.now.distinct (found_beside part.now.q.now part.now.plan.now (read_from (cells_of pool.now part.now.extent.now)) at.now.pos (by_column at.now.row.now.items)) table.old }
+    ensures table { table.new ≡ with_entries table.old (with_all part.now.q.now.distinct (found_beside part.now.q.now part.now.plan.now (read_from (cells_of pool.now part.now.extent.now)) at.now.pos (by_column at.now.row.now.items)) table.old.entries) }
+    ensures reads { steps.new.reads ≤ steps.old.reads + 3 * share part.now.plan.now }
     ensures writes { steps.new.writes ≡ steps.old.writes }
 {
-    if sees_nothing(pool, e, q, part, prepared, pos, row, room, steps) {
-        return;
-    }
-    let mut probe = Probe::new(q, part, prepared, pos, row, room);
-    'walk: while let Some(count) = probe.next(pool, e, q, part, tuple, steps) {
-        take_up(q.distinct(), tuple, count, table);
-    }
-}
-
-// Takes up all that the cells of a part answer to a row that it admits. It is not inlined: a part that is full does without it.
-#[inline(never)]
-fn answer<L: Ledger>(
-    pool: &Pool,
-    e: &Extent,
-    q: &Query,
-    part: &PartPlan,
-    prepared: &Prepared,
-    pos: u8,
-    row: &Row,
-    room: &mut Room,
-    tuple: &mut Tuple,
-    table: &mut Answers,
-    steps: &mut Steps<L>,
-)
-    requires here { pos < length q.now.from }
-    requires ready { IsReady q.now part.now pool.now e.now }
-    requires prepared { IsPrepared (pairs q.now) part.now prepared.now }
-    requires room { HaveRoom q.now.distinct (found_beside q.now part.now (read_from (cells_of pool.now e.now)) pos (by_column row.now.items)) table.old }
-    ensures table { table.new ≡ with_entries table.old (with_all q.now.distinct (found_beside q.now part.now (read_from (cells_of pool.now e.now)) pos (by_column row.now.items)) table.old.entries) }
-    ensures reads { steps.new.reads ≤ steps.old.reads + 3 * share part.now }
-    ensures writes { steps.new.writes ≡ steps.old.writes }
-{
-    if answers_one(q, part, pos, row, tuple) {
-        answer_once(
-            pool, e, q, part, prepared, pos, row, room, tuple, table, steps,
-        );
+    if answers_one(part.q, part.plan, at.pos, at.row, tuple) {
+        answer_once(pool, part, at, room, tuple, table, steps);
     } else {
-        walk(
-            pool, e, q, part, prepared, pos, row, room, tuple, table, steps,
-        );
+        walk_all(pool, part, at, room, tuple, table, steps);
     }
 }
 
-// Takes up all that the cells of a part answer to a row that it admits, and nothing where all of it has an entry.
-fn answer_new<L: Ledger>(
-    full: bool,
-    pool: &Pool,
-    e: &Extent,
-    q: &Query,
-    part: &PartPlan,
-    prepared: &Prepared,
-    pos: u8,
-    row: &Row,
-    room: &mut Room,
-    tuple: &mut Tuple,
-    table: &mut Answers,
-    steps: &mut Steps<L>,
-)
-    requires here { pos < length q.now.from }
-    requires ready { IsReady q.now part.now pool.now e.now }
-    requires prepared { IsPrepared (pairs q.now) part.now prepared.now }
-    requires room { HaveRoom q.now.distinct (found_beside q.now part.now (read_from (cells_of pool.now e.now)) pos (by_column row.now.items)) table.old }
-    requires old { full ≡ true → AreOld q.now.distinct (found_beside q.now part.now (read_from (cells_of pool.now e.now)) pos (by_column row.now.items)) table.old.entries }
-    ensures table { table.new ≡ with_entries table.old (with_all q.now.distinct (found_beside q.now part.now (read_from (cells_of pool.now e.now)) pos (by_column row.now.items)) table.old.entries) }
-    ensures reads { steps.new.reads ≤ steps.old.reads + 3 * share part.now }
-    ensures writes { steps.new.writes ≡ steps.old.writes }
-{
-    if full {
-        return;
-    }
-    answer(
-        pool, e, q, part, prepared, pos, row, room, tuple, table, steps,
-    );
-}
-
-/// Takes up all that the cells of a part answer to a row that it admits. Where all tuples that the part can answer have an entry, no
-/// cell is read.
-pub fn answer_row<L: Ledger>(
-    full: bool,
-    pool: &Pool,
-    e: &Extent,
-    q: &Query,
-    part: &PartPlan,
-    prepared: &Prepared,
-    pos: u8,
-    row: &Row,
-    room: &mut Room,
-    tuple: &mut Tuple,
-    table: &mut Answers,
-    steps: &mut Steps<L>,
-)
-    requires here { pos < length q.now.from }
-    requires ready { IsReady q.now part.now pool.now e.now }
-    requires prepared { IsPrepared (pairs q.now) part.now prepared.now }
-    requires admitted { admits q.now part.now pos (by_column row.now.items) ≡ true }
-    requires full { full ≡ true → IsFull q.now part.now table.old.entries }
-    requires room { HaveRoom q.now.distinct (found_in q.now part.now (read_from (cells_of pool.now e.now)) (arrives q.now pos row.now.items)) table.old }
-    ensures table { table.new ≡ with_entries table.old (with_all q.now.distinct (found_in q.now part.now (read_from (cells_of pool.now e.now)) (arrives q.now pos row.now.items)) table.old.entries) }
-    ensures reads { steps.new.reads ≤ steps.old.reads + 3 * share part.now }
-    ensures writes { steps.new.writes ≡ steps.old.writes }
-{
-    // Read for the proof alone: the call tells how many streams there are.
-    let _from = q.from();
-    answer_new(
-        full, pool, e, q, part, prepared, pos, row, room, tuple, table, steps,
-    );
-}
-
-/// Takes a row into the cells of a part that admits it: where the part takes rows into a box of its own, the row's own cell takes it.
-pub fn put_row<L: Ledger>(
-    owns: bool,
+/// Takes a row into a part that admits it: all that the cells answer to it is taken up, and where the part takes rows into a box of its
+/// own, the row's own cell takes it. Where it is known that a row which leaves its cell as it is is answered nothing new, such a row
+/// walks over no cell. Returns false where no cell changed.
+pub fn take_part<L: Ledger>(
     pool: &mut Pool,
-    e: &Extent,
-    q: &Query,
-    part: &PartPlan,
-    pos: u8,
-    row: &Row,
-    spot: Spot,
+    part: &PartAt<'_>,
+    at: &Admitted<'_>,
+    takes: Takes,
+    scratch: &mut Scratch,
+    table: &mut Answers,
     steps: &mut Steps<L>,
-)
-    requires here { pos < length q.now.from }
-    requires ready { IsReady q.now part.now pool.old e.now }
-    requires admitted { admits q.now part.now pos (by_column row.now.items) ≡ true }
-    requires several { owns ≡ true → 1 < length q.now.from }
-    requires counts { owns ≡ true → CanCount part.now (read_from (cells_of pool.old e.now)) }
-    requires spot { IsCell part.now pos row.now.items spot }
-    ensures pool { pool.new ≡ with_row owns q.now part.now pos row.now.items e.now pool.old }
-    ensures reads { steps.new.reads ≤ steps.old.reads + 1 }
+) -> bool
+    requires here { at.now.pos < length part.now.q.now.from }
+    requires ready { IsReady part.now.q.now part.now.plan.now pool.old part.now.extent.now }
+    requires prepared { IsPrepared (pairs part.now.q.now) part.now.plan.now part.now.prepared.now }
+    requires admitted { admits part.now.q.now part.now.plan.now at.now.pos (by_column at.now.row.now.items) ≡ true }
+    requires spot { IsCell part.now.plan.now at.now.pos at.now.row.now.items at.now.spot }
+    requires several { (takes.owns || takes.known) ≡ true → 1 < length part.now.q.now.from }
+    requires counts { (takes.owns || takes.known) ≡ true → CanCount part.now.plan.now (read_from (cells_of pool.old part.now.extent.now)) }
+    requires old { takes.known ≡ true → LeavesCell part.now.plan.now (read_from (cells_of pool.old part.now.extent.now)) at.now.pos at.now.row.now.items → AreOld part.now.q.now.distinct (found_in part.now.q.now part.now.plan.now (read_from (cells_of pool.old part.now.extent.now)) (arrives part.now.q.now at.now.pos at.now.row.now.items)) table.old.entries }
+    requires room { HaveRoom part.now.q.now.distinct (found_in part.now.q.now part.now.plan.now (read_from (cells_of pool.old part.now.extent.now)) (arrives part.now.q.now at.now.pos at.now.row.now.items)) table.old }
+    ensures table { table.new ≡ with_entries table.old (with_all part.now.q.now.distinct (found_in part.now.q.now part.now.plan.now (read_from (cells_of pool.old part.now.extent.now)) (arrives part.now.q.now at.now.pos at.now.row.now.items)) table.old.entries) }
+    ensures pool { pool.new ≡ with_row takes.owns part.now.q.now part.now.plan.now at.now.pos at.now.row.now.items part.now.extent.now pool.old }
+    ensures same { result ≡ false → pool.new ≡ pool.old }
+    ensures reads { steps.new.reads ≤ steps.old.reads + 3 * share part.now.plan.now + 1 }
     ensures writes { steps.new.writes ≤ steps.old.writes + 1 }
 {
     // Read for the proof alone: the call tells how many streams there are.
-    let _from = q.from();
-    if owns {
-        insert_at(pool, e, q, part, pos, row, spot, steps);
+    let _from = part.q.from();
+    if !takes.looks() {
+        walk(
+            pool,
+            part,
+            at,
+            &mut scratch.room,
+            &mut scratch.tuple,
+            table,
+            steps,
+        );
+        return false;
     }
+    let own = own_cell(pool, part.extent, part.q, part.plan, at, steps);
+    if takes.spares(&own) {
+        return false;
+    }
+    walk(
+        pool,
+        part,
+        at,
+        &mut scratch.room,
+        &mut scratch.tuple,
+        table,
+        steps,
+    );
+    if takes.owns {
+        put_own(pool, part.extent, part.plan, at, &own, steps);
+    }
+    takes.owns
 }

@@ -68,3 +68,9 @@ pub mod GrowingBoxes
 pub mod OneSharedPlan
 pub mod MovedBoxes
 pub mod SharedCases
+pub mod Crossing
+pub mod OwnCells
+pub mod MergedTables
+pub mod Saturated
+pub mod ClosedTables
+pub mod ClosedCases

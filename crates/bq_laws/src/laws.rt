@@ -14,6 +14,8 @@ ghost use Rattle.bq_laws.specs.Growth.{InsertsRow, SynopsesMerge, RowsMerge, Pri
 ghost use Rattle.bq_laws.specs.Sharing.{PlansHaveBoxes, SynopsesAreOfBoxes, BoxesAreRead, SharedCellsAgree, BoxesMerge, BasesGrow, RowsMergeIn, BoxesMeetWhole, BoxesFixCells, SharedSynopsisSuffices, HasOneSharedPlan, BoxesGrowByOne, SharedPlansExist};
 ghost use Rattle.bq_laws.specs.SharedCases.{BoxesAreMovedTogether, CellsAreShared};
 ghost use Rattle.bq_laws.specs.Bases.{BasesKeepOn, BasesStandForHistories};
+ghost use Rattle.bq_laws.specs.Closed.{CellsStayOrTurn, SaturatedCellsAnswerNothingNew, CellsStaySaturated, TablesStayClosed};
+ghost use Rattle.bq_laws.specs.ClosedCases.{LoadedCellsAreWalked};
 ghost use Rattle.bq_laws.specs.Rooms.{TableHasRoom, WaitingFits, CountsFit, WaitingCountsFit, CellsFit, AnswersAreCounted};
 
 /// A combination is in a part exactly where the part admits each of its rows and the links hold.
@@ -343,4 +345,29 @@ pub fn one_group_is_planned()
 /// A query gives the same answers to every history whether it is compact or not.
 pub fn both_forms_answer_alike()
     ensures { BothFormsAnswerAlike }
+{}
+
+/// With DISTINCT a row leaves the cell that it falls into as it is, or the cell holds with it what it would hold of the row alone.
+pub fn cells_stay_or_turn()
+    ensures { CellsStayOrTurn }
+{}
+
+/// With DISTINCT a row that leaves a saturated cell as it is is answered nothing in its part that is not in the table.
+pub fn saturated_cells_answer_nothing_new()
+    ensures { SaturatedCellsAnswerNothingNew }
+{}
+
+/// With DISTINCT a row leaves saturated cells saturated, and saturates its own where that holds with it what it would hold of the row alone.
+pub fn cells_stay_saturated()
+    ensures { CellsStaySaturated }
+{}
+
+/// With DISTINCT a table is closed over the cells after creation, and stays so with every row.
+pub fn tables_stay_closed()
+    ensures { TablesStayClosed }
+{}
+
+/// A worked base whose table is not closed: a row that leaves all cells as they are is answered.
+pub fn loaded_cells_are_walked()
+    ensures { LoadedCellsAreWalked }
 {}

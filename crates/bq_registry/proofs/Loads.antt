@@ -17,7 +17,8 @@ use Rattle.bq_model.specs.Bases.{Base}
 use Rattle.bq_laws.proofs.PlanBoxes.{count-of-boxes}
 use Rattle.bq_pool.specs.Extents.{PoolValue, cells_of, with_cells}
 use Rattle.bq_executor.specs.Executor as executor
-use Rattle.bq_executor.specs.Executor.{ExecutorValue, list_in, waiting_in}
+use Rattle.bq_executor.specs.declared.saturation.Saturation.{Saturation}
+use Rattle.bq_executor.specs.Executor.{ExecutorValue, list_in, waiting_in, with_given, with_saturation}
 use Rattle.bq_executor.specs.Bases.{StandsFrom}
 use Rattle.bq_executor.specs.Loading.{Loads}
 use Rattle.bq_registry.specs.declared.waiting.Places.{Places}
@@ -45,6 +46,11 @@ cells_announced shared q (plans.Parts list numbers) is = sym (ap (λ (n : Number
 -- one cell at most, and none where none is announced
 pub one_cell : (e : ExecutorValue) (m n : ℕ) → executor.IsSound e → n ≤ m + min 1 (sizes_in (list_in e)) → n ≤ m + plan_cells e.plan
 one_cell e m n s l = (let same = cells_announced e.shared e.query e.plan s.accepted.plan in omega (arith, same, l))
+
+-- an executor of which only the saturation changed
+pub saturated_as : (e later : ExecutorValue) (s : Saturation) → later ≡ with_saturation e s
+    → later ≡ with_saturation (with_given e later.given later.table.entries) later.saturation
+saturated_as e later s is = is ∙ ap (λ (x : ExecutorValue). with_saturation (with_given e x.given x.table.entries) x.saturation) (sym is)
 
 -- what one plan announces is no more than what all do
 pub cells_of_all : (live : List Live) (place : ℕ) (d : Live) (e : ExecutorValue) (m n : ℕ) → place < length live → e ≡ (slice_index_or live place d).executor → n ≤ m + plan_cells e.plan → n ≤ m + most_cells live

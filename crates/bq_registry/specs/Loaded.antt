@@ -5,7 +5,7 @@ use Rattle.bq_model.specs.Query.{QueryValue}
 use Rattle.bq_model.specs.Bases.{Base}
 use Rattle.bq_pool.specs.Extents.{PoolValue, with_cells, cells_of, IsLive}
 use Rattle.bq_executor.specs.Executor as executor
-use Rattle.bq_executor.specs.Executor.{ExecutorValue, waiting_in, with_given}
+use Rattle.bq_executor.specs.Executor.{ExecutorValue, waiting_in, with_given, with_saturation}
 use Rattle.bq_executor.specs.Standing.{AreKept, KeepsWithin}
 use Rattle.bq_executor.specs.Bases.{StandsFrom}
 use Rattle.bq_executor.specs.Loading.{Loads}
@@ -35,7 +35,7 @@ loaded_by load live = load live.query live.shared live.plan live.base
 -- a live query was loaded: no cell of another changed, nothing comes to wait, and no more rows are given than before or n
 pub record LoadedOne (result : Bool) (n : ℕ) (load : Loading) (pool later : PoolValue) (before after : Live) : Type 0 where
   pub name : after.name ≡ before.name
-  pub same : after.executor ≡ with_given before.executor after.executor.given after.executor.table.entries
+  pub same : after.executor ≡ with_saturation (with_given before.executor after.executor.given after.executor.table.entries) after.executor.saturation
   pub only : IsLive pool before.executor.extent → later ≡ with_cells pool before.executor.extent (cells_of later before.executor.extent)
   pub sound : executor.IsSound before.executor → executor.IsSound after.executor
   pub kept : AreKept before.executor pool → AreKept after.executor later

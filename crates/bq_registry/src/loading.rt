@@ -25,7 +25,6 @@ fn load_given_one(executor: &mut Executor, n: u64) -> bool
 }
 
 // Sets the content of a cell of a live query, whatever its name.
-#[tactic(auto, using(crate::proofs::Loads::one_cell))]
 fn load_cell_one<L: Ledger>(
     pool: &mut Pool,
     executor: &mut Executor,

@@ -13,7 +13,8 @@ ghost use Rattle.bq_laws.specs.Growth.{occurs};
 ghost use Rattle.bq_io.specs.Sink.{Writes};
 ghost use Rattle.bq_pool.specs.Extents.{PoolValue, cells_of, with_cells, IsLive, IsGivenBack};
 ghost use Rattle.bq_answers.specs.Entries.{waiting_of, settled};
-ghost use Rattle.bq_executor.specs.Executor.{IsAccepted, IsSound, arrival, most_answers, parts_in, tuples_in, waiting_in, with_given};
+ghost use Rattle.bq_executor.specs.declared.saturation.Saturation.TheVariants as saturation;
+ghost use Rattle.bq_executor.specs.Executor.{IsAccepted, IsSound, arrival, most_answers, parts_in, tuples_in, waiting_in, with_given, with_saturation};
 ghost use Rattle.bq_executor.specs.Standing.{AreKept, KeepsWithin, IsReady, future_in, pool_with};
 ghost use Rattle.bq_executor.specs.Loading.{loaded_given, loaded_cell, loaded_tuple};
 ghost use Rattle.bq_executor.specs.Written.{answer_lines};
@@ -55,7 +56,7 @@ impl SharedExecutor {
     ) -> Result<SharedExecutor, (Extent, AllocError)>
         requires accepted { IsAccepted true query plan }
         requires pages { extent.pages ≡ pages_of plan }
-        ensures value { MatchResult result (λ e. e ≡ record { query = query; shared = true; plan = plan; extent = extent; given = 0; table = record { width = length query.select; capacity = most_answers plan; entries = [] } }) (λ refused. refused.0 ≡ extent) }
+        ensures value { MatchResult result (λ e. e ≡ record { query = query; shared = true; plan = plan; extent = extent; given = 0; table = record { width = length query.select; capacity = most_answers plan; entries = [] }; saturation = saturation.All }) (λ refused. refused.0 ≡ extent) }
         ensures history { IfOk result (λ e. (pool : PoolValue) → IsLive pool extent → cells_of pool extent ≡ replicate (64 * extent.pages) cell.Empty → StandsForShared e pool []) }
         ensures bases { IfOk result (λ e. (pool : PoolValue) → IsLive pool extent → cells_of pool extent ≡ replicate (64 * extent.pages) cell.Empty → StandsFromShared e pool (first_base (boxes query (parts_of plan))) []) }
         ensures within { IfOk result (λ e. (pool : PoolValue) → IsLive pool extent → cells_of pool extent ≡ replicate (64 * extent.pages) cell.Empty → KeepsWithin e pool) }
@@ -125,7 +126,7 @@ impl SharedExecutor {
     ) -> bool
         requires live { IsLive pool.old self.old.extent }
         ensures loads { (base : Base) → StandsFromShared self.old pool.old base [] → LoadsShared result (loaded_cell (boxes self.old.query (parts_in self.old)) i v base) self.old pool.old self.new pool.new }
-        ensures same { self.new ≡ self.old }
+        ensures same { self.new ≡ with_saturation self.old (if result then saturation.None else self.old.saturation) }
         ensures only { pool.new ≡ with_cells pool.old self.old.extent (cells_of pool.new self.old.extent) }
         ensures kept { AreKept self.old pool.old → AreKept self.new pool.new }
         ensures within { KeepsWithin self.old pool.old → KeepsWithin self.new pool.new }

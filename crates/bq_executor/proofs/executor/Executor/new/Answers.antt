@@ -2,24 +2,19 @@ use Rattle.std.proofs.Common.{[], ap, sym, subst, refl, ◌∙◌, length, arith
 use Rattle.bq_answers.specs.Entries.{TableValue, Ascends}
 use Rattle.bq_model.specs.Numbers.{parts_of}
 use Rattle.bq_executor.proofs.Bases.{bases-and-histories}
-use Rattle.bq_executor.proofs.PlanFacts.{has_parts}
 use Rattle.bq_executor.proofs.Behind.{plan-behind}
-use Rattle.bq_executor.proofs.FilledLaws.{filled-empty}
 use Rattle.bq_executor.proofs.Keeping.{keeps}
 use Rattle.bq_executor.proofs.Settled.{begins, none_within}
+use Rattle.bq_executor.specs.declared.saturation.Saturation.TheVariants as saturation
 use Rattle.bq_executor.specs.Executor.{ExecutorValue}
 use Rattle.bq_executor.proofs.executor.Executor.new.Goals as goal
-
-pub new-requires-clause-accepted : goal.new-requires-clause-accepted
-new-requires-clause-accepted c =
-    (has_parts c.args.shared c.args.query c.args.plan c.requires.accepted.plan, c.requires.accepted.violation)
 
 pub prepare_all-requires : goal.prepare_all-requires
 prepare_all-requires c = plan-behind c.args.shared c.args.query c.args.plan c.requires.accepted.plan
 
 pub invariant_of-result : goal.invariant_of-result
 invariant_of-result c =
-    let is = c.in-Ok-new-2.ensures in (
+    let is = c.in-Ok-new.ensures in (
       record {
         limits = c.select.ensures.limits;
         accepted = c.requires.accepted;
@@ -29,27 +24,26 @@ invariant_of-result c =
         given = omega arith;
         entries = (let none = ap (λ (t : TableValue). length t.entries) is in omega (arith, none));
         ascends = subst (λ (t : TableValue). Ascends t.entries) (sym is) tt;
-        tuples = λ d. none_within c.args.query (parts_of c.args.plan) c.in-Ok-new-2.table.entries (ap (λ (t : TableValue). t.entries) is);
+        tuples = λ d. none_within c.args.query (parts_of c.args.plan) c.in-Ok-new.table.entries (ap (λ (t : TableValue). t.entries) is);
       },
       c.in-Ok.ensures,
       c.gate_of-gate.ensures,
-      filled-empty c.args.query (parts_of c.args.plan) c.in-Ok-new.filled c.in-Ok-new-2.table.entries (ap (λ (t : TableValue). t.entries) is) c.in-Ok-new.ensures,
     )
 
-pub returns-in-Ok-new-2-clause-history : goal.returns-in-Ok-new-2-clause-history
-returns-in-Ok-new-2-clause-history c =
-    let e : ExecutorValue = record { query = c.args.query; shared = c.args.shared; plan = c.args.plan; extent = c.args.extent; given = 0; table = c.in-Ok-new-2.table } in
-    let is = c.in-Ok-new-2.ensures in
+pub returns-in-Ok-new-clause-history : goal.returns-in-Ok-new-clause-history
+returns-in-Ok-new-clause-history c =
+    let e : ExecutorValue = record { query = c.args.query; shared = c.args.shared; plan = c.args.plan; extent = c.args.extent; given = 0; table = c.in-Ok-new.table; saturation = saturation.All } in
+    let is = c.in-Ok-new.ensures in
     begins e (invariant_of-result c).0 refl (ap (λ (t : TableValue). t.entries) is)
 
-pub returns-in-Ok-new-2-clause-within : goal.returns-in-Ok-new-2-clause-within
-returns-in-Ok-new-2-clause-within c = λ pool live empty.
-    let e : ExecutorValue = record { query = c.args.query; shared = c.args.shared; plan = c.args.plan; extent = c.args.extent; given = 0; table = c.in-Ok-new-2.table } in
+pub returns-in-Ok-new-clause-within : goal.returns-in-Ok-new-clause-within
+returns-in-Ok-new-clause-within c = λ pool live empty.
+    let e : ExecutorValue = record { query = c.args.query; shared = c.args.shared; plan = c.args.plan; extent = c.args.extent; given = 0; table = c.in-Ok-new.table; saturation = saturation.All } in
     let sound = (invariant_of-result c).0 in
-    keeps e sound pool live (begins e sound refl (ap (λ (t : TableValue). t.entries) c.in-Ok-new-2.ensures) pool live empty).rest
+    keeps e sound pool live (begins e sound refl (ap (λ (t : TableValue). t.entries) c.in-Ok-new.ensures) pool live empty).rest
 
-pub returns-in-Ok-new-2-clause-bases : goal.returns-in-Ok-new-2-clause-bases
-returns-in-Ok-new-2-clause-bases c = λ pool live empty.
-    let e : ExecutorValue = record { query = c.args.query; shared = c.args.shared; plan = c.args.plan; extent = c.args.extent; given = 0; table = c.in-Ok-new-2.table } in
+pub returns-in-Ok-new-clause-bases : goal.returns-in-Ok-new-clause-bases
+returns-in-Ok-new-clause-bases c = λ pool live empty.
+    let e : ExecutorValue = record { query = c.args.query; shared = c.args.shared; plan = c.args.plan; extent = c.args.extent; given = 0; table = c.in-Ok-new.table; saturation = saturation.All } in
     let sound = (invariant_of-result c).0 in
-    (bases-and-histories e pool sound).1 [] (begins e sound refl (ap (λ (t : TableValue). t.entries) c.in-Ok-new-2.ensures) pool live empty)
+    (bases-and-histories e pool sound).1 [] (begins e sound refl (ap (λ (t : TableValue). t.entries) c.in-Ok-new.ensures) pool live empty)

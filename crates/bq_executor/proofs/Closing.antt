@@ -1,0 +1,69 @@
+-- The cells of an executor and its table: where each cell is saturated.
+use Rattle.std.proofs.Common.{◌≡◌, true, ℤ, List, Contains}
+use Rattle.bq_model.specs.declared.plan.PartPlan.{PartPlan}
+use Rattle.bq_model.specs.declared.plan.Plan.{Plan}
+use Rattle.bq_model.specs.declared.plan.Plan.TheVariants as plan
+use Rattle.bq_model.specs.Combinations.{Reading}
+use Rattle.bq_model.specs.Query.{QueryValue}
+use Rattle.bq_model.specs.Numbers.{parts_of}
+use Rattle.bq_laws.specs.Closed.{IsDistinctPlan, IsClosed}
+use Rattle.bq_laws.proofs.Tests.{not_both}
+use Rattle.bq_executor.specs.declared.saturation.Saturation.{Saturation}
+use Rattle.bq_executor.specs.Executor.{ExecutorValue, parts_in, IsSound, with_saturation}
+use Rattle.bq_executor.specs.Standing.{KeepsWithin}
+use Rattle.bq_executor.specs.Bases.{StandsFrom}
+use Rattle.bq_pool.specs.Extents.{PoolValue}
+use Rattle.bq_model.specs.Bases.{Base}
+use Rattle.bq_model.specs.Meaning.{Arrival}
+use Rattle.bq_executor.specs.Arriving.{HasParts}
+use Rattle.bq_executor.proofs.Answered.{filter_plain}
+use Rattle.bq_executor.proofs.PlanFacts.{has_parts}
+
+-- with DISTINCT the parts of an executor are those of a query to which the laws of closed tables apply
+pub distinct-plan : (e : ExecutorValue) → IsSound e → e.query.distinct ≡ true → IsDistinctPlan e.query (parts_in e)
+distinct-plan e sound d = by e.plan (has_parts e.shared e.query e.plan sound.accepted.plan)
+  where
+    by : (p : Plan) → HasParts e.query p → IsDistinctPlan e.query (parts_of p)
+    by plan.Filter own = absurd (not_both _ d (filter_plain e.query own))
+    by (plan.Parts parts numbers) own = record { limits = sound.limits; several = own.0; plans = own.1; violation = sound.accepted.violation; distinct = d }
+
+-- a table stays closed when it grows
+pub closed-more : (q : QueryValue) (parts : List PartPlan) (read : Reading) (table more : List (List ℤ)) → ((t : List ℤ) → Contains table t → Contains more t)
+    → IsClosed q parts read table → IsClosed q parts read more
+closed-more q parts read table more grow closed part k place i l m c among some t found = grow t (closed part k place i l m c among some t found)
+
+-- what is true of an executor is so whatever is known of its cells
+pub sound-saturated : (e : ExecutorValue) (s : Saturation) → IsSound e → IsSound (with_saturation e s)
+sound-saturated e s sound = record {
+  limits = sound.limits;
+  accepted = sound.accepted;
+  pages = sound.pages;
+  width = sound.width;
+  capacity = sound.capacity;
+  given = sound.given;
+  entries = sound.entries;
+  ascends = sound.ascends;
+  tuples = sound.tuples;
+}
+
+pub within-saturated : (e : ExecutorValue) (s : Saturation) (pool : PoolValue) → KeepsWithin e pool → KeepsWithin (with_saturation e s) pool
+within-saturated e s pool w = record {
+  live = w.live;
+  pages = w.pages;
+  rest = w.rest;
+  room = w.room;
+  entries = w.entries;
+  ascends = w.ascends;
+}
+
+pub stands-saturated : (e : ExecutorValue) (s : Saturation) (pool : PoolValue) (base : Base) (history : List Arrival) → StandsFrom e pool base history
+    → StandsFrom (with_saturation e s) pool base history
+stands-saturated e s pool base history h = record {
+  live = h.live;
+  size = h.size;
+  cells = h.cells;
+  rest = h.rest;
+  given = h.given;
+  rows = h.rows;
+  tuples = h.tuples;
+}

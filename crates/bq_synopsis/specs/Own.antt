@@ -1,0 +1,16 @@
+-- The cell that a row falls into.
+use Rattle.std.specs.Prelude.{◌≡◌, ℕ, ℤ, List, [], ◌∷◌, slice_index_or}
+use Rattle.bq_model.specs.declared.cell.Cell.{Cell}
+use Rattle.bq_model.specs.declared.cell.Cell.TheVariants.{Empty}
+use Rattle.bq_model.specs.declared.plan.PartPlan.{PartPlan}
+use Rattle.bq_model.specs.Plan.{stream_at}
+use Rattle.bq_model.specs.Cells.{content}
+use Rattle.bq_model.specs.Merge.{merged}
+use Rattle.bq_synopsis.specs.declared.own.OwnCell.{OwnCell}
+use Rattle.bq_synopsis.specs.Premises.{row_cell}
+
+-- the cell of some cells that stands for a row at a place of FROM: what it holds, and what it holds with the row
+pub record IsOwnCell (part : PartPlan) (place : ℕ) (row : List ℤ) (cells : List Cell) (own : OwnCell) : Type 0 where
+  pub number : own.number ≡ row_cell part place row
+  pub held : own.held ≡ slice_index_or cells (row_cell part place row) Empty
+  pub with_row : own.with_row ≡ merged (stream_at part place).kind own.held (content (stream_at part place).kind (row ∷ []))
