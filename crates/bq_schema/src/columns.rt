@@ -2,9 +2,9 @@
 ghost use Rattle.std.specs.Prelude.{◌≡◌, ◌≤◌, ◌<◌, ◌+◌, ◌++◌, length, map, IfSome};
 ghost use Rattle.std.specs.List.{All, list_all, list_any};
 ghost use Rattle.std.specs.Str.{bytes_eq};
-ghost use Rattle.bq_schema.specs.Streams.{IsName, HasEnds, column_names, lie_within};
+ghost use Rattle.bq_schema.specs.Streams.{IsName, AreEnds, HasEnds, column_names, lie_within};
 ghost use Rattle.bq_schema.specs.Streams as streams;
-ghost use Rattle.bq_schema.specs.Ends.{ends_at, ends_from, is_between};
+ghost use Rattle.bq_schema.specs.Ends.{ends_at, ends_from, greatest, is_between};
 ghost use Rattle.bq_model.specs.Meaning.{by_column};
 
 use crate::column::ColumnDef;
@@ -12,12 +12,12 @@ use arrayvec::ArrayVec;
 use bq_text::Name;
 use std::marker::Model;
 
-/// The ends of the domain of a column, which is given by its place.
+/// The domain of a column, which is given by its place: the least value, and how far the greatest one is above it.
 #[derive(Clone, Copy, Default)]
 pub struct ColumnEnds {
     column: u8,
     lo: i64,
-    hi: i64,
+    width: u64,
 }
 
 /// The columns of a stream, at most 8, in order. The ends of their domains stand beside them, so that a row is asked only for the
@@ -30,20 +30,23 @@ pub struct Columns {
 
 impl Model for Columns {
     ghost use Rattle.std.specs.Prelude.{◌≡◌, List};
+    ghost use Rattle.std.specs.List.{All};
     ghost use Rattle.bq_schema.specs.declared.column.ColumnDef.{ColumnDef};
+    ghost use Rattle.bq_schema.specs.Streams.{HasEnds};
     ghost use Rattle.bq_schema.specs.Ends.{ends_from};
 
     ghost Value = { List ColumnDef };
 
     ghost view = { λ c. c.columns.items };
 
-    ghost invariant = { λ c. c.ends.items ≡ ends_from 0 c.columns.items };
+    ghost invariant = { λ c. (c.ends.items ≡ ends_from 0 c.columns.items) × All (λ d. HasEnds d.domain) c.columns.items };
 }
 
 impl Columns {
-    /// Keeps these columns, at most 8.
+    /// Keeps these columns, at most 8. Each domain has ends of at most 15 digits, the first at most the second.
     pub fn new(columns: &[ColumnDef]) -> Columns
-        requires { length columns.now ≤ 8 }
+        requires few { length columns.now ≤ 8 }
+        requires domains { All (λ c. HasEnds c.domain) columns.now }
         ensures columns { result ≡ columns.now }
         ensures names { All (λ c. IsName c.name) columns.now }
     {
@@ -109,7 +112,11 @@ fn put_ends(ends: &mut ArrayVec<ColumnEnds, 8>, column: u8, domain: Option<(i64,
     ensures short { length ends.new.items ≤ length ends.old.items + 1 }
 {
     match domain {
-        Some((lo, hi)) => ends.push(ColumnEnds { column, lo, hi }),
+        Some((lo, hi)) => ends.push(ColumnEnds {
+            column,
+            lo,
+            width: hi.abs_diff(lo),
+        }),
         None => {}
     }
 }
@@ -134,18 +141,21 @@ fn value_at(values: &[i64], column: u8) -> i64
     values[usize::from(column)]
 }
 
-// Whether the value of a column lies between its ends.
+// Whether the value of a column lies between its ends. One comparison tells both: without sign, the difference of a value below the
+// least one is above each width.
 fn is_within(values: &[i64], ends: &ColumnEnds) -> bool
-    requires { ends.now.column < length values.now }
+    requires here { ends.now.column < length values.now }
+    requires ends { AreEnds ends.now.lo (greatest ends.now) }
     ensures { result ≡ is_between values.now ends.now }
 {
     let value = value_at(values, ends.column);
-    !(value < ends.lo) && !(ends.hi < value)
+    value.wrapping_sub(ends.lo).cast_unsigned() <= ends.width
 }
 
 // Whether each value with ends lies between them.
 fn are_between(ends: &[ColumnEnds], values: &[i64]) -> bool
-    requires { All (λ e. e.column < length values.now) ends.now }
+    requires here { All (λ e. e.column < length values.now) ends.now }
+    requires ends { All (λ e. AreEnds e.lo (greatest e)) ends.now }
     ensures { result ≡ list_all (is_between values.now) ends.now }
 {
     for ends in ends {

@@ -1,19 +1,31 @@
 use Rattle.std.proofs.Common.{◌≡◌, ◌<◌, List, [], length, All, refl, ap, sym, ◌∙◌, subst, arith}
 use Rattle.std.specs.List.{list_all}
-use Rattle.std.proofs.lemmas.List.Elements.{All-from_recursion}
+use Rattle.std.proofs.lemmas.List.Elements.{All-from_recursion, recursion_from_All}
+use Rattle.bq_schema.specs.declared.column.ColumnDef.{ColumnDef}
 use Rattle.bq_schema.specs.declared.columns.ColumnEnds.{ColumnEnds}
-use Rattle.bq_schema.specs.Ends.{ends_from, is_between}
-use Rattle.bq_schema.proofs.ColumnDomains.{between_within, ends_below}
+use Rattle.bq_schema.specs.Streams.{AreEnds, HasEnds}
+use Rattle.bq_schema.specs.Ends.{ends_from, greatest, is_between}
+use Rattle.bq_schema.proofs.ColumnDomains.{between_within, ends_below, ends_short}
 use Rattle.bq_schema.proofs.columns.Columns.keep.Goals as goal
 
-pub are_between-requires : goal.are_between-requires
-are_between-requires c =
-    let ends : c.as_slice.result.now ≡ ends_from 0 c.args.self.now = c.as_slice.ensures.value ∙ c.self.invariant ∙ ap (ends_from 0) c.self.view_is in
+pub are_between-requires-clause-here : goal.are_between-requires-clause-here
+are_between-requires-clause-here c =
+    let ends : c.as_slice.result.now ≡ ends_from 0 c.args.self.now = c.as_slice.ensures.value ∙ c.self.invariant.0 ∙ ap (ends_from 0) c.self.view_is in
     let below : All (λ (e : ColumnEnds). e.column < length c.args.values.now) (ends_from 0 c.args.self.now) =
     All-from_recursion (λ (e : ColumnEnds). e.column < length c.args.values.now) (ends_from 0 c.args.self.now) (ends_below c.args.self.now 0 (length c.args.values.now) (omega (arith, c.requires))) in
     subst (λ (es : List ColumnEnds). All (λ (e : ColumnEnds). e.column < length c.args.values.now) es) (sym ends) below
 
+pub are_between-requires-clause-ends : goal.are_between-requires-clause-ends
+are_between-requires-clause-ends c =
+    let ends : c.as_slice.result.now ≡ ends_from 0 c.args.self.now = c.as_slice.ensures.value ∙ c.self.invariant.0 ∙ ap (ends_from 0) c.self.view_is in
+    let domains : All (λ (d : ColumnDef). HasEnds d.domain) c.args.self.now = subst (λ (ds : List ColumnDef). All (λ (d : ColumnDef). HasEnds d.domain) ds) c.self.view_is c.self.invariant.1 in
+    let short : All (λ (e : ColumnEnds). AreEnds e.lo (greatest e)) (ends_from 0 c.args.self.now) =
+    All-from_recursion (λ (e : ColumnEnds). AreEnds e.lo (greatest e)) (ends_from 0 c.args.self.now) (ends_short c.args.self.now 0 (recursion_from_All (λ (d : ColumnDef). HasEnds d.domain) c.args.self.now domains)) in
+    subst (λ (es : List ColumnEnds). All (λ (e : ColumnEnds). AreEnds e.lo (greatest e)) es) (sym ends) short
+
 pub returns : goal.returns
 returns c =
-    let ends : c.as_slice.result.now ≡ ends_from 0 c.args.self.now = c.as_slice.ensures.value ∙ c.self.invariant ∙ ap (ends_from 0) c.self.view_is in
-    c.are_between.ensures ∙ ap (list_all (is_between c.args.values.now)) ends ∙ between_within [] c.args.self.now c.args.values.now 0 refl c.requires
+    let ends : c.as_slice.result.now ≡ ends_from 0 c.args.self.now = c.as_slice.ensures.value ∙ c.self.invariant.0 ∙ ap (ends_from 0) c.self.view_is in
+    let domains : All (λ (d : ColumnDef). HasEnds d.domain) c.args.self.now = subst (λ (ds : List ColumnDef). All (λ (d : ColumnDef). HasEnds d.domain) ds) c.self.view_is c.self.invariant.1 in
+    c.are_between.ensures ∙ ap (list_all (is_between c.args.values.now)) ends
+    ∙ between_within [] c.args.self.now c.args.values.now 0 (recursion_from_All (λ (d : ColumnDef). HasEnds d.domain) c.args.self.now domains) refl c.requires
