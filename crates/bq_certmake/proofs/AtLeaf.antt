@@ -14,7 +14,7 @@ use Rattle.bq_constraints.specs.PartConstraints.{of_prefix}
 use Rattle.bq_constraints.specs.Solutions.{IsWithin, Solves, IsSatisfiable, IsChain, IsNegativeCycle}
 use Rattle.bq_constraints.proofs.Numbers.{contains_at}
 use Rattle.bq_certificate.specs.declared.line.Path.{Path}
-use Rattle.bq_certificate.specs.Rules.{IsPath, ArePaths, path_lt, IsBound, same, of_path, HasBound, AreClosed, MayBePart, IsGoodLeaf}
+use Rattle.bq_certcheck.specs.Rules.{IsPath, ArePaths, path_lt, IsBound, same, of_path, HasBound, AreClosed, MayBePart, IsGoodLeaf}
 use Rattle.bq_certificate.specs.declared.line.Line.{Line}
 use Rattle.bq_certificate.specs.declared.line.Line.TheVariants as line
 use Rattle.bq_certificate.specs.Text.{HasNumbers}

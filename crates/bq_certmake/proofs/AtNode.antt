@@ -11,7 +11,7 @@ use Rattle.bq_closure.specs.BoundsValue.{BoundsValue}
 use Rattle.bq_constraints.specs.PartConstraints.{of_base, of_prefix, AddsSign}
 use Rattle.bq_constraints.specs.Solutions.{IsWithin}
 use Rattle.bq_constraints.proofs.Prefix.{of_no_prefix}
-use Rattle.bq_certificate.specs.Rules.{some_refuted}
+use Rattle.bq_certcheck.specs.Rules.{some_refuted}
 use Rattle.bq_certmake.specs.Tree.{IsNode}
 
 pub node_deeper : (q : QueryValue) (ps : List Pair) (pre : List Sign) (s : Sign) (b next : BoundsValue) (cs : List Constraint) → IsNode q ps pre b → length pre < length ps → some_refuted (pairs q) (pre ++ s ∷ []) q.atoms ≡ false → AddsSign q pre s cs → next.attrs ≡ b.attrs → next.constraints ≡ b.constraints ++ cs → IsNode q ps (pre ++ s ∷ []) next

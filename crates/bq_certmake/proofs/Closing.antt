@@ -15,7 +15,7 @@ use Rattle.bq_model.specs.Parts.{pairs}
 use Rattle.bq_constraints.specs.Soft.{fails_by, denies_itself}
 use Rattle.bq_constraints.proofs.Prefix.{pair_at}
 use Rattle.bq_constraints.proofs.Softly.{neither, any_none}
-use Rattle.bq_certificate.specs.Rules.{comparison, is_false_under, is_refuted, is_there_refuted, some_refuted, IsRefuted}
+use Rattle.bq_certcheck.specs.Rules.{comparison, is_false_under, is_refuted, is_there_refuted, some_refuted, IsRefuted}
 
 -- ---- tests
 

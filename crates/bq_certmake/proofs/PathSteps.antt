@@ -10,7 +10,7 @@ use Rattle.bq_constraints.specs.Solutions.{HasNoUpper}
 use Rattle.bq_certificate.specs.declared.line.Path.{Path}
 use Rattle.bq_certificate.specs.declared.line.Line.{Line}
 use Rattle.bq_certificate.specs.declared.line.Line.TheVariants as line
-use Rattle.bq_certificate.specs.Rules.{path_lt}
+use Rattle.bq_certcheck.specs.Rules.{path_lt}
 use Rattle.bq_certificate.specs.Certificate.{HasRoom, last_of, takes_path}
 use Rattle.bq_certmake.specs.Leaf.{IsLeastPath, IsBetween, AddedPath, none as no_path, one, HasPath, free, bound, ArePathsTo, AddedTo, AddsPath, AddsPaths, AddsLeaf}
 use Rattle.bq_certmake.specs.declared.error.MakeError.{MakeError}

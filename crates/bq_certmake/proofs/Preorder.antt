@@ -3,7 +3,7 @@ use Rattle.std.proofs.Common.{◌≡◌, List, [], ◌∷◌, ◌++◌, Some, Op
 use Rattle.bq_model.specs.declared.part.Sign.{Sign}
 use Rattle.bq_model.specs.Query.{QueryValue}
 use Rattle.bq_certificate.specs.Nodes.{Node}
-use Rattle.bq_certificate.specs.Reading.{AreGood, done, next, advanced, following}
+use Rattle.bq_certcheck.specs.Reading.{AreGood, done, next, advanced, following}
 
 pub good_joined : (q : QueryValue) (a b c : Option (List Sign)) (xs ys : List Node) → AreGood q a xs b → AreGood q b ys c → AreGood q a (xs ++ ys) c
 good_joined q a b c xs ys done g = g

@@ -13,9 +13,9 @@ use Rattle.bq_constraints.proofs.Feasible.{feasible_if, satisfiable_if}
 use Rattle.bq_certificate.specs.declared.line.Line.{Line}
 use Rattle.bq_certificate.specs.declared.line.Line.TheVariants as line
 use Rattle.bq_certificate.specs.Nodes.{Node, leaf as leaf_node, grouped, nodes_of}
-use Rattle.bq_certificate.specs.Rules.{IsNextPair, IsRefuted}
-use Rattle.bq_certificate.proofs.Refuted.{soft_hold, none_against}
-use Rattle.bq_certificate.specs.Reading.{AreGood, done, next, following}
+use Rattle.bq_certcheck.specs.Rules.{IsNextPair, IsRefuted}
+use Rattle.bq_certcheck.proofs.Refuted.{soft_hold, none_against}
+use Rattle.bq_certcheck.specs.Reading.{AreGood, done, next, following}
 use Rattle.bq_certmake.specs.Made.{IsOpen}
 use Rattle.bq_certmake.specs.Leaf.{ArePathsTo, AddedLeaf, IsLeafTooMany, AddsLeaf}
 use Rattle.bq_certmake.specs.Tree.{AddsNext, IsNode, SomeUnder, Walked, IsOver, of_parts, of_nodes, Walks}

@@ -6,7 +6,7 @@ use Rattle.bq_constraints.specs.Solutions.{IsUpper, HasNoUpper, IsChain}
 use Rattle.bq_certificate.specs.declared.line.Path.{Path}
 use Rattle.bq_certificate.specs.declared.line.Line.{Line}
 use Rattle.bq_certificate.specs.declared.line.Line.TheVariants as line
-use Rattle.bq_certificate.specs.Rules.{path_lt}
+use Rattle.bq_certcheck.specs.Rules.{path_lt}
 use Rattle.bq_certificate.specs.Certificate.{HasRoom, IsTooMany, last_of, takes_path}
 use Rattle.bq_certmake.specs.declared.error.MakeError.{MakeError}
 use Rattle.bq_certmake.specs.declared.error.MakeError.TheVariants as why

@@ -6,7 +6,7 @@ use Rattle.bq_model.specs.Parts.{pairs, HasMoreParts}
 use Rattle.bq_model.specs.Prefixes.{IsFeasible}
 use Rattle.bq_certificate.specs.declared.line.Line.{Line}
 use Rattle.bq_certificate.specs.Nodes.{nodes_of}
-use Rattle.bq_certificate.specs.Reading.{IsGood}
+use Rattle.bq_certcheck.specs.Reading.{IsGood}
 use Rattle.bq_certmake.specs.declared.error.MakeError.{MakeError}
 use Rattle.bq_certmake.specs.declared.error.MakeError.TheVariants as why
 

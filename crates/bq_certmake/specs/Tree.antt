@@ -11,8 +11,8 @@ use Rattle.bq_constraints.specs.PartConstraints.{of_prefix}
 use Rattle.bq_constraints.specs.Solutions.{IsWithin}
 use Rattle.bq_certificate.specs.declared.line.Line.{Line}
 use Rattle.bq_certificate.specs.Nodes.{grouped, nodes_of}
-use Rattle.bq_certificate.specs.Rules.{some_refuted, IsRefuted}
-use Rattle.bq_certificate.specs.Reading.{AreGood, following}
+use Rattle.bq_certcheck.specs.Rules.{some_refuted, IsRefuted}
+use Rattle.bq_certcheck.specs.Reading.{AreGood, following}
 use Rattle.bq_certificate.specs.Certificate.{HasRoom, IsTooMany}
 use Rattle.bq_certmake.specs.Made.{IsOpen}
 use Rattle.bq_certmake.specs.declared.error.MakeError.{MakeError}

@@ -1,7 +1,7 @@
 //! The difference bounds of a node of the tree.
 ghost use Rattle.std.specs.Prelude.{◌≡◌, ◌<◌, ◌++◌, [], ◌∷◌, IsFalse, length};
 ghost use Rattle.bq_model.specs.Parts.{pairs as pairs_of};
-ghost use Rattle.bq_certificate.specs.Rules.{some_refuted};
+ghost use Rattle.bq_certcheck.specs.Rules.{some_refuted};
 ghost use Rattle.bq_certmake.specs.Tree.{IsNode};
 
 use arrayvec::ArrayVec;

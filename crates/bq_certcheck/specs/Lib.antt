@@ -1,0 +1,14 @@
+pub mod Rules
+pub mod Tree
+pub mod Reading
+pub mod Leaves
+pub mod TreeLaws
+pub mod LeafLaws
+pub mod GroupLaws
+pub mod Chained
+pub mod Bounds
+pub mod Standing
+pub mod Walking
+pub mod OnLeaf
+pub mod FirstBreak
+pub mod SoFar

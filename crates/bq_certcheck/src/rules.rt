@@ -1,0 +1,87 @@
+//! Whether a node of a certificate meets its rules.
+ghost use Rattle.std.specs.Prelude.{◌≡◌, ◌↔◌, suc, ◌<◌, ◌≤◌, IsTrue, length, All};
+ghost use Rattle.bq_model.specs.Parts.{pairs as pairs_of};
+ghost use Rattle.bq_constraints.specs.Solutions.{IsWithin, IsNegativeCycle};
+ghost use Rattle.bq_certificate.specs.Nodes.{grouped};
+ghost use Rattle.bq_certcheck.specs.Rules.{IsRefuted, MayBePart};
+ghost use Rattle.bq_certcheck.specs.Standing.{Stands};
+ghost use Rattle.bq_certcheck.specs.Walking.{IsUnless, JudgesLeaf};
+
+use crate::answer::Reason;
+use crate::bounds::{bounds_of, is_closed};
+use crate::chain::is_negative_cycle;
+use crate::place::Place;
+use crate::refuting::{any_refuted, refutes};
+use bq_certificate::Line;
+use bq_constraints::Constraint;
+use bq_model::{Pair, Query, Sign};
+
+/// Returns the rule of a split: it is at the next pair.
+pub fn judge_split(pairs: &[Pair], signs: &[Sign], pair: u16) -> Result<(), Reason>
+    ensures { IsUnless ((pair ≡ suc (length signs.now)) × (length signs.now < length pairs.now)) Reason.Shape result }
+{
+    if signs.len() < pairs.len() && usize::from(pair) == signs.len() + 1 {
+        Ok(())
+    } else {
+        Err(Reason::Shape)
+    }
+}
+
+/// Returns the rule of an infeasible node: the constraints close a chain with a negative sum.
+pub fn judge_cycle(cs: &[Constraint], numbers: &[u16]) -> Result<(), Reason>
+    requires within { All (IsWithin 12) cs.now }
+    requires few { length numbers.now ≤ 13 }
+    ensures { IsUnless (IsNegativeCycle cs.now numbers.now) Reason.Cycle result }
+{
+    if is_negative_cycle(cs, numbers) {
+        Ok(())
+    } else {
+        Err(Reason::Cycle)
+    }
+}
+
+/// Returns the rule of a branch that a comparison closes: there is one with this number, and it is refuted.
+pub fn judge_against(q: &Query, pairs: &[Pair], signs: &[Sign], number: u16) -> Result<(), Reason>
+    requires { pairs.now ≡ pairs_of q.now }
+    ensures { IsUnless (IsRefuted q.now signs.now number) Reason.Cycle result }
+{
+    if refutes(q.atoms(), pairs, signs, number) {
+        Ok(())
+    } else {
+        Err(Reason::Cycle)
+    }
+}
+
+// The first rules of a leaf: each pair has its sign, and no comparison is refuted.
+fn may_be_part(q: &Query, pairs: &[Pair], signs: &[Sign]) -> bool
+    requires { pairs.now ≡ pairs_of q.now }
+    ensures { IsTrue result ↔ MayBePart q.now signs.now }
+{
+    signs.len() == pairs.len() && !any_refuted(q.atoms(), pairs, signs)
+}
+
+/// Returns the rules of a leaf, with the paths at the front of the lines behind it: the bounds that the paths give, or the first rule
+/// that is broken.
+pub fn judge_leaf(
+    q: &Query,
+    pairs: &[Pair],
+    place: &Place,
+    behind: &[Line],
+) -> Result<[Option<i64>; 169], Reason>
+    requires pairs { pairs.now ≡ pairs_of q.now }
+    requires stands { Stands q.now place.now }
+    ensures { JudgesLeaf q.now place.now.signs.items (grouped behind.now).paths result }
+{
+    if !may_be_part(q, pairs, place.signs.as_slice()) {
+        return Err(Reason::Shape);
+    }
+    let attrs = q.attrs().len() as u8;
+    let cs = place.constraints.as_slice();
+    let Some(bounds) = bounds_of(attrs, cs, behind) else {
+        return Err(Reason::Path);
+    };
+    if !is_closed(attrs, cs, &bounds) {
+        return Err(Reason::Bound);
+    }
+    Ok(bounds)
+}
