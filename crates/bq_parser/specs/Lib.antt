@@ -5,8 +5,10 @@ pub mod Keeping
 pub mod Laws
 pub mod Limits
 pub mod LineKind
+pub mod Naming
 pub mod Reading
 pub mod Refusal
 pub mod Resolution
+pub mod Sections
 pub mod Steps
 pub mod Syntax

@@ -3,7 +3,7 @@
 //! A draft goes on where a limit is passed, since the whole text is read before a limit is answered: a list keeps as many as it may
 //! have, and says whether there were more; a name that is too long is kept as `_`, and an integer of more than 64 bits as the
 //! greatest one.
-ghost use Rattle.std.specs.Prelude.{◌≡◌, ◌∷◌, []};
+ghost use Rattle.std.specs.Prelude.{◌≡◌, ◌∷◌, [], false};
 ghost use Rattle.bq_text.specs.Value.{value_of};
 ghost use Rattle.bq_parser.specs.Reading.{no_parts};
 ghost use Rattle.bq_parser.specs.Keeping.{kept_parts};
@@ -129,27 +129,16 @@ impl Draft {
             Action::BeginCompact => self.begin_query(false, true),
             Action::BeginSharedCompact => self.begin_query(true, true),
             Action::Named => self.name = kept_name(text),
-            Action::BeginColumns => {
-                self.columns = Kept::none();
-            }
+            Action::BeginColumns => self.columns = Kept::none(),
             Action::ColumnIs => self.column = kept_name(text),
             Action::AddColumn => self.put_column(None),
             Action::LowIs => self.low = kept_integer(text),
             Action::AddBounded => self.put_column(Some((self.low, kept_integer(text)))),
-            Action::BeginSelect => {
-                self.distinct = false;
-                self.select = Kept::none();
-            }
+            Action::BeginSelect => self.begin_select(),
             Action::SetDistinct => self.distinct = true,
             Action::StreamIs => self.stream = kept_name(text),
-            Action::AddSelected => {
-                let column = self.column_of(text);
-                self.select.put(column);
-            }
-            Action::BeginFrom => {
-                self.from = Kept::none();
-                self.atoms = Kept::none();
-            }
+            Action::AddSelected => self.put_selected(text),
+            Action::BeginFrom => self.begin_from(),
             Action::AddFrom => self.from.put(kept_name(text)),
             Action::LeftInteger => self.left = OperandAst::Integer(kept_integer(text)),
             Action::LeftColumnIs => self.left = OperandAst::Column(self.column_of(text)),
@@ -159,27 +148,15 @@ impl Draft {
             Action::OpLessEqual => self.op = Op::Le,
             Action::OpGreaterEqual => self.op = Op::Ge,
             Action::OpUnequal => self.op = Op::Ne,
-            Action::AddIntegerAtom => {
-                let atom = self.atom(OperandAst::Integer(kept_integer(text)));
-                self.atoms.put(atom);
-            }
-            Action::AddColumnAtom => {
-                let atom = self.atom(OperandAst::Column(self.column_of(text)));
-                self.atoms.put(atom);
-            }
+            Action::AddIntegerAtom => self.put_atom(OperandAst::Integer(kept_integer(text))),
+            Action::AddColumnAtom => self.put_atom(OperandAst::Column(self.column_of(text))),
             Action::BeginCheckpoint => self.form = Form::Checkpoint,
-            Action::RowsAre => {
-                self.form = Form::Rows;
-                self.count = kept_integer(text);
-            }
+            Action::RowsAre => self.begin_rows(kept_integer(text)),
             Action::BeginGiven => self.form = Form::Given,
             Action::BeginCell => self.form = Form::Cell,
             Action::IndexIs => self.index = kept_integer(text),
             Action::CountIs => self.count = kept_integer(text),
-            Action::BeginTuple => {
-                self.form = Form::Tuple;
-                self.values = Kept::none();
-            }
+            Action::BeginTuple => self.begin_tuple(),
             Action::AddValue => self.values.put(kept_integer(text)),
         }
     }
@@ -211,15 +188,55 @@ impl Draft {
         }
     }
 
-    // The atom that this side ends.
-    fn atom(&self, right: OperandAst) -> AtomAst
-        ensures { result ≡ atom_with self.now right }
+    // Begins to select.
+    fn begin_select(&mut self)
+        ensures { self.new ≡ record self.old { distinct = false; select = no_items } }
     {
-        AtomAst {
+        self.distinct = false;
+        self.select = Kept::none();
+    }
+
+    // Adds a selected column of this name.
+    fn put_selected(&mut self, text: &[u8])
+        ensures { self.new ≡ record self.old { select = put 8 (column_with self.old text.now) self.old.select } }
+    {
+        let column = self.column_of(text);
+        self.select.put(column);
+    }
+
+    // Begins the streams of a query, behind which its atoms stand.
+    fn begin_from(&mut self)
+        ensures { self.new ≡ record self.old { from = no_items; atoms = no_items } }
+    {
+        self.from = Kept::none();
+        self.atoms = Kept::none();
+    }
+
+    // Adds the atom that this side ends.
+    fn put_atom(&mut self, right: OperandAst)
+        ensures { self.new ≡ record self.old { atoms = put 16 (atom_with self.old right) self.old.atoms } }
+    {
+        self.atoms.put(AtomAst {
             left: self.left,
             op: self.op,
             right,
-        }
+        });
+    }
+
+    // Begins a line that says how many rows were taken.
+    fn begin_rows(&mut self, rows: i64)
+        ensures { self.new ≡ record self.old { form = forms.Rows; count = rows } }
+    {
+        self.form = Form::Rows;
+        self.count = rows;
+    }
+
+    // Begins a line that sets a tuple.
+    fn begin_tuple(&mut self)
+        ensures { self.new ≡ record self.old { form = forms.Tuple; values = no_items } }
+    {
+        self.form = Form::Tuple;
+        self.values = Kept::none();
     }
 
     /// Returns the statement, once it is whole and within its limits.

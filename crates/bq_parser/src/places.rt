@@ -1,8 +1,9 @@
 //! Where in a statement its next token stands, and what each token there does.
-ghost use Rattle.std.specs.Prelude.{◌≡◌, Some, None, if◌then◌else◌};
+ghost use Rattle.std.specs.Prelude.{◌≡◌, Some, None, IsTrue, if◌then◌else◌};
 ghost use Rattle.bq_parser.specs.declared.places.Place.TheVariants as places;
 ghost use Rattle.bq_parser.specs.Grammar as grammar;
 ghost use Rattle.bq_parser.specs.Steps.{step, word_step, step_of};
+ghost use Rattle.bq_parser.specs.Sections.{is_of_query, is_begun, is_in_columns, is_in_domain, is_in_query, is_in_select, is_on_left, is_on_right, is_in_resume, is_at_end};
 
 use bq_lexer::TokenKind;
 use bq_text::Key;
@@ -100,9 +101,9 @@ pub enum Action {
     AddValue,
 }
 
-// What a token does at a place by its kind, or `None` where it begins no statement.
-fn next(place: Place, kind: TokenKind) -> Option<(Place, Action)>
-    ensures { result ≡ step place kind }
+// What a token does by its kind at the beginning of a statement; nothing at any other place.
+fn next_begun(place: Place, kind: TokenKind) -> Option<(Place, Action)>
+    ensures { IsTrue (is_begun place) → result ≡ step place kind }
 {
     match place {
         Place::Start => match kind {
@@ -133,6 +134,15 @@ fn next(place: Place, kind: TokenKind) -> Option<(Place, Action)>
             TokenKind::Reserved(Key::QueryKey) => Some((Place::QueryName, Action::Nothing)),
             _ => None,
         },
+        _ => None,
+    }
+}
+
+// What a token does by its kind among the columns of a stream; nothing at any other place.
+fn next_in_columns(place: Place, kind: TokenKind) -> Option<(Place, Action)>
+    ensures { IsTrue (is_in_columns place) → result ≡ step place kind }
+{
+    match place {
         Place::StreamName => match kind {
             TokenKind::Word => Some((Place::OpenColumns, Action::Named)),
             _ => None,
@@ -151,6 +161,15 @@ fn next(place: Place, kind: TokenKind) -> Option<(Place, Action)>
             TokenKind::Reserved(Key::InKey) => Some((Place::DomainLow, Action::Nothing)),
             _ => None,
         },
+        _ => None,
+    }
+}
+
+// What a token does by its kind in the domain of a column; nothing at any other place.
+fn next_in_domain(place: Place, kind: TokenKind) -> Option<(Place, Action)>
+    ensures { IsTrue (is_in_domain place) → result ≡ step place kind }
+{
+    match place {
         Place::DomainLow => match kind {
             TokenKind::Integer => Some((Place::FirstPoint, Action::LowIs)),
             _ => None,
@@ -172,6 +191,15 @@ fn next(place: Place, kind: TokenKind) -> Option<(Place, Action)>
             TokenKind::Close => Some((Place::Complete, Action::Nothing)),
             _ => None,
         },
+        _ => None,
+    }
+}
+
+// What a token does by its kind between the name of a query and what it selects; nothing at any other place.
+fn next_in_query(place: Place, kind: TokenKind) -> Option<(Place, Action)>
+    ensures { IsTrue (is_in_query place) → result ≡ step place kind }
+{
+    match place {
         Place::QueryName => match kind {
             TokenKind::Word => Some((Place::QueryAs, Action::Named)),
             _ => None,
@@ -195,6 +223,15 @@ fn next(place: Place, kind: TokenKind) -> Option<(Place, Action)>
             TokenKind::Word => Some((Place::SelectedPoint, Action::StreamIs)),
             _ => None,
         },
+        _ => None,
+    }
+}
+
+// What a token does by its kind among the selected columns and the streams of a query; nothing at any other place.
+fn next_in_select(place: Place, kind: TokenKind) -> Option<(Place, Action)>
+    ensures { IsTrue (is_in_select place) → result ≡ step place kind }
+{
+    match place {
         Place::SelectedStream => match kind {
             TokenKind::Word => Some((Place::SelectedPoint, Action::StreamIs)),
             _ => None,
@@ -222,6 +259,15 @@ fn next(place: Place, kind: TokenKind) -> Option<(Place, Action)>
             TokenKind::Semi => Some((Place::Ended, Action::Nothing)),
             _ => None,
         },
+        _ => None,
+    }
+}
+
+// What a token does by its kind on the left of a comparison, or at its operator; nothing at any other place.
+fn next_on_left(place: Place, kind: TokenKind) -> Option<(Place, Action)>
+    ensures { IsTrue (is_on_left place) → result ≡ step place kind }
+{
+    match place {
         Place::AtomLeft => match kind {
             TokenKind::Word => Some((Place::LeftPoint, Action::StreamIs)),
             TokenKind::Integer => Some((Place::IntegerOp, Action::LeftInteger)),
@@ -244,11 +290,6 @@ fn next(place: Place, kind: TokenKind) -> Option<(Place, Action)>
             TokenKind::Unequal => Some((Place::RightAny, Action::OpUnequal)),
             _ => None,
         },
-        Place::RightAny => match kind {
-            TokenKind::Word => Some((Place::RightPoint, Action::StreamIs)),
-            TokenKind::Integer => Some((Place::AfterAtom, Action::AddIntegerAtom)),
-            _ => None,
-        },
         Place::IntegerOp => match kind {
             TokenKind::Less => Some((Place::RightStream, Action::OpLess)),
             TokenKind::Equal => Some((Place::RightStream, Action::OpEqual)),
@@ -256,6 +297,20 @@ fn next(place: Place, kind: TokenKind) -> Option<(Place, Action)>
             TokenKind::LessEqual => Some((Place::RightStream, Action::OpLessEqual)),
             TokenKind::GreaterEqual => Some((Place::RightStream, Action::OpGreaterEqual)),
             TokenKind::Unequal => Some((Place::RightStream, Action::OpUnequal)),
+            _ => None,
+        },
+        _ => None,
+    }
+}
+
+// What a token does by its kind on the right of a comparison, or behind it; nothing at any other place.
+fn next_on_right(place: Place, kind: TokenKind) -> Option<(Place, Action)>
+    ensures { IsTrue (is_on_right place) → result ≡ step place kind }
+{
+    match place {
+        Place::RightAny => match kind {
+            TokenKind::Word => Some((Place::RightPoint, Action::StreamIs)),
+            TokenKind::Integer => Some((Place::AfterAtom, Action::AddIntegerAtom)),
             _ => None,
         },
         Place::RightStream => match kind {
@@ -275,18 +330,15 @@ fn next(place: Place, kind: TokenKind) -> Option<(Place, Action)>
             TokenKind::Semi => Some((Place::Ended, Action::Nothing)),
             _ => None,
         },
-        Place::ExplainName => match kind {
-            TokenKind::Word => Some((Place::Complete, Action::Named)),
-            _ => None,
-        },
-        Place::AfterDrop => match kind {
-            TokenKind::Reserved(Key::QueryKey) => Some((Place::DropName, Action::Nothing)),
-            _ => None,
-        },
-        Place::DropName => match kind {
-            TokenKind::Word => Some((Place::Complete, Action::Named)),
-            _ => None,
-        },
+        _ => None,
+    }
+}
+
+// What a token does by its kind in a line that sets what is gone on from; nothing at any other place.
+fn next_in_resume(place: Place, kind: TokenKind) -> Option<(Place, Action)>
+    ensures { IsTrue (is_in_resume place) → result ≡ step place kind }
+{
+    match place {
         Place::AfterResume => match kind {
             TokenKind::Integer => Some((Place::Complete, Action::RowsAre)),
             TokenKind::Word => Some((Place::ResumeWhat, Action::Named)),
@@ -319,11 +371,87 @@ fn next(place: Place, kind: TokenKind) -> Option<(Place, Action)>
             TokenKind::Semi => Some((Place::Ended, Action::Nothing)),
             _ => None,
         },
+        _ => None,
+    }
+}
+
+// What a token does by its kind in EXPLAIN and DROP, or at the end of a statement; nothing at any other place.
+fn next_at_end(place: Place, kind: TokenKind) -> Option<(Place, Action)>
+    ensures { IsTrue (is_at_end place) → result ≡ step place kind }
+{
+    match place {
+        Place::ExplainName => match kind {
+            TokenKind::Word => Some((Place::Complete, Action::Named)),
+            _ => None,
+        },
+        Place::AfterDrop => match kind {
+            TokenKind::Reserved(Key::QueryKey) => Some((Place::DropName, Action::Nothing)),
+            _ => None,
+        },
+        Place::DropName => match kind {
+            TokenKind::Word => Some((Place::Complete, Action::Named)),
+            _ => None,
+        },
         Place::Complete => match kind {
             TokenKind::Semi => Some((Place::Ended, Action::Nothing)),
             _ => None,
         },
-        Place::Ended => None,
+        _ => None,
+    }
+}
+
+// What a token does by its kind in a query; nothing at any other place.
+fn next_of_query(place: Place, kind: TokenKind) -> Option<(Place, Action)>
+    ensures { IsTrue (is_of_query place) → result ≡ step place kind }
+{
+    match place {
+        Place::QueryName | Place::QueryAs | Place::QuerySelect | Place::FirstSelected =>
+            next_in_query(place, kind),
+        Place::SelectedStream
+        | Place::SelectedPoint
+        | Place::SelectedColumn
+        | Place::AfterSelected
+        | Place::FromName
+        | Place::AfterFrom => next_in_select(place, kind),
+        Place::AtomLeft
+        | Place::LeftPoint
+        | Place::LeftColumn
+        | Place::ColumnOp
+        | Place::IntegerOp => next_on_left(place, kind),
+        Place::RightAny
+        | Place::RightStream
+        | Place::RightPoint
+        | Place::RightColumn
+        | Place::AfterAtom => next_on_right(place, kind),
+        _ => None,
+    }
+}
+
+// What a token does at a place by its kind, or `None` where it begins no statement.
+fn next(place: Place, kind: TokenKind) -> Option<(Place, Action)>
+    ensures { result ≡ step place kind }
+{
+    match place {
+        Place::Start | Place::AfterCreate | Place::AfterShared | Place::AfterCompact => next_begun(
+            place, kind,
+        ),
+        Place::StreamName | Place::OpenColumns | Place::ColumnName | Place::AfterColumn =>
+            next_in_columns(place, kind),
+        Place::DomainLow
+        | Place::FirstPoint
+        | Place::SecondPoint
+        | Place::DomainHigh
+        | Place::AfterDomain => next_in_domain(place, kind),
+        Place::AfterResume
+        | Place::ResumeWhat
+        | Place::GivenRows
+        | Place::CellIndex
+        | Place::CellContent
+        | Place::TupleValue
+        | Place::AfterValue => next_in_resume(place, kind),
+        Place::ExplainName | Place::AfterDrop | Place::DropName | Place::Complete | Place::Ended =>
+            next_at_end(place, kind),
+        _ => next_of_query(place, kind),
     }
 }
 

@@ -13,7 +13,8 @@ use Rattle.bq_parser.specs.declared.tree.SelectAst.{SelectAst}
 use Rattle.bq_parser.specs.declared.tree.Statement.TheVariants.{CreateStream, CreateQuery, ResumeGiven, ResumeCell, ResumeTuple}
 use Rattle.bq_parser.specs.Grammar.{Lexeme, word, number, key, comma, opening, closing, less, equal, greater, less_equal, greater_equal, unequal, separated, name_tokens, domain_tokens, coldef_tokens, column_tokens, operand_tokens, op_token, atom_tokens, where_tokens, distinct_tokens, select_tokens}
 use Rattle.bq_print.specs.Printed.{text_for, joins_next, joins_last, joins, gap_by, printed, printed_form}
-use Rattle.bq_print.specs.PrintedParts.{each_behind, listed, name_text, column_text, operand_text, op_text, atom_text, names_text, columns_text, atoms_text, distinct_text, sources_text, selection_text, select_text, query_head_text, query_text, domain_text, coldef_text, coldefs_text, given_text, content_text, cell_text, values_text, tuple_text, stream_text}
+use Rattle.bq_print.specs.PrintedParts.{each_behind, listed, name_text, operand_text, op_text, atom_text, names_text, columns_text, atoms_text, distinct_text, sources_text, selection_text, select_text, query_head_text, query_text, domain_text, coldef_text, coldefs_text, given_text, content_text, cell_text, values_text, tuple_text, stream_text}
+use Rattle.bq_parser.specs.Naming.{column_text}
 use Rattle.bq_parser.proofs.Compact.{create_tokens}
 use Rattle.bq_parser.proofs.Said.{select_grouped}
 

@@ -10,6 +10,7 @@ use Rattle.bq_parser.specs.declared.tree.OperandAst.{OperandAst}
 use Rattle.bq_parser.specs.declared.tree.OperandAst.TheVariants.{Column, Integer}
 use Rattle.bq_parser.specs.declared.tree.AtomAst.{AtomAst}
 use Rattle.bq_parser.specs.declared.tree.SelectAst.{SelectAst}
+use Rattle.bq_parser.specs.Naming.{column_text}
 
 -- each item behind the same separator
 abbrev pub each_behind : {X : Type 0} → List ℕ → (X → List ℕ) → List X → List ℕ
@@ -23,10 +24,6 @@ listed lead sep text (x ∷ xs) = (lead ++ text x) ++ each_behind sep text xs
 -- a name is its text
 abbrev pub name_text : List ℕ → List ℕ
 name_text n = n
-
--- a column: its stream, a point and its name
-abbrev pub column_text : ColumnAst → List ℕ
-column_text c = c.stream ++ (46 ∷ c.column)
 
 -- a side of an atom
 abbrev pub operand_text : OperandAst → List ℕ

@@ -10,5 +10,5 @@ mod pieces;
 mod printing;
 mod shortening;
 
-pub use naming::{column_named, print_query, put_create_line};
+pub use naming::{print_query, put_create_line};
 pub use printing::print;

@@ -2,6 +2,7 @@
 ghost use Rattle.std.specs.Prelude.{◌≡◌, ◌++◌, [], codes};
 ghost use Rattle.std.specs.Fmt.{signed_decimal};
 ghost use Rattle.bq_io.specs.Sink.{Writes};
+ghost use Rattle.bq_parser.specs.Naming.{column_text};
 ghost use Rattle.bq_print.specs.Printed.{printed_form};
 ghost use Rattle.bq_print.specs.PrintedParts as parts;
 
@@ -48,7 +49,7 @@ fn put_names<O: Sink>(out: &mut O, lead: &[u8], names: &[Name]) -> Result<(), Wr
 
 // A column, and what stands before it.
 fn put_column<O: Sink>(out: &mut O, lead: &[u8], column: &ColumnAst) -> Result<(), WriteFault>
-    ensures { Writes result (O.seen out.old) (O.seen out.new) (lead.now ++ parts.column_text column.now) }
+    ensures { Writes result (O.seen out.old) (O.seen out.new) (lead.now ++ column_text column.now) }
 {
     let pieces: [&[u8]; 4] = [lead, column.stream.bytes(), b".", column.column.bytes()];
     write_pieces(out, &pieces)
@@ -56,7 +57,7 @@ fn put_column<O: Sink>(out: &mut O, lead: &[u8], column: &ColumnAst) -> Result<(
 
 // Each column behind a comma and a space.
 fn put_more_columns<O: Sink>(out: &mut O, columns: &[ColumnAst]) -> Result<(), WriteFault>
-    ensures { Writes result (O.seen out.old) (O.seen out.new) (parts.each_behind (codes ", ") parts.column_text columns.now) }
+    ensures { Writes result (O.seen out.old) (O.seen out.new) (parts.each_behind (codes ", ") column_text columns.now) }
 {
     for column in columns {
         match put_column(out, b", ", column) {

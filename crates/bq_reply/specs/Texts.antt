@@ -12,7 +12,7 @@ use Rattle.bq_model.specs.declared.plan.Plan.TheVariants as plans
 use Rattle.bq_model.specs.Query.{QueryValue}
 use Rattle.bq_model.specs.Verdict.{Verdict}
 use Rattle.bq_model.specs.Verdict as verdicts
-use Rattle.bq_explain.specs.Text.{column_text}
+use Rattle.bq_parser.specs.Naming.{column_text}
 use Rattle.bq_reply.specs.declared.word.Word.{Word}
 use Rattle.bq_reply.specs.declared.word.Word.TheVariants.{LineTooLong, Syntax, Limit, Duplicate, TooMany, UnknownStream, UnknownColumn, SelfJoin, UnknownQuery, Late, Arity, Value, Domain, RowLimit}
 

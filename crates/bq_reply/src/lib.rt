@@ -7,7 +7,7 @@ mod reply;
 mod word;
 
 pub use reply::{
-    write_created, write_dropped, write_filter, write_limit, write_no_pages, write_numbers,
-    write_refused, write_violation,
+    condition_text, write_created, write_dropped, write_filter, write_limit, write_no_pages,
+    write_numbers, write_refused, write_violation,
 };
 pub use word::{Word, parse_word, resolve_word, row_word, stream_word};

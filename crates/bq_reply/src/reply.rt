@@ -1,7 +1,7 @@
 //! What is printed. Each line is one call that writes a list of pieces.
 ghost use Rattle.std.specs.Prelude.{◌≡◌, ◌++◌, ◌∷◌, [], codes, decimal};
 ghost use Rattle.bq_io.specs.Sink.{Writes};
-ghost use Rattle.bq_explain.specs.Text.{column_text};
+ghost use Rattle.bq_parser.specs.Naming.{column_text};
 ghost use Rattle.bq_reply.specs.Texts.{word_text, which_text, condition_text, numbers_text};
 
 use crate::word::Word;
@@ -120,7 +120,8 @@ pub fn write_limit<O: Sink>(out: &mut O, name: &Name, which: Which) -> Result<()
     write_limit_text(out, name.bytes(), which)
 }
 
-fn condition_text(condition: Condition) -> &'static [u8]
+/// Returns the name of a condition.
+pub fn condition_text(condition: Condition) -> &'static [u8]
     ensures { result.now ≡ condition_text condition }
 {
     match condition {

@@ -1,6 +1,6 @@
 use Rattle.std.proofs.Common.{codes}
 use Rattle.bq_print.proofs.WritesBehind.{listed_first}
-use Rattle.bq_print.specs.PrintedParts.{column_text}
+use Rattle.bq_parser.specs.Naming.{column_text}
 use Rattle.bq_print.proofs.WritesBehind.{writes_then, writes_stop}
 use Rattle.bq_print.proofs.printing.put_columns.Goals as goal
 

@@ -1,5 +1,5 @@
 use Rattle.std.proofs.Common.{◌++◌, codes}
-use Rattle.bq_print.specs.PrintedParts.{column_text}
+use Rattle.bq_parser.specs.Naming.{column_text}
 use Rattle.bq_print.proofs.WritesBehind.{stops_at_item}
 use Rattle.bq_print.proofs.printing.put_more_columns.Goals as goal
 

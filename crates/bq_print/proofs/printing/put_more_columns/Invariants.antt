@@ -1,6 +1,7 @@
 use Rattle.std.proofs.Common.{take, codes}
 use Rattle.bq_io.specs.Sink.{Wrote}
-use Rattle.bq_print.specs.PrintedParts.{each_behind, column_text}
+use Rattle.bq_print.specs.PrintedParts.{each_behind}
+use Rattle.bq_parser.specs.Naming.{column_text}
 use Rattle.bq_print.proofs.printing.put_more_columns.Given as goal
 
 abbrev pub invariant-loop-column : goal.invariant-loop-column
