@@ -2,13 +2,14 @@
 ghost use Rattle.std.specs.Prelude.{◌≡◌, ◌≤◌, map};
 ghost use Rattle.std.specs.String.{string_bytes};
 ghost use Rattle.bq_io.specs.Counts.{Rose};
-ghost use Rattle.bq_top.specs.Run.{IsNoFault};
+ghost use Rattle.bq_session.specs.Run.{IsNoFault};
 ghost use Rattle.bq_feeds.specs.FeedsEnd.{NoneFell, SomeRose};
 ghost use Rattle.bq.specs.Serve.{asks_feeds, Serves};
 
 use bq_feeds::run_feeds;
 use bq_io::{Sink, Source, Status};
-use bq_top::{is_word, run};
+use bq_session::is_word;
+use bq_top::run;
 use std::alloc::Global;
 
 // Whether the first word is `feeds`.

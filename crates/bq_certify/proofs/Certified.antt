@@ -16,7 +16,7 @@ use Rattle.bq_reply.specs.declared.word.Word.TheVariants.{Limit}
 use Rattle.bq_certificate.specs.declared.line.Line.{Line}
 use Rattle.bq_certificate.specs.Nodes.{nodes_of}
 use Rattle.bq_certificate.specs.Certificate.{AreLines}
-use Rattle.bq_certificate.specs.Reading.{IsGood}
+use Rattle.bq_certcheck.specs.Reading.{IsGood}
 use Rattle.bq_certificate.specs.Text.{certificate_text}
 use Rattle.bq_certmake.specs.Made.{IsTooLarge}
 use Rattle.bq_script.specs.declared.end.ScriptEnd.{ScriptEnd}
@@ -26,10 +26,10 @@ use Rattle.bq_script.specs.Script.{Asks, IsBlank, IsMisplaced}
 use Rattle.bq_script.specs.Texts.{script_text}
 use Rattle.bq_script.specs.Ends.{GaveScript, GaveLine, GaveAll, GaveLast, IsFull, ReadsBlank}
 use Rattle.bq_io.specs.declared.status.Status.TheVariants as status
-use Rattle.bq_certify.specs.Commands.{Outcome, ComesTo, TookUnsettled}
-use Rattle.bq_certify.specs.Certifying.{Certifies, refusal, certified}
+use Rattle.bq_script.specs.Commands.{Outcome, ComesTo, TookUnsettled, refusal}
+use Rattle.bq_certify.specs.Certifying.{Certifies, certified}
 use Rattle.bq_certify.specs.Certifying as certifying
-use Rattle.bq_certify.specs.Ending.{StopsAt}
+use Rattle.bq_script.specs.Ending.{StopsAt}
 use Rattle.bq_certify.specs.Certified.{MakesFor, ends_with}
 use Rattle.bq_certify.proofs.OneCertified.{certifies-alike}
 

@@ -11,22 +11,21 @@ use Rattle.bq_schema.specs.Streams.{Shape}
 use Rattle.bq_parser.specs.declared.tree.SelectAst.{SelectAst}
 use Rattle.bq_reply.specs.declared.word.Word.{Word}
 use Rattle.bq_certificate.specs.declared.line.Line.{Line}
-use Rattle.bq_certificate.specs.declared.answer.CheckAnswer.{CheckAnswer}
+use Rattle.bq_certcheck.specs.declared.answer.CheckAnswer.{CheckAnswer}
 use Rattle.bq_certificate.specs.Nodes.{nodes_of}
-use Rattle.bq_certificate.specs.Reading.{IsCheckAnswer}
+use Rattle.bq_certcheck.specs.Reading.{IsCheckAnswer}
 use Rattle.bq_script.specs.declared.end.ScriptEnd.{ScriptEnd}
 use Rattle.bq_script.specs.declared.end.ScriptEnd.TheVariants.{Refused, ReadFault, ByteLimit, Memory}
 use Rattle.bq_script.specs.declared.script.Script.{Script}
-use Rattle.bq_script.specs.Script.{Asks}
+use Rattle.bq_script.specs.Script.{Asks, name_of}
 use Rattle.bq_script.specs.Ends.{IsRefused, EndsEarly, GaveScript, GaveStreams, IsFull}
 use Rattle.bq_certify.specs.declared.checking.Checked.{Checked}
-use Rattle.bq_certify.specs.Commands.{AreNeeded, TookUnsettled}
-use Rattle.bq_certify.specs.Certifying.{refusal, lines_for}
-use Rattle.bq_certify.proofs.Endings.{early-needed, unsettled-streams}
+use Rattle.bq_script.specs.Commands.{AreNeeded, TookUnsettled, refusal, lines_for}
+use Rattle.bq_script.proofs.Endings.{early-needed, unsettled-streams}
 use Rattle.bq_certify.proofs.OneChecked.{answered-needs, checks-alike, collected-unsettled}
 use Rattle.bq_certify.specs.Checking as checking
 use Rattle.bq_certify.specs.Checking.{answered, Checks}
-use Rattle.bq_certify.specs.Collecting.{HasGiven, GaveLines, GaveRefused, Refuses, ReadsCertificate, name_of, ReadsAnswer}
+use Rattle.bq_certify.specs.Collecting.{HasGiven, GaveLines, GaveRefused, Refuses, ReadsCertificate, ReadsAnswer}
 
 -- nothing stands behind the last line
 pub none-behind : (before : List (List ℕ)) (line : List ℕ) (behind : List (List ℕ)) (n : ℕ) → n ≡ suc (length before) → n ≡ length (before ++ line ∷ behind) → behind ≡ []

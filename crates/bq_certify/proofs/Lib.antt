@@ -1,11 +1,8 @@
 pub mod Certified
-pub mod Endings
-pub mod Gathering
 pub mod Texts
 pub mod Checks
 pub mod Collected
 pub mod Grouped
-pub mod OneRefusal
 pub mod OneFinding
 pub mod OneChecked
 pub mod OneCertified

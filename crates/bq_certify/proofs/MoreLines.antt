@@ -5,9 +5,9 @@ use Rattle.bq_schema.specs.Streams.{Shape}
 use Rattle.bq_parser.specs.declared.tree.SelectAst.{SelectAst}
 use Rattle.bq_reply.specs.declared.word.Word.{Word}
 use Rattle.bq_script.specs.Script.{Asks, IsRefusedAt, at_line, at_end}
-use Rattle.bq_certify.specs.Commands.{Outcome}
+use Rattle.bq_script.specs.Commands.{Outcome, early_refusal}
 use Rattle.bq_certify.specs.Certifying as certifying
-use Rattle.bq_certify.specs.Certifying.{Certifies, early_refusal}
+use Rattle.bq_certify.specs.Certifying.{Certifies}
 use Rattle.bq_certify.specs.Checking as checking
 use Rattle.bq_certify.specs.Checking.{Checks, answered}
 use Rattle.bq_certify.specs.Laws.{StaysWhenMoreFollows}

@@ -11,11 +11,11 @@ use Rattle.bq_certmake.specs.Made.{IsTooLarge}
 use Rattle.bq_script.specs.Script as scripts
 use Rattle.bq_script.specs.Script.{IsBlank, IsMisplaced}
 use Rattle.bq_script.proofs.OneEnd.{one_end}
-use Rattle.bq_certify.specs.Commands.{Outcome}
+use Rattle.bq_script.specs.Commands.{Outcome, refusal}
 use Rattle.bq_certify.specs.Certifying as certifying
-use Rattle.bq_certify.specs.Certifying.{Certifies, refusal, certified}
+use Rattle.bq_certify.specs.Certifying.{Certifies, certified}
 use Rattle.bq_certify.specs.Laws.{AreAlike, same, both}
-use Rattle.bq_certify.proofs.OneRefusal.{head-same, tail-same, behind-same, early-same}
+use Rattle.bq_script.proofs.OneRefusal.{head-same, tail-same, behind-same, early-same}
 
 -- a line that has no place is not blank
 misplaced-loud : (line : List ℕ) (w : Word) → IsMisplaced line w → IsBlank line → ⊥

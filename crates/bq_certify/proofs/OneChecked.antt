@@ -5,19 +5,18 @@ use Rattle.bq_schema.specs.Streams.{Shape}
 use Rattle.bq_parser.specs.declared.tree.SelectAst.{SelectAst}
 use Rattle.bq_reply.specs.declared.word.Word.{Word}
 use Rattle.bq_certificate.specs.declared.line.Line.{Line}
-use Rattle.bq_certificate.specs.declared.answer.CheckAnswer.{CheckAnswer}
-use Rattle.bq_certificate.specs.declared.answer.CheckAnswer.TheVariants.{Yes, No}
+use Rattle.bq_certcheck.specs.declared.answer.CheckAnswer.{CheckAnswer}
+use Rattle.bq_certcheck.specs.declared.answer.CheckAnswer.TheVariants.{Yes, No}
 use Rattle.bq_certificate.specs.Nodes.{nodes_of}
-use Rattle.bq_certificate.specs.Reading.{IsCheckAnswer}
-use Rattle.bq_certificate.proofs.OneAnswer as answers
+use Rattle.bq_certcheck.specs.Reading.{IsCheckAnswer}
+use Rattle.bq_certcheck.proofs.OneAnswer as answers
 use Rattle.bq_script.specs.Script.{Asks}
 use Rattle.bq_script.proofs.OneEnd.{one_end}
-use Rattle.bq_certify.specs.Commands.{Outcome, SettleNothing}
-use Rattle.bq_certify.specs.Certifying.{refusal}
+use Rattle.bq_script.specs.Commands.{Outcome, SettleNothing, refusal}
 use Rattle.bq_certify.specs.Checking as checking
 use Rattle.bq_certify.specs.Checking.{Collect, answered, Checks}
 use Rattle.bq_certify.specs.Laws.{HasOneAnswer}
-use Rattle.bq_certify.proofs.OneRefusal.{behind-same, early-same}
+use Rattle.bq_script.proofs.OneRefusal.{behind-same, early-same}
 use Rattle.bq_certify.proofs.OneFinding.{one-refused, one-collected, collected-stays}
 
 answer-same : (streams shapes : List Shape) (name title : List ℕ) (q r : QueryValue) (c d : List Line) (answer other : CheckAnswer) → streams ≡ shapes → name ≡ title → q ≡ r → c ≡ d

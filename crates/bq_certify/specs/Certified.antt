@@ -8,7 +8,7 @@ use Rattle.bq_reply.specs.declared.word.Word.TheVariants.{Limit}
 use Rattle.bq_certificate.specs.declared.line.Line.{Line}
 use Rattle.bq_certificate.specs.Nodes.{nodes_of}
 use Rattle.bq_certificate.specs.Certificate.{AreLines}
-use Rattle.bq_certificate.specs.Reading.{IsGood}
+use Rattle.bq_certcheck.specs.Reading.{IsGood}
 use Rattle.bq_certificate.specs.Text.{certificate_text}
 use Rattle.bq_certmake.specs.Made.{IsTooLarge}
 use Rattle.bq_script.specs.declared.end.ScriptEnd.{ScriptEnd}
@@ -16,9 +16,9 @@ use Rattle.bq_script.specs.declared.end.ScriptEnd.TheVariants.{Refused, ReadFaul
 use Rattle.bq_script.specs.declared.script.Script.{Script}
 use Rattle.bq_script.specs.Texts.{script_text}
 use Rattle.bq_certify.specs.declared.certifying.Certified.{Certified}
-use Rattle.bq_certify.specs.Commands.{Outcome, ComesTo}
+use Rattle.bq_script.specs.Commands.{Outcome, ComesTo}
 use Rattle.bq_certify.specs.Certifying.{Certifies}
-use Rattle.bq_certify.specs.Ending.{StopsAt}
+use Rattle.bq_script.specs.Ending.{StopsAt}
 
 -- what making a certificate for a script comes to: a query that is too large is refused at its line
 abbrev pub MakesFor : Result (List Line) ScriptEnd → Script → Type 0

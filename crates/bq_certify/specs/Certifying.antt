@@ -1,5 +1,5 @@
 -- What `certify` comes to over the lines of a script.
-use Rattle.std.specs.Prelude.{◌≡◌, ℕ, ◌+◌, Bool, Option, None, Some, List, ◌∷◌, ◌++◌, length}
+use Rattle.std.specs.Prelude.{◌≡◌, ℕ, ◌+◌, Bool, None, List, ◌∷◌, ◌++◌, length}
 use Rattle.std.specs.List.{All}
 use Rattle.bq_io.specs.declared.status.Status.TheVariants as status
 use Rattle.bq_model.specs.Query.{QueryValue}
@@ -11,25 +11,12 @@ use Rattle.bq_reply.specs.declared.word.Word.TheVariants.{Limit}
 use Rattle.bq_certificate.specs.declared.line.Line.{Line}
 use Rattle.bq_certificate.specs.Nodes.{nodes_of}
 use Rattle.bq_certificate.specs.Certificate.{AreLines}
-use Rattle.bq_certificate.specs.Reading.{IsGood}
+use Rattle.bq_certcheck.specs.Reading.{IsGood}
 use Rattle.bq_certificate.specs.Text.{certificate_text}
 use Rattle.bq_certmake.specs.Made.{IsTooLarge}
-use Rattle.bq_script.specs.Script.{Asks, IsRefusedAt, at_line, at_end, IsBlank, IsMisplaced}
+use Rattle.bq_script.specs.Script.{Asks, IsRefusedAt, IsBlank, IsMisplaced}
 use Rattle.bq_script.specs.Texts.{script_text}
-use Rattle.bq_certify.specs.Commands.{Outcome, error_text}
-
--- a refused line, by its number and the word
-abbrev pub refusal : ℕ → Word → Outcome
-refusal number word = record { status = status.Invalid; text = error_text number word; needs = Some number }
-
--- how many lines must be read for a refusal before the query: those up to it; or all, where the script ends before its query
-abbrev pub lines_for : {lines : List (List ℕ)} (number : ℕ) {word : Word} → IsRefusedAt lines number word → Option ℕ
-lines_for number (at_line before line behind streams whole create is number_is) = Some number
-lines_for number (at_end streams create word_is number_is) = None
-
--- a line that is refused before the query
-abbrev pub early_refusal : {lines : List (List ℕ)} (number : ℕ) (word : Word) → IsRefusedAt lines number word → Outcome
-early_refusal number word refused = record { status = status.Invalid; text = error_text number word; needs = lines_for number refused }
+use Rattle.bq_script.specs.Commands.{Outcome, refusal, early_refusal}
 
 -- the statements of a script in printed form, and a certificate
 abbrev pub certified : List Shape → List ℕ → SelectAst → Bool → List Line → Outcome

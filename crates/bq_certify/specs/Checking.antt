@@ -8,22 +8,21 @@ use Rattle.bq_schema.specs.Streams.{Shape}
 use Rattle.bq_parser.specs.declared.tree.SelectAst.{SelectAst}
 use Rattle.bq_parser.specs.Resolution.{column_named}
 use Rattle.bq_parser.specs.LineKind.{stripped}
-use Rattle.bq_explain.specs.Text.{column_text}
+use Rattle.bq_parser.specs.Naming.{column_text}
 use Rattle.bq_reply.specs.Texts.{condition_text}
 use Rattle.bq_reply.specs.declared.word.Word.{Word}
 use Rattle.bq_reply.specs.declared.word.Word.TheVariants.{LineTooLong, Syntax, Limit}
 use Rattle.bq_certificate.specs.declared.line.Line.{Line}
-use Rattle.bq_certificate.specs.declared.answer.Reason.{Reason}
-use Rattle.bq_certificate.specs.declared.answer.Reason.TheVariants as reason
-use Rattle.bq_certificate.specs.declared.answer.CheckAnswer.{CheckAnswer}
-use Rattle.bq_certificate.specs.declared.answer.CheckAnswer.TheVariants.{Yes, No}
+use Rattle.bq_certcheck.specs.declared.answer.Reason.{Reason}
+use Rattle.bq_certcheck.specs.declared.answer.Reason.TheVariants as reason
+use Rattle.bq_certcheck.specs.declared.answer.CheckAnswer.{CheckAnswer}
+use Rattle.bq_certcheck.specs.declared.answer.CheckAnswer.TheVariants.{Yes, No}
 use Rattle.bq_certificate.specs.Nodes.{nodes_of}
 use Rattle.bq_certificate.specs.Certificate.{IsNext, IsNoNextText, IsTooMany, HasRoom, last_of}
 use Rattle.bq_certificate.specs.Text.{IsLine}
-use Rattle.bq_certificate.specs.Reading.{IsCheckAnswer}
+use Rattle.bq_certcheck.specs.Reading.{IsCheckAnswer}
 use Rattle.bq_script.specs.Script.{Asks, IsRefusedAt, IsBlank}
-use Rattle.bq_certify.specs.Commands.{Outcome}
-use Rattle.bq_certify.specs.Certifying.{refusal, early_refusal}
+use Rattle.bq_script.specs.Commands.{Outcome, refusal, early_refusal}
 
 -- lines of a certificate, stripped, and blank ones between them: behind the first list of its lines they make the second
 pub data Collect : List Line → List (List ℕ) → List Line → Type 0 where

@@ -10,8 +10,6 @@ use Rattle.bq_text.specs.Lines.{lines}
 use Rattle.bq_feed.specs.Reading.{Reading, TakesAll}
 use Rattle.bq_feed.specs.Texts.{ended_part}
 use Rattle.bq_feed.specs.GivenLines.{GivenLines, TookLines}
-use Rattle.bq_parser.specs.declared.tree.Statement.{Statement}
-use Rattle.bq_parser.specs.declared.tree.Statement.TheVariants as statements
 use Rattle.bq_parser.specs.Resolution.{HasNamed}
 use Rattle.bq_reply.specs.declared.word.Word.{Word}
 use Rattle.bq_reply.specs.declared.word.Word.TheVariants as words
@@ -19,25 +17,14 @@ use Rattle.bq_certificate.specs.declared.line.Line.{Line}
 use Rattle.bq_certificate.specs.declared.error.CertError.{CertError}
 use Rattle.bq_certificate.specs.declared.error.CertError.TheVariants as why
 use Rattle.bq_certificate.specs.Nodes.{Node}
-use Rattle.bq_certificate.specs.Reading.{IsCheckAnswer}
+use Rattle.bq_certcheck.specs.Reading.{IsCheckAnswer}
 use Rattle.bq_script.specs.declared.end.ScriptEnd.{ScriptEnd}
 use Rattle.bq_script.specs.declared.end.ScriptEnd.TheVariants.{Refused, ReadFault, ByteLimit, Memory}
 use Rattle.bq_script.specs.Ends.{IsFull}
+use Rattle.bq_script.specs.Script.{name_of}
 use Rattle.bq_certify.specs.declared.checking.Checked.{Checked}
-use Rattle.bq_certify.specs.Commands.{Outcome, ComesTo, TookUnsettled, error_text}
+use Rattle.bq_script.specs.Commands.{Outcome, ComesTo, TookUnsettled, error_text}
 use Rattle.bq_certify.specs.Checking.{Collect, IsRefusedLine, answered, Checks}
-
--- the name in a statement, and nothing where it has none
-abbrev pub name_of : Statement → List ℕ
-name_of (statements.CreateStream name columns) = name
-name_of (statements.CreateQuery name select shared) = name
-name_of (statements.Explain name) = name
-name_of (statements.DropQuery name) = name
-name_of statements.Checkpoint = []
-name_of (statements.ResumeRows rows) = []
-name_of (statements.ResumeGiven name rows) = name
-name_of (statements.ResumeCell name index content) = name
-name_of (statements.ResumeTuple name values) = name
 
 -- some lines were given, since the source was in some state
 pub record HasGiven (now : SourceState) (reader : Reading) : Type 0 where

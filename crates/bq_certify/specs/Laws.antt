@@ -3,7 +3,7 @@ use Rattle.std.specs.Prelude.{◌≡◌, ℕ, Bool, Some, List, ◌++◌}
 use Rattle.bq_schema.specs.Streams.{Shape}
 use Rattle.bq_parser.specs.declared.tree.SelectAst.{SelectAst}
 use Rattle.bq_certificate.specs.declared.line.Line.{Line}
-use Rattle.bq_certify.specs.Commands.{Outcome}
+use Rattle.bq_script.specs.Commands.{Outcome}
 use Rattle.bq_certify.specs.Certifying.{Certifies, certified}
 use Rattle.bq_certify.specs.Checking.{Checks}
 

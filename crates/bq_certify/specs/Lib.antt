@@ -1,8 +1,6 @@
-pub mod Commands
 pub mod Certifying
 pub mod Certified
 pub mod Checking
 pub mod Collecting
-pub mod Ending
 pub mod Laws
 pub mod Telling

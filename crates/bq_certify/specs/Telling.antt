@@ -8,7 +8,7 @@ use Rattle.bq_io.specs.declared.status.Status.TheVariants as status
 use Rattle.bq_io.specs.Sink.{SinkState, Wrote, BrokeOff}
 use Rattle.bq_script.specs.declared.end.ScriptEnd.{ScriptEnd}
 use Rattle.bq_script.specs.declared.end.ScriptEnd.TheVariants.{Refused, ReadFault, ByteLimit, Memory}
-use Rattle.bq_certify.specs.Commands.{error_text}
+use Rattle.bq_script.specs.Commands.{error_text}
 
 -- the status behind a write: this one, or that the sink failed
 abbrev pub status_after : Result Unit WriteFault → Status → Status

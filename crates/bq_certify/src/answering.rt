@@ -1,47 +1,21 @@
 //! The answer of a check, written in one line.
 ghost use Rattle.std.specs.Prelude.{◌≡◌, ◌++◌, ◌∷◌, [], codes, decimal};
 ghost use Rattle.bq_io.specs.Sink.{Writes};
-ghost use Rattle.bq_explain.specs.Text.{column_text};
+ghost use Rattle.bq_parser.specs.Naming.{column_text};
 ghost use Rattle.bq_parser.specs.Resolution.{HasNamed};
 ghost use Rattle.bq_reply.specs.Texts as texts;
+ghost use Rattle.bq_script.specs.Script as scripts;
 ghost use Rattle.bq_model.specs.Verdict.{IsDecision};
 ghost use Rattle.bq_certify.specs.Checking as checking;
 ghost use Rattle.bq_certify.specs.Checking.{decision_text};
-ghost use Rattle.bq_certify.specs.Collecting as collecting;
 
-use bq_certificate::Reason;
+use bq_certcheck::Reason;
 use bq_io::{Sink, WriteFault, write_pieces};
 use bq_model::{Condition, Decision};
-use bq_parser::{ColumnAst, Statement};
-use bq_print::column_named;
-use bq_script::Script;
+use bq_parser::{ColumnAst, column_named};
+use bq_reply::condition_text;
+use bq_script::{Script, name_of};
 use itoa::Buffer;
-
-// The name in a statement, and nothing where it has none.
-fn name_of(statement: &Statement) -> &[u8]
-    ensures { result.now ≡ collecting.name_of statement.now }
-{
-    match statement {
-        Statement::CreateStream { name, .. } => name.bytes(),
-        Statement::CreateQuery { name, .. } => name.bytes(),
-        Statement::Explain { name } => name.bytes(),
-        Statement::DropQuery { name } => name.bytes(),
-        Statement::ResumeGiven { name, .. } => name.bytes(),
-        Statement::ResumeCell { name, .. } => name.bytes(),
-        Statement::ResumeTuple { name, .. } => name.bytes(),
-        Statement::Checkpoint | Statement::ResumeRows { .. } => b"",
-    }
-}
-
-fn condition_text(condition: Condition) -> &'static [u8]
-    ensures { result.now ≡ texts.condition_text condition }
-{
-    match condition {
-        Condition::C1 => b"C1",
-        Condition::C2 => b"C2",
-        Condition::C3 => b"C3",
-    }
-}
 
 fn reason_text(reason: Reason) -> &'static [u8]
     ensures { result.now ≡ checking.reason_text reason }
@@ -137,7 +111,7 @@ pub fn write_decision<O: Sink>(
     requires named { HasNamed script.now.catalog script.now.query }
     requires is { IsDecision script.now.query decision }
     ensures { Writes result (O.seen out.old) (O.seen out.new)
-        (decision_text script.now.catalog (collecting.name_of script.now.statement) script.now.query decision parts) }
+        (decision_text script.now.catalog (scripts.name_of script.now.statement) script.now.query decision parts) }
 {
     let name = name_of(&script.statement);
     match decision {

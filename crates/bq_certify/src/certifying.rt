@@ -5,18 +5,17 @@ ghost use Rattle.bq_io.specs.Source.{SourceState};
 ghost use Rattle.bq_io.specs.Sink.{Writes};
 ghost use Rattle.bq_feed.specs.Reading.{fresh};
 ghost use Rattle.bq_script.specs.Ends.{GaveScript};
-ghost use Rattle.bq_certify.specs.Commands.{CommandEnds};
+ghost use Rattle.bq_script.specs.Commands.{CommandEnds};
 ghost use Rattle.bq_certify.specs.Certifying.{Certifies};
-ghost use Rattle.bq_certify.specs.Ending.{EndsWith, WritesText};
+ghost use Rattle.bq_script.specs.Ending.{EndsWith, WritesText};
 ghost use Rattle.bq_certify.specs.Certified.{MakesFor, ReadsCertified, text_with};
 
-use crate::ending::end_early;
 use bq_certificate::Certificate;
 use bq_certmake::{MakeError, make};
 use bq_feed::LineReader;
 use bq_io::{Gathered, Sink, Source, Status, WriteFault};
 use bq_reply::Word;
-use bq_script::{Script, ScriptEnd, print_script, read_blank, read_script};
+use bq_script::{Script, ScriptEnd, end_early, print_script, read_blank, read_script};
 use std::alloc::Global;
 
 /// A script, and a certificate of its query.

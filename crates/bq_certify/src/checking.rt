@@ -1,7 +1,7 @@
 //! The check of a script with a certificate.
 ghost use Rattle.std.specs.Prelude.{◌≡◌, ◌≤◌};
 ghost use Rattle.bq_feed.specs.Reading.{fresh};
-ghost use Rattle.bq_certify.specs.Commands.{CommandEnds};
+ghost use Rattle.bq_script.specs.Commands.{CommandEnds};
 ghost use Rattle.bq_certify.specs.Checking.{Checks};
 ghost use Rattle.bq_certify.specs.Telling.{Tells};
 ghost use Rattle.bq_certify.specs.Collecting.{IsSound, ReadsAnswer, outcome_of};
@@ -9,7 +9,7 @@ ghost use Rattle.bq_certify.specs.Collecting.{IsSound, ReadsAnswer, outcome_of};
 use crate::answering::{write_decision, write_no};
 use crate::collecting::read_certificate;
 use crate::telling::{status_after, tell_end};
-use bq_certificate::{CheckAnswer, check};
+use bq_certcheck::{CheckAnswer, check};
 use bq_feed::LineReader;
 use bq_io::{Sink, Source, Status};
 use bq_script::{Script, ScriptEnd, read_script};

@@ -8,10 +8,8 @@ mod answering;
 mod certifying;
 mod checking;
 mod collecting;
-mod ending;
 pub mod laws;
 mod telling;
 
 pub use certifying::certify;
 pub use checking::check_script;
-pub use ending::end_early;

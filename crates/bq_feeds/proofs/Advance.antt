@@ -10,14 +10,14 @@ use Rattle.bq_session.specs.declared.outcome.LineOutcome.TheVariants as outcome
 use Rattle.bq_feed.specs.GivenLines.{GivenLines}
 use Rattle.bq_feed.specs.Reading.{NextLine}
 use Rattle.bq_session.specs.Session.{Kept, StandsFor}
-use Rattle.bq_top.specs.Events.{Event, line, fault, lines_of}
-use Rattle.bq_top.specs.Fetched.{Read}
-use Rattle.bq_top.proofs.Told.{Told, at, events_of, event_of, events_of-append, at-push, lines_of-append, lines_of-here}
-use Rattle.bq_top.proofs.Told as told
-use Rattle.bq_top.proofs.Held.{Moves, sink, moves-all, held-flushed, held-more}
-use Rattle.bq_top.proofs.Given.{Given}
-use Rattle.bq_top.proofs.Progress.{pushed}
-use Rattle.bq_top.specs.Turned.{AnsweredLine}
+use Rattle.bq_session.specs.Events.{Event, line, fault, lines_of}
+use Rattle.bq_session.specs.Fetched.{Read}
+use Rattle.bq_session.proofs.ToldEvents.{Told, at, events_of, event_of, events_of-append, at-push, lines_of-append, lines_of-here}
+use Rattle.bq_session.proofs.ToldEvents as told
+use Rattle.bq_session.proofs.Held.{Moves, sink, moves-all, held-flushed, held-more}
+use Rattle.bq_session.proofs.GivenAmong.{Given}
+use Rattle.bq_session.proofs.Progress.{pushed}
+use Rattle.bq_session.specs.Turned.{AnsweredLine}
 use Rattle.bq_feeds.specs.declared.stage.Lane.{Lane}
 use Rattle.bq_feeds.specs.declared.stage.Stage.TheVariants as stage
 use Rattle.bq_feeds.specs.Lanes.{is_open, FaultMet}

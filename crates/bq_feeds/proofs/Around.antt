@@ -7,10 +7,10 @@ use Rattle.bq_io.specs.Sink.{SinkState}
 use Rattle.bq_feed.specs.GivenLines.{AllGiven, LastGiven}
 use Rattle.bq_session.specs.State.{State}
 use Rattle.bq_session.specs.Session.{Kept, StandsFor}
-use Rattle.bq_top.specs.Events.{Event, line, fault, lines_of}
-use Rattle.bq_top.proofs.Told.{Told, at, events_of, events_of-append, lines_of-append}
-use Rattle.bq_top.proofs.Held.{Held, Moves, stay, sink}
-use Rattle.bq_top.proofs.Given.{Given, given-sunk, given-other}
+use Rattle.bq_session.specs.Events.{Event, line, fault, lines_of}
+use Rattle.bq_session.proofs.ToldEvents.{Told, at, events_of, events_of-append, lines_of-append}
+use Rattle.bq_session.proofs.Held.{Held, Moves, stay, sink}
+use Rattle.bq_session.proofs.GivenAmong.{Given, given-sunk, given-other}
 use Rattle.bq_feeds.specs.declared.stage.Lane.{Lane}
 use Rattle.bq_feeds.specs.declared.stage.Stage.TheVariants as stage
 use Rattle.bq_feeds.specs.Taken.{told_in, line_count}

@@ -5,11 +5,11 @@ use Rattle.bq_io.specs.Source.{SourceState}
 use Rattle.bq_io.specs.Sink.{SinkState}
 use Rattle.bq_session.specs.State.{State}
 use Rattle.bq_session.specs.Session.{Kept, StandsFor}
-use Rattle.bq_top.specs.Run.{HasState}
-use Rattle.bq_top.specs.Events.{Event, line, fault, lines_of}
-use Rattle.bq_top.proofs.Told.{at, at-none, events_of}
-use Rattle.bq_top.proofs.Held.{held-none}
-use Rattle.bq_top.proofs.Given.{given-begins}
+use Rattle.bq_session.specs.Run.{HasState}
+use Rattle.bq_session.specs.Events.{Event, line, fault, lines_of}
+use Rattle.bq_session.proofs.ToldEvents.{at, at-none, events_of}
+use Rattle.bq_session.proofs.Held.{held-none}
+use Rattle.bq_session.proofs.GivenAmong.{given-begins}
 use Rattle.bq_feeds.specs.declared.stage.Lane.{Lane}
 use Rattle.bq_feeds.specs.declared.stage.Stage.{Stage}
 use Rattle.bq_feeds.specs.declared.stage.Stage.TheVariants as stage

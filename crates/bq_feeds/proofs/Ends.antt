@@ -12,12 +12,12 @@ use Rattle.bq_io.specs.declared.status.Status.TheVariants as status
 use Rattle.bq_session.specs.State.{State, next_of}
 use Rattle.bq_session.specs.Replies.{reply_to}
 use Rattle.bq_session.specs.Session.{Kept}
-use Rattle.bq_top.specs.Events.{Event, fault_text, lines_of, IsClose}
-use Rattle.bq_top.proofs.Passing.{IfSome-map}
-use Rattle.bq_top.proofs.Stops.{Stopped}
-use Rattle.bq_top.proofs.Told.{Told, at, replied, answers_of, events_of, event_of, events_of-append, at-after, AreTold, AreTold-front, IsTold}
-use Rattle.bq_top.proofs.Told as told
-use Rattle.bq_top.proofs.Held.{held-all, held-stopped}
+use Rattle.bq_session.specs.Events.{Event, fault_text, lines_of, IsClose}
+use Rattle.bq_session.proofs.Passing.{IfSome-map}
+use Rattle.bq_session.proofs.Stops.{Stopped}
+use Rattle.bq_session.proofs.ToldEvents.{Told, at, replied, answers_of, events_of, event_of, events_of-append, at-after, AreTold, AreTold-front, IsTold}
+use Rattle.bq_session.proofs.ToldEvents as told
+use Rattle.bq_session.proofs.Held.{held-all, held-stopped}
 use Rattle.bq_feeds.specs.declared.stage.Lane.{Lane}
 use Rattle.bq_feeds.specs.declared.stage.Stage.{Stage}
 use Rattle.bq_feeds.specs.declared.stage.Stage.TheVariants as stage

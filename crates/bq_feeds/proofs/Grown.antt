@@ -6,8 +6,8 @@ use Rattle.std.proofs.lemmas.Bool.{false≢true}
 use Rattle.bq_text.specs.Lines.{is_line_feed, lines}
 use Rattle.bq_feed.specs.Texts.{text_of, ended_part}
 use Rattle.bq_feed.proofs.GivenEnds.{text-lines}
-use Rattle.bq_top.specs.Events.{Event, lines_of, IsClose}
-use Rattle.bq_top.proofs.Given.{Given, given-close}
+use Rattle.bq_session.specs.Events.{Event, lines_of, IsClose}
+use Rattle.bq_session.proofs.GivenAmong.{Given, given-close}
 use Rattle.bq_feeds.specs.declared.stage.Stage.TheVariants as stage
 use Rattle.bq_feeds.specs.Turns.{event_of}
 use Rattle.bq_feeds.specs.Taken.{TakenFeed, feed_of, IsTaken, OfEach}

@@ -3,7 +3,7 @@ use Rattle.std.proofs.Common.{◌≡◌, ℕ, suc, ◌-◌, ◌^◌, ◌<◌, �
 use Rattle.std.specs.String.{string_bytes}
 use Rattle.std.specs.declared.alloc.Global.{Global}
 use Rattle.std.specs.declared.option.Option.{Option}
-use Rattle.bq_top.specs.Words.{IsRowLimit}
+use Rattle.bq_session.specs.Words.{IsRowLimit}
 use Rattle.bq_feeds.specs.declared.words.FeedWords.{FeedWords}
 use Rattle.bq_feeds.specs.Words.{AreFeedsTexts, plain, limited, AreFeedNames}
 

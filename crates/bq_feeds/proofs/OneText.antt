@@ -5,7 +5,7 @@ use Rattle.bq_session.specs.Answer.{Answer}
 use Rattle.bq_session.specs.State.{State, empty, next_of}
 use Rattle.bq_session.specs.Replies.{reply_to, replies, AreAnswers}
 use Rattle.bq_session.proofs.OneAnswer.{one_answer}
-use Rattle.bq_top.specs.Events.{Event, line, fault}
+use Rattle.bq_session.specs.Events.{Event, line, fault}
 use Rattle.bq_feeds.specs.Turns.{turns}
 use Rattle.bq_feeds.specs.FeedsText.{AreEvents, event_replies}
 use Rattle.bq_feeds.specs.Laws.{HasOneFeedsText, OneFeedIsASession}

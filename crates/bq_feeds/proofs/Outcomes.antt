@@ -8,7 +8,7 @@ use Rattle.bq_io.specs.declared.status.Status.{Status}
 use Rattle.bq_io.specs.declared.status.Status.TheVariants as status
 use Rattle.bq_io.specs.Counts.{Rose}
 use Rattle.bq_session.specs.State.{State, empty}
-use Rattle.bq_top.specs.Run.{IsNoFault}
+use Rattle.bq_session.specs.Run.{IsNoFault}
 use Rattle.bq_feeds.specs.declared.stage.Stage.{Stage}
 use Rattle.bq_feeds.specs.Taken.{TakenFeed, AreLinesOf, IsTaken, OfEach, FeedsTaken}
 use Rattle.bq_feeds.specs.declared.words.FeedWords.{FeedWords}

@@ -4,7 +4,7 @@ use Rattle.std.specs.Prelude.{⊤}
 use Rattle.std.specs.List.{flat_map, range_with_len}
 use Rattle.std.proofs.lemmas.Bool.Decides.{nat_tests}
 use Rattle.std.proofs.lemmas.List.Concat.{flat_map-append}
-use Rattle.bq_top.specs.Events.{Event, line, fault}
+use Rattle.bq_session.specs.Events.{Event, line, fault}
 use Rattle.bq_feeds.specs.Turns.{Feed, event_of, round_of, rounds, turns}
 use Rattle.bq_feeds.specs.Taken.{told_in}
 

@@ -16,16 +16,16 @@ use Rattle.bq_session.specs.declared.outcome.LineOutcome.TheVariants as outcome
 use Rattle.bq_session.specs.Requests.{IsRequest}
 use Rattle.bq_session.specs.State.{State}
 use Rattle.bq_session.specs.Session.{Kept, Answered}
-use Rattle.bq_top.specs.Events.{Event, line, fault, lines_of, IsClose}
-use Rattle.bq_top.specs.Fetched.{Read}
-use Rattle.bq_top.specs.Turned.{AnsweredLine, LacksMemory, SinkFailed, ahead, reply, behind}
-use Rattle.bq_top.proofs.Passing.{IfSome-map}
-use Rattle.bq_top.proofs.Stops.{Stopped}
-use Rattle.bq_top.proofs.Told.{Told, at, events_of, answers_of, replied, events_of-append, at-after, AreTold, AreTold-push, IsTold}
-use Rattle.bq_top.proofs.Told as told
-use Rattle.bq_top.proofs.Given.{Given, given-read}
-use Rattle.bq_top.proofs.Held.{Held, sink, moves-all, held-all, held-still, held-flushed, held-stopped, held-broke}
-use Rattle.bq_top.proofs.Progress.{waits}
+use Rattle.bq_session.specs.Events.{Event, line, fault, lines_of, IsClose}
+use Rattle.bq_session.specs.Fetched.{Read}
+use Rattle.bq_session.specs.Turned.{AnsweredLine, LacksMemory, SinkFailed, ahead, reply, behind}
+use Rattle.bq_session.proofs.Passing.{IfSome-map}
+use Rattle.bq_session.proofs.Stops.{Stopped}
+use Rattle.bq_session.proofs.ToldEvents.{Told, at, events_of, answers_of, replied, events_of-append, at-after, AreTold, AreTold-push, IsTold}
+use Rattle.bq_session.proofs.ToldEvents as told
+use Rattle.bq_session.proofs.GivenAmong.{Given, given-read}
+use Rattle.bq_session.proofs.Held.{Held, sink, moves-all, held-all, held-still, held-flushed, held-stopped, held-broke}
+use Rattle.bq_session.proofs.Progress.{waits}
 use Rattle.bq_feeds.specs.declared.stage.Lane.{Lane}
 use Rattle.bq_feeds.specs.declared.stage.Stage.TheVariants as stage
 use Rattle.bq_feeds.specs.Lanes.{FaultMet}

@@ -5,9 +5,9 @@ use Rattle.bq_io.specs.Sink.{SinkState}
 use Rattle.bq_feed.specs.Reading.{Reading}
 use Rattle.bq_session.specs.State.{State}
 use Rattle.bq_session.specs.Session.{Kept}
-use Rattle.bq_top.specs.declared.one_turn.Turn.{Turn}
-use Rattle.bq_top.specs.declared.one_turn.Turn.TheVariants as turn
-use Rattle.bq_top.specs.Turned.{Turned, ahead}
+use Rattle.bq_session.specs.declared.one_turn.Turn.{Turn}
+use Rattle.bq_session.specs.declared.one_turn.Turn.TheVariants as turn
+use Rattle.bq_session.specs.Turned.{Turned, ahead}
 use Rattle.bq_feeds.specs.Lanes.{Looked, TurnedWith, bytes, lines}
 
 -- a line was taken where the session takes one more

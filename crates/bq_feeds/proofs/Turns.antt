@@ -4,7 +4,7 @@ use Rattle.std.specs.List.{flat_map, range_with_len}
 use Rattle.std.proofs.lemmas.Bool.Decides.{nat_tests}
 use Rattle.std.proofs.lemmas.List.{length-take, get_or-take}
 use Rattle.std.proofs.Math.Seq.{drop-cons}
-use Rattle.bq_top.specs.Events.{line, fault}
+use Rattle.bq_session.specs.Events.{line, fault}
 use Rattle.bq_feeds.specs.Turns.{Feed, event_of, round_of, GrowsTo}
 use Rattle.bq_feeds.specs.Laws.{OneFeedGivesItsLines, RoundsStay}
 

@@ -9,9 +9,9 @@ use Rattle.bq_io.specs.declared.status.Status.{Status}
 use Rattle.bq_io.specs.declared.status.Status.TheVariants as status
 use Rattle.bq_session.specs.State.{State}
 use Rattle.bq_session.specs.Session.{Kept}
-use Rattle.bq_top.specs.declared.one_turn.Turn.{Turn}
-use Rattle.bq_top.specs.declared.one_turn.Turn.TheVariants as turn
-use Rattle.bq_top.proofs.Told.{at}
+use Rattle.bq_session.specs.declared.one_turn.Turn.{Turn}
+use Rattle.bq_session.specs.declared.one_turn.Turn.TheVariants as turn
+use Rattle.bq_session.proofs.ToldEvents.{at}
 use Rattle.bq_feeds.specs.declared.stage.Lane.{Lane}
 use Rattle.bq_feeds.specs.declared.stage.Stage.TheVariants as stage
 use Rattle.bq_feeds.specs.Lanes.{LaneTurned, Filled}

@@ -4,7 +4,7 @@ use Rattle.bq_session.specs.Answer.{Answer}
 use Rattle.bq_session.specs.Answers.{IsAnswer}
 use Rattle.bq_session.specs.State.{State, empty, next_of}
 use Rattle.bq_session.specs.Replies.{reply_to}
-use Rattle.bq_top.specs.Events.{Event, line, fault, fault_text}
+use Rattle.bq_session.specs.Events.{Event, line, fault, fault_text}
 use Rattle.bq_feeds.specs.Turns.{Feed, turns}
 
 -- the lines among the events come to these answers, each in the state after those before it; a fault leaves the state as it is

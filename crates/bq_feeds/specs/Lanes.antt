@@ -8,11 +8,11 @@ use Rattle.bq_feed.specs.declared.reader.LineAnswer.TheVariants as line
 use Rattle.bq_session.specs.declared.outcome.LineOutcome.TheVariants as outcome
 use Rattle.bq_session.specs.State.{State}
 use Rattle.bq_session.specs.Session.{Kept}
-use Rattle.bq_top.specs.declared.one_turn.Turn.{Turn}
-use Rattle.bq_top.specs.declared.one_turn.Turn.TheVariants as turns
-use Rattle.bq_top.specs.Events.{fault_text}
-use Rattle.bq_top.specs.Fetched.{Read, StoppedHere}
-use Rattle.bq_top.specs.Turned.{AnsweredLine, LacksMemory, SinkFailed}
+use Rattle.bq_session.specs.declared.one_turn.Turn.{Turn}
+use Rattle.bq_session.specs.declared.one_turn.Turn.TheVariants as turns
+use Rattle.bq_session.specs.Events.{fault_text}
+use Rattle.bq_session.specs.Fetched.{Read, StoppedHere}
+use Rattle.bq_session.specs.Turned.{AnsweredLine, LacksMemory, SinkFailed}
 use Rattle.bq_feeds.specs.declared.stage.Stage.{Stage}
 use Rattle.bq_feeds.specs.declared.stage.Stage.TheVariants.{Open, Ended, Failed}
 use Rattle.bq_feeds.specs.declared.stage.Lane.{Lane}

@@ -2,7 +2,7 @@
 use Rattle.std.specs.Prelude.{◌≡◌, ℕ, ◌<◌, Bool, false, List, [], ◌∷◌, map, length, ⊤}
 use Rattle.bq_text.specs.Lines.{lines}
 use Rattle.bq_session.specs.Replies.{IsSessionText}
-use Rattle.bq_top.specs.Events.{line}
+use Rattle.bq_session.specs.Events.{line}
 use Rattle.bq_feeds.specs.Turns.{Feed, round_of, turns, GrowsTo}
 use Rattle.bq_feeds.specs.FeedsText.{IsFeedsText}
 

@@ -14,7 +14,7 @@ use Rattle.bq_session.specs.Requests.{IsRequest}
 use Rattle.bq_session.specs.Session.{creates}
 use Rattle.bq_session.specs.State.{State, after}
 use Rattle.bq_session.specs.Replies.{reply_to}
-use Rattle.bq_top.specs.Events.{Event, line, fault, fault_text, lines_of, IsClose}
+use Rattle.bq_session.specs.Events.{Event, line, fault, fault_text, lines_of, IsClose}
 use Rattle.bq_feeds.specs.declared.stage.Stage.{Stage}
 use Rattle.bq_feeds.specs.declared.stage.Stage.TheVariants.{Open, Ended, Failed}
 use Rattle.bq_feeds.specs.Lanes.{is_failed}

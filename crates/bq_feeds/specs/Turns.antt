@@ -1,7 +1,7 @@
 -- Feeds that take turns: in each round every feed that has not ended gives one line, in order.
 use Rattle.std.specs.Prelude.{◌≡◌, ℕ, ◌+◌, Bool, true, ◌&&◌, nat_eq, nat_lt, List, [], ◌∷◌, ◌++◌, length, take, max, if◌then◌else◌}
 use Rattle.std.specs.List.{flat_map, range_with_len, slice_index_or}
-use Rattle.bq_top.specs.Events.{Event, line, fault}
+use Rattle.bq_session.specs.Events.{Event, line, fault}
 
 -- the lines of a feed, and whether it ended by a fault
 pub record Feed : Type 0 where

@@ -11,8 +11,8 @@ use Rattle.bq_io.specs.declared.status.Status.TheVariants as status
 use Rattle.bq_feed.specs.Reading.{fresh}
 use Rattle.bq_session.specs.State.{State}
 use Rattle.bq_session.specs.Session.{Kept}
-use Rattle.bq_top.specs.declared.one_turn.Turn.{Turn}
-use Rattle.bq_top.specs.declared.one_turn.Turn.TheVariants as turns
+use Rattle.bq_session.specs.declared.one_turn.Turn.{Turn}
+use Rattle.bq_session.specs.declared.one_turn.Turn.TheVariants as turns
 use Rattle.bq_feeds.specs.declared.stage.Stage.TheVariants.{Open}
 use Rattle.bq_feeds.specs.declared.stage.Lane.{Lane}
 use Rattle.bq_feeds.specs.Lanes.{is_open, is_failed, LaneTurned}

@@ -2,7 +2,7 @@
 use Rattle.std.specs.Prelude.{◌≡◌, ℕ, ◌≤◌, ◌^◌, List, ◌∷◌, map, length, codes, String}
 use Rattle.std.specs.String.{string_bytes}
 use Rattle.std.specs.declared.alloc.Global.{Global}
-use Rattle.bq_top.specs.Words.{IsRowLimit}
+use Rattle.bq_session.specs.Words.{IsRowLimit}
 
 -- Words of texts that ask for a session over feeds of these names, which may take so many rows: `feeds F1 .. Fk`, for 2^40 rows, where the
 -- second word is not `--rows`; or `feeds --rows N F1 .. Fk`.

@@ -3,7 +3,7 @@ ghost use Rattle.std.specs.Prelude.{◌≡◌, ◌⊎◌, ◌<◌, ◌≤◌, �
 ghost use Rattle.bq_io.specs.Counts.{Rose};
 ghost use Rattle.bq_session.specs.State.{State, empty};
 ghost use Rattle.bq_session.specs.Session.{StandsFor};
-ghost use Rattle.bq_top.specs.Run.{HasState, IsNoFault};
+ghost use Rattle.bq_session.specs.Run.{HasState, IsNoFault};
 ghost use Rattle.bq_feeds.specs.FeedsEnd.{FeedsEnd, NoneFell, RanLater, SessionRan, SomeRose};
 ghost use Rattle.bq_feeds.specs.Visited.{new_lane};
 

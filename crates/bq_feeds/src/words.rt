@@ -3,8 +3,7 @@ ghost use Rattle.std.specs.Prelude.{◌≡◌, ℕ, ◌+◌, ◌-◌, ◌<◌, �
 ghost use Rattle.std.specs.String.{string_bytes};
 ghost use Rattle.bq_feeds.specs.Words.{AreFeedNames};
 
-use bq_session::Session;
-use bq_top::{is_word, read_row_limit};
+use bq_session::{Session, is_word, read_row_limit};
 
 /// What the words of a session over feeds ask for.
 #[derive(Clone, Copy, Debug, PartialEq, Eq)]

@@ -17,12 +17,10 @@ use Rattle.bq_reply.specs.declared.word.Word.TheVariants.{Limit}
 use Rattle.bq_script.specs.declared.end.ScriptEnd.{ScriptEnd}
 use Rattle.bq_script.specs.declared.end.ScriptEnd.TheVariants.{Refused, ReadFault, ByteLimit, Memory}
 use Rattle.bq_script.specs.declared.script.Script.{Script}
-use Rattle.bq_script.specs.Script.{Asks, IsBlank, IsMisplaced}
+use Rattle.bq_script.specs.Script.{Asks, IsBlank, IsMisplaced, name_of}
 use Rattle.bq_script.specs.Ends.{GaveScript, GaveLine, GaveAll, GaveLast, IsFull, ReadsBlank}
-use Rattle.bq_certify.specs.Commands.{Outcome, ComesTo, TookUnsettled}
-use Rattle.bq_certify.specs.Certifying.{refusal}
-use Rattle.bq_certify.specs.Collecting.{name_of}
-use Rattle.bq_certify.specs.Ending.{StopsAt}
+use Rattle.bq_script.specs.Commands.{Outcome, ComesTo, TookUnsettled, refusal}
+use Rattle.bq_script.specs.Ending.{StopsAt}
 use Rattle.bq_lowering.specs.declared.finding.Finding.{Finding}
 use Rattle.bq_lowering.specs.Finding.{IsFinding}
 use Rattle.bq_lowering.specs.Found.{FindsFor}

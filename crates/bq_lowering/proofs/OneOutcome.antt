@@ -9,9 +9,8 @@ use Rattle.bq_reply.specs.declared.word.Word.TheVariants.{Limit}
 use Rattle.bq_script.specs.Script as scripts
 use Rattle.bq_script.specs.Script.{IsBlank, IsMisplaced}
 use Rattle.bq_script.proofs.OneEnd.{one_end}
-use Rattle.bq_certify.specs.Commands.{Outcome}
-use Rattle.bq_certify.specs.Certifying.{refusal, early_refusal}
-use Rattle.bq_certify.proofs.OneRefusal.{behind-same, early-same}
+use Rattle.bq_script.specs.Commands.{Outcome, refusal, early_refusal}
+use Rattle.bq_script.proofs.OneRefusal.{behind-same, early-same}
 use Rattle.bq_lowering.specs.Lowering as lowering
 use Rattle.bq_lowering.specs.Lowering.{Lowers}
 

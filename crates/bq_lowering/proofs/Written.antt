@@ -10,7 +10,7 @@ use Rattle.bq_model.specs.Verdict.{IsDecision}
 use Rattle.bq_schema.specs.Streams.{Shape}
 use Rattle.bq_parser.specs.declared.tree.ColumnAst.{ColumnAst}
 use Rattle.bq_parser.specs.Resolution.{column_named}
-use Rattle.bq_explain.specs.Text.{column_text}
+use Rattle.bq_parser.specs.Naming.{column_text}
 use Rattle.bq_reply.specs.Texts.{condition_text}
 use Rattle.bq_lower.specs.Family.{FamilyValue}
 use Rattle.bq_families.specs.Answer.{HasFamilyOver, AreTakenRows}

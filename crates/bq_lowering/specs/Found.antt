@@ -14,9 +14,9 @@ use Rattle.bq_reply.specs.declared.word.Word.TheVariants.{Limit}
 use Rattle.bq_script.specs.declared.end.ScriptEnd.{ScriptEnd}
 use Rattle.bq_script.specs.declared.end.ScriptEnd.TheVariants.{Refused, ReadFault, ByteLimit, Memory}
 use Rattle.bq_script.specs.declared.script.Script.{Script}
-use Rattle.bq_certify.specs.Commands.{ComesTo}
-use Rattle.bq_certify.specs.Collecting.{name_of}
-use Rattle.bq_certify.specs.Ending.{StopsAt}
+use Rattle.bq_script.specs.Commands.{ComesTo}
+use Rattle.bq_script.specs.Script.{name_of}
+use Rattle.bq_script.specs.Ending.{StopsAt}
 use Rattle.bq_lowering.specs.declared.finding.NoFamily.TheVariants as none
 use Rattle.bq_lowering.specs.declared.finding.Finding.{Finding}
 use Rattle.bq_lowering.specs.declared.finding.Finding.TheVariants.{Nothing, Rows}

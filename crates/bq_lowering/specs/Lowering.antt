@@ -9,8 +9,7 @@ use Rattle.bq_parser.specs.declared.tree.SelectAst.{SelectAst}
 use Rattle.bq_reply.specs.declared.word.Word.{Word}
 use Rattle.bq_reply.specs.declared.word.Word.TheVariants.{Limit}
 use Rattle.bq_script.specs.Script.{Asks, IsRefusedAt, IsBlank, IsMisplaced}
-use Rattle.bq_certify.specs.Commands.{Outcome}
-use Rattle.bq_certify.specs.Certifying.{refusal, early_refusal}
+use Rattle.bq_script.specs.Commands.{Outcome, refusal, early_refusal}
 use Rattle.bq_lowering.specs.declared.finding.Finding.{Finding}
 use Rattle.bq_lowering.specs.Finding.{IsFinding}
 use Rattle.bq_lowering.specs.Text.{finding_text}

@@ -5,7 +5,7 @@ use Rattle.bq_model.specs.declared.condition.Condition.{Condition}
 use Rattle.bq_model.specs.Query.{QueryValue}
 use Rattle.bq_schema.specs.Streams.{Shape}
 use Rattle.bq_parser.specs.Resolution.{column_named}
-use Rattle.bq_explain.specs.Text.{column_text}
+use Rattle.bq_parser.specs.Naming.{column_text}
 use Rattle.bq_reply.specs.Texts.{condition_text}
 use Rattle.bq_families.specs.Text.{rows_text}
 use Rattle.bq_lowering.specs.declared.finding.NoFamily.{NoFamily}

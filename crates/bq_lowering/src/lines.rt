@@ -1,23 +1,10 @@
 //! The lines before and behind the rows of a family, and those of a query that has none. Each is one call that writes a list of pieces.
-ghost use Rattle.std.specs.Prelude.{◌≡◌, ◌++◌, ◌∷◌, [], codes};
+ghost use Rattle.std.specs.Prelude.{◌≡◌, ◌++◌, ◌∷◌};
 ghost use Rattle.bq_io.specs.Sink.{Writes};
-ghost use Rattle.bq_reply.specs.Texts as texts;
 ghost use Rattle.bq_lowering.specs.Text.{nothing_text, head_text, end_text};
 
 use crate::finding::NoFamily;
 use bq_io::{Sink, WriteFault, write_all, write_pieces};
-use bq_model::Condition;
-
-/// Returns the name of a condition.
-pub fn condition_text(condition: Condition) -> &'static [u8]
-    ensures { result.now ≡ texts.condition_text condition }
-{
-    match condition {
-        Condition::C1 => b"C1",
-        Condition::C2 => b"C2",
-        Condition::C3 => b"C3",
-    }
-}
 
 // `no family C3`
 fn nothing_line(reason: NoFamily) -> &'static [u8]

@@ -5,17 +5,16 @@ ghost use Rattle.bq_io.specs.Source.{SourceState};
 ghost use Rattle.bq_feed.specs.Reading.{fresh};
 ghost use Rattle.bq_parser.specs.Resolution.{HasNamed};
 ghost use Rattle.bq_script.specs.Ends.{GaveScript};
-ghost use Rattle.bq_certify.specs.Commands.{CommandEnds};
-ghost use Rattle.bq_certify.specs.Ending.{EndsWith, WritesText};
+ghost use Rattle.bq_script.specs.Commands.{CommandEnds};
+ghost use Rattle.bq_script.specs.Ending.{EndsWith, WritesText};
 ghost use Rattle.bq_lowering.specs.Lowering.{Lowers};
 ghost use Rattle.bq_lowering.specs.Found.{IsSound, ReadsLowered, text_of};
 
 use crate::finding::{Finding, find};
 use crate::printing::print;
-use bq_certify::end_early;
 use bq_feed::LineReader;
 use bq_io::{Gathered, Sink, Source, Status, WriteFault};
-use bq_script::{Script, ScriptEnd, read_blank, read_script};
+use bq_script::{Script, ScriptEnd, end_early, read_blank, read_script};
 use std::alloc::Global;
 
 /// A script, and what is found for its query.

@@ -4,9 +4,9 @@ ghost use Rattle.bq_io.specs.Sink.{Writes};
 ghost use Rattle.bq_model.specs.declared.decision.Decision.TheVariants as decisions;
 ghost use Rattle.bq_model.specs.Verdict.{IsDecision};
 ghost use Rattle.bq_parser.specs.Resolution.{HasNamed};
-ghost use Rattle.bq_explain.specs.Text.{column_text};
+ghost use Rattle.bq_parser.specs.Naming.{column_text};
 ghost use Rattle.bq_reply.specs.Texts as texts;
-ghost use Rattle.bq_certify.specs.Collecting as collecting;
+ghost use Rattle.bq_script.specs.Script as scripts;
 ghost use Rattle.bq_families.specs.Answer.{AreTakenRows, HasFamilyOver};
 ghost use Rattle.bq_families.specs.Text.{rows_text};
 ghost use Rattle.bq_lowering.specs.Found.{IsSound, text_of};
@@ -14,33 +14,17 @@ ghost use Rattle.bq_lowering.specs.declared.finding.Finding.TheVariants as findi
 ghost use Rattle.bq_lowering.specs.Text.{head_text, end_text, finding_text};
 
 use crate::finding::Finding;
-use crate::lines::{condition_text, write_end, write_head, write_nothing};
+use crate::lines::{write_end, write_head, write_nothing};
 use crate::lower_command::Lowered;
 use bq_families::write_rows;
 use bq_io::{Sink, WriteFault};
 use bq_lower::Family;
 use bq_model::{Attr, Condition};
-use bq_parser::{ColumnAst, Statement};
-use bq_print::column_named;
+use bq_parser::{ColumnAst, column_named};
+use bq_reply::condition_text;
 use bq_schema::Catalog;
-use bq_script::Script;
+use bq_script::{Script, name_of};
 use itoa::Buffer;
-
-// The name in a statement, and nothing where it has none.
-fn name_of(statement: &Statement) -> &[u8]
-    ensures { result.now ≡ collecting.name_of statement.now }
-{
-    match statement {
-        Statement::CreateStream { name, .. } => name.bytes(),
-        Statement::CreateQuery { name, .. } => name.bytes(),
-        Statement::Explain { name } => name.bytes(),
-        Statement::DropQuery { name } => name.bytes(),
-        Statement::ResumeGiven { name, .. } => name.bytes(),
-        Statement::ResumeCell { name, .. } => name.bytes(),
-        Statement::ResumeTuple { name, .. } => name.bytes(),
-        Statement::Checkpoint | Statement::ResumeRows { .. } => b"",
-    }
-}
 
 // `family q part 1 C1 S.a size 2`
 fn write_first<O: Sink>(
@@ -100,7 +84,7 @@ fn write_family<O: Sink>(
     requires named { HasNamed script.now.catalog script.now.query }
     requires decision { IsDecision script.now.query (decisions.Violation part condition attr) }
     requires family { HasFamilyOver script.now.catalog script.now.query condition attr n family.now }
-    ensures { Writes result (O.seen out.old) (O.seen out.new) (finding_text script.now.catalog (collecting.name_of script.now.statement) script.now.query n (findings.Rows part condition attr family.now)) }
+    ensures { Writes result (O.seen out.old) (O.seen out.new) (finding_text script.now.catalog (scripts.name_of script.now.statement) script.now.query n (findings.Rows part condition attr family.now)) }
 {
     let name = name_of(&script.statement);
     let column = column_named(attr, script.query.from(), &script.catalog);

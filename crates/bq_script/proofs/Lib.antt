@@ -1,6 +1,9 @@
 pub mod Behind
 pub mod Creating
+pub mod Endings
+pub mod Gathering
 pub mod OneEnd
+pub mod OneRefusal
 pub mod Printed
 pub mod Progress
 pub mod Refused

@@ -1,4 +1,6 @@
+pub mod Commands
 pub mod Creations
+pub mod Ending
 pub mod Ends
 pub mod Laws
 pub mod Script

@@ -49,6 +49,18 @@ Creates (statements.CreateStream name columns) = Unit {0}
 Creates (statements.CreateQuery name select shared) = Unit {0}
 Creates _ = ⊥
 
+-- the name in a statement, and nothing where it has none
+abbrev pub name_of : Statement → List ℕ
+name_of (statements.CreateStream name columns) = name
+name_of (statements.CreateQuery name select shared) = name
+name_of (statements.Explain name) = name
+name_of (statements.DropQuery name) = name
+name_of statements.Checkpoint = []
+name_of (statements.ResumeRows rows) = []
+name_of (statements.ResumeGiven name rows) = name
+name_of (statements.ResumeCell name index content) = name
+name_of (statements.ResumeTuple name values) = name
+
 -- What a text is that is read as a statement: no statement, or one that has no place, whether or not it passes a limit; one that passes a
 -- limit; or what the statement creates.
 pub data IsScriptStatement (streams : List Shape) (text : List ℕ) (line : ScriptLine) : Type 0 where

@@ -7,6 +7,7 @@
 
 mod creation;
 mod end;
+mod ending;
 pub mod laws;
 mod printing;
 mod script;
@@ -15,6 +16,7 @@ mod tests;
 mod texts;
 
 pub use end::ScriptEnd;
+pub use ending::end_early;
 pub use printing::print_script;
-pub use script::{Script, read_script};
+pub use script::{Script, name_of, read_script};
 pub use texts::{TextAnswer, next_text, read_blank, text};

@@ -2,6 +2,7 @@
 ghost use Rattle.std.specs.Prelude.{◌≡◌, ◌+◌, ◌-◌, ◌^◌, ◌<◌, ◌≤◌, []};
 ghost use Rattle.bq_feed.specs.Reading.{fresh};
 ghost use Rattle.bq_script.specs.Ends.{ReadsQuery, ReadsScript};
+ghost use Rattle.bq_script.specs.Script as scripts;
 
 use crate::creation::{Asked, Creation, take_line};
 use crate::end::ScriptEnd;
@@ -25,6 +26,22 @@ pub struct Script {
     pub query: Query,
     /// The number of its line, from 1.
     pub line: u64,
+}
+
+/// Returns the name in a statement, and nothing where it has none.
+pub fn name_of(statement: &Statement) -> &[u8]
+    ensures { result.now ≡ scripts.name_of statement.now }
+{
+    match statement {
+        Statement::CreateStream { name, .. } => name.bytes(),
+        Statement::CreateQuery { name, .. } => name.bytes(),
+        Statement::Explain { name } => name.bytes(),
+        Statement::DropQuery { name } => name.bytes(),
+        Statement::ResumeGiven { name, .. } => name.bytes(),
+        Statement::ResumeCell { name, .. } => name.bytes(),
+        Statement::ResumeTuple { name, .. } => name.bytes(),
+        Statement::Checkpoint | Statement::ResumeRows { .. } => b"",
+    }
 }
 
 // The end of a script that ends before its query: it is refused at the number behind its last line.

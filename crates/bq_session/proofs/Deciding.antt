@@ -22,7 +22,7 @@ use Rattle.bq_session.specs.Request.{asked}
 use Rattle.bq_session.specs.Answer.{registered, decided}
 use Rattle.bq_session.specs.Answers.{accepted, rejected, acceptance}
 use Rattle.bq_session.specs.State.{State, one_line_more}
-use Rattle.bq_explain.specs.Text.{column_text}
+use Rattle.bq_parser.specs.Naming.{column_text}
 use Rattle.bq_reply.specs.Texts.{which_text, condition_text, numbers_text, plan_text}
 use Rattle.bq_session.specs.Session.{Kept, StandsFor, Does, outcome_of}
 use Rattle.bq_session.proofs.Given.{given}

@@ -1,7 +1,7 @@
 use Rattle.std.proofs.KnownBytes.{Keeps-refl}
 use Rattle.bq_certify.specs.Certifying.{Certifies}
 use Rattle.bq_certify.specs.Certified.{ends_with}
-use Rattle.bq_certify.proofs.Endings.{finishes, stops}
+use Rattle.bq_script.proofs.Endings.{finishes, stops}
 use Rattle.bq_certify.proofs.certifying.certify.Goals as goal
 
 pub returns-in_default-clause-ends : goal.returns-in_default-clause-ends

@@ -1,7 +1,7 @@
 use Rattle.bq_certify.specs.Certifying.{Certifies}
 use Rattle.bq_certify.specs.Certifying as certifying
 use Rattle.std.proofs.Common.{refl}
-use Rattle.bq_certify.proofs.Endings.{stops-early}
+use Rattle.bq_script.proofs.Endings.{stops-early}
 use Rattle.bq_certify.proofs.OneCertified.{certifies-alike}
 use Rattle.bq_certify.proofs.certifying.read_certified.Goals as goal
 

@@ -1,6 +1,6 @@
 use Rattle.std.proofs.Common.{◌++◌, ◌∙◌, refl, sym, ap, arith, length, replicate, ℕ}
 use Rattle.std.proofs.lemmas.List.{length-replicate}
-use Rattle.bq_top.proofs.Told.{at}
+use Rattle.bq_session.proofs.ToldEvents.{at}
 use Rattle.bq_feeds.specs.Visited.{new_lane}
 use Rattle.bq_feeds.proofs.Advance.{around-round}
 use Rattle.bq_feeds.proofs.Bounds.{around-begins, around-state, rows-size, all-closed, size-map}

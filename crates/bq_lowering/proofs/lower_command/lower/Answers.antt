@@ -1,6 +1,6 @@
 use Rattle.std.proofs.KnownBytes.{Keeps-refl}
-use Rattle.bq_certify.specs.Collecting.{name_of}
-use Rattle.bq_certify.proofs.Endings.{finishes, stops}
+use Rattle.bq_script.specs.Script.{name_of}
+use Rattle.bq_script.proofs.Endings.{finishes, stops}
 use Rattle.bq_lowering.specs.Lowering.{Lowers, found}
 use Rattle.bq_lowering.proofs.lower_command.lower.Goals as goal
 

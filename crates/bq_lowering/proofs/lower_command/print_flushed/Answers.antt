@@ -1,5 +1,5 @@
 use Rattle.std.proofs.Common.{◌∙◌, arith}
-use Rattle.bq_certify.proofs.Gathering.{writes-flushed, flushed-later, gathered-part}
+use Rattle.bq_script.proofs.Gathering.{writes-flushed, flushed-later, gathered-part}
 use Rattle.bq_lowering.proofs.lower_command.print_flushed.Goals as goal
 
 pub returns-in-Ok-clause-written : goal.returns-in-Ok-clause-written

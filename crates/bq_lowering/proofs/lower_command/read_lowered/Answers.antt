@@ -1,5 +1,5 @@
 use Rattle.std.proofs.Common.{refl}
-use Rattle.bq_certify.proofs.Endings.{stops-early}
+use Rattle.bq_script.proofs.Endings.{stops-early}
 use Rattle.bq_lowering.specs.Lowering.{Lowers}
 use Rattle.bq_lowering.specs.Lowering as lowering
 use Rattle.bq_lowering.proofs.OneOutcome.{needs-one}

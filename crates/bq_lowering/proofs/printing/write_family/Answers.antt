@@ -1,7 +1,7 @@
 use Rattle.std.proofs.Common.{◌≡◌, ◌∙◌, List, ℕ, ap, sym, subst, arith}
 use Rattle.bq_parser.specs.Resolution.{IsColumnOf, column_named}
 use Rattle.bq_reply.proofs.Named.{violation_is_named}
-use Rattle.bq_certify.specs.Collecting.{name_of}
+use Rattle.bq_script.specs.Script.{name_of}
 use Rattle.bq_lowering.proofs.Written.{rows-taken, family-written, family-stopped}
 use Rattle.bq_lowering.proofs.printing.write_family.Goals as goal
 

@@ -16,9 +16,8 @@ use Rattle.bq_script.specs.declared.end.ScriptEnd.{ScriptEnd}
 use Rattle.bq_script.specs.declared.end.ScriptEnd.TheVariants.{Refused, ReadFault, ByteLimit, Memory}
 use Rattle.bq_script.specs.Script.{CreateStreams, IsRefusedAt, at_line, at_end}
 use Rattle.bq_script.specs.Ends.{EndsEarly, GaveStreams, IfAtEnd, IsFull, IsLast}
-use Rattle.bq_certify.specs.Commands.{Outcome, AreNeeded, ComesTo, TookUnsettled, WroteFront, CommandEnds, error_text}
-use Rattle.bq_certify.specs.Certifying.{lines_for, early_refusal}
-use Rattle.bq_certify.specs.Ending.{StopsAt, EndsWith, EndsBy}
+use Rattle.bq_script.specs.Commands.{Outcome, AreNeeded, ComesTo, TookUnsettled, WroteFront, CommandEnds, error_text, lines_for, early_refusal}
+use Rattle.bq_script.specs.Ending.{StopsAt, EndsWith, EndsBy}
 
 -- as many lines were read as a refusal before the query needs
 pub early-needed : (text : List ℕ) (number : ℕ) (word : Word) (source now : SourceState) (refused : IsRefusedAt (lines text) number word) → IsLast refused → IfAtEnd refused (TakesAll source now text × (length text < 2 ^ 64 - 1))

@@ -1,4 +1,4 @@
--- How the commands on certificates end: what was read and written under each status.
+-- How the commands on scripts end: what was read and written under each status.
 use Rattle.std.specs.Prelude.{◌≡◌, ℕ, ◌-◌, ◌^◌, ◌<◌, ⊤, Option, None, Some, List, [], ◌∷◌, ◌++◌, length, codes, decimal}
 use Rattle.std.specs.Io.KnownBytes.{Consumes, Appends, Keeps}
 use Rattle.bq_io.specs.Counts.{Rose}
@@ -11,6 +11,7 @@ use Rattle.bq_feed.specs.Reading.{TakesAll}
 use Rattle.bq_feed.specs.Texts.{ended_part}
 use Rattle.bq_feed.specs.GivenLines.{TookLines}
 use Rattle.bq_script.specs.Ends.{IsFull}
+use Rattle.bq_script.specs.Script.{IsRefusedAt, at_line, at_end}
 use Rattle.bq_reply.specs.Texts.{word_text}
 use Rattle.bq_reply.specs.declared.word.Word.{Word}
 
@@ -24,6 +25,19 @@ pub record Outcome : Type 0 where
 -- the text for a refused line
 abbrev pub error_text : ℕ → Word → List ℕ
 error_text number word = codes "error " ++ decimal number ++ 32 ∷ word_text word ++ 10 ∷ []
+
+-- a refused line, by its number and the word
+abbrev pub refusal : ℕ → Word → Outcome
+refusal number word = record { status = status.Invalid; text = error_text number word; needs = Some number }
+
+-- how many lines must be read for a refusal before the query: those up to it; or all, where the script ends before its query
+abbrev pub lines_for : {lines : List (List ℕ)} (number : ℕ) {word : Word} → IsRefusedAt lines number word → Option ℕ
+lines_for number (at_line before line behind streams whole create is number_is) = Some number
+lines_for number (at_end streams create word_is number_is) = None
+
+-- a line that is refused before the query
+abbrev pub early_refusal : {lines : List (List ℕ)} (number : ℕ) (word : Word) → IsRefusedAt lines number word → Outcome
+early_refusal number word refused = record { status = status.Invalid; text = error_text number word; needs = lines_for number refused }
 
 -- so many lines stand in the text that was taken; or it is all there is, and has fewer bytes than can be counted
 abbrev pub AreNeeded : Option ℕ → SourceState → SourceState → List ℕ → Type 0

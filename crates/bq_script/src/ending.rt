@@ -1,12 +1,12 @@
 //! How a command ends that stops before it has an answer.
 ghost use Rattle.std.specs.Prelude.{◌≤◌};
 ghost use Rattle.bq_io.specs.declared.status.Status.TheVariants as status;
-ghost use Rattle.bq_certify.specs.Commands.{error_text};
-ghost use Rattle.bq_certify.specs.Ending.{EndsBy, EndsWith};
+ghost use Rattle.bq_script.specs.Commands.{error_text};
+ghost use Rattle.bq_script.specs.Ending.{EndsBy, EndsWith};
 
+use crate::end::ScriptEnd;
 use bq_io::{Sink, Status};
 use bq_reply::{Word, write_refused};
-use bq_script::ScriptEnd;
 
 // Writes the line of a refusal.
 fn refuse<O: Sink>(line: u64, word: Word, output: &mut O) -> Status

@@ -1,4 +1,4 @@
--- How a command on certificates ends: where its script is not taken, and where its text is known.
+-- How a command on a script ends: where its script is not taken, and where its text is known.
 use Rattle.std.specs.Prelude.{◌≡◌, ℕ, ⊤, Option, List}
 use Rattle.std.specs.Io.KnownBytes.{Appends}
 use Rattle.std.specs.declared.result.Result.{Result}
@@ -12,7 +12,7 @@ use Rattle.bq_reply.specs.declared.word.Word.{Word}
 use Rattle.bq_script.specs.declared.end.ScriptEnd.{ScriptEnd}
 use Rattle.bq_script.specs.declared.end.ScriptEnd.TheVariants.{Refused, ReadFault, ByteLimit, Memory}
 use Rattle.bq_script.specs.Ends.{IsFull}
-use Rattle.bq_certify.specs.Commands.{Outcome, ComesTo, TookUnsettled, WroteFront, error_text}
+use Rattle.bq_script.specs.Commands.{Outcome, ComesTo, TookUnsettled, WroteFront, error_text}
 
 -- it comes to a refusal of this line
 pub record Refuses (IsOutcome : List (List ℕ) → Outcome → Type 0) (number : ℕ) (word : Word) (source now : SourceState) : Type 0 where

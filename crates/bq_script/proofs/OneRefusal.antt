@@ -7,8 +7,7 @@ use Rattle.bq_parser.specs.declared.tree.SelectAst.{SelectAst}
 use Rattle.bq_reply.specs.declared.word.Word.{Word}
 use Rattle.bq_script.specs.Script.{Asks, IsRefusedAt, at_line, at_end}
 use Rattle.bq_script.proofs.OneEnd.{one_end}
-use Rattle.bq_certify.specs.Commands.{Outcome, error_text}
-use Rattle.bq_certify.specs.Certifying.{refusal, early_refusal}
+use Rattle.bq_script.specs.Commands.{Outcome, error_text, refusal, early_refusal}
 
 pub head-same : (x y : List ℕ) (xs ys : List (List ℕ)) → x ∷ xs ≡ y ∷ ys → x ≡ y
 head-same x y xs ys e = cc

@@ -1,6 +1,6 @@
 use Rattle.std.proofs.Common.{refl}
-use Rattle.bq_certify.proofs.Endings.{front-written}
-use Rattle.bq_certify.proofs.ending.refuse.Goals as goal
+use Rattle.bq_script.proofs.Endings.{front-written}
+use Rattle.bq_script.proofs.ending.refuse.Goals as goal
 
 pub returns-in-Ok-clause-ends : goal.returns-in-Ok-clause-ends
 returns-in-Ok-clause-ends g c = (refl, c.in-Ok.ensures.bytes)

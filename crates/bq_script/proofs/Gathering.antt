@@ -7,8 +7,8 @@ use Rattle.std.proofs.KnownBytes.{Appends-nil}
 use Rattle.bq_io.specs.Gathered.{gathered_seen, told_length, Flushes}
 use Rattle.bq_io.specs.Sink.{SinkState, Wrote, BrokeOff}
 use Rattle.bq_io.proofs.Writing.{Rose-earlier}
-use Rattle.bq_certify.specs.Commands.{WroteFront}
-use Rattle.bq_certify.specs.Ending.{WritesText}
+use Rattle.bq_script.specs.Commands.{WroteFront}
+use Rattle.bq_script.specs.Ending.{WritesText}
 
 nothing-held : (x none : List ℕ) → none ≡ [] → x ++ none ≡ x
 nothing-held x none e = ap (λ l. x ++ l) e ∙ append-nil x

@@ -1,0 +1,92 @@
+//! One turn of a source: its next line, answered before the source is read again.
+ghost use Rattle.std.specs.Prelude.{◌≡◌, ◌⊎◌, ℕ, ◌+◌, ◌<◌, ◌≤◌, ◌^◌, List, length, false};
+ghost use Rattle.bq_io.specs.Gathered.{gathered_seen};
+ghost use Rattle.bq_feed.specs.Reading.{IsBegun};
+ghost use Rattle.bq_session.specs.State.{State};
+ghost use Rattle.bq_session.specs.Session.{StandsFor, Answered};
+ghost use Rattle.bq_session.specs.Run.{HasState};
+ghost use Rattle.bq_session.specs.Turned.{Turned};
+
+use crate::fetch::{Fetched, fetch};
+use crate::outcome::LineOutcome;
+use crate::session::Session;
+use bq_feed::LineReader;
+use bq_io::{Gathered, Sink, Source};
+use bq_pool::Steps;
+use std::sync::ledger::Ledger;
+
+/// How a turn of a source went.
+#[derive(Clone, Copy, Debug, PartialEq, Eq)]
+pub enum Turn {
+    /// A line came and was answered; its reply is written or held.
+    Answered,
+    /// The source is at its end, and all its lines were given. What was held is written.
+    Ended,
+    /// The source failed. What was held is written.
+    Failed,
+    /// The source has more bytes than can be counted. What was held is written.
+    Full,
+    /// The sink failed.
+    Stopped,
+    /// No memory was found for what the line creates. What was held is written.
+    Memory,
+}
+
+// Answers the line that the reader gave last, or one that was too long. The loops of `run` and of a session over feeds share it, so
+// LLVM would leave it aside.
+#[inline(always)]
+fn answer<O: Sink, L: Ledger>(
+    session: &mut Session,
+    reader: &LineReader,
+    long: bool,
+    output: &mut Gathered<'_, O>,
+    steps: &mut Steps<L>,
+) -> LineOutcome
+    requires few { session.old.lines + 1 < 2 ^ 64 }
+    requires short { long ≡ false → length reader.now.line ≤ 1024 }
+    ensures { (s : State) → (line : List ℕ) → IsBegun long reader.now.line line → StandsFor session.old s
+        → Answered result s line session.new (gathered_seen (O.seen output.old.sink.now) output.old.sink.ghost_name output.old.held.items)
+        (gathered_seen (O.seen output.new.sink.now) output.new.sink.ghost_name output.new.held.items) }
+{
+    if long {
+        session.long_line(output)
+    } else {
+        session.line(reader.line(), output, steps)
+    }
+}
+
+/// Takes the next line of a source and answers it in the session, or says why there is none.
+///
+/// A line that lies whole in what the reader took is answered at once; else all that is held is written before the source is
+/// read. `Turned` says of each answer what was read and written, for every state that the session stands for. The session must
+/// have room for one more line, or have answered no more lines than this reader gave.
+#[inline(always)]
+pub fn take_turn<I: Source, O: Sink, L: Ledger>(
+    reader: &mut LineReader,
+    session: &mut Session,
+    input: &mut I,
+    output: &mut Gathered<'_, O>,
+    steps: &mut Steps<L>,
+) -> Turn
+    requires stands { HasState session.old }
+    requires room { (session.old.lines + 1 < 2 ^ 64) ⊎ (session.old.lines ≤ reader.old.lines) }
+    ensures turned { (s : State) → StandsFor session.old s
+        → Turned result s reader.old reader.new (I.seen input.old) (I.seen input.new) session.old session.new
+        (O.seen output.old.sink.now) (O.seen output.new.sink.now) output.old.held.items output.new.held.items }
+    ensures same_reference { output.new.sink.ghost_name ≡ output.old.sink.ghost_name }
+{
+    match fetch(reader, input, output) {
+        Fetched::Given(long) => match answer(session, reader, long, output, steps) {
+            LineOutcome::Done => Turn::Answered,
+            LineOutcome::WriteFault => Turn::Stopped,
+            LineOutcome::Memory => match output.flush() {
+                Ok(()) => Turn::Memory,
+                Err(_) => Turn::Stopped,
+            },
+        },
+        Fetched::Ended => Turn::Ended,
+        Fetched::Failed => Turn::Failed,
+        Fetched::Full => Turn::Full,
+        Fetched::Stopped => Turn::Stopped,
+    }
+}

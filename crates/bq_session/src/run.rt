@@ -1,0 +1,56 @@
+//! The lines of a source, each answered before the source is read again.
+ghost use Rattle.std.specs.Prelude.{◌≡◌, []};
+ghost use Rattle.bq_feed.specs.Reading.{fresh};
+ghost use Rattle.bq_session.specs.State.{State};
+ghost use Rattle.bq_session.specs.Session.{StandsFor};
+ghost use Rattle.bq_session.specs.Run.{HasState, Streamed};
+
+use crate::one_turn::{Turn, take_turn};
+use crate::session::Session;
+use bq_feed::LineReader;
+use bq_io::{Gathered, Sink, Source};
+use bq_pool::Steps;
+use std::sync::ledger::Ledger;
+
+/// How a run over the lines of a source ended.
+#[derive(Clone, Copy, Debug, PartialEq, Eq)]
+pub enum Ending {
+    /// The source was read to its end, and all replies were written.
+    Done,
+    /// The source failed.
+    ReadFault,
+    /// The sink failed.
+    WriteFault,
+    /// No memory was found for what a line creates.
+    Memory,
+    /// The source has more bytes than can be counted.
+    ByteLimit,
+}
+
+/// Answers the lines of a source, one after another, from the state that the session stands for.
+pub fn run_lines<I: Source, O: Sink, L: Ledger>(
+    reader: &mut LineReader,
+    session: &mut Session,
+    input: &mut I,
+    output: &mut Gathered<'_, O>,
+    steps: &mut Steps<L>,
+) -> Ending
+    requires reader { reader.old ≡ fresh }
+    requires stands { HasState session.old }
+    requires lines { session.old.lines ≡ 0 }
+    requires held { output.old.held.items ≡ [] }
+    ensures streams { (s : State) → StandsFor session.old s
+        → Streamed result s (I.seen input.old) (I.seen input.new) (O.seen output.old.sink.now) (O.seen output.new.sink.now) }
+    ensures same_reference { output.new.sink.ghost_name ≡ output.old.sink.ghost_name }
+{
+    'answering: loop {
+        match take_turn(reader, session, input, output, steps) {
+            Turn::Answered => {}
+            Turn::Ended => return Ending::Done,
+            Turn::Failed => return Ending::ReadFault,
+            Turn::Full => return Ending::ByteLimit,
+            Turn::Stopped => return Ending::WriteFault,
+            Turn::Memory => return Ending::Memory,
+        }
+    }
+}
