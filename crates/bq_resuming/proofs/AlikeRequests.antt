@@ -133,7 +133,7 @@ row_keeps streams text e is = first (is_some (key_of (word_of text))) (nat_lt 24
     first false false h = found (stream_number streams (word_of text)) h
 
 -- a row line that is taken keeps to its domains, and there is room
-row_is_plain : (s : State) (text : List ℕ) (room : Bool) (o : Result Entry RowError) → has_room s ≡ room → row_of s.streams text ≡ o → IsPlainIn s (entry_request room o)
+pub row_is_plain : (s : State) (text : List ℕ) (room : Bool) (o : Result Entry RowError) → has_room s ≡ room → row_of s.streams text ≡ o → IsPlainIn s (entry_request room o)
 row_is_plain s text room (Err error) e f = tt
 row_is_plain s text true (Ok x) e f = (row_keeps s.streams text x f, grind (arith, nat_tests))
 row_is_plain s text false (Ok x) e f = tt

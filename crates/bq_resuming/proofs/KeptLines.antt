@@ -69,7 +69,7 @@ named_again name a live (q ∷ qs) h = by (bytes_eq q.name name) refl h (named_a
 based_line : (t : State) (x : Statement) (name : List ℕ) (b : Base) → IsTold x → length (printed_form x) ≤ 1024 → statement_request t x ≡ based name b
     → LeadsTo t (printed_form x ∷ []) (next_by t (based name b))
 based_line t x name b told short e =
-    one_line t (next_by t (based name b)) (printed_form x) (plain (based name b))
+    one_line t (next_by t (based name b)) (printed_form x) (plain (based name b)) told.text.whole
     (record { request = based name b; asks = subst (IsRequest t (printed_form x)) e (line_asks t x (printed_form x) told.text told.is told.within short); settles = refl })
     refl
 

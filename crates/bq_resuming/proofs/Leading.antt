@@ -2,6 +2,7 @@
 use Rattle.std.proofs.Common.{◌≡◌, ℕ, ◌≤◌, false, ◌||◌, List, [], ◌∷◌, ◌++◌, length, flat_map, None, refl, sym, ap, ◌∙◌, subst, arith}
 use Rattle.std.specs.List.{list_any, AllByRecursion}
 use Rattle.std.proofs.lemmas.Bool.Decides.{nat_tests}
+use Rattle.std.proofs.lemmas.List.Elements.{All-append, All-cons, All-nil}
 use Rattle.bq_parser.specs.declared.line.LineKind.{LineKind}
 use Rattle.bq_parser.specs.declared.tree.Statement.{Statement}
 use Rattle.bq_parser.specs.Grammar.{Lexeme, word, number, key, comma, point, opening, closing, less, equal, greater, less_equal, greater_equal, unequal, semicolon}
@@ -15,7 +16,7 @@ use Rattle.bq_session.specs.Answers.{IsAnswer}
 use Rattle.bq_session.specs.Replies.{AreAnswers}
 use Rattle.bq_session.specs.Requests.{statement_request, stated, IsTextRequest, IsRequest, fits}
 use Rattle.bq_session.specs.State.{State, next_of, after}
-use Rattle.bq_resuming.specs.Restores.{LeadsTo}
+use Rattle.bq_resuming.specs.Restores.{IsOneLine, LeadsTo}
 use Rattle.bq_resuming.proofs.PrintedLines.{IsStatementText}
 
 -- what the line of a statement asks for
@@ -28,21 +29,21 @@ line_asks s x line text is within short =
 -- no line leads nowhere else
 pub no_line : (s : State) → LeadsTo s [] s
 unfolding after
-no_line s = record { answers = []; answered = tt; is = refl }
+no_line s = record { answers = []; answered = tt; is = refl; whole = All-nil IsOneLine }
 
-pub one_line : (s t : State) (line : List ℕ) (answer : Answer) → IsAnswer s line answer → next_of s answer ≡ t → LeadsTo s (line ∷ []) t
+pub one_line : (s t : State) (line : List ℕ) (answer : Answer) → IsOneLine line → IsAnswer s line answer → next_of s answer ≡ t → LeadsTo s (line ∷ []) t
 unfolding after
-one_line s t line answer is e = record { answers = answer ∷ []; answered = (is, tt); is = e }
+one_line s t line answer whole is e = record { answers = answer ∷ []; answered = (is, tt); is = e; whole = All-cons IsOneLine line [] whole (All-nil IsOneLine) }
 
 -- lines, and then others
-answers_joined : (s : State) (a b : List (List ℕ)) (xs ys : List Answer) → AreAnswers s a xs → AreAnswers (after s xs) b ys → AreAnswers s (a ++ b) (xs ++ ys)
+pub answers_joined : (s : State) (a b : List (List ℕ)) (xs ys : List Answer) → AreAnswers s a xs → AreAnswers (after s xs) b ys → AreAnswers s (a ++ b) (xs ++ ys)
 unfolding after
 answers_joined s [] b [] ys h k = k
 answers_joined s [] b (x ∷ xs) ys h k = absurd h
 answers_joined s (l ∷ a) b [] ys h k = absurd h
 answers_joined s (l ∷ a) b (x ∷ xs) ys h k = (h.0, answers_joined (next_of s x) a b xs ys h.1 k)
 
-after_joined : (s : State) (xs ys : List Answer) → after s (xs ++ ys) ≡ after (after s xs) ys
+pub after_joined : (s : State) (xs ys : List Answer) → after s (xs ++ ys) ≡ after (after s xs) ys
 unfolding after
 after_joined s [] ys = refl
 after_joined s (x ∷ xs) ys = after_joined (next_of s x) xs ys
@@ -52,6 +53,7 @@ joined s t u a b first rest = record {
   answers = first.answers ++ rest.answers;
   answered = answers_joined s a b first.answers rest.answers first.answered (subst (λ (x : State). AreAnswers x b rest.answers) (sym first.is) rest.answered);
   is = after_joined s first.answers rest.answers ∙ ap (λ (x : State). after x rest.answers) first.is ∙ rest.is;
+  whole = All-append IsOneLine a b first.whole rest.whole;
 }
 
 -- the names among such tokens are short

@@ -18,3 +18,12 @@ pub mod KeptLines
 pub mod Creating
 pub mod QueryLines
 pub mod Restored
+pub mod ReachedRanges
+pub mod ReachedTables
+pub mod ReachedCells
+pub mod ReachedBases
+pub mod ReachedQueries
+pub mod ReachedStatements
+pub mod ReachedRequests
+pub mod Reached
+pub mod ReachedTexts

@@ -1,18 +1,20 @@
 -- A printed statement is left whole of its line, and is a statement line.
-use Rattle.std.proofs.Common.{◌≡◌, ℕ, ◌-◌, ◌<◌, Bool, true, false, cond, not, ◌&&◌, ◌||◌, ◌==◌, pos, negsuc, suc, List, [], ◌∷◌, ◌++◌, length, take, drop, get_or, reverse, refl, ap, sym, ◌∙◌, subst, arith, nat_lt, append_assoc, append-nil, length-append}
+use Rattle.std.proofs.Common.{◌≡◌, ℕ, ◌-◌, ◌<◌, Bool, true, false, cond, not, ◌&&◌, ◌||◌, ◌==◌, pos, negsuc, suc, List, [], ◌∷◌, ◌++◌, length, take, drop, get_or, reverse, refl, ap, ap₂, sym, ◌∙◌, subst, arith, nat_lt, append_assoc, append-nil, length-append}
 use Rattle.std.specs.Fmt.{decimal}
 use Rattle.std.specs.Io.BufRead.{strip_last}
-use Rattle.std.specs.List.{list_all, prefix_len, suffix_len, AllByRecursion}
+use Rattle.std.specs.List.{list_all, list_any, prefix_len, suffix_len, AllByRecursion}
 use Rattle.std.proofs.Math.Seq.{get_or-append_seam}
 use Rattle.std.proofs.lemmas.Bool.Decides.{nat_tests}
 use Rattle.std.proofs.lemmas.Fmt.{decimal_nonempty, digits_decimal}
 use Rattle.std.proofs.lemmas.List.{reverse-append, take_all}
 use Rattle.bq_text.specs.Blank.{is_blank, without_blanks_before, without_blanks_behind, trimmed}
+use Rattle.bq_text.specs.Lines.{is_line_feed}
 use Rattle.bq_text.specs.Word.{is_letter, is_digit, is_word, is_word_byte}
 use Rattle.bq_text.specs.declared.key.Key.{Key}
 use Rattle.bq_text.specs.declared.key.Key.TheVariants.{CreateKey, StreamKey, QueryKey, AsKey, SelectKey, DistinctKey, FromKey, WhereKey, AndKey, ExplainKey, DropKey, InKey, SharedKey, CheckpointKey, ResumeKey}
 use Rattle.bq_text.proofs.ParsedValue.{own}
 use Rattle.bq_text.proofs.Fronts.{StopsFor, and_left, and_right, and_both, all_weaker, front_stops}
+use Rattle.bq_laws.proofs.Tests.{or-false}
 use Rattle.bq_schema.specs.Rows.{begins_comma}
 use Rattle.bq_parser.specs.declared.line.LineKind.TheVariants as kinds
 use Rattle.bq_parser.specs.Grammar.{Lexeme, word, number, key, comma, point, opening, closing, less, equal, greater, less_equal, greater_equal, unequal, semicolon}
@@ -20,10 +22,11 @@ use Rattle.bq_parser.specs.LineKind.{stripped, kind_of_line}
 use Rattle.bq_parser.proofs.Names.{name_facts}
 use Rattle.bq_print.specs.Printed.{text_for, key_text, gap_by, spaced_by}
 use Rattle.bq_print.proofs.Spaced.{IsSound, pos_small, neg_small}
+use Rattle.bq_resuming.specs.Restores.{IsOneLine}
 
--- neither a blank nor a CR
+-- neither a blank nor a CR nor an LF
 abbrev is_ink : ℕ → Bool
-is_ink b = not (is_blank b) && not (b == 13)
+is_ink b = not (is_blank b) && (not (b == 13) && not (is_line_feed b))
 
 word_ink : (b : ℕ) → is_word_byte b ≡ true → is_ink b ≡ true
 word_ink b h = grind (arith, nat_tests)
@@ -36,6 +39,9 @@ ink_no_blank b h = grind (arith, nat_tests)
 
 ink_no_return : (b : ℕ) → is_ink b ≡ true → (b == 13) ≡ false
 ink_no_return b h = grind (arith, nat_tests)
+
+ink_no_feed : (b : ℕ) → is_ink b ≡ true → is_line_feed b ≡ false
+ink_no_feed b h = grind (arith, nat_tests)
 
 letter_word : (b : ℕ) → is_letter b ≡ true → is_word_byte b ≡ true
 letter_word b h = ap (λ t. t || is_digit b) h
@@ -120,6 +126,32 @@ token_ends l h = (let i = token_ink l h in subst EndsInInk (sym i.whole) (ink_en
 tokens_end : (close : Lexeme → Lexeme → Bool) (l : Lexeme) (ls : List Lexeme) → AllByRecursion IsSound (l ∷ ls) → EndsInInk (spaced_by close (l ∷ ls))
 tokens_end close l [] h = token_ends l h.0
 tokens_end close l (m ∷ ls) h = ends_behind (text_for l) (gap_by close l m ++ spaced_by close (m ∷ ls)) (ends_behind (gap_by close l m) (spaced_by close (m ∷ ls)) (tokens_end close m ls h.1))
+
+-- a text of tokens has no LF
+none_joined : (a b : List ℕ) → list_any is_line_feed a ≡ false → list_any is_line_feed b ≡ false → list_any is_line_feed (a ++ b) ≡ false
+none_joined [] b h k = k
+none_joined (x ∷ a) b h k = (let both = or-false (is_line_feed x) (list_any is_line_feed a) h in ap₂ (λ p q. p || q) both.0 (none_joined a b both.1 k))
+
+none_in_ink : (bs : List ℕ) → list_all is_ink bs ≡ true → list_any is_line_feed bs ≡ false
+none_in_ink [] h = refl
+none_in_ink (b ∷ bs) h = ap₂ (λ p q. p || q) (ink_no_feed b (and_left (is_ink b) (list_all is_ink bs) h)) (none_in_ink bs (and_right (is_ink b) (list_all is_ink bs) h))
+
+none_in_token : (l : Lexeme) → IsSound l → list_any is_line_feed (text_for l) ≡ false
+none_in_token l h = (let i = token_ink l h in ap (list_any is_line_feed) i.whole ∙ none_in_ink (i.byte ∷ i.rest) i.all)
+
+none_in_gap : (close : Lexeme → Lexeme → Bool) (l m : Lexeme) → list_any is_line_feed (gap_by close l m) ≡ false
+none_in_gap close l m = by (close l m)
+  where
+    by : (b : Bool) → list_any is_line_feed (cond b [] (32 ∷ [])) ≡ false
+    by true = refl
+    by false = refl
+
+tokens_in_line : (close : Lexeme → Lexeme → Bool) (ls : List Lexeme) → AllByRecursion IsSound ls → list_any is_line_feed (spaced_by close ls) ≡ false
+tokens_in_line close [] h = refl
+tokens_in_line close (l ∷ []) h = none_in_token l h.0
+tokens_in_line close (l ∷ m ∷ ls) h =
+    none_joined (text_for l) (gap_by close l m ++ spaced_by close (m ∷ ls)) (none_in_token l h.0)
+    (none_joined (gap_by close l m) (spaced_by close (m ∷ ls)) (none_in_gap close l m) (tokens_in_line close (m ∷ ls) h.1))
 
 -- of a text between two such bytes all is left
 nothing_before : (b : ℕ) (bs : List ℕ) → is_ink b ≡ true → without_blanks_before (b ∷ bs) ≡ b ∷ bs
@@ -238,6 +270,7 @@ no_row CheckpointKey rest b s h = absurd b
 pub record IsStatementText (line : List ℕ) : Type 0 where
   pub left : stripped line ≡ line
   pub kind : kind_of_line line ≡ kinds.StatementLine
+  pub whole : IsOneLine line
 
 abbrev behind_first : (Lexeme → Lexeme → Bool) → Lexeme → List Lexeme → List ℕ
 behind_first close m [] = []
@@ -273,4 +306,8 @@ line_text close k m ls b apart f h =
     let solid : StopsFor is_blank rest = subst (StopsFor is_blank) (sym first) (ink_first (text_for m) (behind_first close m ls) (token_ink m h.1.0)) in
     let none : begins_comma rest ≡ false = ap begins_comma first ∙ no_comma m (behind_first close m ls) f h.1.0 in
     subst IsStatementText (sym whole)
-    (record { left = key_stays k rest b (subst EndsInInk whole (tokens_end close (key k) (m ∷ ls) h)); kind = no_row k rest b solid none })
+    (record {
+      left = key_stays k rest b (subst EndsInInk whole (tokens_end close (key k) (m ∷ ls) h));
+      kind = no_row k rest b solid none;
+      whole = subst IsOneLine whole (tokens_in_line close (key k ∷ m ∷ ls) h);
+    })

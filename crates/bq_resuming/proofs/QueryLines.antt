@@ -165,7 +165,7 @@ module _ (s : State) (taken : ℕ) (catalog : IsCatalog s.streams) where
       let answer : Answer = registered q.name q.query q.shared q.plan in
       let verdict : IsVerdict q.shared q.query (free_pages done) (acceptance q.plan) = verdict_again q.shared q.query q.plan (free_pages done) is.sound.accepted (omega (arith, fits)) in
       let count : s.lines + n + 1 ≡ s.lines + (n + 1) = omega arith in
-      one_line now (having (done ++ anew q ∷ []) (n + 1)) line answer
+      one_line now (having (done ++ anew q ∷ []) (n + 1)) line answer c.text.whole
       (record { request = asked q.name q.query q.shared; asks = subst (IsRequest now line) same asks; settles = accepted q.plan is.sound.accepted.plan verdict refl })
       (λ j. record s { queries = done ++ anew q ∷ []; lines = count j })
 

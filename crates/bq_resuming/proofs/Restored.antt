@@ -79,7 +79,7 @@ module _ (s : State) (sound : IsSoundState s) (catalog : IsCatalog s.streams) (i
       let same : statement_request now x ≡ resumed s.taken
       = ap (λ b. cond b (refused Value) (cond (int_lt (pos s.limit) (pos s.taken)) (refused RowLimit) (resumed (nat_abs (pos s.taken))))) (not_negative s.taken)
       ∙ ap (λ b. cond b (refused RowLimit) (resumed (nat_abs (pos s.taken)))) (not_above s.taken s.limit sound.within) in
-      one_line now (with_queries s.taken (map anew s.queries) (n + 1)) (printed_form x) (plain (resumed s.taken))
+      one_line now (with_queries s.taken (map anew s.queries) (n + 1)) (printed_form x) (plain (resumed s.taken)) told.text.whole
       (record { request = resumed s.taken; asks = subst (IsRequest now (printed_form x)) same asks; settles = refl })
       refl
 

@@ -147,7 +147,7 @@ one_more limit done s rest is h most short =
     let asks : IsRequest now (stream_line s) request = line_asks now (told s) (stream_line s) text (printed_statement (told s) is.some sound) (stream_within s is) short in
     let same : request ≡ created s.name s.columns = ap (stream_request s.name s.columns) (can_be_added done s rest is h most) in
     let n : length done + 1 ≡ length (done ++ s ∷ []) = sym (length-append done (s ∷ [])) in
-    one_line now (with_streams limit (done ++ s ∷ [])) (stream_line s) (plain (created s.name s.columns))
+    one_line now (with_streams limit (done ++ s ∷ [])) (stream_line s) (plain (created s.name s.columns)) text.whole
     (record { request = created s.name s.columns; asks = subst (IsRequest now (stream_line s)) same asks; settles = refl })
     (λ j. record (empty limit) { streams = done ++ s ∷ []; lines = n j })
 

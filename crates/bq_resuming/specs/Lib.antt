@@ -2,3 +2,4 @@ pub mod Sound
 pub mod Continuing
 pub mod Small
 pub mod Restores
+pub mod Reached

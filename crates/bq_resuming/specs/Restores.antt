@@ -1,6 +1,7 @@
 -- What the lines of a checkpoint lead to.
-use Rattle.std.specs.Prelude.{◌≡◌, ℕ, ◌+◌, ◌≤◌, false, List, [], length, map, Some, IsTrue, All}
-use Rattle.std.specs.List.{sum_by}
+use Rattle.std.specs.Prelude.{◌≡◌, ℕ, ◌+◌, ◌≤◌, false, List, [], length, map, Some, IsTrue, IsFalse, All}
+use Rattle.std.specs.List.{list_any, sum_by}
+use Rattle.bq_text.specs.Lines.{is_line_feed}
 use Rattle.bq_model.specs.Numbers.{pages_of}
 use Rattle.bq_schema.specs.Streams.{Shape, IsCatalog, all_differ}
 use Rattle.bq_parser.specs.Resolution.{HasNamed}
@@ -16,11 +17,16 @@ use Rattle.bq_resuming.specs.Small.{HasShortLines}
 use Rattle.bq_resuming.specs.Sound.{IsSoundState}
 use Rattle.bq_resuming.specs.Continuing.{GoOnAlike}
 
--- lines come to answers from one state on, and lead to another
+-- no byte of the line is an LF
+abbrev pub IsOneLine : List ℕ → Type 0
+IsOneLine line = IsFalse (list_any is_line_feed line)
+
+-- lines, each without an LF, come to answers from one state on, and lead to another
 pub record LeadsTo (s : State) (lines : List (List ℕ)) (t : State) : Type 0 where
   pub answers : List Answer
   pub answered : AreAnswers s lines answers
   pub is : after s answers ≡ t
+  pub whole : All IsOneLine lines
 
 -- the lines of the streams of a catalog lead from the first state to one with these streams and nothing else
 abbrev pub StreamsAreRestored : Type 0

@@ -1,5 +1,6 @@
 //! States that keep the same are stood for and answered alike.
 ghost use Rattle.bq_resuming.specs.Continuing.{ContinuesAlike, ResumedContinuesAlike};
+ghost use Rattle.bq_resuming.specs.Reached.{SessionsStandForReached, ReachedStatesAreRestorable, CheckpointOfReached, ReachedCheckpointsAreShort, CheckpointContinuesTexts};
 ghost use Rattle.bq_resuming.specs.Restores.{StreamsAreRestored, KeptIsRestored, QueriesAreRestored, CheckpointRestores, CheckpointGoesOn};
 ghost use Rattle.bq_resuming.specs.Small.{CheckpointLinesAreShort};
 ghost use Rattle.bq_resuming.specs.Sound.{StatesAreSound};
@@ -49,4 +50,31 @@ pub fn checkpoint_restores()
 /// The state to which the lines of a checkpoint lead goes on as the one that they tell of, and that one as it does.
 pub fn checkpoint_goes_on()
     ensures { CheckpointGoesOn }
+{}
+
+/// After each line for which memory was found, a session that stood for a state that lines lead to from the first one stands for such a
+/// state again.
+pub fn sessions_stand_for_reached()
+    ensures { SessionsStandForReached }
+{}
+
+/// Each state that lines lead to from the first one is sound, and its streams and live queries can be restored by lines.
+pub fn reached_states_are_restorable()
+    ensures { ReachedStatesAreRestorable }
+{}
+
+/// From the first state on, the lines of the checkpoint of such a state lead to one that goes on as it does, and it as that one does.
+pub fn checkpoint_of_reached()
+    ensures { CheckpointOfReached }
+{}
+
+/// Each line of the checkpoint of such a state has at most 1,024 bytes.
+pub fn reached_checkpoints_are_short()
+    ensures { ReachedCheckpointsAreShort }
+{}
+
+/// A session that reads the reply to `CHECKPOINT` in such a state, and then the rest of a text, replies to the rest as that state does, but
+/// for the numbers of refused lines.
+pub fn checkpoint_continues_texts()
+    ensures { CheckpointContinuesTexts }
 {}
