@@ -1,14 +1,7 @@
 pub mod CommandForms
 pub mod Endings
-pub mod Exits
-pub mod Given
-pub mod Held
 pub mod LoadForms
 pub mod LoadSteps
 pub mod LowerForms
 pub mod OneCommand
-pub mod Passing
-pub mod Progress
-pub mod Stops
-pub mod Told
 pub mod WordForms

@@ -3,11 +3,11 @@ use Rattle.std.proofs.Common.{◌≡◌, ℕ, List, String, [], ◌∷◌, map, 
 use Rattle.std.specs.declared.alloc.Global.{Global}
 use Rattle.std.specs.String.{string_bytes}
 use Rattle.std.proofs.lemmas.Fmt.{decimal_injective}
-use Rattle.bq_top.specs.declared.command.Command.TheVariants.{Run, Load, Lower, Certify, Check, Help, Version}
+use Rattle.bq_top.specs.declared.command.Command.TheVariants.{Run, Load, Lower, Certify, Check, Advise, Help, Version}
 use Rattle.bq_top.specs.Words.{AreRunTexts, alone, limited}
 use Rattle.bq_top.specs.LoadWords.{AreLoadTexts}
 use Rattle.bq_top.specs.LowerWords.{AreLowerTexts}
-use Rattle.bq_top.specs.CertificateWords.{AreCertify, AreCheck}
+use Rattle.bq_top.specs.CertificateWords.{AreCertify, AreCheck, AreAdvise}
 use Rattle.bq_top.specs.HelpWords.{AreHelp, AreVersion}
 use Rattle.bq_top.specs.Laws.{AskForOne}
 
@@ -59,6 +59,15 @@ certify_or_run e = cc
 check_or_run : codes "check" ≡ codes "run" → ⊥
 check_or_run e = cc
 
+advise_or_run : codes "advise" ≡ codes "run" → ⊥
+advise_or_run e = cc
+
+certify_or_advise : (words : List (String Global)) → AreCertify words → AreAdvise words → ⊥
+certify_or_advise words p q = let bad : codes "certify" ∷ [] ≡ codes "advise" ∷ [] = sym p ∙ q in cc
+
+check_or_advise : (words : List (String Global)) → AreCheck words → AreAdvise words → ⊥
+check_or_advise words p q = let bad : codes "check" ∷ [] ≡ codes "advise" ∷ [] = sym p ∙ q in cc
+
 certify_or_check : (words : List (String Global)) → AreCertify words → AreCheck words → ⊥
 certify_or_check words p q = let bad : codes "certify" ∷ [] ≡ codes "check" ∷ [] = sym p ∙ q in cc
 
@@ -94,6 +103,12 @@ help_or_certify words p q = neither (map string_bytes words) (codes "--help") (c
 
 help_or_check : (words : List (String Global)) → AreHelp words → AreCheck words → ⊥
 help_or_check words p q = neither (map string_bytes words) (codes "--help") (codes "-h") (codes "check") p q (λ e. cc) (λ e. cc)
+
+help_or_advise : (words : List (String Global)) → AreHelp words → AreAdvise words → ⊥
+help_or_advise words p q = neither (map string_bytes words) (codes "--help") (codes "-h") (codes "advise") p q (λ e. cc) (λ e. cc)
+
+version_or_advise : (words : List (String Global)) → AreVersion words → AreAdvise words → ⊥
+version_or_advise words p q = neither (map string_bytes words) (codes "--version") (codes "-V") (codes "advise") p q (λ e. cc) (λ e. cc)
 
 version_or_certify : (words : List (String Global)) → AreVersion words → AreCertify words → ⊥
 version_or_certify words p q = neither (map string_bytes words) (codes "--version") (codes "-V") (codes "certify") p q (λ e. cc) (λ e. cc)
@@ -155,3 +170,18 @@ one_command words Help (Lower n) p q = absurd (neither_lower (map string_bytes w
 one_command words (Lower n) Help p q = absurd (neither_lower (map string_bytes words) (codes "--help") (codes "-h") n q p)
 one_command words Version (Lower n) p q = absurd (neither_lower (map string_bytes words) (codes "--version") (codes "-V") n p q)
 one_command words (Lower n) Version p q = absurd (neither_lower (map string_bytes words) (codes "--version") (codes "-V") n q p)
+one_command words (Run m) Advise p q = absurd (other_word (map string_bytes words) (codes "advise") m q advise_or_run p)
+one_command words Advise (Run n) p q = absurd (other_word (map string_bytes words) (codes "advise") n p advise_or_run q)
+one_command words (Load m) Advise p q = absurd (no_size (map string_bytes words) (codes "advise") m q p)
+one_command words Advise (Load n) p q = absurd (no_size (map string_bytes words) (codes "advise") n p q)
+one_command words (Lower m) Advise p q = absurd (no_family (map string_bytes words) (codes "advise") m q p)
+one_command words Advise (Lower n) p q = absurd (no_family (map string_bytes words) (codes "advise") n p q)
+one_command words Certify Advise p q = absurd (certify_or_advise words p q)
+one_command words Advise Certify p q = absurd (certify_or_advise words q p)
+one_command words Check Advise p q = absurd (check_or_advise words p q)
+one_command words Advise Check p q = absurd (check_or_advise words q p)
+one_command words Advise Advise p q = refl
+one_command words Help Advise p q = absurd (help_or_advise words p q)
+one_command words Advise Help p q = absurd (help_or_advise words q p)
+one_command words Version Advise p q = absurd (version_or_advise words p q)
+one_command words Advise Version p q = absurd (version_or_advise words q p)

@@ -1,10 +1,10 @@
 -- Words of the two forms.
-use Rattle.std.proofs.Common.{◌≡◌, ℕ, ◌<◌, ◌≤◌, List, [], ◌∷◌, length, get_or, sym, ap, ◌∙◌, subst, Some, None, arith, codes, MatchOption, decimal, ◌^◌, String, IfSome, map}
+use Rattle.std.proofs.Common.{◌≡◌, ℕ, ◌<◌, ◌≤◌, List, [], ◌∷◌, length, get_or, sym, ap, ◌∙◌, subst, Some, None, arith, codes, MatchOption, ◌^◌, String, IfSome, map}
 use Rattle.std.specs.String.{string_bytes}
 use Rattle.std.specs.declared.alloc.Global.{Global}
-use Rattle.std.proofs.lemmas.Fmt.{decimal_injective}
 use Rattle.std.specs.declared.option.Option.{Option}
-use Rattle.bq_top.specs.Words.{IsRowLimit, AreRunTexts, AreRun, alone, limited}
+use Rattle.bq_top.specs.Words.{AreRunTexts, AreRun, alone, limited}
+use Rattle.bq_session.specs.Words.{IsRowLimit}
 
 pub one_word : {A : Type 0} (ws : List A) (w : A) → 1 ≤ length ws → length ws < 2 → w ≡ get_or ws 0 w → ws ≡ w ∷ []
 one_word [] w a b e = absurd (omega arith)
@@ -30,10 +30,6 @@ limited_words texts number None e none = λ n are. refuted n are
         let same : other ≡ number = cc in
         none n (subst (λ t. IsRowLimit t n) same is)
 limited_words texts number (Some n) e is = limited number e is
-
--- a text is the shortest form of one number
-pub one_number : (text : List ℕ) (number n : ℕ) → number < 2 ^ 64 → text ≡ decimal number → IsRowLimit text n → number ≡ n
-one_number text number n small e is = decimal_injective number n small (omega (arith, is.few)) (sym e ∙ is.digits)
 
 within-one : (texts : List (List ℕ)) (n : ℕ) → AreRunTexts texts n → (0 < n) × (n ≤ 2 ^ 40)
 within-one texts n (alone e same) = (omega arith, omega arith)

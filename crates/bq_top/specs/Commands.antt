@@ -2,11 +2,11 @@
 use Rattle.std.specs.Prelude.{◌<◌, ◌≤◌, ◌^◌, ⊤, List, String}
 use Rattle.std.specs.declared.alloc.Global.{Global}
 use Rattle.bq_top.specs.declared.command.Command.{Command}
-use Rattle.bq_top.specs.declared.command.Command.TheVariants.{Run, Load, Lower, Certify, Check, Help, Version}
+use Rattle.bq_top.specs.declared.command.Command.TheVariants.{Run, Load, Lower, Certify, Check, Advise, Help, Version}
 use Rattle.bq_top.specs.Words.{AreRun}
 use Rattle.bq_top.specs.LoadWords.{AreLoad}
 use Rattle.bq_top.specs.LowerWords.{AreLower}
-use Rattle.bq_top.specs.CertificateWords.{AreCertify, AreCheck}
+use Rattle.bq_top.specs.CertificateWords.{AreCertify, AreCheck, AreAdvise}
 use Rattle.bq_top.specs.HelpWords.{AreHelp, AreVersion}
 
 -- the words ask for this
@@ -16,6 +16,7 @@ Asks words (Load rows) = AreLoad words rows
 Asks words (Lower rows) = AreLower words rows
 Asks words Certify = AreCertify words
 Asks words Check = AreCheck words
+Asks words Advise = AreAdvise words
 Asks words Help = AreHelp words
 Asks words Version = AreVersion words
 
@@ -26,6 +27,7 @@ IsAllowed (Load rows) = (0 < rows) × (rows ≤ 100000)
 IsAllowed (Lower rows) = (0 < rows) × (rows ≤ 1000)
 IsAllowed Certify = ⊤
 IsAllowed Check = ⊤
+IsAllowed Advise = ⊤
 IsAllowed Help = ⊤
 IsAllowed Version = ⊤
 

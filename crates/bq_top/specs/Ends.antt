@@ -6,11 +6,12 @@ use Rattle.bq_io.specs.declared.status.Status.TheVariants as status
 use Rattle.bq_io.specs.Source.{SourceState}
 use Rattle.bq_io.specs.Sink.{SinkState}
 use Rattle.bq_top.specs.declared.command.Command.{Command}
-use Rattle.bq_top.specs.declared.command.Command.TheVariants.{Run, Load, Lower, Certify, Check, Help, Version}
-use Rattle.bq_certify.specs.Commands as certificates
+use Rattle.bq_top.specs.declared.command.Command.TheVariants.{Run, Load, Lower, Certify, Check, Advise, Help, Version}
+use Rattle.bq_script.specs.Commands as certificates
 use Rattle.bq_certify.specs.Certifying.{Certifies}
 use Rattle.bq_certify.specs.Checking.{Checks}
 use Rattle.bq_lowering.specs.Lowering.{Lowers}
+use Rattle.bq_advice.specs.Advising.{Advises}
 use Rattle.bq_top.specs.Commands.{Runs, AreOther}
 use Rattle.bq_top.specs.Help.{TextEnds, help_text, version_text}
 use Rattle.bq_top.specs.Load.{LoadEnds}
@@ -23,6 +24,7 @@ CommandEnds s (Load rows) source source' sink sink' = (source' ≡ source) × Lo
 CommandEnds s (Lower rows) source source' sink sink' = certificates.CommandEnds (Lowers rows) s source source' sink sink'
 CommandEnds s Certify source source' sink sink' = certificates.CommandEnds Certifies s source source' sink sink'
 CommandEnds s Check source source' sink sink' = certificates.CommandEnds Checks s source source' sink sink'
+CommandEnds s Advise source source' sink sink' = certificates.CommandEnds Advises s source source' sink sink'
 CommandEnds s Help source source' sink sink' = (source' ≡ source) × TextEnds s help_text sink sink'
 CommandEnds s Version source source' sink sink' = (source' ≡ source) × TextEnds s version_text sink sink'
 

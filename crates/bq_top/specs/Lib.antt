@@ -1,8 +1,6 @@
 pub mod CertificateWords
 pub mod Commands
 pub mod Ends
-pub mod Events
-pub mod Fetched
 pub mod Help
 pub mod HelpWords
 pub mod Laws
@@ -11,5 +9,4 @@ pub mod LoadWords
 pub mod LowerWords
 pub mod Loading
 pub mod Run
-pub mod Turned
 pub mod Words

@@ -1,13 +1,8 @@
 -- The words after the program's name.
-use Rattle.std.specs.Prelude.{◌≡◌, ℕ, ◌<◌, ◌≤◌, ◌^◌, List, [], ◌∷◌, map, codes, decimal, String}
+use Rattle.std.specs.Prelude.{◌≡◌, ℕ, ◌^◌, List, [], ◌∷◌, map, codes, String}
 use Rattle.std.specs.String.{string_bytes}
 use Rattle.std.specs.declared.alloc.Global.{Global}
-
--- a number of rows that a session may take, in its shortest form
-pub record IsRowLimit (text : List ℕ) (limit : ℕ) : Type 0 where
-  pub digits : text ≡ decimal limit
-  pub some : 0 < limit
-  pub few : limit ≤ 2 ^ 40
+use Rattle.bq_session.specs.Words.{IsRowLimit}
 
 -- `run` alone lets a session take 2^40 rows; `run --rows N` lets it take N
 pub data AreRunTexts (texts : List (List ℕ)) (limit : ℕ) : Type 0 where

@@ -3,7 +3,7 @@ ghost use Rattle.std.specs.Prelude.{MatchOption, IfSome};
 ghost use Rattle.bq_top.specs.declared.command.Command.{Command};
 ghost use Rattle.bq_top.specs.Commands.{Asks, IsAllowed};
 
-use crate::certificate_words::certificate_command;
+use crate::certificate_words::script_command;
 use crate::help_words::help_command;
 use crate::load_words::load_rows;
 use crate::lower_words::family_size;
@@ -22,6 +22,8 @@ pub enum Command {
     Certify,
     /// The check of the certificate behind a script.
     Check,
+    /// Advice on each line of a script.
+    Advise,
     /// How the program is used.
     Help,
     /// Which version of the program this is.
@@ -39,7 +41,7 @@ pub fn command_of(words: &[String]) -> Option<Command>
             Some(rows) => Some(Command::Load(rows)),
             None => match family_size(words) {
                 Some(rows) => Some(Command::Lower(rows)),
-                None => match certificate_command(words) {
+                None => match script_command(words) {
                     Some(command) => Some(command),
                     None => help_command(words),
                 },

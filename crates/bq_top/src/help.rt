@@ -20,6 +20,9 @@ bq check           read such a text, and write what its certificate shows:
                    bq certify < script | bq check
 bq lower N         read a script of one query, and write N rows that show why the
                    query is refused:         bq lower 3 < script
+bq advise          read a script to its end, and write what is wrong with its
+                   lines, and what would mend or better its queries:
+                   bq advise < script && bq run < script
 bq load N          answer N generated rows, and write one line of sums:
                    bq load 1000
 bq --help          write this text; also -h
@@ -41,7 +44,8 @@ The lines of a script; keywords are read in any case of letters:
 What cannot be taken is answered by error, the number of the line and a word.
 
 Status 0  done
-       1  certify, check or lower refuses a line, or a certificate has a fault
+       1  certify, check or lower refuses a line, or a certificate has a fault;
+          advise finds a line at fault or a query that is refused
        2  the words are none of these forms; nothing was read or written
        4  the input failed, or one of the feeds
        5  the output failed

@@ -2,7 +2,7 @@
 ghost use Rattle.std.specs.Prelude.{◌≡◌, ℕ, ◌<◌, ◌≤◌, IfSome, MatchOption};
 ghost use Rattle.bq_top.specs.LoadWords.{IsLoadSize, AreLoad};
 
-use crate::words::{is_word, read_number};
+use bq_session::{is_word, read_number};
 
 /// The most rows of a load.
 const MOST_ROWS: u64 = 100_000;

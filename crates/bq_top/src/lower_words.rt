@@ -2,7 +2,7 @@
 ghost use Rattle.std.specs.Prelude.{◌≡◌, ℕ, ◌<◌, ◌≤◌, IfSome, MatchOption};
 ghost use Rattle.bq_top.specs.LowerWords.{IsFamilySize, AreLower};
 
-use crate::words::{is_word, read_number};
+use bq_session::{is_word, read_number};
 
 /// The most rows of a family.
 const MOST_ROWS: u64 = 1000;

@@ -4,20 +4,20 @@ ghost use Rattle.bq_io.specs.Counts.{Rose};
 ghost use Rattle.bq_feed.specs.Reading.{fresh};
 ghost use Rattle.bq_session.specs.State.{State, empty};
 ghost use Rattle.bq_session.specs.Session.{StandsFor};
-ghost use Rattle.bq_top.specs.Run.{HasState, Streamed, SessionEnds, IsNoFault, status_of};
+ghost use Rattle.bq_top.specs.Run.{SessionEnds, status_of};
+ghost use Rattle.bq_session.specs.Run.{HasState, Streamed, IsNoFault};
 ghost use Rattle.bq_top.specs.Ends.{Ends};
 
 use crate::command::{Command, command_of};
-use crate::ending::Ending;
 use crate::help::{help, version};
 use crate::load::load;
-use crate::stream::stream;
+use bq_advice::advise_script;
 use bq_certify::{certify, check_script};
 use bq_feed::LineReader;
 use bq_io::{Gathered, Sink, Source, Status};
 use bq_lowering::lower;
 use bq_pool::Steps;
-use bq_session::Session;
+use bq_session::{Ending, Session, run_lines};
 use std::alloc::Global;
 use std::marker::Brand;
 use std::sync::ledger::{Blank, Ledger};
@@ -40,7 +40,7 @@ fn gather<I: Source, O: Sink, L: Ledger>(
 {
     let mut steps = Steps::<L>::new(blank);
     let mut gathered = Gathered::new(output);
-    let ending = stream(reader, session, input, &mut gathered, &mut steps);
+    let ending = run_lines(reader, session, input, &mut gathered, &mut steps);
     let Gathered { sink, held: _held } = gathered;
     // No effect at run time. The proof reads what the output holds from this use.
     let _ = &*sink;
@@ -120,6 +120,11 @@ fn run_session<I: Source, O: Sink>(
 /// the N rows came before, the answers to the rows that ask tell the set. Where the query has no family, one line says so. It writes when all
 /// is known, and ends with `Invalid` where a line is refused. For `ReadFault`, `ByteLimit` and `Memory` nothing was written.
 ///
+/// `advise` reads a script to its end, and takes no row into any query. It writes what is wrong with each line that a session would refuse, why
+/// a query is refused and what would mend it, what a query of several parts costs, and at the end one line with what all lines came to. It writes
+/// when all is known, and ends with `Invalid` where a line is at fault or a query is refused. For `ReadFault`, `ByteLimit` and `Memory` nothing
+/// was written.
+///
 /// `--help` or `-h`, alone, writes how the program is used, and `--version` or `-V`, alone, its version. Nothing is read.
 ///
 /// `Usage` comes exactly where the words are none of these forms, and then nothing was read or written. `ReadFault` and `WriteFault`
@@ -146,6 +151,7 @@ pub fn run<I: Source, O: Sink>(
         Some(Command::Lower(rows)) => lower(alloc, rows, input, output),
         Some(Command::Certify) => certify(alloc, input, output),
         Some(Command::Check) => check_script(alloc, input, output),
+        Some(Command::Advise) => advise_script(alloc, input, output),
         Some(Command::Help) => help(output),
         Some(Command::Version) => version(output),
         None => Status::Usage,

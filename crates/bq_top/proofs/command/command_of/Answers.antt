@@ -1,15 +1,15 @@
-use Rattle.bq_top.proofs.CommandForms.{asked_certificate, allowed_certificate, asked_help, allowed_help}
+use Rattle.bq_top.proofs.CommandForms.{asked_script, allowed_script, asked_help, allowed_help}
 use Rattle.bq_top.proofs.command.command_of.Goals as goal
 
-pub returns-in-Some-certificate_command-clause-asks : goal.returns-in-Some-certificate_command-clause-asks
-returns-in-Some-certificate_command-clause-asks c = asked_certificate c.args.words.now c.in-Some-certificate_command.command c.in-Some-certificate_command.ensures
+pub returns-in-Some-script_command-clause-asks : goal.returns-in-Some-script_command-clause-asks
+returns-in-Some-script_command-clause-asks c = asked_script c.args.words.now c.in-Some-script_command.command c.in-Some-script_command.ensures
 
-pub returns-in-Some-certificate_command-clause-allowed : goal.returns-in-Some-certificate_command-clause-allowed
-returns-in-Some-certificate_command-clause-allowed c = allowed_certificate c.args.words.now c.in-Some-certificate_command.command c.in-Some-certificate_command.ensures
+pub returns-in-Some-script_command-clause-allowed : goal.returns-in-Some-script_command-clause-allowed
+returns-in-Some-script_command-clause-allowed c = allowed_script c.args.words.now c.in-Some-script_command.command c.in-Some-script_command.ensures
 
-pub returns-in-None-certificate_command-clause-asks : goal.returns-in-None-certificate_command-clause-asks
-returns-in-None-certificate_command-clause-asks c =
-    asked_help c.args.words.now c.help_command.result c.in-None.ensures.limit c.in-None-load_rows.ensures.rows c.in-None-family_size.ensures.size c.in-None-certificate_command.ensures c.help_command.ensures
+pub returns-in-None-script_command-clause-asks : goal.returns-in-None-script_command-clause-asks
+returns-in-None-script_command-clause-asks c =
+    asked_help c.args.words.now c.help_command.result c.in-None.ensures.limit c.in-None-load_rows.ensures.rows c.in-None-family_size.ensures.size c.in-None-script_command.ensures c.help_command.ensures
 
-pub returns-in-None-certificate_command-clause-allowed : goal.returns-in-None-certificate_command-clause-allowed
-returns-in-None-certificate_command-clause-allowed c = allowed_help c.args.words.now c.help_command.result c.help_command.ensures
+pub returns-in-None-script_command-clause-allowed : goal.returns-in-None-script_command-clause-allowed
+returns-in-None-script_command-clause-allowed c = allowed_help c.args.words.now c.help_command.result c.help_command.ensures

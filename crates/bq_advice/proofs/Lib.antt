@@ -1,0 +1,4 @@
+pub mod Texts
+pub mod Taken
+pub mod Progress
+pub mod Ended

@@ -1,0 +1,74 @@
+-- What a line of a script comes to.
+use Rattle.std.specs.Prelude.{◌≡◌, ℕ, ◌+◌, ◌<◌, ◌≤◌, nat_lt, Bool, if◌then◌else◌, List, [], length}
+use Rattle.std.specs.declared.result.Result.{Result}
+use Rattle.std.specs.declared.result.Result.TheVariants.{Ok, Err}
+use Rattle.bq_model.specs.Query.{QueryValue}
+use Rattle.bq_diagnosis.specs.declared.fault.Asks.{Asks}
+use Rattle.bq_diagnosis.specs.declared.fault.Asks.TheVariants as asks
+use Rattle.bq_diagnosis.specs.declared.fault.Fault.{Fault}
+use Rattle.bq_diagnosis.specs.declared.fault.Fault.TheVariants.{LineTooLong}
+use Rattle.bq_diagnosis.specs.Faults.{IsDiagnosis}
+use Rattle.bq_sentences.specs.Texts.{fault_text}
+use Rattle.bq_mend.specs.declared.advising.QueryAdvice.{QueryAdvice}
+use Rattle.bq_mend.specs.Advised.{IsAdvice}
+use Rattle.bq_advice.specs.declared.advised.AdvisedQuery.{AdvisedQuery}
+use Rattle.bq_advice.specs.State.{State, free_pages, one_line_more, one_fault_more, one_stream_more, one_query_less, one_query_more}
+use Rattle.bq_advice.specs.Queries.{query_text}
+
+-- What a line comes to: nothing is to be said of what it asks for; it is at fault; or it asks for a query, on which this is advised.
+pub data Finding : Type 0 where
+  fine : Asks → Finding
+  fault : Fault → Finding
+  query : AdvisedQuery → Finding
+
+-- a query that is asked for behind some lines, with the advice on it
+abbrev pub advised : State → List ℕ → QueryValue → QueryAdvice → AdvisedQuery
+advised s name q advice = record { number = s.lines + 1; name = name; query = q; advice = advice; free = free_pages s }
+
+-- a query is advised on, and this is what its line comes to
+pub record IsAdvised (s : State) (name : List ℕ) (q : QueryValue) (shared : Bool) (finding : Finding) : Type 0 where
+  pub advice : QueryAdvice
+  pub right : IsAdvice shared q advice
+  pub is : finding ≡ query (advised s name q advice)
+
+-- what a line comes to by what was found by looking at it
+abbrev pub ComesOf : State → Result Asks Fault → Finding → Type 0
+ComesOf s (Err wrong) finding = finding ≡ fault wrong
+ComesOf s (Ok (asks.Query name q shared)) finding = IsAdvised s name q shared finding
+ComesOf s (Ok asks.Nothing) finding = finding ≡ fine asks.Nothing
+ComesOf s (Ok asks.Row) finding = finding ≡ fine asks.Row
+ComesOf s (Ok (asks.Stream name columns)) finding = finding ≡ fine (asks.Stream name columns)
+ComesOf s (Ok asks.Explain) finding = finding ≡ fine asks.Explain
+ComesOf s (Ok (asks.Drop name)) finding = finding ≡ fine (asks.Drop name)
+ComesOf s (Ok asks.Other) finding = finding ≡ fine asks.Other
+
+-- What a line comes to behind lines that came to a state: it is too long, or it comes to what is found by looking at it.
+pub data IsFinding (s : State) (line : List ℕ) (finding : Finding) : Type 0 where
+  too_long : 1024 < length line → finding ≡ fault LineTooLong → IsFinding s line finding
+  fits : length line ≤ 1024 → (result : Result Asks Fault) → IsDiagnosis s.streams s.live line result → ComesOf s result finding → IsFinding s line finding
+
+-- the state behind a line that asks for this, of which nothing is to be said
+abbrev pub after_asks : State → Asks → State
+after_asks s asks.Nothing = one_line_more s
+after_asks s asks.Row = one_line_more s
+after_asks s (asks.Stream name columns) = one_stream_more s (record { name = name; columns = columns.items })
+after_asks s (asks.Query name q shared) = one_line_more s
+after_asks s asks.Explain = one_line_more s
+after_asks s (asks.Drop name) = one_query_less s name
+after_asks s asks.Other = one_line_more s
+
+-- the state behind a line that comes to this
+abbrev pub after : State → Finding → State
+after s (fine asks) = after_asks s asks
+after s (fault wrong) = one_fault_more s
+after s (query a) = one_query_more s a.name a.advice.judgement
+
+-- of a line that is too long nothing is shown
+abbrev pub shown : List ℕ → List ℕ
+shown line = if nat_lt 1024 (length line) then [] else line
+
+-- what is said of a line that comes to this
+abbrev pub finding_text : State → List ℕ → Finding → List ℕ
+finding_text s line (fine asks) = []
+finding_text s line (fault wrong) = fault_text (s.lines + 1) (shown line) wrong s.streams s.live
+finding_text s line (query a) = query_text s.streams a

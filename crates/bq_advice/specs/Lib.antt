@@ -1,0 +1,10 @@
+pub mod State
+pub mod Lines
+pub mod Changes
+pub mod Mends
+pub mod Queries
+pub mod Summary
+pub mod Finding
+pub mod Taking
+pub mod Advising
+pub mod Reading

@@ -1,0 +1,125 @@
+-- What is found for a line, by what is found for its text, for its statement and for its row.
+use Rattle.std.proofs.Common.{◌≡◌, ℕ, ◌≤◌, List, length, None, Result, Ok, Err, refl, ap, sym, ◌∙◌, subst}
+use Rattle.bq_schema.specs.Streams.{Shape}
+use Rattle.bq_parser.specs.declared.line.LineKind.{LineKind}
+use Rattle.bq_parser.specs.declared.line.LineKind.TheVariants as kinds
+use Rattle.bq_parser.specs.declared.tree.Statement.{Statement}
+use Rattle.bq_parser.specs.LineKind.{stripped, kind_of_line}
+use Rattle.bq_parser.specs.Syntax.{IsStatement}
+use Rattle.bq_parser.specs.Limits.{limit_of}
+use Rattle.bq_reply.specs.declared.word.Word.{Word}
+use Rattle.bq_diagnosis.specs.declared.fault.Asks.{Asks}
+use Rattle.bq_diagnosis.specs.declared.fault.Asks.TheVariants as asks
+use Rattle.bq_diagnosis.specs.declared.fault.Fault.{Fault}
+use Rattle.bq_diagnosis.specs.declared.fault.Fault.TheVariants.{LineTooLong, Syntax, Limit, DuplicateStream, DuplicateColumn, DuplicateQuery, TooManyStreams, TooManyQueries, NoStream, NotInFrom, NoColumn, SelfJoin, NoQuery, RowKey, RowName, RowStream, Arity, Value, Domain}
+use Rattle.bq_diagnosis.specs.Asked.{IsAsked, IsTextAsked, row_asked, fits, stated}
+use Rattle.bq_diagnosis.specs.Faults.{IsOfStatement, IsTrueOf, IsTrueOfText, IsDiagnosis, IsTextDiagnosis, IsStatementDiagnosis}
+use Rattle.bq_diagnosis.specs.FaultWords.{word_of}
+use Rattle.bq_diagnosis.specs.RowFaults.{IsOfRow, HasRowFault, IsRowFault}
+
+-- what is said of a statement is said of a text that is this statement
+of_statement : (streams : List Shape) (live : List (List ℕ)) (text : List ℕ) (s : Statement) (fault : Fault) → IsStatement text s → IsOfStatement streams live s fault → IsTrueOfText streams live text fault
+of_statement streams live text s LineTooLong is h = (s, is, h)
+of_statement streams live text s (Syntax at next) is h = absurd h
+of_statement streams live text s (Limit what) is h = (s, is, h)
+of_statement streams live text s (DuplicateStream name) is h = (s, is, h)
+of_statement streams live text s (DuplicateColumn name) is h = (s, is, h)
+of_statement streams live text s (DuplicateQuery name) is h = (s, is, h)
+of_statement streams live text s TooManyStreams is h = (s, is, h)
+of_statement streams live text s TooManyQueries is h = (s, is, h)
+of_statement streams live text s (NoStream name) is h = (s, is, h)
+of_statement streams live text s (NotInFrom column) is h = (s, is, h)
+of_statement streams live text s (NoColumn column) is h = (s, is, h)
+of_statement streams live text s (SelfJoin name) is h = (s, is, h)
+of_statement streams live text s (NoQuery name) is h = (s, is, h)
+of_statement streams live text s RowKey is h = (s, is, h)
+of_statement streams live text s (RowName bytes) is h = (s, is, h)
+of_statement streams live text s RowStream is h = (s, is, h)
+of_statement streams live text s (Arity stream wanted found) is h = (s, is, h)
+of_statement streams live text s (Value field) is h = (s, is, h)
+of_statement streams live text s (Domain stream field) is h = (s, is, h)
+
+-- what is said of a text that is read as a statement is said of its line
+of_text : (streams : List Shape) (live : List (List ℕ)) (line : List ℕ) (fault : Fault) → IsTrueOfText streams live (stripped line) fault → IsTrueOf streams live line fault
+of_text streams live line LineTooLong h = absurd h.2
+of_text streams live line (Syntax at next) h = h
+of_text streams live line (Limit what) h = h
+of_text streams live line (DuplicateStream name) h = h
+of_text streams live line (DuplicateColumn name) h = h
+of_text streams live line (DuplicateQuery name) h = h
+of_text streams live line TooManyStreams h = h
+of_text streams live line TooManyQueries h = h
+of_text streams live line (NoStream name) h = h
+of_text streams live line (NotInFrom column) h = h
+of_text streams live line (NoColumn column) h = h
+of_text streams live line (SelfJoin name) h = h
+of_text streams live line (NoQuery name) h = h
+of_text streams live line RowKey h = absurd h.2
+of_text streams live line (RowName bytes) h = absurd h.2
+of_text streams live line RowStream h = absurd h.2
+of_text streams live line (Arity stream wanted found) h = absurd h.2
+of_text streams live line (Value field) h = absurd h.2
+of_text streams live line (Domain stream field) h = absurd h.2
+
+-- what is said of a row line is said of its line
+of_row : (streams : List Shape) (live : List (List ℕ)) (line : List ℕ) (fault : Fault) → IsOfRow streams (stripped line) fault → IsTrueOf streams live line fault
+of_row streams live line LineTooLong h = absurd h.2
+of_row streams live line (Syntax at next) h = absurd h.2
+of_row streams live line (Limit what) h = absurd h.2
+of_row streams live line (DuplicateStream name) h = absurd h.2
+of_row streams live line (DuplicateColumn name) h = absurd h.2
+of_row streams live line (DuplicateQuery name) h = absurd h.2
+of_row streams live line TooManyStreams h = absurd h.2
+of_row streams live line TooManyQueries h = absurd h.2
+of_row streams live line (NoStream name) h = absurd h.2
+of_row streams live line (NotInFrom column) h = absurd h.2
+of_row streams live line (NoColumn column) h = absurd h.2
+of_row streams live line (SelfJoin name) h = absurd h.2
+of_row streams live line (NoQuery name) h = absurd h.2
+of_row streams live line RowKey h = h
+of_row streams live line (RowName bytes) h = h
+of_row streams live line RowStream h = h
+of_row streams live line (Arity stream wanted found) h = h
+of_row streams live line (Value field) h = h
+of_row streams live line (Domain stream field) h = h
+
+-- a line of a kind asks for what its text does
+of_kind : (streams : List Shape) (live : List (List ℕ)) (kind : LineKind) (line text : List ℕ) (asked : Result Asks Word) → length line ≤ 1024 → kind_of_line (stripped line) ≡ kind → stripped line ≡ text
+    → IsTextAsked streams live kind text asked → IsAsked streams live line asked
+of_kind streams live kind line text asked short k t h =
+    fits short (subst (λ x. IsTextAsked streams live x (stripped line) asked) (sym k) (subst (λ x. IsTextAsked streams live kind x asked) (sym t) h))
+
+-- what is found for a text, by its statement
+pub found_statement : (streams : List Shape) (live : List (List ℕ)) (text : List ℕ) (s : Statement) (result : Result Asks Fault) → IsStatement text s → limit_of s ≡ None
+    → IsStatementDiagnosis streams live s result → IsTextDiagnosis streams live text result
+found_statement streams live text s (Ok asked) is within h = record { asked = stated s is within h.asked; facts = h.facts }
+found_statement streams live text s (Err fault) is within h = record { asked = stated s is within h.asked; facts = of_statement streams live text s fault is h.facts }
+
+-- a line with nothing in it
+pub found_nothing : (streams : List Shape) (live : List (List ℕ)) (line text : List ℕ) → length line ≤ 1024 → kind_of_line (stripped line) ≡ kinds.Nothing → stripped line ≡ text → IsDiagnosis streams live line (Ok asks.Nothing)
+found_nothing streams live line text short k t = record { asked = of_kind streams live kinds.Nothing line text (Ok asks.Nothing) short k t refl; facts = tt }
+
+-- a line that is read as a statement
+pub found_text : (streams : List Shape) (live : List (List ℕ)) (line text : List ℕ) (result : Result Asks Fault) → length line ≤ 1024 → kind_of_line (stripped line) ≡ kinds.StatementLine → text ≡ stripped line
+    → IsTextDiagnosis streams live text result → IsDiagnosis streams live line result
+found_text streams live line text (Ok asked) short k t h = record { asked = of_kind streams live kinds.StatementLine line text (Ok asked) short k (sym t) h.asked; facts = tt }
+found_text streams live line text (Err fault) short k t h = record {
+  asked = of_kind streams live kinds.StatementLine line text (Err (word_of fault)) short k (sym t) h.asked;
+  facts = of_text streams live line fault (subst (λ x. IsTrueOfText streams live x fault) t h.facts);
+}
+
+-- a row line that is no row
+pub found_fault : (streams : List Shape) (live : List (List ℕ)) (line text : List ℕ) (fault : Fault) → length line ≤ 1024 → kind_of_line (stripped line) ≡ kinds.RowLine → text ≡ stripped line
+    → HasRowFault streams text fault → IsDiagnosis streams live line (Err fault)
+found_fault streams live line text fault short k t h = record {
+  asked = of_kind streams live kinds.RowLine line text (Err (word_of fault)) short k (sym t) (ap Err (sym h.word) ∙ ap row_asked (sym h.refused));
+  facts = of_row streams live line fault (subst (λ x. IsOfRow streams x fault) t h.fact);
+}
+
+-- a row
+pub found_row : (streams : List Shape) (live : List (List ℕ)) (line text : List ℕ) → length line ≤ 1024 → kind_of_line (stripped line) ≡ kinds.RowLine → text ≡ stripped line
+    → IsRowFault streams text None → IsDiagnosis streams live line (Ok asks.Row)
+found_row streams live line text short k t h = record {
+  asked = of_kind streams live kinds.RowLine line text (Ok asks.Row) short k (sym t) (ap row_asked (sym h.1));
+  facts = tt;
+}

@@ -1,0 +1,5 @@
+pub mod Asked
+pub mod Candidates
+pub mod FaultWords
+pub mod Faults
+pub mod RowFaults

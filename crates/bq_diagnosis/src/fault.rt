@@ -1,0 +1,141 @@
+//! What a line asks for, and what may be wrong with it.
+ghost use Rattle.std.specs.Prelude.{◌≡◌};
+ghost use Rattle.bq_diagnosis.specs.FaultWords as words;
+
+use crate::candidates::Candidate;
+use arrayvec::ArrayVec;
+use bq_model::Query;
+use bq_parser::{ColumnAst, What};
+use bq_reply::Word;
+use bq_schema::{Catalog, ColumnDef};
+use bq_text::Name;
+
+/// What the lines so far have made: the streams, and the names of the live queries.
+#[derive(Clone, Copy)]
+pub struct Known<'a> {
+    pub catalog: &'a Catalog,
+    pub live: &'a [Name],
+}
+
+/// What a line asks for with which nothing is wrong.
+#[derive(Drop)]
+pub enum Asks {
+    /// Nothing stands there, or a comment.
+    Nothing,
+    /// A row, with a value for each column of its stream, in its domain.
+    Row,
+    /// A stream that can be added to the catalog.
+    Stream {
+        name: Name,
+        columns: ArrayVec<ColumnDef, 8>,
+    },
+    /// A query whose names are all there, under a name that no live query has.
+    Query {
+        name: Name,
+        query: Query,
+        shared: bool,
+    },
+    /// That a live query is explained.
+    Explain,
+    /// That the live query of this name is dropped.
+    Drop(Name),
+    /// A checkpoint, or a line of one.
+    Other,
+}
+
+/// What is wrong with a line: each kind of cause, with its facts.
+#[derive(Drop)]
+pub enum Fault {
+    /// The line has more than 1,024 bytes.
+    LineTooLong,
+    /// A statement leaves the grammar at this byte, where these may stand.
+    Syntax {
+        at: u16,
+        next: ArrayVec<Candidate, 26>,
+    },
+    /// A statement passes this limit first.
+    Limit {
+        what: What,
+    },
+    /// A stream of this name is there.
+    DuplicateStream {
+        name: Name,
+    },
+    /// Two columns of a stream have this name.
+    DuplicateColumn {
+        name: Name,
+    },
+    /// A live query has this name.
+    DuplicateQuery {
+        name: Name,
+    },
+    /// There are 16 streams.
+    TooManyStreams,
+    /// There are 64 live queries.
+    TooManyQueries,
+    /// FROM names this stream, which is not there.
+    NoStream {
+        name: Name,
+    },
+    /// The stream of this column is not in FROM.
+    NotInFrom {
+        column: ColumnAst,
+    },
+    /// The stream of this column has no column of its name.
+    NoColumn {
+        column: ColumnAst,
+    },
+    /// FROM names this stream twice.
+    SelfJoin {
+        name: Name,
+    },
+    /// No live query has this name.
+    NoQuery {
+        name: Name,
+    },
+    /// A row begins with a reserved word.
+    RowKey,
+    /// A row begins with a word of so many bytes, more than a name may have.
+    RowName {
+        bytes: u16,
+    },
+    /// A row begins with a word that is the name of no stream.
+    RowStream,
+    /// A row of this stream has so many fields, where so many are wanted.
+    Arity {
+        stream: u8,
+        wanted: u8,
+        found: u16,
+    },
+    /// This field of a row is the first, from 0, that is no integer of 64 bits.
+    Value {
+        field: u16,
+    },
+    /// The value of this column of a row of this stream is the first, from 0, outside its domain.
+    Domain {
+        stream: u8,
+        field: u8,
+    },
+}
+
+/// Returns the word by which a session refuses a line with this fault.
+pub fn word_of(fault: &Fault) -> Word
+    ensures { result ≡ words.word_of fault.now }
+{
+    match fault {
+        Fault::LineTooLong => Word::LineTooLong,
+        Fault::Syntax { .. } | Fault::RowKey => Word::Syntax,
+        Fault::Limit { .. } | Fault::RowName { .. } => Word::Limit,
+        Fault::DuplicateStream { .. }
+        | Fault::DuplicateColumn { .. }
+        | Fault::DuplicateQuery { .. } => Word::Duplicate,
+        Fault::TooManyStreams | Fault::TooManyQueries => Word::TooMany,
+        Fault::NoStream { .. } | Fault::NotInFrom { .. } | Fault::RowStream => Word::UnknownStream,
+        Fault::NoColumn { .. } => Word::UnknownColumn,
+        Fault::SelfJoin { .. } => Word::SelfJoin,
+        Fault::NoQuery { .. } => Word::UnknownQuery,
+        Fault::Arity { .. } => Word::Arity,
+        Fault::Value { .. } => Word::Value,
+        Fault::Domain { .. } => Word::Domain,
+    }
+}

@@ -1,0 +1,91 @@
+-- Changes to a query, and when one of them mends it.
+use Rattle.std.specs.Prelude.{◌≡◌, ◌≤◌, ℤ, Bool, true, pos, neg_ℤ, List, [], ◌∷◌, ◌++◌, filter, length, Contains, ◌⊎◌}
+use Rattle.std.specs.List.{flat_map}
+use Rattle.std.specs.declared.option.Option.{Option}
+use Rattle.std.specs.declared.option.Option.TheVariants.{None, Some}
+use Rattle.bq_model.specs.declared.atom.Attr.{Attr}
+use Rattle.bq_model.specs.declared.atom.Atom.{Atom}
+use Rattle.bq_model.specs.declared.atom.Domain.{Domain}
+use Rattle.bq_model.specs.declared.atom.Element.TheVariants as element
+use Rattle.bq_model.specs.declared.atom.Op.{Op}
+use Rattle.bq_model.specs.declared.atom.Op.TheVariants.{Lt, Gt}
+use Rattle.bq_model.specs.Query.{QueryValue, attr_lt, attrs_of, consts_of, is_soft, with_new, IsShort, IsWithinLimits}
+use Rattle.bq_mend.specs.declared.mend.Mend.{Mend}
+use Rattle.bq_mend.specs.declared.mend.Mend.TheVariants.{Distinct, Domains, Bounds, Comparison, Compact, Shared}
+use Rattle.bq_mend.specs.declared.mend.Kind.{Kind}
+use Rattle.bq_mend.specs.declared.mend.Kind.TheVariants as kind
+use Rattle.bq_mend.specs.Meeting.{Stands}
+
+-- the widest domain that a column may be given: all integers of at most 15 digits
+abbrev pub widest : Attr → Domain
+widest a = record { attr = a; lo = neg_ℤ (pos 999999999999999); hi = pos 999999999999999 }
+
+-- domains are ordered by their columns
+abbrev pub domain_lt : Domain → Domain → Bool
+domain_lt d e = attr_lt d.attr e.attr
+
+-- the domains, and the widest one for each of the columns that has none among them
+abbrev pub domains_with : List Domain → List Attr → List Domain
+domains_with domains [] = domains
+domains_with domains (a ∷ others) = domains_with (with_new domain_lt (widest a) domains) others
+
+-- a column compared with an integer
+abbrev pub compared : Attr → Op → ℤ → Atom
+compared a op k = record { left = element.Attr a; op = op; right = element.Const k }
+
+-- a column above the least integer of 15 digits, and below the greatest
+abbrev pub bounds_of : Attr → List Atom
+bounds_of a = compared a Gt (neg_ℤ (pos 999999999999999)) ∷ compared a Lt (pos 999999999999999) ∷ []
+
+-- the same of each of some columns
+abbrev pub bounds_on : List Attr → List Atom
+bounds_on columns = flat_map bounds_of columns
+
+-- the query with more comparisons behind its own
+abbrev pub with_atoms : List Atom → QueryValue → QueryValue
+with_atoms more q = record q { atoms = q.atoms ++ more }
+
+-- the query with a change: with DISTINCT; with a domain on each of some columns; with two comparisons of each of them; with one comparison more; compact. Shared
+-- cells do not change it.
+abbrev pub mended : Mend → QueryValue → QueryValue
+mended Distinct q = record q { distinct = true }
+mended (Domains columns) q = record q { domains = domains_with q.domains columns }
+mended (Bounds columns) q = with_atoms (bounds_on columns) q
+mended (Comparison t) q = with_atoms (t ∷ []) q
+mended Compact q = record q { compact = true }
+mended Shared q = q
+
+-- the columns of a set bounded in one of two ways
+abbrev pub on : Kind → List Attr → Mend
+on kind.Bounds columns = Bounds columns
+on kind.Domains columns = Domains columns
+
+-- a change mends a query where the query with it is within the limits of a statement, meets all conditions, and has a part
+pub record Mends (mend : Mend) (q : QueryValue) : Type 0 where
+  pub limits : IsWithinLimits (mended mend q)
+  pub stands : Stands (mended mend q)
+
+-- a query, or that it would pass a limit of a statement
+abbrev pub IsWrittenAs : QueryValue → Option QueryValue → Type 0
+IsWrittenAs q None = ¬ IsWithinLimits q
+IsWrittenAs q (Some written) = written ≡ q
+
+-- the query with a change, or that it would pass a limit of a statement
+abbrev pub IsWritten : Mend → QueryValue → Option QueryValue → Type 0
+IsWritten mend q written = IsWrittenAs (mended mend q) written
+
+-- a comparison of a column that the query reads with an integer of at most 15 digits
+pub record IsBound (q : QueryValue) (t : Atom) : Type 0 where
+  pub attr : Attr
+  pub value : ℤ
+  pub left : t.left ≡ element.Attr attr
+  pub right : t.right ≡ element.Const value
+  pub reads : Contains (attrs_of q.atoms) attr ⊎ Contains q.select attr
+  pub short : IsShort value
+
+-- comparisons of which there are few enough for a statement, as there are of the columns and the integers that they name
+pub record Fit (atoms : List Atom) : Type 0 where
+  pub comparisons : length atoms ≤ 16
+  pub few_soft : length (filter (λ t. is_soft t.op) atoms) ≤ 8
+  pub few_attrs : length (attrs_of atoms) ≤ 12
+  pub few_consts : length (consts_of atoms) ≤ 6

@@ -1,0 +1,171 @@
+//! What is advised for a query.
+ghost use Rattle.std.specs.Prelude.{◌≡◌, ◌↔◌, IsTrue, IsFalse, IfOk};
+ghost use Rattle.bq_mend.specs.declared.mend.Mend.TheVariants as changes;
+ghost use Rattle.bq_mend.specs.Mended.{Mends};
+ghost use Rattle.bq_mend.specs.Advised.{breaks_condition, has_cost, AreSetsFor, AreCompactNumbers, AreSharedNumbers, AreComparisonsFor, IsAdvice};
+
+use crate::comparing::{BestComparisons, Cheaper, best_comparisons, fewer};
+use crate::judging::{Judgement, judge, numbers_with};
+use crate::mend::{Kind, Mend};
+use crate::searching::{LeastSets, least_sets};
+use crate::writing::mends;
+use bq_model::{Numbers, Query};
+use std::alloc::{AllocError, Global};
+
+/// The most sets of columns of each kind that are looked at: all of eight columns.
+const MOST_SETS: u16 = 93;
+
+/// The most comparisons that are tried: all of 12 columns and 6 integers.
+const MOST_COMPARISONS: u16 = 144;
+
+/// What a query comes to, and what would mend it or make it cheaper.
+#[derive(Drop)]
+pub struct QueryAdvice {
+    pub judgement: Judgement,
+    /// Whether DISTINCT mends it, where a condition refuses it and it has none.
+    pub distinct: bool,
+    /// The least sets of columns of which each mends it by two comparisons a column, where a condition refuses it.
+    pub bounds: LeastSets,
+    /// The same by a domain on each column.
+    pub domains: LeastSets,
+    /// Its numbers with COMPACT, where it is accepted with it and has it not.
+    pub compact: Option<Numbers>,
+    /// Its numbers with SHARED, where it is accepted with it and has fewer cells.
+    pub shared: Option<Numbers>,
+    /// The best comparisons, at most five, with its numbers, the fewest cells first.
+    pub cheaper: Vec<Cheaper>,
+    /// Whether one of the searches was cut short.
+    pub cut_short: bool,
+}
+
+fn breaks_condition(judgement: Judgement) -> bool
+    ensures { result ≡ breaks_condition judgement }
+{
+    match judgement {
+        Judgement::Violation { .. } => true,
+        Judgement::Filter
+        | Judgement::Accepted(_)
+        | Judgement::Above { .. }
+        | Judgement::ManyParts => false,
+    }
+}
+
+fn has_cost(judgement: Judgement) -> bool
+    ensures { result ≡ has_cost judgement }
+{
+    match judgement {
+        Judgement::Accepted(numbers) => 1 < numbers.parts,
+        Judgement::Above { .. } | Judgement::ManyParts => true,
+        Judgement::Filter | Judgement::Violation { .. } => false,
+    }
+}
+
+// Whether DISTINCT mends the query, where a condition refuses it and it has none.
+fn distinct_mends(alloc: Global, query: &Query, own: Judgement) -> Result<bool, AllocError>
+    ensures { IfOk result (λ is. IsTrue is ↔ (IsTrue (breaks_condition own) × IsFalse query.now.distinct × Mends changes.Distinct query.now)) }
+{
+    if query.distinct() {
+        return Ok(false);
+    }
+    if !breaks_condition(own) {
+        return Ok(false);
+    }
+    mends(alloc, query, &Mend::Distinct)
+}
+
+// The least sets of columns that mend the query in one of two ways, where a condition refuses it.
+fn sets_for(
+    alloc: Global,
+    query: &Query,
+    own: Judgement,
+    kind: Kind,
+) -> Result<LeastSets, AllocError>
+    ensures { IfOk result (AreSetsFor kind query.now own) }
+{
+    if breaks_condition(own) {
+        least_sets(alloc, query, MOST_SETS, kind)
+    } else {
+        Ok(LeastSets {
+            found: Vec::new(alloc),
+            cut_short: false,
+        })
+    }
+}
+
+// The numbers of the query with COMPACT, where it has it not.
+fn compact_numbers(
+    alloc: Global,
+    query: &Query,
+    shared: bool,
+) -> Result<Option<Numbers>, AllocError>
+    ensures { IfOk result (AreCompactNumbers shared query.now) }
+{
+    if query.compact() {
+        Ok(None)
+    } else {
+        numbers_with(alloc, query, shared, &Mend::Compact)
+    }
+}
+
+// The numbers of the query with shared cells, where it has fewer.
+fn shared_numbers(
+    alloc: Global,
+    query: &Query,
+    shared: bool,
+    own: Judgement,
+) -> Result<Option<Numbers>, AllocError>
+    ensures { IfOk result (AreSharedNumbers shared query.now own) }
+{
+    if shared {
+        return Ok(None);
+    }
+    match numbers_with(alloc, query, shared, &Mend::Shared) {
+        Ok(numbers) => Ok(fewer(own, numbers)),
+        Err(fault) => Err(fault),
+    }
+}
+
+// The best comparisons, where a limit refuses the query or it has more than one part.
+fn comparisons_for(
+    alloc: Global,
+    query: &Query,
+    shared: bool,
+    own: Judgement,
+) -> Result<BestComparisons, AllocError>
+    ensures { IfOk result (λ found. AreComparisonsFor shared query.now own found.best.items found.cut_short) }
+{
+    if has_cost(own) {
+        best_comparisons(alloc, query, shared, own, MOST_COMPARISONS)
+    } else {
+        Ok(BestComparisons {
+            best: Vec::new(alloc),
+            cut_short: false,
+        })
+    }
+}
+
+/// Returns what the query comes to, with shared cells or without, and what would mend it or make it cheaper, each change tried by the decision on the query with it.
+/// Where a condition refuses it, that is DISTINCT and the least sets of columns to bound; where a limit does, or it is accepted with more than one part, the best
+/// comparisons. `AllocError` where a list or a plan finds no memory.
+pub fn advise(alloc: Global, query: &Query, shared: bool) -> Result<QueryAdvice, AllocError>
+    ensures { IfOk result (IsAdvice shared query.now) }
+{
+    let judgement = judge(alloc, query, shared)?;
+    let distinct = distinct_mends(alloc, query, judgement)?;
+    let bounds = sets_for(alloc, query, judgement, Kind::Bounds)?;
+    let domains = sets_for(alloc, query, judgement, Kind::Domains)?;
+    let compact = compact_numbers(alloc, query, shared)?;
+    let fewer = shared_numbers(alloc, query, shared, judgement)?;
+    let BestComparisons { best, cut_short } = comparisons_for(alloc, query, shared, judgement)?;
+    let cut_short = bounds.cut_short || domains.cut_short || cut_short;
+    Ok(QueryAdvice {
+        judgement,
+        distinct,
+        bounds,
+        domains,
+        compact,
+        shared: fewer,
+        cheaper: best,
+        cut_short,
+    })
+}

@@ -1,0 +1,146 @@
+//! What a query comes to.
+ghost use Rattle.std.specs.Prelude.{◌≡◌, ◌≤◌, IsFalse, length, IfOk};
+ghost use Rattle.bq_model.specs.Query.{is_filter};
+ghost use Rattle.bq_model.specs.Parts.{AreParts};
+ghost use Rattle.bq_lto_split.specs.Split.{sign_lists};
+ghost use Rattle.bq_mend.specs.Sets.{IsMendOf};
+ghost use Rattle.bq_mend.specs.Numbered.{IsJudgement, IsJudgementWith, AreNumbersWith, accepted, shares};
+
+use crate::mend::Mend;
+use crate::writing::written;
+use bq_layout::{LayoutError, lay_out};
+use bq_lto_split::{SplitError, split};
+use bq_model::{Attr, Condition, Numbers, Part, Plan, Query, Which};
+use std::alloc::{AllocError, Global};
+
+/// What a query comes to, whatever pages are free.
+#[derive(Clone, Copy, Debug, PartialEq, Eq)]
+pub enum Judgement {
+    /// It answers each row by that row alone.
+    Filter,
+    /// It meets all conditions, and its numbers are within their limits.
+    Accepted(Numbers),
+    /// It meets all conditions. The first of cells, answers and work that is above its limit, and that number, or 2^64 - 1 where it is above that.
+    Above {
+        which: Which,
+        value: u64,
+    },
+    /// The first part that breaks a condition, in it the first condition, and for it the first column.
+    Violation {
+        part: u32,
+        condition: Condition,
+        attr: Attr,
+    },
+    /// It has more than 4,096 parts.
+    ManyParts,
+}
+
+// What a query that is no filter comes to, by its parts.
+fn judge_parts(
+    alloc: Global,
+    query: &Query,
+    shared: bool,
+    parts: &[Part],
+) -> Result<Judgement, AllocError>
+    requires plain { IsFalse (is_filter query.now) }
+    requires parts { AreParts query.now (sign_lists parts.now) }
+    requires few { length parts.now ≤ 4096 }
+    ensures { IfOk result (IsJudgement shared query.now) }
+{
+    match lay_out(alloc, query, parts, shared) {
+        Ok(Plan::Filter) => Ok(Judgement::Filter),
+        Ok(Plan::Parts { parts: _, numbers }) => Ok(Judgement::Accepted(numbers)),
+        Err(
+            LayoutError::Violation {
+                part,
+                condition,
+                attr,
+            },
+        ) => Ok(Judgement::Violation {
+            part,
+            condition,
+            attr,
+        }),
+        Err(LayoutError::Limit { which, value }) => Ok(Judgement::Above { which, value }),
+        Err(LayoutError::Memory) => Err(AllocError),
+    }
+}
+
+/// Returns what the query comes to, with shared cells or without, as CREATE QUERY judges it but for the pages that are free. `AllocError` where the list of
+/// parts, or the plan, finds no memory.
+pub fn judge(alloc: Global, query: &Query, shared: bool) -> Result<Judgement, AllocError>
+    ensures { IfOk result (IsJudgement shared query.now) }
+{
+    if query.is_filter() {
+        return Ok(Judgement::Filter);
+    }
+    match split(alloc, query) {
+        Ok(parts) => judge_parts(alloc, query, shared, &parts),
+        Err(SplitError::TooManyParts) => Ok(Judgement::ManyParts),
+        Err(SplitError::Memory) => Err(AllocError),
+    }
+}
+
+// Whether boxes that are the same have their cells once, with a change.
+fn shares(mend: &Mend, shared: bool) -> bool
+    ensures { result ≡ shares mend.now shared }
+{
+    match mend {
+        Mend::Shared => true,
+        Mend::Distinct | Mend::Domains(_) | Mend::Bounds(_) | Mend::Comparison(_) | Mend::Compact =>
+            shared,
+    }
+}
+
+/// Returns what the query comes to with a change, with shared cells or without, or none where it would pass a limit of a statement. `AllocError` where the list
+/// of parts, or the plan, finds no memory.
+pub fn judge_with(
+    alloc: Global,
+    query: &Query,
+    shared: bool,
+    mend: &Mend,
+) -> Result<Option<Judgement>, AllocError>
+    requires { IsMendOf query.now mend.now }
+    ensures { IfOk result (IsJudgementWith shared query.now mend.now) }
+{
+    match written(query, mend) {
+        Some(other) => match judge(alloc, &other, shares(mend, shared)) {
+            Ok(judgement) => Ok(Some(judgement)),
+            Err(fault) => Err(fault),
+        },
+        None => Ok(None),
+    }
+}
+
+// The numbers of a judgement that accepts.
+fn accepted(judgement: Option<Judgement>) -> Option<Numbers>
+    ensures { result ≡ accepted judgement }
+{
+    match judgement {
+        Some(Judgement::Accepted(numbers)) => Some(numbers),
+        Some(
+            Judgement::Filter
+            | Judgement::Above { .. }
+            | Judgement::Violation { .. }
+            | Judgement::ManyParts,
+        )
+        | None => None,
+    }
+}
+
+/// Returns the numbers of the query with a change, with shared cells or without, or none where it is not accepted with it. `AllocError` where the list of parts,
+/// or the plan, finds no memory.
+pub fn numbers_with(
+    alloc: Global,
+    query: &Query,
+    shared: bool,
+    mend: &Mend,
+) -> Result<Option<Numbers>, AllocError>
+    requires { IsMendOf query.now mend.now }
+    ensures { IfOk result (AreNumbersWith shared query.now mend.now) }
+{
+    match judge_with(alloc, query, shared, mend) {
+        Ok(judgement) => Ok(accepted(judgement)),
+        Err(fault) => Err(fault),
+    }
+}

@@ -1,0 +1,4 @@
+pub mod Bytes
+pub mod Hints
+pub mod Sentences
+pub mod Texts

@@ -1,0 +1,179 @@
+-- The sentence of each fault.
+use Rattle.std.specs.Prelude.{ℕ, ◌+◌, ◌==◌, ℤ, List, [], ◌∷◌, ◌++◌, map, take, drop, if◌then◌else◌, decimal, codes, unwrap_or, Option, Some, None}
+use Rattle.std.specs.List.{flat_map, list_any, slice_index_or}
+use Rattle.std.specs.Fmt.{signed_decimal}
+use Rattle.bq_text.specs.Blank.{trimmed}
+use Rattle.bq_text.specs.Word.{is_letter}
+use Rattle.bq_schema.specs.Streams.{Shape, column_names, shape_at, stream_number, domain_at}
+use Rattle.bq_schema.specs.Rows.{fields_of}
+use Rattle.bq_parser.specs.declared.parsing.What.{What}
+use Rattle.bq_parser.specs.declared.parsing.What.TheVariants as limits
+use Rattle.bq_parser.specs.declared.tree.ColumnAst.{ColumnAst}
+use Rattle.bq_parser.specs.Naming.{column_text}
+use Rattle.bq_sentences.specs.declared.texts.TheConstants as texts
+use Rattle.bq_diagnosis.specs.declared.candidates.Candidate.{Candidate}
+use Rattle.bq_sentences.specs.declared.hints.Hint.{Hint}
+use Rattle.bq_sentences.specs.declared.hints.Hint.TheVariants as hints
+use Rattle.bq_sentences.specs.declared.hints.Standing.{Standing}
+use Rattle.bq_sentences.specs.declared.hints.Standing.TheVariants as standing
+use Rattle.bq_diagnosis.specs.declared.fault.Fault.{Fault}
+use Rattle.bq_diagnosis.specs.declared.fault.Fault.TheVariants as faults
+use Rattle.bq_sentences.specs.Bytes.{is_quote}
+use Rattle.bq_diagnosis.specs.Candidates.{told_as}
+use Rattle.bq_sentences.specs.Hints.{hint_of, standing_of}
+
+-- a limit that is passed
+abbrev pub limit_text : What → List ℕ
+limit_text limits.Name = texts.LIMIT_NAME.now
+limit_text limits.Columns = texts.LIMIT_COLUMNS.now
+limit_text limits.Select = texts.LIMIT_SELECT.now
+limit_text limits.From = texts.LIMIT_FROM.now
+limit_text limits.Atoms = texts.LIMIT_ATOMS.now
+limit_text limits.Soft = texts.LIMIT_SOFT.now
+limit_text limits.Attrs = texts.LIMIT_ATTRS.now
+limit_text limits.Value = texts.LIMIT_VALUE.now
+limit_text limits.Consts = texts.LIMIT_CONSTS.now
+limit_text limits.Domain = texts.LIMIT_DOMAIN.now
+limit_text limits.Tuple = texts.LIMIT_TUPLE.now
+
+-- what is meant
+abbrev pub hint_text : Hint → List ℕ
+hint_text hints.ByteOrderMark = texts.HINT_BOM.now
+hint_text hints.Quoted = texts.HINT_QUOTED.now
+hint_text hints.Unequal = texts.HINT_UNEQUAL.now
+hint_text hints.Star = texts.HINT_STAR.now
+hint_text hints.AtMost = texts.HINT_AT_MOST.now
+hint_text hints.AtLeast = texts.HINT_AT_LEAST.now
+hint_text hints.Equal = texts.HINT_EQUAL.now
+hint_text hints.Decimal = texts.HINT_DECIMAL.now
+hint_text hints.Or = texts.HINT_OR.now
+hint_text hints.BareColumn = texts.HINT_BARE_COLUMN.now
+hint_text hints.ReservedName = texts.HINT_RESERVED.now
+hint_text hints.BareRow = texts.HINT_BARE_ROW.now
+
+-- what stands at a place
+abbrev pub standing_text : Standing → List ℕ
+standing_text standing.End = texts.STANDS_END.now
+standing_text standing.Word = texts.STANDS_WORD.now
+standing_text standing.Reserved = texts.STANDS_RESERVED.now
+standing_text standing.Integer = texts.STANDS_INTEGER.now
+standing_text standing.Sign = texts.STANDS_SIGN.now
+standing_text standing.Strange = texts.STANDS_STRANGE.now
+
+-- texts with a comma and a space between two
+abbrev pub listed : {X : Type 0} → (X → List ℕ) → List X → List ℕ
+listed f [] = []
+listed f (x ∷ xs) = f x ++ flat_map (λ y. codes ", " ++ f y) xs
+
+-- a name is told by its bytes
+abbrev pub name_text : List ℕ → List ℕ
+name_text name = name
+
+-- names that are there
+abbrev pub there_are : List (List ℕ) → List ℕ
+there_are [] = texts.THERE_IS_NONE.now
+there_are (x ∷ xs) = texts.THERE_ARE.now ++ listed name_text (x ∷ xs)
+
+-- the names of streams
+abbrev pub stream_names : List Shape → List (List ℕ)
+stream_names streams = map (λ s. s.name) streams
+
+-- what may stand at a place
+abbrev pub next_text : List Candidate → List ℕ
+next_text [] = texts.NOTHING_MAY.now
+next_text (c ∷ next) = texts.MAY_STAND.now ++ listed told_as (c ∷ next)
+
+-- what is meant, or else what stands at the place and what may stand there
+abbrev pub meant_or : Option Hint → List ℕ → List Candidate → List ℕ
+meant_or (Some hint) rest next = hint_text hint
+meant_or None rest next = standing_text (standing_of rest) ++ next_text next
+
+-- where the grammar is left
+abbrev pub syntax_text : List ℕ → ℕ → List Candidate → List Shape → List ℕ
+syntax_text text at next streams = meant_or (hint_of (take at text) (drop at text) next streams) (drop at text) next
+
+-- a name between two texts
+unfoldable pub around : List ℕ → List ℕ → List ℕ → List ℕ
+around lead name tail = lead ++ (name ++ (tail ++ []))
+
+-- why a field is no integer
+abbrev pub field_text : List ℕ → List ℕ
+field_text [] = texts.FIELD_EMPTY.now
+field_text (b ∷ bs) =
+    if is_quote b then texts.FIELD_QUOTED.now else
+    (if is_letter b then texts.FIELD_WORD.now else
+    (if list_any (λ c. c == 46) (b ∷ bs) then texts.FIELD_DECIMAL.now else texts.FIELD_OTHER.now))
+
+-- the field of a row line at a place, without the blanks at its ends
+abbrev pub field_at : List ℕ → ℕ → List ℕ
+field_at line place = trimmed (slice_index_or (fields_of line) place [])
+
+-- a field that is no integer
+abbrev pub value_text : List ℕ → ℕ → List ℕ
+value_text line field = around texts.FIELD.now (decimal (field + 1)) (field_text (field_at line field))
+
+-- how many fields a row wants and has, by the name of its stream and both numbers
+unfoldable pub counts_text : List ℕ → List ℕ → List ℕ → List ℕ
+counts_text name wanted found = texts.ROW_OF.now ++ (name ++ (texts.ROW_WANTS.now ++ (wanted ++ (texts.ROW_HAS.now ++ (found ++ (texts.ROW_COLUMNS.now ++ []))))))
+
+-- a row of a stream with the wrong number of fields
+abbrev pub arity_text : ℕ → ℕ → ℕ → List Shape → List ℕ
+arity_text stream wanted found streams = counts_text (shape_at streams stream).name (decimal wanted) (decimal found) ++ listed name_text (column_names (shape_at streams stream).columns)
+
+-- two ends with points between them
+abbrev pub between : List ℕ → List ℕ → List ℕ
+between lo hi = lo ++ (texts.POINTS.now ++ (hi ++ []))
+
+-- the ends of a domain, where there is one
+abbrev pub ends_text : Option (ℤ × ℤ) → List ℕ
+ends_text None = []
+ends_text (Some ends) = between (signed_decimal ends.0) (signed_decimal ends.1)
+
+-- a field that lies outside a domain
+abbrev pub outside_text : ℕ → List ℕ
+outside_text field = around texts.FIELD.now (decimal (field + 1)) texts.FIELD_OUTSIDE.now
+
+-- a value outside the domain of its column
+abbrev pub domain_text : ℕ → Option (ℤ × ℤ) → List ℕ
+domain_text field domain = outside_text field ++ ends_text domain
+
+-- a column that is none of its stream
+abbrev pub column_fault : List Shape → ColumnAst → List ℕ
+column_fault streams c = around texts.NO_COLUMN.now (column_text c) texts.NO_COLUMN_TAIL.now ++ there_are (column_names (shape_at streams (unwrap_or (stream_number streams c.stream) 255)).columns)
+
+-- the sentence of a fault of names
+unfoldable pub name_sentence : Fault → List Shape → List (List ℕ) → List ℕ
+name_sentence (faults.DuplicateStream name) streams live = around texts.STREAM_THERE.now name texts.STREAM_THERE_TAIL.now
+name_sentence (faults.DuplicateColumn name) streams live = around texts.COLUMN_TWICE.now name texts.COLUMN_TWICE_TAIL.now
+name_sentence (faults.DuplicateQuery name) streams live = around texts.QUERY_LIVE.now name texts.QUERY_LIVE_TAIL.now
+name_sentence (faults.SelfJoin name) streams live = around texts.TWICE_IN_FROM.now name texts.TWICE_IN_FROM_TAIL.now
+name_sentence (faults.NoStream name) streams live = around texts.NO_STREAM.now name texts.NO_STREAM_TAIL.now ++ there_are (stream_names streams)
+name_sentence (faults.NotInFrom column) streams live = around [] (column_text column) texts.NOT_IN_FROM_TAIL.now
+name_sentence (faults.NoColumn column) streams live = column_fault streams column
+name_sentence (faults.NoQuery name) streams live = around texts.NO_QUERY.now name texts.NO_QUERY_TAIL.now ++ there_are live
+name_sentence _ streams live = []
+
+-- the sentence of a fault of a row
+unfoldable pub row_sentence : List ℕ → Fault → List Shape → List ℕ
+row_sentence text faults.RowKey streams = texts.ROW_KEY.now
+row_sentence text (faults.RowName bytes) streams = around texts.ROW_NAME.now (decimal bytes) []
+row_sentence text faults.RowStream streams = texts.ROW_STREAM.now ++ there_are (stream_names streams)
+row_sentence text (faults.Arity stream wanted found) streams = arity_text stream wanted found streams
+row_sentence text (faults.Value field) streams = value_text text field
+row_sentence text (faults.Domain stream field) streams = domain_text field (domain_at streams stream field)
+row_sentence text _ streams = []
+
+-- the sentence of a fault, over what is left of its line, the streams, and the names of the live queries
+unfoldable pub sentence_text : List ℕ → Fault → List Shape → List (List ℕ) → List ℕ
+sentence_text text faults.LineTooLong streams live = texts.LONG_LINE.now
+sentence_text text (faults.Syntax at next) streams live = syntax_text text at next.items streams
+sentence_text text (faults.Limit what) streams live = limit_text what
+sentence_text text faults.TooManyStreams streams live = texts.MANY_STREAMS.now
+sentence_text text faults.TooManyQueries streams live = texts.MANY_QUERIES.now
+sentence_text text faults.RowKey streams live = row_sentence text faults.RowKey streams
+sentence_text text (faults.RowName bytes) streams live = row_sentence text (faults.RowName bytes) streams
+sentence_text text faults.RowStream streams live = row_sentence text faults.RowStream streams
+sentence_text text (faults.Arity stream wanted found) streams live = row_sentence text (faults.Arity stream wanted found) streams
+sentence_text text (faults.Value field) streams live = row_sentence text (faults.Value field) streams
+sentence_text text (faults.Domain stream field) streams live = row_sentence text (faults.Domain stream field) streams
+sentence_text text fault streams live = name_sentence fault streams live

@@ -1,0 +1,89 @@
+-- The text of a fault: the number of its line and the word, the line, a mark below the place where there is one, and a sentence.
+use Rattle.std.specs.Prelude.{ℕ, ◌+◌, ◌==◌, List, [], ◌∷◌, ◌++◌, length, map, take, if◌then◌else◌, nat_lt, decimal, codes, Option, Some, None}
+use Rattle.bq_schema.specs.Streams.{Shape}
+use Rattle.bq_parser.specs.LineKind.{stripped}
+use Rattle.bq_reply.specs.Texts.{word_text}
+use Rattle.bq_reply.specs.declared.word.Word.{Word}
+use Rattle.bq_diagnosis.specs.declared.fault.Fault.{Fault}
+use Rattle.bq_diagnosis.specs.declared.fault.Fault.TheVariants as faults
+use Rattle.bq_diagnosis.specs.FaultWords.{word_of}
+use Rattle.bq_sentences.specs.Sentences.{sentence_text}
+
+-- the number of a line and the word, as `line 8: Syntax`
+unfoldable pub head_text : ℕ → Word → List ℕ
+head_text number word = codes "line " ++ (decimal number ++ (codes ": " ++ (word_text word ++ (10 ∷ []))))
+
+-- a text between two spaces and another text at the end of a line
+abbrev pub enclosed : List ℕ → List ℕ → List ℕ
+enclosed text end = codes "  " ++ (text ++ (end ++ 10 ∷ []))
+
+-- the first 200 bytes of a text
+abbrev pub front_shown : List ℕ → List ℕ
+front_shown text = take 200 text
+
+-- what says that more bytes follow, where they do
+abbrev pub more_text : List ℕ → List ℕ
+more_text text = if nat_lt 200 (length text) then codes ".." else []
+
+-- the line behind two spaces: its first 200 bytes, and `..` where there are more
+unfoldable pub quoted_text : List ℕ → List ℕ
+quoted_text text = enclosed (front_shown text) (more_text text)
+
+-- a blank as wide as a byte: a tab for a tab, and else a space
+abbrev pub blank_for : ℕ → ℕ
+blank_for b = if b == 9 then 9 else 32
+
+-- a mark below the place behind a front of the line
+abbrev pub mark_line : List ℕ → List ℕ
+mark_line front = enclosed (map blank_for front) (codes "^")
+
+-- the mark below a place, where the place is shown
+abbrev pub mark_text : List ℕ → Option ℕ → List ℕ
+mark_text text None = []
+mark_text text (Some at) = if nat_lt 200 at then [] else mark_line (take at text)
+
+-- the line and the mark below a place
+abbrev pub marked_text : List ℕ → Option ℕ → List ℕ
+marked_text text place = quoted_text text ++ mark_text text place
+
+-- the place of a fault in its line
+abbrev pub place_of : Fault → Option ℕ
+place_of (faults.Syntax at next) = Some at
+place_of faults.RowKey = Some 0
+place_of (faults.RowName bytes) = Some 0
+place_of faults.RowStream = Some 0
+place_of _ = None
+
+-- the line and its mark; a line that is too long is not shown
+unfoldable pub shown_text : List ℕ → Fault → List ℕ
+shown_text text faults.LineTooLong = []
+shown_text text fault = marked_text text (place_of fault)
+
+-- a place by its number from 1
+abbrev pub byte_text : ℕ → List ℕ
+byte_text at = codes "at byte " ++ (decimal (at + 1) ++ codes ": ")
+
+-- the place by its number from 1, where it is not shown
+unfoldable pub place_text : Option ℕ → List ℕ
+place_text None = []
+place_text (Some at) = if nat_lt 200 at then byte_text at else []
+
+-- the place where it is not shown, the sentence, and the end of its line
+abbrev pub placed_text : List ℕ → Fault → List Shape → List (List ℕ) → List ℕ
+placed_text text fault streams live = place_text (place_of fault) ++ (sentence_text text fault streams live ++ 10 ∷ [])
+
+-- two spaces
+unfoldable pub indent : List ℕ
+indent = codes "  "
+
+-- the line with the sentence
+abbrev pub sentence_line : List ℕ → Fault → List Shape → List (List ℕ) → List ℕ
+sentence_line text fault streams live = indent ++ placed_text text fault streams live
+
+-- the line, its mark, and the line with the sentence
+abbrev pub body_text : List ℕ → Fault → List Shape → List (List ℕ) → List ℕ
+body_text text fault streams live = shown_text text fault ++ sentence_line text fault streams live
+
+-- the text of a fault of a line with this number, over the streams and the names of the live queries
+abbrev pub fault_text : ℕ → List ℕ → Fault → List Shape → List (List ℕ) → List ℕ
+fault_text number line fault streams live = head_text number (word_of fault) ++ body_text (stripped line) fault streams live

@@ -1,0 +1,121 @@
+//! Lists of names and of candidates, as they are written.
+ghost use Rattle.std.specs.Prelude.{◌≡◌, ◌++◌, ◌≤◌, length, map, codes};
+ghost use Rattle.std.specs.List.{flat_map};
+ghost use Rattle.bq_io.specs.Sink.{Writes};
+ghost use Rattle.bq_schema.specs.Streams.{column_names};
+ghost use Rattle.bq_diagnosis.specs.Candidates as told;
+ghost use Rattle.bq_sentences.specs.Sentences.{listed, name_text, there_are, stream_names, next_text};
+
+use crate::texts::{MAY_STAND, NOTHING_MAY, THERE_ARE, THERE_IS_NONE};
+use arrayvec::ArrayVec;
+use bq_diagnosis::{Candidate, told_as};
+use bq_io::{Sink, WriteFault, write_all, write_pieces};
+use bq_schema::{Catalog, ColumnDef};
+use bq_text::Name;
+
+// A text behind a comma and a space.
+fn write_next<'a, O: Sink>(out: &mut O, text: &'a [u8]) -> Result<(), WriteFault>
+    ensures { Writes result (O.seen out.old) (O.seen out.new) (codes ", " ++ text.now) }
+{
+    let pieces: [&[u8]; 2] = [b", ", text];
+    write_pieces(out, &pieces)
+}
+
+// Each name behind a comma and a space.
+fn write_more_names<O: Sink>(out: &mut O, names: &[Name]) -> Result<(), WriteFault>
+    ensures { Writes result (O.seen out.old) (O.seen out.new) (flat_map (λ n. codes ", " ++ name_text n) names.now) }
+{
+    for name in names {
+        write_next(out, name.bytes())?;
+    }
+    Ok(())
+}
+
+/// Writes names, with a comma and a space between two.
+#[tactic(auto, using(crate::proofs::Writers::writes_after))]
+pub fn write_names<O: Sink>(out: &mut O, names: &[Name]) -> Result<(), WriteFault>
+    ensures { Writes result (O.seen out.old) (O.seen out.new) (listed name_text names.now) }
+{
+    match names {
+        [] => Ok(()),
+        [first, others @ ..] => {
+            write_all(out, first.bytes())?;
+            write_more_names(out, others)
+        }
+    }
+}
+
+/// Writes which names there are, or that there is none.
+#[tactic(auto, using(crate::proofs::Writers::writes_after))]
+pub fn write_there_are<O: Sink>(out: &mut O, names: &[Name]) -> Result<(), WriteFault>
+    ensures { Writes result (O.seen out.old) (O.seen out.new) (there_are names.now) }
+{
+    match names {
+        [] => write_all(out, THERE_IS_NONE),
+        [_, ..] => {
+            write_all(out, THERE_ARE)?;
+            write_names(out, names)
+        }
+    }
+}
+
+// Each candidate behind a comma and a space.
+fn write_more_candidates<O: Sink>(out: &mut O, candidates: &[Candidate]) -> Result<(), WriteFault>
+    ensures { Writes result (O.seen out.old) (O.seen out.new) (flat_map (λ c. codes ", " ++ told.told_as c) candidates.now) }
+{
+    for candidate in candidates {
+        write_next(out, told_as(*candidate))?;
+    }
+    Ok(())
+}
+
+// Candidates, with a comma and a space between two.
+#[tactic(auto, using(crate::proofs::Writers::writes_after))]
+fn write_candidates<O: Sink>(out: &mut O, candidates: &[Candidate]) -> Result<(), WriteFault>
+    ensures { Writes result (O.seen out.old) (O.seen out.new) (listed told.told_as candidates.now) }
+{
+    match candidates {
+        [] => Ok(()),
+        [first, others @ ..] => {
+            write_all(out, told_as(*first))?;
+            write_more_candidates(out, others)
+        }
+    }
+}
+
+/// Writes what may stand at a place.
+#[tactic(auto, using(crate::proofs::Writers::writes_after))]
+pub fn write_may_stand<O: Sink>(out: &mut O, next: &[Candidate]) -> Result<(), WriteFault>
+    ensures { Writes result (O.seen out.old) (O.seen out.new) (next_text next.now) }
+{
+    match next {
+        [] => write_all(out, NOTHING_MAY),
+        [_, ..] => {
+            write_all(out, MAY_STAND)?;
+            write_candidates(out, next)
+        }
+    }
+}
+
+/// Returns the names of the streams, in order.
+pub fn names_of_streams(catalog: &Catalog) -> ArrayVec<Name, 16>
+    ensures { result.items ≡ stream_names catalog.now }
+{
+    let mut names = ArrayVec::new();
+    for stream in 0..catalog.len() {
+        names.push(*catalog.stream_name(stream));
+    }
+    names
+}
+
+/// Returns the names of at most 8 columns, in order.
+pub fn names_of_columns(columns: &[ColumnDef]) -> ArrayVec<Name, 8>
+    requires { length columns.now ≤ 8 }
+    ensures { result.items ≡ column_names columns.now }
+{
+    let mut names = ArrayVec::new();
+    for column in columns {
+        names.push(column.name);
+    }
+    names
+}

@@ -1,0 +1,205 @@
+//! The sentence of each fault.
+ghost use Rattle.std.specs.Prelude.{◌≡◌, ◌++◌, take, drop};
+ghost use Rattle.bq_io.specs.Sink.{Writes};
+ghost use Rattle.bq_sentences.specs.Hints as hints;
+ghost use Rattle.bq_sentences.specs.Sentences as sentences;
+
+use crate::hints::{Hint, Standing, hint_of, standing_of};
+use crate::lists::write_may_stand;
+use crate::sayings::{
+    write_arity, write_around, write_around_names, write_column, write_domain, write_long_name,
+    write_no_column, write_no_stream, write_streams, write_value,
+};
+use crate::texts;
+use bq_diagnosis::{Candidate, Fault, Known, front_of, rest_of};
+use bq_io::{Sink, WriteFault, write_all};
+use bq_parser::What;
+use bq_schema::Catalog;
+
+// The sentence of a limit.
+fn limit_text(what: What) -> &'static [u8]
+    ensures { result.now ≡ sentences.limit_text what }
+{
+    match what {
+        What::Name => texts::LIMIT_NAME,
+        What::Columns => texts::LIMIT_COLUMNS,
+        What::Select => texts::LIMIT_SELECT,
+        What::From => texts::LIMIT_FROM,
+        What::Atoms => texts::LIMIT_ATOMS,
+        What::Soft => texts::LIMIT_SOFT,
+        What::Attrs => texts::LIMIT_ATTRS,
+        What::Value => texts::LIMIT_VALUE,
+        What::Consts => texts::LIMIT_CONSTS,
+        What::Domain => texts::LIMIT_DOMAIN,
+        What::Tuple => texts::LIMIT_TUPLE,
+    }
+}
+
+// The sentence of what is meant.
+fn hint_text(hint: Hint) -> &'static [u8]
+    ensures { result.now ≡ sentences.hint_text hint }
+{
+    match hint {
+        Hint::ByteOrderMark => texts::HINT_BOM,
+        Hint::Quoted => texts::HINT_QUOTED,
+        Hint::Unequal => texts::HINT_UNEQUAL,
+        Hint::Star => texts::HINT_STAR,
+        Hint::AtMost => texts::HINT_AT_MOST,
+        Hint::AtLeast => texts::HINT_AT_LEAST,
+        Hint::Equal => texts::HINT_EQUAL,
+        Hint::Decimal => texts::HINT_DECIMAL,
+        Hint::Or => texts::HINT_OR,
+        Hint::BareColumn => texts::HINT_BARE_COLUMN,
+        Hint::ReservedName => texts::HINT_RESERVED,
+        Hint::BareRow => texts::HINT_BARE_ROW,
+    }
+}
+
+// The sentence of what stands at a place.
+fn standing_text(standing: Standing) -> &'static [u8]
+    ensures { result.now ≡ sentences.standing_text standing }
+{
+    match standing {
+        Standing::End => texts::STANDS_END,
+        Standing::Word => texts::STANDS_WORD,
+        Standing::Reserved => texts::STANDS_RESERVED,
+        Standing::Integer => texts::STANDS_INTEGER,
+        Standing::Sign => texts::STANDS_SIGN,
+        Standing::Strange => texts::STANDS_STRANGE,
+    }
+}
+
+// What stands at a place, and what may stand there.
+#[tactic(auto, using(crate::proofs::Writers::writes_after))]
+fn write_standing<O: Sink>(out: &mut O, rest: &[u8], next: &[Candidate]) -> Result<(), WriteFault>
+    ensures { Writes result (O.seen out.old) (O.seen out.new) (sentences.standing_text (hints.standing_of rest.now) ++ sentences.next_text next.now) }
+{
+    write_all(out, standing_text(standing_of(rest)))?;
+    write_may_stand(out, next)
+}
+
+// Where the grammar is left: what is meant, or else what stands there and what may.
+fn write_syntax<O: Sink>(
+    out: &mut O,
+    text: &[u8],
+    at: u16,
+    next: &[Candidate],
+    catalog: &Catalog,
+) -> Result<(), WriteFault>
+    ensures { Writes result (O.seen out.old) (O.seen out.new) (sentences.syntax_text text.now at next.now catalog.now) }
+{
+    let rest = rest_of(text, at);
+    match hint_of(front_of(text, at), rest, next, catalog) {
+        Some(hint) => write_all(out, hint_text(hint)),
+        None => write_standing(out, rest, next),
+    }
+}
+
+// The sentence of a fault of names.
+#[tactic(auto, unfolding(crate::specs::Sentences::name_sentence))]
+fn write_name_sentence<O: Sink>(
+    out: &mut O,
+    fault: &Fault,
+    known: &Known<'_>,
+) -> Result<(), WriteFault>
+    ensures { Writes result (O.seen out.old) (O.seen out.new) (sentences.name_sentence fault.now known.now.catalog.now known.now.live.now) }
+{
+    match fault {
+        Fault::DuplicateStream { name } => {
+            write_around(
+                out,
+                texts::STREAM_THERE,
+                name.bytes(),
+                texts::STREAM_THERE_TAIL,
+            )
+        }
+        Fault::DuplicateColumn { name } => {
+            write_around(
+                out,
+                texts::COLUMN_TWICE,
+                name.bytes(),
+                texts::COLUMN_TWICE_TAIL,
+            )
+        }
+        Fault::DuplicateQuery { name } => {
+            write_around(out, texts::QUERY_LIVE, name.bytes(), texts::QUERY_LIVE_TAIL)
+        }
+        Fault::SelfJoin { name } => {
+            write_around(
+                out,
+                texts::TWICE_IN_FROM,
+                name.bytes(),
+                texts::TWICE_IN_FROM_TAIL,
+            )
+        }
+        Fault::NoStream { name } => write_no_stream(out, name, known.catalog),
+        Fault::NotInFrom { column } => write_column(out, b"", column, texts::NOT_IN_FROM_TAIL),
+        Fault::NoColumn { column } => write_no_column(out, column, known.catalog),
+        Fault::NoQuery { name } => write_around_names(
+            out,
+            texts::NO_QUERY,
+            name.bytes(),
+            texts::NO_QUERY_TAIL,
+            known.live,
+        ),
+        _ => Ok(()),
+    }
+}
+
+// The sentence of a fault of a row.
+#[tactic(auto, unfolding(crate::specs::Sentences::row_sentence))]
+fn write_row_sentence<O: Sink>(
+    out: &mut O,
+    text: &[u8],
+    fault: &Fault,
+    catalog: &Catalog,
+) -> Result<(), WriteFault>
+    ensures { Writes result (O.seen out.old) (O.seen out.new) (sentences.row_sentence text.now fault.now catalog.now) }
+{
+    match fault {
+        Fault::RowKey => write_all(out, texts::ROW_KEY),
+        Fault::RowName { bytes } => write_long_name(out, *bytes),
+        Fault::RowStream => write_streams(out, texts::ROW_STREAM, catalog),
+        Fault::Arity {
+            stream,
+            wanted,
+            found,
+        } => write_arity(out, *stream, *wanted, *found, catalog),
+        Fault::Value { field } => write_value(out, text, *field),
+        Fault::Domain { stream, field } => write_domain(out, *stream, *field, catalog),
+        _ => Ok(()),
+    }
+}
+
+/// Writes the sentence of a fault, over what is left of its line.
+#[tactic(auto, unfolding(crate::specs::Sentences::sentence_text))]
+pub fn write_sentence<O: Sink>(
+    out: &mut O,
+    text: &[u8],
+    fault: &Fault,
+    known: &Known<'_>,
+) -> Result<(), WriteFault>
+    ensures { Writes result (O.seen out.old) (O.seen out.new) (sentences.sentence_text text.now fault.now known.now.catalog.now known.now.live.now) }
+{
+    match fault {
+        Fault::LineTooLong => write_all(out, texts::LONG_LINE),
+        Fault::Syntax { at, next } => write_syntax(out, text, *at, next.as_slice(), known.catalog),
+        Fault::Limit { what } => write_all(out, limit_text(*what)),
+        Fault::TooManyStreams => write_all(out, texts::MANY_STREAMS),
+        Fault::TooManyQueries => write_all(out, texts::MANY_QUERIES),
+        Fault::RowKey
+        | Fault::RowName { .. }
+        | Fault::RowStream
+        | Fault::Arity { .. }
+        | Fault::Value { .. }
+        | Fault::Domain { .. } => write_row_sentence(out, text, fault, known.catalog),
+        Fault::DuplicateStream { .. }
+        | Fault::DuplicateColumn { .. }
+        | Fault::DuplicateQuery { .. }
+        | Fault::SelfJoin { .. }
+        | Fault::NoStream { .. }
+        | Fault::NotInFrom { .. }
+        | Fault::NoColumn { .. }
+        | Fault::NoQuery { .. } => write_name_sentence(out, fault, known),
+    }
+}

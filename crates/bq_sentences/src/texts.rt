@@ -1,0 +1,149 @@
+//! The sentences, as they are written. Where one has a name or a number in it, its pieces stand here one behind the other.
+
+pub const LONG_LINE: &[u8] = b"a line has at most 1024 bytes, and this has more";
+
+pub const STREAM_THERE: &[u8] = b"there is a stream ";
+
+pub const STREAM_THERE_TAIL: &[u8] = b" already: leave this line out, or take another name";
+
+pub const COLUMN_TWICE: &[u8] = b"two columns have the name ";
+
+pub const COLUMN_TWICE_TAIL: &[u8] = b": rename one of them";
+
+pub const QUERY_LIVE: &[u8] = b"a live query has the name ";
+
+pub const QUERY_LIVE_TAIL: &[u8] = b": drop that one before, or take another name";
+
+pub const MANY_STREAMS: &[u8] =
+    b"there are 16 streams, and that is the most: let one stand for two, with a column that tells them apart";
+
+pub const MANY_QUERIES: &[u8] = b"64 queries are live, and that is the most: drop one before";
+
+pub const NO_STREAM: &[u8] = b"FROM names ";
+
+pub const NO_STREAM_TAIL: &[u8] = b", and there is no such stream; ";
+
+pub const NOT_IN_FROM_TAIL: &[u8] =
+    b" is a column of a stream that FROM does not name: add it to FROM";
+
+pub const NO_COLUMN: &[u8] = b"there is no column ";
+
+pub const NO_COLUMN_TAIL: &[u8] = b"; ";
+
+pub const TWICE_IN_FROM: &[u8] = b"FROM names ";
+
+pub const TWICE_IN_FROM_TAIL: &[u8] =
+    b" twice: create a second stream with the same columns, and send it the same rows";
+
+pub const NO_QUERY: &[u8] = b"no live query has the name ";
+
+pub const NO_QUERY_TAIL: &[u8] = b"; ";
+
+pub const THERE_ARE: &[u8] = b"there are: ";
+
+pub const THERE_IS_NONE: &[u8] = b"there is none";
+
+pub const ROW_KEY: &[u8] = b"a row begins with the name of its stream, and this word is reserved";
+
+pub const ROW_NAME: &[u8] = b"a name has at most 24 bytes, and this has ";
+
+pub const ROW_STREAM: &[u8] =
+    b"a row begins with the name of its stream, and there is no such stream; ";
+
+pub const ROW_OF: &[u8] = b"fields wanted by a row of ";
+
+pub const ROW_WANTS: &[u8] = b": ";
+
+pub const ROW_HAS: &[u8] = b", found: ";
+
+pub const ROW_COLUMNS: &[u8] = b"; its columns are: ";
+
+pub const FIELD: &[u8] = b"field ";
+
+pub const FIELD_EMPTY: &[u8] = b" is empty: a row has an integer for each column";
+
+pub const FIELD_QUOTED: &[u8] = b" is quoted: an integer stands without quotation marks";
+
+pub const FIELD_DECIMAL: &[u8] = b" has a point: count in smaller units, as 125 tenths for 12.5";
+
+pub const FIELD_WORD: &[u8] =
+    b" is a word: a row has integers alone, and a line of headings is none";
+
+pub const FIELD_OTHER: &[u8] =
+    b" is no integer of 64 bits, from -9223372036854775808 to 9223372036854775807";
+
+pub const FIELD_OUTSIDE: &[u8] = b" lies outside the domain of its column, ";
+
+pub const POINTS: &[u8] = b"..";
+
+pub const LIMIT_NAME: &[u8] = b"a name has at most 24 bytes, and one here has more";
+
+pub const LIMIT_COLUMNS: &[u8] = b"a stream has at most 8 columns, and this has more";
+
+pub const LIMIT_SELECT: &[u8] = b"a query selects at most 8 columns, and this selects more";
+
+pub const LIMIT_FROM: &[u8] = b"FROM names at most 4 streams, and here it names more";
+
+pub const LIMIT_ATOMS: &[u8] = b"WHERE has at most 16 comparisons, and here it has more";
+
+pub const LIMIT_SOFT: &[u8] =
+    b"at most 8 comparisons have <=, >= or <>, and here more have: write a < 6 for a <= 5, and a > 4 for a >= 5";
+
+pub const LIMIT_ATTRS: &[u8] =
+    b"the comparisons name at most 12 different columns, and here they name more";
+
+pub const LIMIT_VALUE: &[u8] =
+    b"an integer has at most 15 digits, and one of a line of a checkpoint at most 64 bits; one here has more";
+
+pub const LIMIT_CONSTS: &[u8] =
+    b"the comparisons name at most 6 different integers, and here they name more";
+
+pub const LIMIT_DOMAIN: &[u8] =
+    b"the first integer of a domain is at most the second, and here one is greater: exchange the two";
+
+pub const LIMIT_TUPLE: &[u8] = b"a tuple has at most 8 integers, and this has more";
+
+pub const HINT_BOM: &[u8] =
+    b"a byte order mark stands here, which many editors do not show: save the file without one";
+
+pub const HINT_QUOTED: &[u8] = b"nothing is quoted: a name and an integer stand as they are";
+
+pub const HINT_UNEQUAL: &[u8] = b"unequal is written <>";
+
+pub const HINT_STAR: &[u8] = b"* stands for no columns: name each that is selected";
+
+pub const HINT_AT_MOST: &[u8] = b"at most is written <=";
+
+pub const HINT_AT_LEAST: &[u8] = b"at least is written >=";
+
+pub const HINT_EQUAL: &[u8] = b"equal is written = once";
+
+pub const HINT_DECIMAL: &[u8] =
+    b"an integer has no point: count in smaller units, as 125 tenths for 12.5";
+
+pub const HINT_OR: &[u8] =
+    b"comparisons are joined by AND alone: create a query for each side of OR";
+
+pub const HINT_BARE_COLUMN: &[u8] = b"a column is written with its stream, as Host.id";
+
+pub const HINT_RESERVED: &[u8] =
+    b"this word is reserved, and no name: take another, as one with _ behind it";
+
+pub const HINT_BARE_ROW: &[u8] =
+    b"a row has commas between its stream and its integers, as Host,1,2";
+
+pub const STANDS_END: &[u8] = b"the line ends here";
+
+pub const STANDS_WORD: &[u8] = b"a word stands here";
+
+pub const STANDS_RESERVED: &[u8] = b"a reserved word stands here";
+
+pub const STANDS_INTEGER: &[u8] = b"an integer stands here";
+
+pub const STANDS_SIGN: &[u8] = b"a sign stands here";
+
+pub const STANDS_STRANGE: &[u8] = b"a byte stands here that begins no word, integer or sign";
+
+pub const MAY_STAND: &[u8] = b", where may stand: ";
+
+pub const NOTHING_MAY: &[u8] = b", where the statement has ended";
