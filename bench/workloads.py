@@ -256,8 +256,29 @@ def many_answers(different):
     return Workload(name, head, lambda r: f"S,{1 + r.randrange(100)}", python=python, share=20)
 
 
+def untouched(live):
+    """So many live filters, none of which a row concerns: what each of them costs is the difference of two of these."""
+    head = ["CREATE STREAM S (a, b)"]
+    head += [f"CREATE QUERY q{i} AS SELECT S.a FROM S WHERE S.b > {1000 + 10 * i} AND S.b < {1010 + 10 * i}" for i in range(live)]
+    return Workload(f"{live} live filters that no row concerns", head, lambda r: f"S,{r.randrange(1000)},{r.randrange(1000)}")
+
+
+def resumed():
+    """The hot rooms with rooms 1 to 64 in a session that goes on from a checkpoint: each room was hot once, and has its greatest reading and its least cap."""
+    head = ["CREATE STREAM Reading (room, celsius)", "CREATE STREAM Cap (room, celsius)"]
+    head += [
+        "CREATE QUERY hot AS SELECT DISTINCT Reading.room FROM Reading, Cap WHERE Reading.room = Cap.room "
+        "AND Reading.room > 0 AND Reading.room < 65 AND Reading.celsius > 1000 AND Cap.celsius > 1000 AND Reading.celsius > Cap.celsius"
+    ]
+    head += ["RESUME 128", "RESUME hot AS 128"]
+    head += [f"RESUME hot FROM {room} 1500" for room in range(64)]
+    head += [f"RESUME hot FROM {64 + room} 1400" for room in range(64)]
+    head += [f"RESUME hot SELECT {1 + room}" for room in range(64)]
+    return Workload("hot rooms gone on with from a checkpoint", head, lambda r: f"{r.choice(('Reading', 'Cap'))},{1 + r.randrange(64)},{1001 + r.randrange(1000)}")
+
+
 WORKLOADS = [
     no_query(), with_cr(no_query()), filters(), filters_apart(), four_conditions(False), four_conditions(True), with_cr(filters()),
     joins(), joins_apart(), distinct(), rooms(False), rooms(True), rooms_that_count(False), rooms_that_count(True),
-    many_answers(False), many_answers(True), worst(),
+    many_answers(False), many_answers(True), worst(), untouched(1), untouched(8), untouched(64), resumed(),
 ]
