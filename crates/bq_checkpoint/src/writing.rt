@@ -39,10 +39,11 @@ pub fn write_query_line<O: Sink>(
     }
 }
 
-/// Writes the lines that tell what a query keeps, whose cells lie in this pool. Where the sink fails, a front of them was written. It
-/// reads each cell of the query once.
+/// Writes the lines that tell what a query keeps, whose cells lie in this pool, after so many rows were given. Where the sink fails, a
+/// front of them was written. It reads each cell of the query once.
 pub fn write_state<O: Sink, L: Ledger>(
     name: &Name,
+    given: u64,
     kept: &Executor,
     pool: &Pool,
     out: &mut O,
@@ -50,11 +51,11 @@ pub fn write_state<O: Sink, L: Ledger>(
 ) -> Result<(), WriteFault>
     requires { IsLive pool.now kept.now.extent }
     ensures lines { Writes result (O.seen out.old) (O.seen out.new)
-        (statements_text (kept_statements name.now kept.now.query.distinct (record { cells = cells_in kept.now pool.now; table = tuples_in kept.now; given = kept.now.given }))) }
+        (statements_text (kept_statements name.now kept.now.query.distinct (record { cells = cells_in kept.now pool.now; table = tuples_in kept.now; given = given }))) }
     ensures reads { steps.new.reads ≤ steps.old.reads + sizes_in (list_in kept.now) }
     ensures writes { steps.new.writes ≡ steps.old.writes }
 {
-    match write_given(name, kept.given(), out) {
+    match write_given(name, given, out) {
         Ok(()) => match write_cells(name, kept, pool, out, steps) {
             Ok(()) => write_tuples(name, kept, out),
             Err(fault) => Err(fault),

@@ -243,7 +243,7 @@ row-from e sound pool ready r keep after taken =
       history = history e sound pool ready r a after taken keep;
     }
 
--- so does one that refused a row by its gate, seen by another name
+-- so does one that refused a row by its prefilter, seen by another name
 pub refused-from : (e x : ExecutorValue) → e ≡ x → IsSound e → (pool : PoolValue) (r : Arrival) → RowKeeps x.query r
     → Took x pool r (with_given e (e.given + 1) e.table.entries) pool → TookFrom x pool r (with_given e (e.given + 1) e.table.entries) pool
 refused-from e x same sound pool r keep took =

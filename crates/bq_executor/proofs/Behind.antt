@@ -19,10 +19,9 @@ use Rattle.bq_laws.proofs.LaidOut.{no_stream}
 use Rattle.bq_laws.proofs.SameBoxes.{are-same, same-then, same-turned, sizes-cons, stands-for, is-among}
 use Rattle.bq_laws.proofs.GrowingBoxes.{has_same}
 use Rattle.bq_laws.proofs.PlanBoxes.{has-box, alone-of}
-use Rattle.bq_executor.specs.Arriving.{has_base}
-use Rattle.bq_executor.specs.Owners.{BeginBehind}
+use Rattle.bq_index.specs.Owners.{has_base, BeginBehind}
 use Rattle.bq_executor.proofs.Inserting.{get_has}
-use Rattle.bq_executor.proofs.Owning.{begins-there}
+use Rattle.bq_index.proofs.Owning.{begins-there}
 use Rattle.bq_executor.proofs.PlanFacts.{parts_plans}
 
 -- boxes that follow from a number on begin there or behind

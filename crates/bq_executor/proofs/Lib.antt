@@ -6,8 +6,6 @@ pub mod InPart
 pub mod Founds
 pub mod Inserting
 pub mod Taken
-pub mod Telling
-pub mod Needing
 pub mod Named
 pub mod Answered
 pub mod RowAnswers
@@ -20,15 +18,12 @@ pub mod Settled
 pub mod Running
 pub mod Standings
 pub mod CallerLemmas
-pub mod PreparedParts
 pub mod ClearedNone
-pub mod GateLaws
+pub mod PrefilterLaws
 pub mod OneTuple
-pub mod Chained
 pub mod PassedOver
 pub mod Refused
 pub mod RangeLaws
-pub mod Owning
 pub mod Behind
 pub mod Bases
 pub mod CellKinds
@@ -38,3 +33,4 @@ pub mod LoadedTuples
 pub mod OldAnswers
 pub mod Closing
 pub mod OwnCells
+pub mod PassingOn

@@ -16,13 +16,14 @@ use Rattle.bq_pool.specs.Extents.{PoolValue, cells_of, with_cells, IsLive}
 use Rattle.bq_synopsis.specs.declared.own.OwnCell.{OwnCell}
 use Rattle.bq_synopsis.specs.Premises.{HasRoom}
 use Rattle.bq_synopsis.specs.Inserting.{cells_with_row}
+use Rattle.bq_synopsis.specs.Own as own_cells
 use Rattle.bq_synopsis.specs.Own.{IsOwnCell}
 use Rattle.bq_synopsis.proofs.OwnLaws.{stays-put}
 use Rattle.bq_answers.specs.Entries.{TableValue, with_entries}
 use Rattle.bq_executor.specs.Taking.{with_all, AreOld}
 use Rattle.bq_executor.specs.Arriving.{arrives, all_found, with_row, HasTaken, CanCount, AreReady, LeavesCell, AnswersNothingNew}
-use Rattle.bq_executor.specs.Owners.{takes_rows}
-use Rattle.bq_executor.proofs.Owning.{first-has, has-several}
+use Rattle.bq_index.specs.Owners.{takes_rows}
+use Rattle.bq_index.proofs.Owning.{first-has, has-several}
 use Rattle.bq_executor.proofs.InPart.{place_inside}
 use Rattle.bq_executor.proofs.Inserting.{part_plan, get_has}
 use Rattle.bq_executor.proofs.Taken.{same_owned, found_now}
@@ -34,14 +35,14 @@ turned true h = absurd cc
 turned false h = refl
 
 -- the cell that was read says that the row leaves it as it is
-pub leaves-cell : (part : PartPlan) (pos : ℕ) (values : List ℤ) (cells : List Cell) (own : OwnCell) → IsOwnCell part pos values cells own → own.with_row ≡ own.held
+pub leaves-cell : (part : PartPlan) (pos : ℕ) (values : List ℤ) (cells : List Cell) (own : OwnCell) → IsOwnCell part pos values cells own → own_cells.with_row own values ≡ own.held
     → LeavesCell part (read_from cells) pos values
 leaves-cell part pos values cells own o stays =
-    ap (λ (c : Cell). merged (stream_at part pos).kind c (content (stream_at part pos).kind (values ∷ []))) (sym o.held) ∙ sym o.with_row ∙ stays ∙ o.held
+    sym (λ i. merged (o.kind i) (o.held i) (content (o.kind i) (values ∷ []))) ∙ stays ∙ o.held
 
 module _ (q : QueryValue) (part : PartPlan) (pos : ℕ) (values : List ℤ) (e : Extent) (pool : PoolValue) where
   -- then the pool is as if the cell had taken the row
-  pub left-alone : (owns : Bool) (own : OwnCell) → IsLive pool e → IsOwnCell part pos values (cells_of pool e) own → own.with_row ≡ own.held
+  pub left-alone : (owns : Bool) (own : OwnCell) → IsLive pool e → IsOwnCell part pos values (cells_of pool e) own → own_cells.with_row own values ≡ own.held
       → pool ≡ with_row owns q part pos values e pool
   left-alone owns own live o stays = by (admits q part pos (by_column values) && owns)
     where

@@ -12,12 +12,12 @@ use Rattle.bq_pool.specs.Counted.{StepsValue}
 use Rattle.bq_answers.specs.Entries.{TableValue, with_entries}
 use Rattle.bq_executor.specs.Taking.{with_all}
 use Rattle.bq_executor.specs.Arriving.{arrives, all_found, HasTaken, AreReady}
-use Rattle.bq_executor.specs.Owners.{takes_rows}
+use Rattle.bq_index.specs.Owners.{takes_rows}
 use Rattle.bq_executor.proofs.Inserting.{part_plan}
 use Rattle.bq_executor.proofs.InPart.{none_added, found_refused, row_refused}
 use Rattle.bq_executor.proofs.Taken.{taken_start, taken_step, table_more, work_more}
-use Rattle.bq_executor.proofs.PreparedParts.{part_at}
-use Rattle.bq_executor.proofs.Chained.{NoneAdmits}
+use Rattle.bq_index.proofs.PreparedParts.{part_at}
+use Rattle.bq_index.proofs.Linked.{NoneAdmits}
 
 -- the first n parts took the row, the table has what they found, and their work and number bound the reads and the writes
 pub record HaveDone (q : QueryValue) (plan : List PartPlan) (e : Extent) (pos : ℕ) (values : List ℤ) (before : PoolValue) (start : TableValue) (paid : StepsValue) (n : ℕ) (now : PoolValue) (table : TableValue) (steps : StepsValue) : Type 0 where

@@ -33,7 +33,7 @@ use Rattle.bq_laws.proofs.Interleaving.{occurs-is}
 use Rattle.bq_laws.proofs.ByPlace.{walks-find-all}
 use Rattle.bq_synopsis.specs.Premises.{AreFitting}
 use Rattle.bq_synopsis.proofs.CallerLemmas.{walked}
-use Rattle.bq_synopsis.proofs.OneEach.{counts-are-one}
+use Rattle.bq_probe.proofs.OneEach.{counts-are-one}
 use Rattle.bq_answers.specs.Entries.{Entry, TableValue, with_entries, Ascends, has, waiting_of, settled, tuples_of}
 use Rattle.bq_answers.proofs.Changed.{ascends_settled}
 use Rattle.bq_answers.proofs.Tuples.{has_tuple}

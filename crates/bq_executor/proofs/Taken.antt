@@ -22,9 +22,9 @@ use Rattle.bq_pool.specs.declared.pool.Extent.{Extent}
 use Rattle.bq_pool.specs.Extents.{PoolValue, cells_of, with_cells, IsLive}
 use Rattle.bq_pool.proofs.CallerLemmas.{cells_of_with, live_with, written_again}
 use Rattle.bq_synopsis.specs.Premises.{HasRoom, IsReady, row_cell}
-use Rattle.bq_executor.specs.Arriving.{arrives, all_found, has_base, with_row, lies, IsInserted, HasTaken, CanCount, AreReady}
-use Rattle.bq_executor.specs.Owners.{takes_rows}
-use Rattle.bq_executor.proofs.Owning.{first-has, has-several}
+use Rattle.bq_executor.specs.Arriving.{arrives, all_found, with_row, lies, IsInserted, HasTaken, CanCount, AreReady}
+use Rattle.bq_index.specs.Owners.{has_base, takes_rows}
+use Rattle.bq_index.proofs.Owning.{first-has, has-several}
 use Rattle.bq_executor.proofs.Founds.{AgreeBeside, found-beside, all_found-append}
 use Rattle.bq_executor.proofs.InPart.{place_inside}
 use Rattle.bq_synopsis.proofs.CallerLemmas.{fits-merged}

@@ -23,6 +23,7 @@ use Rattle.bq_pool.specs.Extents.{PoolValue, cells_of, with_cells, IsLive}
 use Rattle.bq_synopsis.specs.Premises.{AreFitting, HasRoom, row_cell}
 use Rattle.bq_answers.specs.Entries.{Entry, has}
 use Rattle.bq_laws.specs.Closed.{own_place, with_own}
+use Rattle.bq_index.specs.Owners.{has_base}
 
 -- a row of the stream at a place of FROM
 abbrev pub arrives : QueryValue → ℕ → List ℤ → Arrival
@@ -31,10 +32,6 @@ arrives q pos values = record { stream = slice_index_or q.from pos 0; values = v
 -- what the cells of all parts answer to a row
 abbrev pub all_found : QueryValue → List PartPlan → Reading → Arrival → List Found
 all_found q plan read r = flat_map (λ part. found_in q part read r) plan
-
--- one of these parts has its box at a place of FROM where this one has it
-abbrev pub has_base : List PartPlan → PartPlan → ℕ → Bool
-has_base parts part place = list_any (λ p. nat_eq (stream_at p place).base (stream_at part place).base) parts
 
 -- the pool after one part took a row: where the part admits the row and takes it into a box of its own, the row's own cell takes it
 abbrev pub with_row : Bool → QueryValue → PartPlan → ℕ → List ℤ → Extent → PoolValue → PoolValue

@@ -4,10 +4,7 @@ pub mod Runs
 pub mod Written
 pub mod Taking
 pub mod Arriving
-pub mod Owners
-pub mod Chains
-pub mod Prepared
-pub mod Gate
 pub mod Known
 pub mod Bases
 pub mod Loading
+pub mod Passing

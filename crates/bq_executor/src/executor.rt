@@ -18,17 +18,18 @@ ghost use Rattle.bq_executor.specs.Executor.{IsAccepted, IsSound, arrival, cells
 ghost use Rattle.bq_executor.specs.Standing.{StandsFor, AreKept, KeepsWithin, IsReady, TookRow, future_in, pool_with};
 ghost use Rattle.bq_executor.specs.Bases.{StandsFrom, TookFrom};
 ghost use Rattle.bq_executor.specs.Loading.{loaded_given, loaded_cell, loaded_tuple, Loads};
-ghost use Rattle.bq_executor.specs.Gate.{IsRefused};
+ghost use Rattle.bq_index.specs.Prefilter.{IsRefused};
+ghost use Rattle.bq_executor.specs.Passing.{IsBoxFor};
 ghost use Rattle.bq_executor.specs.Written.{answer_lines};
 
 use crate::arrive::{Arrived, QueryAt, arrive};
-use crate::gate::{Gate, gate_of};
 use crate::loading::{cell_to_load, fill, put_printed};
 use crate::part::Scratch;
-use crate::prepared::{PreparedPlan, prepare_all};
 use crate::saturation::Saturation;
 use crate::written::put_waiting;
 use bq_answers::Answers;
+use bq_candidates::QueryBox;
+use bq_index::{Prefilter, PreparedPlan, prefilter_of, prepare_all};
 use bq_io::{Sink, WriteFault};
 use bq_model::{Cell, Plan, Query, Row, Tuple};
 use bq_pool::{Extent, Pool, Steps};
@@ -40,7 +41,7 @@ use std::sync::ledger::Ledger;
 /// A live query. Like its extent it cannot be dropped: `close` spends it.
 pub struct Executor {
     given: u64,
-    gate: Gate,
+    prefilter: Prefilter,
     table: Answers,
     query: Query,
     shared: bool,
@@ -54,14 +55,14 @@ pub struct Executor {
 impl Model for Executor {
     ghost use Rattle.bq_model.specs.Numbers.{parts_of};
     ghost use Rattle.bq_executor.specs.Executor.{ExecutorValue, IsSound};
-    ghost use Rattle.bq_executor.specs.Prepared.{IsPreparedPlan};
-    ghost use Rattle.bq_executor.specs.Gate.{IsGate};
+    ghost use Rattle.bq_index.specs.Prepared.{IsPreparedPlan};
+    ghost use Rattle.bq_index.specs.Prefilter.{IsPrefilter};
 
     ghost Value = { ExecutorValue };
 
     ghost view = { λ e. record { query = e.query; shared = e.shared; plan = e.plan; extent = e.extent; given = e.given; table = e.table; saturation = e.saturation } };
 
-    ghost invariant = { λ e. IsSound (record { query = e.query; shared = e.shared; plan = e.plan; extent = e.extent; given = e.given; table = e.table; saturation = e.saturation }) × IsPreparedPlan e.query (parts_of e.plan) e.prepared × IsGate e.query e.plan e.gate };
+    ghost invariant = { λ e. IsSound (record { query = e.query; shared = e.shared; plan = e.plan; extent = e.extent; given = e.given; table = e.table; saturation = e.saturation }) × IsPreparedPlan e.query (parts_of e.plan) e.prepared × IsPrefilter e.query e.plan e.prefilter };
 }
 
 // For how many answers a query with this plan has room.
@@ -109,13 +110,13 @@ impl Executor {
             Ok(prepared) => prepared,
             Err(error) => return Err((extent, error)),
         };
-        let gate = gate_of(&query, &plan);
+        let prefilter = prefilter_of(&query, &plan);
         let capacity = most_answers(&plan);
         let width = query.select().len() as u8;
         match Answers::new(alloc, capacity, width) {
             Ok(table) => Ok(Executor {
                 given: 0,
-                gate,
+                prefilter,
                 table,
                 query,
                 shared,
@@ -155,11 +156,11 @@ impl Executor {
         let _waits = self.take(pool, stream, row, steps);
     }
 
-    // Whether a row passes the gate; one that does not is answered nothing, and no cell takes it.
+    // Whether a row passes the prefilter; one that does not is answered nothing, and no cell takes it.
     fn passes(&self, stream: u8, row: &Row) -> bool
         ensures { result ≡ false → IsRefused self.now.query self.now.plan (arrival stream row.now.items) }
     {
-        self.gate.passes(stream, row)
+        self.prefilter.passes(stream, row)
     }
 
     // Whether an answer waits, which is given up with the next row.
@@ -201,7 +202,7 @@ impl Executor {
         self.take_up_row(passes, pool, stream, row, steps)
     }
 
-    // Takes a row as `take` does, of which it is known whether it passes the gate. It is not inlined, and the way to it is laid aside,
+    // Takes a row as `take` does, of which it is known whether it passes the prefilter. It is not inlined, and the way to it is laid aside,
     // so that a row that is refused pays nothing for it.
     #[cold]
     #[inline(never)]
@@ -213,7 +214,7 @@ impl Executor {
         row: &Row,
         steps: &mut Steps<L>,
     ) -> bool
-        requires gate { passes ≡ false → IsRefused self.old.query self.old.plan (arrival stream row.now.items) }
+        requires prefilter { passes ≡ false → IsRefused self.old.query self.old.plan (arrival stream row.now.items) }
         requires ready { IsReady self.old pool.old }
         requires keeps { RowKeeps self.old.query (arrival stream row.now.items) }
         ensures waits { (t : List ℤ) → waiting_of t self.new.table.entries ≡ min (occurs t (future_in self.old pool.old (arrival stream row.now.items))) (2 ^ 127) }
@@ -349,6 +350,22 @@ impl Executor {
         put_printed(&self.query, &self.plan, &self.prepared, t, &mut self.table)
     }
 
+    /// Counts rows up to a number as given that are refused: all else is as before.
+    pub fn pass(&mut self, given: u64)
+        requires more { self.old.given ≤ given }
+        requires few { given ≤ 2 ^ 40 }
+        ensures { self.new ≡ with_given self.old given self.old.table.entries }
+    {
+        self.given = given;
+    }
+
+    /// Returns a box of intervals outside of which each row of a stream is refused. There is none where each row of it is.
+    pub fn box_for(&self, stream: u8) -> Option<QueryBox>
+        ensures { IsBoxFor self.now.query self.now.plan stream result }
+    {
+        self.prefilter.box_for(stream)
+    }
+
     /// Returns how many rows were given.
     pub fn given(&self) -> u64
         ensures value { result ≡ self.now.given }
@@ -418,7 +435,7 @@ impl Executor {
     {
         let Executor {
             given: _,
-            gate: _gate,
+            prefilter: _prefilter,
             table: _table,
             query: _query,
             shared: _,

@@ -1,5 +1,6 @@
 //! The laws, as public functions without a body.
 ghost use Rattle.bq_executor.specs.Bases.{TakingKeepsOn, BasesAndHistories};
+ghost use Rattle.bq_executor.specs.Passing.{RefusedRowsPass};
 ghost use Rattle.bq_executor.specs.Runs.{RunsAnswerAll, RunsAgree, StandingIsReady};
 
 /// Over a run of rows each tuple waits as often as it is an answer, with DISTINCT once.
@@ -26,4 +27,9 @@ pub fn taking_keeps_on()
 /// can be the base.
 pub fn bases_and_histories()
     ensures { BasesAndHistories }
+{}
+
+/// Where no answer waits, a row that is refused is taken by counting it alone.
+pub fn refused_rows_pass()
+    ensures { RefusedRowsPass }
 {}

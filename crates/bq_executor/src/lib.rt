@@ -1,10 +1,7 @@
 //! One live query, exact for good: rows go in, and the answers that each adds wait to be written.
 //!
-//! An executor keeps no row. It has the query, its plan, an extent of cells, and one table of answers for all parts. A gate
-//! refuses a row outside the ranges that its columns have over all parts. Any other row of a stream of FROM is led by its signs
-//! to a bucket, a chain of parts that ask for the same signs, and is tested by these. Where at most 20 signs tell parts from each
-//! other or do not follow from their ranges, one number tells all signs, and these are compared by it alone. Where a part admits
-//! the row, what a walk over the cells of the other streams finds comes to wait in the table, and then the row's own cell
+//! An executor keeps no row. It has the query, its plan, an extent of cells, and one table of answers for all parts. An index
+//! leads a row to the parts that may admit it. Where a part admits the row, what a walk over the cells of the other streams finds comes to wait in the table, and then the row's own cell
 //! takes the row. With DISTINCT the table keeps every tuple that was ever answered, and a tuple waits only when it is new; a row
 //! that leaves its cell as it is is answered nothing new, and there is no walk, as long as no cell was loaded; nor is there one
 //! where the row alone tells the one tuple that a part can answer, and it is old. Without DISTINCT the table is emptied with each row. A filter has no cells. Where cells are shared, several parts have one box of cells, and the first of them takes a row into it.
@@ -19,18 +16,12 @@
 
 mod alone;
 mod arrive;
-mod bounds;
-mod chains;
 mod executor;
-mod gate;
 mod known;
 pub mod laws;
 mod loading;
-mod needed;
-mod owners;
 mod part;
 mod parts;
-mod prepared;
 mod ranges;
 mod saturation;
 mod written;

@@ -12,12 +12,12 @@ ghost use Rattle.bq_pool.specs.Extents.{cells_of, with_cells, IsLive};
 ghost use Rattle.bq_answers.specs.Entries.{with_entries, added, settled, tuples_of, Fits};
 ghost use Rattle.bq_synopsis.specs.Preparing.{IsPrepared};
 ghost use Rattle.bq_executor.specs.Bases.{is_empty};
-ghost use Rattle.bq_executor.specs.Prepared.{IsPreparedPlan};
+ghost use Rattle.bq_index.specs.Prepared.{IsPreparedPlan};
 ghost use Rattle.bq_executor.specs.Loading.{kind_at, filled_cell, has_cell, kind_in, are_inside};
 
-use crate::prepared::PreparedPlan;
 use crate::ranges::{different, put_values, range};
 use bq_answers::Answers;
+use bq_index::PreparedPlan;
 use bq_model::{Attr, Cell, Dim, Kind, PartPlan, PartPlans, Plan, Query, StreamPlan, Tuple};
 use bq_pool::{Extent, Pool, Steps};
 use bq_synopsis::Prepared;

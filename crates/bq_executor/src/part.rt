@@ -9,8 +9,9 @@ ghost use Rattle.bq_pool.specs.Extents.{cells_of};
 ghost use Rattle.bq_model.specs.Parts.{pairs};
 ghost use Rattle.bq_synopsis.specs.Premises.{IsReady};
 ghost use Rattle.bq_synopsis.specs.Preparing.{IsPrepared};
-ghost use Rattle.bq_synopsis.specs.Sides.{IsCell};
-ghost use Rattle.bq_synopsis.specs.Remaining.{as_found};
+ghost use Rattle.bq_synopsis.specs.Axes.{IsCell};
+ghost use Rattle.bq_synopsis.specs.Own as own_cells;
+ghost use Rattle.bq_probe.specs.Remaining.{as_found};
 ghost use Rattle.bq_answers.specs.Entries.{with_entries, Fits};
 ghost use Rattle.bq_executor.specs.Taking.{with_found, with_all, HaveRoom, AreOld};
 ghost use Rattle.bq_executor.specs.Arriving.{arrives, with_row, CanCount, LeavesCell};
@@ -18,22 +19,14 @@ ghost use Rattle.bq_executor.specs.Known.{AnswersOne};
 
 use crate::known::answers_one;
 use bq_answers::Answers;
-use bq_model::{PartPlan, Query, Tuple};
-use bq_pool::{Extent, Pool, Steps};
-use bq_synopsis::{Admitted, OwnCell, Prepared, Probe, Room, own_cell, put_own, sees_nothing};
+use bq_model::{Row, Tuple};
+use bq_pool::{Pool, Steps};
+use bq_probe::{PartAt, Probe, Room, sees_nothing};
+use bq_synopsis::{Admitted, OwnCell, own_cell, put_own};
 use std::sync::ledger::Ledger;
 
 /// The most times that one answer waits.
 const MOST_TIMES: u128 = 1 << 127;
-
-/// A part of a query: its plan, what it is asked of every row, and the extent of the cells.
-#[derive(Clone, Copy)]
-pub struct PartAt<'a> {
-    pub q: &'a Query,
-    pub plan: &'a PartPlan,
-    pub prepared: &'a Prepared,
-    pub extent: &'a Extent,
-}
 
 /// How a part takes a row: whether it takes it into a box of its own, and whether it is known that a row which leaves its cell as it is
 /// is answered nothing new.
@@ -52,15 +45,15 @@ impl Takes {
     }
 
     // Whether the row is known to be answered nothing new, by its own cell.
-    fn spares(self, own: &OwnCell) -> bool
+    fn spares(self, own: &OwnCell, row: &Row) -> bool
         ensures known { result ≡ true → self.known ≡ true }
-        ensures stays { result ≡ true → own.now.with_row ≡ own.now.held }
-        ensures sure { self.known ≡ true → own.now.with_row ≡ own.now.held → result ≡ true }
+        ensures stays { result ≡ true → own_cells.with_row own.now row.now.items ≡ own.now.held }
+        ensures sure { self.known ≡ true → own_cells.with_row own.now row.now.items ≡ own.now.held → result ≡ true }
     {
         if !self.known {
             return false;
         }
-        own.stays()
+        own.stays(row)
     }
 }
 
@@ -113,17 +106,7 @@ fn walk_all<L: Ledger>(
     ensures writes { steps.new.writes ≡ steps.old.writes }
 {
     let (q, plan, prepared) = (part.q, part.plan, part.prepared);
-    if sees_nothing(
-        pool,
-        part.extent,
-        q,
-        plan,
-        prepared,
-        at.pos,
-        at.row,
-        room,
-        steps,
-    ) {
+    if sees_nothing(pool, part, at, room, steps) {
         return;
     }
     let mut probe = Probe::new(q, plan, prepared, at.pos, at.row, room);
@@ -156,17 +139,7 @@ fn answer_once<L: Ledger>(
         return;
     }
     let (q, plan, prepared) = (part.q, part.plan, part.prepared);
-    if sees_nothing(
-        pool,
-        part.extent,
-        q,
-        plan,
-        prepared,
-        at.pos,
-        at.row,
-        room,
-        steps,
-    ) {
+    if sees_nothing(pool, part, at, room, steps) {
         return;
     }
     let mut probe = Probe::new(q, plan, prepared, at.pos, at.row, room);
@@ -218,7 +191,7 @@ pub fn take_part<L: Ledger>(
     requires ready { IsReady part.now.q.now part.now.plan.now pool.old part.now.extent.now }
     requires prepared { IsPrepared (pairs part.now.q.now) part.now.plan.now part.now.prepared.now }
     requires admitted { admits part.now.q.now part.now.plan.now at.now.pos (by_column at.now.row.now.items) ≡ true }
-    requires spot { IsCell part.now.plan.now at.now.pos at.now.row.now.items at.now.spot }
+    requires placement { IsCell part.now.plan.now at.now.pos at.now.row.now.items at.now.placement }
     requires several { (takes.owns || takes.known) ≡ true → 1 < length part.now.q.now.from }
     requires counts { (takes.owns || takes.known) ≡ true → CanCount part.now.plan.now (read_from (cells_of pool.old part.now.extent.now)) }
     requires old { takes.known ≡ true → LeavesCell part.now.plan.now (read_from (cells_of pool.old part.now.extent.now)) at.now.pos at.now.row.now.items → AreOld part.now.q.now.distinct (found_in part.now.q.now part.now.plan.now (read_from (cells_of pool.old part.now.extent.now)) (arrives part.now.q.now at.now.pos at.now.row.now.items)) table.old.entries }
@@ -232,10 +205,12 @@ pub fn take_part<L: Ledger>(
     // Read for the proof alone: the call tells how many streams there are.
     let _from = part.q.from();
     if !takes.looks() {
+        // Copies of its own for the call that is not inlined, so that the others stay in registers.
+        let (walked, row) = (*part, *at);
         walk(
             pool,
-            part,
-            at,
+            &walked,
+            &row,
             &mut scratch.room,
             &mut scratch.tuple,
             table,
@@ -244,13 +219,14 @@ pub fn take_part<L: Ledger>(
         return false;
     }
     let own = own_cell(pool, part.extent, part.q, part.plan, at, steps);
-    if takes.spares(&own) {
+    if takes.spares(&own, at.row) {
         return false;
     }
+    let (walked, row) = (*part, *at);
     walk(
         pool,
-        part,
-        at,
+        &walked,
+        &row,
         &mut scratch.room,
         &mut scratch.tuple,
         table,

@@ -6,14 +6,14 @@ ghost use Rattle.bq_pool.specs.Extents.{cells_of};
 ghost use Rattle.bq_answers.specs.Entries.{with_entries};
 ghost use Rattle.bq_executor.specs.Taking.{with_all, HaveRoom};
 ghost use Rattle.bq_executor.specs.Arriving.{arrives, all_found, HasTaken, AreReady, AnswersNothingNew};
-ghost use Rattle.bq_executor.specs.Prepared.{IsPreparedPlan};
+ghost use Rattle.bq_index.specs.Prepared.{IsPreparedPlan};
 
-use crate::chains::CodedRow;
-use crate::part::{PartAt, Scratch, Takes, take_part};
-use crate::prepared::PreparedPlan;
+use crate::part::{Scratch, Takes, take_part};
 use bq_answers::Answers;
+use bq_index::{CodedRow, PreparedPlan};
 use bq_model::{PartPlans, Query, Row};
 use bq_pool::{Extent, Pool, Steps};
+use bq_probe::PartAt;
 use bq_synopsis::Admitted;
 use std::sync::ledger::Ledger;
 
@@ -67,24 +67,24 @@ pub fn take_in_all<L: Ledger>(
     ensures writes { steps.new.writes ≤ steps.old.writes + length all.now.parts.now }
 {
     let (q, parts) = (all.q, all.parts);
-    let chains = all.prepared.chains(q, parts, pos);
-    let each = chains.each_owns(q, parts, pos);
-    let led = chains.first(q, parts, pos, row);
+    let part_index = all.prepared.part_index(q, parts, pos);
+    let each = part_index.each_owns(q, parts, pos);
+    let hit = part_index.first(q, parts, pos, row);
     let coded = CodedRow {
         q,
         parts,
         pos,
         row,
-        code: led.code,
+        code: hit.code,
     };
-    let mut i = led.first;
+    let mut i = hit.first;
     let mut same = true;
     'parts: while i < parts.len() {
         let plan = parts.get(i);
         let prepared = all.prepared.part(q, parts, i);
-        let spot = chains.spot_of(&coded, plan, prepared, i);
-        if spot.is_inside() {
-            let owns = chains.owns(each, q, parts, plan, pos, i);
+        let placement = part_index.placement_of(&coded, plan, prepared, i);
+        if placement.is_inside() {
+            let owns = part_index.owns(each, q, parts, plan, pos, i);
             let known = is_known(all.known, owns, same);
             let part = PartAt {
                 q,
@@ -92,18 +92,15 @@ pub fn take_in_all<L: Ledger>(
                 prepared,
                 extent: all.extent,
             };
-            let at = Admitted { row, pos, spot };
-            let changed = take_part(
-                pool,
-                &part,
-                &at,
-                Takes { owns, known },
-                scratch,
-                table,
-                steps,
-            );
+            let at = Admitted {
+                row,
+                pos,
+                placement,
+            };
+            let takes = Takes { owns, known };
+            let changed = take_part(pool, &part, &at, takes, scratch, table, steps);
             same = stays_same(same, changed);
         }
-        i = chains.after(q, parts, pos, i);
+        i = part_index.after(q, parts, pos, i);
     }
 }

@@ -1,23 +1,23 @@
 -- A scan over the cells of a slot is one over the cells of its extent, and may go by pages.
-use Rattle.std.proofs.Common.{◌≡◌, ℕ, ◌+◌, ◌-◌, ◌*◌, ◌<◌, ◌≤◌, ◌^◌, Option, None, Some, List, length, get_or, sym, ap, ◌∙◌, inl, inr, arith}
+use Rattle.std.proofs.Common.{◌≡◌, ℕ, ◌+◌, ◌-◌, ◌*◌, ◌<◌, ◌≤◌, ◌^◌, Option, None, Some, List, get_or, sym, ap, ◌∙◌, inl, inr, arith}
 use Rattle.std.proofs.lemmas.Bool.{cases_lt}
 use Rattle.bq_model.specs.declared.cell.Cell.{Cell}
 use Rattle.bq_model.specs.declared.cell.Cell.TheVariants.{Empty}
 use Rattle.bq_pool.specs.declared.pool.Extent.{Extent}
-use Rattle.bq_pool.specs.declared.scan.Filled.{Filled}
+use Rattle.bq_pool.specs.declared.scan.Occupied.{Occupied}
 use Rattle.bq_pool.specs.Places.{lent, cell_at, extents, IsSound}
 use Rattle.bq_pool.specs.Extents.{cells_of, IsLive}
-use Rattle.bq_pool.specs.Lines.{NoneFilled, IsFirst, Scanned, HasPage}
+use Rattle.bq_pool.specs.Strides.{NoneOccupied, IsFirst, Scanned, HasPage}
 use Rattle.bq_pool.proofs.Cells.{get_or-slot_cells}
 use Rattle.bq_pool.proofs.Live.{has_slot, has_room, place_within}
 
 -- a run of empty cells behind empty ones
-pub empty_on : (at : ℕ → Cell) (xs : List Cell) (first from i k : ℕ)
-    → NoneFilled (λ n. at (first + n)) from i
-    → ((j : ℕ) → j < k → get_or xs j Empty ≡ at (first + i + j))
-    → ((j : ℕ) → j < k → get_or xs j Empty ≡ Empty)
-    → NoneFilled (λ n. at (first + n)) from (i + k)
-empty_on at xs first from i k old same empty n a b =
+pub empty_on : (at here : ℕ → Cell) (first from i k : ℕ)
+    → NoneOccupied (λ n. at (first + n)) from i
+    → ((j : ℕ) → j < k → here j ≡ at (first + i + j))
+    → ((j : ℕ) → j < k → here j ≡ Empty)
+    → NoneOccupied (λ n. at (first + n)) from (i + k)
+empty_on at here first from i k old same empty n a b =
     elim (cases_lt n i) [
       | inl h ↦ old n a h
       | inr h ↦
@@ -27,36 +27,37 @@ empty_on at xs first from i k old same empty n a b =
     ]
 
 -- a run in which one cell is not empty, behind empty ones
-pub first_on : (at : ℕ → Cell) (xs : List Cell) (first from to i k : ℕ)
-    → NoneFilled (λ n. at (first + n)) from i
-    → ((j : ℕ) → j < length xs → get_or xs j Empty ≡ at (first + i + j))
-    → ((j : ℕ) → j < k → get_or xs j Empty ≡ Empty)
-    → (get_or xs k Empty ≡ Empty → ⊥)
-    → k < length xs
+pub first_on : (at here : ℕ → Cell) (first from to i k n : ℕ) (cell : Cell)
+    → NoneOccupied (λ n. at (first + n)) from i
+    → ((j : ℕ) → j < n → here j ≡ at (first + i + j))
+    → ((j : ℕ) → j < k → here j ≡ Empty)
+    → (here k ≡ Empty → ⊥)
+    → cell ≡ here k
+    → k < n
     → from ≤ i
-    → i + length xs ≤ to
-    → IsFirst (λ n. at (first + n)) from to (record { next = i + k; cell = get_or xs k Empty })
-first_on at xs first from to i k old same empty filled within a b =
+    → i + n ≤ to
+    → IsFirst (λ m. at (first + m)) from to (record { next = i + k; cell = cell })
+first_on at here first from to i k n cell old same empty occupied read within a b =
     record {
       after = omega arith;
       below = omega arith;
-      before = empty_on at xs first from i k old (λ j h. same j (omega arith)) empty;
-      cell = (let e : first + (i + k) ≡ first + i + k = omega arith in ap at e ∙ sym (same k within));
-      some = filled;
+      before = empty_on at here first from i k old (λ j h. same j (omega arith)) empty;
+      cell = (let e : first + (i + k) ≡ first + i + k = omega arith in ap at e ∙ sym (same k within) ∙ sym read);
+      some = λ h. occupied (sym read ∙ h);
     }
 
 -- cells that agree are scanned alike
-pub scanned_same : (at at' : ℕ → Cell) (from to before : ℕ) (found : Option Filled) (after : ℕ)
+pub scanned_same : (at at' : ℕ → Cell) (from to before : ℕ) (found : Option Occupied) (after : ℕ)
     → ((i : ℕ) → i < to → at i ≡ at' i)
     → Scanned at from to before found after
     → Scanned at' from to before found after
 scanned_same at at' from to before None after same s = (λ i a b. sym (same i b) ∙ s.0 i a b, s.1)
-scanned_same at at' from to before (Some filled) after same s = (
+scanned_same at at' from to before (Some occupied) after same s = (
   record {
     after = s.0.after;
     below = s.0.below;
     before = λ i a b. sym (same i (omega (arith, b, s.0.below))) ∙ s.0.before i a b;
-    cell = sym (same filled.next s.0.below) ∙ s.0.cell;
+    cell = sym (same occupied.next s.0.below) ∙ s.0.cell;
     some = s.0.some;
   },
   s.1,

@@ -2,12 +2,14 @@
 //!
 //! An extent is a run of cells, numbered from 0, whatever pages it has: they need not be adjacent, so an extent can be
 //! taken wherever enough pages are free. Extents share no page. A page table of one number per page finds a cell in two
-//! index operations; taking and giving back copies the numbers of the extent's pages, and taking empties their cells.
+//! index operations; taking and giving back copies the numbers of the extent's pages, and taking empties their cells. A word
+//! for each page marks the cells of it that are not empty, so that 64 empty cells are passed at once.
 //!
 //! Each read and each write of a cell is counted, in `Steps`. The functions that count are of this crate alone, so that what
 //! stands above can bound its reads and its writes, and cannot make or hide one.
 #![tactic(auto)]
 
+mod marked;
 mod pages;
 mod pool;
 mod scan;
@@ -15,5 +17,5 @@ mod steps;
 
 pub use bq_model::Cell;
 pub use pool::{Extent, Pool, PoolError};
-pub use scan::{Filled, Line};
+pub use scan::{Occupied, StridedCells};
 pub use steps::Steps;

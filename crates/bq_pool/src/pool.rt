@@ -1,12 +1,13 @@
 //! The page pool: a clause sees how many pages are free and the cells of each live extent.
-ghost use Rattle.std.specs.Prelude.{◌≡◌, ℕ, ◌+◌, ◌*◌, ◌<◌, ◌≤◌, length, slice_index, slice_index_or, slice_set, IfOk, MatchResult};
+ghost use Rattle.std.specs.Prelude.{◌≡◌, ℕ, ◌+◌, ◌*◌, ◌<◌, ◌≤◌, length, slice_index, slice_index_or, slice_set, IfOk, MatchResult, true, false};
 ghost use Rattle.bq_pool.specs.Extents.{cells_of, with_cells, IsLive, IsTaken, IsFull, IsGivenBack, live_extents, lent_pages, AreApart, IsFresh};
-ghost use Rattle.bq_pool.specs.Lines.{at_line, Scanned};
+ghost use Rattle.bq_pool.specs.Strides.{at_stride, NoneOccupied, Scanned};
 ghost use Rattle.bq_model.specs.declared.cell.Cell.{Cell};
 ghost use Rattle.bq_model.specs.declared.cell.Cell.TheVariants.{Empty as empty};
 
+use crate::marked::MarkedCells;
 use crate::pages::{clear_pages, copy_pages, vacant};
-use crate::scan::{Filled, Line, first_along, first_beside};
+use crate::scan::{Occupied, StridedCells, first_along, first_beside, is_clear};
 use crate::steps::Steps;
 use bq_model::Cell;
 use std::alloc::{AllocError, Global};
@@ -41,7 +42,7 @@ pub struct Extent {
 /// the free pages from 262144 on.
 #[derive(Drop)]
 pub struct Pool {
-    cells: Vec<Cell>,
+    cells: MarkedCells,
     places: Vec<u16>,
     slots: Vec<Option<u16>>,
     free: u32,
@@ -55,9 +56,9 @@ impl Model for Pool {
 
     ghost use Rattle.bq_pool.specs.Places.{lent, extents, IsSound};
 
-    ghost view = { λ pool. record { pages = pool.pages; free = pool.free; lent = lent pool.places.items pool.slots.items; extents = extents pool.cells.items pool.places.items pool.slots.items } };
+    ghost view = { λ pool. record { pages = pool.pages; free = pool.free; lent = lent pool.places.items pool.slots.items; extents = extents pool.cells pool.places.items pool.slots.items } };
 
-    ghost invariant = { λ pool. IsSound pool.cells.items pool.places.items pool.slots.items pool.free pool.pages };
+    ghost invariant = { λ pool. IsSound pool.cells pool.places.items pool.slots.items pool.free pool.pages };
 }
 
 impl Pool {
@@ -67,7 +68,7 @@ impl Pool {
         requires { pages ≤ 16384 }
         ensures { IfOk result (λ pool. IsFresh pages pool) }
     {
-        let cells = vec![in alloc; Cell::Empty; usize::from(pages) * CELLS_PER_PAGE]?;
+        let cells = MarkedCells::new(alloc, usize::from(pages))?;
         let places = free_places(alloc, pages)?;
         let slots = no_slots(alloc)?;
         Ok(Pool {
@@ -127,30 +128,57 @@ impl Pool {
         steps.count_read();
         let i = index as usize;
         let page = self.places[usize::from(extent.slot) * PAGES_PER_SLOT + i / CELLS_PER_PAGE];
-        self.cells[usize::from(page) * CELLS_PER_PAGE + i % CELLS_PER_PAGE]
+        *self
+            .cells
+            .cell(usize::from(page) * CELLS_PER_PAGE + i % CELLS_PER_PAGE)
     }
 
     /// Returns the first cell of a line of an extent that is not empty, from one place up to another, if one is not. Each cell that is
     /// seen is one read.
-    pub fn first_filled<L: Ledger>(
+    pub fn first_occupied<L: Ledger>(
         &self,
         extent: &Extent,
-        line: Line,
+        strided: StridedCells,
         from: u32,
         to: u32,
         steps: &mut Steps<L>,
-    ) -> Option<Filled>
+    ) -> Option<Occupied>
         requires live { IsLive self.now extent.now }
-        requires within { (i : ℕ) → i < to → line.first + i * line.stride < 64 * extent.now.pages }
+        requires within { (i : ℕ) → i < to → strided.first + i * strided.stride < 64 * extent.now.pages }
         requires below { from ≤ to }
-        ensures reads { Scanned (at_line (cells_of self.now extent.now) line) from to steps.old.reads result steps.new.reads }
+        ensures reads { Scanned (at_stride (cells_of self.now extent.now) strided) from to steps.old.reads result steps.new.reads }
         ensures writes { steps.new.writes ≡ steps.old.writes }
     {
         let slot = usize::from(extent.slot);
-        if line.stride == 1 && to - from > 1 {
-            return first_beside(&self.cells, &self.places, slot, line.first, from, to, steps);
+        if strided.stride == 1 && to - from > 1 {
+            return first_beside(
+                &self.cells,
+                &self.places,
+                slot,
+                strided.first,
+                from,
+                to,
+                steps,
+            );
         }
-        first_along(&self.cells, &self.places, slot, line, from, to, steps)
+        first_along(&self.cells, &self.places, slot, strided, from, to, steps)
+    }
+
+    /// Returns whether all of so many cells of an extent, side by side from one on, are empty. The words of marks tell it, one for each
+    /// page: no cell is read.
+    pub fn is_clear(&self, extent: &Extent, first: u32, count: u32) -> bool
+        requires live { IsLive self.now extent.now }
+        requires within { first + count ≤ 64 * extent.now.pages }
+        ensures yes { result ≡ true → NoneOccupied (λ i. slice_index_or (cells_of self.now extent.now) (first + i) empty) 0 count }
+        ensures no { result ≡ false → NoneOccupied (λ i. slice_index_or (cells_of self.now extent.now) (first + i) empty) 0 count → ⊥ }
+    {
+        is_clear(
+            &self.cells,
+            &self.places,
+            usize::from(extent.slot),
+            first,
+            count,
+        )
     }
 
     /// Writes the cell of an extent with that number, and no other cell of any extent. This is one write.
@@ -170,7 +198,10 @@ impl Pool {
         steps.count_write();
         let i = index as usize;
         let page = self.places[usize::from(extent.slot) * PAGES_PER_SLOT + i / CELLS_PER_PAGE];
-        self.cells[usize::from(page) * CELLS_PER_PAGE + i % CELLS_PER_PAGE] = cell;
+        self.cells.set(
+            usize::from(page) * CELLS_PER_PAGE + i % CELLS_PER_PAGE,
+            cell,
+        );
     }
 
     /// Puts into a cell of an extent what a function makes of it, and changes no other cell of any extent. This is one read
@@ -193,7 +224,8 @@ impl Pool {
         let i = index as usize;
         let page = self.places[usize::from(extent.slot) * PAGES_PER_SLOT + i / CELLS_PER_PAGE];
         let place = usize::from(page) * CELLS_PER_PAGE + i % CELLS_PER_PAGE;
-        self.cells[place] = changed(self.cells[place], change);
+        let made = changed(*self.cells.cell(place), change);
+        self.cells.set(place, made);
         steps.count_write();
     }
 

@@ -1,101 +1,79 @@
 //! Cells that stand equally far apart, and the first of them that is not empty. Cells side by side are passed by a page at
-//! a time; of others each is looked up, and none is copied but the one that is found.
-ghost use Rattle.std.specs.Prelude.{◌≡◌, ℕ, ◌+◌, ◌*◌, ◌<◌, ◌≤◌, ◌^◌, length, slice_index_or, MatchOption, true, false};
+//! a time, by its word of marks; of others each is looked up, and none is copied but the one that is found.
+ghost use Rattle.std.specs.Prelude.{◌≡◌, ℕ, ◌+◌, ◌*◌, ◌/◌, ◌%◌, ◌<◌, ◌≤◌, ◌^◌, length, slice_index_or, MatchOption, true, false};
 ghost use Rattle.bq_model.specs.declared.cell.Cell.TheVariants.{Empty as empty};
-ghost use Rattle.bq_pool.specs.Places.{cell_at};
-ghost use Rattle.bq_pool.specs.Lines.{Scanned, HasPage};
+ghost use Rattle.bq_pool.specs.Places.{cell_at, cell_place};
+ghost use Rattle.bq_pool.specs.Strides.{NoneOccupied, Scanned, HasPage};
 
+use crate::marked::{MarkedCells, is_empty};
 use crate::steps::Steps;
 use bq_model::Cell;
 use std::sync::ledger::Ledger;
 
 /// The numbers of cells that stand equally far apart: that of the first, and how far the next one is.
 #[derive(Clone, Copy, Debug, Default, PartialEq, Eq)]
-pub struct Line {
+pub struct StridedCells {
     pub first: u32,
     pub stride: u32,
 }
 
 /// A cell that is not empty, by its place on a line.
 #[derive(Clone, Copy, Debug, Default)]
-pub struct Filled {
+pub struct Occupied {
     pub next: u32,
     pub cell: Cell,
 }
 
-// Whether no row is in the cell.
-fn is_empty(cell: &Cell) -> bool
-    ensures yes { result ≡ true → cell.now ≡ empty }
-    ensures no { result ≡ false → cell.now ≡ empty → ⊥ }
-{
-    match cell {
-        Cell::Empty => true,
-        Cell::Count(_) => false,
-        Cell::Present => false,
-        Cell::Extreme(_) => false,
-    }
-}
-
-// The first of these cells that is not empty. Each cell that is seen is one read.
-fn first_among<L: Ledger>(cells: &[Cell], steps: &mut Steps<L>) -> Option<usize>
-    ensures first { MatchOption result ((i : ℕ) → i < length cells.now → slice_index_or cells.now i empty ≡ empty) (λ k. (k < length cells.now) × ((i : ℕ) → i < k → slice_index_or cells.now i empty ≡ empty) × (slice_index_or cells.now k empty ≡ empty → ⊥)) }
-    ensures reads { MatchOption result (steps.new.reads ≡ steps.old.reads + length cells.now) (λ k. steps.new.reads ≡ steps.old.reads + k + 1) }
-    ensures writes { steps.new.writes ≡ steps.old.writes }
-{
-    for (k, cell) in cells.iter().enumerate() {
-        steps.count_read();
-        if !is_empty(cell) {
-            return Some(k);
-        }
-    }
-    None
+// Cells side by side on one page: the place of the first among all cells, and how many.
+#[derive(Clone, Copy)]
+struct Run {
+    start: usize,
+    count: usize,
 }
 
 // The cells of a slot side by side from one on, as far as they stand on its page and no more than so many.
-fn run_from<'a>(
-    cells: &'a [Cell],
-    places: &[u16],
-    slot: usize,
-    number: usize,
-    most: usize,
-) -> &'a [Cell]
+#[inline(always)]
+fn run_from(places: &[u16], slot: usize, number: usize, most: usize) -> Run
     requires more { 0 < most }
     requires slot { slot < 64 }
     requires small { number < 2 ^ 32 }
-    requires page { HasPage cells.now places.now slot number }
-    ensures some { 0 < length result.now }
-    ensures few { length result.now ≤ most }
-    ensures cells { (k : ℕ) → k < length result.now → slice_index_or result.now k empty ≡ cell_at cells.now places.now slot (number + k) }
+    requires table { slot * 4096 + number / 64 < length places.now }
+    ensures some { 0 < result.count }
+    ensures few { result.count ≤ most }
+    ensures start { result.start ≡ cell_place places.now slot number }
+    ensures page { number % 64 + result.count ≤ 64 }
 {
     let page = usize::from(places[slot * 4096 + number / 64]);
     let within = number % 64;
     let rest = 64 - within;
     let count = if most < rest { most } else { rest };
-    let start = page * 64 + within;
-    &cells[start..start + count]
+    Run {
+        start: page * 64 + within,
+        count,
+    }
 }
 
 // The cell of a slot with that number.
-fn cell_of<'a>(cells: &'a [Cell], places: &[u16], slot: usize, number: usize) -> &'a Cell
+fn cell_of<'a>(cells: &'a MarkedCells, places: &[u16], slot: usize, number: usize) -> &'a Cell
     requires slot { slot < 64 }
     requires small { number < 2 ^ 32 }
     requires page { HasPage cells.now places.now slot number }
     ensures { result.now ≡ cell_at cells.now places.now slot number }
 {
     let page = usize::from(places[slot * 4096 + number / 64]);
-    &cells[page * 64 + number % 64]
+    cells.cell(page * 64 + number % 64)
 }
 
 /// Returns the first cell of a slot that is not empty, among those from one place up to another, counted from its cell `first` on.
 pub fn first_beside<L: Ledger>(
-    cells: &[Cell],
+    cells: &MarkedCells,
     places: &[u16],
     slot: usize,
     first: u32,
     from: u32,
     to: u32,
     steps: &mut Steps<L>,
-) -> Option<Filled>
+) -> Option<Occupied>
     requires slot { slot < 64 }
     requires below { from ≤ to }
     requires fits { (i : ℕ) → i < to → first + i < 2 ^ 32 }
@@ -105,15 +83,19 @@ pub fn first_beside<L: Ledger>(
 {
     let mut i = from;
     'pages: while i < to {
-        let run = run_from(cells, places, slot, (first + i) as usize, (to - i) as usize);
-        match first_among(run, steps) {
+        let run = run_from(places, slot, (first + i) as usize, (to - i) as usize);
+        match cells.first_from(run.start, run.count) {
             Some(k) => {
-                return Some(Filled {
+                steps.count_reads(k + 1);
+                return Some(Occupied {
                     next: i + k as u32,
-                    cell: run[k],
+                    cell: *cells.cell(run.start + k),
                 });
             }
-            None => i += run.len() as u32,
+            None => {
+                steps.count_reads(run.count);
+                i += run.count as u32;
+            }
         }
     }
     None
@@ -121,27 +103,32 @@ pub fn first_beside<L: Ledger>(
 
 /// Returns the first cell of a line of a slot that is not empty, from one place up to another.
 pub fn first_along<L: Ledger>(
-    cells: &[Cell],
+    cells: &MarkedCells,
     places: &[u16],
     slot: usize,
-    line: Line,
+    strided: StridedCells,
     from: u32,
     to: u32,
     steps: &mut Steps<L>,
-) -> Option<Filled>
+) -> Option<Occupied>
     requires slot { slot < 64 }
     requires below { from ≤ to }
-    requires fits { (i : ℕ) → i < to → line.first + i * line.stride < 2 ^ 32 }
-    requires pages { (i : ℕ) → i < to → HasPage cells.now places.now slot (line.first + i * line.stride) }
-    ensures reads { Scanned (λ i. cell_at cells.now places.now slot (line.first + i * line.stride)) from to steps.old.reads result steps.new.reads }
+    requires fits { (i : ℕ) → i < to → strided.first + i * strided.stride < 2 ^ 32 }
+    requires pages { (i : ℕ) → i < to → HasPage cells.now places.now slot (strided.first + i * strided.stride) }
+    ensures reads { Scanned (λ i. cell_at cells.now places.now slot (strided.first + i * strided.stride)) from to steps.old.reads result steps.new.reads }
     ensures writes { steps.new.writes ≡ steps.old.writes }
 {
     let mut i = from;
     'cells: while i < to {
         steps.count_read();
-        let seen = cell_of(cells, places, slot, (line.first + i * line.stride) as usize);
+        let seen = cell_of(
+            cells,
+            places,
+            slot,
+            (strided.first + i * strided.stride) as usize,
+        );
         if !is_empty(seen) {
-            return Some(Filled {
+            return Some(Occupied {
                 next: i,
                 cell: *seen,
             });
@@ -149,4 +136,24 @@ pub fn first_along<L: Ledger>(
         i += 1;
     }
     None
+}
+
+/// Returns whether all of so many cells of a slot, side by side from its cell `first` on, are empty. The words of marks tell it: no cell
+/// is read.
+pub fn is_clear(cells: &MarkedCells, places: &[u16], slot: usize, first: u32, count: u32) -> bool
+    requires slot { slot < 64 }
+    requires fits { (i : ℕ) → i < count → first + i < 2 ^ 32 }
+    requires pages { (i : ℕ) → i < count → HasPage cells.now places.now slot (first + i) }
+    ensures yes { result ≡ true → NoneOccupied (λ i. cell_at cells.now places.now slot (first + i)) 0 count }
+    ensures no { result ≡ false → NoneOccupied (λ i. cell_at cells.now places.now slot (first + i)) 0 count → ⊥ }
+{
+    let mut i = 0;
+    'pages: while i < count {
+        let run = run_from(places, slot, (first + i) as usize, (count - i) as usize);
+        match cells.first_from(run.start, run.count) {
+            Some(_k) => return false,
+            None => i += run.count as u32,
+        }
+    }
+    true
 }

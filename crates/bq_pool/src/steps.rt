@@ -50,6 +50,14 @@ impl<L: Ledger> Steps<L> {
         self.book.add(&mut self.reads, 1);
     }
 
+    // Counts so many cells that are read.
+    pub(crate) fn count_reads(&mut self, count: usize)
+        ensures reads { self.new.reads ≡ self.old.reads + count }
+        ensures writes { self.new.writes ≡ self.old.writes }
+    {
+        self.book.add(&mut self.reads, count as u64);
+    }
+
     // Counts one cell that is written.
     pub(crate) fn count_write(&mut self)
         ensures reads { self.new.reads ≡ self.old.reads }

@@ -9,7 +9,6 @@ use Rattle.bq_registry.specs.declared.refusal.CreateError.{CreateError}
 use Rattle.bq_registry.specs.declared.refusal.CreateError.TheVariants as refusals
 use Rattle.bq_registry.specs.declared.verdict.Verdict.{Verdict}
 use Rattle.bq_registry.specs.Live.{Live, newly}
-use Rattle.bq_registry.specs.declared.waiting.Places.{Places}
 use Rattle.bq_registry.specs.Registry.{RegistryValue, AreLiveFor, IsSound}
 use Rattle.bq_registry.specs.Waiting.{AreQuiet}
 use Rattle.bq_registry.specs.Judged.{TellsVerdict, CarriesWhy, Creates}
@@ -65,12 +64,12 @@ creates (Err refusals.Memory) name q shared plan pool live later after a m = rec
 
 -- what is true of the live queries is true then, and of no further one an answer waits
 pub keeps : (result : Result Verdict CreateError) (name : List ℕ) (q : QueryValue) (shared : Bool) (plan : Plan) (pool : PoolValue) (live : List Live) (later : PoolValue) (after : List Live)
-    → (p : Places) → IsSound pool live → AreQuiet (length live) p live → Admits result name q shared plan pool live later after → IsSound later after × AreQuiet (length after) p after
+    → (p : ℕ) → IsSound pool live → AreQuiet p live → Admits result name q shared plan pool live later after → IsSound later after × AreQuiet p after
 keeps (Ok verdict) name q shared plan pool live later after p sound quiet m =
     let last = m.4.1 in
-    (m.2, subst (λ (xs : List Live). AreQuiet (length xs) p xs) (sym last.last) (quiet_last p live last.live quiet last.new.none))
+    (m.2, subst (λ (xs : List Live). AreQuiet p xs) (sym last.last) (quiet_last p live last.live quiet last.new.none))
 keeps (Err (refusals.Violation p c t)) name q shared plan pool live later after places sound quiet m = absurd m
 keeps (Err (refusals.Limit which value l)) name q shared plan pool live later after p sound quiet m = absurd m
 keeps (Err (refusals.Pool needed free)) name q shared plan pool live later after p sound quiet m =
-    (subst (λ (x : PoolValue). IsSound x after) (sym m.3) (subst (λ (xs : List Live). IsSound pool xs) (sym m.4) sound), subst (λ (xs : List Live). AreQuiet (length xs) p xs) (sym m.4) quiet)
-keeps (Err refusals.Memory) name q shared plan pool live later after p sound quiet m = (m.0, subst (λ (xs : List Live). AreQuiet (length xs) p xs) (sym m.3) quiet)
+    (subst (λ (x : PoolValue). IsSound x after) (sym m.3) (subst (λ (xs : List Live). IsSound pool xs) (sym m.4) sound), subst (λ (xs : List Live). AreQuiet p xs) (sym m.4) quiet)
+keeps (Err refusals.Memory) name q shared plan pool live later after p sound quiet m = (m.0, subst (λ (xs : List Live). AreQuiet p xs) (sym m.3) quiet)

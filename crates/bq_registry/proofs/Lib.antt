@@ -14,3 +14,8 @@ pub mod Keeping
 pub mod Telling
 pub mod Quiet
 pub mod Creating
+pub mod Shown
+pub mod BitsLeft
+pub mod Sparing
+pub mod Spared
+pub mod Fresh

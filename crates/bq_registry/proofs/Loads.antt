@@ -1,7 +1,8 @@
 -- The live queries after one of them was loaded.
 use Rattle.std.proofs.Common.{◌≡◌, ℕ, ◌+◌, ◌<◌, ◌≤◌, ◌⊎◌, inl, inr, min, Bool, true, false, Option, Some, None, List, [], length, map, refl, sym, ap, ◌∙◌, subst, arith, slice_get, slice_index_or, slice_set, All}
+use Rattle.std.specs.Int.{bit_at}
 use Rattle.std.proofs.lemmas.Bool.{cases_eq}
-use Rattle.std.proofs.lemmas.List.{length-set, get_or-set_same, get_or-set_other, get_or_default, set-get_or}
+use Rattle.std.proofs.lemmas.List.{length-set, get_or-set_same, get_or-set_other, get_or_default, get_or-map, set-get_or}
 use Rattle.std.proofs.lemmas.List.Sums.{get_or-le-sum_by}
 use Rattle.std.proofs.lemmas.Option.{slice_get_within, get_or_from_slice_get}
 use Rattle.std.proofs.Math.Seq.{map-set_same}
@@ -21,12 +22,14 @@ use Rattle.bq_executor.specs.declared.saturation.Saturation.{Saturation}
 use Rattle.bq_executor.specs.Executor.{ExecutorValue, list_in, waiting_in, with_given, with_saturation}
 use Rattle.bq_executor.specs.Bases.{StandsFrom}
 use Rattle.bq_executor.specs.Loading.{Loads}
-use Rattle.bq_registry.specs.declared.waiting.Places.{Places}
 use Rattle.bq_registry.specs.Live.{Live, LiveQuery, named, live_of, plan_cells, with_base}
 use Rattle.bq_registry.specs.Registry.{RegistryValue, IsSound, IsLiveFor, AreLiveFor, AsksTheSame, KeepQueries, most_cells}
 use Rattle.bq_registry.specs.Waiting.{AreQuiet}
 use Rattle.bq_registry.specs.Loaded.{LoadsThere, LoadsAt, Loading, loaded_by, LoadedOne, LoadedAlone, LoadedAt, LoadedAloneAt}
 use Rattle.bq_registry.proofs.Beside.{live_for_same}
+use Rattle.bq_registry.specs.declared.queries.Runner.{Runner}
+use Rattle.bq_registry.specs.Counted.{run_to, shown}
+use Rattle.bq_registry.proofs.Shown.{sized, size_run, runs_as, run_stands, shown_set}
 use Rattle.bq_registry.proofs.SideBySide.{size_as, live_in, live_set}
 use Rattle.bq_registry.proofs.InTurn.{put, beside_set, set_sound}
 
@@ -81,6 +84,35 @@ pub loaded_alone : (place : ℕ) (result : Bool) (n : ℕ) (load : Loading) (nam
 loaded_alone place result n load names executors live e e' same is within at h =
     record { each = λ pool. loaded_here place result n load pool pool names executors live e e' same is within at (λ name. h.each name pool) }
 
+-- so it is of runners, of which no row was counted
+run_after : (rows : ℕ) (names : List (List ℕ)) (rs : List Runner) (place : ℕ) (ρ' : Runner) → rows ≡ 0
+    → live_of names (slice_set (shown 0 rs) place (run_to 0 ρ')) ≡ live_of names (shown rows (slice_set rs place ρ'))
+run_after rows names rs place ρ' none =
+    ap (λ (es : List ExecutorValue). live_of names es) (sym (shown_set 0 rs place ρ') ∙ ap (λ (n : ℕ). shown n (slice_set rs place ρ')) (sym none))
+
+pub loaded_run : (place : ℕ) (result : Bool) (n : ℕ) (load : Loading) (rows : ℕ) (names : List (List ℕ)) (rs : List Runner) (live : List Live) (ρ ρ' : Runner)
+    → length names ≡ length rs → live_of names (shown 0 rs) ≡ live → place < length live → ρ ≡ slice_index_or rs place ρ → rows ≡ 0
+    → LoadedAlone result n load (run_to 0 ρ) (run_to 0 ρ') → LoadedAloneAt place result n load live (live_of names (shown rows (slice_set rs place ρ')))
+loaded_run place result n load rows names rs live ρ ρ' same is within at none h =
+    let size = size_run 0 names rs live same is in
+    subst (λ (after : List Live). LoadedAloneAt place result n load live after) (run_after rows names rs place ρ' none)
+    (loaded_alone place result n load names (shown 0 rs) live (run_to 0 ρ) (run_to 0 ρ') (sized 0 names rs same) is within (run_stands 0 rs place ρ (omega (arith, size, within)) at) h)
+
+pub loaded_run_here : (place : ℕ) (result : Bool) (n : ℕ) (load : Loading) (pool later : PoolValue) (rows : ℕ) (names : List (List ℕ)) (rs : List Runner) (live : List Live) (ρ ρ' : Runner)
+    → length names ≡ length rs → live_of names (shown 0 rs) ≡ live → place < length live → ρ ≡ slice_index_or rs place ρ → rows ≡ 0
+    → ((name : List ℕ) → LoadedOne result n load pool later (named name (run_to 0 ρ)) (named name (run_to 0 ρ')))
+    → LoadedAt place result n load pool later live (live_of names (shown rows (slice_set rs place ρ')))
+loaded_run_here place result n load pool later rows names rs live ρ ρ' same is within at none h =
+    let size = size_run 0 names rs live same is in
+    subst (λ (after : List Live). LoadedAt place result n load pool later live after) (run_after rows names rs place ρ' none)
+    (loaded_here place result n load pool later names (shown 0 rs) live (run_to 0 ρ) (run_to 0 ρ') (sized 0 names rs same) is within (run_stands 0 rs place ρ (omega (arith, size, within)) at) h)
+
+-- the runner at a place runs the live query there
+pub run_there : (names : List (List ℕ)) (rs : List Runner) (live : List Live) (place : ℕ) (ρ : Runner) (d : Live)
+    → length names ≡ length rs → live_of names (shown 0 rs) ≡ live → place < length live → ρ ≡ slice_index_or rs place ρ
+    → (slice_index_or live place d).executor ≡ run_to 0 ρ
+run_there names rs live place ρ d same is within at = runs_as 0 names rs live place ρ d same is within at
+
 module _ (place : ℕ) (result : Bool) (n : ℕ) (load : Loading) (pool later : PoolValue) (before after : List Live) (sound : IsSound pool before) (within : place < length before)
     (w : LoadedAt place result n load pool later before after) where
   abbrev l' : Live
@@ -131,13 +163,12 @@ module _ (place : ℕ) (result : Bool) (n : ℕ) (load : Loading) (pool later : 
       ))
 
   -- nothing comes to wait
-  pub loaded_silent : (p : Places) → AreQuiet (length before) p before → AreQuiet (length after) p after
-  loaded_silent p q = subst (λ (xs : List Live). AreQuiet (length xs) p xs) (sym w.set) (record {
-    from = (let f = q.from in omega (arith, f, size));
-    to = (let f = q.to in omega (arith, f, size));
-    quiet = λ i c a b side. put (λ (x : Live). waiting_in x.executor ≡ []) before place i c l' within
-        (λ e. one.quiet (q.quiet place l' within within (subst (λ j. (j < p.from) ⊎ (p.to ≤ j)) e side)))
-        (λ ne. q.quiet i c (omega (arith, b, size)) (omega (arith, b, size)) side);
+  pub loaded_silent : (p : ℕ) → AreQuiet p before → AreQuiet p after
+  loaded_silent p q = subst (λ (xs : List Live). AreQuiet p xs) (sym w.set) (record {
+    only = λ k on. (let f = q.only k on in omega (arith, f, size));
+    quiet = λ i c b off. put (λ (x : Live). waiting_in x.executor ≡ []) before place i c l' within
+        (λ e. one.quiet (q.quiet place l' within (subst (λ j. bit_at p j ≡ 0) e off)))
+        (λ ne. q.quiet i c (omega (arith, b, size)) off);
   })
 
   module _ (queries : List LiveQuery) (live : LiveQuery) (all : AreLiveFor pool before queries) (there : slice_get queries place ≡ Some live) (fresh : live.history ≡ []) where

@@ -6,19 +6,20 @@ ghost use Rattle.bq_io.specs.Sink.{Writes};
 ghost use Rattle.bq_model.specs.Sharing.{IsPlanOf};
 ghost use Rattle.bq_model.specs.Numbers.{parts_of};
 ghost use Rattle.bq_pool.specs.Extents.{IsLive};
-ghost use Rattle.bq_executor.specs.Executor.{arrival};
+ghost use Rattle.bq_executor.specs.Executor as running;
+ghost use Rattle.bq_executor.specs.Executor.{arrival, with_given};
 ghost use Rattle.bq_executor.specs.Loading.{loaded_given, loaded_cell, loaded_tuple};
 ghost use Rattle.bq_registry.specs.Live.{Live, LiveQuery, boxes_of, with_row, without, free_pages};
 ghost use Rattle.bq_registry.specs.Loaded.{LoadsAt};
 ghost use Rattle.bq_registry.specs.Registry.{IsSound, KeepQueries, waiting_text, most_cells, most_reads, most_writes};
 
 use crate::admission::{Planned, admit, drop_at};
+use crate::concerned::{Concerned, all_of};
 use crate::loading;
 use crate::queries::Queries;
 use crate::refusal::CreateError;
 use crate::taking::take_all;
 use crate::verdict::{Verdict, judge};
-use crate::waiting::Places;
 use crate::writing::write_all;
 use bq_executor::Executor;
 use bq_io::{Sink, WriteFault};
@@ -38,19 +39,20 @@ pub struct Registry {
     alloc: Global,
     pool: Pool,
     live: Queries,
-    waiting: Places,
+    concerned: Concerned,
+    waiting: u64,
 }
 
 impl Model for Registry {
     ghost use Rattle.bq_registry.specs.Registry.{RegistryValue, IsSound};
     ghost use Rattle.bq_registry.specs.Waiting.{AreQuiet};
-    ghost use Rattle.std.specs.Prelude.{length};
+    ghost use Rattle.bq_registry.specs.Concerned.{IsTold};
 
     ghost Value = { RegistryValue };
 
     ghost view = { λ r. record { pool = r.pool; live = r.live } };
 
-    ghost invariant = { λ r. IsSound r.pool r.live × AreQuiet (length r.live) r.waiting r.live };
+    ghost invariant = { λ r. IsSound r.pool r.live × AreQuiet r.waiting r.live × IsTold r.concerned r.live };
 }
 
 // Gives back the pages of all live queries.
@@ -78,14 +80,15 @@ impl Registry {
         ensures none { IfOk result (λ r. r.live ≡ []) }
         ensures free { IfOk result (λ r. r.pool.free ≡ 16384) }
     {
+        let concerned = Concerned::new(alloc)?;
         let pool = Pool::new(alloc, PAGES)?;
         let live = Queries::with_capacity(alloc, Registry::MOST_QUERIES)?;
-        let waiting = Places { from: 0, to: 0 };
         Ok(Registry {
             alloc,
             pool,
             live,
-            waiting,
+            concerned,
+            waiting: 0,
         })
     }
 
@@ -129,13 +132,22 @@ impl Registry {
         self.live.name_of(place)
     }
 
-    /// Returns what runs the live query at a place. Its cells are in the pool.
+    /// Returns what runs the live query at a place, which may count fewer rows than were given. Its cells are in the pool.
     pub fn executor(&self, place: usize) -> &Executor
         requires { place < length self.now.live }
-        ensures value { (d : Live) → result.now ≡ (slice_index_or self.now.live place d).executor }
+        ensures value { (d : Live) → (slice_index_or self.now.live place d).executor ≡ with_given result.now (slice_index_or self.now.live place d).executor.given result.now.table.entries }
         ensures live { IsLive self.now.pool result.now.extent }
+        ensures sound { (d : Live) → running.IsSound (slice_index_or self.now.live place d).executor }
     {
         self.live.executor_at(place)
+    }
+
+    /// Returns how many rows were given to the live query at a place.
+    pub fn given(&self, place: usize) -> u64
+        requires { place < length self.now.live }
+        ensures { (d : Live) → result ≡ (slice_index_or self.now.live place d).executor.given }
+    {
+        self.live.given_at(place)
     }
 
     /// Returns the pool of all cells.
@@ -171,6 +183,7 @@ impl Registry {
         ensures why { CarriesWhy shared query self.old.pool.free result }
         ensures creates { Creates self.old name query shared result self.new }
     {
+        self.concerned.forget();
         match judge(self.alloc, &query, shared) {
             Ok(plan) => admit(
                 self.alloc,
@@ -201,7 +214,9 @@ impl Registry {
         ensures reads { steps.new.reads ≤ steps.old.reads + most_reads self.old.live }
         ensures writes { steps.new.writes ≤ steps.old.writes + most_writes self.old.live }
     {
-        self.waiting = take_all(&mut self.pool, &mut self.live, stream, row, steps);
+        self.concerned.list(&self.live);
+        let word = self.concerned.of(stream, row, self.live.len()) | self.waiting;
+        self.waiting = take_all(&mut self.pool, &mut self.live, word, stream, row, steps);
     }
 
     /// Writes what waits, query by query in order of creation. Afterwards nothing waits, on a fault too, and the registry stands
@@ -214,7 +229,7 @@ impl Registry {
         ensures queries { KeepQueries self.old.live self.new.live }
     {
         let waiting = self.waiting;
-        self.waiting = Places { from: 0, to: 0 };
+        self.waiting = 0;
         write_all(&mut self.live, waiting, out)
     }
 
@@ -231,10 +246,8 @@ impl Registry {
         match self.live.place_of(name) {
             Some(place) => {
                 drop_at(&mut self.pool, &mut self.live, place);
-                self.waiting = Places {
-                    from: 0,
-                    to: self.live.len(),
-                };
+                self.concerned.forget();
+                self.waiting = all_of(self.live.len());
             }
             None => {}
         }
@@ -252,6 +265,7 @@ impl Registry {
         ensures names { map (λ l. l.name) self.new.live ≡ map (λ l. l.name) self.old.live }
         ensures queries { KeepQueries self.old.live self.new.live }
     {
+        self.concerned.forget();
         loading::load_given(&mut self.live, place, n)
     }
 
@@ -276,6 +290,7 @@ impl Registry {
         ensures writes { steps.new.writes ≤ steps.old.writes + most_cells self.old.live }
         ensures one { (steps.new.reads ≤ steps.old.reads + 1) × (steps.new.writes ≤ steps.old.writes + 1) }
     {
+        self.concerned.forget();
         loading::load_cell(&mut self.pool, &mut self.live, place, i, v, steps)
     }
 
@@ -291,6 +306,7 @@ impl Registry {
         ensures names { map (λ l. l.name) self.new.live ≡ map (λ l. l.name) self.old.live }
         ensures queries { KeepQueries self.old.live self.new.live }
     {
+        self.concerned.forget();
         loading::load_tuple(&mut self.live, place, t)
     }
 
@@ -300,6 +316,7 @@ impl Registry {
             alloc: _,
             pool,
             live,
+            concerned: _concerned,
             waiting: _,
         } = self;
         close_all(pool, live);

@@ -9,8 +9,12 @@ use Rattle.bq_model.specs.Merge.{merged}
 use Rattle.bq_synopsis.specs.declared.own.OwnCell.{OwnCell}
 use Rattle.bq_synopsis.specs.Premises.{row_cell}
 
--- the cell of some cells that stands for a row at a place of FROM: what it holds, and what it holds with the row
+-- what the cell that a row falls into holds with the row
+abbrev pub with_row : OwnCell → List ℤ → Cell
+with_row own row = merged own.kind own.held (content own.kind (row ∷ []))
+
+-- the cell of some cells that stands for a row at a place of FROM: what it keeps of rows, and what it holds
 pub record IsOwnCell (part : PartPlan) (place : ℕ) (row : List ℤ) (cells : List Cell) (own : OwnCell) : Type 0 where
   pub number : own.number ≡ row_cell part place row
+  pub kind : own.kind ≡ (stream_at part place).kind
   pub held : own.held ≡ slice_index_or cells (row_cell part place row) Empty
-  pub with_row : own.with_row ≡ merged (stream_at part place).kind own.held (content (stream_at part place).kind (row ∷ []))

@@ -5,13 +5,13 @@ ghost use Rattle.bq_model.specs.Meaning.{by_column};
 ghost use Rattle.bq_model.specs.Admission.{admits};
 ghost use Rattle.bq_pool.specs.Extents.{cells_of, with_cells, IsLive};
 ghost use Rattle.bq_synopsis.specs.Premises.{IsHeld, HasRoom, row_cell};
-ghost use Rattle.bq_synopsis.specs.Sides.{IsCell};
+ghost use Rattle.bq_synopsis.specs.Axes.{IsCell};
 ghost use Rattle.bq_synopsis.specs.Inserting.{cells_with_row};
-ghost use Rattle.bq_synopsis.specs.Own.{IsOwnCell};
+ghost use Rattle.bq_synopsis.specs.Own.{IsOwnCell, with_row};
 
-use crate::cells::{cell_of, with_row};
-use crate::sides::Spot;
-use bq_model::{Cell, PartPlan, Query, Row};
+use crate::axes::Placement;
+use crate::cells::{cell_of, stays_with, with_row};
+use bq_model::{Cell, Kind, PartPlan, Query, Row};
 use bq_pool::{Extent, Pool, Steps};
 use std::sync::ledger::Ledger;
 
@@ -20,23 +20,31 @@ use std::sync::ledger::Ledger;
 pub struct Admitted<'a> {
     pub row: &'a Row,
     pub pos: u8,
-    pub spot: Spot,
+    pub placement: Placement,
 }
 
-/// The cell that a row falls into: its number, what it holds, and what it holds with the row.
+/// The cell that a row falls into: its number, what it keeps of rows, and what it holds.
 #[derive(Clone, Copy, Debug, PartialEq, Eq, Drop)]
 pub struct OwnCell {
     pub number: u32,
+    pub kind: Kind,
     pub held: Cell,
-    pub with_row: Cell,
 }
 
 impl OwnCell {
-    /// Returns whether the row leaves the cell as it is.
-    pub fn stays(&self) -> bool
-        ensures { (result ≡ true) ↔ (self.now.with_row ≡ self.now.held) }
+    /// Returns whether a row leaves the cell as it is.
+    pub fn stays(&self, row: &Row) -> bool
+        ensures { (result ≡ true) ↔ (with_row self.now row.now.items ≡ self.now.held) }
     {
-        self.with_row == self.held
+        stays_with(self.kind, row.as_slice(), self.held)
+    }
+
+    // What the cell holds with a row more.
+    fn with_row(&self, row: &Row) -> Cell
+        requires { HasRoom self.now.held }
+        ensures { result ≡ with_row self.now row.now.items }
+    {
+        with_row(self.kind, row.as_slice(), self.held)
     }
 }
 
@@ -53,23 +61,20 @@ pub fn own_cell<L: Ledger>(
     requires several { 1 < length q.now.from }
     requires held { IsHeld q.now part.now pool.now e.now }
     requires admitted { IsTrue (admits q.now part.now at.now.pos (by_column at.now.row.now.items)) }
-    requires spot { IsCell part.now at.now.pos at.now.row.now.items at.now.spot }
+    requires placement { IsCell part.now at.now.pos at.now.row.now.items at.now.placement }
     requires room { HasRoom (slice_index_or (cells_of pool.now e.now) (row_cell part.now at.now.pos at.now.row.now.items) cells.Empty) }
     ensures own { IsOwnCell part.now at.now.pos at.now.row.now.items (cells_of pool.now e.now) result }
     ensures inside { result.number < 64 * e.now.pages }
+    ensures room { HasRoom result.held }
     ensures reads { steps.new.reads ≡ steps.old.reads + 1 }
     ensures writes { steps.new.writes ≡ steps.old.writes }
 {
     // Named for the proof alone: the contract speaks of it.
     let _query = q;
     let values = at.row.as_slice();
-    let (number, kind) = cell_of(part, at.pos, values, at.spot, e);
+    let (number, kind) = cell_of(part, at.pos, values, at.placement, e);
     let held = pool.read(e, number, steps);
-    OwnCell {
-        number,
-        held,
-        with_row: with_row(kind, values, held),
-    }
+    OwnCell { number, kind, held }
 }
 
 /// Takes a row into its cell, and changes no other cell of any extent. A cell that stays as it is is not written; else this is one write.
@@ -84,15 +89,15 @@ pub fn put_own<L: Ledger>(
     requires live { IsLive pool.old e.now }
     requires inside { own.now.number < 64 * e.now.pages }
     requires own { IsOwnCell part.now at.now.pos at.now.row.now.items (cells_of pool.old e.now) own.now }
+    requires room { HasRoom own.now.held }
     ensures cell { pool.new ≡ with_cells pool.old e.now (cells_with_row part.now at.now.pos at.now.row.now.items (cells_of pool.old e.now)) }
     ensures reads { steps.new.reads ≡ steps.old.reads }
     ensures writes { steps.new.writes ≤ steps.old.writes + 1 }
 {
-    // Named for the proof alone: the contract speaks of them.
+    // Named for the proof alone: the contract speaks of it.
     let _part = part;
-    let _row = at.row.as_slice();
-    if own.stays() {
+    if own.stays(at.row) {
         return;
     }
-    pool.write(e, own.number, own.with_row, steps);
+    pool.write(e, own.number, own.with_row(at.row), steps);
 }

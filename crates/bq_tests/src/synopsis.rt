@@ -7,14 +7,15 @@ ghost use Rattle.bq_model.specs.declared.cell.Cell.TheVariants.{Empty};
 ghost use Rattle.bq_model.specs.declared.plan.Kind.TheVariants as kinds;
 ghost use Rattle.bq_pool.specs.Extents.{cells_of};
 ghost use Rattle.bq_synopsis.specs.Premises.{IsHeld, IsReady, IsWalked};
-ghost use Rattle.bq_synopsis.specs.Values.{rows_in};
+ghost use Rattle.bq_probe.specs.Values.{rows_in};
 
 use arrayvec::ArrayVec;
 use bq_model::{
     Atom, Attr, Dim, Element, Kind, Link, Op, PartPlan, Query, Row, Sign, StreamPlan, Tuple,
 };
 use bq_pool::{Extent, Pool, Steps};
-use bq_synopsis::{Probe, Room, admits, insert, prepare};
+use bq_probe::{Probe, Room};
+use bq_synopsis::{Admitted, Placement, admits, own_cell, prepare, put_own};
 use std::alloc::{AllocError, Global};
 use std::marker::Brand;
 use std::sync::ledger::{Blank, Ledger};
@@ -58,7 +59,13 @@ fn take_row<L: Ledger>(
     if !admits(q, part, &prepared, pos, row) {
         return;
     }
-    insert(pool, e, q, part, pos, row, steps);
+    let at = Admitted {
+        row,
+        pos,
+        placement: Placement::Inside,
+    };
+    let own = own_cell(pool, e, q, part, &at, steps);
+    put_own(pool, e, part, &at, &own, steps);
 }
 
 // Takes rows into empty cells: each costs at most one read and one write.

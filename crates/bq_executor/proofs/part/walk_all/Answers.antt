@@ -4,7 +4,7 @@ use Rattle.bq_model.specs.Combinations.{read_from, Found}
 use Rattle.bq_model.specs.Meaning.{by_column}
 use Rattle.bq_model.specs.Probing.{found_beside}
 use Rattle.bq_pool.specs.Extents.{cells_of}
-use Rattle.bq_synopsis.specs.Remaining.{as_found, left_of}
+use Rattle.bq_probe.specs.Remaining.{as_found, left_of}
 use Rattle.bq_executor.specs.Taking.{with_found, with_all}
 use Rattle.bq_executor.proofs.Taking.{taken_room, taken_table, taken_none, found_same}
 use Rattle.bq_executor.proofs.InPart.{none_added}

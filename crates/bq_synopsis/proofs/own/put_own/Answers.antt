@@ -1,4 +1,4 @@
-use Rattle.std.proofs.Common.{List, ap, ◌∙◌}
+use Rattle.std.proofs.Common.{List, set, ap, ◌∙◌}
 use Rattle.bq_model.specs.declared.cell.Cell.{Cell}
 use Rattle.bq_pool.specs.Extents.{cells_of, with_cells}
 use Rattle.bq_synopsis.proofs.OwnLaws.{put-own, stays-put}
@@ -12,4 +12,6 @@ returns-then-stays-clause-cell g c =
 pub returns-clause-cell : goal.returns-clause-cell
 returns-clause-cell g c =
     c.write.ensures.cells
-    ∙ ap (λ (cs : List Cell). with_cells c.args.pool.now c.args.e.now cs) (put-own c.args.part.now c.args.at.now.pos c.args.at.now.row.now.items (cells_of c.args.pool.now c.args.e.now) c.args.own.now c.requires.own)
+    ∙ ap (λ (cs : List Cell). with_cells c.args.pool.now c.args.e.now cs)
+    (ap (λ (cell : Cell). set (cells_of c.args.pool.now c.args.e.now) c.args.own.now.number cell) c.with_row.ensures
+    ∙ put-own c.args.part.now c.args.at.now.pos c.args.at.now.row.now.items (cells_of c.args.pool.now c.args.e.now) c.args.own.now c.requires.own)

@@ -2,7 +2,7 @@ use Rattle.std.proofs.Common.{◌≡◌, ◌≤◌, ◌+◌, ◌*◌, length}
 use Rattle.bq_model.specs.Combinations.{read_from}
 use Rattle.bq_model.specs.Numbers.{share}
 use Rattle.bq_pool.specs.Extents.{cells_of}
-use Rattle.bq_synopsis.specs.Remaining.{IsUnderway, left_of, reads_left}
+use Rattle.bq_probe.specs.Remaining.{IsUnderway, left_of, reads_left}
 use Rattle.bq_tests.proofs.synopsis.walk.Given as goal
 
 abbrev pub invariant-walk : goal.invariant-walk

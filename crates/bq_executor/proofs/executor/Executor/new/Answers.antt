@@ -27,7 +27,7 @@ invariant_of-result c =
         tuples = λ d. none_within c.args.query (parts_of c.args.plan) c.in-Ok-new.table.entries (ap (λ (t : TableValue). t.entries) is);
       },
       c.in-Ok.ensures,
-      c.gate_of-gate.ensures,
+      c.prefilter_of-prefilter.ensures,
     )
 
 pub returns-in-Ok-new-clause-history : goal.returns-in-Ok-new-clause-history

@@ -6,16 +6,16 @@ use Rattle.bq_laws.specs.Growth.{occurs}
 use Rattle.bq_answers.specs.Entries.{TableValue, waiting_of}
 use Rattle.bq_executor.specs.Executor.{ExecutorValue, arrival, tuples_in, IsSound, cleared}
 use Rattle.bq_executor.specs.Standing.{AreKept, KeepsWithin, IsReady, TookRow, future_in, pool_with}
-use Rattle.bq_executor.specs.Gate.{IsRefused}
+use Rattle.bq_index.specs.Prefilter.{IsRefused}
 use Rattle.bq_executor.specs.Bases.{TookFrom}
 use Rattle.bq_executor.proofs.Bases.{row-from}
 use Rattle.bq_executor.proofs.Rows.{nothing-new, ready_row, room_clear, table_later, sound_later, waits, cells, tuples, kept, within, history}
 use Rattle.bq_executor.proofs.ClearedNone.{quiet-later}
 use Rattle.bq_executor.proofs.executor.Executor.take_up_row.Goals as goal
 
-pub arrive-requires-clause-gate : goal.arrive-requires-clause-gate
-arrive-requires-clause-gate g c = λ no.
-    subst (λ (x : ExecutorValue). IsRefused x.query x.plan (arrival c.args.stream c.args.row.now.items)) (sym c.self.view_is) (c.requires.gate no)
+pub arrive-requires-clause-prefilter : goal.arrive-requires-clause-prefilter
+arrive-requires-clause-prefilter g c = λ no.
+    subst (λ (x : ExecutorValue). IsRefused x.query x.plan (arrival c.args.stream c.args.row.now.items)) (sym c.self.view_is) (c.requires.prefilter no)
 
 pub arrive-requires-clause-ready : goal.arrive-requires-clause-ready
 arrive-requires-clause-ready g c =

@@ -14,6 +14,7 @@ invariant_of-self g c =
     let there = subst (λ (v : RegistryValue). c.args.place < length v.live) (sym c.self.view_is) c.requires.there in (
       loaded_sound c.args.place c.load_cell.result 0 (λ q shared plan base. loaded_cell (boxes_for q shared plan) c.args.i c.args.v base) c.self.inside.pool c.load_cell.new.pool c.self.inside.live c.load_cell.new.live c.self.invariant.0 there did,
       loaded_silent c.args.place c.load_cell.result 0 (λ q shared plan base. loaded_cell (boxes_for q shared plan) c.args.i c.args.v base) c.self.inside.pool c.load_cell.new.pool c.self.inside.live c.load_cell.new.live c.self.invariant.0 there did c.self.inside.waiting c.self.invariant.1,
+      c.forget.ensures c.load_cell.new.live,
     )
 
 pub returns-clause-loads : goal.returns-clause-loads

@@ -12,6 +12,7 @@ invariant_of-self c =
     let there = subst (λ (v : RegistryValue). c.args.place < length v.live) (sym c.self.view_is) c.requires.there in (
       loaded_sound c.args.place c.load_tuple.result 0 (λ q shared plan base. loaded_tuple q (parts_of plan) c.args.t.now.items base) c.self.inside.pool c.self.inside.pool c.self.inside.live c.load_tuple.new.live c.self.invariant.0 there (c.load_tuple.ensures.each c.self.inside.pool),
       loaded_silent c.args.place c.load_tuple.result 0 (λ q shared plan base. loaded_tuple q (parts_of plan) c.args.t.now.items base) c.self.inside.pool c.self.inside.pool c.self.inside.live c.load_tuple.new.live c.self.invariant.0 there (c.load_tuple.ensures.each c.self.inside.pool) c.self.inside.waiting c.self.invariant.1,
+      c.forget.ensures c.load_tuple.new.live,
     )
 
 pub returns-clause-loads : goal.returns-clause-loads

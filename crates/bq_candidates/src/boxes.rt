@@ -1,0 +1,44 @@
+//! Boxes of intervals.
+ghost use Rattle.std.specs.Prelude.{◌≡◌, ℕ, ◌<◌, slice_index_or};
+ghost use Rattle.bq_candidates.specs.Boxes.{unbounded};
+
+/// The integers from one up to another, both included. The least integer of 64 bits is no bound, and neither is the greatest.
+#[derive(Clone, Copy, Debug, PartialEq, Eq)]
+pub struct Interval {
+    pub least: i64,
+    pub greatest: i64,
+}
+
+/// What a query asks of a row: an interval for each column.
+#[derive(Clone, Copy, Debug)]
+pub struct QueryBox {
+    pub columns: [Interval; 8],
+}
+
+impl Interval {
+    /// Returns the interval of all integers.
+    pub fn unbounded() -> Interval
+        ensures { result ≡ unbounded }
+    {
+        Interval {
+            least: i64::MIN,
+            greatest: i64::MAX,
+        }
+    }
+
+    /// Returns whether an integer lies outside.
+    pub fn is_bounded(&self) -> bool {
+        self.least != i64::MIN || self.greatest != i64::MAX
+    }
+}
+
+impl QueryBox {
+    /// Returns the box of all rows.
+    pub fn unbounded() -> QueryBox
+        ensures { (column : ℕ) → slice_index_or result.columns column unbounded ≡ unbounded }
+    {
+        QueryBox {
+            columns: [Interval::unbounded(); 8],
+        }
+    }
+}

@@ -1,0 +1,89 @@
+-- Which pairs a code must tell, and that their signs tell all signs of a part where a row lies in its ranges.
+use Rattle.std.proofs.Common.{◌≡◌, ℕ, zero, suc, ◌+◌, ◌<◌, ◌≤◌, Bool, true, not, ℤ, List, [], ◌∷◌, length, take, set, get_or, slice_get, All, inl, inr, refl, sym, ap, subst, arith, ◌∙◌}
+use Rattle.std.proofs.lemmas.List.{take_more}
+use Rattle.std.proofs.lemmas.List.Elements.{All-push}
+use Rattle.bq_model.proofs.Has.{Has, first, later, same_at, Has-from_contains}
+use Rattle.bq_model.specs.declared.part.Pair.{Pair}
+use Rattle.bq_model.specs.declared.part.Sign.{Sign}
+use Rattle.bq_model.specs.declared.plan.PartPlan.{PartPlan}
+use Rattle.bq_model.specs.Parts.{sign_at, is_within}
+use Rattle.bq_model.specs.Admission.{alone, sign_eq}
+use Rattle.bq_laws.proofs.Tests.{all_if, or-left, or-right, true_or_false, sign_eq-itself}
+use Rattle.bq_synopsis.specs.declared.prepared.Prepared.{Prepared}
+use Rattle.bq_synopsis.specs.Preparing.{keeps_pair, IsPrepared}
+use Rattle.bq_index.specs.PartIndex.{IsLocal, sign_of_row, IsMarked, AreMarked, TellPart, AreKeyPairs, HasKeyPairs, AreWhole, TellAll}
+use Rattle.bq_index.specs.Prepared.{ArePrepared}
+
+-- what is marked stays marked
+pub still_marked : (marks : List Bool) (j i : ℕ) → IsMarked marks i → IsMarked (set marks j true) i
+still_marked [] j i h = absurd cc
+still_marked (b ∷ marks) zero zero h = refl
+still_marked (b ∷ marks) (suc j) zero h = h
+still_marked (b ∷ marks) zero (suc i) h = h
+still_marked (b ∷ marks) (suc j) (suc i) h = still_marked marks j i h
+
+now_marked : (marks : List Bool) (i : ℕ) → i < length marks → IsMarked (set marks i true) i
+now_marked [] i l = absurd (omega (arith, l))
+now_marked (b ∷ marks) zero l = refl
+now_marked (b ∷ marks) (suc i) l = now_marked marks i (omega (arith, l))
+
+-- one number more
+pub marked_more : (marks : List Bool) (tests : List ℕ) (i x : ℕ) → i < length tests → x ≡ get_or tests i x → x < length marks
+    → All (IsMarked marks) (take i tests) → All (IsMarked (set marks x true)) (take (i + 1) tests)
+marked_more marks tests i x within at inside all =
+    let P : ℕ → Type 0 = IsMarked (set marks x true) in
+    subst (λ (xs : List ℕ). All P xs) (sym (take_more tests i x within))
+    (All-push P (take i tests) (get_or tests i x) (λ k d l. still_marked marks x (get_or (take i tests) k d) (all k d l))
+    (subst P at (now_marked marks x inside)))
+
+-- what a list has at each place, each member has
+all_has : (P : ℕ → Type 0) (xs : List ℕ) (x : ℕ) → All P xs → Has xs x → P x
+all_has P [] x h k = elim k [ ]
+all_has P (y ∷ xs) x h first = h 0 x (omega arith)
+all_has P (y ∷ xs) x h (later k) = all_has P xs x (λ n d l. h (suc n) d (omega (arith, l))) k
+
+-- a pair has its sign, where it has it if it is of the stream
+kept_pair : (place : ℕ) (v : ℕ → ℤ) (ps : List Pair) (ss : List Sign) (i : ℕ) → i < length ps → length ps ≤ length ss
+    → (IsLocal ps place i → sign_of_row v (slice_get ps i) ≡ get_or ss i Sign.Lt) → keeps_pair place (alone v) (slice_get ps i) (slice_get ss i) ≡ true
+kept_pair place v [] ss i l many h = absurd (omega (arith, l))
+kept_pair place v (p ∷ ps) [] i l many h = absurd (omega (arith, many))
+kept_pair place v (p ∷ ps) (s ∷ ss) zero l many h = elim (true_or_false (is_within place p.left p.right)) [
+  | inl here ↦ or-right (not (is_within place p.left p.right)) (sign_eq (sign_at (alone v) p) s)
+      (subst (λ (x : Sign). sign_eq (sign_at (alone v) p) x ≡ true) (h here) (sign_eq-itself (sign_at (alone v) p)))
+  | inr other ↦ or-left (not (is_within place p.left p.right)) (sign_eq (sign_at (alone v) p) s) (ap not other)
+]
+kept_pair place v (p ∷ ps) (s ∷ ss) (suc i) l many h = kept_pair place v ps ss i (omega (arith, l)) (omega (arith, many)) h
+
+module _ (ps : List Pair) (marks : List Bool) (below : (i : ℕ) → IsMarked marks i → i < length ps) where
+  -- the marked pairs tell a part
+  part_told : (part : PartPlan) (x : Prepared) → IsPrepared ps part x → length ps ≤ length part.signs.items → AreMarked marks x → TellPart ps marks part
+  part_told part x prepared many marked place v inside has =
+      prepared.tests place v inside
+      ∙ all_if (λ i. keeps_pair place (alone v) (slice_get ps i) (slice_get part.signs.items i)) x.tests.items
+      (λ i k. let m = all_has (IsMarked marks) x.tests.items i marked k in kept_pair place v ps part.signs.items i (below i m) many (has i m))
+
+  -- and each of them
+  pub parts_told : (parts : List PartPlan) (xs : List Prepared) → ArePrepared ps parts xs → AreWhole ps parts → All (AreMarked marks) xs → AreKeyPairs ps parts marks
+  parts_told [] xs prepared whole marked k part at_k = absurd cc
+  parts_told (y ∷ parts) [] prepared whole marked k part at_k = absurd prepared
+  parts_told (y ∷ parts) (x ∷ xs) prepared whole marked zero part at_k =
+      let same : y ≡ part = cc in
+      subst (λ (z : PartPlan). TellPart ps marks z) same (part_told y x prepared.0 (whole 0 y (omega arith)) (marked 0 x (omega arith)))
+  parts_told (y ∷ parts) (x ∷ xs) prepared whole marked (suc k) part at_k =
+      parts_told parts xs prepared.1 (λ n d l. whole (suc n) d (omega (arith, l))) (λ n d l. marked (suc n) d (omega (arith, l))) k part at_k
+
+-- the same of a list that is that of the pairs
+pub key_pairs_told : (ps listed : List Pair) (parts : List PartPlan) (xs : List Prepared) (marks : List Bool) → listed ≡ ps → ArePrepared ps parts xs → AreWhole listed parts → All (AreMarked marks) xs
+    → ((i : ℕ) → IsMarked marks i → i < length listed) → AreKeyPairs ps parts marks
+key_pairs_told ps listed parts xs marks same prepared whole marked below =
+    parts_told ps marks (subst (λ (qs : List Pair). (i : ℕ) → IsMarked marks i → i < length qs) same below) parts xs prepared (subst (λ (qs : List Pair). AreWhole qs parts) same whole) marked
+
+-- tests with all marked pairs tell all
+pub tests_tell : (ps : List Pair) (parts : List PartPlan) (marks : List Bool) (place : ℕ) (tests : List ℕ) → AreKeyPairs ps parts marks → HasKeyPairs ps marks place tests → length tests ≤ 20
+    → TellAll ps parts place tests
+tests_tell ps parts marks place tests are has few = record {
+  few = few;
+  all = λ k part at_k v inside same.
+      are k part at_k place v inside
+      (λ i marked local. same_at (λ n. sign_of_row v (slice_get ps n)) (λ n. get_or part.signs.items n Sign.Lt) same (Has-from_contains tests i (has i marked local)));
+}

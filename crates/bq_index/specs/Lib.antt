@@ -1,0 +1,5 @@
+pub mod Owners
+pub mod PartIndex
+pub mod Prefilter
+pub mod Prepared
+pub mod Passing

@@ -1,0 +1,19 @@
+//! The index that leads a row to the parts of a plan that may admit it.
+//!
+//! A prefilter refuses a row outside the ranges that its columns have over all parts. Any other row of a stream of FROM is led by its signs
+//! to a bucket, a chain of parts that ask for the same signs, and is tested by these. Where at most 20 signs tell parts from each
+//! other or do not follow from their ranges, one number tells all signs, and these are compared by it alone. Where cells are shared, it
+//! tells which part takes a row into a box.
+#![tactic(auto)]
+
+mod interval;
+mod key_pairs;
+mod owners;
+mod part_index;
+mod passing;
+mod prefilter;
+mod prepared;
+
+pub use part_index::{CodedRow, IndexHit, PartIndex};
+pub use prefilter::{Prefilter, column_of, prefilter_of, stream_of};
+pub use prepared::{PreparedPlan, prepare_all};

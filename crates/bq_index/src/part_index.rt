@@ -1,0 +1,439 @@
+//! Which parts may admit a row: those that ask for the signs that the row has. Parts that ask for the same signs stand in one bucket, and a
+//! chain leads through them, so that a row is led to them by one look-up.
+ghost use Rattle.std.specs.Prelude.{◌≡◌, ◌+◌, ◌*◌, ◌%◌, ◌^◌, ◌<◌, ◌≤◌, length, map, slice_get, slice_index_or, bit_and, true, false, Some, All, IfOk};
+ghost use Rattle.std.specs.List.{list_all};
+ghost use Rattle.bq_model.specs.Parts.{pairs, is_within, sign, sign_at};
+ghost use Rattle.bq_model.specs.Assignment.{value};
+ghost use Rattle.bq_model.specs.Meaning.{by_column};
+ghost use Rattle.bq_model.specs.Admission.{alone, keeps_signs, in_range, admits};
+ghost use Rattle.bq_model.specs.Plan.{dims_at};
+ghost use Rattle.bq_synopsis.specs.Preparing.{IsPrepared};
+ghost use Rattle.bq_synopsis.specs.Axes.{IsPlacement};
+ghost use Rattle.bq_index.specs.Owners.{BeginBehind, EachTakes, takes_rows};
+ghost use Rattle.bq_index.specs.PartIndex.{IsLocal, signs_at, signs_of_part, number_of, code_after, codes_of, row_code, buckets_of, row_bucket, AreOf, IsNext, IsMarked, AreKeyPairs, HasKeyPairs, TellAll, AreLinked, IsPartIndex};
+
+use crate::key_pairs::KeyPairs;
+use crate::owners::{each_takes, owners_at};
+use crate::prefilter::column_of;
+use arrayvec::ArrayVec;
+use bq_model::{Element, Pair, PartPlan, PartPlans, Query, Row, Sign};
+use bq_synopsis::{Placement, Prepared, placement_of};
+use std::alloc::{AllocError, Global};
+
+/// The numbers of the pairs whose signs make a code, these pairs in the same order, whether a code tells all signs of a row in the
+/// ranges of a part, the code of each part, and whether it takes rows into a box of its own, whether each part does, the number of the
+/// greatest bucket, the first part of each bucket, and for each part the next one of its bucket. Where there is no such part, the
+/// number of all parts stands.
+#[derive(Drop)]
+pub struct PartIndex {
+    tests: ArrayVec<u8, 114>,
+    tested: Vec<Pair>,
+    exact: bool,
+    codes: Vec<u32>,
+    owns: Vec<bool>,
+    each: bool,
+    greatest: u32,
+    firsts: Vec<u32>,
+    nexts: Vec<u32>,
+}
+
+/// The code of a row, and the first part that it is led to.
+#[derive(Drop)]
+pub struct IndexHit {
+    pub code: u32,
+    pub first: u32,
+}
+
+/// A row of the stream at a place of FROM, its code there, and the query and the parts that it is led to.
+#[derive(Clone, Copy)]
+pub struct CodedRow<'a> {
+    pub q: &'a Query,
+    pub parts: &'a PartPlans,
+    pub pos: u8,
+    pub row: &'a Row,
+    pub code: u32,
+}
+
+// The numbers of the pairs whose signs make a code, and whether the code tells all signs of a row in the ranges of a part.
+struct Tests {
+    numbers: ArrayVec<u8, 114>,
+    exact: bool,
+}
+
+// The value of an element in a row.
+fn value_of(row: &[i64], element: Element) -> i64
+    ensures { result ≡ value element (alone (by_column row.now)) }
+{
+    match element {
+        Element::Attr(attr) => column_of(row, attr.column),
+        Element::Const(integer) => integer,
+    }
+}
+
+// The number of the sign by which two integers stand to each other, without a branch.
+fn number_between(x: i64, y: i64) -> u32
+    ensures { result ≡ number_of (sign x y) }
+{
+    u32::from(y <= x) + u32::from(y < x)
+}
+
+// The number of the sign that a row has at a pair.
+fn number_at(row: &[i64], pair: &Pair) -> u32
+    ensures { result ≡ number_of (sign_at (alone (by_column row.now)) pair.now) }
+{
+    number_between(column_of(row, pair.left.column), value_of(row, pair.right))
+}
+
+// The number of a sign.
+fn number_of(sign: Sign) -> u32
+    ensures number { result ≡ number_of sign }
+    ensures small { result < 3 }
+{
+    match sign {
+        Sign::Lt => 0,
+        Sign::Eq => 1,
+        Sign::Gt => 2,
+    }
+}
+
+// The code with the number of one sign more.
+fn with_number(code: u32, number: u32) -> u32
+    ensures { result ≡ (code * 3 + number) % 2 ^ 32 }
+{
+    code.wrapping_mul(3).wrapping_add(number)
+}
+
+// The bucket of a code.
+fn bucket_of_code(code: u32, greatest: u32) -> u32
+    ensures bucket { result ≡ bit_and code greatest }
+    ensures within { result ≤ greatest }
+{
+    code & greatest
+}
+
+// The code of a row, by the pairs that are tested.
+fn code_of_row(row: &[i64], tested: &[Pair]) -> u32
+    ensures { result ≡ code_after 0 (signs_at (by_column row.now) tested.now) }
+{
+    let mut code: u32 = 0;
+    'tests: for pair in tested {
+        code = with_number(code, number_at(row, pair));
+    }
+    code
+}
+
+// The sign that a part asks of the pair of a number.
+fn sign_of_part(part: &PartPlan, i: u8) -> Sign
+    ensures { result ≡ slice_index_or part.now.signs.items i Sign.Lt }
+{
+    part.signs
+        .as_slice()
+        .get(usize::from(i))
+        .copied()
+        .unwrap_or(Sign::Lt)
+}
+
+// The code of a part.
+fn code_of_part(part: &PartPlan, tests: &[u8]) -> u32
+    ensures { result ≡ code_after 0 (signs_of_part part.now tests.now) }
+{
+    let mut code: u32 = 0;
+    'tests: for i in tests {
+        code = with_number(code, number_of(sign_of_part(part, *i)));
+    }
+    code
+}
+
+impl PartIndex {
+    // The code of a row.
+    fn code(&self, q: &Query, parts: &PartPlans, pos: u8, row: &Row) -> u32
+        requires { IsPartIndex q.now parts.now pos self.now }
+        ensures { result ≡ row_code (pairs q.now) self.now (by_column row.now.items) }
+    {
+        code_of_row(row.as_slice(), self.tested.as_slice())
+    }
+
+    /// Returns the code of a row, and the first part of its bucket.
+    pub fn first(&self, q: &Query, parts: &PartPlans, pos: u8, row: &Row) -> IndexHit
+        requires { IsPartIndex q.now parts.now pos self.now }
+        ensures code { result.code ≡ row_code (pairs q.now) self.now (by_column row.now.items) }
+        ensures first { IsNext (buckets_of parts.now self.now.tests.items self.now.greatest) (row_bucket (pairs q.now) self.now (by_column row.now.items)) 0 result.first }
+    {
+        // Named for the proof alone: the contract speaks of it.
+        let _parts = parts.len();
+        let code = self.code(q, parts, pos, row);
+        let bucket = bucket_of_code(code, self.greatest);
+        IndexHit {
+            code,
+            first: self.firsts[bucket as usize],
+        }
+    }
+
+    /// Returns the next part of a part's bucket.
+    pub fn after(&self, q: &Query, parts: &PartPlans, pos: u8, i: u32) -> u32
+        requires inside { i < length parts.now }
+        requires part_index { IsPartIndex q.now parts.now pos self.now }
+        ensures { IsNext (buckets_of parts.now self.now.tests.items self.now.greatest) (slice_index_or (buckets_of parts.now self.now.tests.items self.now.greatest) i 0) (i + 1) result }
+    {
+        // Named for the proof alone: the contract speaks of it.
+        let _parts = parts.len();
+        self.nexts[i as usize]
+    }
+
+    /// Returns whether each part takes rows into a box of its own.
+    pub fn each_owns(&self, q: &Query, parts: &PartPlans, pos: u8) -> bool
+        requires { IsPartIndex q.now parts.now pos self.now }
+        ensures { result ≡ true → EachTakes q.now parts.now pos }
+    {
+        // Named for the proof alone: the contract speaks of it.
+        let _parts = parts.len();
+        self.each
+    }
+
+    /// Returns whether the part of a number takes rows into a box of its own, where it may be known that each does.
+    pub fn owns(
+        &self,
+        each: bool,
+        q: &Query,
+        parts: &PartPlans,
+        part: &PartPlan,
+        pos: u8,
+        i: u32,
+    ) -> bool
+        requires each { each ≡ true → EachTakes q.now parts.now pos }
+        requires part_index { IsPartIndex q.now parts.now pos self.now }
+        requires part { slice_get parts.now i ≡ Some part.now }
+        ensures { result ≡ takes_rows q.now parts.now pos i part.now }
+    {
+        // Named for the proof alone: the contract speaks of it.
+        let _parts = parts.len();
+        each || mark_of(&self.owns, i)
+    }
+
+    // Whether a row has the signs of a part, if it lies in the ranges of the part's dims, where codes are exact.
+    fn has_signs(&self, coded: &CodedRow<'_>, part: &PartPlan, i: u32) -> bool
+        requires part_index { IsPartIndex coded.now.q.now coded.now.parts.now coded.now.pos self.now }
+        requires exact { self.now.exact ≡ true }
+        requires part { slice_get coded.now.parts.now i ≡ Some part.now }
+        requires code { coded.now.code ≡ row_code (pairs coded.now.q.now) self.now (by_column coded.now.row.now.items) }
+        ensures { list_all (in_range (by_column coded.now.row.now.items)) (dims_at part.now coded.now.pos) ≡ true → result ≡ keeps_signs coded.now.pos (alone (by_column coded.now.row.now.items)) (pairs coded.now.q.now) part.now.signs.items }
+    {
+        // Named for the proof alone: the contract speaks of it.
+        let _parts = coded.parts.len();
+        self.codes[i as usize] == coded.code
+    }
+
+    // Whether a row may be admitted by a part: where codes are exact, whether it has the signs of the part.
+    fn may_admit(&self, coded: &CodedRow<'_>, part: &PartPlan, i: u32) -> bool
+        requires part_index { IsPartIndex coded.now.q.now coded.now.parts.now coded.now.pos self.now }
+        requires part { slice_get coded.now.parts.now i ≡ Some part.now }
+        requires code { coded.now.code ≡ row_code (pairs coded.now.q.now) self.now (by_column coded.now.row.now.items) }
+        ensures refused { result ≡ false → admits coded.now.q.now part.now coded.now.pos (by_column coded.now.row.now.items) ≡ false }
+        ensures signed { result ≡ true → self.now.exact ≡ true → admits coded.now.q.now part.now coded.now.pos (by_column coded.now.row.now.items) ≡ list_all (in_range (by_column coded.now.row.now.items)) (dims_at part.now coded.now.pos) }
+    {
+        if self.exact {
+            self.has_signs(coded, part, i)
+        } else {
+            true
+        }
+    }
+
+    /// Returns where a row stands in the part of a number.
+    pub fn placement_of(
+        &self,
+        coded: &CodedRow<'_>,
+        part: &PartPlan,
+        prepared: &Prepared,
+        i: u32,
+    ) -> Placement
+        requires here { coded.now.pos < length part.now.streams.items }
+        requires part_index { IsPartIndex coded.now.q.now coded.now.parts.now coded.now.pos self.now }
+        requires prepared { IsPrepared (pairs coded.now.q.now) part.now prepared.now }
+        requires part { slice_get coded.now.parts.now i ≡ Some part.now }
+        requires code { coded.now.code ≡ row_code (pairs coded.now.q.now) self.now (by_column coded.now.row.now.items) }
+        ensures { IsPlacement part.now coded.now.pos coded.now.row.now.items (admits coded.now.q.now part.now coded.now.pos (by_column coded.now.row.now.items)) result }
+    {
+        if self.may_admit(coded, part, i) {
+            placement_of(coded.q, part, prepared, self.exact, coded.pos, coded.row)
+        } else {
+            Placement::Outside
+        }
+    }
+}
+
+// The mark of a part.
+fn mark_of(all: &Vec<bool>, i: u32) -> bool
+    requires { i < length all.now.items }
+    ensures { slice_get all.now.items i ≡ Some result }
+{
+    all[i as usize]
+}
+
+// The number of the greatest bucket: there are at least twice as many buckets as parts, up to 4,096, and one where there are few parts.
+fn greatest_bucket(parts: u32) -> u32
+    ensures { result < 4096 }
+{
+    match parts {
+        0..=2 => 0,
+        3..=32 => 63,
+        33..=128 => 255,
+        129..=512 => 1023,
+        _ => 4095,
+    }
+}
+
+// Whether parts ask for different signs of the pair of a number, so that it tells them from each other.
+fn is_telling(parts: &PartPlans, i: u8) -> bool {
+    let count = parts.len();
+    'parts: for k in 1..count {
+        if sign_of_part(parts.get(k), i) != sign_of_part(parts.get(k - 1), i) {
+            return true;
+        }
+    }
+    false
+}
+
+// Whether the number of a pair is marked.
+fn is_marked(marks: &[bool], i: u8) -> bool
+    ensures { result ≡ slice_index_or marks.now i false }
+{
+    marks.get(usize::from(i)).copied().unwrap_or(false)
+}
+
+// Whether all columns of a pair are of the stream at a place.
+fn is_within(place: u8, pair: Pair) -> bool
+    ensures { result ≡ is_within place pair.left pair.right }
+{
+    match pair.right {
+        Element::Attr(right) => pair.left.stream == place && right.stream == place,
+        Element::Const(_) => pair.left.stream == place,
+    }
+}
+
+// Whether a pair is of the stream at a place, and is needed or tells parts from each other.
+fn is_test(parts: &PartPlans, marks: &[bool], place: u8, pair: Pair, i: u8) -> bool
+    ensures local { result ≡ true → is_within place pair.left pair.right ≡ true }
+    ensures key_pairs { is_within place pair.left pair.right ≡ true → IsMarked marks.now i → result ≡ true }
+{
+    is_within(place, pair) && (is_marked(marks, i) || is_telling(parts, i))
+}
+
+// The numbers of the pairs of the stream at a place that are needed, or by which the parts are told from each other.
+fn tests_at(q: &Query, parts: &PartPlans, marks: &[bool], place: u8) -> ArrayVec<u8, 114>
+    ensures local { All (IsLocal (pairs q.now) place) result.items }
+    ensures key_pairs { HasKeyPairs (pairs q.now) marks.now place result.items }
+{
+    let mut tests: ArrayVec<u8, 114> = ArrayVec::new();
+    let pairs = q.pairs().as_slice();
+    'pairs: for (i, pair) in pairs.iter().enumerate() {
+        if is_test(parts, marks, place, *pair, i as u8) {
+            tests.push(i as u8);
+        }
+    }
+    tests
+}
+
+// Whether signs are so few that no two lists of them have one code.
+fn are_few(tests: &[u8]) -> bool
+    ensures { result ≡ true → length tests.now ≤ 20 }
+{
+    tests.len() <= 20
+}
+
+// Whether a code of the signs at these pairs is exact.
+fn is_exact(key_pairs: &KeyPairs, tests: &[u8]) -> bool
+    ensures is_complete { result ≡ true → key_pairs.now.is_complete ≡ true }
+    ensures few { result ≡ true → length tests.now ≤ 20 }
+{
+    key_pairs.is_complete && are_few(tests)
+}
+
+// The numbers of the pairs that are tested at a place, and whether a code of their signs is exact. Few parts need not be told.
+fn tests_for(q: &Query, parts: &PartPlans, key_pairs: &KeyPairs, place: u8) -> Tests
+    requires { key_pairs.now.is_complete ≡ true → AreKeyPairs (pairs q.now) parts.now key_pairs.now.marks }
+    ensures local { All (IsLocal (pairs q.now) place) result.numbers.items }
+    ensures exact { result.exact ≡ true → TellAll (pairs q.now) parts.now place result.numbers.items }
+{
+    if greatest_bucket(parts.len()) == 0 {
+        return Tests {
+            numbers: ArrayVec::new(),
+            exact: false,
+        };
+    }
+    let numbers = tests_at(q, parts, &key_pairs.marks, place);
+    let exact = is_exact(key_pairs, numbers.as_slice());
+    Tests { numbers, exact }
+}
+
+// The codes of the parts.
+fn codes_of(alloc: Global, parts: &PartPlans, tests: &[u8]) -> Result<Vec<u32>, AllocError>
+    ensures { IfOk result (λ codes. codes.items ≡ codes_of parts.now tests.now) }
+{
+    let mut codes: Vec<u32> = Vec::with_capacity(alloc, parts.len() as usize)?;
+    'parts: for i in 0..parts.len() {
+        codes.push(code_of_part(parts.get(i), tests))?;
+    }
+    Ok(codes)
+}
+
+// The pair of a number.
+fn pair_at(pairs: &[Pair], i: u8) -> Pair
+    requires { i < length pairs.now }
+    ensures { slice_get pairs.now i ≡ Some result }
+{
+    pairs[usize::from(i)]
+}
+
+// The pairs of these numbers.
+fn pairs_of(alloc: Global, pairs: &[Pair], tests: &[u8]) -> Result<Vec<Pair>, AllocError>
+    requires { All (λ i. i < length pairs.now) tests.now }
+    ensures { IfOk result (λ tested. AreOf pairs.now tests.now tested.items) }
+{
+    let mut tested: Vec<Pair> = Vec::with_capacity(alloc, tests.len())?;
+    'tests: for i in tests {
+        tested.push(pair_at(pairs, *i))?;
+    }
+    Ok(tested)
+}
+
+/// Returns the chains of the parts of a plan at a place of FROM. An error says that memory was not found.
+pub fn part_index_at(
+    alloc: Global,
+    q: &Query,
+    parts: &PartPlans,
+    key_pairs: &KeyPairs,
+    place: u8,
+) -> Result<PartIndex, AllocError>
+    requires here { place < length q.now.from }
+    requires bases { BeginBehind (length q.now.from) parts.now }
+    requires key_pairs { key_pairs.now.is_complete ≡ true → AreKeyPairs (pairs q.now) parts.now key_pairs.now.marks }
+    ensures { IfOk result (λ part_index. IsPartIndex q.now parts.now place part_index) }
+{
+    let count = parts.len();
+    let Tests { numbers, exact } = tests_for(q, parts, key_pairs, place);
+    let tested = pairs_of(alloc, q.pairs().as_slice(), numbers.as_slice())?;
+    let codes = codes_of(alloc, parts, numbers.as_slice())?;
+    let owns = owners_at(alloc, q, parts, place)?;
+    let each = each_takes(q, parts, place, owns.as_slice());
+    let greatest = greatest_bucket(count);
+    let mut firsts: Vec<u32> = vec![in alloc; count; greatest as usize + 1]?;
+    let mut nexts: Vec<u32> = vec![in alloc; count; count as usize]?;
+    let mut i = count;
+    'parts: while i > 0 {
+        i -= 1;
+        let bucket = bucket_of_code(codes[i as usize], greatest) as usize;
+        nexts[i as usize] = firsts[bucket];
+        firsts[bucket] = i;
+    }
+    Ok(PartIndex {
+        tests: numbers,
+        tested,
+        exact,
+        codes,
+        owns,
+        each,
+        greatest,
+        firsts,
+        nexts,
+    })
+}

@@ -1,0 +1,34 @@
+-- Cells that stand equally far apart, and the first of them that is not empty.
+use Rattle.std.specs.Prelude.{◌≡◌, ℕ, ◌+◌, ◌*◌, ◌/◌, ◌<◌, ◌≤◌, List, length, slice_index, slice_index_or, Option, MatchOption}
+use Rattle.bq_model.specs.declared.cell.Cell.{Cell}
+use Rattle.bq_model.specs.declared.cell.Cell.TheVariants.{Empty}
+use Rattle.bq_pool.specs.declared.scan.StridedCells.{StridedCells}
+use Rattle.bq_pool.specs.declared.scan.Occupied.{Occupied}
+
+-- the cell at a place of a line
+abbrev pub at_stride : List Cell → StridedCells → ℕ → Cell
+at_stride cells strided i = slice_index_or cells (strided.first + i * strided.stride) Empty
+
+-- of these cells, those from one place up to another are empty
+abbrev pub NoneOccupied : (ℕ → Cell) → ℕ → ℕ → Type 0
+NoneOccupied at from to = (i : ℕ) → from ≤ i → i < to → at i ≡ Empty
+
+-- the first of these cells from one place on that is not empty, below another
+pub record IsFirst (at : ℕ → Cell) (from to : ℕ) (occupied : Occupied) : Type 0 where
+  pub after : from ≤ occupied.next
+  pub below : occupied.next < to
+  pub before : NoneOccupied at from occupied.next
+  pub cell : at occupied.next ≡ occupied.cell
+  pub some : occupied.cell ≡ Empty → ⊥
+
+-- of these cells from one place up to another the first one was found that is not empty, if one is not; and each cell that
+-- was seen is one read
+abbrev pub Scanned : (ℕ → Cell) → (from to before : ℕ) → Option Occupied → (after : ℕ) → Type 0
+Scanned at from to before found after =
+    MatchOption found (NoneOccupied at from to × (after + from ≡ before + to))
+    (λ occupied. IsFirst at from to occupied × (after + from ≡ before + occupied.next + 1))
+
+-- the table has a page of the cells for that cell of a slot
+pub record HasPage (cells : List Cell) (places : List ℕ) (slot i : ℕ) : Type 0 where
+  pub table : slot * 4096 + i / 64 < length places
+  pub page : slice_index places (slot * 4096 + i / 64) * 64 + 64 ≤ length cells

@@ -1,0 +1,170 @@
+use Rattle.std.proofs.Common.{◌≡◌, ◌≢◌, ◌-◌, ◌*◌, ◌<◌, ◌≤◌, List, length, refl, sym, ap, ◌∙◌, subst, arith}
+use Rattle.bq_model.specs.Boxes.{box_size, values_at}
+use Rattle.bq_model.specs.declared.plan.Dim.{Dim}
+use Rattle.bq_model.specs.Plan.{stream_at}
+use Rattle.bq_model.specs.Combinations.{read_from}
+use Rattle.bq_model.proofs.BoxLaws.{values-inside}
+use Rattle.bq_pool.specs.Extents.{cells_of}
+use Rattle.bq_probe.specs.declared.probe.Probe.{Probe}
+use Rattle.bq_probe.specs.Values.{rows_in}
+use Rattle.bq_probe.specs.Choosing.{cell_in}
+use Rattle.bq_probe.specs.Costs.{reads, turns, tried_size, read_at}
+use Rattle.bq_synopsis.specs.Premises.{IsLaidOut}
+use Rattle.bq_probe.specs.Remaining.{limit, dims_now}
+use Rattle.bq_synopsis.proofs.PlanLaws.{laid-beside}
+use Rattle.bq_probe.proofs.StepLaws.{inside-narrowed, light-cell, line-within, line-cell, passed-left, passed-cost, past-outer, entered-left, entered-long, entered-cost, few-candidates, read-beside}
+use Rattle.bq_probe.proofs.UnderwayLaws.{numbered}
+use Rattle.bq_probe.proofs.probe.Probe.try_line.Goals as goal
+
+pub first_occupied-requires-clause-within : goal.first_occupied-requires-clause-within
+first_occupied-requires-clause-within g c i l =
+    let p = c.args.self.now in
+    let part = c.args.part.now in
+    let known = p.room.now.chosen.items in
+    let D : List Dim = dims_now part p in
+    let size = c.requires.underway.size c.requires.going c.requires.more in
+    let laid : length known ≢ p.arriving → IsLaidOut (stream_at part (length known)) (64 * c.args.e.now.pages) = λ n. laid-beside c.args.q.now part c.requires.ready.held.walked (64 * c.args.e.now.pages) c.requires.ready.held.within p.arriving (length known) c.requires.underway.placed.here c.requires.more n in
+    let w = line-within p.pairs.now.items part p.arriving p.row.now.items (64 * c.args.e.now.pages) known laid c.requires.on.0 c.args.line c.requires.on.1 i (omega (arith, l, size)) in
+    let r = (laid c.requires.on.0).room in
+    omega (arith, w, r)
+
+pub enter-requires-clause-sound : goal.enter-requires-clause-sound
+enter-requires-clause-sound g c = numbered c.args.q.now c.args.part.now c.requires.ready.held.walked c.args.self.now.pairs.now.items c.args.self.now.arriving c.args.self.now.row.now.items c.args.self.now.room.now.chosen.items c.requires.underway.placed.here c.requires.more
+
+pub enter-requires-clause-light : goal.enter-requires-clause-light
+enter-requires-clause-light g c =
+    let p = c.args.self.now in
+    let part = c.args.part.now in
+    let known = p.room.now.chosen.items in
+    let D : List Dim = dims_now part p in
+    let size = c.requires.underway.size c.requires.going c.requires.more in
+    let laid : length known ≢ p.arriving → IsLaidOut (stream_at part (length known)) (64 * c.args.e.now.pages) = λ n. laid-beside c.args.q.now part c.requires.ready.held.walked (64 * c.args.e.now.pages) c.requires.ready.held.within p.arriving (length known) c.requires.underway.placed.here c.requires.more n in
+    let contents = cells_of c.args.pool.now c.args.e.now in
+    let at = line-cell p.pairs.now.items part p.arriving p.row.now.items (64 * c.args.e.now.pages) known laid c.requires.on.0 c.args.line c.requires.on.1 contents in
+    let found = c.in-Some.ensures.reads.0 in
+    let inside : c.in-Some.filled.next < box_size D = omega (arith, found.below, size) in
+    let i = c.in-Some.filled.next in
+    let w = light-cell part p.arriving (read_from contents) (length known) (values_at D i) c.requires.ready.fitting c.requires.more (64 * c.args.e.now.pages) laid
+    (inside-narrowed p.pairs.now.items part p.arriving p.row.now.items (64 * c.args.e.now.pages) known laid (values_at D i) (values-inside D i inside)) in
+    subst (λ x. rows_in x ≤ limit p.arriving (length known)) (at i inside ∙ found.cell) w
+
+pub returns-in-Some-clause-left : goal.returns-in-Some-clause-left
+returns-in-Some-clause-left g c =
+    let p = c.args.self.now in
+    let part = c.args.part.now in
+    let known = p.room.now.chosen.items in
+    let D : List Dim = dims_now part p in
+    let size = c.requires.underway.size c.requires.going c.requires.more in
+    let laid : length known ≢ p.arriving → IsLaidOut (stream_at part (length known)) (64 * c.args.e.now.pages) = λ n. laid-beside c.args.q.now part c.requires.ready.held.walked (64 * c.args.e.now.pages) c.requires.ready.held.within p.arriving (length known) c.requires.underway.placed.here c.requires.more n in
+    let contents = cells_of c.args.pool.now c.args.e.now in
+    let at = line-cell p.pairs.now.items part p.arriving p.row.now.items (64 * c.args.e.now.pages) known laid c.requires.on.0 c.args.line c.requires.on.1 contents in
+    let found = c.in-Some.ensures.reads.0 in
+    let inside : c.in-Some.filled.next < box_size D = omega (arith, found.below, size) in
+    let cell : cell_in part (read_from contents) p.arriving (length known) (values_at D c.in-Some.filled.next) ≡ c.in-Some.filled.cell = at c.in-Some.filled.next inside ∙ found.cell in
+    c.open.ensures.left c.args.q.now.select (read_from contents)
+    ∙ entered-left c.args.q.now.select part (read_from contents) _ c.enter.new.self _ _ c.enter.ensures.entered c.requires.going c.requires.underway.placed.same c.requires.more inside refl cell found.some
+    ∙ passed-left c.args.q.now.select part (read_from contents) p c.in-Some.filled.next c.requires.going c.requires.more found.after (omega (arith, inside))
+    (λ i a b. at i (omega (arith, b, inside)) ∙ found.before i a b)
+
+pub returns-in-Some-clause-reads : goal.returns-in-Some-clause-reads
+returns-in-Some-clause-reads g c =
+    let p = c.args.self.now in
+    let part = c.args.part.now in
+    let known = p.room.now.chosen.items in
+    let D : List Dim = dims_now part p in
+    let size = c.requires.underway.size c.requires.going c.requires.more in
+    let found = c.in-Some.ensures.reads.0 in
+    let inside : c.in-Some.filled.next < box_size D = omega (arith, found.below, size) in
+    let place = c.requires.underway.placed.same in
+    let few = few-candidates p.pairs.now.items part p.arriving p.row.now.items known in
+    let same = ap (tried_size part p.arriving) place in
+    let more : length p.room.now.numbers.items < length part.streams.items = omega (arith, place, c.requires.more) in
+    let one : read_at p.arriving (length p.room.now.numbers.items) ≡ 1 = read-beside p.arriving (length p.room.now.numbers.items) (λ h. c.requires.on.0 (place ∙ h)) in
+    let entered = entered-cost (reads part) (length part.streams.items) _ c.enter.new.self _ _ c.enter.ensures.entered c.requires.going more (omega (arith, inside, few, same)) in
+    let passed = passed-cost (reads part p.arriving) (length part.streams.items) p c.in-Some.filled.next c.requires.going more found.after (omega (arith, inside, few, same)) in
+    let each : (c.in-Some.filled.next - p.next) * read_at p.arriving (length p.room.now.numbers.items) ≡ c.in-Some.filled.next - p.next = ap (λ n. (c.in-Some.filled.next - p.next) * n) one ∙ (let e : (c.in-Some.filled.next - p.next) * 1 ≡ c.in-Some.filled.next - p.next = omega arith in e) in
+    let m = c.open.ensures.reads in
+    let s = c.in-Some.ensures.reads.1 in
+    omega (arith, entered, passed, each, one, m, s, found.after)
+
+pub returns-in-Some-clause-turns : goal.returns-in-Some-clause-turns
+returns-in-Some-clause-turns g c =
+    let p = c.args.self.now in
+    let part = c.args.part.now in
+    let known = p.room.now.chosen.items in
+    let D : List Dim = dims_now part p in
+    let size = c.requires.underway.size c.requires.going c.requires.more in
+    let found = c.in-Some.ensures.reads.0 in
+    let inside : c.in-Some.filled.next < box_size D = omega (arith, found.below, size) in
+    let place = c.requires.underway.placed.same in
+    let few = few-candidates p.pairs.now.items part p.arriving p.row.now.items known in
+    let same = ap (tried_size part p.arriving) place in
+    let more : length p.room.now.numbers.items < length part.streams.items = omega (arith, place, c.requires.more) in
+    let one : read_at p.arriving (length p.room.now.numbers.items) ≡ 1 = read-beside p.arriving (length p.room.now.numbers.items) (λ h. c.requires.on.0 (place ∙ h)) in
+    let entered = entered-cost (turns part) (length part.streams.items) _ c.enter.new.self _ _ c.enter.ensures.entered c.requires.going more (omega (arith, inside, few, same)) in
+    let passed = passed-cost (turns part p.arriving) (length part.streams.items) p c.in-Some.filled.next c.requires.going more found.after (omega (arith, inside, few, same)) in
+    let m = c.open.ensures.turns in
+    omega (arith, entered, passed, m)
+
+pub returns-in-None-clause-left : goal.returns-in-None-clause-left
+returns-in-None-clause-left g c =
+    let p = c.args.self.now in
+    let part = c.args.part.now in
+    let known = p.room.now.chosen.items in
+    let D : List Dim = dims_now part p in
+    let size = c.requires.underway.size c.requires.going c.requires.more in
+    let laid : length known ≢ p.arriving → IsLaidOut (stream_at part (length known)) (64 * c.args.e.now.pages) = λ n. laid-beside c.args.q.now part c.requires.ready.held.walked (64 * c.args.e.now.pages) c.requires.ready.held.within p.arriving (length known) c.requires.underway.placed.here c.requires.more n in
+    let contents = cells_of c.args.pool.now c.args.e.now in
+    let at = line-cell p.pairs.now.items part p.arriving p.row.now.items (64 * c.args.e.now.pages) known laid c.requires.on.0 c.args.line c.requires.on.1 contents in
+    let empty = c.in-None.ensures.reads.0 in
+    let passed : Probe = record { arriving = p.arriving; row = p.row; pairs = p.pairs; prepared = p.prepared; room = p.room; level = p.level; next = p.size; size = p.size; over = p.over } in
+    c.retreat.ensures.left c.args.q.now.select (read_from contents)
+    ∙ sym (past-outer c.args.q.now.select part (read_from contents) passed c.requires.going c.requires.more (omega (arith, size)))
+    ∙ passed-left c.args.q.now.select part (read_from contents) p p.size c.requires.going c.requires.more (omega (arith, c.requires.below)) (omega (arith, size))
+    (λ i a b. at i (omega (arith, b, size)) ∙ empty i a b)
+
+pub returns-in-None-clause-reads : goal.returns-in-None-clause-reads
+returns-in-None-clause-reads g c =
+    let p = c.args.self.now in
+    let part = c.args.part.now in
+    let known = p.room.now.chosen.items in
+    let D : List Dim = dims_now part p in
+    let size = c.requires.underway.size c.requires.going c.requires.more in
+    let place = c.requires.underway.placed.same in
+    let few = few-candidates p.pairs.now.items part p.arriving p.row.now.items known in
+    let same = ap (tried_size part p.arriving) place in
+    let more : length p.room.now.numbers.items < length part.streams.items = omega (arith, place, c.requires.more) in
+    let one : read_at p.arriving (length p.room.now.numbers.items) ≡ 1 = read-beside p.arriving (length p.room.now.numbers.items) (λ h. c.requires.on.0 (place ∙ h)) in
+    let passed = passed-cost (reads part p.arriving) (length part.streams.items) p p.size c.requires.going more (omega (arith, c.requires.below)) (omega (arith, size, few, same)) in
+    let each : (p.size - p.next) * read_at p.arriving (length p.room.now.numbers.items) ≡ p.size - p.next = ap (λ n. (p.size - p.next) * n) one ∙ (let e : (p.size - p.next) * 1 ≡ p.size - p.next = omega arith in e) in
+    let m = c.retreat.ensures.reads in
+    let s = c.in-None.ensures.reads.1 in
+    omega (arith, passed, each, m, s, c.requires.below)
+
+pub returns-in-None-clause-turns : goal.returns-in-None-clause-turns
+returns-in-None-clause-turns g c =
+    let p = c.args.self.now in
+    let part = c.args.part.now in
+    let known = p.room.now.chosen.items in
+    let D : List Dim = dims_now part p in
+    let size = c.requires.underway.size c.requires.going c.requires.more in
+    let place = c.requires.underway.placed.same in
+    let few = few-candidates p.pairs.now.items part p.arriving p.row.now.items known in
+    let same = ap (tried_size part p.arriving) place in
+    let more : length p.room.now.numbers.items < length part.streams.items = omega (arith, place, c.requires.more) in
+    let one : read_at p.arriving (length p.room.now.numbers.items) ≡ 1 = read-beside p.arriving (length p.room.now.numbers.items) (λ h. c.requires.on.0 (place ∙ h)) in
+    let passed = passed-cost (turns part p.arriving) (length part.streams.items) p p.size c.requires.going more (omega (arith, c.requires.below)) (omega (arith, size, few, same)) in
+    let m = c.retreat.ensures.turns in
+    omega (arith, passed, m)
+
+pub open-requires-clause-apart : goal.open-requires-clause-apart
+open-requires-clause-apart g c e =
+    let level = c.requires.underway.level c.requires.going c.requires.more c.requires.below in
+    let long = entered-long _ c.enter.new.self _ _ c.enter.ensures.entered in
+    let same = c.enter.ensures.entered.level in
+    omega (arith, level, long, same, e)
+
+pub enter-requires-clause-apart : goal.enter-requires-clause-apart
+enter-requires-clause-apart g c e =
+    let level = c.requires.underway.level c.requires.going c.requires.more c.requires.below in
+    omega (arith, level, e)

@@ -1,0 +1,102 @@
+//! Rows whose own columns leave, at the last place that a walk would come to, no cell that holds anything.
+ghost use Rattle.std.specs.Prelude.{◌≡◌, ◌*◌, ◌≤◌, length, true};
+ghost use Rattle.bq_model.specs.Combinations.{read_from};
+ghost use Rattle.bq_model.specs.Meaning.{by_column};
+ghost use Rattle.bq_model.specs.Plan.{stream_at};
+ghost use Rattle.bq_pool.specs.Extents.{cells_of, IsLive};
+ghost use Rattle.bq_probe.specs.Beside.{last_beside, beside_dims, IsEmptyBeside, IsInnerBox, IsEmptyIn};
+ghost use Rattle.bq_synopsis.specs.Premises.{IsLaidOut};
+ghost use Rattle.bq_synopsis.specs.Narrowing.{cut_by, cut};
+
+use crate::lines::line_of;
+use crate::lists::Dims;
+use crate::narrow::{above, below};
+use bq_model::{Dim, Link, PartPlan, StreamPlan, size_of};
+use bq_pool::{Extent, Pool};
+use bq_synopsis::{column_of, dims_at, is_known, is_same, stream_at};
+
+// The dim with the values that an inequality with a column of the row leaves.
+fn cut_by(arriving: u8, row: &[i64], link: Link, dim: Dim) -> Dim
+    ensures { result ≡ cut_by arriving 0 link (λ a. by_column row.now a.column) dim }
+{
+    if is_same(link.left, dim.attr) && is_known(arriving, 0, link.right) {
+        return below(dim, column_of(row, link.right));
+    }
+    if is_same(link.right, dim.attr) && is_known(arriving, 0, link.left) {
+        return above(dim, column_of(row, link.left));
+    }
+    dim
+}
+
+// The dim with the values that the inequalities with columns of the row leave.
+fn cut(arriving: u8, row: &[i64], links: &[Link], dim: Dim) -> Dim
+    ensures { result ≡ cut arriving 0 links.now (λ a. by_column row.now a.column) dim }
+{
+    let mut left = dim;
+    'links: for link in links {
+        left = cut_by(arriving, row, *link, left);
+    }
+    left
+}
+
+// Puts into `dims` the dims of a place, each with the values that the inequalities with columns of the row leave.
+fn beside_dims(part: &PartPlan, arriving: u8, row: &[i64], place: usize, dims: &mut Dims)
+    ensures { dims.new.items ≡ beside_dims part.now arriving row.now place }
+{
+    dims.clear();
+    'dims: for dim in dims_at(part, place) {
+        dims.push(cut(arriving, row, part.less.as_slice(), *dim));
+    }
+}
+
+// Whether the cells of a box for the values of these dims are seen to be empty, where they stand side by side.
+fn holds_nothing(pool: &Pool, e: &Extent, plan: &StreamPlan, dims: &[Dim]) -> bool
+    requires live { IsLive pool.now e.now }
+    requires laid { IsLaidOut plan.now (64 * e.now.pages) }
+    requires inner { IsInnerBox plan.now.dims.items dims.now }
+    ensures { result ≡ true → IsEmptyIn plan.now (cells_of pool.now e.now) dims.now }
+{
+    let size = size_of(dims);
+    if size == 0 {
+        return true;
+    }
+    let Some(line) = line_of(plan.base, plan.dims.as_slice(), dims) else {
+        return false;
+    };
+    if line.stride != 1 {
+        return false;
+    }
+    pool.is_clear(e, line.first, size)
+}
+
+// The last place that a walk comes to.
+fn last_beside(streams: usize, arriving: u8) -> usize
+    requires { 2 ≤ streams }
+    ensures { result ≡ last_beside streams arriving }
+{
+    if usize::from(arriving) == streams - 1 {
+        streams - 2
+    } else {
+        streams - 1
+    }
+}
+
+/// Returns whether it is seen that the row's own columns leave no cell that holds anything at the last place that a walk comes to. No
+/// cell is read.
+pub fn leaves_nothing(
+    pool: &Pool,
+    e: &Extent,
+    part: &PartPlan,
+    arriving: u8,
+    row: &[i64],
+    dims: &mut Dims,
+) -> bool
+    requires several { 2 ≤ length part.now.streams.items }
+    requires live { IsLive pool.now e.now }
+    requires laid { IsLaidOut (stream_at part.now (last_beside (length part.now.streams.items) arriving)) (64 * e.now.pages) }
+    ensures { result ≡ true → IsEmptyBeside part.now (read_from (cells_of pool.now e.now)) arriving row.now (last_beside (length part.now.streams.items) arriving) }
+{
+    let place = last_beside(part.streams.as_slice().len(), arriving);
+    beside_dims(part, arriving, row, place, dims);
+    holds_nothing(pool, e, stream_at(part, place), dims.as_slice())
+}

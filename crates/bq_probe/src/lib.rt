@@ -1,0 +1,29 @@
+//! The probe: which combinations of cells of the other streams answer a row that arrives.
+//!
+//! It walks the other streams in FROM order, and in each only the values that the links leave: a dim that a link says
+//! equals a column of the arriving row or of an earlier stream has one value, or none where that lies outside its range; a
+//! dim that stands in an inequality with such a column has the values on its side. Where the cells to try stand equally far
+//! apart, empty ones are passed by their numbers alone. It leaves a branch at the first empty cell. What the links leave at a
+//! place is listed with the part as far as it is the same for all rows, so that mostly no link is looked at; and where one cell
+//! is left at the first place, it is seen before a walk begins whether that is empty. It holds fixed arrays and takes no memory.
+#![tactic(auto)]
+
+mod beside;
+mod chosen;
+mod combination;
+mod fixed;
+mod lines;
+mod links;
+mod lists;
+mod narrow;
+mod nothing;
+mod part;
+mod probe;
+mod room;
+mod stack;
+mod values;
+
+pub use nothing::sees_nothing;
+pub use part::PartAt;
+pub use probe::Probe;
+pub use room::Room;

@@ -1,0 +1,64 @@
+//! What holds between the cells of a combination, and what it answers.
+ghost use Rattle.std.specs.Prelude.{◌≡◌, ◌≤◌, length, int_lt, map};
+ghost use Rattle.std.specs.List.{list_all};
+ghost use Rattle.std.specs.Ordering.{int_eq};
+ghost use Rattle.bq_synopsis.specs.Preparing.{IsPrepared};
+ghost use Rattle.bq_probe.specs.Values.{value_in};
+ghost use Rattle.bq_probe.specs.Choosing.{meets_links, tuple_of};
+
+use crate::chosen::Chosen;
+use crate::part::RowAt;
+use crate::values::value_in;
+use bq_model::{Attr, Link, Tuple};
+
+// Whether the two sides of each link are equal.
+fn all_equal(at: &RowAt<'_>, known: &[Chosen], links: &[Link]) -> bool
+    requires prepared { IsPrepared at.now.pairs.now at.now.part.now at.now.prepared.now }
+    ensures { result ≡ list_all (λ l. int_eq (value_in at.now.pairs.now at.now.part.now at.now.arriving at.now.row.now known.now l.left) (value_in at.now.pairs.now at.now.part.now at.now.arriving at.now.row.now known.now l.right)) links.now }
+{
+    'links: for l in links {
+        let left = value_in(at, known, l.left);
+        let right = value_in(at, known, l.right);
+        if !(left == right) {
+            return false;
+        }
+    }
+    true
+}
+
+// Whether the left side of each link is less.
+fn all_less(at: &RowAt<'_>, known: &[Chosen], links: &[Link]) -> bool
+    requires prepared { IsPrepared at.now.pairs.now at.now.part.now at.now.prepared.now }
+    ensures { result ≡ list_all (λ l. int_lt (value_in at.now.pairs.now at.now.part.now at.now.arriving at.now.row.now known.now l.left) (value_in at.now.pairs.now at.now.part.now at.now.arriving at.now.row.now known.now l.right)) links.now }
+{
+    'links: for l in links {
+        let left = value_in(at, known, l.left);
+        let right = value_in(at, known, l.right);
+        if !(left < right) {
+            return false;
+        }
+    }
+    true
+}
+
+/// Returns whether all links of the part hold.
+#[tactic(auto, unfolding(crate::specs::Choosing::meets_links))]
+pub fn meets_links(at: &RowAt<'_>, known: &[Chosen]) -> bool
+    requires prepared { IsPrepared at.now.pairs.now at.now.part.now at.now.prepared.now }
+    ensures { result ≡ meets_links at.now.pairs.now at.now.part.now at.now.arriving at.now.row.now known.now }
+{
+    all_equal(at, known, at.part.equal.as_slice()) && all_less(at, known, at.part.less.as_slice())
+}
+
+/// Puts the values of the selected columns into `tuple`.
+#[tactic(auto, unfolding(crate::specs::Choosing::tuple_of))]
+pub fn tuple_of(at: &RowAt<'_>, known: &[Chosen], select: &[Attr], tuple: &mut Tuple)
+    requires few { length select.now ≤ 8 }
+    requires prepared { IsPrepared at.now.pairs.now at.now.part.now at.now.prepared.now }
+    ensures { tuple.new.items ≡ tuple_of at.now.pairs.now select.now at.now.part.now at.now.arriving at.now.row.now known.now }
+{
+    tuple.clear();
+    'selected: for a in select {
+        tuple.push(value_in(at, known, *a));
+    }
+}

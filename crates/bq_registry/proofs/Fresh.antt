@@ -1,0 +1,18 @@
+-- A registry with no live query.
+use Rattle.std.proofs.Common.{◌≡◌, ◌≢◌, ◌+◌, ◌≤◌, List, [], length, subst, sym, ap, arith, All, AllPairs}
+use Rattle.std.specs.List.{sum_by}
+use Rattle.bq_pool.specs.Extents.{PoolValue, IsFresh, live_extents}
+use Rattle.bq_registry.specs.Live.{Live}
+use Rattle.bq_registry.specs.Registry.{IsSound}
+
+pub sound_none : (pool : PoolValue) (live : List Live) → IsFresh 16384 pool → live ≡ [] → IsSound pool live
+sound_none pool live f none = subst (λ (xs : List Live). IsSound pool xs) (sym none) record {
+  few = omega arith;
+  slots = f.slots;
+  count = f.none;
+  free = (let free = f.free in omega (arith, free));
+  sound = λ i l a. absurd (omega (arith, a));
+  within = λ i l a. absurd (omega (arith, a));
+  kept = λ i l a. absurd (omega (arith, a));
+  apart = λ i j l a b. absurd (omega (arith, b));
+}

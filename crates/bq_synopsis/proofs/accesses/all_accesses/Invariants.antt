@@ -1,0 +1,11 @@
+use Rattle.std.proofs.Common.{◌≡◌, ℕ, length, []}
+use Rattle.std.specs.Prelude.{Some, slice_get, slice_index_or}
+use Rattle.bq_synopsis.specs.declared.accesses.Access.{Access}
+use Rattle.bq_synopsis.specs.Pinning.{IsWhole}
+use Rattle.bq_synopsis.proofs.accesses.all_accesses.Given as goal
+
+abbrev pub invariant-streams : goal.invariant-streams
+invariant-streams l = record {
+  count : length l.all.items ≡ l.arriving;
+  each : (arriving place : ℕ) (access : Access) → slice_get (slice_index_or l.all.items arriving (record { items = [] })).items place ≡ Some access → access ≡ Access.Whole → IsWhole l.part arriving place;
+}

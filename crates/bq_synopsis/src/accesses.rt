@@ -1,0 +1,130 @@
+//! What the links with known columns leave at a place, listed when a part is prepared.
+ghost use Rattle.std.specs.Prelude.{◌≡◌, ℕ, ◌&&◌, ◌||◌, true, length, map, Some, slice_get, slice_index_or, []};
+ghost use Rattle.std.specs.List.{list_any, list_all};
+ghost use Rattle.bq_model.specs.declared.atom.Attr.{Attr};
+ghost use Rattle.bq_model.specs.Plan.{dims_at};
+ghost use Rattle.bq_synopsis.specs.Pinning.{touches, is_free, IsWhole};
+ghost use Rattle.bq_synopsis.specs.declared.accesses.Access.{Access};
+ghost use Rattle.bq_synopsis.specs.declared.accesses.Access.TheVariants as accesses;
+
+use crate::classes::{dims_at, is_same};
+use crate::known::{is_known, witness};
+use arrayvec::ArrayVec;
+use bq_model::{Attr, Dim, Link, PartPlan};
+
+/// What the links with known columns leave of the dims of a place.
+#[derive(Clone, Copy, Debug, Default, PartialEq, Eq)]
+pub enum Access {
+    /// What they leave is to be worked out for each row.
+    #[default]
+    Searched,
+    /// One value of each dim: this is a hint, on which no answer rests.
+    Fixed,
+    /// All values of each dim.
+    Whole,
+}
+
+/// Returns whether it is listed that one value of each dim is left. This is a hint, on which no answer rests.
+pub fn may_fix(listed: Option<Access>) -> bool {
+    match listed {
+        Some(access) => match access {
+            Access::Fixed => true,
+            Access::Whole => false,
+            Access::Searched => false,
+        },
+        None => false,
+    }
+}
+
+/// Returns whether it is listed that all values are left.
+pub fn is_whole(listed: Option<Access>) -> bool
+    ensures { result ≡ true → listed ≡ Some accesses.Whole }
+{
+    match listed {
+        Some(access) => match access {
+            Access::Whole => true,
+            Access::Fixed => false,
+            Access::Searched => false,
+        },
+        None => false,
+    }
+}
+
+// Whether a link is between a column and a known one.
+fn touches(arriving: u8, place: usize, a: Attr, link: Link) -> bool
+    ensures { result ≡ touches arriving place a link }
+{
+    (is_same(link.left, a) && is_known(arriving, place, link.right))
+        || (is_same(link.right, a) && is_known(arriving, place, link.left))
+}
+
+// Whether some link is.
+fn any_touches(arriving: u8, place: usize, a: Attr, links: &[Link]) -> bool
+    ensures { result ≡ list_any (touches arriving place a) links.now }
+{
+    links.iter().any(|link| touches(arriving, place, a, *link))
+}
+
+// Whether no link is between a dim and a known column.
+fn is_free(part: &PartPlan, arriving: u8, place: usize, dim: Dim) -> bool
+    ensures { result ≡ is_free part.now arriving place dim }
+{
+    !any_touches(arriving, place, dim.attr, part.equal.as_slice())
+        && !any_touches(arriving, place, dim.attr, part.less.as_slice())
+}
+
+// Whether no link is between any of these dims and a known column.
+fn all_free(part: &PartPlan, arriving: u8, place: usize, dims: &[Dim]) -> bool
+    ensures { result ≡ list_all (is_free part.now arriving place) dims.now }
+{
+    dims.iter().all(|dim| is_free(part, arriving, place, *dim))
+}
+
+// Whether known columns fix all dims of a place.
+fn are_fixed(part: &PartPlan, arriving: u8, place: usize, dims: &[Dim]) -> bool {
+    dims.iter().all(|dim| witness(arriving, place, dim.attr, part.equal.as_slice()).is_some())
+}
+
+// What the links leave at a place; of the arriving row's own none is asked.
+fn access_at(part: &PartPlan, arriving: u8, place: usize) -> Access
+    ensures { result ≡ accesses.Whole → IsWhole part.now arriving place }
+{
+    if place == usize::from(arriving) {
+        return Access::Searched;
+    }
+    let dims = dims_at(part, place);
+    if all_free(part, arriving, place, dims) {
+        return Access::Whole;
+    }
+    if are_fixed(part, arriving, place, dims) {
+        return Access::Fixed;
+    }
+    Access::Searched
+}
+
+// The same of each place.
+fn accesses_at(part: &PartPlan, arriving: u8) -> ArrayVec<Access, 4>
+    ensures { (place : ℕ) (access : Access) → slice_get result.items place ≡ Some access → access ≡ accesses.Whole → IsWhole part.now arriving place }
+{
+    let mut places: ArrayVec<Access, 4> = ArrayVec::new();
+    let streams = part.streams.as_slice().len();
+    'places: for place in 0..streams {
+        places.push(access_at(part, arriving, place));
+    }
+    places
+}
+
+/// Returns the same for each arriving stream. Of one stream alone none is asked: there is nothing to walk.
+pub fn all_accesses(part: &PartPlan) -> ArrayVec<ArrayVec<Access, 4>, 4>
+    ensures { (arriving place : ℕ) (access : Access) → slice_get (slice_index_or result.items arriving (record { items = [] })).items place ≡ Some access → access ≡ accesses.Whole → IsWhole part.now arriving place }
+{
+    let mut all: ArrayVec<ArrayVec<Access, 4>, 4> = ArrayVec::new();
+    let streams = part.streams.as_slice().len() as u8;
+    if streams == 1 {
+        return all;
+    }
+    'streams: for arriving in 0..streams {
+        all.push(accesses_at(part, arriving));
+    }
+    all
+}

@@ -1,0 +1,29 @@
+//! Which columns a walk knows, and by which of them a link fixes another.
+ghost use Rattle.std.specs.Prelude.{◌≡◌, ◌<◌};
+ghost use Rattle.bq_model.specs.Probing.{is_known};
+ghost use Rattle.bq_synopsis.specs.Narrowing.{witness};
+
+use crate::classes::is_same;
+use bq_model::{Attr, Link};
+
+/// Returns whether a walk that has chosen at so many places knows the column.
+pub fn is_known(arriving: u8, place: usize, a: Attr) -> bool
+    ensures { result ≡ is_known arriving place a }
+{
+    a.stream == arriving || usize::from(a.stream) < place
+}
+
+/// Returns a known column that a link says is equal.
+pub fn witness(arriving: u8, place: usize, a: Attr, links: &[Link]) -> Option<Attr>
+    ensures { result ≡ witness arriving place a links.now }
+{
+    'links: for link in links {
+        if is_same(link.left, a) && is_known(arriving, place, link.right) {
+            return Some(link.right);
+        }
+        if is_same(link.right, a) && is_known(arriving, place, link.left) {
+            return Some(link.left);
+        }
+    }
+    None
+}
