@@ -1,6 +1,6 @@
 -- Parts of a buffer.
 use Rattle.std.proofs.Common.{◌≡◌, ℕ, ◌+◌, ◌-◌, ◌<◌, ◌≤◌, ◌≢◌, get_or, List, [], ◌∷◌, ◌++◌, length, take, drop, refl, sym, ap, ◌∙◌, subst, arith, append_assoc, length-drop, length-append, append-nil, zero, suc, Bool, true, false}
-use Rattle.std.proofs.lemmas.List.{take-append-drop, drop-take, drop-drop, drop_more, length-take, take-append-le, take_all}
+use Rattle.std.proofs.lemmas.List.{take-append-drop, drop-take, drop-drop, drop_more, length-take, take-append-le, take_all, get_or-take}
 use Rattle.std.proofs.lemmas.List.Elements.{All-append, All-take}
 use Rattle.std.proofs.Math.Seq.{take-append_seam}
 use Rattle.std.specs.List.{slice_range}
@@ -67,6 +67,15 @@ range-filled buffer more len most n le fits =
     let short : n ≤ most = omega (arith, length-take most buffer) in
     let whole : n ≤ length buffer = omega (arith, length-take most buffer) in
     ap (λ k. take k (take len (buffer ++ more))) same ∙ take-within (buffer ++ more) n len fits ∙ take-append-le n buffer more whole ∙ sym (take-within buffer n most short)
+
+-- a byte that is there stays where more stands behind it
+pub byte-behind : (buffer more : List ℕ) (len n : ℕ) → get_or buffer n 0 ≡ 10 → n < len → get_or (take len (buffer ++ more)) n 0 ≡ 10
+byte-behind buffer more len n e fits = get_or-take len (buffer ++ more) n 0 fits ∙ byte-before buffer more n e
+  where
+    byte-before : (buffer more : List ℕ) (n : ℕ) → get_or buffer n 0 ≡ 10 → get_or (buffer ++ more) n 0 ≡ 10
+    byte-before [] more n e = absurd (omega (arith, e))
+    byte-before (x ∷ xs) more zero e = e
+    byte-before (x ∷ xs) more (suc n) e = byte-before xs more n e
 
 pub not-true : (b : Bool) → (b ≡ true → ⊥) → b ≡ false
 not-true true h = absurd (h refl)

@@ -1,5 +1,5 @@
 -- What a reader of lines keeps, and what its calls do.
-use Rattle.std.specs.Prelude.{◌≡◌, ℕ, ◌+◌, ◌-◌, ◌^◌, ◌<◌, ◌≤◌, ◌≢◌, ◌⊎◌, ⊤, Bool, true, false, List, [], ◌∷◌, ◌++◌, length, IfSome}
+use Rattle.std.specs.Prelude.{◌≡◌, ℕ, ◌+◌, ◌-◌, ◌^◌, ◌<◌, ◌≤◌, ◌≢◌, ◌⊎◌, ⊤, Bool, true, false, List, [], ◌∷◌, ◌++◌, length, take, slice_index, IfSome}
 use Rattle.std.specs.List.{All}
 use Rattle.std.specs.Io.KnownBytes.{Consumes}
 use Rattle.bq_io.specs.Counts.{Rose}
@@ -30,6 +30,10 @@ fresh = record { ahead = []; line = []; taken = 0; lines = 0; ended = false; fai
 -- no byte is LF
 abbrev pub IsPlain : List ℕ → Type 0
 IsPlain bytes = All (λ b. b ≢ 10) bytes
+
+-- the first LF of these bytes stands at this place
+abbrev pub IsFirstFeed : List ℕ → ℕ → Type 0
+IsFirstFeed bytes place = (place < length bytes) × (slice_index bytes place ≡ 10) × IsPlain (take place bytes)
 
 -- the bytes of a line: the line and its LF, or the last line without one, behind which the source has ended
 pub data IsLine (given line : List ℕ) (ended : Bool) : Type 0 where

@@ -1,7 +1,8 @@
 //! The reader of lines.
-ghost use Rattle.std.specs.Prelude.{◌≡◌, ℕ, ◌≤◌, ◌-◌, ◌^◌, ◌++◌, ◌<◌, min, take, List, length, false, IfOk};
+ghost use Rattle.std.specs.Prelude.{◌≡◌, ℕ, ◌≤◌, ◌-◌, ◌^◌, [], ◌∷◌, ◌++◌, ◌<◌, min, take, List, length, slice_index, set, false, IfOk};
 ghost use Rattle.bq_io.specs.Source.{ReadsSome};
-ghost use Rattle.bq_feed.specs.Reading.{fresh, GivesBuffered, IsBegun, IsNothing, NextLine, GivesLine, answer_to};
+ghost use Rattle.bq_feed.specs.Reading.{fresh, GivesBuffered, IsBegun, IsBuffered, IsFirstFeed, IsNothing, NextLine, GivesLine, answer_to};
+ghost use Rattle.bq_feed.specs.Buffers.{read_len};
 
 use crate::place::feed_place;
 use arrayvec::ArrayVec;
@@ -25,7 +26,7 @@ pub enum LineAnswer {
     ByteLimit,
 }
 
-/// How many bytes are read at a time, at most.
+/// How many bytes are read at a time, at most. The buffer has room for one more.
 const CHUNK: usize = 4096;
 
 /// The most bytes of a line.
@@ -39,7 +40,7 @@ const LONGEST: usize = 1024;
 /// source. Once it answers `End`, `ReadFault` or `ByteLimit`, it answers the same to each further call, and takes nothing.
 #[derive(Drop)]
 pub struct LineReader {
-    // What was read last; of it, `at..filled` is ahead, and `from..to` is of the last line.
+    // What was read last, and an LF behind it, at `filled`. Of it, `at..filled` is ahead, and `from..to` is of the last line.
     chunk: Vec<u8>,
     at: usize,
     filled: usize,
@@ -69,9 +70,9 @@ impl Model for LineReader {
     } };
 
     ghost use Rattle.bq_feed.specs.Buffers.{IsSound};
-    ghost use Rattle.std.specs.Prelude.{vec_len, length};
+    ghost use Rattle.std.specs.Prelude.{vec_len, length, slice_index};
 
-    ghost invariant = { λ r. IsSound (vec_len r.chunk) r.at r.filled (length r.begun.items) r.from r.to r.taken r.lines r.ended r.failed };
+    ghost invariant = { λ r. IsSound (vec_len r.chunk) (slice_index r.chunk.items r.filled) r.at r.filled (length r.begun.items) r.from r.to r.taken r.lines r.ended r.failed };
 }
 
 // Adds a piece to the line that was begun, and says whether that is too long now.
@@ -111,13 +112,35 @@ fn room(taken: u64) -> usize
     (u64::MAX - taken).min(4096) as usize
 }
 
-// Reads at most so many bytes into the front of the buffer.
+// Puts an LF into the buffer at a place.
+fn put_feed(buffer: &mut [u8], place: usize)
+    requires { place < length buffer.old }
+    ensures { buffer.new ≡ set buffer.old place 10 }
+{
+    buffer[place] = b'\n';
+}
+
+// How many bytes a read gave.
+fn read_len(answer: ReadAnswer) -> usize
+    ensures { result ≡ read_len answer }
+{
+    match answer {
+        ReadAnswer::Got(n) => n,
+        ReadAnswer::End => 0,
+        ReadAnswer::Failed => 0,
+    }
+}
+
+// Reads at most so many bytes into the front of the buffer, and puts an LF behind them.
 fn read_front<I: Source>(input: &mut I, buffer: &mut [u8], most: usize) -> ReadAnswer
     requires some { 0 < most }
-    requires fits { most ≤ length buffer.old }
-    ensures { ReadsSome result (take most buffer.new) (I.seen input.old) (I.seen input.new) }
+    requires fits { most < length buffer.old }
+    ensures reads { ReadsSome result (take most buffer.new) (I.seen input.old) (I.seen input.new) }
+    ensures feed { slice_index buffer.new (read_len result) ≡ 10 }
 {
-    input.read(&mut buffer[..most])
+    let answer = input.read(&mut buffer[..most]);
+    put_feed(buffer, read_len(answer));
+    answer
 }
 
 impl LineReader {
@@ -126,7 +149,7 @@ impl LineReader {
         ensures { IfOk result (λ reader. reader ≡ fresh) }
     {
         Ok(LineReader {
-            chunk: vec![in alloc; 0; CHUNK]?,
+            chunk: vec![in alloc; b'\n'; CHUNK + 1]?,
             at: 0,
             filled: 0,
             from: 0,
@@ -157,6 +180,31 @@ impl LineReader {
         self.lines
     }
 
+    /// Returns the bytes that were taken and are of no line yet, and one LF more behind them: so one reads on to the next LF without a
+    /// look at how many bytes there are.
+    #[inline(always)]
+    pub fn ahead_and_feed(&self) -> &[u8]
+        ensures { result.now ≡ self.now.ahead ++ 10 ∷ [] }
+    {
+        &self.chunk[self.at..self.filled + 1]
+    }
+
+    /// Gives the next line, where its place is known: so many bytes, behind which the first LF of what is ahead stands. It takes nothing
+    /// from the source.
+    #[inline(always)]
+    pub fn give_line(&mut self, len: usize)
+        requires feed { IsFirstFeed self.old.ahead len }
+        requires short { len ≤ 1024 }
+        ensures gives { IsBuffered self.old self.new }
+        ensures line { self.new.line ≡ take len self.old.ahead }
+    {
+        self.begun.clear();
+        self.from = self.at;
+        self.to = self.at + len;
+        self.at += len + 1;
+        self.lines += 1;
+    }
+
     /// Gives the next line exactly where it lies whole in what was read and is not too long. It takes nothing from the source.
     /// Where the answer is `false`, nothing is changed. The loops over one source and over several call it, so it is not inlined unasked.
     #[inline(always)]
@@ -168,11 +216,7 @@ impl LineReader {
                 if n > LONGEST {
                     return false;
                 }
-                self.begun.clear();
-                self.from = self.at;
-                self.to = self.at + n;
-                self.at += n + 1;
-                self.lines += 1;
+                self.give_line(n);
                 true
             }
             None => false,
@@ -208,20 +252,18 @@ impl LineReader {
         self.to = 0;
         let mut long = false;
         'reading: loop {
-            match feed_place(&self.chunk[self.at..self.filled]) {
-                Some(n) => {
-                    long = gather(&mut self.begun, long, &self.chunk[self.at..self.at + n]);
-                    self.at += n + 1;
-                    self.lines += 1;
-                    return answer_to(long);
-                }
-                None => {}
+            if let Some(n) = feed_place(&self.chunk[self.at..self.filled]) {
+                long = gather(&mut self.begun, long, &self.chunk[self.at..self.at + n]);
+                self.at += n + 1;
+                self.lines += 1;
+                return answer_to(long);
             }
             long = gather(&mut self.begun, long, &self.chunk[self.at..self.filled]);
             self.at = 0;
             self.filled = 0;
             let most = room(self.taken);
             if most == 0 {
+                put_feed(&mut self.chunk, 0);
                 return LineAnswer::ByteLimit;
             }
             match read_front(input, &mut self.chunk, most) {

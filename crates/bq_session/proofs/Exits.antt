@@ -1,5 +1,5 @@
 -- How a run ends, by how far it was.
-use Rattle.std.proofs.Common.{◌≡◌, ℕ, ◌+◌, ◌<◌, ◌≤◌, ◌⊎◌, inl, inr, Bool, true, false, List, [], ◌∷◌, ◌++◌, length, refl, sym, ap, ◌∙◌, subst, append_assoc, append-nil, arith, IfSome}
+use Rattle.std.proofs.Common.{◌≡◌, ℕ, ◌≤◌, inl, inr, Bool, true, false, List, [], ◌∷◌, ◌++◌, refl, sym, ap, ◌∙◌, subst, append_assoc, append-nil, arith, IfSome}
 use Rattle.std.specs.Io.KnownBytes.{Appends}
 use Rattle.bq_io.specs.Source.{SourceState}
 use Rattle.bq_io.specs.Sink.{SinkState, Wrote}
@@ -8,9 +8,9 @@ use Rattle.bq_io.proofs.Writing.{Rose-earlier}
 use Rattle.bq_text.specs.Lines.{lines}
 use Rattle.bq_feed.specs.declared.reader.LineAnswer.{LineAnswer}
 use Rattle.bq_feed.specs.declared.reader.LineAnswer.TheVariants as reads
-use Rattle.bq_feed.specs.Reading.{Reading, IsPlain, TakesAll}
+use Rattle.bq_feed.specs.Reading.{Reading}
 use Rattle.bq_feed.specs.Texts.{text_of, ended_part, IsNear}
-use Rattle.bq_feed.specs.GivenLines.{GivenLines, LastGiven}
+use Rattle.bq_feed.specs.GivenLines.{GivenLines}
 use Rattle.bq_feed.proofs.GivenEnds.{text-lines, all-given, last-text, last-given, rose-given}
 use Rattle.bq_feed.proofs.TextLines.{text_of-append, length-text_of-append}
 use Rattle.bq_session.specs.declared.outcome.LineOutcome.{LineOutcome}

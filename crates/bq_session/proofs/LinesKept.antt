@@ -110,11 +110,11 @@ pub announced_are_kept : (shared : Bool) (q : QueryValue) (p : Plan) → IsPlanO
 announced_are_kept shared q plans.Filter is = sym (no_cells shared q)
 announced_are_kept shared q (plans.Parts parts numbers) is = cells_announced shared q parts numbers is.2
 
-pub kept_announced : (live : List Live) (place : ℕ) (d : Live) (e : ExecutorValue) (p : Plan) → e ≡ (slice_index_or live place d).executor → p ≡ (slice_index_or live place d).executor.plan
+pub kept_announced : (live : List Live) (place : ℕ) (d : Live) (e : ExecutorValue) (p : Plan) → list_in e ≡ list_in (slice_index_or live place d).executor → p ≡ (slice_index_or live place d).executor.plan
     → IsPlanOf (slice_index_or live place d).executor.shared (slice_index_or live place d).executor.query p → sizes_in (list_in e) ≡ plan_cells (slice_index_or live place d).executor.plan
 kept_announced live place d e p same its is =
     let x = (slice_index_or live place d).executor in
-    ap (λ (y : ExecutorValue). sizes_in (list_in y)) same
+    ap sizes_in same
     ∙ ap (λ (plan : Plan). sizes_in (kept_boxes x.shared x.query (parts_of plan))) (sym its)
     ∙ sym (announced_are_kept x.shared x.query p is)
     ∙ ap plan_cells its

@@ -1,5 +1,5 @@
 -- How far a run is: which lines were given, which of them were answered, and what of the replies was passed on.
-use Rattle.std.proofs.Common.{◌≡◌, ℕ, ◌+◌, ◌^◌, ◌<◌, ◌≤◌, ◌⊎◌, inl, inr, Bool, false, List, [], ◌∷◌, ◌++◌, length, refl, sym, ap, ◌∙◌, subst, append_assoc, append-nil, arith}
+use Rattle.std.proofs.Common.{◌≡◌, ℕ, ◌+◌, ◌^◌, ◌<◌, ◌≤◌, ◌⊎◌, inl, inr, Bool, false, List, [], ◌∷◌, ◌++◌, length, refl, sym, ap, ◌∙◌, subst, append_assoc, arith}
 use Rattle.bq_io.specs.Source.{SourceState}
 use Rattle.bq_io.specs.Sink.{SinkState}
 use Rattle.bq_feed.specs.Reading.{Reading, fresh, IsBegun}
@@ -18,7 +18,7 @@ use Rattle.bq_session.specs.Turned.{AnsweredLine}
 use Rattle.bq_session.proofs.ToldEvents.{Told, at, events_of, OnlyLines, at-none, at-push, only-append, events_of-append}
 use Rattle.bq_session.proofs.ToldEvents as told
 use Rattle.bq_session.proofs.Held.{Held, Moves, stay, sink, moves-all, held-none, held-flushed, held-more}
-use Rattle.bq_session.proofs.GivenAmong.{Given, given-begins, given-buffered, given-read, given-sunk}
+use Rattle.bq_session.proofs.GivenAmong.{Given, given-begins, given-buffered, given-read}
 
 -- what is known of a line that came, whatever state the session stands for
 pub record Counted (long : Bool) (old new : Reading) : Type 0 where

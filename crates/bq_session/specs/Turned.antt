@@ -1,5 +1,5 @@
 -- What a turn of a source does.
-use Rattle.std.specs.Prelude.{◌≡◌, ◌⊎◌, ℕ, Bool, List}
+use Rattle.std.specs.Prelude.{◌≡◌, ℕ, Bool, List}
 use Rattle.bq_io.specs.Source.{SourceState}
 use Rattle.bq_io.specs.Sink.{SinkState, Wrote}
 use Rattle.bq_io.specs.Gathered.{gathered_seen, StaysHeld}

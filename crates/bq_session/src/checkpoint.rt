@@ -187,7 +187,14 @@ fn write_state_at<O: Sink, L: Ledger>(
     // No effect at run time. The proof reads from this call that the plan is that of the query.
     let _plan = registry.plan(place);
     let executor = registry.executor(place);
-    write_state(registry.name(place), executor, registry.pool(), out, steps)
+    write_state(
+        registry.name(place),
+        registry.given(place),
+        executor,
+        registry.pool(),
+        out,
+        steps,
+    )
 }
 
 // The lines that tell what the live queries keep.

@@ -1,17 +1,20 @@
 //! One turn of a source: its next line, answered before the source is read again.
 ghost use Rattle.std.specs.Prelude.{◌≡◌, ◌⊎◌, ℕ, ◌+◌, ◌<◌, ◌≤◌, ◌^◌, List, length, false};
 ghost use Rattle.bq_io.specs.Gathered.{gathered_seen};
-ghost use Rattle.bq_feed.specs.Reading.{IsBegun};
+ghost use Rattle.bq_io.specs.Sink.{SinkState};
+ghost use Rattle.bq_io.specs.Source.{SourceState};
+ghost use Rattle.bq_feed.specs.Reading.{IsBegun, Reading};
 ghost use Rattle.bq_session.specs.State.{State};
-ghost use Rattle.bq_session.specs.Session.{StandsFor, Answered};
+ghost use Rattle.bq_session.specs.Session.{StandsFor, Answered, Kept};
 ghost use Rattle.bq_session.specs.Run.{HasState};
-ghost use Rattle.bq_session.specs.Turned.{Turned};
+ghost use Rattle.bq_session.specs.Turned.{AnsweredLine, Turned};
 
 use crate::fetch::{Fetched, fetch};
 use crate::outcome::LineOutcome;
 use crate::session::Session;
 use bq_feed::LineReader;
 use bq_io::{Gathered, Sink, Source};
+use bq_model::Row;
 use bq_pool::Steps;
 use std::sync::ledger::Ledger;
 
@@ -32,9 +35,7 @@ pub enum Turn {
     Memory,
 }
 
-// Answers the line that the reader gave last, or one that was too long. The loops of `run` and of a session over feeds share it, so
-// LLVM would leave it aside.
-#[inline(always)]
+// Answers the line that the reader gave last, or one that was too long.
 fn answer<O: Sink, L: Ledger>(
     session: &mut Session,
     reader: &LineReader,
@@ -52,6 +53,52 @@ fn answer<O: Sink, L: Ledger>(
         session.long_line(output)
     } else {
         session.line(reader.line(), output, steps)
+    }
+}
+
+// How a turn went in which a line came that was answered so.
+#[inline(always)]
+fn turn_of<O: Sink>(outcome: LineOutcome, output: &mut Gathered<'_, O>) -> Turn
+    ensures turned { (s : State) → (old new : Reading) → (source now : SourceState) → (session session' : Kept) → (below : SinkState) → (held : List ℕ)
+        → AnsweredLine outcome s old new source now session' below (O.seen output.old.sink.now) held output.old.held.items
+        → Turned result s old new source now session session' below (O.seen output.new.sink.now) held output.new.held.items }
+    ensures same_reference { output.new.sink.ghost_name ≡ output.old.sink.ghost_name }
+{
+    match outcome {
+        LineOutcome::Done => Turn::Answered,
+        LineOutcome::WriteFault => Turn::Stopped,
+        LineOutcome::Memory => match output.flush() {
+            Ok(()) => Turn::Memory,
+            Err(_) => Turn::Stopped,
+        },
+    }
+}
+
+// What `take_turn` does, whatever line is next.
+#[inline(never)]
+fn any_turn<I: Source, O: Sink, L: Ledger>(
+    reader: &mut LineReader,
+    session: &mut Session,
+    input: &mut I,
+    output: &mut Gathered<'_, O>,
+    steps: &mut Steps<L>,
+) -> Turn
+    requires stands { HasState session.old }
+    requires room { (session.old.lines + 1 < 2 ^ 64) ⊎ (session.old.lines ≤ reader.old.lines) }
+    ensures turned { (s : State) → StandsFor session.old s
+        → Turned result s reader.old reader.new (I.seen input.old) (I.seen input.new) session.old session.new
+        (O.seen output.old.sink.now) (O.seen output.new.sink.now) output.old.held.items output.new.held.items }
+    ensures same_reference { output.new.sink.ghost_name ≡ output.old.sink.ghost_name }
+{
+    match fetch(reader, input, output) {
+        Fetched::Given(long) => {
+            let outcome = answer(session, reader, long, output, steps);
+            turn_of(outcome, output)
+        }
+        Fetched::Ended => Turn::Ended,
+        Fetched::Failed => Turn::Failed,
+        Fetched::Full => Turn::Full,
+        Fetched::Stopped => Turn::Stopped,
     }
 }
 
@@ -75,18 +122,14 @@ pub fn take_turn<I: Source, O: Sink, L: Ledger>(
         (O.seen output.old.sink.now) (O.seen output.new.sink.now) output.old.held.items output.new.held.items }
     ensures same_reference { output.new.sink.ghost_name ≡ output.old.sink.ghost_name }
 {
-    match fetch(reader, input, output) {
-        Fetched::Given(long) => match answer(session, reader, long, output, steps) {
-            LineOutcome::Done => Turn::Answered,
-            LineOutcome::WriteFault => Turn::Stopped,
-            LineOutcome::Memory => match output.flush() {
-                Ok(()) => Turn::Memory,
-                Err(_) => Turn::Stopped,
-            },
-        },
-        Fetched::Ended => Turn::Ended,
-        Fetched::Failed => Turn::Failed,
-        Fetched::Full => Turn::Full,
-        Fetched::Stopped => Turn::Stopped,
+    let mut row = Row::new();
+    match session.row_ahead(reader.ahead_and_feed(), &mut row) {
+        Some(found) => {
+            let (stream, len) = found;
+            reader.give_line(len);
+            let outcome = session.plain_row(stream, &row, output, steps);
+            turn_of(outcome, output)
+        }
+        None => any_turn(reader, session, input, output, steps),
     }
 }

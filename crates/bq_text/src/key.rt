@@ -28,49 +28,36 @@ pub fn key_of(word: &[u8]) -> Option<Key>
     ensures { result ≡ reserved.key_of word.now }
 {
     if word.eq_ignore_ascii_case(b"CREATE") {
-        return Some(Key::CreateKey);
+        Some(Key::CreateKey)
+    } else if word.eq_ignore_ascii_case(b"STREAM") {
+        Some(Key::StreamKey)
+    } else if word.eq_ignore_ascii_case(b"QUERY") {
+        Some(Key::QueryKey)
+    } else if word.eq_ignore_ascii_case(b"AS") {
+        Some(Key::AsKey)
+    } else if word.eq_ignore_ascii_case(b"SELECT") {
+        Some(Key::SelectKey)
+    } else if word.eq_ignore_ascii_case(b"DISTINCT") {
+        Some(Key::DistinctKey)
+    } else if word.eq_ignore_ascii_case(b"FROM") {
+        Some(Key::FromKey)
+    } else if word.eq_ignore_ascii_case(b"WHERE") {
+        Some(Key::WhereKey)
+    } else if word.eq_ignore_ascii_case(b"AND") {
+        Some(Key::AndKey)
+    } else if word.eq_ignore_ascii_case(b"EXPLAIN") {
+        Some(Key::ExplainKey)
+    } else if word.eq_ignore_ascii_case(b"DROP") {
+        Some(Key::DropKey)
+    } else if word.eq_ignore_ascii_case(b"IN") {
+        Some(Key::InKey)
+    } else if word.eq_ignore_ascii_case(b"SHARED") {
+        Some(Key::SharedKey)
+    } else if word.eq_ignore_ascii_case(b"CHECKPOINT") {
+        Some(Key::CheckpointKey)
+    } else if word.eq_ignore_ascii_case(b"RESUME") {
+        Some(Key::ResumeKey)
+    } else {
+        None
     }
-    if word.eq_ignore_ascii_case(b"STREAM") {
-        return Some(Key::StreamKey);
-    }
-    if word.eq_ignore_ascii_case(b"QUERY") {
-        return Some(Key::QueryKey);
-    }
-    if word.eq_ignore_ascii_case(b"AS") {
-        return Some(Key::AsKey);
-    }
-    if word.eq_ignore_ascii_case(b"SELECT") {
-        return Some(Key::SelectKey);
-    }
-    if word.eq_ignore_ascii_case(b"DISTINCT") {
-        return Some(Key::DistinctKey);
-    }
-    if word.eq_ignore_ascii_case(b"FROM") {
-        return Some(Key::FromKey);
-    }
-    if word.eq_ignore_ascii_case(b"WHERE") {
-        return Some(Key::WhereKey);
-    }
-    if word.eq_ignore_ascii_case(b"AND") {
-        return Some(Key::AndKey);
-    }
-    if word.eq_ignore_ascii_case(b"EXPLAIN") {
-        return Some(Key::ExplainKey);
-    }
-    if word.eq_ignore_ascii_case(b"DROP") {
-        return Some(Key::DropKey);
-    }
-    if word.eq_ignore_ascii_case(b"IN") {
-        return Some(Key::InKey);
-    }
-    if word.eq_ignore_ascii_case(b"SHARED") {
-        return Some(Key::SharedKey);
-    }
-    if word.eq_ignore_ascii_case(b"CHECKPOINT") {
-        return Some(Key::CheckpointKey);
-    }
-    if word.eq_ignore_ascii_case(b"RESUME") {
-        return Some(Key::ResumeKey);
-    }
-    None
 }

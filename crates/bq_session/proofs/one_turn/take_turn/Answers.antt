@@ -1,94 +1,26 @@
-use Rattle.std.proofs.Common.{◌≡◌, ◌∙◌}
-use Rattle.bq_session.specs.Turned.{reply, behind}
-use Rattle.bq_session.proofs.Progress.{counted, came-begun, room-came}
+use Rattle.std.proofs.Common.{false, refl, ◌∙◌}
+use Rattle.bq_session.specs.Fetched.{buffered}
+use Rattle.bq_session.proofs.RowsAhead.{first_ahead, row_line, same_name}
 use Rattle.bq_session.proofs.one_turn.take_turn.Goals as goal
 
-pub answer-requires-clause-few : goal.answer-requires-clause-few
-answer-requires-clause-few g c =
-    let k = counted c.in-Given.long _ _ _ _ _ _ _ _ c.in-Given.ensures.comes in
-    room-came _ _ _ c.requires.room k.lines k.few
+pub give_line-requires-clause-feed : goal.give_line-requires-clause-feed
+give_line-requires-clause-feed g c = first_ahead _ _ _ _ _ _ c.ahead_and_feed.ensures c.in-Some.ensures
 
-pub answer-requires-clause-short : goal.answer-requires-clause-short
-answer-requires-clause-short g c = (counted c.in-Given.long _ _ _ _ _ _ _ _ c.in-Given.ensures.comes).short
-
-pub returns-in-Done-clause-turned : goal.returns-in-Done-clause-turned
-returns-in-Done-clause-turned g c = λ s stands. record {
-  long = c.in-Given.long;
+pub returns-in-Some-clause-turned : goal.returns-in-Some-clause-turned
+returns-in-Some-clause-turned g c = λ s stands. c.turn_of.ensures.turned s _ _ _ _ _ _ _ _ (record {
+  long = false;
   between = _;
   left = _;
-  came = c.in-Given.ensures.comes;
+  came = buffered c.give_line.ensures.gives refl refl refl refl;
   name = _;
   name' = _;
-  answers = λ text begun. c.in-Done.ensures s text begun stands;
-}
-
-pub returns-in-Done-clause-same_reference : goal.returns-in-Done-clause-same_reference
-returns-in-Done-clause-same_reference g c =
-    let line = came-begun c.in-Given.long _ _ _ _ _ _ _ _ c.in-Given.ensures.comes in
-    let told = c.in-Done.ensures c.requires.stands.state line.0 line.1 c.requires.stands.stands in
-    let kept : c.answer.new.output.sink.ghost_name ≡ c.fetch.new.output.sink.ghost_name = told.does.reply.later.below in
-    kept ∙ c.in-Given.ensures.same_reference
-
-pub returns-in-WriteFault-clause-turned : goal.returns-in-WriteFault-clause-turned
-returns-in-WriteFault-clause-turned g c = λ s stands. reply (record {
-  long = c.in-Given.long;
-  between = _;
-  left = _;
-  came = c.in-Given.ensures.comes;
-  name = _;
-  name' = _;
-  answers = λ text begun. c.in-WriteFault.ensures s text begun stands;
+  answers = λ text begun.
+      let row = row_line _ _ _ _ _ _ _ text c.ahead_and_feed.ensures c.in-Some.ensures c.give_line.ensures.line begun in
+      c.plain_row-outcome.ensures.reply s text row.0 row.1 stands;
 })
 
-pub returns-in-WriteFault-clause-same_reference : goal.returns-in-WriteFault-clause-same_reference
-returns-in-WriteFault-clause-same_reference g c =
-    let line = came-begun c.in-Given.long _ _ _ _ _ _ _ _ c.in-Given.ensures.comes in
-    let told = c.in-WriteFault.ensures c.requires.stands.state line.0 line.1 c.requires.stands.stands in
-    let kept : c.answer.new.output.sink.ghost_name ≡ c.fetch.new.output.sink.ghost_name = told.does.reply.wrote.later.below in
-    kept ∙ c.in-Given.ensures.same_reference
-
-pub returns-in-Ok-clause-turned : goal.returns-in-Ok-clause-turned
-returns-in-Ok-clause-turned g c = λ s stands. record {
-  sink = _;
-  full = _;
-  lacks = record {
-    long = c.in-Given.long;
-    between = _;
-    left = _;
-    came = c.in-Given.ensures.comes;
-    name = _;
-    name' = _;
-    answers = λ text begun. c.in-Memory.ensures s text begun stands;
-  };
-  flushes = c.in-Ok.ensures.flushes.0;
-}
-
-pub returns-in-Ok-clause-same_reference : goal.returns-in-Ok-clause-same_reference
-returns-in-Ok-clause-same_reference g c =
-    let line = came-begun c.in-Given.long _ _ _ _ _ _ _ _ c.in-Given.ensures.comes in
-    let told = c.in-Memory.ensures c.requires.stands.state line.0 line.1 c.requires.stands.stands in
-    let kept : c.answer.new.output.sink.ghost_name ≡ c.fetch.new.output.sink.ghost_name = told.does.2.later.below in
-    c.in-Ok.ensures.same_reference ∙ kept ∙ c.in-Given.ensures.same_reference
-
-pub returns-in-Err-clause-turned : goal.returns-in-Err-clause-turned
-returns-in-Err-clause-turned g c = λ s stands. behind (record {
-  sink = _;
-  full = _;
-  lacks = record {
-    long = c.in-Given.long;
-    between = _;
-    left = _;
-    came = c.in-Given.ensures.comes;
-    name = _;
-    name' = _;
-    answers = λ text begun. c.in-Memory.ensures s text begun stands;
-  };
-  flushes = c.in-Err.ensures.flushes;
-})
-
-pub returns-in-Err-clause-same_reference : goal.returns-in-Err-clause-same_reference
-returns-in-Err-clause-same_reference g c =
-    let line = came-begun c.in-Given.long _ _ _ _ _ _ _ _ c.in-Given.ensures.comes in
-    let told = c.in-Memory.ensures c.requires.stands.state line.0 line.1 c.requires.stands.stands in
-    let kept : c.answer.new.output.sink.ghost_name ≡ c.fetch.new.output.sink.ghost_name = told.does.2.later.below in
-    c.in-Err.ensures.same_reference ∙ kept ∙ c.in-Given.ensures.same_reference
+pub returns-in-Some-clause-same_reference : goal.returns-in-Some-clause-same_reference
+returns-in-Some-clause-same_reference g c =
+    let row = row_line _ _ _ _ _ _ _ _ c.ahead_and_feed.ensures c.in-Some.ensures c.give_line.ensures.line refl in
+    let told = c.plain_row-outcome.ensures.reply c.requires.stands.state _ row.0 row.1 c.requires.stands.stands in
+    c.turn_of.ensures.same_reference ∙ same_name _ _ _ _ (g.O.Sink.seen c.args.output.now.sink.now) (g.O.Sink.seen c.plain_row-outcome.new.out.sink.now) _ _ _ _ told

@@ -4,7 +4,6 @@ use Rattle.bq_registry.specs.Live.{boxes_of}
 use Rattle.bq_registry.specs.Loaded.{LoadsAt}
 use Rattle.bq_executor.specs.Loading.{loaded_cell}
 use Rattle.bq_session.specs.Requests.{natural}
-use Rattle.bq_executor.specs.Executor.{IsSound}
 use Rattle.bq_session.proofs.Loading.{to_set, sets_loaded, cell_refused, cell_asks, no_cell, cells_are}
 use Rattle.bq_session.proofs.resuming.set_cell.Goals as goal
 
@@ -15,7 +14,7 @@ pub returns-in-Some-clause-sets : goal.returns-in-Some-clause-sets
 returns-in-Some-clause-sets g c = λ s h.
     let t = to_set c.args.began c.args.name.now c.args.registry.now s c.in-Ok.place h (sym c.place_of.ensures.place ∙ c.in-Ok.is) in
     sets_loaded c.taken_or_value.result c.load_cell.result c.args.name.now (λ q. loaded_cell (boxes_of q) c.in-Some.i c.args.content q.base) _ c.in-Ok.place s c.args.registry.now c.load_cell.new.self t
-    (cell_asks c.args.name.now c.in-Ok.place s c.args.index c.args.content _ t (ap natural (sym (to_z-of_z w64 c.args.index (search rules))) ∙ c.in-Some.ensures)) c.taken_or_value.ensures h.queries (λ d. subst IsSound (c.executor.ensures.value d) c.query.ensures.sound)
+    (cell_asks c.args.name.now c.in-Ok.place s c.args.index c.args.content _ t (ap natural (sym (to_z-of_z w64 c.args.index (search rules))) ∙ c.in-Some.ensures)) c.taken_or_value.ensures h.queries c.executor.ensures.sound
     (subst (λ v. LoadsAt c.load_cell.result c.in-Ok.place (λ q. loaded_cell (boxes_of q) c.in-Some.i v q.base) c.args.registry.now c.load_cell.new.self) (to_z-of_z w64 c.args.content (search rules)) c.load_cell.ensures.loads)
 
 pub returns-in-None-clause-sets : goal.returns-in-None-clause-sets

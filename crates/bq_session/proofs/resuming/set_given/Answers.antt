@@ -2,7 +2,6 @@ use Rattle.std.proofs.Common.{subst, rules, w64, sym, ap, ◌∙◌, refl}
 use Rattle.std.proofs.lemmas.Int.{to_z-of_z}
 use Rattle.bq_executor.specs.Loading.{loaded_given}
 use Rattle.bq_session.specs.Requests.{natural_upto}
-use Rattle.bq_executor.specs.Executor.{IsSound}
 use Rattle.bq_session.proofs.Loading.{to_set, sets_loaded, given_refused, given_asks}
 use Rattle.bq_session.proofs.resuming.set_given.Goals as goal
 
@@ -13,7 +12,7 @@ pub returns-in-Some-clause-sets : goal.returns-in-Some-clause-sets
 returns-in-Some-clause-sets c = λ s h e.
     let t = to_set c.args.began c.args.name.now c.args.registry.now s c.in-Ok.place h (sym c.place_of.ensures.place ∙ c.in-Ok.is) in
     sets_loaded c.taken_or_value.result c.load_given.result c.args.name.now (λ q. loaded_given c.in-Some.n q.base) _ c.in-Ok.place s c.args.registry.now c.load_given.new.self t
-    (given_asks c.args.name.now c.in-Ok.place s c.args.rows c.args.taken _ t e (ap (natural_upto c.args.taken) (sym (to_z-of_z w64 c.args.rows (search rules))) ∙ sym c.natural_upto.ensures ∙ c.in-Some.is)) c.taken_or_value.ensures h.queries (λ d. subst IsSound (c.executor.ensures.value d) c.query.ensures.sound) c.load_given.ensures.loads
+    (given_asks c.args.name.now c.in-Ok.place s c.args.rows c.args.taken _ t e (ap (natural_upto c.args.taken) (sym (to_z-of_z w64 c.args.rows (search rules))) ∙ sym c.natural_upto.ensures ∙ c.in-Some.is)) c.taken_or_value.ensures h.queries c.executor.ensures.sound c.load_given.ensures.loads
 
 pub returns-in-None-clause-sets : goal.returns-in-None-clause-sets
 returns-in-None-clause-sets c = λ s h e.

@@ -1,4 +1,4 @@
-use Rattle.std.proofs.Common.{◌≡◌, ◌++◌, ◌∙◌, refl, inr, arith}
+use Rattle.std.proofs.Common.{◌++◌, ◌∙◌, refl, inr}
 use Rattle.bq_session.proofs.ToldEvents.{at}
 use Rattle.bq_session.proofs.Progress.{begins, progress-line, has-state, numbered}
 use Rattle.bq_session.proofs.Exits.{ends-done, ends-read_fault, ends-byte_limit, ends-stopped, ends-memory}

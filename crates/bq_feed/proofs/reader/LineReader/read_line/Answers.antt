@@ -4,7 +4,7 @@ use Rattle.std.proofs.KnownBytes.{Consumes-nil, Consumes-trans, Consumes-kept}
 use Rattle.std.proofs.lemmas.Bool.{false≢true}
 use Rattle.std.proofs.lemmas.List.{length-take}
 use Rattle.bq_feed.specs.Reading.{Reading, IsPlain, IsBegun, fed, last}
-use Rattle.bq_feed.proofs.Pieces.{range-front, range-later, fed-line, plain-more, plain-begin, held-line, short-range, range-filled}
+use Rattle.bq_feed.proofs.Pieces.{byte-behind, range-front, range-later, fed-line, plain-more, plain-begin, held-line, short-range, range-filled}
 use Rattle.bq_io.proofs.Writing.{Rose-earlier}
 use Rattle.bq_feed.proofs.Steps.{given-next, takes-all, prompt-line, prompt-plain}
 use Rattle.bq_feed.proofs.reader.LineReader.read_line.Goals as goal
@@ -24,6 +24,7 @@ reading-init g c =
       taken = omega (arith, ap (λ (r : Reading). r.taken) v);
       lines = ap (λ (r : Reading). r.lines) v;
       size = c.self.invariant.size;
+      feed = c.self.invariant.feed;
       order = c.self.invariant.order;
       inside = omega (arith, c.self.invariant.inside, c.self.invariant.size);
       span = (refl, refl);
@@ -66,7 +67,7 @@ returns-then-most-eq0 g c =
     let s = c.reading.self-inside in
     let i = c.reading.invariant in
     let rest = slice_range s.chunk.items s.at s.filled in
-    let plain = rw c.deref.ensures.value at c.in-None.ensures in
+    let plain = rw c.deref.ensures.value at c.in_default.ensures in
     record {
       got = i.got;
       given = i.begun ++ rest;
@@ -91,9 +92,9 @@ reading-preserved g c =
     let most = c.room-most.result in
     let buffer = c.read_front.new.buffer in
     let piece = take n (take most buffer) in
-    let plain = rw c.deref.ensures.value at c.in-None.ensures in
-    let told = c.in-Got.ensures in
-    let size : s.chunk.len ≡ 4096 = i.size in
+    let plain = rw c.deref.ensures.value at c.in_default.ensures in
+    let told = c.in-Got.ensures.reads in
+    let size : s.chunk.len ≡ 4097 = i.size in
     let few : n ≤ most = omega (arith, told.1, length-take most buffer) in
     let ahead = range-filled buffer (drop (length buffer) s.chunk.items) s.chunk.len most n told.1 (omega (arith, few, size, c.room-most.ensures)) in
     let long : length piece ≡ n = omega (arith, told.1, length-take n (take most buffer)) in
@@ -109,6 +110,7 @@ reading-preserved g c =
       taken = omega (arith, i.taken, length-append i.got piece, long);
       lines = i.lines;
       size = size;
+      feed = byte-behind buffer (drop (length buffer) s.chunk.items) s.chunk.len n c.in-Got.ensures.feed (omega (arith, few, size, c.room-most.ensures));
       order = omega arith;
       inside = omega (arith, few, c.room-most.ensures);
       span = i.span;
@@ -125,18 +127,18 @@ returns-in-End g c =
     let i = c.reading.invariant in
     let rest = slice_range s.chunk.items s.at s.filled in
     let line = i.begun ++ rest in
-    let plain = rw c.deref.ensures.value at c.in-None.ensures in
+    let plain = rw c.deref.ensures.value at c.in_default.ensures in
     let begun = rw c.deref-in-reading.ensures.value at c.gather-long-in-reading.ensures.line i.begun i.held in
     let held = held-line _ c.gather-long-in-reading.new.begun.items s.from s.to i.span in
     let some : 0 < length line = c.if-is_nothing.ensures line begun in
     given-next c.gather-long-in-reading.result _ c.args.self.now _ _ _ i.got line line c.answer_to-in-End.ensures
     (i.whole ∙ sym (append-nil _))
-    (Consumes-kept _ _ _ _ i.bytes c.in-End.ensures.1) i.taken
+    (Consumes-kept _ _ _ _ i.bytes c.in-End.ensures.reads.1) i.taken
     (omega arith)
     (prompt-plain _ _ _ _ i.got line (plain-more i.begun rest i.plain plain) i.whole)
     (omega (arith, i.counted, some, length-append i.begun rest, short-range s.chunk.items s.at s.filled), i.fits)
-    (λ e. (refl, omega (arith, c.room-most.ensures, c.if-most-eq0.false, i.fits), inr (takes-all _ _ _ i.got i.bytes c.in-End.ensures.0 c.in-End.ensures.1)))
-    (omega (arith, i.later, c.in-End.ensures.2))
+    (λ e. (refl, omega (arith, c.room-most.ensures, c.if-most-eq0.false, i.fits), inr (takes-all _ _ _ i.got i.bytes c.in-End.ensures.reads.0 c.in-End.ensures.reads.1)))
+    (omega (arith, i.later, c.in-End.ensures.reads.2))
     i.unended.0
     i.unfailed
     (last refl some refl)
@@ -150,18 +152,18 @@ returns-in-Failed g c =
     let s = c.reading.self-inside in
     let i = c.reading.invariant in
     let rest = slice_range s.chunk.items s.at s.filled in
-    let plain = rw c.deref.ensures.value at c.in-None.ensures in
+    let plain = rw c.deref.ensures.value at c.in_default.ensures in
     record {
       got = i.got;
       given = i.begun ++ rest;
       whole = i.whole ∙ sym (append-nil _);
-      taken = Consumes-kept _ _ _ _ i.bytes c.in-Failed.ensures.1;
+      taken = Consumes-kept _ _ _ _ i.bytes c.in-Failed.ensures.reads.1;
       count = i.taken;
       near = omega arith;
       prompt = prompt-plain _ _ _ _ i.got (i.begun ++ rest) (plain-more i.begun rest i.plain plain) i.whole;
       counted = (omega (arith, i.counted), i.fits);
       tells = (plain-more i.begun rest i.plain plain, refl, i.unended.0, omega (arith, c.room-most.ensures, c.if-most-eq0.false, i.fits), i.lines);
-      fails = (refl, inl (i.unfailed.0, Rose-earlier _ _ _ i.later c.in-Failed.ensures.0));
+      fails = (refl, inl (i.unfailed.0, Rose-earlier _ _ _ i.later c.in-Failed.ensures.reads.0));
       over = λ e. absurd (false≢true (sym i.unended.1 ∙ e));
-      later = omega (arith, i.later, c.in-Failed.ensures.2);
+      later = omega (arith, i.later, c.in-Failed.ensures.reads.2);
     }

@@ -1,4 +1,4 @@
-use Rattle.std.proofs.Common.{◌≡◌, ℕ, ◌+◌, ◌-◌, ◌^◌, ◌<◌, ◌≤◌, ◌++◌, List, length, vec_len, false}
+use Rattle.std.proofs.Common.{◌≡◌, ℕ, ◌+◌, ◌-◌, ◌^◌, ◌<◌, ◌≤◌, ◌++◌, List, length, vec_len, slice_index, false}
 use Rattle.std.specs.List.{slice_range}
 use Rattle.std.specs.Io.KnownBytes.{Consumes}
 use Rattle.bq_feed.specs.Reading.{IsPlain, IsBegun}
@@ -18,7 +18,8 @@ invariant-reading g l = record {
   read : HasRead l.fn.self (g.I.Source.seen l.fn.input) (g.I.Source.seen l.input) got l.self-inside.filled;
   taken : l.self-inside.taken ≡ l.fn.self.taken + length got;
   lines : l.self-inside.lines ≡ l.fn.self.lines;
-  size : vec_len l.self-inside.chunk ≡ 4096;
+  size : vec_len l.self-inside.chunk ≡ 4097;
+  feed : slice_index l.self-inside.chunk.items l.self-inside.filled ≡ 10;
   order : l.self-inside.at ≤ l.self-inside.filled;
   inside : l.self-inside.filled ≤ 4096;
   span : (l.self-inside.from ≡ 0) × (l.self-inside.to ≡ 0);
