@@ -3,12 +3,12 @@ use Rattle.std.proofs.Common.{◌≡◌, ℕ, zero, suc, ◌<◌, ◌≤◌, ◌
 use Rattle.std.proofs.lemmas.Int.{ints}
 use Rattle.std.proofs.lemmas.List.Elements.{Contains-push_cases}
 use Rattle.bq_constraints.specs.declared.constraint.Constraint.{Constraint}
-use Rattle.bq_closure.specs.declared.way.Way.{Way}
+use Rattle.bq_closure.specs.declared.entry.Entry.{Entry}
 use Rattle.bq_closure.specs.ClosureValue.{ClosureValue}
-use Rattle.bq_closure.specs.Ways.{way_bound, IsModest, walked}
+use Rattle.bq_closure.specs.Entries.{entry_bound, IsModest, walked}
 use Rattle.bq_closure.specs.Cycles.{IsImplied, IsClosing, IsClosingOver, closes, agrees}
 use Rattle.bq_constraints.specs.Table.{AtMost}
-use Rattle.bq_closure.specs.Closure.{Next, Chain, step, way_at, bound_at, AreTight, IsNegative, IsSettled, IsClosureOf, Modest}
+use Rattle.bq_closure.specs.Closure.{Next, Chain, step, entry_at, bound_at, AreTight, IsNegative, IsSettled, IsClosureOf, Modest}
 use Rattle.bq_constraints.proofs.Numbers.{slice_get-append}
 use Rattle.bq_closure.proofs.Chains.{chain_grows, chain_modest, times}
 use Rattle.bq_closure.specs.Tightened.{Agrees}
@@ -16,12 +16,12 @@ use Rattle.bq_closure.proofs.Walks.{HasChain, chain_at, is_short, length-walked}
 use Rattle.bq_closure.proofs.Keep.{last_is}
 use Rattle.bq_constraints.proofs.Options.{some_is}
 
-pub tight_when : (n : ℕ) (cs : List Constraint) (ws : List (Option Way)) (o : Option (List ℕ)) (b : Bool) → IsSettled n cs ws o → b ≡ is_some o → b ≡ false → AreTight n cs ws
+pub tight_when : (n : ℕ) (cs : List Constraint) (ws : List (Option Entry)) (o : Option (List ℕ)) (b : Bool) → IsSettled n cs ws o → b ≡ is_some o → b ≡ false → AreTight n cs ws
 tight_when n cs ws None b k e t = k
 tight_when n cs ws (Some y) true k e t = cc
 tight_when n cs ws (Some y) false k e t = cc
 
-pub broken_when : (n : ℕ) (cs ds : List Constraint) (ws : List (Option Way)) (o : Option (List ℕ)) (b : Bool) → IsSettled n cs ws o → b ≡ is_some o → b ≡ true → IsSettled n (cs ++ ds) ws o
+pub broken_when : (n : ℕ) (cs ds : List Constraint) (ws : List (Option Entry)) (o : Option (List ℕ)) (b : Bool) → IsSettled n cs ws o → b ≡ is_some o → b ≡ true → IsSettled n (cs ++ ds) ws o
 broken_when n cs ds ws None true k e t = cc
 broken_when n cs ds ws None false k e t = cc
 broken_when n cs ds ws (Some y) b k e t = record { node = k.node; nodes = k.nodes; sum = k.sum; chain = chain_grows ds k.chain; negative = k.negative }
@@ -30,10 +30,10 @@ times-is : (k n : ℕ) → times k (pos n) ≡ pos (k * n)
 times-is zero n = omega (arith, ints)
 times-is (suc k) n = let e : times k (pos n) ≡ pos (k * n) = times-is k n in let f : suc k * n ≡ k * n + n = suc-mul k n in omega (arith, ints)
 
-pub modest_at : (n : ℕ) → n ≤ 13 → (cs : List Constraint) (ws : List (Option Way)) → AreTight n cs ws → Modest cs (pos 1000000000000000) → (i j : ℕ) → i < n → j < n → IsModest (way_at ws i j)
-modest_at n few cs ws t m i j li lj = at (way_at ws i j) refl
+pub modest_at : (n : ℕ) → n ≤ 13 → (cs : List Constraint) (ws : List (Option Entry)) → AreTight n cs ws → Modest cs (pos 1000000000000000) → (i j : ℕ) → i < n → j < n → IsModest (entry_at ws i j)
+modest_at n few cs ws t m i j li lj = at (entry_at ws i j) refl
   where
-    at : (o : Option Way) → way_at ws i j ≡ o → IsModest o
+    at : (o : Option Entry) → entry_at ws i j ≡ o → IsModest o
     at None e = tt
     at (Some w) e =
         let h : HasChain cs (walked ws w.length i j) i j w.bound = chain_at n cs ws t i j li lj w e in
@@ -45,21 +45,21 @@ modest_at n few cs ws t m i j li lj = at (way_at ws i j) refl
         let f : times (length (walked ws w.length i j)) (pos 1000000000000000) ≡ pos (length (walked ws w.length i j) * 1000000000000000) = times-is (length (walked ws w.length i j)) 1000000000000000 in
         record { low = omega (arith, ints); high = omega (arith, ints); short = omega (arith, s) }
 
-pub agrees_when : (ws : List (Option Way)) (a b : ℕ) (bound : ℤ) (number : ℕ) (walk : ℕ → List ℕ) (o : Option (List ℕ)) (u : Bool) → IsClosing (way_at ws b a) bound number walk o → is_some o ≡ not u → u ≡ true → Agrees (bound_at ws) a b bound
-agrees_when ws a b bound number walk o u h e t = record { agrees = λ r f. go (way_at ws b a) r h f }
+pub agrees_when : (ws : List (Option Entry)) (a b : ℕ) (bound : ℤ) (number : ℕ) (walk : ℕ → List ℕ) (o : Option (List ℕ)) (u : Bool) → IsClosing (entry_at ws b a) bound number walk o → is_some o ≡ not u → u ≡ true → Agrees (bound_at ws) a b bound
+agrees_when ws a b bound number walk o u h e t = record { agrees = λ r f. go (entry_at ws b a) r h f }
   where
-    over : (w : Way) → IsClosingOver w bound number walk o → pos 0 ≤ℤ (w.bound +ℤ bound)
+    over : (w : Entry) → IsClosingOver w bound number walk o → pos 0 ≤ℤ (w.bound +ℤ bound)
     over w (closes p q) = cc
     over w (agrees p q) = q
 
-    go : (x : Option Way) (r : ℤ) → IsClosing x bound number walk o → way_bound x ≡ Some r → pos 0 ≤ℤ (r +ℤ bound)
+    go : (x : Option Entry) (r : ℤ) → IsClosing x bound number walk o → entry_bound x ≡ Some r → pos 0 ≤ℤ (r +ℤ bound)
     go None r h f = cc
     go (Some w) r h f = let s : w.bound ≡ r = some_is f in let g : pos 0 ≤ℤ (w.bound +ℤ bound) = over w h in omega (arith, ints)
 
-pub negative_when : (n : ℕ) (cs : List Constraint) (ws vs : List (Option Way)) (c : Constraint) → AreTight n cs ws → c.left < n → c.right < n → (o : Option (List ℕ)) (u : Bool) (number : ℕ) → number ≡ suc (length cs) → IsClosing (way_at ws c.right c.left) c.bound number (λ m. walked ws m c.right c.left) o → is_some o ≡ not u → u ≡ false → IsSettled n (cs ++ c ∷ []) vs o
-negative_when n cs ws vs c k la lb o u number isn h e t = go (way_at ws c.right c.left) refl h
+pub negative_when : (n : ℕ) (cs : List Constraint) (ws vs : List (Option Entry)) (c : Constraint) → AreTight n cs ws → c.left < n → c.right < n → (o : Option (List ℕ)) (u : Bool) (number : ℕ) → number ≡ suc (length cs) → IsClosing (entry_at ws c.right c.left) c.bound number (λ m. walked ws m c.right c.left) o → is_some o ≡ not u → u ≡ false → IsSettled n (cs ++ c ∷ []) vs o
+negative_when n cs ws vs c k la lb o u number isn h e t = go (entry_at ws c.right c.left) refl h
   where
-    over : (w : Way) → way_at ws c.right c.left ≡ Some w → (o : Option (List ℕ)) → is_some o ≡ not u → IsClosingOver w c.bound number (λ m. walked ws m c.right c.left) o → IsSettled n (cs ++ c ∷ []) vs o
+    over : (w : Entry) → entry_at ws c.right c.left ≡ Some w → (o : Option (List ℕ)) → is_some o ≡ not u → IsClosingOver w c.bound number (λ m. walked ws m c.right c.left) o → IsSettled n (cs ++ c ∷ []) vs o
     over w is None e f = let x : false ≡ true = e ∙ ap not t in cc
     over w is (Some y) e (agrees p q) = cc
     over w is (Some y) e (closes p q) =
@@ -72,19 +72,19 @@ negative_when n cs ws vs c k la lb o u number isn h e t = go (way_at ws c.right 
         subst (λ y. IsNegative (cs ++ c ∷ []) y) same
         record { node = c.left; nodes = c.left ∷ x.nodes; sum = c.bound +ℤ w.bound; chain = named; negative = omega (arith, ints) }
 
-    go : (x : Option Way) → way_at ws c.right c.left ≡ x → IsClosing x c.bound number (λ m. walked ws m c.right c.left) o → IsSettled n (cs ++ c ∷ []) vs o
+    go : (x : Option Entry) → entry_at ws c.right c.left ≡ x → IsClosing x c.bound number (λ m. walked ws m c.right c.left) o → IsSettled n (cs ++ c ∷ []) vs o
     go None is f = let x : false ≡ true = ap is_some (sym f) ∙ e ∙ ap not t in cc
     go (Some w) is f = over w is o e f
 
 -- the same, where the cycle is there
-pub negative_by : (n : ℕ) (cs : List Constraint) (ws vs : List (Option Way)) (c : Constraint) → AreTight n cs ws → c.left < n → c.right < n → (y : List ℕ) (number : ℕ) → number ≡ suc (length cs) → IsClosing (way_at ws c.right c.left) c.bound number (λ m. walked ws m c.right c.left) (Some y) → IsSettled n (cs ++ c ∷ []) vs (Some y)
+pub negative_by : (n : ℕ) (cs : List Constraint) (ws vs : List (Option Entry)) (c : Constraint) → AreTight n cs ws → c.left < n → c.right < n → (y : List ℕ) (number : ℕ) → number ≡ suc (length cs) → IsClosing (entry_at ws c.right c.left) c.bound number (λ m. walked ws m c.right c.left) (Some y) → IsSettled n (cs ++ c ∷ []) vs (Some y)
 negative_by n cs ws vs c k la lb y number isn h = negative_when n cs ws vs c k la lb (Some y) false number isn h refl refl
 
 -- where there is none, the constraint closes no negative cycle
-pub agrees_by : (ws : List (Option Way)) (a b : ℕ) (bound : ℤ) (number : ℕ) (walk : ℕ → List ℕ) → IsClosing (way_at ws b a) bound number walk None → Agrees (bound_at ws) a b bound
+pub agrees_by : (ws : List (Option Entry)) (a b : ℕ) (bound : ℤ) (number : ℕ) (walk : ℕ → List ℕ) → IsClosing (entry_at ws b a) bound number walk None → Agrees (bound_at ws) a b bound
 agrees_by ws a b bound number walk h = agrees_when ws a b bound number walk None true h refl refl
 
-pub closure_with : (k r : ClosureValue) (n : ℕ) (cs : List Constraint) (c : Constraint) → IsClosureOf k n cs → r.attrs ≡ k.attrs → r.count ≡ k.count + 1 → c.left < suc n → c.right < suc n → neg_ℤ (pos 1000000000000000) ≤ℤ c.bound → c.bound ≤ℤ pos 1000000000000000 → IsSettled (suc n) (cs ++ c ∷ []) r.ways r.cycle → IsClosureOf r n (cs ++ c ∷ [])
+pub closure_with : (k r : ClosureValue) (n : ℕ) (cs : List Constraint) (c : Constraint) → IsClosureOf k n cs → r.attrs ≡ k.attrs → r.count ≡ k.count + 1 → c.left < suc n → c.right < suc n → neg_ℤ (pos 1000000000000000) ≤ℤ c.bound → c.bound ≤ℤ pos 1000000000000000 → IsSettled (suc n) (cs ++ c ∷ []) r.entries r.cycle → IsClosureOf r n (cs ++ c ∷ [])
 closure_with k r n cs c h ea ec la lb lo hi s = record {
   attrs = ea ∙ h.attrs;
   few = h.few;
@@ -101,19 +101,19 @@ closure_with k r n cs c h ea ec la lb lo hi s = record {
     one_of : (P : Constraint → Type 0) → ((d : Constraint) → Contains cs d → P d) → P c → (d : Constraint) → Contains (cs ++ c ∷ []) d → P d
     one_of P f p d h = elim (Contains-push_cases cs c d h) [ inl i ↦ f d i | inr i ↦ subst P i p ]
 
-pub settled_same : (n : ℕ) (cs : List Constraint) (vs : List (Option Way)) (o : Option (List ℕ)) (b : Bool) → b ≡ is_some o → b ≡ false → AreTight n cs vs → IsSettled n cs vs o
+pub settled_same : (n : ℕ) (cs : List Constraint) (vs : List (Option Entry)) (o : Option (List ℕ)) (b : Bool) → b ≡ is_some o → b ≡ false → AreTight n cs vs → IsSettled n cs vs o
 settled_same n cs vs None b e t k = k
 settled_same n cs vs (Some y) true e t k = cc
 settled_same n cs vs (Some y) false e t k = cc
 
 -- a constraint that says nothing new
-pub implied_tight : (n : ℕ) (cs : List Constraint) (ws : List (Option Way)) (c : Constraint) → AreTight n cs ws → c.left < n → c.right < n → IsImplied (way_at ws c.left c.right) c.bound → AreTight n (cs ++ c ∷ []) ws
+pub implied_tight : (n : ℕ) (cs : List Constraint) (ws : List (Option Entry)) (c : Constraint) → AreTight n cs ws → c.left < n → c.right < n → IsImplied (entry_at ws c.left c.right) c.bound → AreTight n (cs ++ c ∷ []) ws
 implied_tight n cs ws c k la lb h = record {
   closed = k.closed;
   covers = record {
     left = λ d g. one_of (λ d. d.left < n) k.covers.left la d g;
     right = λ d g. one_of (λ d. d.right < n) k.covers.right lb d g;
-    tight = λ d g. one_of (λ d. AtMost (bound_at ws) d.left d.right d.bound) k.covers.tight (here (way_at ws c.left c.right) refl h) d g;
+    tight = λ d g. one_of (λ d. AtMost (bound_at ws) d.left d.right d.bound) k.covers.tight (here (entry_at ws c.left c.right) refl h) d g;
   };
   still = k.still;
   next = λ i j li lj ne w e. let x : Next cs ws i j w = k.next i j li lj ne w e in
@@ -123,6 +123,6 @@ implied_tight n cs ws c k la lb h = record {
     one_of : (P : Constraint → Type 0) → ((d : Constraint) → Contains cs d → P d) → P c → (d : Constraint) → Contains (cs ++ c ∷ []) d → P d
     one_of P f p d h = elim (Contains-push_cases cs c d h) [ inl i ↦ f d i | inr i ↦ subst P i p ]
 
-    here : (o : Option Way) → way_at ws c.left c.right ≡ o → IsImplied o c.bound → AtMost (bound_at ws) c.left c.right c.bound
+    here : (o : Option Entry) → entry_at ws c.left c.right ≡ o → IsImplied o c.bound → AtMost (bound_at ws) c.left c.right c.bound
     here None e h = absurd h
-    here (Some w) e h = record { bound = w.bound; is = ap way_bound e; small = h }
+    here (Some w) e h = record { bound = w.bound; is = ap entry_bound e; small = h }

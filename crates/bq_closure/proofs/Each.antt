@@ -6,7 +6,9 @@ use Rattle.std.proofs.lemmas.List.Elements.{All-get_or, All-push}
 use Rattle.bq_constraints.specs.declared.constraint.Constraint.{Constraint}
 use Rattle.bq_closure.specs.ClosureValue.{ClosureValue}
 use Rattle.bq_constraints.specs.Solutions.{IsWithin}
+use Rattle.bq_closure.specs.declared.distances.Distances.{Distances}
 use Rattle.bq_closure.specs.Closure.{IsClosureOf, HasRoom}
+use Rattle.bq_closure.specs.Shortest.{AreDistancesOf, AreDistances}
 
 -- the first of them and the next
 pub more_of : (ks cs : List Constraint) (i : ℕ) (d : Constraint) → i < length cs → ks ++ take (i + 1) cs ≡ (ks ++ take i cs) ++ get_or cs i d ∷ []
@@ -35,6 +37,23 @@ room_for k n ks cs i l h r = record {
 
 pub within_for : (k : ClosureValue) (n m : ℕ) (ks cs : List Constraint) (i : ℕ) (d : Constraint) → i < length cs → IsClosureOf k n (ks ++ take i cs) → m ≡ n → All (IsWithin m) cs → IsWithin k.attrs (get_or cs i d)
 within_for k n m ks cs i d l h e a = subst (λ z. IsWithin z (get_or cs i d)) (e ∙ sym h.attrs) (All-get_or (IsWithin m) cs i d l a)
+
+-- ---- the same of distances
+
+pub distances_more : (k : Distances) (n : ℕ) (ks cs : List Constraint) (i : ℕ) (d : Constraint) → i < length cs → AreDistancesOf k n ((ks ++ take i cs) ++ get_or cs i d ∷ []) → AreDistancesOf k n (ks ++ take (i + 1) cs)
+distances_more k n ks cs i d l h = subst (AreDistancesOf k n) (sym (more_of ks cs i d l)) h
+
+pub distances_end : (k : Distances) (n : ℕ) (ks cs : List Constraint) (i : ℕ) → i ≡ length cs → AreDistancesOf k n (ks ++ take i cs) → AreDistancesOf k n (ks ++ cs)
+distances_end k n ks cs i e h = subst (AreDistancesOf k n) (end_of ks cs i e) h
+
+pub known_of : (k : Distances) (n : ℕ) (ks : List Constraint) → AreDistancesOf k n ks → AreDistances k
+known_of k n ks h = record { constraints = ks; distances = subst (λ m. AreDistancesOf k m ks) (sym h.attrs) h }
+
+pub known_for : (k : Distances) (n : ℕ) (ks cs : List Constraint) (i : ℕ) → AreDistancesOf k n (ks ++ take i cs) → AreDistances k
+known_for k n ks cs i h = known_of k n (ks ++ take i cs) h
+
+pub inside_for : (k : Distances) (n m : ℕ) (ks cs : List Constraint) (i : ℕ) (d : Constraint) → i < length cs → AreDistancesOf k n (ks ++ take i cs) → m ≡ n → All (IsWithin m) cs → IsWithin k.attrs (get_or cs i d)
+inside_for k n m ks cs i d l h e a = subst (λ z. IsWithin z (get_or cs i d)) (e ∙ sym h.attrs) (All-get_or (IsWithin m) cs i d l a)
 
 -- a fact of the first of them and of the next; of all; and not of one
 pub all_more : (P : Constraint → Type 0) (cs : List Constraint) (i : ℕ) (d : Constraint) → i < length cs → All P (take i cs) → P (get_or cs i d) → All P (take (i + 1) cs)

@@ -3,11 +3,11 @@ use Rattle.std.proofs.Common.{◌≡◌, ◌≢◌, ℕ, suc, ◌<◌, ◌≤◌
 use Rattle.std.proofs.lemmas.Int.{ints}
 use Rattle.std.proofs.lemmas.List.Elements.{Contains-push_cases}
 use Rattle.bq_constraints.specs.declared.constraint.Constraint.{Constraint}
-use Rattle.bq_closure.specs.declared.way.Way.{Way}
+use Rattle.bq_closure.specs.declared.entry.Entry.{Entry}
 use Rattle.bq_constraints.specs.Table.{Table, AtMost, IsClosed}
 use Rattle.bq_closure.specs.Tightened.{through, lesser, tightened, Agrees}
-use Rattle.bq_closure.specs.Ways.{way_bound, Improves, kept, replaced, IsShorter, IsShorterAt}
-use Rattle.bq_closure.specs.Closure.{way_at, bound_at, Next, AreTight}
+use Rattle.bq_closure.specs.Entries.{entry_bound, Improves, kept, replaced, IsShorter, IsShorterAt}
+use Rattle.bq_closure.specs.Closure.{entry_at, bound_at, Next, AreTight}
 use Rattle.bq_constraints.proofs.Numbers.{contains_at, slice_get-append}
 use Rattle.bq_closure.proofs.Tighten.{tightened-closed, old-at_most, over-at_most, at_most-trans}
 use Rattle.bq_constraints.proofs.Options.{some_is, none_is}
@@ -24,39 +24,39 @@ lesser_kept d s h = let e : int_lt s d ≡ false = grind (arith, ints) in ap (λ
 lesser_new : (d s : ℤ) → s <ℤ d → lesser (Some d) (Some s) ≡ Some s
 lesser_new d s h = let e : int_lt s d ≡ true = grind (arith, ints) in ap (λ b. cond b (Some s) (Some d)) e
 
-improved : (now : Option Way) (s : ℤ) → Improves now s → lesser (way_bound now) (Some s) ≡ Some s
+improved : (now : Option Entry) (s : ℤ) → Improves now s → lesser (entry_bound now) (Some s) ≡ Some s
 improved None s h = refl
 improved (Some w) s h = lesser_new w.bound s h
 
-pub shorter_bound : (now before : Option Way) (here : Bool) (c : Constraint) (number : ℕ) (after result : Option Way) → IsShorter now before here c number after result → way_bound result ≡ lesser (way_bound now) (through (way_bound before) c.bound (way_bound after))
-shorter_bound now None here c number after result h = ap way_bound h ∙ sym (lesser_none (way_bound now))
-shorter_bound now (Some p) here c number None result h = ap way_bound h ∙ sym (lesser_none (way_bound now))
+pub shorter_bound : (now before : Option Entry) (here : Bool) (c : Constraint) (number : ℕ) (after result : Option Entry) → IsShorter now before here c number after result → entry_bound result ≡ lesser (entry_bound now) (through (entry_bound before) c.bound (entry_bound after))
+shorter_bound now None here c number after result h = ap entry_bound h ∙ sym (lesser_none (entry_bound now))
+shorter_bound now (Some p) here c number None result h = ap entry_bound h ∙ sym (lesser_none (entry_bound now))
 shorter_bound now (Some p) here c number (Some q) result (kept w e f l) =
-    ap way_bound f ∙ sym (lesser_kept w.bound (p.bound +ℤ c.bound +ℤ q.bound) l) ∙ ap (λ o. lesser (way_bound o) (Some (p.bound +ℤ c.bound +ℤ q.bound))) (sym e)
+    ap entry_bound f ∙ sym (lesser_kept w.bound (p.bound +ℤ c.bound +ℤ q.bound) l) ∙ ap (λ o. lesser (entry_bound o) (Some (p.bound +ℤ c.bound +ℤ q.bound))) (sym e)
 shorter_bound now (Some p) here c number (Some q) result (replaced w e f n m l i) =
-    ap way_bound e ∙ ap (λ z. let A : Type 0 = Option ℤ in let o : A = Some z in o) f ∙ sym (improved now (p.bound +ℤ c.bound +ℤ q.bound) i)
+    ap entry_bound e ∙ ap (λ z. let A : Type 0 = Option ℤ in let o : A = Some z in o) f ∙ sym (improved now (p.bound +ℤ c.bound +ℤ q.bound) i)
 
 -- the way of a bound
-pub record WayOf (ws : List (Option Way)) (i j : ℕ) (d : ℤ) : Type 0 where
-  pub way : Way
-  pub is : way_at ws i j ≡ Some way
-  pub bound : way.bound ≡ d
+pub record EntryOf (ws : List (Option Entry)) (i j : ℕ) (d : ℤ) : Type 0 where
+  pub entry : Entry
+  pub is : entry_at ws i j ≡ Some entry
+  pub bound : entry.bound ≡ d
 
-pub way_of : (ws : List (Option Way)) (i j : ℕ) (d : ℤ) → bound_at ws i j ≡ Some d → WayOf ws i j d
-way_of ws i j d h = go (way_at ws i j) refl h
+pub entry_of : (ws : List (Option Entry)) (i j : ℕ) (d : ℤ) → bound_at ws i j ≡ Some d → EntryOf ws i j d
+entry_of ws i j d h = go (entry_at ws i j) refl h
   where
-    go : (o : Option Way) → way_at ws i j ≡ o → way_bound o ≡ Some d → WayOf ws i j d
+    go : (o : Option Entry) → entry_at ws i j ≡ o → entry_bound o ≡ Some d → EntryOf ws i j d
     go None e h = cc
-    go (Some w) e h = record { way = w; is = e; bound = some_is h }
+    go (Some w) e h = record { entry = w; is = e; bound = some_is h }
 
 pub last_is : (cs : List Constraint) (c : Constraint) → slice_get (cs ++ c ∷ []) (length cs) ≡ Some c
 last_is [] c = refl
 last_is (d ∷ cs) c = last_is cs c
 
 -- where a new way comes from
-pub data Fate (ws : List (Option Way)) (c : Constraint) (number i j : ℕ) (w : Way) : Type 0 where
-  stays : way_at ws i j ≡ Some w → ((p q : Way) → way_at ws i c.left ≡ Some p → way_at ws c.right j ≡ Some q → w.bound ≤ℤ (p.bound +ℤ c.bound +ℤ q.bound)) → Fate ws c number i j w
-  moves : (p q : Way) → way_at ws i c.left ≡ Some p → way_at ws c.right j ≡ Some q → w.bound ≡ p.bound +ℤ c.bound +ℤ q.bound → w.number ≡ cond (nat_eq i c.left) number p.number → w.next ≡ cond (nat_eq i c.left) c.right p.next → w.length ≡ p.length + 1 + q.length → ((x : Way) → way_at ws i j ≡ Some x → w.bound <ℤ x.bound) → Fate ws c number i j w
+pub data Fate (ws : List (Option Entry)) (c : Constraint) (number i j : ℕ) (w : Entry) : Type 0 where
+  stays : entry_at ws i j ≡ Some w → ((p q : Entry) → entry_at ws i c.left ≡ Some p → entry_at ws c.right j ≡ Some q → w.bound ≤ℤ (p.bound +ℤ c.bound +ℤ q.bound)) → Fate ws c number i j w
+  moves : (p q : Entry) → entry_at ws i c.left ≡ Some p → entry_at ws c.right j ≡ Some q → w.bound ≡ p.bound +ℤ c.bound +ℤ q.bound → w.number ≡ cond (nat_eq i c.left) number p.number → w.next ≡ cond (nat_eq i c.left) c.right p.next → w.length ≡ p.length + 1 + q.length → ((x : Entry) → entry_at ws i j ≡ Some x → w.bound <ℤ x.bound) → Fate ws c number i j w
 
 closed_same : (n : ℕ) (t u : Table) → ((i j : ℕ) → i < n → j < n → u i j ≡ t i j) → IsClosed n t → IsClosed n u
 closed_same n t u e k = record {
@@ -69,9 +69,9 @@ closed_same n t u e k = record {
 same_or : (i j : ℕ) → (i ≡ j) ⊎ (i ≢ j)
 same_or i j = grind arith
 
-module _ (n : ℕ) (few : n ≤ 13) (cs : List Constraint) (ws : List (Option Way)) (k : AreTight n cs ws) (c : Constraint) (la : c.left < n) (lb : c.right < n) (g : Agrees (bound_at ws) c.left c.right c.bound) (number : ℕ) (is_number : number ≡ suc (length cs))
-    (vs : List (Option Way)) (f : (i j : ℕ) → i < n → j < n → IsShorterAt ws c number vs (13 * i + j)) where
-  shorter : (i j : ℕ) → i < n → j < n → IsShorter (way_at ws i j) (way_at ws i c.left) (nat_eq i c.left) c number (way_at ws c.right j) (way_at vs i j)
+module _ (n : ℕ) (few : n ≤ 13) (cs : List Constraint) (ws : List (Option Entry)) (k : AreTight n cs ws) (c : Constraint) (la : c.left < n) (lb : c.right < n) (g : Agrees (bound_at ws) c.left c.right c.bound) (number : ℕ) (is_number : number ≡ suc (length cs))
+    (vs : List (Option Entry)) (f : (i j : ℕ) → i < n → j < n → IsShorterAt ws c number vs (13 * i + j)) where
+  shorter : (i j : ℕ) → i < n → j < n → IsShorter (entry_at ws i j) (entry_at ws i c.left) (nat_eq i c.left) c number (entry_at ws c.right j) (entry_at vs i j)
   shorter i j li lj =
       let h : IsShorterAt ws c number vs (13 * i + j) = f i j li lj in
       let r : (13 * i + j) / 13 ≡ i = omega arith in
@@ -101,7 +101,7 @@ module _ (n : ℕ) (few : n ≤ 13) (cs : List Constraint) (ws : List (Option Wa
   new_side d (inl h) = (k.covers.left d h, k.covers.right d h)
   new_side d (inr e) = subst (λ z. (z.left < n) × (z.right < n)) e (la, lb)
 
-  fate : (i j : ℕ) (now before after result : Option Way) (w : Way) → way_at ws i j ≡ now → way_at ws i c.left ≡ before → way_at ws c.right j ≡ after → result ≡ Some w → IsShorter now before (nat_eq i c.left) c number after result → Fate ws c number i j w
+  fate : (i j : ℕ) (now before after result : Option Entry) (w : Entry) → entry_at ws i j ≡ now → entry_at ws i c.left ≡ before → entry_at ws c.right j ≡ after → result ≡ Some w → IsShorter now before (nat_eq i c.left) c number after result → Fate ws c number i j w
   fate i j now None after result w en eb ea er h = stays (en ∙ sym h ∙ er) (λ p q ep eq. absurd (none_is (sym eb ∙ ep)))
   fate i j now (Some p) None result w en eb ea er h = stays (en ∙ sym h ∙ er) (λ p q ep eq. absurd (none_is (sym ea ∙ eq)))
   fate i j now (Some p) (Some q) result w en eb ea er (kept o e1 e2 l) =
@@ -109,65 +109,65 @@ module _ (n : ℕ) (few : n ≤ 13) (cs : List Constraint) (ws : List (Option Wa
       stays (en ∙ e1 ∙ sym e2 ∙ er) (λ p' q' ep eq.
       let sp : p ≡ p' = some_is (sym eb ∙ ep) in
       let sq : q ≡ q' = some_is (sym ea ∙ eq) in
-      omega (arith, ints, ap (λ (z : Way). z.bound) same, ap (λ (z : Way). z.bound) sp, ap (λ (z : Way). z.bound) sq, l))
+      omega (arith, ints, ap (λ (z : Entry). z.bound) same, ap (λ (z : Entry). z.bound) sp, ap (λ (z : Entry). z.bound) sq, l))
   fate i j now (Some p) (Some q) result w en eb ea er (replaced o e2 b m t s i') =
       let same : w ≡ o = sym (some_is (sym e2 ∙ er)) in
-      moves p q eb ea (ap (λ (z : Way). z.bound) same ∙ b) (ap (λ (z : Way). z.number) same ∙ m) (ap (λ (z : Way). z.next) same ∙ t) (ap (λ (z : Way). z.length) same ∙ s)
-      (λ x ex. let y : Improves (Some x) (p.bound +ℤ c.bound +ℤ q.bound) = subst (λ (z : Option Way). Improves z (p.bound +ℤ c.bound +ℤ q.bound)) (sym en ∙ ex) i' in
-      omega (arith, ints, ap (λ (z : Way). z.bound) same, b, y))
+      moves p q eb ea (ap (λ (z : Entry). z.bound) same ∙ b) (ap (λ (z : Entry). z.number) same ∙ m) (ap (λ (z : Entry). z.next) same ∙ t) (ap (λ (z : Entry). z.length) same ∙ s)
+      (λ x ex. let y : Improves (Some x) (p.bound +ℤ c.bound +ℤ q.bound) = subst (λ (z : Option Entry). Improves z (p.bound +ℤ c.bound +ℤ q.bound)) (sym en ∙ ex) i' in
+      omega (arith, ints, ap (λ (z : Entry). z.bound) same, b, y))
 
-  fate_of : (i j : ℕ) → i < n → j < n → (w : Way) → way_at vs i j ≡ Some w → Fate ws c number i j w
+  fate_of : (i j : ℕ) → i < n → j < n → (w : Entry) → entry_at vs i j ≡ Some w → Fate ws c number i j w
   fate_of i j li lj w e = fate i j _ _ _ _ w refl refl refl e (shorter i j li lj)
 
   -- an old bound is still there, or a lower one
-  still_there : (i j : ℕ) → i < n → j < n → (x : Way) → way_at ws i j ≡ Some x → (y : Way) × (way_at vs i j ≡ Some y)
+  still_there : (i j : ℕ) → i < n → j < n → (x : Entry) → entry_at ws i j ≡ Some x → (y : Entry) × (entry_at vs i j ≡ Some y)
   still_there i j li lj x e =
-      let a : AtMost (bound_at vs) i j x.bound = at_most-new i j li lj x.bound (old-at_most (bound_at ws) c.left c.right c.bound i j x.bound (ap way_bound e)) in
-      let w : WayOf vs i j a.bound = way_of vs i j a.bound a.is in
-      (w.way, w.is)
+      let a : AtMost (bound_at vs) i j x.bound = at_most-new i j li lj x.bound (old-at_most (bound_at ws) c.left c.right c.bound i j x.bound (ap entry_bound e)) in
+      let w : EntryOf vs i j a.bound = entry_of vs i j a.bound a.is in
+      (w.entry, w.is)
 
-  over_there : (i j : ℕ) → i < n → j < n → (p q : Way) → way_at ws i c.left ≡ Some p → way_at ws c.right j ≡ Some q → (y : Way) × (way_at vs i j ≡ Some y)
+  over_there : (i j : ℕ) → i < n → j < n → (p q : Entry) → entry_at ws i c.left ≡ Some p → entry_at ws c.right j ≡ Some q → (y : Entry) × (entry_at vs i j ≡ Some y)
   over_there i j li lj p q e h =
-      let a : AtMost (bound_at vs) i j _ = at_most-new i j li lj _ (over-at_most (bound_at ws) c.left c.right c.bound i j p.bound q.bound (ap way_bound e) (ap way_bound h)) in
-      let w : WayOf vs i j a.bound = way_of vs i j a.bound a.is in
-      (w.way, w.is)
+      let a : AtMost (bound_at vs) i j _ = at_most-new i j li lj _ (over-at_most (bound_at ws) c.left c.right c.bound i j p.bound q.bound (ap entry_bound e) (ap entry_bound h)) in
+      let w : EntryOf vs i j a.bound = entry_of vs i j a.bound a.is in
+      (w.entry, w.is)
 
   -- an old edge and a way from its right node
-  along_edge : (i m j : ℕ) → i < n → j < n → (edge : Constraint) → Contains cs edge → edge.left ≡ i → edge.right ≡ m → (r : Way) → way_at ws m j ≡ Some r → (x : Way) × (way_at ws i j ≡ Some x) × (x.bound ≤ℤ (edge.bound +ℤ r.bound))
+  along_edge : (i m j : ℕ) → i < n → j < n → (edge : Constraint) → Contains cs edge → edge.left ≡ i → edge.right ≡ m → (r : Entry) → entry_at ws m j ≡ Some r → (x : Entry) × (entry_at ws i j ≡ Some x) × (x.bound ≤ℤ (edge.bound +ℤ r.bound))
   along_edge i m j li lj edge h el er r e =
       let a : AtMost (bound_at ws) edge.left edge.right edge.bound = k.covers.tight edge h in
       let first_is : bound_at ws i m ≡ Some a.bound = ap₂ (bound_at ws) (sym el) (sym er) ∙ a.is in
       let lm : m < n = subst (λ z. z < n) er (k.covers.right edge h) in
-      let z : AtMost (bound_at ws) i j (a.bound +ℤ r.bound) = k.closed.closed i m j li lm lj a.bound r.bound first_is (ap way_bound e) in
-      let w : WayOf ws i j z.bound = way_of ws i j z.bound z.is in
+      let z : AtMost (bound_at ws) i j (a.bound +ℤ r.bound) = k.closed.closed i m j li lm lj a.bound r.bound first_is (ap entry_bound e) in
+      let w : EntryOf ws i j z.bound = entry_of ws i j z.bound z.is in
       let s1 : a.bound ≤ℤ edge.bound = a.small in
       let s2 : z.bound ≤ℤ (a.bound +ℤ r.bound) = z.small in
-      (w.way, w.is, omega (arith, ints, w.bound))
+      (w.entry, w.is, omega (arith, ints, w.bound))
 
   -- the way of the row of the right node stays
-  row_stays : (j : ℕ) → j < n → (q : Way) → way_at ws c.right j ≡ Some q → way_at vs c.right j ≡ Some q
+  row_stays : (j : ℕ) → j < n → (q : Entry) → entry_at ws c.right j ≡ Some q → entry_at vs c.right j ≡ Some q
   row_stays j lj q e =
       let s = still_there c.right j lb lj q e in
       from s.0 s.1 (fate_of c.right j lb lj s.0 s.1)
     where
-      from : (y : Way) → way_at vs c.right j ≡ Some y → Fate ws c number c.right j y → way_at vs c.right j ≡ Some q
+      from : (y : Entry) → entry_at vs c.right j ≡ Some y → Fate ws c number c.right j y → entry_at vs c.right j ≡ Some q
       from y h (stays a b) = h ∙ sym a ∙ e
       from y h (moves p r ep er b m t s better) =
           let x : y.bound <ℤ q.bound = better q e in
           let same : r ≡ q = some_is (sym er ∙ e) in
-          let round : pos 0 ≤ℤ (p.bound +ℤ c.bound) = g.agrees p.bound (ap way_bound ep) in
-          absurd (omega (arith, ints, b, ap (λ (z : Way). z.bound) same))
+          let round : pos 0 ≤ℤ (p.bound +ℤ c.bound) = g.agrees p.bound (ap entry_bound ep) in
+          absurd (omega (arith, ints, b, ap (λ (z : Entry). z.bound) same))
 
-  edge_in : (i j : ℕ) (w : Way) → (x : Next cs ws i j w) → Contains cs x.edge
+  edge_in : (i j : ℕ) (w : Entry) → (x : Next cs ws i j w) → Contains cs x.edge
   edge_in i j w x = contains_at cs x.index x.edge x.at
 
-  next_kept : (i j : ℕ) → i < n → j < n → (w : Way) → (x : Next cs ws i j w) → ((p q : Way) → way_at ws i c.left ≡ Some p → way_at ws c.right j ≡ Some q → w.bound ≤ℤ (p.bound +ℤ c.bound +ℤ q.bound)) → way_at vs w.next j ≡ Some x.rest
+  next_kept : (i j : ℕ) → i < n → j < n → (w : Entry) → (x : Next cs ws i j w) → ((p q : Entry) → entry_at ws i c.left ≡ Some p → entry_at ws c.right j ≡ Some q → w.bound ≤ℤ (p.bound +ℤ c.bound +ℤ q.bound)) → entry_at vs w.next j ≡ Some x.rest
   next_kept i j li lj w x least =
       let lm : w.next < n = subst (λ z. z < n) x.right (k.covers.right x.edge (edge_in i j w x)) in
       let s = still_there w.next j lm lj x.rest x.rest_is in
       from s.0 s.1 (fate_of w.next j lm lj s.0 s.1)
     where
-      from : (y : Way) → way_at vs w.next j ≡ Some y → Fate ws c number w.next j y → way_at vs w.next j ≡ Some x.rest
+      from : (y : Entry) → entry_at vs w.next j ≡ Some y → Fate ws c number w.next j y → entry_at vs w.next j ≡ Some x.rest
       from y h (stays a b) = h ∙ sym a ∙ x.rest_is
       from y h (moves p q ep eq b m t s better) =
           let low : y.bound <ℤ x.rest.bound = better x.rest x.rest_is in
@@ -176,7 +176,7 @@ module _ (n : ℕ) (few : n ≤ 13) (cs : List Constraint) (ws : List (Option Wa
           let u : a.0.bound ≤ℤ (x.edge.bound +ℤ p.bound) = a.2 in
           absurd (omega (arith, ints, b, x.sum))
 
-  new_next : (i j : ℕ) → i < n → j < n → i ≢ j → (w : Way) → way_at vs i j ≡ Some w → Next (cs ++ c ∷ []) vs i j w
+  new_next : (i j : ℕ) → i < n → j < n → i ≢ j → (w : Entry) → entry_at vs i j ≡ Some w → Next (cs ++ c ∷ []) vs i j w
   new_next i j li lj ne w e = from (fate_of i j li lj w e)
     where
       from : Fate ws c number i j w → Next (cs ++ c ∷ []) vs i j w
@@ -186,9 +186,9 @@ module _ (n : ℕ) (few : n ≤ 13) (cs : List Constraint) (ws : List (Option Wa
       from (moves p q ep eq b m t s better) = elim (same_or i c.left) [
         | inl at ↦
             let yes : nat_eq i c.left ≡ true = grind arith in
-            let self : way_at ws c.left c.left ≡ Some p = ap (λ z. way_at ws z c.left) (sym at) ∙ ep in
+            let self : entry_at ws c.left c.left ≡ Some p = ap (λ z. entry_at ws z c.left) (sym at) ∙ ep in
             let short : p.length ≡ 0 = k.still c.left la p self in
-            let nil : pos 0 ≡ p.bound = some_is (sym (k.closed.self c.left la) ∙ ap way_bound self) in
+            let nil : pos 0 ≡ p.bound = some_is (sym (k.closed.self c.left la) ∙ ap entry_bound self) in
             let to : w.next ≡ c.right = t ∙ ap (λ u. cond u c.right p.next) yes in
             record {
               index = length cs;
@@ -198,7 +198,7 @@ module _ (n : ℕ) (few : n ≤ 13) (cs : List Constraint) (ws : List (Option Wa
               left = sym at;
               right = sym to;
               rest = q;
-              rest_is = ap (λ z. way_at vs z j) to ∙ row_stays j lj q eq;
+              rest_is = ap (λ z. entry_at vs z j) to ∙ row_stays j lj q eq;
               sum = omega (arith, ints);
               long = omega (arith, s, short);
             }
@@ -217,17 +217,17 @@ module _ (n : ℕ) (few : n ≤ 13) (cs : List Constraint) (ws : List (Option Wa
               left = x.left;
               right = x.right ∙ sym to;
               rest = o.0;
-              rest_is = ap (λ z. way_at vs z j) to ∙ o.1;
+              rest_is = ap (λ z. entry_at vs z j) to ∙ o.1;
               sum = omega (arith, ints, b, x.sum, r.0);
               long = omega (arith, s, x.long, r.1);
             }
       ]
         where
-          onward : {p : Way} (x : Next cs ws i c.left p) (q : Way) → way_at ws c.right j ≡ Some q → w.bound ≡ p.bound +ℤ c.bound +ℤ q.bound → ((x : Way) → way_at ws i j ≡ Some x → w.bound <ℤ x.bound) → p.next < n → (y : Way) → way_at vs p.next j ≡ Some y → Fate ws c number p.next j y → (y.bound ≡ x.rest.bound +ℤ c.bound +ℤ q.bound) × (y.length ≡ x.rest.length + 1 + q.length)
+          onward : {p : Entry} (x : Next cs ws i c.left p) (q : Entry) → entry_at ws c.right j ≡ Some q → w.bound ≡ p.bound +ℤ c.bound +ℤ q.bound → ((x : Entry) → entry_at ws i j ≡ Some x → w.bound <ℤ x.bound) → p.next < n → (y : Entry) → entry_at vs p.next j ≡ Some y → Fate ws c number p.next j y → (y.bound ≡ x.rest.bound +ℤ c.bound +ℤ q.bound) × (y.length ≡ x.rest.length + 1 + q.length)
           onward {p} x q eq b better lm y ey (moves p3 q3 e3 f3 b3 m3 t3 s3 better3) =
               let sp : p3 ≡ x.rest = some_is (sym e3 ∙ x.rest_is) in
               let sq : q3 ≡ q = some_is (sym f3 ∙ eq) in
-              (omega (arith, ints, b3, ap (λ (z : Way). z.bound) sp, ap (λ (z : Way). z.bound) sq), omega (arith, s3, ap (λ (z : Way). z.length) sp, ap (λ (z : Way). z.length) sq))
+              (omega (arith, ints, b3, ap (λ (z : Entry). z.bound) sp, ap (λ (z : Entry). z.bound) sq), omega (arith, s3, ap (λ (z : Entry). z.length) sp, ap (λ (z : Entry). z.length) sq))
           onward {p} x q eq b better lm y ey (stays a least) =
               let l : y.bound ≤ℤ (x.rest.bound +ℤ c.bound +ℤ q.bound) = least x.rest q x.rest_is eq in
               let z = along_edge i p.next j li lj x.edge (edge_in i c.left p x) x.left x.right y a in
@@ -235,15 +235,15 @@ module _ (n : ℕ) (few : n ≤ 13) (cs : List Constraint) (ws : List (Option Wa
               let v : w.bound <ℤ z.0.bound = better z.0 z.1 in
               absurd (omega (arith, ints, b, x.sum))
 
-  new_still : (i : ℕ) → i < n → (w : Way) → way_at vs i i ≡ Some w → w.length ≡ 0
+  new_still : (i : ℕ) → i < n → (w : Entry) → entry_at vs i i ≡ Some w → w.length ≡ 0
   new_still i li w e = from (fate_of i i li li w e)
     where
       from : Fate ws c number i i w → w.length ≡ 0
       from (stays a least) = k.still i li w a
       from (moves p q ep eq b m t s better) =
-          let own = way_of ws i i (pos 0) (k.closed.self i li) in
-          let low : w.bound <ℤ own.way.bound = better own.way own.is in
-          let r : AtMost (bound_at ws) c.right c.left (q.bound +ℤ p.bound) = k.closed.closed c.right i c.left lb li la q.bound p.bound (ap way_bound eq) (ap way_bound ep) in
+          let own = entry_of ws i i (pos 0) (k.closed.self i li) in
+          let low : w.bound <ℤ own.entry.bound = better own.entry own.is in
+          let r : AtMost (bound_at ws) c.right c.left (q.bound +ℤ p.bound) = k.closed.closed c.right i c.left lb li la q.bound p.bound (ap entry_bound eq) (ap entry_bound ep) in
           let x : pos 0 ≤ℤ (r.bound +ℤ c.bound) = g.agrees r.bound r.is in
           let y : r.bound ≤ℤ (q.bound +ℤ p.bound) = r.small in
           absurd (omega (arith, ints, b, own.bound))

@@ -13,3 +13,5 @@ pub mod Allowed
 pub mod Each
 pub mod Zips
 pub mod Pairs
+pub mod Lowering
+pub mod Least

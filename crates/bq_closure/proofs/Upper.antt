@@ -5,20 +5,20 @@ use Rattle.bq_model.specs.declared.atom.Attr.{Attr}
 use Rattle.bq_model.specs.declared.atom.Element.{Element}
 use Rattle.bq_model.specs.Query.{QueryValue, attrs_of}
 use Rattle.bq_constraints.specs.declared.constraint.Constraint.{Constraint}
-use Rattle.bq_closure.specs.declared.way.Way.{Way}
+use Rattle.bq_closure.specs.declared.entry.Entry.{Entry}
 use Rattle.bq_closure.specs.ClosureValue.{ClosureValue}
 use Rattle.bq_closure.specs.BoundsValue.{AreBounds}
-use Rattle.bq_closure.specs.Ways.{way_bound, AreModest, IsModest, walked}
+use Rattle.bq_closure.specs.Entries.{entry_bound, AreModest, IsModest, walked}
 use Rattle.bq_constraints.specs.Nodes.{node_of, offset_of, element_at, IsAlwaysLess, IsAlwaysEqual, IsAlwaysAbove}
 use Rattle.bq_constraints.specs.Solutions.{Solves, IsSatisfiable, IsUpper, HasNoUpper, IsLeast, HasNoLeast, IsGreatest, HasNoGreatest, IsChain, IsNegativeCycle, IsUpperAnswer, IsLowAnswer, IsHighAnswer}
 use Rattle.bq_closure.specs.Answers.{IsBelow, IsAbove, IsOutside, below, above, IsPathAnswer, IsCycleAnswer, IsNear, IsSolvedAt, at_nodes}
 use Rattle.bq_constraints.specs.Reach.{reach}
 use Rattle.bq_closure.specs.Pinned.{pinned}
-use Rattle.bq_closure.specs.Closure.{Chain, stop, step, way_at, bound_at, AreTight, IsSettled, IsClosureOf, Modest}
+use Rattle.bq_closure.specs.Closure.{Chain, stop, step, entry_at, bound_at, AreTight, IsSettled, IsClosureOf, Modest}
 use Rattle.bq_closure.proofs.Chains.{chain_sound}
 use Rattle.bq_closure.proofs.Pin as pin
 use Rattle.bq_constraints.proofs.Solve as solve
-use Rattle.bq_closure.proofs.Keep.{way_of, WayOf}
+use Rattle.bq_closure.proofs.Keep.{entry_of, EntryOf}
 use Rattle.bq_closure.proofs.Walks.{chain_at}
 use Rattle.bq_closure.proofs.Add.{modest_at}
 use Rattle.bq_closure.proofs.Facts.{no_solution}
@@ -33,20 +33,20 @@ chain_is {cs} (step {e} {i} {k} {j} {es} {xs} {b} {s} c at l m n rest) =
     let r2 : IsChain cs es c.right j ((b +ℤ s) -ℤ c.bound) = subst (λ z. IsChain cs es c.right j z) sum (subst (λ z. IsChain cs es z j s) (sym m) r) in
     (c, omega arith, subst (λ z. slice_get cs z ≡ Some c) (sym here) at, l, r2)
 
-pub tight_if_satisfiable : (n : ℕ) (cs : List Constraint) (ws : List (Option Way)) (o : Option (List ℕ)) → IsSettled n cs ws o → IsSatisfiable cs → AreTight n cs ws
+pub tight_if_satisfiable : (n : ℕ) (cs : List Constraint) (ws : List (Option Entry)) (o : Option (List ℕ)) → IsSettled n cs ws o → IsSatisfiable cs → AreTight n cs ws
 tight_if_satisfiable n cs ws None k s = k
 tight_if_satisfiable n cs ws (Some y) k s = absurd (no_solution cs y k s)
 
-module _ (n : ℕ) (few : n ≤ 13) (cs : List Constraint) (ws : List (Option Way)) (k : AreTight n cs ws) (m : Modest cs (pos 1000000000000000)) where
-  pub modest_way : (i j : ℕ) → i < n → j < n → (w : Way) → way_at ws i j ≡ Some w → AreModest w
-  modest_way i j li lj w e = subst IsModest e (modest_at n few cs ws k m i j li lj)
+module _ (n : ℕ) (few : n ≤ 13) (cs : List Constraint) (ws : List (Option Entry)) (k : AreTight n cs ws) (m : Modest cs (pos 1000000000000000)) where
+  pub modest_entry : (i j : ℕ) → i < n → j < n → (w : Entry) → entry_at ws i j ≡ Some w → AreModest w
+  modest_entry i j li lj w e = subst IsModest e (modest_at n few cs ws k m i j li lj)
 
   modest_bound : (i j : ℕ) → i < n → j < n → (d : ℤ) → bound_at ws i j ≡ Some d → (neg_ℤ (pos 100000000000000000) ≤ℤ d) × (d ≤ℤ pos 100000000000000000)
   modest_bound i j li lj d h =
-      let w : WayOf ws i j d = way_of ws i j d h in
-      let a : AreModest w.way = modest_way i j li lj w.way w.is in
-      let lo : neg_ℤ (pos 100000000000000000) ≤ℤ w.way.bound = a.low in
-      let hi : w.way.bound ≤ℤ pos 100000000000000000 = a.high in
+      let w : EntryOf ws i j d = entry_of ws i j d h in
+      let a : AreModest w.entry = modest_entry i j li lj w.entry w.is in
+      let lo : neg_ℤ (pos 100000000000000000) ≤ℤ w.entry.bound = a.low in
+      let hi : w.entry.bound ≤ℤ pos 100000000000000000 = a.high in
       (omega (arith, ints, w.bound), omega (arith, ints, w.bound))
 
   within : solve.Within n (bound_at ws) (pos 100000000000000000)
@@ -55,9 +55,9 @@ module _ (n : ℕ) (few : n ≤ 13) (cs : List Constraint) (ws : List (Option Wa
     high = λ i j li lj d h. (modest_bound i j li lj d h).1;
   }
 
-  pub upper_some : (i j : ℕ) → i < n → j < n → (w : Way) → way_at ws i j ≡ Some w → IsUpper cs i j w.bound
+  pub upper_some : (i j : ℕ) → i < n → j < n → (w : Entry) → entry_at ws i j ≡ Some w → IsUpper cs i j w.bound
   upper_some i j li lj w e =
-      let r : (x : ℕ → ℤ) × Solves x cs × (x i ≡ w.bound +ℤ x j) = solve.upper_reached n (bound_at ws) k.closed cs k.covers (pos 100000000000000000) within j lj i li w.bound (ap way_bound e) in
+      let r : (x : ℕ → ℤ) × Solves x cs × (x i ≡ w.bound +ℤ x j) = solve.upper_reached n (bound_at ws) k.closed cs k.covers (pos 100000000000000000) within j lj i li w.bound (ap entry_bound e) in
       record {
         bound = λ x v. chain_sound x v (chain_at n cs ws k i j li lj w e).chain;
         at = r.0;
@@ -65,13 +65,13 @@ module _ (n : ℕ) (few : n ≤ 13) (cs : List Constraint) (ws : List (Option Wa
         reached = r.2;
       }
 
-  pub upper_none : (i j : ℕ) → i < n → j < n → way_at ws i j ≡ None → HasNoUpper cs i j
-  upper_none i j li lj e = solve.passes n (bound_at ws) k.closed cs k.covers (pos 100000000000000000) within j lj i li (ap way_bound e) (omega (arith, ints))
+  pub upper_none : (i j : ℕ) → i < n → j < n → entry_at ws i j ≡ None → HasNoUpper cs i j
+  upper_none i j li lj e = solve.passes n (bound_at ws) k.closed cs k.covers (pos 100000000000000000) within j lj i li (ap entry_bound e) (omega (arith, ints))
 
-  pub path_some : (i j : ℕ) → i < n → j < n → (w : Way) → way_at ws i j ≡ Some w → IsPathAnswer cs i j (Some (walked ws w.length i j))
+  pub path_some : (i j : ℕ) → i < n → j < n → (w : Entry) → entry_at ws i j ≡ Some w → IsPathAnswer cs i j (Some (walked ws w.length i j))
   path_some i j li lj w e = (w.bound, upper_some i j li lj w e, chain_is (chain_at n cs ws k i j li lj w e).chain)
 
-pub cycle_is : (n : ℕ) (cs : List Constraint) (ws : List (Option Way)) (o : Option (List ℕ)) → IsSettled n cs ws o → (o ≡ None → IsSatisfiable cs) × ((y : List ℕ) → o ≡ Some y → IsCycleAnswer cs (Some y))
+pub cycle_is : (n : ℕ) (cs : List Constraint) (ws : List (Option Entry)) (o : Option (List ℕ)) → IsSettled n cs ws o → (o ≡ None → IsSatisfiable cs) × ((y : List ℕ) → o ≡ Some y → IsCycleAnswer cs (Some y))
 cycle_is n cs ws None k = (λ _. solve.satisfiable n (bound_at ws) k.closed cs k.covers, λ y e. cc)
 cycle_is n cs ws (Some z) k = (
   λ e. cc,
@@ -150,21 +150,21 @@ not_above cs i v (Some high) h n u g =
 
 -- ---- a solution with a given value
 
-module _ (attrs : ℕ) (few : attrs < 13) (cs : List Constraint) (ws : List (Option Way)) (k : AreTight (suc attrs) cs ws) (mo : Modest cs (pos 1000000000000000)) (i : ℕ) (li : i ≤ attrs) (v : ℤ)
+module _ (attrs : ℕ) (few : attrs < 13) (cs : List Constraint) (ws : List (Option Entry)) (k : AreTight (suc attrs) cs ws) (mo : Modest cs (pos 1000000000000000)) (i : ℕ) (li : i ≤ attrs) (v : ℤ)
     (high : (u : ℤ) → IsGreatest cs i u → v ≤ℤ u) (low : (u : ℤ) → IsLeast cs i u → u ≤ℤ v) (xs : List ℤ) (long : length xs ≡ attrs)
     (each : (j : ℕ) → j < attrs → at_nodes xs (j + 1) ≡ reach (bound_at ws) (pinned i v (pos 100000000000000000 +ℤ pos (nat_abs v))) (attrs + 1) (j + 1)) where
   at_most : (u : ℤ) → bound_at ws i 0 ≡ Some u → v ≤ℤ u
   at_most u e =
-      let y : WayOf ws i 0 u = way_of ws i 0 u e in
-      let g : IsUpper cs i 0 y.way.bound = upper_some (suc attrs) (omega arith) cs ws k mo i 0 (omega arith) (omega arith) y.way y.is in
-      let a : v ≤ℤ y.way.bound = high y.way.bound (greatest_from cs i y.way.bound g) in
+      let y : EntryOf ws i 0 u = entry_of ws i 0 u e in
+      let g : IsUpper cs i 0 y.entry.bound = upper_some (suc attrs) (omega arith) cs ws k mo i 0 (omega arith) (omega arith) y.entry y.is in
+      let a : v ≤ℤ y.entry.bound = high y.entry.bound (greatest_from cs i y.entry.bound g) in
       omega (arith, ints, y.bound, a)
 
   at_least : (u : ℤ) → bound_at ws 0 i ≡ Some u → pos 0 ≤ℤ (u +ℤ v)
   at_least u e =
-      let y : WayOf ws 0 i u = way_of ws 0 i u e in
-      let g : IsUpper cs 0 i y.way.bound = upper_some (suc attrs) (omega arith) cs ws k mo 0 i (omega arith) (omega arith) y.way y.is in
-      let a : neg_ℤ y.way.bound ≤ℤ v = low (neg_ℤ y.way.bound) (least_from cs i y.way.bound _ refl g) in
+      let y : EntryOf ws 0 i u = entry_of ws 0 i u e in
+      let g : IsUpper cs 0 i y.entry.bound = upper_some (suc attrs) (omega arith) cs ws k mo 0 i (omega arith) (omega arith) y.entry y.is in
+      let a : neg_ℤ y.entry.bound ≤ℤ v = low (neg_ℤ y.entry.bound) (least_from cs i y.entry.bound _ refl g) in
       omega (arith, ints, y.bound, a)
 
   pub same : (y : ℕ) → y < suc attrs → at_nodes xs y ≡ reach (bound_at ws) (pinned i v (pos 100000000000000000 +ℤ pos (nat_abs v))) (suc attrs) y

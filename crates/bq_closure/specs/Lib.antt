@@ -1,6 +1,6 @@
 pub mod Answers
 pub mod Tightened
-pub mod Ways
+pub mod Entries
 pub mod Paths
 pub mod Rounds
 pub mod ClosureValue
@@ -10,3 +10,4 @@ pub mod Pinned
 pub mod BoundsValue
 pub mod ChoiceValue
 pub mod Choices
+pub mod Shortest

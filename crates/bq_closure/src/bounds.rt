@@ -123,8 +123,8 @@ impl Bounds {
         ensures answer { IsUpperAnswer self.now.constraints i j result }
         ensures small { IsSmall result }
     {
-        match self.closure.way(i, j) {
-            Some(way) => Some(i128::from(way.bound)),
+        match self.closure.entry(i, j) {
+            Some(entry) => Some(i128::from(entry.bound)),
             None => None,
         }
     }
@@ -160,8 +160,8 @@ impl Bounds {
         requires satisfiable { IsSatisfiable self.now.constraints }
         ensures { IsPathAnswer self.now.constraints i j (list_of result) }
     {
-        match self.closure.way(i, j) {
-            Some(way) => Some(self.closure.walk(i, j, way.length).list()),
+        match self.closure.entry(i, j) {
+            Some(entry) => Some(self.closure.walk(i, j, entry.length).list()),
             None => None,
         }
     }

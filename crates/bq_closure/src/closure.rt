@@ -1,12 +1,12 @@
-//! Ways that are kept closed, for constraints that are kept elsewhere.
+//! Entries that are kept closed, for constraints that are kept elsewhere.
 ghost use Rattle.std.specs.Prelude.{◌≡◌, ℕ, ◌+◌, ◌<◌, ◌≤◌, [], ◌∷◌, ◌++◌, List, length, pos, neg_ℤ, ◌≤ℤ◌, ◌+ℤ◌, ℤ, IsTrue, IsFalse, ◌↔◌, All, ◌*◌, slice_index_or, Option, suc, ◌^◌, nat_abs, is_some};
 ghost use Rattle.bq_constraints.specs.Solutions.{IsWithin, IsSatisfiable, Allows, Implies};
-ghost use Rattle.bq_closure.specs.Ways.{IsModest, walked};
+ghost use Rattle.bq_closure.specs.Entries.{IsModest, walked};
 ghost use Rattle.bq_constraints.specs.declared.constraint.Constraint.{Constraint};
 
+use crate::entry::{Entry, closes, entry_between, tighten, unlinked};
 use crate::path::Path;
 use crate::solution::solution;
-use crate::way::{Way, closes, tighten, unlinked, way_between};
 use arrayvec::ArrayVec;
 use bq_constraints::Constraint;
 use std::marker::Model;
@@ -60,7 +60,7 @@ fn behind(first: u16, rest: &[u16]) -> ArrayVec<u16, 13>
 pub struct Closure {
     attrs: u8,
     count: u16,
-    ways: [Option<Way>; 169],
+    entries: [Option<Entry>; 169],
     cycle: Option<Cycle>,
 }
 
@@ -69,13 +69,13 @@ impl Model for Closure {
 
     ghost Value = { ClosureValue };
 
-    ghost view = { λ k. record { attrs = k.attrs; count = k.count; ways = k.ways; cycle = k.cycle } };
+    ghost view = { λ k. record { attrs = k.attrs; count = k.count; entries = k.entries; cycle = k.cycle } };
 
-    ghost inverse = { λ v. record { attrs = v.attrs; count = v.count; ways = v.ways; cycle = v.cycle } };
+    ghost inverse = { λ v. record { attrs = v.attrs; count = v.count; entries = v.entries; cycle = v.cycle } };
 }
 
 impl Closure {
-    ghost use Rattle.bq_closure.specs.Closure.{IsClosureOf, HasRoom, way_at, bound_at};
+    ghost use Rattle.bq_closure.specs.Closure.{IsClosureOf, HasRoom, entry_at, bound_at};
     ghost use Rattle.bq_closure.specs.Answers.{at_nodes};
     ghost use Rattle.bq_closure.specs.Pinned.{pinned};
     ghost use Rattle.bq_constraints.specs.Reach.{reach};
@@ -89,7 +89,7 @@ impl Closure {
         Closure {
             attrs,
             count: 0,
-            ways: unlinked(),
+            entries: unlinked(),
             cycle: None,
         }
     }
@@ -103,12 +103,12 @@ impl Closure {
 
     // The cycle that the constraint closes, if its sum is negative.
     fn closed_by(&self, c: Constraint) -> Option<Cycle>
-        requires modest { IsModest (slice_index_or self.now.ways (13 * c.right + c.left) None) }
+        requires modest { IsModest (slice_index_or self.now.entries (13 * c.right + c.left) None) }
         requires within { IsWithin self.now.attrs c }
         requires few { self.now.count < 268 }
-        ensures { IsClosing (slice_index_or self.now.ways (13 * c.right + c.left) None) c.bound (self.now.count + 1) (λ n. walked self.now.ways n c.right c.left) result }
+        ensures { IsClosing (slice_index_or self.now.entries (13 * c.right + c.left) None) c.bound (self.now.count + 1) (λ n. walked self.now.entries n c.right c.left) result }
     {
-        match self.way(c.right, c.left) {
+        match self.entry(c.right, c.left) {
             Some(back) => {
                 if closes(back, c) {
                     Some(Cycle {
@@ -125,10 +125,10 @@ impl Closure {
 
     // Whether a bound that is at most the constraint's is there.
     fn has_bound(&self, c: Constraint) -> bool
-        ensures { IsTrue result ↔ IsImplied (slice_index_or self.now.ways (13 * c.left + c.right) None) c.bound }
+        ensures { IsTrue result ↔ IsImplied (slice_index_or self.now.entries (13 * c.left + c.right) None) c.bound }
     {
-        match self.way(c.left, c.right) {
-            Some(way) => way.bound <= c.bound,
+        match self.entry(c.left, c.right) {
+            Some(entry) => entry.bound <= c.bound,
             None => false,
         }
     }
@@ -143,7 +143,7 @@ impl Closure {
             match self.closed_by(c) {
                 Some(cycle) => self.cycle = Some(cycle),
                 None => tighten(
-                    &mut self.ways,
+                    &mut self.entries,
                     usize::from(self.attrs) + 1,
                     c,
                     self.count + 1,
@@ -169,7 +169,7 @@ impl Closure {
         if self.is_broken() {
             return false;
         }
-        match self.way(c.right, c.left) {
+        match self.entry(c.right, c.left) {
             Some(back) => !closes(back, c),
             None => true,
         }
@@ -227,18 +227,18 @@ impl Closure {
     }
 
     /// The way from one node to another.
-    pub(crate) fn way(&self, left: u8, right: u8) -> Option<Way>
-        ensures { result ≡ way_at self.now.ways left right }
+    pub(crate) fn entry(&self, left: u8, right: u8) -> Option<Entry>
+        ensures { result ≡ entry_at self.now.entries left right }
     {
-        way_between(&self.ways, left, right)
+        entry_between(&self.entries, left, right)
     }
 
     /// The numbers of the first constraints of the chain between two nodes, so many as `length` says.
     pub(crate) fn walk(&self, from: u8, to: u8, length: u8) -> Path
         requires { length ≤ 12 }
-        ensures { result ≡ walked self.now.ways length from to }
+        ensures { result ≡ walked self.now.entries length from to }
     {
-        Path::walk(&self.ways, from, to, length)
+        Path::walk(&self.entries, from, to, length)
     }
 
     /// The cycle that shows that no integers meet all constraints, where there is one.
@@ -254,8 +254,8 @@ impl Closure {
         requires low { neg_ℤ (pos (10 ^ 30)) ≤ℤ value }
         requires high { value ≤ℤ pos (10 ^ 30) }
         ensures long { length result.items ≡ self.now.attrs }
-        ensures each { (k : ℕ) → k < self.now.attrs → at_nodes result.items (k + 1) ≡ reach (bound_at self.now.ways) (pinned i value (pos 100000000000000000 +ℤ pos (nat_abs value))) (self.now.attrs + 1) (k + 1) }
+        ensures each { (k : ℕ) → k < self.now.attrs → at_nodes result.items (k + 1) ≡ reach (bound_at self.now.entries) (pinned i value (pos 100000000000000000 +ℤ pos (nat_abs value))) (self.now.attrs + 1) (k + 1) }
     {
-        solution(&self.ways, self.attrs, i, value)
+        solution(&self.entries, self.attrs, i, value)
     }
 }

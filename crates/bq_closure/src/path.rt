@@ -1,8 +1,8 @@
 //! Chains of numbers of constraints.
 ghost use Rattle.std.specs.Prelude.{◌≡◌, ◌+◌, ◌<◌, ◌≤◌, ◌∷◌, [], ◌++◌, length, Option};
-ghost use Rattle.bq_closure.specs.declared.way.Way.{Way};
+ghost use Rattle.bq_closure.specs.declared.entry.Entry.{Entry};
 
-use crate::way::{Way, way_between};
+use crate::entry::{Entry, entry_between};
 use arrayvec::ArrayVec;
 use std::marker::Model;
 
@@ -30,20 +30,20 @@ impl Model for Path {
 }
 
 impl Path {
-    ghost use Rattle.bq_closure.specs.Ways.{walked};
+    ghost use Rattle.bq_closure.specs.Entries.{walked};
 
     /// Returns the constraints of the chain between two nodes, of which there are `length`.
-    pub fn walk(ways: &[Option<Way>; 169], from: u8, to: u8, length: u8) -> Path
+    pub fn walk(entries: &[Option<Entry>; 169], from: u8, to: u8, length: u8) -> Path
         requires { length ≤ 12 }
-        ensures { result ≡ walked ways.now length from to }
+        ensures { result ≡ walked entries.now length from to }
     {
         let mut steps: [u16; 12] = [0; 12];
         let mut at = from;
         for k in 0..usize::from(length) {
-            match way_between(ways, at, to) {
-                Some(way) => {
-                    steps[k] = way.number;
-                    at = way.next;
+            match entry_between(entries, at, to) {
+                Some(entry) => {
+                    steps[k] = entry.number;
+                    at = entry.next;
                 }
                 None => {
                     steps[k] = 0;

@@ -5,7 +5,7 @@ ghost use Rattle.bq_closure.specs.Closure.{bound_at};
 ghost use Rattle.bq_constraints.specs.Reach.{reach};
 ghost use Rattle.bq_closure.specs.Pinned.{pinned};
 
-use crate::way::{Way, way_between};
+use crate::entry::{Entry, entry_between};
 use arrayvec::ArrayVec;
 
 // 0 at node 0, the value at node i, and a large one elsewhere.
@@ -29,12 +29,12 @@ fn first_value(k: u8, i: u8, value: i128, large: i128) -> i128
 }
 
 // The bound of a way above a first value.
-fn most(way: Way, first: i128) -> i128
+fn most(entry: Entry, first: i128) -> i128
     requires low { neg_ℤ (pos (10 ^ 31)) ≤ℤ first }
     requires high { first ≤ℤ pos (10 ^ 31) }
-    ensures { result ≡ way.bound +ℤ first }
+    ensures { result ≡ entry.bound +ℤ first }
 {
-    i128::from(way.bound) + first
+    i128::from(entry.bound) + first
 }
 
 fn lesser(a: i128, b: i128) -> i128
@@ -44,34 +44,41 @@ fn lesser(a: i128, b: i128) -> i128
 }
 
 // The greatest value of node k, at most its first one, that keeps within its bounds above the first ones of the others.
-fn value_of(ways: &[Option<Way>; 169], nodes: u8, k: u8, i: u8, value: i128, large: i128) -> i128
+fn value_of(
+    entries: &[Option<Entry>; 169],
+    nodes: u8,
+    k: u8,
+    i: u8,
+    value: i128,
+    large: i128,
+) -> i128
     requires low { neg_ℤ (pos (10 ^ 31)) ≤ℤ value }
     requires high { value ≤ℤ pos (10 ^ 31) }
     requires large_low { pos 0 ≤ℤ large }
     requires large_high { large ≤ℤ pos (10 ^ 31) }
-    ensures { result ≡ reach (bound_at ways.now) (pinned i value large) nodes k }
+    ensures { result ≡ reach (bound_at entries.now) (pinned i value large) nodes k }
 {
     let mut least = first_value(k, i, value, large);
     for m in 0..nodes {
-        if let Some(way) = way_between(ways, k, m) {
-            least = lesser(least, most(way, first_value(m, i, value, large)));
+        if let Some(entry) = entry_between(entries, k, m) {
+            least = lesser(least, most(entry, first_value(m, i, value, large)));
         }
     }
     least
 }
 
 /// Returns the values of the attributes in a solution that gives node i the value, which is within the bounds of that node.
-pub fn solution(ways: &[Option<Way>; 169], attrs: u8, i: u8, value: i128) -> ArrayVec<i128, 12>
+pub fn solution(entries: &[Option<Entry>; 169], attrs: u8, i: u8, value: i128) -> ArrayVec<i128, 12>
     requires attrs { attrs ≤ 12 }
     requires low { neg_ℤ (pos (10 ^ 30)) ≤ℤ value }
     requires high { value ≤ℤ pos (10 ^ 30) }
     ensures long { length result.items ≡ attrs }
-    ensures each { (k : ℕ) → k < attrs → at_nodes result.items (k + 1) ≡ reach (bound_at ways.now) (pinned i value (pos 100000000000000000 +ℤ pos (nat_abs value))) (attrs + 1) (k + 1) }
+    ensures each { (k : ℕ) → k < attrs → at_nodes result.items (k + 1) ≡ reach (bound_at entries.now) (pinned i value (pos 100000000000000000 +ℤ pos (nat_abs value))) (attrs + 1) (k + 1) }
 {
     let large = large_for(value);
     let mut list = ArrayVec::new();
     for k in 0..attrs {
-        list.push(value_of(ways, attrs + 1, k + 1, i, value, large));
+        list.push(value_of(entries, attrs + 1, k + 1, i, value, large));
     }
     list
 }

@@ -7,12 +7,12 @@ ghost use Rattle.bq_refs.specs.Known.{IsBasis};
 ghost use Rattle.bq_decide.specs.Chosen.{IsFirstBreak};
 
 use crate::breaking::{Break, violation_of};
-use bq_closure::Bounds;
+use bq_closure::Distances;
 use bq_model::{Decision, Part, Query};
 use bq_refs::{Basis, refs};
 
 // The first condition that a part breaks.
-fn break_of(q: &Query, p: &Part, basis: &Basis, bounds: &mut Bounds) -> Option<Break>
+fn break_of(q: &Query, p: &Part, basis: &Basis, bounds: &mut Distances) -> Option<Break>
     requires part { IsPart q.now p.now.signs.items }
     requires basis { IsBasis q.now basis.now }
     ensures { IsFirstBreak q.now p.now.signs.items result }

@@ -22,7 +22,7 @@ use crate::making::fill;
 use bq_closure::Bounds;
 use bq_constraints::place_of;
 use bq_model::{Attr, Condition, Decision, Part, Query, Row};
-use bq_refs::{Basis, refs};
+use bq_refs::{Basis, bounds_of};
 use std::alloc::Global;
 
 // The node of a column, which is 0 where it is no attribute.
@@ -104,9 +104,7 @@ fn make(
     ensures { MakesFamily q.now p.now.signs.items attr (rows_in blanks.now) n result }
 {
     let basis = Basis::new(q);
-    let mut bounds = basis.room();
-    // The bounds of the part are left behind, which is what is wanted here.
-    let _refs = refs(q, p, &basis, &mut bounds);
+    let bounds = bounds_of(q, p, &basis);
     let ground = ground_of(q, p, &bounds, blanks, attr);
     let mut m = Vec::new(alloc);
     let mut g = Vec::new(alloc);

@@ -1,4 +1,3 @@
 pub mod Failing
 pub mod Steps
 pub mod Walks
-pub mod Root

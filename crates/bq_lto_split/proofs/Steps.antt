@@ -1,8 +1,7 @@
--- What one more sign means for the closure of a node.
-use Rattle.std.proofs.Common.{◌≡◌, ℕ, ◌<◌, ◌≤◌, ◌+◌, ℤ, false, true, List, [], ◌∷◌, ◌++◌, filter, slice_get, length, length-append, All, pos, slice_index_or, refl, sym, ◌∙◌, ap, subst, arith}
+-- What one more sign means for the distances of a node.
+use Rattle.std.proofs.Common.{◌≡◌, ℕ, ◌<◌, ◌≤◌, ◌+◌, ℤ, false, true, List, [], ◌∷◌, ◌++◌, slice_get, length, length-append, All, pos, slice_index_or, refl, sym, ◌∙◌, ap, subst, arith}
 use Rattle.bq_model.proofs.Has.{Has, Has-append_right, Contains-from_has}
 use Rattle.bq_model.proofs.Elements.{HasElement}
-use Rattle.bq_model.proofs.FewPairs.{few_with_soft}
 use Rattle.bq_model.proofs.Holding.{Holds-each}
 use Rattle.bq_model.proofs.Local.{PairIn, pair_named}
 use Rattle.bq_model.proofs.Split.{StartsWith, IsFeasible}
@@ -11,14 +10,14 @@ use Rattle.bq_model.specs.declared.part.Pair.{Pair}
 use Rattle.bq_model.specs.declared.part.Sign.{Sign}
 use Rattle.bq_model.specs.declared.atom.Element.{Element}
 use Rattle.bq_model.specs.declared.atom.Element.TheVariants as element
-use Rattle.bq_model.specs.Query.{QueryValue, attrs_of, consts_of, is_soft, IsWithinLimits}
+use Rattle.bq_model.specs.Query.{QueryValue, attrs_of, consts_of, IsWithinLimits}
 use Rattle.bq_model.specs.Assignment.{Assignment}
 use Rattle.bq_model.specs.Parts.{pairs, signs_of}
 use Rattle.bq_constraints.specs.declared.constraint.Constraint.{Constraint}
 use Rattle.bq_closure.specs.ChoiceValue.{ChoiceValue}
-use Rattle.bq_closure.specs.ClosureValue.{ClosureValue}
+use Rattle.bq_closure.specs.declared.distances.Distances.{Distances}
 use Rattle.bq_closure.specs.Choices.{IsChoice, AreChoices, chosen}
-use Rattle.bq_closure.specs.Closure.{IsClosureOf, HasRoom}
+use Rattle.bq_closure.specs.Shortest.{AreDistancesOf, AreDistances}
 use Rattle.bq_constraints.specs.Nodes.{nodes_of}
 use Rattle.bq_constraints.specs.PartConstraints.{AddsSign, of_base, of_prefix}
 use Rattle.bq_constraints.specs.Solutions.{IsWithin, Solves, IsSatisfiable, Implies}
@@ -26,7 +25,7 @@ use Rattle.bq_closure.proofs.Zips.{zip_length, zip_at}
 use Rattle.bq_constraints.proofs.Joined.{solves_left, solves_right, solves_both, solves_implied}
 use Rattle.bq_constraints.proofs.Link.{signs_start}
 use Rattle.bq_constraints.proofs.NodeFacts.{Known, nodes_agree}
-use Rattle.bq_constraints.proofs.Prefix.{adds_sign, of_no_prefix, length-of_base}
+use Rattle.bq_constraints.proofs.Prefix.{adds_sign, of_no_prefix}
 use Rattle.bq_constraints.proofs.Feasible.{feasible_if, satisfiable_if, solves_if}
 use Rattle.std.specs.List.{list_any}
 use Rattle.bq_constraints.specs.Soft.{next_fails, denies_itself, SoftHold}
@@ -50,7 +49,7 @@ adds_here q ps pre s choice i h at l e =
     adds_choice q ps pre s choice (chosen choice s) h (omega (arith, at, l)) (ap (λ (z : ChoiceValue). chosen z s) (e ∙ ap (λ (n : ℕ). slice_index_or ps n choice) (sym at)))
 
 -- there is a pair for one more sign
-pub room_next : (q : QueryValue) (ps : List ChoiceValue) (k : ClosureValue) (pre : List Sign) (s : Sign) → Before q ps k pre → length pre < length ps → length (pre ++ s ∷ []) ≤ length (pairs q)
+pub room_next : (q : QueryValue) (ps : List ChoiceValue) (k : Distances) (pre : List Sign) (s : Sign) → Before q ps k pre → length pre < length ps → length (pre ++ s ∷ []) ≤ length (pairs q)
 room_next q ps k pre s b l =
     let n : length (pre ++ s ∷ []) ≡ length pre + 1 = length-append pre (s ∷ []) in
     let m : length ps ≡ length (pairs q) = zip_length (IsChoice q) (pairs q) ps b.choices in
@@ -83,7 +82,6 @@ module _ (q : QueryValue) (pre : List Sign) (s : Sign) (ks cs : List Constraint)
   are_more = record {
     into = solves_more;
     from = solves_back;
-    few = omega (arith, length-append pre (s ∷ []), length-append ks cs, m.few, a.few);
   }
 
   module _ (i : All (Implies ks) cs) where
@@ -92,7 +90,6 @@ module _ (q : QueryValue) (pre : List Sign) (s : Sign) (ks cs : List Constraint)
     are_same = record {
       into = λ x v. solves_more x (solves_implied x ks cs i v);
       from = λ x v. solves_left x ks cs (solves_back x v);
-      few = omega (arith, length-append pre (s ∷ []), m.few);
     }
 
     -- and each assignment that has the signs has this one too
@@ -111,12 +108,16 @@ feasible_of q signs ks m w f l t = feasible_if q signs w f l (record { at = t.at
 satisfiable_of : (q : QueryValue) (signs : List Sign) (ks : List Constraint) → AreOf q signs ks → IsFeasible q signs → IsSatisfiable ks
 satisfiable_of q signs ks m f = let t : IsSatisfiable (of_prefix q signs) = satisfiable_if q signs f in record { at = t.at; solves = m.from t.at t.solves }
 
--- ---- the closure with the sign
+-- the distances of a node are those of some constraints
+pub known_at : (q : QueryValue) (ps : List ChoiceValue) (k : Distances) (pre : List Sign) → Before q ps k pre → AreDistances k
+known_at q ps k pre b = record { constraints = b.known.constraints; distances = subst (λ m. AreDistancesOf k m b.known.constraints) (sym b.known.distances.attrs) b.known.distances }
 
-module _ (q : QueryValue) (ps : List ChoiceValue) (k : ClosureValue) (pre : List Sign) (s : Sign) (cs : List Constraint) (b : Before q ps k pre) (a : AddsSign q pre s cs) where
+-- ---- the distances with the sign
+
+module _ (q : QueryValue) (ps : List ChoiceValue) (k : Distances) (pre : List Sign) (s : Sign) (cs : List Constraint) (b : Before q ps k pre) (a : AddsSign q pre s cs) where
   -- no assignment has the sign where no integers meet its constraints
-  pub not_feasible : ¬ IsSatisfiable (b.closure.constraints ++ cs) → IsFeasible q (pre ++ s ∷ []) → ⊥
-  not_feasible n f = n (satisfiable_of q (pre ++ s ∷ []) _ (are_more q pre s b.closure.constraints cs b.closure.are a) f)
+  pub not_feasible : ¬ IsSatisfiable (b.known.constraints ++ cs) → IsFeasible q (pre ++ s ∷ []) → ⊥
+  not_feasible n f = n (satisfiable_of q (pre ++ s ∷ []) _ (are_more q pre s b.known.constraints cs b.known.are a) f)
 
   module _ (l : length pre < length ps) where
     here : length (pre ++ s ∷ []) ≤ length (pairs q)
@@ -125,73 +126,55 @@ module _ (q : QueryValue) (ps : List ChoiceValue) (k : ClosureValue) (pre : List
     soft_here : next_fails q.atoms (slice_get (pairs q) (length pre)) s ≡ false → SoftHold q (pre ++ s ∷ [])
     soft_here n = agree_more q pre s (slice_get (pairs q) (length pre)) refl (let m : length ps ≡ length (pairs q) = zip_length (IsChoice q) (pairs q) ps b.choices in omega (arith, m, l)) b.soft n
 
-    -- where the sign follows the closure stays
+    -- where the sign follows the distances stay
     pub before_same : next_fails q.atoms (slice_get (pairs q) (length pre)) s ≡ false → AreImplied k cs → Before q ps k (pre ++ s ∷ [])
     before_same n i =
-        let e : All (Implies b.closure.constraints) cs = i _ _ b.closure.closure in
-        let m : AreOf q (pre ++ s ∷ []) b.closure.constraints = are_same q pre s b.closure.constraints cs b.closure.are a e in
+        let e : All (Implies b.known.constraints) cs = i _ _ b.known.distances in
+        let m : AreOf q (pre ++ s ∷ []) b.known.constraints = are_same q pre s b.known.constraints cs b.known.are a e in
         record {
           limits = b.limits;
           choices = b.choices;
           room = omega (arith, length-append pre (s ∷ []), l);
           few = b.few;
-          closure = record { constraints = b.closure.constraints; closure = b.closure.closure; are = m };
+          known = record { constraints = b.known.constraints; distances = b.known.distances; are = m };
           soft = soft_here n;
-          feasible = feasible_of q (pre ++ s ∷ []) _ m b.limits (soft_here n) here (satisfiable_of q pre _ b.closure.are b.feasible);
+          feasible = feasible_of q (pre ++ s ∷ []) _ m b.limits (soft_here n) here (satisfiable_of q pre _ b.known.are b.feasible);
         }
 
     pub follows_same : AreImplied k cs → Follows q pre (pre ++ s ∷ [])
-    follows_same i = follows_one q pre s b.closure.constraints cs b.closure.are a (i _ _ b.closure.closure) here
+    follows_same i = follows_one q pre s b.known.constraints cs b.known.are a (i _ _ b.known.distances) here
 
     -- else its constraints are added
-    pub before_added : next_fails q.atoms (slice_get (pairs q) (length pre)) s ≡ false → (r : ClosureValue) → IsClosureOf r (length (attrs_of q.atoms)) (b.closure.constraints ++ cs) → IsSatisfiable (b.closure.constraints ++ cs) → Before q ps r (pre ++ s ∷ [])
+    pub before_added : next_fails q.atoms (slice_get (pairs q) (length pre)) s ≡ false → (r : Distances) → AreDistancesOf r (length (attrs_of q.atoms)) (b.known.constraints ++ cs) → IsSatisfiable (b.known.constraints ++ cs) → Before q ps r (pre ++ s ∷ [])
     before_added n r h t =
-        let m : AreOf q (pre ++ s ∷ []) (b.closure.constraints ++ cs) = are_more q pre s b.closure.constraints cs b.closure.are a in
+        let m : AreOf q (pre ++ s ∷ []) (b.known.constraints ++ cs) = are_more q pre s b.known.constraints cs b.known.are a in
         record {
           limits = b.limits;
           choices = b.choices;
           room = omega (arith, length-append pre (s ∷ []), l);
           few = b.few;
-          closure = record { constraints = b.closure.constraints ++ cs; closure = h; are = m };
+          known = record { constraints = b.known.constraints ++ cs; distances = h; are = m };
           soft = soft_here n;
           feasible = feasible_of q (pre ++ s ∷ []) _ m b.limits (soft_here n) here t;
         }
 
-    few_choices : length ps ≤ 106 + length (filter (λ t. is_soft t.op) q.atoms)
-    few_choices = let m : length ps ≡ length (pairs q) = zip_length (IsChoice q) (pairs q) ps b.choices in omega (arith, m, few_with_soft q b.limits)
-
-    pub room_more : HasRoom k (length cs)
-    room_more = record {
-      constraints = b.closure.constraints;
-      closure = subst (λ m. IsClosureOf k m b.closure.constraints) (sym b.closure.closure.attrs) b.closure.closure;
-      room = omega (arith, b.closure.are.few, a.few, l, few_choices);
-    }
-
-    pub room_here : HasRoom k 0
-    room_here = record {
-      constraints = b.closure.constraints;
-      closure = subst (λ m. IsClosureOf k m b.closure.constraints) (sym b.closure.closure.attrs) b.closure.closure;
-      room = omega (arith, b.closure.are.few, l, few_choices);
-    }
-
   pub within_here : All (IsWithin k.attrs) cs
-  within_here = subst (λ m. All (IsWithin m) cs) (sym b.closure.closure.attrs) a.within
+  within_here = subst (λ m. All (IsWithin m) cs) (sym b.known.distances.attrs) a.within
 
 -- ---- the root
 
-pub before_root : (q : QueryValue) (ps : List ChoiceValue) (k : ClosureValue) → IsWithinLimits q → AreChoices q ps → length ps ≤ 114 → list_any (λ t. denies_itself t) q.atoms ≡ false → IsClosureOf k (length (attrs_of q.atoms)) (of_base q) → IsSatisfiable (of_base q) → Before q ps k []
+pub before_root : (q : QueryValue) (ps : List ChoiceValue) (k : Distances) → IsWithinLimits q → AreChoices q ps → length ps ≤ 114 → list_any (λ t. denies_itself t) q.atoms ≡ false → AreDistancesOf k (length (attrs_of q.atoms)) (of_base q) → IsSatisfiable (of_base q) → Before q ps k []
 before_root q ps k l e few n h t = record {
   limits = l;
   choices = e;
   room = omega arith;
   few = few;
-  closure = record {
+  known = record {
     constraints = of_base q;
-    closure = h;
+    distances = h;
     are = record {
       into = λ x v. subst (Solves x) (sym (of_no_prefix q)) v;
       from = λ x v. subst (Solves x) (of_no_prefix q) v;
-      few = omega (arith, length-of_base q l);
     };
   };
   soft = soft_root q l n;

@@ -11,7 +11,7 @@ use Rattle.bq_closure.proofs.Zips.{zip_length}
 use Rattle.bq_model.specs.declared.part.Part.{Part}
 use Rattle.bq_model.specs.Query.{QueryValue}
 use Rattle.bq_model.specs.Parts.{pairs, signs_lt, sign_lt, AreParts, HasMoreParts}
-use Rattle.bq_closure.specs.ClosureValue.{ClosureValue}
+use Rattle.bq_closure.specs.declared.distances.Distances.{Distances}
 use Rattle.bq_lto_split.specs.Split.{sign_lists, OnTooMany}
 use Rattle.bq_lto_split.specs.Tree.{Before, Follows, Walked, IsOver, Walks, WalkedTwo, WalksTwo, Adds}
 use Rattle.bq_lto_split.specs.declared.error.SplitError.{SplitError}
@@ -26,7 +26,7 @@ length-lists ps = simp length-map
 
 -- ---- a leaf
 
-pub leaf : (r : Result (Unit {0}) SplitError) (q : QueryValue) (ps : List ChoiceValue) (k : ClosureValue) (pre : List Sign) (p : Part) (before after : List Part) → Before q ps k pre → length pre ≡ length ps → p.signs.items ≡ pre → Adds r p before after → Walks r q pre before after
+pub leaf : (r : Result (Unit {0}) SplitError) (q : QueryValue) (ps : List ChoiceValue) (k : Distances) (pre : List Sign) (p : Part) (before after : List Part) → Before q ps k pre → length pre ≡ length ps → p.signs.items ≡ pre → Adds r p before after → Walks r q pre before after
 leaf (Ok u) q ps k pre p before after b l e h = record {
   room = (let lp : length ps ≡ length (pairs q) = zip_length (IsChoice q) (pairs q) ps b.choices in omega (arith, l, lp));
   more = pre ∷ [];

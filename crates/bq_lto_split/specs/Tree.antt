@@ -1,16 +1,16 @@
 -- What a walk of the tree of signs adds.
-use Rattle.std.specs.Prelude.{◌≡◌, ℕ, ◌+◌, ◌*◌, ◌<◌, ◌≤◌, ℤ, List, [], ◌∷◌, ◌++◌, filter, length, All, false, slice_get, Result, Ok, Err}
+use Rattle.std.specs.Prelude.{◌≡◌, ℕ, ◌+◌, ◌<◌, ◌≤◌, ℤ, List, [], ◌∷◌, ◌++◌, length, All, false, slice_get, Result, Ok, Err}
 use Rattle.bq_model.specs.declared.part.Sign.{Sign}
 use Rattle.bq_model.specs.declared.part.Part.{Part}
-use Rattle.bq_model.specs.Query.{QueryValue, attrs_of, is_soft, IsWithinLimits}
+use Rattle.bq_model.specs.Query.{QueryValue, attrs_of, IsWithinLimits}
 use Rattle.bq_model.specs.Parts.{pairs, signs_lt, IsPart}
 use Rattle.bq_model.specs.Members.{Has, Ascends}
 use Rattle.bq_model.specs.Prefixes.{StartsWith, IsFeasible, ArePartsUnder}
 use Rattle.bq_constraints.specs.declared.constraint.Constraint.{Constraint}
 use Rattle.bq_closure.specs.ChoiceValue.{ChoiceValue}
-use Rattle.bq_closure.specs.ClosureValue.{ClosureValue}
+use Rattle.bq_closure.specs.declared.distances.Distances.{Distances}
 use Rattle.bq_closure.specs.Choices.{AreChoices, chosen}
-use Rattle.bq_closure.specs.Closure.{IsClosureOf}
+use Rattle.bq_closure.specs.Shortest.{AreDistancesOf}
 use Rattle.bq_constraints.specs.PartConstraints.{of_prefix}
 use Rattle.bq_constraints.specs.Solutions.{Solves, Implies}
 use Rattle.bq_constraints.specs.Soft.{next_fails, SoftHold}
@@ -22,30 +22,29 @@ use Rattle.bq_lto_split.specs.Split.{sign_lists}
 pub record AreOf (q : QueryValue) (signs : List Sign) (cs : List Constraint) : Type 0 where
   pub into : (x : ℕ → ℤ) → Solves x cs → Solves x (of_prefix q signs)
   pub from : (x : ℕ → ℤ) → Solves x (of_prefix q signs) → Solves x cs
-  pub few : length cs + 2 * length (filter (λ t. is_soft t.op) q.atoms) ≤ 56 + 2 * length signs
 
--- the closure of such constraints
-pub record IsClosureFor (q : QueryValue) (signs : List Sign) (k : ClosureValue) : Type 0 where
+-- the distances of such constraints
+pub record AreDistancesFor (q : QueryValue) (signs : List Sign) (k : Distances) : Type 0 where
   pub constraints : List Constraint
-  pub closure : IsClosureOf k (length (attrs_of q.atoms)) constraints
+  pub distances : AreDistancesOf k (length (attrs_of q.atoms)) constraints
   pub are : AreOf q signs constraints
 
--- a node of the tree: some assignment has its signs, the closure is theirs, and no soft comparison is false under them
-pub record Before (q : QueryValue) (cs : List ChoiceValue) (k : ClosureValue) (signs : List Sign) : Type 0 where
+-- a node of the tree: some assignment has its signs, the distances are theirs, and no soft comparison is false under them
+pub record Before (q : QueryValue) (cs : List ChoiceValue) (k : Distances) (signs : List Sign) : Type 0 where
   pub limits : IsWithinLimits q
   pub choices : AreChoices q cs
   pub room : length signs ≤ length cs
   pub few : length cs ≤ 114
-  pub closure : IsClosureFor q signs k
+  pub known : AreDistancesFor q signs k
   pub soft : SoftHold q signs
   pub feasible : IsFeasible q signs
 
--- the constraints that it is the closure of imply each of these
-abbrev pub AreImplied : ClosureValue → List Constraint → Type 0
-AreImplied k cs = (n : ℕ) (ks : List Constraint) → IsClosureOf k n ks → All (Implies ks) cs
+-- the constraints whose distances they are imply each of these
+abbrev pub AreImplied : Distances → List Constraint → Type 0
+AreImplied k cs = (n : ℕ) (ks : List Constraint) → AreDistancesOf k n ks → All (Implies ks) cs
 
 -- the constraints of the sign are implied, and no soft comparison is false under it
-pub record FollowsNext (q : QueryValue) (signs : List Sign) (k : ClosureValue) (c : ChoiceValue) (s : Sign) : Type 0 where
+pub record FollowsNext (q : QueryValue) (signs : List Sign) (k : Distances) (c : ChoiceValue) (s : Sign) : Type 0 where
   pub implied : AreImplied k (chosen c s)
   pub agrees : next_fails q.atoms (slice_get (pairs q) (length signs)) s ≡ false
 

@@ -1,5 +1,5 @@
 -- The constraints of a part, one after another.
-use Rattle.std.proofs.Common.{◌≡◌, ℕ, ◌+◌, ◌*◌, ◌<◌, ◌≤◌, List, ◌++◌, filter, length, length-append, take, All, slice_get, slice_index_or, pos, Some, refl, sym, ◌∙◌, ap, subst, arith}
+use Rattle.std.proofs.Common.{◌≡◌, ℕ, ◌+◌, ◌*◌, ◌<◌, ◌≤◌, List, [], ◌++◌, filter, length, length-append, take, All, slice_get, slice_index_or, pos, Some, refl, sym, ◌∙◌, ap, subst, arith}
 use Rattle.std.proofs.lemmas.List.{take_more, take_all, length-take-le, length-map}
 use Rattle.bq_closure.specs.ChoiceValue.{ChoiceValue}
 use Rattle.bq_closure.specs.Choices.{IsChoice, AreChoices, chosen}
@@ -13,11 +13,13 @@ use Rattle.bq_model.specs.Parts.{pairs, signs_of, IsPart}
 use Rattle.bq_constraints.specs.declared.constraint.Constraint.{Constraint}
 use Rattle.bq_closure.specs.BoundsValue.{BoundsValue}
 use Rattle.bq_constraints.specs.Nodes.{constraints_of}
-use Rattle.bq_constraints.specs.PartConstraints.{of_prefix}
+use Rattle.bq_constraints.specs.PartConstraints.{of_base, of_prefix}
 use Rattle.bq_constraints.specs.Solutions.{IsWithin}
 use Rattle.bq_constraints.proofs.NodeFacts.{length-constraints}
-use Rattle.bq_constraints.proofs.Prefix.{pair_at, prefix_more}
-use Rattle.bq_refs.specs.Known.{IsKnown, AddsSign}
+use Rattle.bq_constraints.proofs.Prefix.{pair_at, prefix_more, of_no_prefix}
+use Rattle.bq_closure.specs.declared.distances.Distances.{Distances}
+use Rattle.bq_closure.specs.Shortest.{AreDistancesOf}
+use Rattle.bq_refs.specs.Known.{IsKnown, AreKnown, AddsSign}
 
 -- ---- the signs
 
@@ -66,3 +68,17 @@ known_if q ss i b p w few l e f = record { part = p; within = w; few = few; attr
 -- there is room for the constraints of one sign more
 pub room_for : (q : QueryValue) (ss : List Sign) (i n m : ℕ) → IsPart q ss → IsWithinLimits q → i < length ss → n + 2 * length (filter (λ t. is_soft t.op) q.atoms) ≤ 56 + 2 * i → m ≤ 2 → n + m ≤ 268
 room_for q ss i n m p w l h k = omega (arith, l, h, k, long q ss p, few_with_soft q w)
+
+-- ---- distances
+
+pub distances_start : (q : QueryValue) (d e : Distances) → d ≡ e → AreDistancesOf e (length (attrs_of q.atoms)) (of_base q) → AreDistancesOf d (length (attrs_of q.atoms)) (of_prefix q [])
+distances_start q d e i h = subst (λ (cs : List Constraint). AreDistancesOf d (length (attrs_of q.atoms)) cs) (sym (of_no_prefix q)) (subst (λ (z : Distances). AreDistancesOf z (length (attrs_of q.atoms)) (of_base q)) (sym i) h)
+
+pub distances_more : (q : QueryValue) (ss : List Sign) (i n : ℕ) (cs : List Constraint) (d : Distances) → AddsSign q ss i cs → AreDistancesOf d n (of_prefix q (take i ss) ++ cs) → AreDistancesOf d n (of_prefix q (take (i + 1) ss))
+distances_more q ss i n cs d a h = subst (λ (z : List Constraint). AreDistancesOf d n z) (sym a.more) h
+
+pub within_for : (q : QueryValue) (ss : List Sign) (i : ℕ) (cs ds : List Constraint) (d : Distances) → AddsSign q ss i cs → AreDistancesOf d (length (attrs_of q.atoms)) ds → All (IsWithin d.attrs) cs
+within_for q ss i cs ds d a h = subst (λ (n : ℕ). All (IsWithin n) cs) (sym h.attrs) a.within
+
+pub known_by : (q : QueryValue) (ss : List Sign) (i : ℕ) (d : Distances) → IsPart q ss → IsWithinLimits q → length ss ≤ i → AreDistancesOf d (length (attrs_of q.atoms)) (of_prefix q (take i ss)) → AreKnown q ss d
+known_by q ss i d p w l h = record { part = p; within = w; few = w.few_attrs; distances = subst (λ (z : List Constraint). AreDistancesOf d (length (attrs_of q.atoms)) z) (ap (of_prefix q) (take_all i ss l)) h }

@@ -1,5 +1,5 @@
 -- What the bounds of a part answer, in the terms of the part.
-use Rattle.std.proofs.Common.{List, sym, subst}
+use Rattle.std.proofs.Common.{List, length, refl, sym, subst}
 use Rattle.bq_model.specs.declared.part.Sign.{Sign}
 use Rattle.bq_model.specs.declared.atom.Element.{Element}
 use Rattle.bq_model.specs.Query.{QueryValue, attrs_of}
@@ -9,7 +9,10 @@ use Rattle.bq_closure.specs.BoundsValue.{BoundsValue}
 use Rattle.bq_constraints.specs.Nodes.{IsAlwaysLess, IsAlwaysEqual, nodes_of}
 use Rattle.bq_constraints.specs.Solutions.{IsSatisfiable}
 use Rattle.bq_constraints.proofs.InPart.{solves_in_part, less_in_part, less_from_part, equal_in_part, equal_from_part}
-use Rattle.bq_refs.specs.Known.{IsKnown}
+use Rattle.bq_constraints.specs.PartConstraints.{of_prefix}
+use Rattle.bq_closure.specs.declared.distances.Distances.{Distances}
+use Rattle.bq_closure.specs.Shortest.{AreDistancesOf, AreSatisfiable}
+use Rattle.bq_refs.specs.Known.{IsKnown, AreKnown}
 
 module _ (q : QueryValue) (s : List Sign) (b : BoundsValue) (k : IsKnown q s b) where
   pub satisfiable : IsSatisfiable b.constraints
@@ -27,3 +30,20 @@ module _ (q : QueryValue) (s : List Sign) (b : BoundsValue) (k : IsKnown q s b) 
 
     pub equal_only : IsEqual q s x y → IsAlwaysEqual q b.constraints x y
     equal_only h = subst (λ (cs : List Constraint). IsAlwaysEqual q cs x y) (sym k.constraints) (equal_from_part q s k.within k.part x y hx hy h)
+
+-- ---- the same of distances
+
+-- the bounds of a part, as contracts see them
+abbrev pub bounds_in : QueryValue → List Sign → BoundsValue
+bounds_in q s = record { attrs = length (attrs_of q.atoms); constraints = of_prefix q s }
+
+module _ (q : QueryValue) (s : List Sign) (d : Distances) (k : AreKnown q s d) where
+  pub as_known : IsKnown q s (bounds_in q s)
+  as_known = record { part = k.part; within = k.within; few = k.few; attrs = refl; constraints = refl }
+
+  pub solvable : AreSatisfiable d
+  solvable = record {
+    constraints = of_prefix q s;
+    distances = subst (λ m. AreDistancesOf d m (of_prefix q s)) (sym k.distances.attrs) k.distances;
+    satisfiable = satisfiable q s (bounds_in q s) as_known;
+  }

@@ -1,11 +1,11 @@
 -- What contracts see of what the parts of a query share.
 use Rattle.std.specs.Prelude.{List}
 use Rattle.bq_model.specs.declared.plan.Link.{Link}
-use Rattle.bq_closure.specs.BoundsValue.{BoundsValue}
+use Rattle.bq_closure.specs.declared.distances.Distances.{Distances}
 use Rattle.bq_closure.specs.ChoiceValue.{ChoiceValue}
 
--- the bounds of the query's comparisons and domains, what each pair adds by each sign, and the links of each attribute with each of another stream and its group
+-- the distances of the query's comparisons and domains, what each pair adds by each sign, and the links of each attribute with each of another stream and its group
 pub record BasisValue : Type 0 where
-  pub bounds : BoundsValue
+  pub distances : Distances
   pub choices : List ChoiceValue
   pub links : List Link

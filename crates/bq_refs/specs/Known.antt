@@ -1,10 +1,12 @@
--- The difference bounds of a part.
-use Rattle.std.specs.Prelude.{◌≡◌, ℕ, ◌+◌, ◌*◌, ◌≤◌, List, ◌++◌, filter, length, take, All}
+-- The distances and the difference bounds of a part.
+use Rattle.std.specs.Prelude.{◌≡◌, ℕ, ◌+◌, ◌≤◌, List, ◌++◌, length, take, All}
 use Rattle.bq_model.specs.declared.part.Sign.{Sign}
-use Rattle.bq_model.specs.Query.{QueryValue, attrs_of, is_soft, IsWithinLimits}
+use Rattle.bq_model.specs.Query.{QueryValue, attrs_of, IsWithinLimits}
 use Rattle.bq_model.specs.Parts.{IsPart}
 use Rattle.bq_constraints.specs.declared.constraint.Constraint.{Constraint}
+use Rattle.bq_closure.specs.declared.distances.Distances.{Distances}
 use Rattle.bq_closure.specs.BoundsValue.{BoundsValue}
+use Rattle.bq_closure.specs.Shortest.{AreDistancesOf}
 use Rattle.bq_closure.specs.Choices.{AreChoices}
 use Rattle.bq_constraints.specs.PartConstraints.{of_base, of_prefix}
 use Rattle.bq_constraints.specs.Solutions.{IsWithin}
@@ -19,13 +21,17 @@ pub record IsKnown (q : QueryValue) (s : List Sign) (b : BoundsValue) : Type 0 w
   pub attrs : b.attrs ≡ length (attrs_of q.atoms)
   pub constraints : b.constraints ≡ of_prefix q s
 
--- the bounds are those of the query's comparisons and domains, there is a choice for each of its pairs, and a link of each attribute with each of another stream and its group
-pub record IsBasis (q : QueryValue) (b : BasisValue) : Type 0 where
-  pub few : length (attrs_of q.atoms) ≤ 12
-  pub attrs : b.bounds.attrs ≡ length (attrs_of q.atoms)
+-- the distances are those of a part of the query
+pub record AreKnown (q : QueryValue) (s : List Sign) (d : Distances) : Type 0 where
+  pub part : IsPart q s
   pub within : IsWithinLimits q
-  pub constraints : b.bounds.constraints ≡ of_base q
-  pub room : length b.bounds.constraints + 2 * length (filter (λ t. is_soft t.op) q.atoms) ≤ 56
+  pub few : length (attrs_of q.atoms) ≤ 12
+  pub distances : AreDistancesOf d (length (attrs_of q.atoms)) (of_prefix q s)
+
+-- the distances are those of the query's comparisons and domains, there is a choice for each of its pairs, and a link of each attribute with each of another stream and its group
+pub record IsBasis (q : QueryValue) (b : BasisValue) : Type 0 where
+  pub within : IsWithinLimits q
+  pub distances : AreDistancesOf b.distances (length (attrs_of q.atoms)) (of_base q)
   pub choices : AreChoices q b.choices
   pub links : AreLinksAcross q b.links
 

@@ -3,19 +3,19 @@ ghost use Rattle.std.specs.Prelude.{◌↔◌, IsTrue};
 ghost use Rattle.std.specs.List.{AllZip};
 ghost use Rattle.bq_model.specs.Query.{attrs_of};
 ghost use Rattle.bq_model.specs.Plan.{AreOneClass};
-ghost use Rattle.bq_refs.specs.Known.{IsKnown};
+ghost use Rattle.bq_refs.specs.Known.{AreKnown};
 ghost use Rattle.bq_refs.specs.Placed.{IsNamed};
 ghost use Rattle.bq_refs.specs.Refs.{IsClassPlace};
 
 use crate::order::is_equal;
 use crate::placed::{Named, as_element, named_at};
 use arrayvec::ArrayVec;
-use bq_closure::Bounds;
+use bq_closure::Distances;
 use bq_model::{Element, Part, Query};
 
 // Whether two attributes are of one class.
-fn are_one_class(q: &Query, p: &Part, bounds: &Bounds, a: Named, b: Named) -> bool
-    requires known { IsKnown q.now p.now.signs.items bounds.now }
+fn are_one_class(q: &Query, p: &Part, bounds: &Distances, a: Named, b: Named) -> bool
+    requires known { AreKnown q.now p.now.signs.items bounds.now }
     requires left { IsNamed q.now a }
     requires right { IsNamed q.now b }
     ensures { IsTrue result ↔ AreOneClass q.now p.now.signs.items a.attr b.attr }
@@ -26,8 +26,8 @@ fn are_one_class(q: &Query, p: &Part, bounds: &Bounds, a: Named, b: Named) -> bo
 }
 
 // The place of the attribute that names the class of another.
-fn class_of(q: &Query, p: &Part, bounds: &Bounds, a: Named) -> u8
-    requires known { IsKnown q.now p.now.signs.items bounds.now }
+fn class_of(q: &Query, p: &Part, bounds: &Distances, a: Named) -> u8
+    requires known { AreKnown q.now p.now.signs.items bounds.now }
     requires among { IsNamed q.now a }
     ensures { IsClassPlace q.now p.now.signs.items a.attr result }
 {
@@ -41,8 +41,8 @@ fn class_of(q: &Query, p: &Part, bounds: &Bounds, a: Named) -> u8
 }
 
 /// Returns for each attribute the place of the attribute that names its class.
-pub fn classes(q: &Query, p: &Part, bounds: &Bounds) -> ArrayVec<u8, 12>
-    requires { IsKnown q.now p.now.signs.items bounds.now }
+pub fn classes(q: &Query, p: &Part, bounds: &Distances) -> ArrayVec<u8, 12>
+    requires { AreKnown q.now p.now.signs.items bounds.now }
     ensures { AllZip (IsClassPlace q.now p.now.signs.items) (attrs_of q.now.atoms) result.items }
 {
     let attrs = q.attrs();

@@ -1,21 +1,21 @@
-//! The difference bounds of a part.
+//! The distances of a part, and its bounds.
 ghost use Rattle.std.specs.Prelude.{◌≡◌, ◌+◌, ◌≤◌, length};
 ghost use Rattle.bq_model.specs.Parts.{IsPart};
 ghost use Rattle.bq_closure.specs.Choices.{AreChoices};
-ghost use Rattle.bq_refs.specs.Known.{IsKnown, IsBasis, AddsSign};
+ghost use Rattle.bq_refs.specs.Known.{AreKnown, IsKnown, IsBasis, AddsSign};
 
 use crate::links::links_across;
 use arrayvec::ArrayVec;
-use bq_closure::{Bounds, Choice, choices};
+use bq_closure::{Bounds, Choice, Distances, choices};
 use bq_constraints::Constraint;
 use bq_model::{Link, Part, Query, Sign};
 use std::marker::Model;
 
-/// What all parts of a query share: the bounds of its comparisons and domains, what each sign of each pair adds to them, and the
-/// links of each attribute with each of another stream and its group. A clause sees the bounds' value, and two lists.
+/// What all parts of a query share: the distances of its comparisons and domains, what each sign of each pair adds to them, and the
+/// links of each attribute with each of another stream and its group. A clause sees the distances, and two lists.
 #[derive(Drop)]
 pub struct Basis {
-    bounds: Bounds,
+    distances: Distances,
     choices: ArrayVec<Choice, 114>,
     links: ArrayVec<Link, 144>,
 }
@@ -25,7 +25,7 @@ impl Model for Basis {
 
     ghost Value = { BasisValue };
 
-    ghost view = { λ b. record { bounds = b.bounds; choices = b.choices.items; links = b.links.items } };
+    ghost view = { λ b. record { distances = b.distances; choices = b.choices.items; links = b.links.items } };
 }
 
 impl Basis {
@@ -34,7 +34,7 @@ impl Basis {
         ensures { IsBasis q.now result }
     {
         Basis {
-            bounds: Bounds::of_query(q),
+            distances: Distances::of_query(q),
             choices: choices(q),
             links: links_across(q),
         }
@@ -47,9 +47,9 @@ impl Basis {
         self.links.as_slice()
     }
 
-    /// Bounds to work in; what they hold does not matter.
-    pub fn room(&self) -> Bounds {
-        self.bounds.copy()
+    /// Distances to work in; what they hold does not matter.
+    pub fn room(&self) -> Distances {
+        self.distances
     }
 }
 
@@ -65,16 +65,31 @@ fn of_sign<'a>(q: &Query, choices: &'a [Choice], signs: &[Sign], i: usize) -> &'
     choices[i].by(signs[i])
 }
 
-/// Makes bounds those of a part of the query.
-pub fn set_bounds(q: &Query, p: &Part, basis: &Basis, bounds: &mut Bounds)
+/// Makes distances those of a part of the query.
+pub fn set_distances(q: &Query, p: &Part, basis: &Basis, distances: &mut Distances)
     requires part { IsPart q.now p.now.signs.items }
     requires basis { IsBasis q.now basis.now }
-    ensures { IsKnown q.now p.now.signs.items bounds.new }
+    ensures { AreKnown q.now p.now.signs.items distances.new }
 {
-    bounds.set(&basis.bounds);
+    *distances = basis.distances;
+    let choices = basis.choices.as_slice();
+    let signs = p.signs.as_slice();
+    for i in 0..signs.len() {
+        distances.add_all(of_sign(q, choices, signs, i));
+    }
+}
+
+/// Returns the bounds of a part of the query: they answer with the chains that its distances leave out.
+pub fn bounds_of(q: &Query, p: &Part, basis: &Basis) -> Bounds
+    requires part { IsPart q.now p.now.signs.items }
+    requires basis { IsBasis q.now basis.now }
+    ensures { IsKnown q.now p.now.signs.items result }
+{
+    let mut bounds = Bounds::of_query(q);
     let choices = basis.choices.as_slice();
     let signs = p.signs.as_slice();
     for i in 0..signs.len() {
         bounds.add_all(of_sign(q, choices, signs, i));
     }
+    bounds
 }

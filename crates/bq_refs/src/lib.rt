@@ -1,7 +1,7 @@
 //! What holds in a part of a query, as a plan needs it: the least and the greatest value of each bounded attribute, the
 //! classes of attributes that are equal, the links between streams, and the references.
 //!
-//! All is read from the difference bounds of the part. A link stands for what the signs of the part do not say by
+//! All is read from the distances of the part; `bounds_of` gives its bounds to those who ask for chains and solutions. A link stands for what the signs of the part do not say by
 //! themselves: an equality between streams, or an inequality between streams that no other element implies.
 #![tactic(auto)]
 
@@ -15,7 +15,7 @@ mod reading;
 mod redundant;
 mod told;
 
-pub use known::Basis;
+pub use known::{Basis, bounds_of};
 pub use range::Range;
 pub use reading::refs;
 pub use told::Refs;

@@ -3,14 +3,14 @@ ghost use Rattle.std.specs.Prelude.{◌≡◌, ◌↔◌, ◌+◌, ◌≤◌, �
 ghost use Rattle.bq_model.specs.Query.{attrs_of, attr_lt, IsWithinLimits};
 ghost use Rattle.bq_model.specs.Links.{IsInequality};
 ghost use Rattle.bq_model.specs.Plan.{link};
-ghost use Rattle.bq_refs.specs.Known.{IsKnown};
+ghost use Rattle.bq_refs.specs.Known.{AreKnown};
 ghost use Rattle.bq_refs.specs.Sifting.{Sifts, links_among, IsAcross, AreLinksAcross, IsOrderedEquality, IsOrderedInequality, IsLessAcross};
 
 use crate::order::{is_equal, is_less};
 use crate::placed::with_node;
 use crate::redundant::is_redundant;
 use arrayvec::ArrayVec;
-use bq_closure::Bounds;
+use bq_closure::Distances;
 use bq_model::{Attr, Element, Link, Part, Query};
 
 // Whether a column stands before another.
@@ -70,8 +70,8 @@ pub fn links_across(q: &Query) -> ArrayVec<Link, 144>
 }
 
 // Whether the link is an equality between streams, with the earlier attribute on the left.
-fn is_equality(q: &Query, p: &Part, bounds: &Bounds, l: Link) -> bool
-    requires known { IsKnown q.now p.now.signs.items bounds.now }
+fn is_equality(q: &Query, p: &Part, bounds: &Distances, l: Link) -> bool
+    requires known { AreKnown q.now p.now.signs.items bounds.now }
     requires left { Contains (attrs_of q.now.atoms) l.left }
     requires right { Contains (attrs_of q.now.atoms) l.right }
     ensures { IsTrue result ↔ IsOrderedEquality q.now p.now.signs.items l }
@@ -89,8 +89,8 @@ fn is_equality(q: &Query, p: &Part, bounds: &Bounds, l: Link) -> bool
 }
 
 // Whether the sides are of different streams and one group, and the left one is less than the right one.
-fn is_less_across(q: &Query, p: &Part, bounds: &Bounds, l: Link) -> bool
-    requires known { IsKnown q.now p.now.signs.items bounds.now }
+fn is_less_across(q: &Query, p: &Part, bounds: &Distances, l: Link) -> bool
+    requires known { AreKnown q.now p.now.signs.items bounds.now }
     requires left { Contains (attrs_of q.now.atoms) l.left }
     requires right { Contains (attrs_of q.now.atoms) l.right }
     ensures { IsTrue result ↔ IsLessAcross q.now p.now.signs.items l }
@@ -107,8 +107,8 @@ fn is_less_across(q: &Query, p: &Part, bounds: &Bounds, l: Link) -> bool
 }
 
 // Whether the link is a nonredundant inequality between streams.
-fn is_inequality(q: &Query, p: &Part, bounds: &Bounds, l: Link) -> bool
-    requires known { IsKnown q.now p.now.signs.items bounds.now }
+fn is_inequality(q: &Query, p: &Part, bounds: &Distances, l: Link) -> bool
+    requires known { AreKnown q.now p.now.signs.items bounds.now }
     requires left { Contains (attrs_of q.now.atoms) l.left }
     requires right { Contains (attrs_of q.now.atoms) l.right }
     ensures { IsTrue result ↔ IsInequality q.now p.now.signs.items l.left l.right }
@@ -117,8 +117,8 @@ fn is_inequality(q: &Query, p: &Part, bounds: &Bounds, l: Link) -> bool
 }
 
 /// Returns of all links the equalities between streams, each once and with the earlier attribute on the left.
-pub fn equalities(q: &Query, p: &Part, bounds: &Bounds, links: &[Link]) -> ArrayVec<Link, 66>
-    requires known { IsKnown q.now p.now.signs.items bounds.now }
+pub fn equalities(q: &Query, p: &Part, bounds: &Distances, links: &[Link]) -> ArrayVec<Link, 66>
+    requires known { AreKnown q.now p.now.signs.items bounds.now }
     requires links { AreLinksAcross q.now links.now }
     ensures { Sifts (IsOrderedEquality q.now p.now.signs.items) (links_among (attrs_of q.now.atoms) (attrs_of q.now.atoms)) result.items }
 {
@@ -132,8 +132,8 @@ pub fn equalities(q: &Query, p: &Part, bounds: &Bounds, links: &[Link]) -> Array
 }
 
 /// Returns of all links the nonredundant inequalities between streams.
-pub fn inequalities(q: &Query, p: &Part, bounds: &Bounds, links: &[Link]) -> ArrayVec<Link, 66>
-    requires known { IsKnown q.now p.now.signs.items bounds.now }
+pub fn inequalities(q: &Query, p: &Part, bounds: &Distances, links: &[Link]) -> ArrayVec<Link, 66>
+    requires known { AreKnown q.now p.now.signs.items bounds.now }
     requires links { AreLinksAcross q.now links.now }
     ensures { Sifts (IsOrderedInequality q.now p.now.signs.items) (links_among (attrs_of q.now.atoms) (attrs_of q.now.atoms)) result.items }
 {

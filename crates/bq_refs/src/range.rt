@@ -2,12 +2,10 @@
 ghost use Rattle.std.specs.Prelude.{◌≡◌, ◌<◌, ◌+◌, ◌≤◌, ◌≤ℤ◌, Some, length, get_or, slice_index_or};
 ghost use Rattle.bq_model.specs.declared.atom.Attr.{Attr};
 ghost use Rattle.bq_model.specs.Query.{attrs_of};
-ghost use Rattle.bq_constraints.specs.Solutions.{IsLowAnswer, IsHighAnswer};
-ghost use Rattle.bq_closure.specs.Answers.{IsSmall};
-ghost use Rattle.bq_refs.specs.Known.{IsKnown};
+ghost use Rattle.bq_refs.specs.Known.{AreKnown};
 ghost use Rattle.bq_refs.specs.Refs.{IsRangeAt, between_of};
 
-use bq_closure::Bounds;
+use bq_closure::Distances;
 use bq_model::{Part, Query};
 
 /// The least and the greatest value of an attribute in a part.
@@ -17,18 +15,13 @@ pub struct Range {
     pub hi: i64,
 }
 
-// The range between two bounds within 10^17 either way, where both are there.
-fn range_between(low: Option<i128>, high: Option<i128>) -> Option<Range>
-    requires low { IsSmall low }
-    requires high { IsSmall high }
+// The range between two bounds, where both are there.
+fn range_between(low: Option<i64>, high: Option<i64>) -> Option<Range>
     ensures { result ≡ between_of low high }
 {
     match low {
         Some(lo) => match high {
-            Some(hi) => Some(Range {
-                lo: lo as i64,
-                hi: hi as i64,
-            }),
+            Some(hi) => Some(Range { lo, hi }),
             None => None,
         },
         None => None,
@@ -44,8 +37,8 @@ fn node_at(i: usize) -> u8
 }
 
 /// Returns the range of the attribute at a place, or none where it is not bounded.
-pub fn range_at(q: &Query, p: &Part, bounds: &Bounds, i: usize) -> Option<Range>
-    requires known { IsKnown q.now p.now.signs.items bounds.now }
+pub fn range_at(q: &Query, p: &Part, bounds: &Distances, i: usize) -> Option<Range>
+    requires known { AreKnown q.now p.now.signs.items bounds.now }
     requires place { i < length (attrs_of q.now.atoms) }
     ensures { IsRangeAt q.now p.now.signs.items i result }
 {

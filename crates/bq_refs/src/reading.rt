@@ -5,22 +5,22 @@ ghost use Rattle.bq_model.specs.declared.atom.Attr.{Attr};
 ghost use Rattle.bq_model.specs.Query.{attrs_of};
 ghost use Rattle.bq_model.specs.Parts.{IsPart};
 ghost use Rattle.bq_model.specs.Links.{IsMinRef, IsMaxRef};
-ghost use Rattle.bq_refs.specs.Known.{IsKnown, IsBasis};
+ghost use Rattle.bq_refs.specs.Known.{AreKnown, IsBasis};
 ghost use Rattle.bq_refs.specs.Sifting.{Sifts, AreInequalities};
 ghost use Rattle.bq_refs.specs.Refs.{IsRange, AreRefs};
 
 use crate::classes::classes;
-use crate::known::{Basis, set_bounds};
+use crate::known::{Basis, set_distances};
 use crate::links::{equalities, inequalities};
 use crate::range::{Range, range_at};
 use crate::told::Refs;
 use arrayvec::ArrayVec;
-use bq_closure::Bounds;
+use bq_closure::Distances;
 use bq_model::{Attr, Link, Part, Query};
 
 // The range of each attribute.
-fn ranges(q: &Query, p: &Part, bounds: &Bounds) -> ArrayVec<Option<Range>, 12>
-    requires { IsKnown q.now p.now.signs.items bounds.now }
+fn ranges(q: &Query, p: &Part, bounds: &Distances) -> ArrayVec<Option<Range>, 12>
+    requires { AreKnown q.now p.now.signs.items bounds.now }
     ensures { AllZip (IsRange q.now p.now.signs.items) (attrs_of q.now.atoms) result.items }
 {
     let mut list = ArrayVec::new();
@@ -121,15 +121,15 @@ fn max_refs(q: &Query, p: &Part, ranges: &[Option<Range>], less: &[Link]) -> Arr
     list
 }
 
-/// Returns what holds in a part of the query. The bounds are room to work in: what they hold before does not matter, and afterwards they
+/// Returns what holds in a part of the query. The distances are room to work in: what they hold before does not matter, and afterwards they
 /// are those of the part.
-pub fn refs(q: &Query, p: &Part, basis: &Basis, bounds: &mut Bounds) -> Refs
+pub fn refs(q: &Query, p: &Part, basis: &Basis, bounds: &mut Distances) -> Refs
     requires part { IsPart q.now p.now.signs.items }
     requires basis { IsBasis q.now basis.now }
     ensures refs { AreRefs q.now p.now.signs.items result }
-    ensures bounds { IsKnown q.now p.now.signs.items bounds.new }
+    ensures bounds { AreKnown q.now p.now.signs.items bounds.new }
 {
-    set_bounds(q, p, basis, bounds);
+    set_distances(q, p, basis, bounds);
     let bounds = &*bounds;
     let ranges = ranges(q, p, bounds);
     let less = inequalities(q, p, bounds, basis.links());

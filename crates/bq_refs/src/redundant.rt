@@ -4,18 +4,18 @@ ghost use Rattle.std.specs.List.{Any};
 ghost use Rattle.bq_model.specs.declared.atom.Element.TheVariants as element;
 ghost use Rattle.bq_model.specs.Query.{attrs_of, consts_of};
 ghost use Rattle.bq_model.specs.Links.{IsRedundant};
-ghost use Rattle.bq_refs.specs.Known.{IsKnown};
+ghost use Rattle.bq_refs.specs.Known.{AreKnown};
 ghost use Rattle.bq_refs.specs.Placed.{IsNamed, IsPlaced};
 ghost use Rattle.bq_refs.specs.Redundant.{LiesBetween, EqualsLeft, EqualsRight, Parts};
 
 use crate::order::{is_equal, is_less};
 use crate::placed::{Named, Placed, as_element, attr_with_node, named_at, with_node};
-use bq_closure::Bounds;
+use bq_closure::Distances;
 use bq_model::{Attr, Element, Part, Query};
 
 // Whether e is in one group with x, and lies between x and y.
-fn lies_between(q: &Query, p: &Part, bounds: &Bounds, x: Named, y: Named, e: Placed) -> bool
-    requires known { IsKnown q.now p.now.signs.items bounds.now }
+fn lies_between(q: &Query, p: &Part, bounds: &Distances, x: Named, y: Named, e: Placed) -> bool
+    requires known { AreKnown q.now p.now.signs.items bounds.now }
     requires left { IsNamed q.now x }
     requires right { IsNamed q.now y }
     requires middle { IsPlaced q.now e }
@@ -27,8 +27,8 @@ fn lies_between(q: &Query, p: &Part, bounds: &Bounds, x: Named, y: Named, e: Pla
 }
 
 // Whether e is in one group with x, equals x and is less than y.
-fn equals_left(q: &Query, p: &Part, bounds: &Bounds, x: Named, y: Named, e: Placed) -> bool
-    requires known { IsKnown q.now p.now.signs.items bounds.now }
+fn equals_left(q: &Query, p: &Part, bounds: &Distances, x: Named, y: Named, e: Placed) -> bool
+    requires known { AreKnown q.now p.now.signs.items bounds.now }
     requires left { IsNamed q.now x }
     requires right { IsNamed q.now y }
     requires middle { IsPlaced q.now e }
@@ -40,8 +40,8 @@ fn equals_left(q: &Query, p: &Part, bounds: &Bounds, x: Named, y: Named, e: Plac
 }
 
 // Whether e is in one group with x, x is less than e, and e equals y.
-fn equals_right(q: &Query, p: &Part, bounds: &Bounds, x: Named, y: Named, e: Placed) -> bool
-    requires known { IsKnown q.now p.now.signs.items bounds.now }
+fn equals_right(q: &Query, p: &Part, bounds: &Distances, x: Named, y: Named, e: Placed) -> bool
+    requires known { AreKnown q.now p.now.signs.items bounds.now }
     requires left { IsNamed q.now x }
     requires right { IsNamed q.now y }
     requires middle { IsPlaced q.now e }
@@ -53,8 +53,8 @@ fn equals_right(q: &Query, p: &Part, bounds: &Bounds, x: Named, y: Named, e: Pla
 }
 
 // Whether a constant of the group lies between x and y, or equals one and parts it from the other.
-fn parts(q: &Query, p: &Part, bounds: &Bounds, x: Named, y: Named, e: Placed) -> bool
-    requires known { IsKnown q.now p.now.signs.items bounds.now }
+fn parts(q: &Query, p: &Part, bounds: &Distances, x: Named, y: Named, e: Placed) -> bool
+    requires known { AreKnown q.now p.now.signs.items bounds.now }
     requires left { IsNamed q.now x }
     requires right { IsNamed q.now y }
     requires middle { IsPlaced q.now e }
@@ -66,8 +66,8 @@ fn parts(q: &Query, p: &Part, bounds: &Bounds, x: Named, y: Named, e: Placed) ->
 }
 
 // Whether an attribute of the group lies between x and y.
-fn some_attr_between(q: &Query, p: &Part, bounds: &Bounds, x: Named, y: Named) -> bool
-    requires known { IsKnown q.now p.now.signs.items bounds.now }
+fn some_attr_between(q: &Query, p: &Part, bounds: &Distances, x: Named, y: Named) -> bool
+    requires known { AreKnown q.now p.now.signs.items bounds.now }
     requires left { IsNamed q.now x }
     requires right { IsNamed q.now y }
     ensures { IsTrue result ↔ Any (λ a. LiesBetween q.now p.now.signs.items x.attr y.attr (element.Attr a)) (attrs_of q.now.atoms) }
@@ -82,8 +82,8 @@ fn some_attr_between(q: &Query, p: &Part, bounds: &Bounds, x: Named, y: Named) -
 }
 
 // Whether a constant of the group parts x from y.
-fn some_const_parts(q: &Query, p: &Part, bounds: &Bounds, x: Named, y: Named) -> bool
-    requires known { IsKnown q.now p.now.signs.items bounds.now }
+fn some_const_parts(q: &Query, p: &Part, bounds: &Distances, x: Named, y: Named) -> bool
+    requires known { AreKnown q.now p.now.signs.items bounds.now }
     requires left { IsNamed q.now x }
     requires right { IsNamed q.now y }
     ensures { IsTrue result ↔ Any (λ k. Parts q.now p.now.signs.items x.attr y.attr (element.Const k)) (consts_of q.now.atoms) }
@@ -98,8 +98,8 @@ fn some_const_parts(q: &Query, p: &Part, bounds: &Bounds, x: Named, y: Named) ->
 }
 
 /// Returns whether x < y is redundant in the part.
-pub fn is_redundant(q: &Query, p: &Part, bounds: &Bounds, x: Attr, y: Attr) -> bool
-    requires known { IsKnown q.now p.now.signs.items bounds.now }
+pub fn is_redundant(q: &Query, p: &Part, bounds: &Distances, x: Attr, y: Attr) -> bool
+    requires known { AreKnown q.now p.now.signs.items bounds.now }
     requires left { Contains (attrs_of q.now.atoms) x }
     requires right { Contains (attrs_of q.now.atoms) y }
     ensures { IsTrue result ↔ IsRedundant q.now p.now.signs.items x y }

@@ -12,6 +12,6 @@ loop-k-preserved c =
     let r : to_z w128 (of_z w128 c.value_of.result) ≡ c.value_of.result = to_z-of_z w128 c.value_of.result (search rules) in
     let l : to_z w128 (of_z w128 c.large_for-large.result) ≡ c.large_for-large.result = to_z-of_z w128 c.large_for-large.result (search rules) in (
       omega (arith, c.push.ensures.len, c.loop-k.invariant.0),
-      values_more (λ y. reach (bound_at c.args.ways.now) (pinned c.args.i (to_z w128 (of_z w128 c.args.value)) (pos 100000000000000000 +ℤ pos (nat_abs (to_z w128 (of_z w128 c.args.value))))) (c.args.attrs + 1) y)
-          c.loop-k.list.items c.push.new.self.items (to_z w128 (of_z w128 c.value_of.result)) c.loop-k.k c.loop-k.invariant.0 c.push.ensures.items (r ∙ c.value_of.ensures ∙ ap (λ z. reach (bound_at c.args.ways.now) (pinned c.args.i (to_z w128 (of_z w128 c.args.value)) z) (c.args.attrs + 1) (c.loop-k.k + 1)) (l ∙ c.large_for-large.ensures)) c.loop-k.invariant.1,
+      values_more (λ y. reach (bound_at c.args.entries.now) (pinned c.args.i (to_z w128 (of_z w128 c.args.value)) (pos 100000000000000000 +ℤ pos (nat_abs (to_z w128 (of_z w128 c.args.value))))) (c.args.attrs + 1) y)
+          c.loop-k.list.items c.push.new.self.items (to_z w128 (of_z w128 c.value_of.result)) c.loop-k.k c.loop-k.invariant.0 c.push.ensures.items (r ∙ c.value_of.ensures ∙ ap (λ z. reach (bound_at c.args.entries.now) (pinned c.args.i (to_z w128 (of_z w128 c.args.value)) z) (c.args.attrs + 1) (c.loop-k.k + 1)) (l ∙ c.large_for-large.ensures)) c.loop-k.invariant.1,
     )

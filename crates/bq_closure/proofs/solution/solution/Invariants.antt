@@ -6,4 +6,4 @@ use Rattle.bq_closure.specs.Pinned.{pinned}
 use Rattle.bq_closure.proofs.solution.solution.Given as goal
 
 abbrev pub invariant-loop-k : goal.invariant-loop-k
-invariant-loop-k l = (length l.list.items ≡ l.k) × ((j : ℕ) → j < l.k → at_nodes l.list.items (j + 1) ≡ reach (bound_at l.ways) (pinned l.i l.value (pos 100000000000000000 +ℤ pos (nat_abs l.value))) (l.attrs + 1) (j + 1))
+invariant-loop-k l = (length l.list.items ≡ l.k) × ((j : ℕ) → j < l.k → at_nodes l.list.items (j + 1) ≡ reach (bound_at l.entries) (pinned l.i l.value (pos 100000000000000000 +ℤ pos (nat_abs l.value))) (l.attrs + 1) (j + 1))

@@ -5,4 +5,4 @@ use Rattle.bq_closure.specs.Pinned.{pinned}
 use Rattle.bq_closure.proofs.solution.value_of.Given as goal
 
 abbrev pub invariant-loop-m : goal.invariant-loop-m
-invariant-loop-m l = l.least ≡ reach (bound_at l.ways) (pinned l.i l.value l.large) l.m l.k
+invariant-loop-m l = l.least ≡ reach (bound_at l.entries) (pinned l.i l.value l.large) l.m l.k

@@ -2,9 +2,9 @@ use Rattle.std.proofs.Common.{◌≡◌, ◌<◌, pos, neg_ℤ, ◌≤ℤ◌, ar
 use Rattle.std.proofs.lemmas.Int.{ints}
 use mir.Syntax.{w128}
 use Rattle.bq_closure.specs.BoundsValue.{BoundsValue}
-use Rattle.bq_closure.specs.Ways.{AreModest}
+use Rattle.bq_closure.specs.Entries.{AreModest}
 use Rattle.bq_constraints.specs.Solutions.{IsSatisfiable}
-use Rattle.bq_closure.proofs.Upper.{tight_if_satisfiable, upper_some, upper_none, modest_way}
+use Rattle.bq_closure.proofs.Upper.{tight_if_satisfiable, upper_some, upper_none, modest_entry}
 use Rattle.bq_closure.proofs.bounds.Bounds.upper.Goals as goal
 
 pub returns-in-Some-clause-answer : goal.returns-in-Some-clause-answer
@@ -14,11 +14,11 @@ returns-in-Some-clause-answer c =
     let few : c.self.inside.closure.attrs < 13 = h.few in
     let s : IsSatisfiable c.self.inside.constraints.items = rw (← c.self.view_is) at c.requires.satisfiable in
     let t = tight_if_satisfiable _ _ _ _ h.settled s in
-    let m : AreModest c.in-Some.way = modest_way _ (omega arith) _ _ t h.modest c.args.i c.args.j (omega arith) (omega arith) c.in-Some.way (sym c.in-Some.ensures) in
-    let lo : neg_ℤ (pos 100000000000000000) ≤ℤ c.in-Some.way.bound = m.low in
-    let hi : c.in-Some.way.bound ≤ℤ pos 100000000000000000 = m.high in
-    let b : to_z w128 (of_z w128 c.from.result) ≡ c.in-Some.way.bound = omega (arith, ints, c.from.ensures) in
-    rw (← c.self.view_is, b) (upper_some _ (omega arith) _ _ t h.modest c.args.i c.args.j (omega arith) (omega arith) c.in-Some.way (sym c.in-Some.ensures))
+    let m : AreModest c.in-Some.entry = modest_entry _ (omega arith) _ _ t h.modest c.args.i c.args.j (omega arith) (omega arith) c.in-Some.entry (sym c.in-Some.ensures) in
+    let lo : neg_ℤ (pos 100000000000000000) ≤ℤ c.in-Some.entry.bound = m.low in
+    let hi : c.in-Some.entry.bound ≤ℤ pos 100000000000000000 = m.high in
+    let b : to_z w128 (of_z w128 c.from.result) ≡ c.in-Some.entry.bound = omega (arith, ints, c.from.ensures) in
+    rw (← c.self.view_is, b) (upper_some _ (omega arith) _ _ t h.modest c.args.i c.args.j (omega arith) (omega arith) c.in-Some.entry (sym c.in-Some.ensures))
 
 pub returns-in-Some-clause-small : goal.returns-in-Some-clause-small
 returns-in-Some-clause-small c =
@@ -27,9 +27,9 @@ returns-in-Some-clause-small c =
     let few : c.self.inside.closure.attrs < 13 = h.few in
     let s : IsSatisfiable c.self.inside.constraints.items = rw (← c.self.view_is) at c.requires.satisfiable in
     let t = tight_if_satisfiable _ _ _ _ h.settled s in
-    let m : AreModest c.in-Some.way = modest_way _ (omega arith) _ _ t h.modest c.args.i c.args.j (omega arith) (omega arith) c.in-Some.way (sym c.in-Some.ensures) in
-    let lo : neg_ℤ (pos 100000000000000000) ≤ℤ c.in-Some.way.bound = m.low in
-    let hi : c.in-Some.way.bound ≤ℤ pos 100000000000000000 = m.high in
+    let m : AreModest c.in-Some.entry = modest_entry _ (omega arith) _ _ t h.modest c.args.i c.args.j (omega arith) (omega arith) c.in-Some.entry (sym c.in-Some.ensures) in
+    let lo : neg_ℤ (pos 100000000000000000) ≤ℤ c.in-Some.entry.bound = m.low in
+    let hi : c.in-Some.entry.bound ≤ℤ pos 100000000000000000 = m.high in
     (omega (arith, ints, c.from.ensures), omega (arith, ints, c.from.ensures))
 
 pub returns-in-None-clause-answer : goal.returns-in-None-clause-answer

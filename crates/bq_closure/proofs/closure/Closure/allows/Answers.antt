@@ -1,5 +1,5 @@
 use Rattle.std.proofs.Common.{◌<◌, suc, arith, sym, refl}
-use Rattle.bq_closure.proofs.Upper.{modest_way}
+use Rattle.bq_closure.proofs.Upper.{modest_entry}
 use Rattle.bq_closure.proofs.Add.{tight_when}
 use Rattle.bq_closure.proofs.Allowed.{never_allowed, allowed, closes_none}
 use Rattle.bq_closure.proofs.closure.Closure.allows.Goals as goal
@@ -9,7 +9,7 @@ closes-requires-clause-modest c =
     let h = c.requires.known.closure in
     let few : c.args.self.now.attrs < 13 = h.few in
     let t = tight_when _ _ _ _ _ h.settled c.is_broken.ensures c.if-is_broken.false in
-    modest_way _ (omega arith) _ _ t h.modest _ _ (omega (arith, c.requires.within.right)) (omega (arith, c.requires.within.left)) c.in-Some.back (sym c.in-Some.ensures)
+    modest_entry _ (omega arith) _ _ t h.modest _ _ (omega (arith, c.requires.within.right)) (omega (arith, c.requires.within.left)) c.in-Some.back (sym c.in-Some.ensures)
 
 pub returns-then-is_broken : goal.returns-then-is_broken
 returns-then-is_broken c = λ n cs h. ((λ t. cc), (λ s. absurd (never_allowed _ cs _ _ c.args.c _ h.settled c.is_broken.ensures c.if-is_broken.true s)))
