@@ -3,7 +3,9 @@
 The heads of its texts, its last line and its status must be those that follow from the replies of `run`
 to the same lines. Each change that it tells is written out and given to `run`: what mends a query leaves
 it with a part and breaking no condition, and the numbers of a change are those that `run` announces. That
-no change is left out is judged too: the sets of columns by the analysis, the comparisons by `run`.
+no change is left out is judged too: the sets of columns by the analysis, the comparisons by `run`. The
+chains of the part that breaks a condition, the parts that keep the most cells, and whether a filter ever
+answers are those of the analysis.
 """
 import re
 from collections import namedtuple
@@ -21,6 +23,10 @@ from language import RESUMES, CreateStream, Refused
 QUERIES = 1000
 MOST_SETS = 93
 MOST_TOLD = 5
+# how many parts are told, and how often a range is halved
+MOST_DEAR, MOST_HALVINGS = 3, 20
+# the largest number of cells that is told
+MOST_COUNTED = 2**64 - 1
 # how many parts the analysis goes through for one set, and of how many columns; beyond that `run` is asked
 FEW_PARTS, FEW_COLUMNS = 60, 6
 # how often a query of more parts is taken all the same, and one that is not refused
@@ -45,9 +51,14 @@ COLUMN = re.compile(rb"\w+\.\w+")
 MORE_SIGNS, MORE_INTEGERS = [b"<", b">", b"<", b">", b"="], [-7, 9, 40, 500]
 DISTINCT = b"  mended by DISTINCT"
 ENDS = (b"  LO and HI are two integers of your own for all columns: -999999999999999 and 999999999999999"
-        b" were tried, ask again with yours for the numbers")
+        b" were tried; the numbers may still pass a limit, so write yours and then ask again for the numbers")
+LEAVES_OUT = b"  a comparison leaves out all other rows: take one that every row that counts meets"
 NOTHING = b"  nothing that was tried mends it"
+NOT_LIFTED = b"  nothing that was tried lifts it"
+NARROW = NOT_LIFTED + b": narrow the ranges named above, or ask for parts of them in several queries"
+NO_ROW = b" never answers: no row meets its comparisons"
 CUT = b"  not all was tried"
+CHAIN, KEPT = re.compile(rb"  part \d+ has "), re.compile(rb"  part \d+ keeps ")
 LIMITS = {"cells": MOST_CELLS, "answers": MOST_ANSWERS, "work": MOST_WORK}
 REASONS = {"C1": b" is selected and nothing bounds it",
            "C2": b" equals a column of another stream and nothing bounds it",
@@ -205,7 +216,7 @@ def head_of(number, asked, reply, free):
     if reply.startswith(b"refused") and b" limit " in reply:
         word = reply.split()[-1].decode()
         numbers = analysis.numbers_of(query, verdict.parts, statement.shared)
-        value = min(dict(zip(LIMITS, numbers))[word], 2**64 - 1)
+        value = min(dict(zip(LIMITS, numbers))[word], MOST_COUNTED)
         return front + b" is refused: %s %d of %d" % (word.encode(), value, LIMITS[word])
     if reply.startswith(b"refused"):
         _, _, _, part, condition, column = reply.split()
@@ -214,11 +225,50 @@ def head_of(number, asked, reply, free):
             reason = ONE_TOO_MANY
         return front + b" is refused: %s in part %s, %s" % (condition, part, column) + reason
     numbers = NUMBERS.match(reply)
-    if numbers is None or numbers.group(1) == b"1":
+    if numbers is None:
+        return None if part_at(query, 1) else front + NO_ROW
+    if numbers.group(1) == b"1":
         return None
     if numbers.group(1) == b"0":
         return front + b" never answers: its comparisons contradict each other"
     return front + b": parts %s cells %s answers %s work %s" % numbers.groups()
+
+
+def part_at(query, number):
+    """The part of a number from 1, or None where there are fewer."""
+    length = len(analysis.pairs_of(query))
+    for signs, at in analysis.walk(query, number + 1):
+        if len(signs) == length:
+            number -= 1
+            if number == 0:
+                return analysis.part_of(query, signs, at)
+    return None
+
+
+def chains_of(query, part):
+    """What a part orders with its columns: for each place of FROM and group the columns of the stream and the
+    constants, ascending, each with whether it equals the one before it.
+    """
+    groups, chains, seen = analysis.groups_of(query), [], set()
+    for column in analysis.attributes_of(query):
+        if column in seen:
+            continue
+        mates = [it for it in groups[column].attributes if it[0] == column[0]]
+        seen.update(mates)
+        chain = []
+        for element in mates + groups[column].constants:
+            place = sum(not part.facts.less(element, it) for it in chain)
+            chain.insert(place, element)
+        chains.append([(it, i > 0 and part.facts.equal(chain[i - 1], it)) for i, it in enumerate(chain)])
+    return chains
+
+
+def dearest_of(parts):
+    """The parts that keep the most cells: the number, the cells, and the place that keeps the most of them. Above 2^64 - 1 all are as many."""
+    sizes = [[min(analysis.size_of(part.facts, dims), MOST_COUNTED) for dims in part.dims] for part in parts]
+    sums = [min(sum(it), MOST_COUNTED) for it in sizes]
+    order = sorted(range(len(parts)), key=lambda it: -sums[it])[:MOST_DEAR]
+    return [(it, sums[it], sizes[it].index(max(sizes[it])), max(sizes[it])) for it in order]
 
 
 def counted(number, one, more):
@@ -372,12 +422,15 @@ class Trial:
         """
         wanted = []
         if not self.statement.compact:
-            wanted += self.numbered([b"COMPACT"], [self.with_words(compact=True)])
-        if self.verdict.verdict[0] != "violation":
-            if not self.statement.shared:
-                found = self.numbered([b"SHARED"], [self.with_words(shared=True)])
-                wanted += [it for it in found if self.is_better(it[1])]
-            wanted += self.best_comparisons()
+            found = self.numbered([b"COMPACT"], [self.with_words(compact=True)])
+            wanted += [it for it in found if self.is_better(it[1])]
+        if self.verdict.verdict[0] != "violation" and not self.statement.shared:
+            found = self.numbered([b"SHARED"], [self.with_words(shared=True)])
+            wanted += [it for it in found if self.is_better(it[1])]
+        wanted += self.best_comparisons()
+        if self.verdict.verdict[0] == "limit" and not wanted:
+            wanted += self.best_halvings()
+            self.part.count("queries with halved ranges", int(bool(wanted)))
         for (one, numbers), (other, announced) in zip(changes, wanted):
             if one != other:
                 self.fail(f"with {one!r} is told where with {other!r} is due")
@@ -406,6 +459,67 @@ class Trial:
             return []
         found = self.numbered(names, [self.with_text(b" " + it) for it in names])
         return sorted((it for it in found if self.is_better(it[1])), key=lambda it: it[1][1])[:MOST_TOLD]
+
+    def range_of(self, column):
+        """The least and the greatest value of a column by comparisons with integers and its domain, where there are
+        two at least and neither is that of all integers; else None.
+        """
+        lows, highs = [LO], [HI]
+        for left, sign, right in map(analysis.turned, self.query.atoms):
+            if left == column and analysis.is_constant(right):
+                lows += [right + 1] * (sign == ">") + [right] * (sign in ("=", ">="))
+                highs += [right - 1] * (sign == "<") + [right] * (sign in ("=", "<="))
+        for it, low, high in self.query.domains:
+            if it == column:
+                lows, highs = lows + [low], highs + [high]
+        return (max(lows), min(highs)) if LO < max(lows) < min(highs) < HI else None
+
+    def best_halvings(self):
+        """Of each column with a range the first halving with which the query is accepted, the best of these."""
+        found = []
+        for column in analysis.attributes_of(self.query):
+            ends = self.range_of(column)
+            if not ends:
+                continue
+            named = self.session.column_name(self.statement.streams, column)
+            values = [ends[0] + ((ends[1] - ends[0]) >> it) + 1 for it in range(1, MOST_HALVINGS + 1)]
+            names = [b"AND %s < %d" % (named, it) for it in dict.fromkeys(values)]
+            accepted = self.numbered_each(names, [self.with_text(b" " + it) for it in names])
+            found += [it for it in accepted if it[1][0] > 0][:1]
+        return sorted(found, key=lambda it: it[1][1])[:MOST_TOLD]
+
+    def numbered_each(self, names, creates):
+        """As `numbered`; a line that is too long to be read is no change."""
+        return self.numbered(names, creates) if names else []
+
+    # chains and parts
+
+    def name(self, element):
+        return b"%d" % element if analysis.is_constant(element) else self.session.column_name(self.statement.streams, element)
+
+    def try_chains(self, lines):
+        number = self.verdict.verdict[1]
+        wanted = []
+        for chain in chains_of(self.query, part_at(self.query, number)):
+            text = b"".join((b" = " if equal else b" < ") + self.name(it) for it, equal in chain)
+            wanted.append(b"  part %d has " % number + text[3:])
+        if lines != wanted:
+            self.fail(f"chains {lines!r}, wanted {wanted!r}")
+        self.part.count("chains", len(lines))
+
+    def try_dearest(self, lines):
+        verdict, wanted = self.verdict.verdict, []
+        if self.query.places > 1 and (verdict[0] == "limit" or verdict[1] > 1):
+            for it, cells, place, kept in dearest_of(self.verdict.parts):
+                cells, kept = min(cells, MOST_COUNTED), min(kept, MOST_COUNTED)
+                part = self.verdict.parts[it]
+                ranges = [b"%s %d..%d" % (self.name(column), *part.facts.range(column)) for column in part.dims[place]]
+                count = b"%d cell%s:" % (cells, b"" if cells == 1 else b"s") if cells == kept else b"%d cells, %d of them of" % (cells, kept)
+                text = b"  part %d keeps %s %s" % (it + 1, count, self.statement.streams[place])
+                wanted.append(text + (b" by " + b", ".join(ranges) if ranges else b""))
+        if lines != wanted:
+            self.fail(f"parts {lines!r}, wanted {wanted!r}")
+        self.part.count("parts told", len(lines))
 
     # sets
 
@@ -463,14 +577,19 @@ class Trial:
 
     def try_mends(self, rest):
         """What mends a query that a condition refuses: each line is tried, and none is left out."""
+        chains = [it for it in rest if CHAIN.match(it)]
         distinct = [it for it in rest if it == DISTINCT]
         changes = [it for it in rest if CHANGE.match(it)]
+        words, comparisons = of_words(changes), of_comparisons(changes)
         bounds = [it for it in rest if BOUNDS.match(it)]
         domains = [it for it in rest if DOMAINS.match(it)]
         cut = [it for it in rest if it == CUT]
-        end = [ENDS] if bounds or domains else [] if distinct or changes else [NOTHING]
-        if rest != distinct + changes + bounds + domains + end + cut:
+        ends = [ENDS] * bool(bounds or domains)
+        leaves = [LEAVES_OUT] * bool(comparisons)
+        nothing = [NOTHING] * (not (distinct or changes or bounds or domains))
+        if rest != chains + distinct + words + bounds + domains + ends + comparisons + leaves + nothing + cut:
             self.fail(f"its lines are not those of mends in their order: {rest!r}")
+        self.try_chains(chains)
         creates = [self.with_words(distinct=True)] * len(distinct)
         creates += [self.with_bounds(BOUNDS.match(it).group(1)) for it in bounds]
         for line, reply in zip(distinct + bounds, self.replies(creates) if creates else []):
@@ -506,16 +625,38 @@ class Trial:
             if told != wanted:
                 self.fail(f"sets {told!r}, wanted {wanted!r}")
 
+    def try_cost(self, rest):
+        """What a query costs, where a limit refuses it or it has several parts: each line is tried."""
+        dear = [it for it in rest if KEPT.match(it)]
+        changes = [it for it in rest if CHANGE.match(it)]
+        leaves = [LEAVES_OUT] * bool(of_comparisons(changes))
+        is_limit = self.verdict.verdict[0] == "limit"
+        nothing = [NARROW if dear else NOT_LIFTED] * (is_limit and not changes)
+        cut = [it for it in rest if it == CUT] if is_limit else []
+        if rest != dear + changes + leaves + nothing + cut:
+            self.fail(f"its lines are not those of costs in their order: {rest!r}")
+        self.part.count("queries that nothing lifts", len(nothing))
+        self.try_dearest(dear)
+        self.try_changes([read_change(it) for it in changes])
+
     def judge(self, rest):
-        if self.verdict.verdict[0] == "violation":
+        verdict = self.verdict.verdict
+        if verdict[0] == "violation":
             self.try_mends(rest)
-        elif self.verdict.verdict[0] == "ok" and self.verdict.verdict[1] == 0:
+        elif verdict[0] == "filter" or (verdict[0] == "ok" and verdict[1] == 0):
             if rest:
                 self.fail(f"more lines of a query that never answers: {rest!r}")
-        elif not all(map(CHANGE.match, rest)):
-            self.fail(f"lines that tell no change: {rest!r}")
+            self.part.count("queries that never answer")
         else:
-            self.try_changes([read_change(it) for it in rest])
+            self.try_cost(rest)
+
+
+def of_comparisons(changes):
+    return [it for it in changes if it.startswith(b"  with AND ")]
+
+
+def of_words(changes):
+    return [it for it in changes if not it.startswith(b"  with AND ")]
 
 
 def read_change(line):

@@ -1,6 +1,8 @@
 pub mod State
-pub mod Lines
 pub mod Changes
+pub mod Chains
+pub mod Dearest
+pub mod Limits
 pub mod Mends
 pub mod Queries
 pub mod Summary

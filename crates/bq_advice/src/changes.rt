@@ -1,98 +1,19 @@
-//! What would make a query cheaper, as text.
-ghost use Rattle.std.specs.Prelude.{◌≡◌, ◌++◌, ◌∷◌};
+//! What would make a query cheaper, or lift a limit, as text.
+ghost use Rattle.std.specs.Prelude.{◌≡◌};
 ghost use Rattle.std.specs.List.{flat_map};
-ghost use Rattle.std.specs.Fmt.{signed_decimal};
 ghost use Rattle.bq_io.specs.Sink.{Writes};
 ghost use Rattle.bq_advice.specs.Changes as change;
 
-use crate::lines::{op_text, write_change_head, write_numbers};
-use crate::names::{Named, names_of};
-use bq_io::{Sink, WriteFault, write_pieces};
+use bq_advice_lines::{write_change, write_comparison, write_if};
+use bq_io::{Sink, WriteFault};
 use bq_mend::{Cheaper, QueryAdvice};
-use bq_model::{Element, Numbers};
 use bq_schema::Catalog;
-use itoa::Buffer;
 
-/// Writes a change that has a name, with the numbers of the query that has it, where they are told.
-#[tactic(auto, using(crate::proofs::Texts::writes_behind))]
-pub fn write_change<O: Sink>(
-    out: &mut O,
-    name: &[u8],
-    numbers: Option<Numbers>,
-) -> Result<(), WriteFault>
-    ensures { Writes result (O.seen out.old) (O.seen out.new) (change.change_line name.now numbers) }
-{
-    match numbers {
-        Some(numbers) => match write_change_head(out, name) {
-            Ok(()) => write_numbers(out, numbers),
-            Err(fault) => Err(fault),
-        },
-        None => Ok(()),
-    }
-}
-
-// A column behind a text.
-fn write_column<'a, O: Sink>(
-    out: &mut O,
-    lead: &'a [u8],
-    column: Named<'a>,
-) -> Result<(), WriteFault>
-    ensures { Writes result (O.seen out.old) (O.seen out.new) (lead.now ++ (column.entry.stream.now ++ 46 ∷ column.entry.column.now)) }
-{
-    let pieces: [&[u8]; 4] = [lead, column.stream, b".", column.column];
-    write_pieces(out, &pieces)
-}
-
-// An integer behind a text.
-fn write_integer<O: Sink>(out: &mut O, lead: &[u8], integer: &i64) -> Result<(), WriteFault>
-    ensures { Writes result (O.seen out.old) (O.seen out.new) (lead.now ++ signed_decimal integer.now) }
-{
-    let mut buffer = Buffer::new();
-    let pieces: [&[u8]; 2] = [lead, buffer.format(*integer).as_bytes()];
-    write_pieces(out, &pieces)
-}
-
-// A side of a comparison behind a text.
-#[tactic(auto, unfolding(crate::specs::Changes::side_text))]
-fn write_side<O: Sink>(
-    out: &mut O,
-    lead: &[u8],
-    element: &Element,
-    from: &[u8],
-    catalog: &Catalog,
-) -> Result<(), WriteFault>
-    ensures { Writes result (O.seen out.old) (O.seen out.new) (change.side_text catalog.now from.now lead.now element.now) }
-{
-    match element {
-        Element::Attr(attr) => write_column(out, lead, names_of(*attr, from, catalog)),
-        Element::Const(integer) => write_integer(out, lead, integer),
-    }
-}
-
-// The right side of a comparison behind its sign, and the numbers of the query that has the comparison.
-#[tactic(auto, using(crate::proofs::Texts::writes_behind))]
-fn write_rest<O: Sink>(
-    out: &mut O,
-    cheaper: &Cheaper,
-    from: &[u8],
-    catalog: &Catalog,
-) -> Result<(), WriteFault>
-    ensures { Writes result (O.seen out.old) (O.seen out.new) (change.cheaper_rest catalog.now from.now cheaper.now) }
-{
-    match write_side(
-        out,
-        op_text(cheaper.atom.op),
-        &cheaper.atom.right,
-        from,
-        catalog,
-    ) {
-        Ok(()) => write_numbers(out, cheaper.numbers),
-        Err(fault) => Err(fault),
-    }
-}
+/// What a comparison does to the question.
+const LEAVES_OUT: &[u8] =
+    b"  a comparison leaves out all other rows: take one that every row that counts meets\n";
 
 // One comparison more, with the numbers of the query that has it.
-#[tactic(auto, using(crate::proofs::Texts::writes_behind))]
 fn write_cheaper<O: Sink>(
     out: &mut O,
     cheaper: &Cheaper,
@@ -101,13 +22,10 @@ fn write_cheaper<O: Sink>(
 ) -> Result<(), WriteFault>
     ensures { Writes result (O.seen out.old) (O.seen out.new) (change.cheaper_line catalog.now from.now cheaper.now) }
 {
-    match write_side(out, b"  with AND ", &cheaper.atom.left, from, catalog) {
-        Ok(()) => write_rest(out, cheaper, from, catalog),
-        Err(fault) => Err(fault),
-    }
+    write_comparison(out, &cheaper.atom, cheaper.numbers, from, catalog)
 }
 
-// The comparisons that make the query cheaper, one after another.
+// Comparisons, one after another.
 fn write_comparisons<O: Sink>(
     out: &mut O,
     list: &[Cheaper],
@@ -125,6 +43,49 @@ fn write_comparisons<O: Sink>(
     Ok(())
 }
 
+/// Returns whether a comparison is told.
+pub fn has_comparisons(advice: &QueryAdvice) -> bool
+    ensures { result ≡ change.has_comparisons advice.now }
+{
+    if advice.cheaper.is_empty() {
+        !advice.narrowed.is_empty()
+    } else {
+        true
+    }
+}
+
+// The comparisons that narrow a column, and what a comparison does to the question.
+#[tactic(auto, using(crate::proofs::Texts::writes_behind))]
+fn write_narrowed<O: Sink>(
+    out: &mut O,
+    advice: &QueryAdvice,
+    from: &[u8],
+    catalog: &Catalog,
+) -> Result<(), WriteFault>
+    ensures { Writes result (O.seen out.old) (O.seen out.new) (change.narrowed_text catalog.now from.now advice.now) }
+{
+    match write_comparisons(out, advice.narrowed.as_slice(), from, catalog) {
+        Ok(()) => write_if(out, has_comparisons(advice), LEAVES_OUT),
+        Err(fault) => Err(fault),
+    }
+}
+
+/// Writes all comparisons that are told, each in a line with the numbers of the query that has it, and behind them what a comparison does to the question.
+#[tactic(auto, using(crate::proofs::Texts::writes_behind))]
+pub fn write_compared<O: Sink>(
+    out: &mut O,
+    advice: &QueryAdvice,
+    from: &[u8],
+    catalog: &Catalog,
+) -> Result<(), WriteFault>
+    ensures { Writes result (O.seen out.old) (O.seen out.new) (change.compared_text catalog.now from.now advice.now) }
+{
+    match write_comparisons(out, advice.cheaper.as_slice(), from, catalog) {
+        Ok(()) => write_narrowed(out, advice, from, catalog),
+        Err(fault) => Err(fault),
+    }
+}
+
 // Shared cells, and then the comparisons.
 #[tactic(auto, using(crate::proofs::Texts::writes_behind))]
 fn write_shared<O: Sink>(
@@ -136,7 +97,7 @@ fn write_shared<O: Sink>(
     ensures { Writes result (O.seen out.old) (O.seen out.new) (change.shared_text catalog.now from.now advice.now) }
 {
     match write_change(out, b"SHARED", advice.shared) {
-        Ok(()) => write_comparisons(out, advice.cheaper.as_slice(), from, catalog),
+        Ok(()) => write_compared(out, advice, from, catalog),
         Err(fault) => Err(fault),
     }
 }

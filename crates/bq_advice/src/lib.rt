@@ -7,10 +7,11 @@
 
 mod advised;
 mod advising;
+mod chains;
 mod changes;
-mod lines;
+mod dearest;
+mod limits;
 mod mends;
-mod names;
 mod queries;
 mod reading;
 mod state;

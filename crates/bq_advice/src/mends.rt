@@ -1,168 +1,51 @@
 //! What would mend a query, as text.
-ghost use Rattle.std.specs.Prelude.{◌≡◌, ◌++◌, ◌∷◌, []};
+ghost use Rattle.std.specs.Prelude.{◌≡◌};
 ghost use Rattle.std.specs.List.{flat_map};
 ghost use Rattle.bq_io.specs.Sink.{Writes};
+ghost use Rattle.bq_advice_lines.specs.Items.{bounds_line, domains_line};
 ghost use Rattle.bq_advice.specs.Mends as mend;
 
-use crate::changes::write_change;
-use crate::lines::{write_bounds_item, write_domain_item};
-use crate::names::names_of;
-use bq_io::{Sink, WriteFault, write_all};
+use crate::changes::{has_comparisons, write_compared};
+use bq_advice_lines::{write_bounds_line, write_change, write_domains_line, write_if};
+use bq_io::{Sink, WriteFault};
 use bq_mend::{ColumnSet, QueryAdvice};
-use bq_model::Attr;
 use bq_schema::Catalog;
 
 /// Which integers were tried.
 const ENDS: &[u8] =
-    b"  LO and HI are two integers of your own for all columns: -999999999999999 and 999999999999999 were tried, ask again with yours for the numbers\n";
+    b"  LO and HI are two integers of your own for all columns: -999999999999999 and 999999999999999 were tried; the numbers may still pass a limit, so write yours and then ask again for the numbers\n";
 
 /// That there is no mend.
 const NOTHING: &[u8] = b"  nothing that was tried mends it\n";
 
 /// That not all was tried.
-const CUT_SHORT: &[u8] = b"  not all was tried\n";
+pub const CUT_SHORT: &[u8] = b"  not all was tried\n";
 
 /// That DISTINCT mends the query.
 const BY_DISTINCT: &[u8] = b"  mended by DISTINCT\n";
 
-// How a line of comparisons begins.
-#[tactic(auto, unfolding(crate::specs::Mends::bounds_head))]
-fn write_bounds_head<O: Sink>(out: &mut O) -> Result<(), WriteFault>
-    ensures { Writes result (O.seen out.old) (O.seen out.new) mend.bounds_head }
-{
-    write_all(out, b"  mended by")
-}
-
-// How a line of domains begins.
-#[tactic(auto, unfolding(crate::specs::Mends::domains_head))]
-fn write_domains_head<O: Sink>(out: &mut O) -> Result<(), WriteFault>
-    ensures { Writes result (O.seen out.old) (O.seen out.new) mend.domains_head }
-{
-    write_all(out, b"  mended at CREATE STREAM by")
-}
-
-// Two comparisons on a column.
-fn write_bounded<O: Sink>(
-    out: &mut O,
-    attr: Attr,
-    from: &[u8],
-    catalog: &Catalog,
-) -> Result<(), WriteFault>
-    ensures { Writes result (O.seen out.old) (O.seen out.new) (mend.bounded catalog.now from.now attr) }
-{
-    write_bounds_item(out, names_of(attr, from, catalog))
-}
-
-// A domain on a column.
-fn write_domain<O: Sink>(
-    out: &mut O,
-    attr: Attr,
-    from: &[u8],
-    catalog: &Catalog,
-) -> Result<(), WriteFault>
-    ensures { Writes result (O.seen out.old) (O.seen out.new) (mend.in_domain catalog.now from.now attr) }
-{
-    write_domain_item(out, names_of(attr, from, catalog))
-}
-
-// Two comparisons on each column of a set.
-fn write_bounds_items<O: Sink>(
-    out: &mut O,
-    set: &[Attr],
-    from: &[u8],
-    catalog: &Catalog,
-) -> Result<(), WriteFault>
-    ensures { Writes result (O.seen out.old) (O.seen out.new) (mend.bounds_items catalog.now from.now set.now) }
-{
-    for attr in set {
-        match write_bounded(out, *attr, from, catalog) {
-            Ok(()) => {}
-            Err(fault) => return Err(fault),
-        }
-    }
-    Ok(())
-}
-
-// A domain on each column of a set.
-fn write_domain_items<O: Sink>(
-    out: &mut O,
-    set: &[Attr],
-    from: &[u8],
-    catalog: &Catalog,
-) -> Result<(), WriteFault>
-    ensures { Writes result (O.seen out.old) (O.seen out.new) (mend.domain_items catalog.now from.now set.now) }
-{
-    for attr in set {
-        match write_domain(out, *attr, from, catalog) {
-            Ok(()) => {}
-            Err(fault) => return Err(fault),
-        }
-    }
-    Ok(())
-}
-
-// Two comparisons on each column of a set, to the end of the line.
-#[tactic(auto, using(crate::proofs::Texts::writes_behind))]
-fn write_bounds_rest<O: Sink>(
-    out: &mut O,
-    set: &[Attr],
-    from: &[u8],
-    catalog: &Catalog,
-) -> Result<(), WriteFault>
-    ensures { Writes result (O.seen out.old) (O.seen out.new) (mend.bounds_items catalog.now from.now set.now ++ 10 ∷ []) }
-{
-    match write_bounds_items(out, set, from, catalog) {
-        Ok(()) => write_all(out, b"\n"),
-        Err(fault) => Err(fault),
-    }
-}
-
-// A domain on each column of a set, to the end of the line.
-#[tactic(auto, using(crate::proofs::Texts::writes_behind))]
-fn write_domains_rest<O: Sink>(
-    out: &mut O,
-    set: &[Attr],
-    from: &[u8],
-    catalog: &Catalog,
-) -> Result<(), WriteFault>
-    ensures { Writes result (O.seen out.old) (O.seen out.new) (mend.domain_items catalog.now from.now set.now ++ 10 ∷ []) }
-{
-    match write_domain_items(out, set, from, catalog) {
-        Ok(()) => write_all(out, b"\n"),
-        Err(fault) => Err(fault),
-    }
-}
-
 // That two comparisons on each column of a set mend the query.
-#[tactic(auto, using(crate::proofs::Texts::writes_behind))]
 fn write_bounds<O: Sink>(
     out: &mut O,
     set: &ColumnSet,
     from: &[u8],
     catalog: &Catalog,
 ) -> Result<(), WriteFault>
-    ensures { Writes result (O.seen out.old) (O.seen out.new) (mend.bounds_line catalog.now from.now set.now) }
+    ensures { Writes result (O.seen out.old) (O.seen out.new) (bounds_line catalog.now from.now set.now) }
 {
-    match write_bounds_head(out) {
-        Ok(()) => write_bounds_rest(out, set.columns(), from, catalog),
-        Err(fault) => Err(fault),
-    }
+    write_bounds_line(out, set.columns(), from, catalog)
 }
 
 // That a domain on each column of a set mends the query.
-#[tactic(auto, using(crate::proofs::Texts::writes_behind))]
 fn write_domains<O: Sink>(
     out: &mut O,
     set: &ColumnSet,
     from: &[u8],
     catalog: &Catalog,
 ) -> Result<(), WriteFault>
-    ensures { Writes result (O.seen out.old) (O.seen out.new) (mend.domains_line catalog.now from.now set.now) }
+    ensures { Writes result (O.seen out.old) (O.seen out.new) (domains_line catalog.now from.now set.now) }
 {
-    match write_domains_head(out) {
-        Ok(()) => write_domains_rest(out, set.columns(), from, catalog),
-        Err(fault) => Err(fault),
-    }
+    write_domains_line(out, set.columns(), from, catalog)
 }
 
 // The sets of which each mends the query by two comparisons on each column.
@@ -172,7 +55,7 @@ fn write_all_bounds<O: Sink>(
     from: &[u8],
     catalog: &Catalog,
 ) -> Result<(), WriteFault>
-    ensures { Writes result (O.seen out.old) (O.seen out.new) (flat_map (mend.bounds_line catalog.now from.now) sets.now) }
+    ensures { Writes result (O.seen out.old) (O.seen out.new) (flat_map (bounds_line catalog.now from.now) sets.now) }
 {
     for set in sets {
         match write_bounds(out, set, from, catalog) {
@@ -190,7 +73,7 @@ fn write_all_domains<O: Sink>(
     from: &[u8],
     catalog: &Catalog,
 ) -> Result<(), WriteFault>
-    ensures { Writes result (O.seen out.old) (O.seen out.new) (flat_map (mend.domains_line catalog.now from.now) sets.now) }
+    ensures { Writes result (O.seen out.old) (O.seen out.new) (flat_map (domains_line catalog.now from.now) sets.now) }
 {
     for set in sets {
         match write_domains(out, set, from, catalog) {
@@ -220,16 +103,11 @@ fn has_mend(advice: &QueryAdvice) -> bool
         true
     } else if advice.compact.is_some() {
         true
+    } else if has_comparisons(advice) {
+        true
     } else {
         has_sets(advice)
     }
-}
-
-// A line where it is due.
-fn write_if<O: Sink>(out: &mut O, due: bool, line: &[u8]) -> Result<(), WriteFault>
-    ensures { Writes result (O.seen out.old) (O.seen out.new) (mend.line_if due line.now) }
-{
-    if due { write_all(out, line) } else { Ok(()) }
 }
 
 // That there is no mend, and that not all was tried.
@@ -243,13 +121,34 @@ fn write_last<O: Sink>(out: &mut O, advice: &QueryAdvice) -> Result<(), WriteFau
     }
 }
 
-// What is said behind the mends.
+// The comparisons, and what is said behind all mends.
 #[tactic(auto, using(crate::proofs::Texts::writes_behind))]
-fn write_closing<O: Sink>(out: &mut O, advice: &QueryAdvice) -> Result<(), WriteFault>
-    ensures { Writes result (O.seen out.old) (O.seen out.new) (mend.closing_text advice.now) }
+fn write_from_comparisons<O: Sink>(
+    out: &mut O,
+    advice: &QueryAdvice,
+    from: &[u8],
+    catalog: &Catalog,
+) -> Result<(), WriteFault>
+    ensures { Writes result (O.seen out.old) (O.seen out.new) (mend.comparisons_text catalog.now from.now advice.now) }
+{
+    match write_compared(out, advice, from, catalog) {
+        Ok(()) => write_last(out, advice),
+        Err(fault) => Err(fault),
+    }
+}
+
+// What is said behind the sets of columns.
+#[tactic(auto, using(crate::proofs::Texts::writes_behind))]
+fn write_closing<O: Sink>(
+    out: &mut O,
+    advice: &QueryAdvice,
+    from: &[u8],
+    catalog: &Catalog,
+) -> Result<(), WriteFault>
+    ensures { Writes result (O.seen out.old) (O.seen out.new) (mend.closing_text catalog.now from.now advice.now) }
 {
     match write_if(out, has_sets(advice), ENDS) {
-        Ok(()) => write_last(out, advice),
+        Ok(()) => write_from_comparisons(out, advice, from, catalog),
         Err(fault) => Err(fault),
     }
 }
@@ -265,7 +164,7 @@ fn write_from_domains<O: Sink>(
     ensures { Writes result (O.seen out.old) (O.seen out.new) (mend.domains_text catalog.now from.now advice.now) }
 {
     match write_all_domains(out, advice.domains.found.as_slice(), from, catalog) {
-        Ok(()) => write_closing(out, advice),
+        Ok(()) => write_closing(out, advice, from, catalog),
         Err(fault) => Err(fault),
     }
 }

@@ -5,10 +5,12 @@ ghost use Rattle.bq_model.specs.Numbers.{page_count};
 ghost use Rattle.bq_advice.specs.Queries as queries;
 
 use crate::advised::AdvisedQuery;
-use crate::changes::write_changes;
-use crate::lines::{write_above, write_numbers, write_pool, write_query_line, write_violation};
+use crate::chains::write_chains;
+use crate::limits::{write_cheapening, write_lifting};
 use crate::mends::write_mends;
-use crate::names::names_of;
+use bq_advice_lines::{
+    names_of, write_above, write_numbers, write_pool, write_query_line, write_violation,
+};
 use bq_io::{Sink, WriteFault};
 use bq_mend::Judgement;
 use bq_model::{Attr, Condition, Numbers, Which};
@@ -16,6 +18,9 @@ use bq_schema::Catalog;
 
 /// What is said of a query of no part.
 const NEVER: &[u8] = b" never answers: its comparisons contradict each other\n";
+
+/// What is said of a filter that answers no row.
+const NO_ROW: &[u8] = b" never answers: no row meets its comparisons\n";
 
 /// What is said of a query of too many parts.
 const MANY: &[u8] =
@@ -31,18 +36,29 @@ pub fn page_count(cells: u32) -> u32
     cells.div_ceil(64)
 }
 
-// What makes the query cheaper.
-fn write_changes_of<O: Sink>(
+// The parts that keep the most cells, and what makes the query cheaper.
+fn write_cost<O: Sink>(
     out: &mut O,
     advised: &AdvisedQuery,
     catalog: &Catalog,
 ) -> Result<(), WriteFault>
-    ensures { Writes result (O.seen out.old) (O.seen out.new) (queries.changes_of catalog.now advised.now) }
+    ensures { Writes result (O.seen out.old) (O.seen out.new) (queries.cost_of catalog.now advised.now) }
 {
-    write_changes(out, &advised.advice, advised.query.from(), catalog)
+    write_cheapening(out, &advised.advice, advised.query.from(), catalog)
 }
 
-// The numbers of a query, and what makes it cheaper.
+// The parts that keep the most cells, and what lifts the limit that refuses the query.
+fn write_limit<O: Sink>(
+    out: &mut O,
+    advised: &AdvisedQuery,
+    catalog: &Catalog,
+) -> Result<(), WriteFault>
+    ensures { Writes result (O.seen out.old) (O.seen out.new) (queries.limit_of catalog.now advised.now) }
+{
+    write_lifting(out, &advised.advice, advised.query.from(), catalog)
+}
+
+// The numbers of a query, the parts that keep the most cells, and what makes it cheaper.
 #[tactic(auto, using(crate::proofs::Texts::writes_behind))]
 fn write_behind_head<O: Sink>(
     out: &mut O,
@@ -53,7 +69,7 @@ fn write_behind_head<O: Sink>(
     ensures { Writes result (O.seen out.old) (O.seen out.new) (queries.behind_head catalog.now advised.now numbers) }
 {
     match write_numbers(out, numbers) {
-        Ok(()) => write_changes_of(out, advised, catalog),
+        Ok(()) => write_cost(out, advised, catalog),
         Err(fault) => Err(fault),
     }
 }
@@ -103,7 +119,7 @@ fn write_without_pages<O: Sink>(
     ensures { Writes result (O.seen out.old) (O.seen out.new) (queries.pool_text catalog.now advised.now needed) }
 {
     match write_pool(out, advised.number, &advised.name, needed, advised.free) {
-        Ok(()) => write_changes_of(out, advised, catalog),
+        Ok(()) => write_cost(out, advised, catalog),
         Err(fault) => Err(fault),
     }
 }
@@ -137,7 +153,7 @@ fn write_over<O: Sink>(
     ensures { Writes result (O.seen out.old) (O.seen out.new) (queries.above_text catalog.now advised.now which value) }
 {
     match write_above(out, advised.number, &advised.name, which, value) {
-        Ok(()) => write_changes_of(out, advised, catalog),
+        Ok(()) => write_limit(out, advised, catalog),
         Err(fault) => Err(fault),
     }
 }
@@ -152,7 +168,7 @@ fn write_many_parts<O: Sink>(
     ensures { Writes result (O.seen out.old) (O.seen out.new) (queries.many_text catalog.now advised.now) }
 {
     match write_query_line(out, advised.number, &advised.name, MANY) {
-        Ok(()) => write_changes_of(out, advised, catalog),
+        Ok(()) => write_limit(out, advised, catalog),
         Err(fault) => Err(fault),
     }
 }
@@ -179,7 +195,52 @@ fn write_broken<O: Sink>(
     )
 }
 
-// A query that breaks a condition, and what mends it.
+// What mends the query.
+fn write_mends_of<O: Sink>(
+    out: &mut O,
+    advised: &AdvisedQuery,
+    catalog: &Catalog,
+) -> Result<(), WriteFault>
+    ensures { Writes result (O.seen out.old) (O.seen out.new) (queries.mends_of catalog.now advised.now) }
+{
+    write_mends(out, &advised.advice, advised.query.from(), catalog)
+}
+
+// The chains of a part.
+fn write_chains_of<O: Sink>(
+    out: &mut O,
+    advised: &AdvisedQuery,
+    part: u32,
+    catalog: &Catalog,
+) -> Result<(), WriteFault>
+    ensures { Writes result (O.seen out.old) (O.seen out.new) (queries.chains_of catalog.now advised.now part) }
+{
+    write_chains(
+        out,
+        part,
+        advised.advice.chains.as_slice(),
+        advised.query.from(),
+        catalog,
+    )
+}
+
+// What the part that breaks a condition orders, and what mends the query.
+#[tactic(auto, using(crate::proofs::Texts::writes_behind))]
+fn write_from_chains<O: Sink>(
+    out: &mut O,
+    advised: &AdvisedQuery,
+    part: u32,
+    catalog: &Catalog,
+) -> Result<(), WriteFault>
+    ensures { Writes result (O.seen out.old) (O.seen out.new) (queries.behind_broken catalog.now advised.now part) }
+{
+    match write_chains_of(out, advised, part, catalog) {
+        Ok(()) => write_mends_of(out, advised, catalog),
+        Err(fault) => Err(fault),
+    }
+}
+
+// A query that breaks a condition, what the part orders that breaks it, and what mends the query.
 #[tactic(auto, using(crate::proofs::Texts::writes_behind))]
 fn write_refused<O: Sink>(
     out: &mut O,
@@ -192,13 +253,25 @@ fn write_refused<O: Sink>(
     ensures { Writes result (O.seen out.old) (O.seen out.new) (queries.broken_text catalog.now advised.now part condition attr) }
 {
     match write_broken(out, advised, part, condition, attr, catalog) {
-        Ok(()) => write_mends(out, &advised.advice, advised.query.from(), catalog),
+        Ok(()) => write_from_chains(out, advised, part, catalog),
         Err(fault) => Err(fault),
     }
 }
 
+// A filter: nothing, but where no row meets its comparisons.
+fn write_filter<O: Sink>(out: &mut O, advised: &AdvisedQuery) -> Result<(), WriteFault>
+    ensures { Writes result (O.seen out.old) (O.seen out.new) (queries.filter_text advised.now) }
+{
+    if advised.advice.never {
+        write_query_line(out, advised.number, &advised.name, NO_ROW)
+    } else {
+        Ok(())
+    }
+}
+
 /// Writes what is said of a query over these streams: nothing where it is accepted and has one part; its numbers, where they are within the limits,
-/// or why it is refused, and then the changes that would better or mend it.
+/// or why it is refused, and then the parts that keep the most cells, or what the part orders that breaks a condition, and the changes that would better
+/// or mend it.
 pub fn write_query<O: Sink>(
     out: &mut O,
     advised: &AdvisedQuery,
@@ -207,7 +280,7 @@ pub fn write_query<O: Sink>(
     ensures { Writes result (O.seen out.old) (O.seen out.new) (queries.query_text catalog.now advised.now) }
 {
     match advised.advice.judgement {
-        Judgement::Filter => Ok(()),
+        Judgement::Filter => write_filter(out, advised),
         Judgement::Accepted(numbers) => write_accepted(out, advised, numbers, catalog),
         Judgement::Above { which, value } => write_over(out, advised, which, value, catalog),
         Judgement::Violation {

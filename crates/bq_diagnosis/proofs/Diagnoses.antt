@@ -21,7 +21,7 @@ use Rattle.bq_diagnosis.specs.RowFaults.{IsOfRow, HasRowFault, IsRowFault}
 of_statement : (streams : List Shape) (live : List (List ℕ)) (text : List ℕ) (s : Statement) (fault : Fault) → IsStatement text s → IsOfStatement streams live s fault → IsTrueOfText streams live text fault
 of_statement streams live text s LineTooLong is h = (s, is, h)
 of_statement streams live text s (Syntax at next) is h = absurd h
-of_statement streams live text s (Limit what) is h = (s, is, h)
+of_statement streams live text s (Limit what found) is h = (s, is, h)
 of_statement streams live text s (DuplicateStream name) is h = (s, is, h)
 of_statement streams live text s (DuplicateColumn name) is h = (s, is, h)
 of_statement streams live text s (DuplicateQuery name) is h = (s, is, h)
@@ -43,7 +43,7 @@ of_statement streams live text s (Domain stream field) is h = (s, is, h)
 of_text : (streams : List Shape) (live : List (List ℕ)) (line : List ℕ) (fault : Fault) → IsTrueOfText streams live (stripped line) fault → IsTrueOf streams live line fault
 of_text streams live line LineTooLong h = absurd h.2
 of_text streams live line (Syntax at next) h = h
-of_text streams live line (Limit what) h = h
+of_text streams live line (Limit what found) h = h
 of_text streams live line (DuplicateStream name) h = h
 of_text streams live line (DuplicateColumn name) h = h
 of_text streams live line (DuplicateQuery name) h = h
@@ -65,7 +65,7 @@ of_text streams live line (Domain stream field) h = absurd h.2
 of_row : (streams : List Shape) (live : List (List ℕ)) (line : List ℕ) (fault : Fault) → IsOfRow streams (stripped line) fault → IsTrueOf streams live line fault
 of_row streams live line LineTooLong h = absurd h.2
 of_row streams live line (Syntax at next) h = absurd h.2
-of_row streams live line (Limit what) h = absurd h.2
+of_row streams live line (Limit what found) h = absurd h.2
 of_row streams live line (DuplicateStream name) h = absurd h.2
 of_row streams live line (DuplicateColumn name) h = absurd h.2
 of_row streams live line (DuplicateQuery name) h = absurd h.2

@@ -1,5 +1,7 @@
+pub mod Counting
 pub mod Diagnoses
 pub mod Having
+pub mod LimitsFound
 pub mod MoreNext
 pub mod NamesThere
 pub mod RowTests

@@ -8,7 +8,7 @@ use Rattle.bq_diagnosis.specs.declared.fault.Fault.TheVariants.{LineTooLong, Syn
 abbrev pub word_of : Fault → Word
 word_of LineTooLong = words.LineTooLong
 word_of (Syntax at next) = words.Syntax
-word_of (Limit what) = words.Limit
+word_of (Limit what found) = words.Limit
 word_of (DuplicateStream name) = words.Duplicate
 word_of (DuplicateColumn name) = words.Duplicate
 word_of (DuplicateQuery name) = words.Duplicate

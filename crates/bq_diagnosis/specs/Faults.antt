@@ -24,6 +24,7 @@ use Rattle.bq_diagnosis.specs.declared.fault.Fault.TheVariants.{LineTooLong, Syn
 use Rattle.bq_diagnosis.specs.FaultWords.{word_of}
 use Rattle.bq_diagnosis.specs.Asked.{IsAsked, IsStatementAsked, statement_asked, is_live}
 use Rattle.bq_diagnosis.specs.Candidates.{AreNext}
+use Rattle.bq_diagnosis.specs.Passed.{found_in}
 use Rattle.bq_diagnosis.specs.RowFaults.{IsOfRow}
 
 -- the name that a statement begins with, where it has one
@@ -61,7 +62,7 @@ columns_named s = selected_by s ++ columns_in (atoms_of s)
 
 -- what a fault says of a statement, over these streams and live queries
 abbrev pub IsOfStatement : List Shape → List (List ℕ) → Statement → Fault → Type 0
-IsOfStatement streams live s (Limit what) = limit_of s ≡ Some what
+IsOfStatement streams live s (Limit what found) = (limit_of s ≡ Some what) × (found ≡ found_in what s)
 IsOfStatement streams live s (DuplicateStream name) = (name_in s ≡ Some name) × (list_any (λ x. bytes_eq x.name name) streams ≡ true)
 IsOfStatement streams live s (DuplicateColumn name) = first_repeated (column_names (columns_of s)) ≡ Some name
 IsOfStatement streams live s (DuplicateQuery name) = (name_in s ≡ Some name) × (is_live live name ≡ true)

@@ -1,5 +1,9 @@
 pub mod Asked
 pub mod Candidates
+pub mod Counted
 pub mod FaultWords
 pub mod Faults
+pub mod Groups
+pub mod Marks
+pub mod Passed
 pub mod RowFaults

@@ -5,6 +5,7 @@ ghost use Rattle.bq_diagnosis.specs.Faults.{IsDiagnosis, IsTextDiagnosis, IsRead
 
 use crate::fault::{Asks, Fault, Known};
 use crate::following::next_at;
+use crate::passing::found_of;
 use crate::rows::row_fault;
 use crate::statements::diagnose_statement;
 use bq_parser::{LineKind, ParseError, classify, parse};
@@ -24,7 +25,10 @@ fn diagnose_text(text: &[u8], known: &Known<'_>) -> Result<Asks, Fault>
             at,
             next: next_at(text, at),
         }),
-        Err(ParseError::Limit { what }) => Err(Fault::Limit { what }),
+        Err(ParseError::Limit { what }) => Err(Fault::Limit {
+            what,
+            found: found_of(what, text),
+        }),
     }
 }
 

@@ -53,9 +53,11 @@ pub enum Fault {
         at: u16,
         next: ArrayVec<Candidate, 26>,
     },
-    /// A statement passes this limit first.
+    /// A statement passes this limit first, with so many of what it is on: of names the bytes of the first that is too long, and none
+    /// where the limit is on no number.
     Limit {
         what: What,
+        found: Option<u16>,
     },
     /// A stream of this name is there.
     DuplicateStream {

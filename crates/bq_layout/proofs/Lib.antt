@@ -19,3 +19,4 @@ pub mod Standing
 pub mod Level
 pub mod Adding
 pub mod Planning
+pub mod UnsetPlans

@@ -8,3 +8,4 @@ pub mod Codes
 pub mod Listed
 pub mod Shared
 pub mod Layout
+pub mod Unset

@@ -3,6 +3,7 @@ ghost use Rattle.std.specs.Prelude.{◌≡◌, ◌≤◌, ◌<◌, length, true,
 ghost use Rattle.bq_model.specs.Query.{is_filter};
 ghost use Rattle.bq_model.specs.Parts.{AreParts};
 ghost use Rattle.bq_lto_split.specs.Split.{sign_lists};
+ghost use Rattle.bq_layout.specs.Unset.{AreUnset};
 ghost use Rattle.bq_layout.specs.Sums.{IsDrafted, violation_at};
 ghost use Rattle.bq_layout.specs.Shared.{IsSharedDraft};
 ghost use Rattle.bq_layout.specs.Layout.{IsLayout, IsNumbered};
@@ -13,7 +14,7 @@ use crate::limits::limited;
 use crate::placing::share;
 use crate::selecting::different;
 use bq_decide::{Break, violation_of};
-use bq_model::{Part, PartPlans, Plan, Query};
+use bq_model::{Part, PartPlan, PartPlans, Plan, Query};
 use bq_refs::{Basis, refs};
 use std::alloc::{AllocError, Global};
 
@@ -61,6 +62,19 @@ fn drafted(alloc: Global, q: &Query, parts: &[Part]) -> Result<Draft, LayoutErro
     Ok(draft)
 }
 
+// The plans of the parts.
+fn parts_of(draft: Draft) -> Vec<PartPlan>
+    ensures { result.items ≡ draft.parts.items }
+{
+    let Draft {
+        parts,
+        cells: _cells,
+        answers: _answers,
+        work: _work,
+    } = draft;
+    parts
+}
+
 // The drafts with shared cells.
 fn with_shared(alloc: Global, q: &Query, draft: Draft) -> Result<Draft, AllocError>
     requires few { length draft.parts.items ≤ 4096 }
@@ -87,6 +101,21 @@ fn planned(draft: Draft) -> Result<Plan, LayoutError>
             parts: PartPlans::of(parts),
             numbers,
         }),
+        Err(why) => Err(why),
+    }
+}
+
+/// Returns what is kept of each stream in each of the parts of a query that is no filter, in their order, whatever its numbers come to: the dims and the kinds of
+/// cells of a plan, whose boxes are still to be set. An error says that a part breaks a condition, or that memory was not found.
+pub fn part_plans(alloc: Global, q: &Query, parts: &[Part]) -> Result<Vec<PartPlan>, LayoutError>
+    requires parts { AreParts q.now (sign_lists parts.now) }
+    requires few { length parts.now ≤ 4096 }
+    requires plain { IsFalse (is_filter q.now) }
+    ensures plans { IfOk result (λ plans. AreUnset q.now plans.items) }
+    ensures few { IfOk result (λ plans. length plans.items ≤ 4096) }
+{
+    match drafted(alloc, q, parts) {
+        Ok(draft) => Ok(parts_of(draft)),
         Err(why) => Err(why),
     }
 }

@@ -28,5 +28,7 @@ mod sizes;
 #[cfg(test)]
 mod tests;
 
+pub use drafting::cells_over;
 pub use error::LayoutError;
-pub use laying::{lay_out, layout, layout_shared};
+pub use laying::{lay_out, layout, layout_shared, part_plans};
+pub use shares::dims_at;

@@ -6,3 +6,7 @@ pub mod Looking
 pub mod FewNames
 pub mod MoreAtoms
 pub mod Placing
+pub mod Never
+pub mod Breaking
+pub mod Halving
+pub mod Dear

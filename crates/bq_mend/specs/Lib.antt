@@ -5,4 +5,7 @@ pub mod Sets
 pub mod Looking
 pub mod Numbered
 pub mod Comparisons
+pub mod Violating
+pub mod Narrowed
+pub mod Dearest
 pub mod Advised

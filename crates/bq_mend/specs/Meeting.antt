@@ -3,6 +3,7 @@ use Rattle.std.specs.Prelude.{IsFalse}
 use Rattle.std.specs.declared.option.Option.TheVariants.{None}
 use Rattle.bq_model.specs.declared.decision.Which.TheVariants.{Parts}
 use Rattle.bq_model.specs.Query.{QueryValue, is_filter}
+use Rattle.bq_model.specs.Assignment.{Assignment, Holds, KeepsDomains}
 use Rattle.bq_model.specs.Parts.{HasMoreParts}
 use Rattle.bq_model.specs.Violation.{IsViolation}
 use Rattle.bq_model.specs.Verdict.{most}
@@ -16,3 +17,7 @@ pub record Meets (q : QueryValue) : Type 0 where
 pub record Stands (q : QueryValue) : Type 0 where
   pub meets : Meets q
   pub some : HasMoreParts q 0
+
+-- no assignment that keeps to the domains meets the comparisons
+abbrev pub NeverMeets : QueryValue → Type 0
+NeverMeets q = (v : Assignment) → Holds q v → ¬ KeepsDomains q v

@@ -2,13 +2,18 @@
 ghost use Rattle.std.specs.Prelude.{◌≡◌, ◌↔◌, IsTrue, IsFalse, IfOk};
 ghost use Rattle.bq_mend.specs.declared.mend.Mend.TheVariants as changes;
 ghost use Rattle.bq_mend.specs.Mended.{Mends};
-ghost use Rattle.bq_mend.specs.Advised.{breaks_condition, has_cost, AreSetsFor, AreCompactNumbers, AreSharedNumbers, AreComparisonsFor, IsAdvice};
+ghost use Rattle.bq_mend.specs.Advised.{breaks_condition, has_cost, passes_limit, is_lifted, AreSetsFor, AreBetterNumbers, AreComparisonsFor, AreNarrowingsFor, IsAdvice};
 
 use crate::comparing::{BestComparisons, Cheaper, best_comparisons, fewer};
+use crate::dearest::{DearPart, dearest_for};
 use crate::judging::{Judgement, judge, numbers_with};
+use crate::meeting::never_meets;
 use crate::mend::{Kind, Mend};
+use crate::narrowing::narrowings;
 use crate::searching::{LeastSets, least_sets};
+use crate::violating::chains_for;
 use crate::writing::mends;
+use bq_chains::Chain;
 use bq_model::{Numbers, Query};
 use std::alloc::{AllocError, Global};
 
@@ -22,18 +27,28 @@ const MOST_COMPARISONS: u16 = 144;
 #[derive(Drop)]
 pub struct QueryAdvice {
     pub judgement: Judgement,
+    /// Whether no combination of rows meets its comparisons. With more than 4,096 parts some does.
+    pub never: bool,
+    /// What the first part that breaks a condition orders, where one does.
+    pub chains: Vec<Chain>,
+    /// The parts that keep most cells, at most three, the most cells first: where it is accepted with more than one part, or passes a limit on cells, answers or
+    /// work.
+    pub dearest: Vec<DearPart>,
     /// Whether DISTINCT mends it, where a condition refuses it and it has none.
     pub distinct: bool,
     /// The least sets of columns of which each mends it by two comparisons a column, where a condition refuses it.
     pub bounds: LeastSets,
     /// The same by a domain on each column.
     pub domains: LeastSets,
-    /// Its numbers with COMPACT, where it is accepted with it and has it not.
+    /// Its numbers with COMPACT, where it has it not and is accepted with it with fewer cells.
     pub compact: Option<Numbers>,
     /// Its numbers with SHARED, where it is accepted with it and has fewer cells.
     pub shared: Option<Numbers>,
     /// The best comparisons, at most five, with its numbers, the fewest cells first.
     pub cheaper: Vec<Cheaper>,
+    /// Where a limit refuses it and no other change lifts that: comparisons that leave the lower part of the range of a column, the widest with which it is accepted,
+    /// at most five, with its numbers, the fewest cells first.
+    pub narrowed: Vec<Cheaper>,
     /// Whether one of the searches was cut short.
     pub cut_short: bool,
 }
@@ -55,8 +70,28 @@ fn has_cost(judgement: Judgement) -> bool
 {
     match judgement {
         Judgement::Accepted(numbers) => 1 < numbers.parts,
+        Judgement::Above { .. } | Judgement::Violation { .. } | Judgement::ManyParts => true,
+        Judgement::Filter => false,
+    }
+}
+
+// Whether a limit refuses a query.
+fn passes_limit(judgement: Judgement) -> bool
+    ensures { result ≡ passes_limit judgement }
+{
+    match judgement {
         Judgement::Above { .. } | Judgement::ManyParts => true,
-        Judgement::Filter | Judgement::Violation { .. } => false,
+        Judgement::Filter | Judgement::Accepted(_) | Judgement::Violation { .. } => false,
+    }
+}
+
+// Whether a change is told with which the query is accepted.
+fn is_lifted(cheaper: &[Cheaper], compact: Option<Numbers>, shared: Option<Numbers>) -> bool
+    ensures { result ≡ is_lifted cheaper.now compact shared }
+{
+    match (cheaper, compact, shared) {
+        ([], None, None) => false,
+        _ => true,
     }
 }
 
@@ -92,18 +127,21 @@ fn sets_for(
     }
 }
 
-// The numbers of the query with COMPACT, where it has it not.
+// The numbers of the query with COMPACT, where it has it not and has fewer cells with it.
 fn compact_numbers(
     alloc: Global,
     query: &Query,
     shared: bool,
+    own: Judgement,
 ) -> Result<Option<Numbers>, AllocError>
-    ensures { IfOk result (AreCompactNumbers shared query.now) }
+    ensures { IfOk result (AreBetterNumbers shared query.now own changes.Compact query.now.compact) }
 {
     if query.compact() {
-        Ok(None)
-    } else {
-        numbers_with(alloc, query, shared, &Mend::Compact)
+        return Ok(None);
+    }
+    match numbers_with(alloc, query, shared, &Mend::Compact) {
+        Ok(numbers) => Ok(fewer(own, numbers)),
+        Err(fault) => Err(fault),
     }
 }
 
@@ -114,7 +152,7 @@ fn shared_numbers(
     shared: bool,
     own: Judgement,
 ) -> Result<Option<Numbers>, AllocError>
-    ensures { IfOk result (AreSharedNumbers shared query.now own) }
+    ensures { IfOk result (AreBetterNumbers shared query.now own changes.Shared shared) }
 {
     if shared {
         return Ok(None);
@@ -125,7 +163,7 @@ fn shared_numbers(
     }
 }
 
-// The best comparisons, where a limit refuses the query or it has more than one part.
+// The best comparisons, where the query is refused or has more than one part.
 fn comparisons_for(
     alloc: Global,
     query: &Query,
@@ -144,28 +182,56 @@ fn comparisons_for(
     }
 }
 
+// The widest ranges of single columns that lift the limit which refuses the query, where no other change does.
+fn narrowings_for(
+    alloc: Global,
+    query: &Query,
+    shared: bool,
+    own: Judgement,
+    lifted: bool,
+) -> Result<Vec<Cheaper>, AllocError>
+    ensures { IfOk result (λ list. AreNarrowingsFor shared query.now own lifted list.items) }
+{
+    if lifted {
+        return Ok(Vec::new(alloc));
+    }
+    if !passes_limit(own) {
+        return Ok(Vec::new(alloc));
+    }
+    narrowings(alloc, query, shared, own)
+}
+
 /// Returns what the query comes to, with shared cells or without, and what would mend it or make it cheaper, each change tried by the decision on the query with it.
-/// Where a condition refuses it, that is DISTINCT and the least sets of columns to bound; where a limit does, or it is accepted with more than one part, the best
-/// comparisons. `AllocError` where a list or a plan finds no memory.
+/// Where a condition refuses it, that is DISTINCT, the least sets of columns to bound and single comparisons; where a limit does, or it is accepted with more than
+/// one part, the best comparisons, and where nothing lifts the limit, narrower ranges of single columns. `AllocError` where a list or a plan finds no memory.
 pub fn advise(alloc: Global, query: &Query, shared: bool) -> Result<QueryAdvice, AllocError>
     ensures { IfOk result (IsAdvice shared query.now) }
 {
     let judgement = judge(alloc, query, shared)?;
+    let never = never_meets(alloc, query)?;
+    let chains = chains_for(alloc, query, judgement)?;
+    let dearest = dearest_for(alloc, query, judgement)?;
     let distinct = distinct_mends(alloc, query, judgement)?;
     let bounds = sets_for(alloc, query, judgement, Kind::Bounds)?;
     let domains = sets_for(alloc, query, judgement, Kind::Domains)?;
-    let compact = compact_numbers(alloc, query, shared)?;
+    let compact = compact_numbers(alloc, query, shared, judgement)?;
     let fewer = shared_numbers(alloc, query, shared, judgement)?;
     let BestComparisons { best, cut_short } = comparisons_for(alloc, query, shared, judgement)?;
+    let lifted = is_lifted(best.as_slice(), compact, fewer);
+    let narrowed = narrowings_for(alloc, query, shared, judgement, lifted)?;
     let cut_short = bounds.cut_short || domains.cut_short || cut_short;
     Ok(QueryAdvice {
         judgement,
+        never,
+        chains,
+        dearest,
         distinct,
         bounds,
         domains,
         compact,
         shared: fewer,
         cheaper: best,
+        narrowed,
         cut_short,
     })
 }

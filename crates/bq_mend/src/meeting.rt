@@ -2,7 +2,7 @@
 ghost use Rattle.std.specs.Prelude.{◌↔◌, ◌≤◌, IsTrue, length, IfOk};
 ghost use Rattle.bq_model.specs.Parts.{AreParts};
 ghost use Rattle.bq_lto_split.specs.Split.{sign_lists};
-ghost use Rattle.bq_mend.specs.Meeting.{Meets, Stands};
+ghost use Rattle.bq_mend.specs.Meeting.{Meets, Stands, NeverMeets};
 
 use bq_decide::decide;
 use bq_lto_split::{SplitError, split};
@@ -41,6 +41,27 @@ pub fn stands(alloc: Global, query: &Query) -> Result<bool, AllocError>
     match split(alloc, query) {
         Ok(parts) => Ok(parts_stand(query, &parts)),
         Err(SplitError::TooManyParts) => Ok(query.is_filter()),
+        Err(SplitError::Memory) => Err(AllocError),
+    }
+}
+
+// Whether nothing meets the comparisons of a query of these parts: it has none.
+fn none_meets(query: &Query, parts: &[Part]) -> bool
+    requires { AreParts query.now (sign_lists parts.now) }
+    ensures { IsTrue result ↔ NeverMeets query.now }
+{
+    // Named for the proof alone: the contract speaks of it.
+    let _query = query;
+    parts.len() == 0
+}
+
+/// Returns whether no combination of rows meets the comparisons of the query. `AllocError` where the list of parts finds no memory.
+pub fn never_meets(alloc: Global, query: &Query) -> Result<bool, AllocError>
+    ensures { IfOk result (λ never. IsTrue never ↔ NeverMeets query.now) }
+{
+    match split(alloc, query) {
+        Ok(parts) => Ok(none_meets(query, &parts)),
+        Err(SplitError::TooManyParts) => Ok(false),
         Err(SplitError::Memory) => Err(AllocError),
     }
 }

@@ -1,6 +1,5 @@
 //! The search for least sets of columns.
 ghost use Rattle.std.specs.Prelude.{◌≡◌, ◌↔◌, ◌<◌, ◌≤◌, length, min, IsTrue, OnOk, IfOk};
-ghost use Rattle.bq_model.specs.Query.{attr_eq};
 ghost use Rattle.bq_mend.specs.Mended.{on, Mends};
 ghost use Rattle.bq_mend.specs.Sublists.{IsSublist};
 ghost use Rattle.bq_mend.specs.Sets.{HasWithin, AreLeastAmong, AreLeastSets, open_columns, sets_of};
@@ -8,7 +7,7 @@ ghost use Rattle.bq_mend.specs.Looking.{behind, Looks};
 
 use crate::columns::ColumnSet;
 use crate::mend::{Kind, Mend};
-use crate::sets::{open_columns, sets_of};
+use crate::sets::{is_same, open_columns, sets_of};
 use crate::writing::mends;
 use bq_model::{Attr, Query};
 use std::alloc::{AllocError, Global};
@@ -18,12 +17,6 @@ use std::alloc::{AllocError, Global};
 pub struct LeastSets {
     pub found: Vec<ColumnSet>,
     pub cut_short: bool,
-}
-
-fn is_same(a: Attr, b: Attr) -> bool
-    ensures { result ≡ attr_eq a b }
-{
-    a.stream == b.stream && a.column == b.column
 }
 
 // The columns behind the first, where that is the column, and else all.

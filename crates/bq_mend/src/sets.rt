@@ -9,7 +9,7 @@ use arrayvec::ArrayVec;
 use bq_model::{Attr, Domain, Query};
 use std::alloc::{AllocError, Global};
 
-fn is_same(a: Attr, b: Attr) -> bool
+pub(crate) fn is_same(a: Attr, b: Attr) -> bool
     ensures { result ≡ attr_eq a b }
 {
     a.stream == b.stream && a.column == b.column

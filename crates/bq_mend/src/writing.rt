@@ -15,7 +15,7 @@ use bq_model::{Atom, Attr, Domain, Element, Op, Query};
 use std::alloc::{AllocError, Global};
 
 /// The greatest integer of 15 digits.
-const GREATEST: i64 = 999_999_999_999_999;
+pub(crate) const GREATEST: i64 = 999_999_999_999_999;
 
 /// The most domains that a query may have.
 const MOST_DOMAINS: usize = 20;
@@ -27,7 +27,7 @@ fn is_before(a: Attr, b: Attr) -> bool
 }
 
 // All integers of at most 15 digits, as the domain of a column.
-fn widest(column: Attr) -> Domain
+pub(crate) fn widest(column: Attr) -> Domain
     ensures { result ≡ widest column }
 {
     Domain {
@@ -119,7 +119,7 @@ fn atoms_with(atoms: &[Atom], more: &[Atom]) -> ArrayVec<Atom, 22>
 }
 
 // A column compared with an integer.
-fn compared(column: Attr, op: Op, value: i64) -> Atom
+pub(crate) fn compared(column: Attr, op: Op, value: i64) -> Atom
     ensures { result ≡ compared column op value }
 {
     Atom {

@@ -1,10 +1,11 @@
 -- The sentence of each fault.
-use Rattle.std.specs.Prelude.{ℕ, ◌+◌, ◌==◌, ℤ, List, [], ◌∷◌, ◌++◌, map, take, drop, if◌then◌else◌, decimal, codes, unwrap_or, Option, Some, None}
-use Rattle.std.specs.List.{flat_map, list_any, slice_index_or}
+use Rattle.std.specs.Prelude.{ℕ, ◌+◌, ◌==◌, ℤ, Bool, true, false, List, [], ◌∷◌, ◌++◌, map, take, drop, if◌then◌else◌, decimal, codes, unwrap_or, Option, Some, None}
+use Rattle.std.specs.List.{find, flat_map, list_any, slice_index_or}
+use Rattle.std.specs.Str.{str_eq_ignore_ascii_case}
 use Rattle.std.specs.Fmt.{signed_decimal}
 use Rattle.bq_text.specs.Blank.{trimmed}
-use Rattle.bq_text.specs.Word.{is_letter}
-use Rattle.bq_schema.specs.Streams.{Shape, column_names, shape_at, stream_number, domain_at}
+use Rattle.bq_text.specs.Word.{is_letter, word_of}
+use Rattle.bq_schema.specs.Streams.{Shape, column_names, column_at, shape_at, stream_number, domain_at}
 use Rattle.bq_schema.specs.Rows.{fields_of}
 use Rattle.bq_parser.specs.declared.parsing.What.{What}
 use Rattle.bq_parser.specs.declared.parsing.What.TheVariants as limits
@@ -20,21 +21,39 @@ use Rattle.bq_diagnosis.specs.declared.fault.Fault.{Fault}
 use Rattle.bq_diagnosis.specs.declared.fault.Fault.TheVariants as faults
 use Rattle.bq_sentences.specs.Bytes.{is_quote}
 use Rattle.bq_diagnosis.specs.Candidates.{told_as}
-use Rattle.bq_sentences.specs.Hints.{hint_of, standing_of}
+use Rattle.bq_sentences.specs.Hints.{is_empty, hint_of, standing_of}
 
--- a limit that is passed
-abbrev pub limit_text : What → List ℕ
-limit_text limits.Name = texts.LIMIT_NAME.now
-limit_text limits.Columns = texts.LIMIT_COLUMNS.now
-limit_text limits.Select = texts.LIMIT_SELECT.now
-limit_text limits.From = texts.LIMIT_FROM.now
-limit_text limits.Atoms = texts.LIMIT_ATOMS.now
-limit_text limits.Soft = texts.LIMIT_SOFT.now
-limit_text limits.Attrs = texts.LIMIT_ATTRS.now
-limit_text limits.Value = texts.LIMIT_VALUE.now
-limit_text limits.Consts = texts.LIMIT_CONSTS.now
-limit_text limits.Domain = texts.LIMIT_DOMAIN.now
-limit_text limits.Tuple = texts.LIMIT_TUPLE.now
+-- a limit that is passed, before the number that is found
+abbrev pub limit_lead : What → List ℕ
+limit_lead limits.Name = texts.LIMIT_NAME.now
+limit_lead limits.Columns = texts.LIMIT_COLUMNS.now
+limit_lead limits.Select = texts.LIMIT_SELECT.now
+limit_lead limits.From = texts.LIMIT_FROM.now
+limit_lead limits.Atoms = texts.LIMIT_ATOMS.now
+limit_lead limits.Soft = texts.LIMIT_SOFT.now
+limit_lead limits.Attrs = texts.LIMIT_ATTRS.now
+limit_lead limits.Value = texts.LIMIT_VALUE.now
+limit_lead limits.Consts = texts.LIMIT_CONSTS.now
+limit_lead limits.Domain = texts.LIMIT_DOMAIN.now
+limit_lead limits.Tuple = texts.LIMIT_TUPLE.now
+
+-- and behind it
+abbrev pub limit_tail : What → List ℕ
+limit_tail limits.Soft = texts.LIMIT_SOFT_TAIL.now
+limit_tail _ = []
+
+-- a number, where there is one
+abbrev pub number_text : Option ℕ → List ℕ
+number_text None = []
+number_text (Some n) = decimal n
+
+-- a name between two texts
+unfoldable pub around : List ℕ → List ℕ → List ℕ → List ℕ
+around lead name tail = lead ++ (name ++ (tail ++ []))
+
+-- a limit that is passed, with the number that is found
+abbrev pub limit_text : What → Option ℕ → List ℕ
+limit_text what found = around (limit_lead what) (number_text found) (limit_tail what)
 
 -- what is meant
 abbrev pub hint_text : Hint → List ℕ
@@ -50,6 +69,46 @@ hint_text hints.Or = texts.HINT_OR.now
 hint_text hints.BareColumn = texts.HINT_BARE_COLUMN.now
 hint_text hints.ReservedName = texts.HINT_RESERVED.now
 hint_text hints.BareRow = texts.HINT_BARE_ROW.now
+hint_text hints.Comment = texts.HINT_COMMENT.now
+hint_text hints.Interval = texts.HINT_INTERVAL.now
+hint_text hints.Arithmetic = texts.HINT_ARITHMETIC.now
+hint_text hints.Hyphen = texts.HINT_HYPHEN.now
+hint_text hints.CommaAtEnd = texts.HINT_COMMA_AT_END.now
+hint_text hints.Function = texts.HINT_FUNCTION.now
+hint_text hints.Parenthesis = texts.HINT_PARENTHESIS.now
+hint_text hints.Negation = texts.HINT_NEGATION.now
+hint_text hints.Between = texts.HINT_BETWEEN.now
+hint_text hints.Pattern = texts.HINT_PATTERN.now
+hint_text hints.Null = texts.HINT_NULL.now
+hint_text hints.Order = texts.HINT_ORDER.now
+hint_text hints.Join = texts.HINT_JOIN.now
+hint_text hints.Clause = texts.HINT_CLAUSE.now
+hint_text hints.Choice = texts.HINT_CHOICE.now
+hint_text hints.BareQuery = texts.HINT_BARE_QUERY.now
+hint_text hints.Alias = texts.HINT_ALIAS.now
+hint_text hints.Typed = texts.HINT_TYPE.now
+
+-- whether an example of a column stands behind it
+abbrev pub is_bare_column : Hint → Bool
+is_bare_column hints.BareColumn = true
+is_bare_column _ = false
+
+-- a text, or another where it is empty
+abbrev pub or_text : List ℕ → List ℕ → List ℕ
+or_text text other = if is_empty text then other else text
+
+-- an example of a column: the first of the first stream, where there is one
+abbrev pub example_text : List Shape → List ℕ
+example_text streams = around (or_text (shape_at streams 0).name texts.STREAM_EXAMPLE.now) texts.POINT.now (or_text (column_at (shape_at streams 0).columns 0) texts.COLUMN_EXAMPLE.now)
+
+-- the example, where one stands behind a hint
+abbrev pub example_for : Bool → List Shape → List ℕ
+example_for true streams = example_text streams
+example_for false streams = []
+
+-- what is meant, with an example where one stands behind it
+abbrev pub hint_sentence : Hint → List Shape → List ℕ
+hint_sentence hint streams = hint_text hint ++ example_for (is_bare_column hint) streams
 
 -- what stands at a place
 abbrev pub standing_text : Standing → List ℕ
@@ -74,6 +133,19 @@ abbrev pub there_are : List (List ℕ) → List ℕ
 there_are [] = texts.THERE_IS_NONE.now
 there_are (x ∷ xs) = texts.THERE_ARE.now ++ listed name_text (x ∷ xs)
 
+-- a name that is the word but for the case of letters
+abbrev pub alike : List ℕ → List (List ℕ) → Option (List ℕ)
+alike word names = find (λ n. str_eq_ignore_ascii_case n word) names
+
+-- that name, where there is one
+abbrev pub alike_text : Option (List ℕ) → List ℕ
+alike_text None = []
+alike_text (Some name) = around texts.ALIKE.now name []
+
+-- names that are there, and the one that a word may mean
+abbrev pub there_are_like : List ℕ → List (List ℕ) → List ℕ
+there_are_like word names = there_are names ++ alike_text (alike word names)
+
 -- the names of streams
 abbrev pub stream_names : List Shape → List (List ℕ)
 stream_names streams = map (λ s. s.name) streams
@@ -84,17 +156,13 @@ next_text [] = texts.NOTHING_MAY.now
 next_text (c ∷ next) = texts.MAY_STAND.now ++ listed told_as (c ∷ next)
 
 -- what is meant, or else what stands at the place and what may stand there
-abbrev pub meant_or : Option Hint → List ℕ → List Candidate → List ℕ
-meant_or (Some hint) rest next = hint_text hint
-meant_or None rest next = standing_text (standing_of rest) ++ next_text next
+abbrev pub meant_or : Option Hint → List ℕ → List Candidate → List Shape → List ℕ
+meant_or (Some hint) rest next streams = hint_sentence hint streams
+meant_or None rest next streams = standing_text (standing_of rest) ++ next_text next
 
 -- where the grammar is left
 abbrev pub syntax_text : List ℕ → ℕ → List Candidate → List Shape → List ℕ
-syntax_text text at next streams = meant_or (hint_of (take at text) (drop at text) next streams) (drop at text) next
-
--- a name between two texts
-unfoldable pub around : List ℕ → List ℕ → List ℕ → List ℕ
-around lead name tail = lead ++ (name ++ (tail ++ []))
+syntax_text text at next streams = meant_or (hint_of (take at text) (drop at text) next streams) (drop at text) next streams
 
 -- why a field is no integer
 abbrev pub field_text : List ℕ → List ℕ
@@ -129,17 +197,17 @@ abbrev pub ends_text : Option (ℤ × ℤ) → List ℕ
 ends_text None = []
 ends_text (Some ends) = between (signed_decimal ends.0) (signed_decimal ends.1)
 
--- a field that lies outside a domain
-abbrev pub outside_text : ℕ → List ℕ
-outside_text field = around texts.FIELD.now (decimal (field + 1)) texts.FIELD_OUTSIDE.now
+-- a field by its number from 1, and its stream and column, that lies outside a domain
+unfoldable pub outside_text : List ℕ → List ℕ → List ℕ → List ℕ
+outside_text number name column = texts.FIELD.now ++ (number ++ (texts.FIELD_OF.now ++ (name ++ (texts.POINT.now ++ (column ++ (texts.FIELD_OUTSIDE.now ++ []))))))
 
 -- a value outside the domain of its column
-abbrev pub domain_text : ℕ → Option (ℤ × ℤ) → List ℕ
-domain_text field domain = outside_text field ++ ends_text domain
+abbrev pub domain_text : ℕ → ℕ → List Shape → List ℕ
+domain_text stream field streams = outside_text (decimal (field + 1)) (shape_at streams stream).name (column_at (shape_at streams stream).columns field) ++ ends_text (domain_at streams stream field)
 
 -- a column that is none of its stream
 abbrev pub column_fault : List Shape → ColumnAst → List ℕ
-column_fault streams c = around texts.NO_COLUMN.now (column_text c) texts.NO_COLUMN_TAIL.now ++ there_are (column_names (shape_at streams (unwrap_or (stream_number streams c.stream) 255)).columns)
+column_fault streams c = around texts.NO_COLUMN.now (column_text c) texts.NO_COLUMN_TAIL.now ++ there_are_like c.column (column_names (shape_at streams (unwrap_or (stream_number streams c.stream) 255)).columns)
 
 -- the sentence of a fault of names
 unfoldable pub name_sentence : Fault → List Shape → List (List ℕ) → List ℕ
@@ -147,27 +215,27 @@ name_sentence (faults.DuplicateStream name) streams live = around texts.STREAM_T
 name_sentence (faults.DuplicateColumn name) streams live = around texts.COLUMN_TWICE.now name texts.COLUMN_TWICE_TAIL.now
 name_sentence (faults.DuplicateQuery name) streams live = around texts.QUERY_LIVE.now name texts.QUERY_LIVE_TAIL.now
 name_sentence (faults.SelfJoin name) streams live = around texts.TWICE_IN_FROM.now name texts.TWICE_IN_FROM_TAIL.now
-name_sentence (faults.NoStream name) streams live = around texts.NO_STREAM.now name texts.NO_STREAM_TAIL.now ++ there_are (stream_names streams)
+name_sentence (faults.NoStream name) streams live = around texts.NO_STREAM.now name texts.NO_STREAM_TAIL.now ++ there_are_like name (stream_names streams)
 name_sentence (faults.NotInFrom column) streams live = around [] (column_text column) texts.NOT_IN_FROM_TAIL.now
 name_sentence (faults.NoColumn column) streams live = column_fault streams column
-name_sentence (faults.NoQuery name) streams live = around texts.NO_QUERY.now name texts.NO_QUERY_TAIL.now ++ there_are live
+name_sentence (faults.NoQuery name) streams live = around texts.NO_QUERY.now name texts.NO_QUERY_TAIL.now ++ there_are_like name live
 name_sentence _ streams live = []
 
 -- the sentence of a fault of a row
 unfoldable pub row_sentence : List ℕ → Fault → List Shape → List ℕ
 row_sentence text faults.RowKey streams = texts.ROW_KEY.now
 row_sentence text (faults.RowName bytes) streams = around texts.ROW_NAME.now (decimal bytes) []
-row_sentence text faults.RowStream streams = texts.ROW_STREAM.now ++ there_are (stream_names streams)
+row_sentence text faults.RowStream streams = texts.ROW_STREAM.now ++ there_are_like (word_of text) (stream_names streams)
 row_sentence text (faults.Arity stream wanted found) streams = arity_text stream wanted found streams
 row_sentence text (faults.Value field) streams = value_text text field
-row_sentence text (faults.Domain stream field) streams = domain_text field (domain_at streams stream field)
+row_sentence text (faults.Domain stream field) streams = domain_text stream field streams
 row_sentence text _ streams = []
 
 -- the sentence of a fault, over what is left of its line, the streams, and the names of the live queries
 unfoldable pub sentence_text : List ℕ → Fault → List Shape → List (List ℕ) → List ℕ
 sentence_text text faults.LineTooLong streams live = texts.LONG_LINE.now
 sentence_text text (faults.Syntax at next) streams live = syntax_text text at next.items streams
-sentence_text text (faults.Limit what) streams live = limit_text what
+sentence_text text (faults.Limit what found) streams live = limit_text what found
 sentence_text text faults.TooManyStreams streams live = texts.MANY_STREAMS.now
 sentence_text text faults.TooManyQueries streams live = texts.MANY_QUERIES.now
 sentence_text text faults.RowKey streams live = row_sentence text faults.RowKey streams

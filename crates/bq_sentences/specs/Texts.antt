@@ -7,6 +7,7 @@ use Rattle.bq_reply.specs.declared.word.Word.{Word}
 use Rattle.bq_diagnosis.specs.declared.fault.Fault.{Fault}
 use Rattle.bq_diagnosis.specs.declared.fault.Fault.TheVariants as faults
 use Rattle.bq_diagnosis.specs.FaultWords.{word_of}
+use Rattle.bq_diagnosis.specs.Marks.{place_of}
 use Rattle.bq_sentences.specs.Sentences.{sentence_text}
 
 -- the number of a line and the word, as `line 8: Syntax`
@@ -46,18 +47,10 @@ mark_text text (Some at) = if nat_lt 200 at then [] else mark_line (take at text
 abbrev pub marked_text : List ℕ → Option ℕ → List ℕ
 marked_text text place = quoted_text text ++ mark_text text place
 
--- the place of a fault in its line
-abbrev pub place_of : Fault → Option ℕ
-place_of (faults.Syntax at next) = Some at
-place_of faults.RowKey = Some 0
-place_of (faults.RowName bytes) = Some 0
-place_of faults.RowStream = Some 0
-place_of _ = None
-
 -- the line and its mark; a line that is too long is not shown
 unfoldable pub shown_text : List ℕ → Fault → List ℕ
 shown_text text faults.LineTooLong = []
-shown_text text fault = marked_text text (place_of fault)
+shown_text text fault = marked_text text (place_of text fault)
 
 -- a place by its number from 1
 abbrev pub byte_text : ℕ → List ℕ
@@ -70,7 +63,7 @@ place_text (Some at) = if nat_lt 200 at then byte_text at else []
 
 -- the place where it is not shown, the sentence, and the end of its line
 abbrev pub placed_text : List ℕ → Fault → List Shape → List (List ℕ) → List ℕ
-placed_text text fault streams live = place_text (place_of fault) ++ (sentence_text text fault streams live ++ 10 ∷ [])
+placed_text text fault streams live = place_text (place_of text fault) ++ (sentence_text text fault streams live ++ 10 ∷ [])
 
 -- two spaces
 unfoldable pub indent : List ℕ

@@ -1,13 +1,18 @@
 //! What a statement most likely meant where it leaves the grammar, by the bytes around that place and by what may stand there.
-ghost use Rattle.std.specs.Prelude.{◌≡◌};
+ghost use Rattle.std.specs.Prelude.{◌≡◌, ◌||◌, ◌&&◌, ◌==◌};
 ghost use Rattle.std.specs.List.{list_any};
+ghost use Rattle.std.specs.Option.{option_or};
+ghost use Rattle.bq_diagnosis.specs.Groups as groups;
 ghost use Rattle.bq_sentences.specs.Hints as hints;
 ghost use Rattle.bq_sentences.specs.Bytes as bytes;
 
 use crate::bytes::{byte_at, last_byte};
-use bq_diagnosis::Candidate;
+use bq_diagnosis::{
+    Candidate, wants_behind_operand, wants_column, wants_comma, wants_comparison, wants_create,
+    wants_domain, wants_interval, wants_name, wants_operand, wants_where,
+};
 use bq_schema::Catalog;
-use bq_text::{is_letter, key_of, split_word};
+use bq_text::{is_letter, key_of, split_word, trim};
 
 /// What a statement most likely meant where it leaves the grammar.
 #[derive(Clone, Copy, Debug, PartialEq, Eq)]
@@ -36,6 +41,42 @@ pub enum Hint {
     ReservedName,
     /// A row without commas.
     BareRow,
+    /// A comment behind a statement, or one that begins otherwise.
+    Comment,
+    /// A domain without its two points.
+    Interval,
+    /// A sum, difference, product or quotient.
+    Arithmetic,
+    /// A name with a hyphen in it.
+    Hyphen,
+    /// A comma behind the last of a list.
+    CommaAtEnd,
+    /// A function, as COUNT.
+    Function,
+    /// A parenthesis around comparisons.
+    Parenthesis,
+    /// NOT before a comparison.
+    Negation,
+    /// BETWEEN for two comparisons.
+    Between,
+    /// LIKE, which compares texts.
+    Pattern,
+    /// IS NULL.
+    Null,
+    /// SHARED behind COMPACT or QUERY.
+    Order,
+    /// JOIN and ON for FROM and WHERE.
+    Join,
+    /// ORDER BY and the like.
+    Clause,
+    /// IN with a list of values.
+    Choice,
+    /// A query without CREATE QUERY before it.
+    BareQuery,
+    /// A second name for a stream or a column.
+    Alias,
+    /// The type of a column.
+    Typed,
 }
 
 /// What stands at a place of a statement.
@@ -47,34 +88,6 @@ pub enum Standing {
     Integer,
     Sign,
     Strange,
-}
-
-// Whether a name is tried.
-fn is_name(candidate: Candidate) -> bool
-    ensures { result ≡ hints.is_name candidate }
-{
-    matches!(candidate, Candidate::Name)
-}
-
-// Whether the column of a stream is tried.
-fn is_column(candidate: Candidate) -> bool
-    ensures { result ≡ hints.is_column candidate }
-{
-    matches!(candidate, Candidate::Column)
-}
-
-// Whether a name may stand there.
-fn wants_name(next: &[Candidate]) -> bool
-    ensures { result ≡ list_any hints.is_name next.now }
-{
-    next.iter().any(|candidate| is_name(*candidate))
-}
-
-// Whether the column of a stream may stand there, behind a point.
-fn wants_column(next: &[Candidate]) -> bool
-    ensures { result ≡ list_any hints.is_column next.now }
-{
-    next.iter().any(|candidate| is_column(*candidate))
 }
 
 /// Returns whether a byte is a quotation mark.
@@ -103,9 +116,89 @@ fn sign_behind_equal(first: u8) -> Option<Hint>
     }
 }
 
-// What is meant by the byte before the place, and the first and second there.
-fn sign_hint(before: u8, first: u8, second: u8) -> Option<Hint>
-    ensures { result ≡ hints.sign_hint before first second }
+// Whether a comment begins so.
+fn begins_comment(first: u8, second: u8) -> bool
+    ensures { result ≡ hints.begins_comment first second }
+{
+    first == b'#'
+        || ((first == b'/' && (second == b'/' || second == b'*'))
+            || (first == b'-' && second == b'-'))
+}
+
+// Whether a byte is the sign of a sum, difference, product, quotient or remainder.
+fn is_operator(byte: u8) -> bool
+    ensures { result ≡ hints.is_operator byte }
+{
+    byte == b'+' || byte == b'-' || byte == b'*' || byte == b'/' || byte == b'%'
+}
+
+// Whether a side of a comparison, or what stands behind one, may stand there.
+fn wants_beside(next: &[Candidate]) -> bool
+    ensures { result ≡ (list_any groups.is_behind_operand next.now || list_any groups.is_operand next.now) }
+{
+    wants_behind_operand(next) || wants_operand(next)
+}
+
+// Whether arithmetic stands there.
+fn is_arithmetic(first: u8, next: &[Candidate]) -> bool
+    ensures { result ≡ hints.is_arithmetic first next.now }
+{
+    is_operator(first) && wants_beside(next)
+}
+
+// What is meant by an opening parenthesis.
+fn opening_hint(next: &[Candidate]) -> Option<Hint>
+    ensures { result ≡ hints.opening_hint next.now }
+{
+    if wants_column(next) {
+        Some(Hint::Function)
+    } else if wants_operand(next) {
+        if wants_name(next) {
+            Some(Hint::Parenthesis)
+        } else {
+            Some(Hint::Interval)
+        }
+    } else {
+        None
+    }
+}
+
+// Whether an integer with a point begins so, behind a digit.
+fn is_decimal(before: u8, first: u8, second: u8) -> bool
+    ensures { result ≡ (((first == 46) && bytes.is_digit before) && bytes.is_digit second) }
+{
+    first == b'.' && is_digit(before) && is_digit(second)
+}
+
+// What is meant by a sign that a name or an integer may have around it.
+fn mark_hint(before: u8, first: u8, second: u8, next: &[Candidate]) -> Option<Hint>
+    ensures { result ≡ hints.mark_hint before first second next.now }
+{
+    if first == b'*' {
+        return Some(Hint::Star);
+    }
+    if first == b'-' && !is_digit(second) {
+        return Some(Hint::Hyphen);
+    }
+    if is_decimal(before, first, second) {
+        return Some(Hint::Decimal);
+    }
+    if before == b',' && first == b')' {
+        return Some(Hint::CommaAtEnd);
+    }
+    if first == b'(' {
+        return opening_hint(next);
+    }
+    if before == b'=' {
+        sign_behind_equal(first)
+    } else {
+        None
+    }
+}
+
+// What is meant by the byte before the place, the first and second there, and what may stand there.
+fn sign_hint(before: u8, first: u8, second: u8, next: &[Candidate]) -> Option<Hint>
+    ensures { result ≡ hints.sign_hint before first second next.now }
 {
     if first == 239 && second == 187 {
         return Some(Hint::ByteOrderMark);
@@ -116,17 +209,16 @@ fn sign_hint(before: u8, first: u8, second: u8) -> Option<Hint>
     if first == b'!' {
         return Some(Hint::Unequal);
     }
-    if first == b'*' {
-        return Some(Hint::Star);
+    if begins_comment(first, second) {
+        return Some(Hint::Comment);
     }
-    if first == b'.' && is_digit(before) && is_digit(second) {
-        return Some(Hint::Decimal);
+    if wants_interval(next) {
+        return Some(Hint::Interval);
     }
-    if before == b'=' {
-        sign_behind_equal(first)
-    } else {
-        None
+    if is_arithmetic(first, next) {
+        return Some(Hint::Arithmetic);
     }
+    mark_hint(before, first, second, next)
 }
 
 // Whether a word is OR, in any case of letters.
@@ -136,9 +228,145 @@ fn is_or(word: &[u8]) -> bool
     word.eq_ignore_ascii_case(b"OR")
 }
 
-// What is meant by the word at the place, or none there, and by what may stand there.
-fn word_hint(word: &[u8], next: &[Candidate]) -> Option<Hint>
-    ensures { result ≡ hints.word_hint word.now next.now }
+// Whether streams are joined by this word elsewhere.
+#[tactic(auto, unfolding(crate::specs::Hints::is_join))]
+fn is_join(word: &[u8]) -> bool
+    ensures { result ≡ hints.is_join word.now }
+{
+    word.eq_ignore_ascii_case(b"JOIN")
+        || word.eq_ignore_ascii_case(b"INNER")
+        || word.eq_ignore_ascii_case(b"LEFT")
+        || word.eq_ignore_ascii_case(b"ON")
+}
+
+// Whether a clause of queries begins with this word elsewhere.
+#[tactic(auto, unfolding(crate::specs::Hints::is_clause))]
+fn is_clause(word: &[u8]) -> bool
+    ensures { result ≡ hints.is_clause word.now }
+{
+    word.eq_ignore_ascii_case(b"ORDER")
+        || word.eq_ignore_ascii_case(b"GROUP")
+        || word.eq_ignore_ascii_case(b"HAVING")
+        || word.eq_ignore_ascii_case(b"LIMIT")
+}
+
+// What is meant by a word alone.
+#[tactic(auto, unfolding(crate::specs::Hints::spelled_hint))]
+fn spelled_hint(word: &[u8]) -> Option<Hint>
+    ensures { result ≡ hints.spelled_hint word.now }
+{
+    if word.eq_ignore_ascii_case(b"BETWEEN") {
+        return Some(Hint::Between);
+    }
+    if word.eq_ignore_ascii_case(b"LIKE") {
+        return Some(Hint::Pattern);
+    }
+    if word.eq_ignore_ascii_case(b"IS") {
+        return Some(Hint::Null);
+    }
+    if word.eq_ignore_ascii_case(b"NOT") {
+        return Some(Hint::Negation);
+    }
+    if word.eq_ignore_ascii_case(b"SHARED") {
+        return Some(Hint::Order);
+    }
+    if is_join(word) {
+        return Some(Hint::Join);
+    }
+    if is_clause(word) {
+        return Some(Hint::Clause);
+    }
+    None
+}
+
+// Whether a list ends at this word.
+#[tactic(auto, unfolding(crate::specs::Hints::ends_list))]
+fn ends_list(word: &[u8]) -> bool
+    ensures { result ≡ hints.ends_list word.now }
+{
+    word.eq_ignore_ascii_case(b"FROM") || word.eq_ignore_ascii_case(b"WHERE")
+}
+
+// What is meant by a reserved word, the byte before it, and what may stand there.
+#[tactic(auto, unfolding(crate::specs::Hints::reserved_hint))]
+fn reserved_hint(word: &[u8], before: u8, next: &[Candidate]) -> Option<Hint>
+    ensures { result ≡ hints.reserved_hint word.now before next.now }
+{
+    if word.eq_ignore_ascii_case(b"IN") && wants_comparison(next) {
+        return Some(Hint::Choice);
+    }
+    if word.eq_ignore_ascii_case(b"SELECT") && wants_create(next) {
+        return Some(Hint::BareQuery);
+    }
+    if word.eq_ignore_ascii_case(b"AS") && wants_comma(next) {
+        return Some(Hint::Alias);
+    }
+    if before == b',' && ends_list(word) {
+        return Some(Hint::CommaAtEnd);
+    }
+    if wants_name(next) {
+        Some(Hint::ReservedName)
+    } else {
+        None
+    }
+}
+
+// What is meant by a word that is not reserved, and what may stand there.
+fn other_hint(next: &[Candidate]) -> Option<Hint>
+    ensures { result ≡ hints.other_hint next.now }
+{
+    if wants_domain(next) {
+        Some(Hint::Typed)
+    } else if wants_where(next) {
+        Some(Hint::Alias)
+    } else {
+        None
+    }
+}
+
+// What is meant by a word that stands there, and what may stand there.
+fn placed_hint(word: &[u8], before: u8, next: &[Candidate]) -> Option<Hint>
+    ensures { result ≡ hints.placed_hint word.now before next.now }
+{
+    if word.is_empty() {
+        return None;
+    }
+    if key_of(word).is_some() {
+        reserved_hint(word, before, next)
+    } else {
+        other_hint(next)
+    }
+}
+
+// Whether a text ends with the word NOT behind a space.
+#[tactic(auto, unfolding(crate::specs::Hints::ends_with_not))]
+fn ends_with_not(text: &[u8]) -> bool
+    ensures { result ≡ hints.ends_with_not text.now }
+{
+    let end = text.split_at(text.len().saturating_sub(4)).1;
+    end.eq_ignore_ascii_case(b" NOT")
+}
+
+// Whether a column is missed behind NOT.
+fn is_negated(front: &[u8], next: &[Candidate]) -> bool
+    ensures { result ≡ hints.is_negated front.now next.now }
+{
+    wants_column(next) && ends_with_not(trim(front))
+}
+
+// What is meant by a word alone, or else by what may stand there.
+fn meant_by(word: &[u8], before: u8, next: &[Candidate]) -> Option<Hint>
+    ensures { result ≡ option_or (hints.spelled_hint word.now) (hints.placed_hint word.now before next.now) }
+{
+    if let Some(hint) = spelled_hint(word) {
+        return Some(hint);
+    }
+    placed_hint(word, before, next)
+}
+
+// What is meant by the word at the place, or none there, the byte before it, and what may stand there.
+fn word_hint(word: &[u8], before: u8, next: &[Candidate]) -> Option<Hint>
+    ensures { result ≡ hints.word_hint word.now before next.now }
 {
     if is_or(word) {
         return Some(Hint::Or);
@@ -146,10 +374,7 @@ fn word_hint(word: &[u8], next: &[Candidate]) -> Option<Hint>
     if wants_column(next) {
         return Some(Hint::BareColumn);
     }
-    if wants_name(next) && key_of(word).is_some() {
-        return Some(Hint::ReservedName);
-    }
-    None
+    meant_by(word, before, next)
 }
 
 // What is meant where a line begins with the name of a stream.
@@ -163,18 +388,30 @@ fn row_hint(front: &[u8], word: &[u8], catalog: &Catalog) -> Option<Hint>
     }
 }
 
+// What is meant, by signs, by the streams, and by words.
+fn placed_by(front: &[u8], rest: &[u8], next: &[Candidate], catalog: &Catalog) -> Option<Hint>
+    ensures { result ≡ hints.placed_by front.now rest.now next.now catalog.now }
+{
+    let word = split_word(rest).0;
+    let before = last_byte(trim(front));
+    if let Some(hint) = sign_hint(before, byte_at(rest, 0), byte_at(rest, 1), next) {
+        return Some(hint);
+    }
+    if let Some(hint) = row_hint(front, word, catalog) {
+        return Some(hint);
+    }
+    word_hint(word, before, next)
+}
+
 /// Returns what is meant, by what stands before the place and from there on, and by what may stand there.
 pub fn hint_of(front: &[u8], rest: &[u8], next: &[Candidate], catalog: &Catalog) -> Option<Hint>
     ensures { result ≡ hints.hint_of front.now rest.now next.now catalog.now }
 {
-    let word = split_word(rest).0;
-    if let Some(hint) = sign_hint(last_byte(front), byte_at(rest, 0), byte_at(rest, 1)) {
-        return Some(hint);
+    if is_negated(front, next) {
+        Some(Hint::Negation)
+    } else {
+        placed_by(front, rest, next, catalog)
     }
-    if let Some(hint) = word_hint(word, next) {
-        return Some(hint);
-    }
-    row_hint(front, word, catalog)
 }
 
 // Whether a byte is a sign of one byte, or the first of one of two.

@@ -1,12 +1,14 @@
 //! Lists of names and of candidates, as they are written.
 ghost use Rattle.std.specs.Prelude.{◌≡◌, ◌++◌, ◌≤◌, length, map, codes};
 ghost use Rattle.std.specs.List.{flat_map};
+ghost use Rattle.std.specs.Str.{str_eq_ignore_ascii_case};
 ghost use Rattle.bq_io.specs.Sink.{Writes};
 ghost use Rattle.bq_schema.specs.Streams.{column_names};
 ghost use Rattle.bq_diagnosis.specs.Candidates as told;
+ghost use Rattle.bq_sentences.specs.Sentences as sentences;
 ghost use Rattle.bq_sentences.specs.Sentences.{listed, name_text, there_are, stream_names, next_text};
 
-use crate::texts::{MAY_STAND, NOTHING_MAY, THERE_ARE, THERE_IS_NONE};
+use crate::texts::{ALIKE, MAY_STAND, NOTHING_MAY, THERE_ARE, THERE_IS_NONE};
 use arrayvec::ArrayVec;
 use bq_diagnosis::{Candidate, told_as};
 use bq_io::{Sink, WriteFault, write_all, write_pieces};
@@ -45,9 +47,9 @@ pub fn write_names<O: Sink>(out: &mut O, names: &[Name]) -> Result<(), WriteFaul
     }
 }
 
-/// Writes which names there are, or that there is none.
+// Which names there are, or that there is none.
 #[tactic(auto, using(crate::proofs::Writers::writes_after))]
-pub fn write_there_are<O: Sink>(out: &mut O, names: &[Name]) -> Result<(), WriteFault>
+fn write_there_are<O: Sink>(out: &mut O, names: &[Name]) -> Result<(), WriteFault>
     ensures { Writes result (O.seen out.old) (O.seen out.new) (there_are names.now) }
 {
     match names {
@@ -57,6 +59,59 @@ pub fn write_there_are<O: Sink>(out: &mut O, names: &[Name]) -> Result<(), Write
             write_names(out, names)
         }
     }
+}
+
+// Whether a name is a word but for the case of letters.
+fn is_alike(name: &Name, word: &[u8]) -> bool
+    ensures { result ≡ str_eq_ignore_ascii_case name.now word.now }
+{
+    name.bytes().eq_ignore_ascii_case(word)
+}
+
+// The first name that is the word but for the case of letters.
+fn alike(word: &[u8], names: &[Name]) -> Option<Name>
+    ensures { result ≡ sentences.alike word.now names.now }
+{
+    match names {
+        [] => None,
+        [first, others @ ..] => {
+            if is_alike(first, word) {
+                Some(*first)
+            } else {
+                alike(word, others)
+            }
+        }
+    }
+}
+
+// A name that a word may mean, where there is one.
+#[tactic(auto, unfolding(crate::specs::Sentences::around))]
+fn write_alike<O: Sink>(out: &mut O, meant: Option<Name>) -> Result<(), WriteFault>
+    ensures { Writes result (O.seen out.old) (O.seen out.new) (sentences.alike_text meant) }
+{
+    match meant {
+        None => Ok(()),
+        Some(name) => {
+            let pieces: [&[u8]; 3] = [ALIKE, name.bytes(), b""];
+            write_pieces(out, &pieces)
+        }
+    }
+}
+
+// The name among these that a word may mean, where there is one.
+fn write_meant<O: Sink>(out: &mut O, word: &[u8], names: &[Name]) -> Result<(), WriteFault>
+    ensures { Writes result (O.seen out.old) (O.seen out.new) (sentences.alike_text (sentences.alike word.now names.now)) }
+{
+    write_alike(out, alike(word, names))
+}
+
+/// Writes which names there are, or that there is none, and the one that a word may mean.
+#[tactic(auto, using(crate::proofs::Writers::writes_after))]
+pub fn write_there_like<O: Sink>(out: &mut O, word: &[u8], names: &[Name]) -> Result<(), WriteFault>
+    ensures { Writes result (O.seen out.old) (O.seen out.new) (sentences.there_are_like word.now names.now) }
+{
+    write_there_are(out, names)?;
+    write_meant(out, word, names)
 }
 
 // Each candidate behind a comma and a space.

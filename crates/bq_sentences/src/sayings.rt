@@ -1,18 +1,19 @@
 //! Sentences with a name or a number in them.
-ghost use Rattle.std.specs.Prelude.{◌≡◌, ◌≤◌, ◌++◌, [], length, decimal};
+ghost use Rattle.std.specs.Prelude.{◌≡◌, ◌≤◌, ◌+◌, ◌++◌, [], length, decimal};
 ghost use Rattle.bq_io.specs.Sink.{Writes};
-ghost use Rattle.bq_schema.specs.Streams.{shape_at, domain_at};
+ghost use Rattle.bq_text.specs.Word.{word_of};
+ghost use Rattle.bq_schema.specs.Streams.{column_at, shape_at, domain_at};
 ghost use Rattle.bq_parser.specs.Naming.{column_text};
 ghost use Rattle.bq_sentences.specs.Sentences as sentences;
 ghost use Rattle.bq_sentences.specs.declared.texts.TheConstants as words;
 
 use crate::field_texts::{field_at, field_text};
-use crate::lists::{names_of_columns, names_of_streams, write_names, write_there_are};
+use crate::lists::{names_of_columns, names_of_streams, write_names, write_there_like};
 use crate::texts;
 use bq_io::{Sink, WriteFault, write_all, write_pieces};
 use bq_parser::ColumnAst;
 use bq_schema::{Catalog, ColumnDef};
-use bq_text::Name;
+use bq_text::{Name, split_word};
 use itoa::Buffer;
 
 // The columns of the stream of a number, none where there is no such stream.
@@ -50,6 +51,18 @@ fn domain_of(catalog: &Catalog, stream: u8, column: u8) -> Option<(i64, i64)>
     }
 }
 
+// The name of a column of the stream of a number, nothing where there is none.
+fn column_name_of(catalog: &Catalog, stream: u8, column: u8) -> &[u8]
+    ensures { result.now ≡ column_at (shape_at catalog.now stream).columns column }
+{
+    let columns = columns_of(catalog, stream);
+    if usize::from(column) < columns.len() {
+        columns[usize::from(column)].name.bytes()
+    } else {
+        &[]
+    }
+}
+
 /// Writes a name between two texts.
 #[tactic(auto, unfolding(crate::specs::Sentences::around))]
 pub fn write_around<'a, O: Sink>(
@@ -64,7 +77,7 @@ pub fn write_around<'a, O: Sink>(
     write_pieces(out, &pieces)
 }
 
-/// Writes a name between two texts, and which names there are.
+/// Writes a name between two texts, which names there are, and the one that it may mean.
 #[tactic(auto, using(crate::proofs::Writers::writes_after))]
 pub fn write_around_names<'a, O: Sink>(
     out: &mut O,
@@ -73,20 +86,36 @@ pub fn write_around_names<'a, O: Sink>(
     tail: &'a [u8],
     names: &[Name],
 ) -> Result<(), WriteFault>
-    ensures { Writes result (O.seen out.old) (O.seen out.new) (sentences.around lead.now name.now tail.now ++ sentences.there_are names.now) }
+    ensures { Writes result (O.seen out.old) (O.seen out.new) (sentences.around lead.now name.now tail.now ++ sentences.there_are_like name.now names.now) }
 {
     write_around(out, lead, name, tail)?;
-    write_there_are(out, names)
+    write_there_like(out, name, names)
 }
 
-/// Writes a text, and which streams there are.
+// A text, which names there are, and the one that a word may mean.
 #[tactic(auto, using(crate::proofs::Writers::writes_after))]
-pub fn write_streams<O: Sink>(out: &mut O, lead: &[u8], catalog: &Catalog) -> Result<(), WriteFault>
-    ensures { Writes result (O.seen out.old) (O.seen out.new) (lead.now ++ sentences.there_are (sentences.stream_names catalog.now)) }
+fn write_streams<O: Sink>(
+    out: &mut O,
+    lead: &[u8],
+    word: &[u8],
+    names: &[Name],
+) -> Result<(), WriteFault>
+    ensures { Writes result (O.seen out.old) (O.seen out.new) (lead.now ++ sentences.there_are_like word.now names.now) }
+{
+    write_all(out, lead)?;
+    write_there_like(out, word, names)
+}
+
+/// Writes that a row line begins with the name of no stream, and which there are.
+pub fn write_row_stream<O: Sink>(
+    out: &mut O,
+    line: &[u8],
+    catalog: &Catalog,
+) -> Result<(), WriteFault>
+    ensures { Writes result (O.seen out.old) (O.seen out.new) (words.ROW_STREAM.now ++ sentences.there_are_like (word_of line.now) (sentences.stream_names catalog.now)) }
 {
     let names = names_of_streams(catalog);
-    write_all(out, lead)?;
-    write_there_are(out, names.as_slice())
+    write_streams(out, texts::ROW_STREAM, split_word(line).0, names.as_slice())
 }
 
 /// Writes that FROM names a stream that is not there, and which are.
@@ -95,7 +124,7 @@ pub fn write_no_stream<O: Sink>(
     name: &Name,
     catalog: &Catalog,
 ) -> Result<(), WriteFault>
-    ensures { Writes result (O.seen out.old) (O.seen out.new) (sentences.around words.NO_STREAM.now name.now words.NO_STREAM_TAIL.now ++ sentences.there_are (sentences.stream_names catalog.now)) }
+    ensures { Writes result (O.seen out.old) (O.seen out.new) (sentences.around words.NO_STREAM.now name.now words.NO_STREAM_TAIL.now ++ sentences.there_are_like name.now (sentences.stream_names catalog.now)) }
 {
     let names = names_of_streams(catalog);
     write_around_names(
@@ -127,7 +156,14 @@ pub fn write_column<'a, O: Sink>(
     write_pieces(out, &pieces)
 }
 
-// A column between two texts, and which names there are.
+// Which names there are, and the one that a name may mean.
+fn write_there_named<O: Sink>(out: &mut O, name: &Name, names: &[Name]) -> Result<(), WriteFault>
+    ensures { Writes result (O.seen out.old) (O.seen out.new) (sentences.there_are_like name.now names.now) }
+{
+    write_there_like(out, name.bytes(), names)
+}
+
+// A column between two texts, which names there are, and the one that its name may mean.
 #[tactic(auto, using(crate::proofs::Writers::writes_after))]
 fn write_column_names<'a, O: Sink>(
     out: &mut O,
@@ -136,10 +172,10 @@ fn write_column_names<'a, O: Sink>(
     tail: &'a [u8],
     names: &[Name],
 ) -> Result<(), WriteFault>
-    ensures { Writes result (O.seen out.old) (O.seen out.new) (sentences.around lead.now (column_text column.now) tail.now ++ sentences.there_are names.now) }
+    ensures { Writes result (O.seen out.old) (O.seen out.new) (sentences.around lead.now (column_text column.now) tail.now ++ sentences.there_are_like column.now.column names.now) }
 {
     write_column(out, lead, column, tail)?;
-    write_there_are(out, names)
+    write_there_named(out, &column.column, names)
 }
 
 /// Writes that a column is none of its stream, and which are.
@@ -265,13 +301,45 @@ fn write_ends<O: Sink>(out: &mut O, domain: Option<(i64, i64)>) -> Result<(), Wr
     }
 }
 
-// That a field, by its number from 0, lies outside a domain.
-fn write_outside<O: Sink>(out: &mut O, field: u8) -> Result<(), WriteFault>
-    ensures { Writes result (O.seen out.old) (O.seen out.new) (sentences.outside_text field) }
+// That a field, by its number from 1, its stream and its column, lies outside a domain.
+#[tactic(auto, unfolding(crate::specs::Sentences::outside_text))]
+fn write_pieces_outside<'a, O: Sink>(
+    out: &mut O,
+    number: &'a [u8],
+    name: &'a [u8],
+    column: &'a [u8],
+) -> Result<(), WriteFault>
+    ensures { Writes result (O.seen out.old) (O.seen out.new) (sentences.outside_text number.now name.now column.now) }
+{
+    let pieces: [&[u8]; 7] = [
+        texts::FIELD,
+        number,
+        texts::FIELD_OF,
+        name,
+        texts::POINT,
+        column,
+        texts::FIELD_OUTSIDE,
+    ];
+    write_pieces(out, &pieces)
+}
+
+// That a field of a row of a stream, by its number from 0, lies outside a domain.
+fn write_outside<O: Sink>(
+    out: &mut O,
+    stream: u8,
+    field: u8,
+    catalog: &Catalog,
+) -> Result<(), WriteFault>
+    ensures { Writes result (O.seen out.old) (O.seen out.new) (sentences.outside_text (decimal (field + 1)) (shape_at catalog.now stream).name (column_at (shape_at catalog.now stream).columns field)) }
 {
     let mut buffer = Buffer::new();
     let number = buffer.format(u16::from(field) + 1).as_bytes();
-    write_around(out, texts::FIELD, number, texts::FIELD_OUTSIDE)
+    write_pieces_outside(
+        out,
+        number,
+        name_of(catalog, stream),
+        column_name_of(catalog, stream, field),
+    )
 }
 
 /// Writes that the value of a field of a row of a stream lies outside the domain of its column.
@@ -282,8 +350,27 @@ pub fn write_domain<O: Sink>(
     field: u8,
     catalog: &Catalog,
 ) -> Result<(), WriteFault>
-    ensures { Writes result (O.seen out.old) (O.seen out.new) (sentences.domain_text field (domain_at catalog.now stream field)) }
+    ensures { Writes result (O.seen out.old) (O.seen out.new) (sentences.domain_text stream field catalog.now) }
 {
-    write_outside(out, field)?;
+    write_outside(out, stream, field, catalog)?;
     write_ends(out, domain_of(catalog, stream, field))
+}
+
+// A text, or another where it is empty.
+fn or_text<'a>(text: &'a [u8], other: &'a [u8]) -> &'a [u8]
+    ensures { result.now ≡ sentences.or_text text.now other.now }
+{
+    if text.is_empty() { other } else { text }
+}
+
+/// Writes an example of a column: the first of the first stream, where there is one.
+pub fn write_example<O: Sink>(out: &mut O, catalog: &Catalog) -> Result<(), WriteFault>
+    ensures { Writes result (O.seen out.old) (O.seen out.new) (sentences.example_text catalog.now) }
+{
+    write_around(
+        out,
+        or_text(name_of(catalog, 0), texts::STREAM_EXAMPLE),
+        texts::POINT,
+        or_text(column_name_of(catalog, 0, 0), texts::COLUMN_EXAMPLE),
+    )
 }

@@ -7,18 +7,19 @@ ghost use Rattle.bq_sentences.specs.Sentences as sentences;
 use crate::hints::{Hint, Standing, hint_of, standing_of};
 use crate::lists::write_may_stand;
 use crate::sayings::{
-    write_arity, write_around, write_around_names, write_column, write_domain, write_long_name,
-    write_no_column, write_no_stream, write_streams, write_value,
+    write_arity, write_around, write_around_names, write_column, write_domain, write_example,
+    write_long_name, write_no_column, write_no_stream, write_row_stream, write_value,
 };
 use crate::texts;
 use bq_diagnosis::{Candidate, Fault, Known, front_of, rest_of};
 use bq_io::{Sink, WriteFault, write_all};
 use bq_parser::What;
 use bq_schema::Catalog;
+use itoa::Buffer;
 
-// The sentence of a limit.
-fn limit_text(what: What) -> &'static [u8]
-    ensures { result.now ≡ sentences.limit_text what }
+// What is said of a limit before the number that is found.
+fn limit_lead(what: What) -> &'static [u8]
+    ensures { result.now ≡ sentences.limit_lead what }
 {
     match what {
         What::Name => texts::LIMIT_NAME,
@@ -32,6 +33,34 @@ fn limit_text(what: What) -> &'static [u8]
         What::Consts => texts::LIMIT_CONSTS,
         What::Domain => texts::LIMIT_DOMAIN,
         What::Tuple => texts::LIMIT_TUPLE,
+    }
+}
+
+// What is said of a limit behind the number that is found.
+fn limit_tail(what: What) -> &'static [u8]
+    ensures { result.now ≡ sentences.limit_tail what }
+{
+    match what {
+        What::Soft => texts::LIMIT_SOFT_TAIL,
+        _ => b"",
+    }
+}
+
+// The sentence of a limit, with the number that is found where there is one.
+fn write_limit<O: Sink>(out: &mut O, what: What, found: Option<u16>) -> Result<(), WriteFault>
+    ensures { Writes result (O.seen out.old) (O.seen out.new) (sentences.limit_text what found) }
+{
+    match found {
+        None => write_around(out, limit_lead(what), b"", limit_tail(what)),
+        Some(number) => {
+            let mut buffer = Buffer::new();
+            write_around(
+                out,
+                limit_lead(what),
+                buffer.format(number).as_bytes(),
+                limit_tail(what),
+            )
+        }
     }
 }
 
@@ -52,7 +81,52 @@ fn hint_text(hint: Hint) -> &'static [u8]
         Hint::BareColumn => texts::HINT_BARE_COLUMN,
         Hint::ReservedName => texts::HINT_RESERVED,
         Hint::BareRow => texts::HINT_BARE_ROW,
+        Hint::Comment => texts::HINT_COMMENT,
+        Hint::Interval => texts::HINT_INTERVAL,
+        Hint::Arithmetic => texts::HINT_ARITHMETIC,
+        Hint::Hyphen => texts::HINT_HYPHEN,
+        Hint::CommaAtEnd => texts::HINT_COMMA_AT_END,
+        Hint::Function => texts::HINT_FUNCTION,
+        Hint::Parenthesis => texts::HINT_PARENTHESIS,
+        Hint::Negation => texts::HINT_NEGATION,
+        Hint::Between => texts::HINT_BETWEEN,
+        Hint::Pattern => texts::HINT_PATTERN,
+        Hint::Null => texts::HINT_NULL,
+        Hint::Order => texts::HINT_ORDER,
+        Hint::Join => texts::HINT_JOIN,
+        Hint::Clause => texts::HINT_CLAUSE,
+        Hint::Choice => texts::HINT_CHOICE,
+        Hint::BareQuery => texts::HINT_BARE_QUERY,
+        Hint::Alias => texts::HINT_ALIAS,
+        Hint::Typed => texts::HINT_TYPE,
     }
+}
+
+// Whether an example of a column stands behind a hint.
+fn is_bare_column(hint: Hint) -> bool
+    ensures { result ≡ sentences.is_bare_column hint }
+{
+    matches!(hint, Hint::BareColumn)
+}
+
+// An example of a column, where one stands behind a hint.
+fn write_example_for<O: Sink>(out: &mut O, hint: Hint, catalog: &Catalog) -> Result<(), WriteFault>
+    ensures { Writes result (O.seen out.old) (O.seen out.new) (sentences.example_for (sentences.is_bare_column hint) catalog.now) }
+{
+    if is_bare_column(hint) {
+        write_example(out, catalog)
+    } else {
+        Ok(())
+    }
+}
+
+// What is meant, with an example where one stands behind it.
+#[tactic(auto, using(crate::proofs::Writers::writes_after))]
+fn write_hint<O: Sink>(out: &mut O, hint: Hint, catalog: &Catalog) -> Result<(), WriteFault>
+    ensures { Writes result (O.seen out.old) (O.seen out.new) (sentences.hint_sentence hint catalog.now) }
+{
+    write_all(out, hint_text(hint))?;
+    write_example_for(out, hint, catalog)
 }
 
 // The sentence of what stands at a place.
@@ -90,7 +164,7 @@ fn write_syntax<O: Sink>(
 {
     let rest = rest_of(text, at);
     match hint_of(front_of(text, at), rest, next, catalog) {
-        Some(hint) => write_all(out, hint_text(hint)),
+        Some(hint) => write_hint(out, hint, catalog),
         None => write_standing(out, rest, next),
     }
 }
@@ -159,7 +233,7 @@ fn write_row_sentence<O: Sink>(
     match fault {
         Fault::RowKey => write_all(out, texts::ROW_KEY),
         Fault::RowName { bytes } => write_long_name(out, *bytes),
-        Fault::RowStream => write_streams(out, texts::ROW_STREAM, catalog),
+        Fault::RowStream => write_row_stream(out, text, catalog),
         Fault::Arity {
             stream,
             wanted,
@@ -184,7 +258,7 @@ pub fn write_sentence<O: Sink>(
     match fault {
         Fault::LineTooLong => write_all(out, texts::LONG_LINE),
         Fault::Syntax { at, next } => write_syntax(out, text, *at, next.as_slice(), known.catalog),
-        Fault::Limit { what } => write_all(out, limit_text(*what)),
+        Fault::Limit { what, found } => write_limit(out, *what, *found),
         Fault::TooManyStreams => write_all(out, texts::MANY_STREAMS),
         Fault::TooManyQueries => write_all(out, texts::MANY_QUERIES),
         Fault::RowKey

@@ -41,6 +41,8 @@ pub const NO_QUERY_TAIL: &[u8] = b"; ";
 
 pub const THERE_ARE: &[u8] = b"there are: ";
 
+pub const ALIKE: &[u8] = b"; the case of letters counts: write ";
+
 pub const THERE_IS_NONE: &[u8] = b"there is none";
 
 pub const ROW_KEY: &[u8] = b"a row begins with the name of its stream, and this word is reserved";
@@ -72,22 +74,25 @@ pub const FIELD_WORD: &[u8] =
 pub const FIELD_OTHER: &[u8] =
     b" is no integer of 64 bits, from -9223372036854775808 to 9223372036854775807";
 
-pub const FIELD_OUTSIDE: &[u8] = b" lies outside the domain of its column, ";
+pub const FIELD_OF: &[u8] = b", ";
+
+pub const FIELD_OUTSIDE: &[u8] = b", lies outside ";
 
 pub const POINTS: &[u8] = b"..";
 
-pub const LIMIT_NAME: &[u8] = b"a name has at most 24 bytes, and one here has more";
+pub const LIMIT_NAME: &[u8] = b"a name has at most 24 bytes, and this has ";
 
-pub const LIMIT_COLUMNS: &[u8] = b"a stream has at most 8 columns, and this has more";
+pub const LIMIT_COLUMNS: &[u8] = b"a stream has at most 8 columns, and this has ";
 
-pub const LIMIT_SELECT: &[u8] = b"a query selects at most 8 columns, and this selects more";
+pub const LIMIT_SELECT: &[u8] = b"a query selects at most 8 columns, and this selects ";
 
-pub const LIMIT_FROM: &[u8] = b"FROM names at most 4 streams, and here it names more";
+pub const LIMIT_FROM: &[u8] = b"FROM names at most 4 streams, and here it names ";
 
-pub const LIMIT_ATOMS: &[u8] = b"WHERE has at most 16 comparisons, and here it has more";
+pub const LIMIT_ATOMS: &[u8] = b"a query has at most 16 comparisons, and this has ";
 
-pub const LIMIT_SOFT: &[u8] =
-    b"at most 8 comparisons have <=, >= or <>, and here more have: write a < 6 for a <= 5, and a > 4 for a >= 5";
+pub const LIMIT_SOFT: &[u8] = b"a query has at most 8 comparisons with <=, >= or <>, and this has ";
+
+pub const LIMIT_SOFT_TAIL: &[u8] = b": write a < 6 for a <= 5, and a > 4 for a >= 5";
 
 pub const LIMIT_ATTRS: &[u8] =
     b"the comparisons name at most 12 different columns, and here they name more";
@@ -96,12 +101,12 @@ pub const LIMIT_VALUE: &[u8] =
     b"an integer has at most 15 digits, and one of a line of a checkpoint at most 64 bits; one here has more";
 
 pub const LIMIT_CONSTS: &[u8] =
-    b"the comparisons name at most 6 different integers, and here they name more";
+    b"the comparisons name at most 6 different integers, and here they name ";
 
 pub const LIMIT_DOMAIN: &[u8] =
     b"the first integer of a domain is at most the second, and here one is greater: exchange the two";
 
-pub const LIMIT_TUPLE: &[u8] = b"a tuple has at most 8 integers, and this has more";
+pub const LIMIT_TUPLE: &[u8] = b"a tuple has at most 8 integers, and this has ";
 
 pub const HINT_BOM: &[u8] =
     b"a byte order mark stands here, which many editors do not show: save the file without one";
@@ -124,13 +129,67 @@ pub const HINT_DECIMAL: &[u8] =
 pub const HINT_OR: &[u8] =
     b"comparisons are joined by AND alone: create a query for each side of OR";
 
-pub const HINT_BARE_COLUMN: &[u8] = b"a column is written with its stream, as Host.id";
+pub const HINT_BARE_COLUMN: &[u8] = b"a column is written with its stream, as ";
+
+pub const STREAM_EXAMPLE: &[u8] = b"Stream";
+
+pub const COLUMN_EXAMPLE: &[u8] = b"column";
+
+pub const POINT: &[u8] = b".";
 
 pub const HINT_RESERVED: &[u8] =
     b"this word is reserved, and no name: take another, as one with _ behind it";
 
 pub const HINT_BARE_ROW: &[u8] =
-    b"a row has commas between its stream and its integers, as Host,1,2";
+    b"a row has commas between its stream and its integers, as Stream,1,2";
+
+pub const HINT_COMMENT: &[u8] = b"a comment stands on a line of its own, which begins with --";
+
+pub const HINT_INTERVAL: &[u8] =
+    b"a domain has two points between its first and its last integer, as IN 1..39";
+
+pub const HINT_ARITHMETIC: &[u8] =
+    b"there is no arithmetic: a comparison has a column or an integer on each side";
+
+pub const HINT_HYPHEN: &[u8] = b"a name has letters, digits and _ alone";
+
+pub const HINT_COMMA_AT_END: &[u8] =
+    b"a comma stands before this, and nothing between them: leave the comma out";
+
+pub const HINT_FUNCTION: &[u8] =
+    b"there are no functions as COUNT, SUM or MAX: a query answers with columns of its rows";
+
+pub const HINT_PARENTHESIS: &[u8] =
+    b"comparisons stand without parentheses, and with AND between them";
+
+pub const HINT_NEGATION: &[u8] =
+    b"there is no NOT: turn the comparison around, as >= for what is not <";
+
+pub const HINT_BETWEEN: &[u8] =
+    b"BETWEEN is written as two comparisons with AND between them, one for each end";
+
+pub const HINT_PATTERN: &[u8] = b"there is no LIKE: each value is an integer";
+
+pub const HINT_NULL: &[u8] = b"there is no NULL: a row has an integer for each column";
+
+pub const HINT_ORDER: &[u8] = b"SHARED stands behind CREATE, and before COMPACT and QUERY";
+
+pub const HINT_JOIN: &[u8] =
+    b"streams are joined by FROM with a comma between them, and by comparisons behind WHERE";
+
+pub const HINT_CLAUSE: &[u8] =
+    b"a query ends with its comparisons: answers have no order, no groups and no bound on their number";
+
+pub const HINT_CHOICE: &[u8] =
+    b"IN gives a column of a stream its domain: create a query for each value";
+
+pub const HINT_BARE_QUERY: &[u8] =
+    b"a query has a name: write CREATE QUERY, its name and AS before SELECT";
+
+pub const HINT_ALIAS: &[u8] = b"streams and columns have one name each: leave the other name out";
+
+pub const HINT_TYPE: &[u8] =
+    b"a column has no type, since each value is an integer: write its name alone, or a domain as IN 1..39 behind it";
 
 pub const STANDS_END: &[u8] = b"the line ends here";
 
@@ -144,6 +203,6 @@ pub const STANDS_SIGN: &[u8] = b"a sign stands here";
 
 pub const STANDS_STRANGE: &[u8] = b"a byte stands here that begins no word, integer or sign";
 
-pub const MAY_STAND: &[u8] = b", where may stand: ";
+pub const MAY_STAND: &[u8] = b", here may stand: ";
 
 pub const NOTHING_MAY: &[u8] = b", where the statement has ended";

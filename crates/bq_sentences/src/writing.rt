@@ -8,7 +8,7 @@ ghost use Rattle.bq_sentences.specs.Texts.{fault_text};
 
 use crate::sentences::write_sentence;
 use crate::shown::{write_mark, write_quoted};
-use bq_diagnosis::{Fault, Known, front_of, word_of};
+use bq_diagnosis::{Fault, Known, front_of, place_of, word_of};
 use bq_io::{Sink, WriteFault, write_all, write_pieces};
 use bq_parser::classify;
 use bq_reply::Word;
@@ -50,17 +50,6 @@ fn write_head<O: Sink>(out: &mut O, number: u64, word: Word) -> Result<(), Write
     write_pieces(out, &pieces)
 }
 
-// The place of a fault in its line.
-fn place_of(fault: &Fault) -> Option<u16>
-    ensures { result ≡ specs.place_of fault.now }
-{
-    match fault {
-        Fault::Syntax { at, .. } => Some(*at),
-        Fault::RowKey | Fault::RowName { .. } | Fault::RowStream => Some(0),
-        _ => None,
-    }
-}
-
 // The mark below a place, where the place is shown.
 fn write_mark_at<O: Sink>(out: &mut O, text: &[u8], place: Option<u16>) -> Result<(), WriteFault>
     ensures { Writes result (O.seen out.old) (O.seen out.new) (specs.mark_text text.now place) }
@@ -93,7 +82,7 @@ fn write_shown<O: Sink>(out: &mut O, text: &[u8], fault: &Fault) -> Result<(), W
 {
     match fault {
         Fault::LineTooLong => Ok(()),
-        _ => write_marked(out, text, place_of(fault)),
+        _ => write_marked(out, text, place_of(text, fault)),
     }
 }
 
@@ -148,7 +137,7 @@ fn write_placed<O: Sink>(
 ) -> Result<(), WriteFault>
     ensures { Writes result (O.seen out.old) (O.seen out.new) (specs.placed_text text.now fault.now known.now.catalog.now known.now.live.now) }
 {
-    write_place(out, place_of(fault))?;
+    write_place(out, place_of(text, fault))?;
     write_ended(out, text, fault, known)
 }
 

@@ -1,6 +1,6 @@
 use Rattle.bq_print.proofs.WritesBehind.{stops_at_item}
 use Rattle.bq_explain.proofs.Writers.{read_wrote}
-use Rattle.bq_advice.specs.Mends.{bounds_line}
+use Rattle.bq_advice_lines.specs.Items.{bounds_line}
 use Rattle.bq_advice.proofs.mends.write_all_bounds.Goals as goal
 
 pub returns-in-Err : goal.returns-in-Err

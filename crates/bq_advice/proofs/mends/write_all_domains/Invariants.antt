@@ -1,7 +1,7 @@
 use Rattle.std.proofs.Common.{take}
 use Rattle.bq_io.specs.Sink.{Wrote}
 use Rattle.std.specs.List.{flat_map}
-use Rattle.bq_advice.specs.Mends.{domains_line}
+use Rattle.bq_advice_lines.specs.Items.{domains_line}
 use Rattle.bq_advice.proofs.mends.write_all_domains.Given as goal
 
 -- the lines so far were written

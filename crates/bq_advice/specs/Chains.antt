@@ -1,0 +1,27 @@
+-- What is said of the order of a part.
+use Rattle.std.specs.Prelude.{ℕ, Bool, if◌then◌else◌, List, [], ◌∷◌, ◌++◌, codes}
+use Rattle.bq_schema.specs.Streams.{Shape}
+use Rattle.bq_chains.specs.declared.chains.Step.{Step}
+use Rattle.bq_chains.specs.declared.chains.Chain.{Chain}
+use Rattle.bq_advice_lines.specs.Lines.{part_head}
+use Rattle.bq_advice_lines.specs.Items.{behind, headed}
+
+-- what stands between an element and the one before it
+abbrev pub sign_text : Bool → List ℕ
+sign_text equal = if equal then codes " = " else codes " < "
+
+-- the first element
+abbrev pub first_step : List Shape → List ℕ → Step → List ℕ
+first_step streams from step = behind streams from (codes " ") step.element
+
+-- an element behind the one before it
+abbrev pub next_step : List Shape → List ℕ → Step → List ℕ
+next_step streams from step = behind streams from (sign_text step.equal) step.element
+
+-- the elements in ascending order, as ` 0 < S.a = S.b < 9`
+abbrev pub steps_text : List Shape → List ℕ → List Step → List ℕ
+steps_text streams from steps = headed (first_step streams from) (next_step streams from) steps
+
+-- a chain of a part, as `  part 23 has 0 < S.a = S.b < 9`
+abbrev pub chain_line : List Shape → List ℕ → ℕ → Chain → List ℕ
+chain_line streams from part chain = part_head part ++ (steps_text streams from chain.steps.items ++ 10 ∷ [])

@@ -1,0 +1,10 @@
+use Rattle.bq_print.proofs.WritesBehind.{writes_then, writes_stop}
+use Rattle.bq_advice_lines.specs.Items.{first_range, next_range}
+use Rattle.bq_advice_lines.proofs.Texts.{headed_item}
+use Rattle.bq_advice_lines.proofs.ranges.write_ranges.Goals as goal
+
+pub returns-in-Ok : goal.returns-in-Ok
+returns-in-Ok g c = writes_then c.write_more_ranges.result _ _ _ _ _ _ (headed_item (first_range c.args.catalog.now c.args.from.now) (next_range c.args.catalog.now c.args.from.now) c.args.dims.now _ c.in-len1-up.len_at_least) c.in-Ok.ensures c.write_more_ranges.ensures
+
+pub returns-in-Err : goal.returns-in-Err
+returns-in-Err g c = writes_stop _ _ _ _ _ (headed_item (first_range c.args.catalog.now c.args.from.now) (next_range c.args.catalog.now c.args.from.now) c.args.dims.now _ c.in-len1-up.len_at_least) c.in-Err.ensures

@@ -1,0 +1,92 @@
+-- The lines and the pieces of lines that tell names and numbers, each by its pieces.
+use Rattle.std.specs.Prelude.{ℕ, nat_eq, Bool, true, false, if◌then◌else◌, List, [], ◌∷◌, ◌++◌, codes, decimal}
+use Rattle.bq_model.specs.declared.condition.Condition.{Condition}
+use Rattle.bq_model.specs.declared.condition.Condition.TheVariants.{C1, C2, C3}
+use Rattle.bq_model.specs.declared.atom.Op.{Op}
+use Rattle.bq_model.specs.declared.atom.Op.TheVariants as op
+use Rattle.bq_model.specs.declared.decision.Which.{Which}
+use Rattle.bq_model.specs.declared.plan.Numbers.{Numbers}
+use Rattle.bq_model.specs.Verdict.{most}
+use Rattle.bq_parser.specs.declared.tree.ColumnAst.{ColumnAst}
+use Rattle.bq_reply.specs.Texts.{condition_text, which_text}
+
+-- some pieces, one behind another
+abbrev pub text_of : List (List ℕ) → List ℕ
+text_of [] = []
+text_of (piece ∷ others) = piece ++ text_of others
+
+-- the four numbers of a query behind its name, or behind a change, and the end of the line
+unfoldable pub numbers_text : Numbers → List ℕ
+numbers_text n = text_of (codes ": parts " ∷ decimal n.parts ∷ codes " cells " ∷ decimal n.cells ∷ codes " answers " ∷ decimal n.answers ∷ codes " work " ∷ decimal n.work ∷ codes "\n" ∷ [])
+
+-- the query of a line, as `line 5: query wide`, and what is said of it
+unfoldable pub query_line : ℕ → List ℕ → List ℕ → List ℕ
+query_line number name behind = text_of (codes "line " ∷ decimal number ∷ codes ": query " ∷ name ∷ behind ∷ [])
+
+-- a query whose pages are not free
+unfoldable pub pool_line : ℕ → List ℕ → ℕ → ℕ → List ℕ
+pool_line number name needed free =
+    text_of (codes "line " ∷ decimal number ∷ codes ": query " ∷ name ∷ codes " is refused: pages " ∷ decimal needed ∷ codes " of " ∷ decimal free ∷ codes " that are free\n" ∷ [])
+
+-- a query of which a number is above its limit
+unfoldable pub above_line : ℕ → List ℕ → Which → ℕ → List ℕ
+above_line number name which value =
+    text_of (codes "line " ∷ decimal number ∷ codes ": query " ∷ name ∷ codes " is refused: " ∷ which_text which ∷ codes " " ∷ decimal value ∷ codes " of " ∷ decimal (most which) ∷ codes "\n" ∷ [])
+
+-- why a column breaks a condition, by whether an answer counts once
+abbrev pub reason_text : Bool → Condition → List ℕ
+reason_text true C1 = codes " is selected and nothing bounds it\n"
+reason_text true C2 = codes " equals a column of another stream and nothing bounds it\n"
+reason_text true C3 = codes " is one unbounded column too many: of each stream one may be compared with other streams, and on one side\n"
+reason_text false C1 = codes " is selected and nothing bounds it\n"
+reason_text false C2 = codes " equals a column of another stream and nothing bounds it\n"
+reason_text false C3 = codes " is compared with a column of another stream and nothing bounds it\n"
+
+-- a query that breaks a condition first in this part and at this column
+unfoldable pub violation_line : ℕ → List ℕ → ℕ → Bool → Condition → ColumnAst → List ℕ
+violation_line number name part distinct condition c =
+    text_of (codes "line " ∷ decimal number ∷ codes ": query " ∷ name ∷ codes " is refused: " ∷ condition_text condition ∷ codes " in part " ∷ decimal part ∷ codes ", " ∷ c.stream ∷ codes "." ∷ c.column ∷ reason_text distinct condition ∷ [])
+
+-- a comparison between two spaces
+abbrev pub op_text : Op → List ℕ
+op_text op.Lt = codes " < "
+op_text op.Eq = codes " = "
+op_text op.Gt = codes " > "
+op_text op.Le = codes " <= "
+op_text op.Ge = codes " >= "
+op_text op.Ne = codes " <> "
+
+-- a change that has a name
+unfoldable pub change_head : List ℕ → List ℕ
+change_head change = text_of (codes "  with " ∷ change ∷ [])
+
+-- a column between two integers
+unfoldable pub bounds_item : ColumnAst → List ℕ
+bounds_item c = text_of (codes " AND " ∷ c.stream ∷ codes "." ∷ c.column ∷ codes " > LO AND " ∷ c.stream ∷ codes "." ∷ c.column ∷ codes " < HI" ∷ [])
+
+-- a column in a domain
+unfoldable pub domain_item : ColumnAst → List ℕ
+domain_item c = text_of (codes " " ∷ c.stream ∷ codes "." ∷ c.column ∷ codes " IN LO..HI" ∷ [])
+
+-- that a part has the elements that follow, as `  part 23 has`
+unfoldable pub part_head : ℕ → List ℕ
+part_head part = text_of (codes "  part " ∷ decimal part ∷ codes " has" ∷ [])
+
+-- what stands behind a number of cells
+abbrev pub cells_text : ℕ → List ℕ
+cells_text cells = if nat_eq cells 1 then codes " cell: " else codes " cells: "
+
+-- how many cells a part keeps, and of which stream so many of them are: all, as `  part 5 keeps 1369 cells: Temp`, or as `  part 5 keeps 2738 cells, 1369 of them of Temp`
+unfoldable pub kept_head : ℕ → ℕ → ℕ → List ℕ → List ℕ
+kept_head part cells kept stream =
+    if nat_eq cells kept
+    then text_of (codes "  part " ∷ decimal part ∷ codes " keeps " ∷ decimal cells ∷ cells_text cells ∷ stream ∷ [])
+    else text_of (codes "  part " ∷ decimal part ∷ codes " keeps " ∷ decimal cells ∷ codes " cells, " ∷ decimal kept ∷ codes " of them of " ∷ stream ∷ [])
+
+-- a column with its least and greatest value, by their texts, behind a text
+unfoldable pub range_text : List ℕ → ColumnAst → List ℕ → List ℕ → List ℕ
+range_text lead c lo hi = text_of (lead ∷ c.stream ∷ codes "." ∷ c.column ∷ codes " " ∷ lo ∷ codes ".." ∷ hi ∷ [])
+
+-- a text where it is due
+abbrev pub text_if : Bool → List ℕ → List ℕ
+text_if due text = if due then text else []

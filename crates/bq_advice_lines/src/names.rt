@@ -1,0 +1,67 @@
+//! Names of streams and columns, as bytes.
+ghost use Rattle.std.specs.Prelude.{◌≡◌, slice_index};
+ghost use Rattle.bq_schema.specs.Streams.{shape_at, column_at};
+ghost use Rattle.bq_parser.specs.Resolution.{stream_named};
+ghost use Rattle.bq_parser.specs.Resolution as resolution;
+
+use bq_model::Attr;
+use bq_schema::Catalog;
+
+/// A column by its names.
+#[derive(Clone, Copy)]
+pub struct Named<'a> {
+    pub stream: &'a [u8],
+    pub column: &'a [u8],
+}
+
+// The number of the stream at a place of FROM, and 0 where there is none.
+fn number_at(from: &[u8], place: u8) -> u8
+    ensures { result ≡ slice_index from.now place }
+{
+    match from.get(usize::from(place)) {
+        Some(number) => *number,
+        None => 0,
+    }
+}
+
+// The name of the stream of a number, and nothing where there is none.
+fn stream_name(catalog: &Catalog, number: u8) -> &[u8]
+    ensures { result.now ≡ stream_named catalog.now number }
+{
+    if number < catalog.len() {
+        catalog.stream_name(number).bytes()
+    } else {
+        b""
+    }
+}
+
+// The name of a column of the stream of a number, and nothing where there is none.
+fn column_name(catalog: &Catalog, number: u8, column: u8) -> &[u8]
+    ensures { result.now ≡ column_at (shape_at catalog.now number).columns column }
+{
+    if number < catalog.len() {
+        if column < catalog.width(number) {
+            return catalog.column_name(number, column).bytes();
+        }
+    }
+    b""
+}
+
+/// Returns the name of the stream at a place of FROM, and nothing where there is none.
+pub fn stream_at<'a>(place: u8, from: &[u8], catalog: &'a Catalog) -> &'a [u8]
+    ensures { result.now ≡ stream_named catalog.now (slice_index from.now place) }
+{
+    stream_name(catalog, number_at(from, place))
+}
+
+/// Returns a column of a query over these streams of FROM by its names, and nothing for a name that is not there.
+pub fn names_of<'a>(attr: Attr, from: &[u8], catalog: &'a Catalog) -> Named<'a>
+    ensures stream { result.stream.now ≡ (resolution.column_named catalog.now from.now attr).stream }
+    ensures column { result.column.now ≡ (resolution.column_named catalog.now from.now attr).column }
+{
+    let number = number_at(from, attr.stream);
+    Named {
+        stream: stream_name(catalog, number),
+        column: column_name(catalog, number, attr.column),
+    }
+}

@@ -1,0 +1,8 @@
+//! Laws of the definitions, as public functions without a body: the clause is the law.
+ghost use Rattle.bq_agreement.specs.Laws.{FindsAnswers};
+
+/// What a line asks for over the streams and the live queries of a session is what it asks the session for; a line with a fault is refused by the
+/// word of the fault.
+pub fn finds_answers()
+    ensures { FindsAnswers }
+{}

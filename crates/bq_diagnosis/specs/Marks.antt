@@ -1,0 +1,129 @@
+-- The place of a fault in its text, below which a mark stands.
+use Rattle.std.specs.Prelude.{ℕ, zero, suc, ◌+◌, ◌-◌, ◌==◌, Bool, true, false, ◌&&◌, List, [], ◌∷◌, length, nat_lt, slice_range, if◌then◌else◌, Option, Some, None, Result, Ok, Err}
+use Rattle.std.specs.Str.{bytes_eq}
+use Rattle.bq_text.specs.Blank.{without_blanks_before}
+use Rattle.bq_text.specs.declared.key.Key.TheVariants as keys
+use Rattle.bq_lexer.specs.declared.token.TokenKind.{TokenKind}
+use Rattle.bq_lexer.specs.declared.token.TokenKind.TheVariants as kinds
+use Rattle.bq_lexer.specs.declared.token.Token.{Token}
+use Rattle.bq_lexer.specs.Tokens.{tokens}
+use Rattle.bq_parser.specs.declared.tree.ColumnAst.{ColumnAst}
+use Rattle.bq_parser.specs.declared.parsing.What.{What}
+use Rattle.bq_parser.specs.declared.parsing.What.TheVariants as limits
+use Rattle.bq_parser.specs.DraftLimits.{is_long_token}
+use Rattle.bq_diagnosis.specs.declared.fault.Fault.{Fault}
+use Rattle.bq_diagnosis.specs.declared.fault.Fault.TheVariants as faults
+use Rattle.bq_diagnosis.specs.declared.marks.Anchor.{Anchor}
+use Rattle.bq_diagnosis.specs.declared.marks.Anchor.TheVariants as anchors
+
+-- whether a token is these bytes
+abbrev pub is_piece : List ℕ → Token → List ℕ → Bool
+is_piece line t name = bytes_eq (slice_range line t.from t.to) name
+
+-- where the first of these tokens begins that is a name
+abbrev pub named_place : List ℕ → List ℕ → List Token → Option ℕ
+named_place line name [] = None
+named_place line name (t ∷ ts) = if is_piece line t name then Some t.from else named_place line name ts
+
+-- the tokens behind the first that is a name
+abbrev pub behind_named : List ℕ → List ℕ → List Token → List Token
+behind_named line name [] = []
+behind_named line name (t ∷ ts) = if is_piece line t name then ts else behind_named line name ts
+
+-- whether a token is FROM
+abbrev pub is_from : TokenKind → Bool
+is_from (kinds.Reserved keys.FromKey) = true
+is_from _ = false
+
+-- whether a token is QUERY
+abbrev pub is_query : TokenKind → Bool
+is_query (kinds.Reserved keys.QueryKey) = true
+is_query _ = false
+
+-- whether a token is an opening parenthesis
+abbrev pub is_opening : TokenKind → Bool
+is_opening kinds.Open = true
+is_opening _ = false
+
+-- whether a token is a point
+abbrev pub is_point : TokenKind → Bool
+is_point kinds.Point = true
+is_point _ = false
+
+-- whether names are looked for behind a token
+abbrev pub is_anchor : Anchor → TokenKind → Bool
+is_anchor anchors.From kind = is_from kind
+is_anchor anchors.Query kind = is_query kind
+is_anchor anchors.Opening kind = is_opening kind
+
+-- the tokens behind the first one of a kind
+abbrev pub behind_anchor : Anchor → List Token → List Token
+behind_anchor anchor [] = []
+behind_anchor anchor (t ∷ ts) = if is_anchor anchor t.kind then ts else behind_anchor anchor ts
+
+-- where a name stands for the second time among tokens
+abbrev pub again_place : List ℕ → List ℕ → List Token → Option ℕ
+again_place line name ts = named_place line name (behind_named line name ts)
+
+-- whether a point and a name stand here
+abbrev pub begins_column : List ℕ → List ℕ → List Token → Bool
+begins_column line name (p ∷ t ∷ ts) = is_point p.kind && is_piece line t name
+begins_column line name _ = false
+
+-- where the first three of these tokens begin that are a column: its stream, a point and its name
+abbrev pub column_place : List ℕ → ColumnAst → List Token → Option ℕ
+column_place line c [] = None
+column_place line c (t ∷ ts) = if is_piece line t c.stream && begins_column line c.column ts then Some t.from else column_place line c ts
+
+-- where the first word begins that is too long for a name
+abbrev pub long_place : List Token → Option ℕ
+long_place [] = None
+long_place (t ∷ ts) = if is_long_token t then Some t.from else long_place ts
+
+-- the place of a limit that is passed, where one name or more is too long
+abbrev pub limit_place : What → List Token → Option ℕ
+limit_place limits.Name ts = long_place ts
+limit_place _ ts = None
+
+-- the place of a fault of a statement among its tokens, where its sentence is of one name
+abbrev pub token_place : List ℕ → Fault → List Token → Option ℕ
+token_place line (faults.Limit what found) ts = limit_place what ts
+token_place line (faults.DuplicateStream name) ts = named_place line name ts
+token_place line (faults.DuplicateColumn name) ts = again_place line name (behind_anchor anchors.Opening ts)
+token_place line (faults.DuplicateQuery name) ts = named_place line name (behind_anchor anchors.Query ts)
+token_place line (faults.NoStream name) ts = named_place line name (behind_anchor anchors.From ts)
+token_place line (faults.NotInFrom column) ts = column_place line column ts
+token_place line (faults.NoColumn column) ts = column_place line column ts
+token_place line (faults.SelfJoin name) ts = again_place line name (behind_anchor anchors.From ts)
+token_place line (faults.NoQuery name) ts = named_place line name ts
+token_place line _ ts = None
+
+-- its place in a text that is cut into these tokens
+abbrev pub place_by : List ℕ → Fault → Result (List Token) ℕ → Option ℕ
+place_by line fault (Ok ts) = token_place line fault ts
+place_by line fault (Err at) = None
+
+-- what stands behind so many commas
+abbrev pub behind_commas : ℕ → List ℕ → List ℕ
+behind_commas zero text = text
+behind_commas (suc n) [] = []
+behind_commas (suc n) (b ∷ bs) = if b == 44 then behind_commas n bs else behind_commas (suc n) bs
+
+-- where a field of a row line begins, by its number from 0
+abbrev pub field_place : List ℕ → ℕ → ℕ
+field_place line field = length line - length (without_blanks_before (behind_commas (field + 1) line))
+
+-- the place of a fault in a text of at most 1,024 bytes
+abbrev pub short_place : List ℕ → Fault → Option ℕ
+short_place text (faults.Syntax at next) = Some at
+short_place text faults.RowKey = Some 0
+short_place text (faults.RowName bytes) = Some 0
+short_place text faults.RowStream = Some 0
+short_place text (faults.Arity stream wanted found) = Some (length text)
+short_place text (faults.Value field) = Some (field_place text field)
+short_place text (faults.Domain stream field) = Some (field_place text field)
+short_place text fault = place_by text fault (tokens text)
+
+-- the place of a fault in a text, where there is one
+abbrev pub place_of : List ℕ → Fault → Option ℕ
+place_of text fault = if nat_lt 1024 (length text) then None else short_place text fault

@@ -1,0 +1,281 @@
+//! The place of a fault in its text, below which a mark stands.
+ghost use Rattle.std.specs.Prelude.{◌≡◌, ◌≤◌, ◌&&◌, length};
+ghost use Rattle.bq_text.specs.Blank.{without_blanks_before};
+ghost use Rattle.bq_lexer.specs.Tokens.{tokens};
+ghost use Rattle.bq_parser.specs.DraftLimits.{is_long_token};
+ghost use Rattle.bq_diagnosis.specs.Marks as marks;
+
+use crate::fault::Fault;
+use crate::passing::piece_of;
+use bq_lexer::{Token, TokenKind, lex};
+use bq_parser::{ColumnAst, What};
+use bq_text::{Key, Name, trim_start};
+
+/// The most bytes of a text.
+const MOST_BYTES: usize = 1024;
+
+/// Behind which token a name is looked for.
+#[derive(Clone, Copy, Debug, PartialEq, Eq)]
+pub enum Anchor {
+    From,
+    Query,
+    Opening,
+}
+
+// Whether a token is these bytes.
+fn is_piece(line: &[u8], token: &Token, name: &Name) -> bool
+    ensures { result ≡ marks.is_piece line.now token.now name.now }
+{
+    *piece_of(line, token) == *name.bytes()
+}
+
+// Where the first of these tokens begins that is a name.
+fn named_place(line: &[u8], name: &Name, tokens: &[Token]) -> Option<u16>
+    ensures { result ≡ marks.named_place line.now name.now tokens.now }
+{
+    match tokens {
+        [] => None,
+        [first, others @ ..] => {
+            if is_piece(line, first, name) {
+                Some(first.from)
+            } else {
+                named_place(line, name, others)
+            }
+        }
+    }
+}
+
+// The tokens behind the first that is a name.
+fn behind_named<'a>(line: &[u8], name: &Name, tokens: &'a [Token]) -> &'a [Token]
+    ensures { result.now ≡ marks.behind_named line.now name.now tokens.now }
+{
+    match tokens {
+        [] => &[],
+        [first, others @ ..] => {
+            if is_piece(line, first, name) {
+                others
+            } else {
+                behind_named(line, name, others)
+            }
+        }
+    }
+}
+
+// Whether a token is FROM.
+fn is_from(kind: TokenKind) -> bool
+    ensures { result ≡ marks.is_from kind }
+{
+    matches!(kind, TokenKind::Reserved(Key::FromKey))
+}
+
+// Whether a token is QUERY.
+fn is_query(kind: TokenKind) -> bool
+    ensures { result ≡ marks.is_query kind }
+{
+    matches!(kind, TokenKind::Reserved(Key::QueryKey))
+}
+
+// Whether a token is an opening parenthesis.
+fn is_opening(kind: TokenKind) -> bool
+    ensures { result ≡ marks.is_opening kind }
+{
+    matches!(kind, TokenKind::Open)
+}
+
+// Whether a token is a point.
+fn is_point(kind: TokenKind) -> bool
+    ensures { result ≡ marks.is_point kind }
+{
+    matches!(kind, TokenKind::Point)
+}
+
+// Whether names are looked for behind a token.
+fn is_anchor(anchor: Anchor, kind: TokenKind) -> bool
+    ensures { result ≡ marks.is_anchor anchor kind }
+{
+    match anchor {
+        Anchor::From => is_from(kind),
+        Anchor::Query => is_query(kind),
+        Anchor::Opening => is_opening(kind),
+    }
+}
+
+// The tokens behind the first one of a kind.
+fn behind_anchor(anchor: Anchor, tokens: &[Token]) -> &[Token]
+    ensures { result.now ≡ marks.behind_anchor anchor tokens.now }
+{
+    match tokens {
+        [] => &[],
+        [first, others @ ..] => {
+            if is_anchor(anchor, first.kind) {
+                others
+            } else {
+                behind_anchor(anchor, others)
+            }
+        }
+    }
+}
+
+// Where a name stands for the second time among tokens.
+fn again_place(line: &[u8], name: &Name, tokens: &[Token]) -> Option<u16>
+    ensures { result ≡ marks.again_place line.now name.now tokens.now }
+{
+    named_place(line, name, behind_named(line, name, tokens))
+}
+
+// Whether a point and a name stand here.
+fn begins_column(line: &[u8], name: &Name, tokens: &[Token]) -> bool
+    ensures { result ≡ marks.begins_column line.now name.now tokens.now }
+{
+    match tokens {
+        [point, last, ..] => is_point(point.kind) && is_piece(line, last, name),
+        _ => false,
+    }
+}
+
+// Whether a column stands here: its stream, a point and its name.
+fn is_column(line: &[u8], column: &ColumnAst, first: &Token, others: &[Token]) -> bool
+    ensures { result ≡ (marks.is_piece line.now first.now column.now.stream && marks.begins_column line.now column.now.column others.now) }
+{
+    is_piece(line, first, &column.stream) && begins_column(line, &column.column, others)
+}
+
+// Where the first of these tokens begins that are a column.
+fn column_place(line: &[u8], column: &ColumnAst, tokens: &[Token]) -> Option<u16>
+    ensures { result ≡ marks.column_place line.now column.now tokens.now }
+{
+    match tokens {
+        [] => None,
+        [first, others @ ..] => {
+            if is_column(line, column, first, others) {
+                Some(first.from)
+            } else {
+                column_place(line, column, others)
+            }
+        }
+    }
+}
+
+// Whether a token is a word that is too long for a name.
+fn is_long(token: &Token) -> bool
+    ensures { result ≡ is_long_token token.now }
+{
+    match token.kind {
+        TokenKind::Word => usize::from(token.from) + Name::MOST_BYTES < usize::from(token.to),
+        _ => false,
+    }
+}
+
+// Where the first word begins that is too long for a name.
+fn long_place(tokens: &[Token]) -> Option<u16>
+    ensures { result ≡ marks.long_place tokens.now }
+{
+    match tokens {
+        [] => None,
+        [first, others @ ..] => {
+            if is_long(first) {
+                Some(first.from)
+            } else {
+                long_place(others)
+            }
+        }
+    }
+}
+
+// The place of a limit that is passed.
+fn limit_place(what: What, tokens: &[Token]) -> Option<u16>
+    ensures { result ≡ marks.limit_place what tokens.now }
+{
+    match what {
+        What::Name => long_place(tokens),
+        _ => None,
+    }
+}
+
+// The place of a fault of a statement among its tokens, where its sentence is of one name.
+fn token_place(line: &[u8], fault: &Fault, tokens: &[Token]) -> Option<u16>
+    ensures { result ≡ marks.token_place line.now fault.now tokens.now }
+{
+    match fault {
+        Fault::Limit { what, .. } => limit_place(*what, tokens),
+        Fault::DuplicateStream { name } => named_place(line, name, tokens),
+        Fault::DuplicateColumn { name } => {
+            again_place(line, name, behind_anchor(Anchor::Opening, tokens))
+        }
+        Fault::DuplicateQuery { name } => {
+            named_place(line, name, behind_anchor(Anchor::Query, tokens))
+        }
+        Fault::NoStream { name } => named_place(line, name, behind_anchor(Anchor::From, tokens)),
+        Fault::NotInFrom { column } => column_place(line, column, tokens),
+        Fault::NoColumn { column } => column_place(line, column, tokens),
+        Fault::SelfJoin { name } => again_place(line, name, behind_anchor(Anchor::From, tokens)),
+        Fault::NoQuery { name } => named_place(line, name, tokens),
+        _ => None,
+    }
+}
+
+// The place of a fault of a statement in its text.
+fn statement_place(text: &[u8], fault: &Fault) -> Option<u16>
+    requires { length text.now ≤ 1024 }
+    ensures { result ≡ marks.place_by text.now fault.now (tokens text.now) }
+{
+    match lex(text) {
+        Ok(tokens) => token_place(text, fault, tokens.as_slice()),
+        Err(_) => None,
+    }
+}
+
+// What stands behind so many commas.
+fn behind_commas(commas: u32, text: &[u8]) -> &[u8]
+    ensures behind { result.now ≡ marks.behind_commas commas text.now }
+    ensures short { length result.now ≤ length text.now }
+{
+    if commas == 0 {
+        return text;
+    }
+    match text {
+        [] => &[],
+        [first, others @ ..] => {
+            if *first == b',' {
+                behind_commas(commas - 1, others)
+            } else {
+                behind_commas(commas, others)
+            }
+        }
+    }
+}
+
+// Where a field of a row line begins, by its number from 0.
+fn field_place(line: &[u8], field: u16) -> u16
+    requires { length line.now ≤ 1024 }
+    ensures { result ≡ marks.field_place line.now field }
+{
+    let behind = trim_start(behind_commas(u32::from(field) + 1, line));
+    line.len().saturating_sub(behind.len()) as u16
+}
+
+// The place of a fault in a text of at most 1,024 bytes.
+fn short_place(text: &[u8], fault: &Fault) -> Option<u16>
+    requires { length text.now ≤ 1024 }
+    ensures { result ≡ marks.short_place text.now fault.now }
+{
+    match fault {
+        Fault::Syntax { at, .. } => Some(*at),
+        Fault::RowKey | Fault::RowName { .. } | Fault::RowStream => Some(0),
+        Fault::Arity { .. } => Some(text.len() as u16),
+        Fault::Value { field } => Some(field_place(text, *field)),
+        Fault::Domain { field, .. } => Some(field_place(text, u16::from(*field))),
+        _ => statement_place(text, fault),
+    }
+}
+
+/// Returns the place of a fault in its text, where there is one.
+pub fn place_of(text: &[u8], fault: &Fault) -> Option<u16>
+    ensures { result ≡ marks.place_of text.now fault.now }
+{
+    if MOST_BYTES < text.len() {
+        None
+    } else {
+        short_place(text, fault)
+    }
+}

@@ -1,0 +1,265 @@
+//! How many a statement has of what a limit is on, as its tokens tell.
+//!
+//! A comparison has one sign, each of its two sides is an integer or a column, and a column has one point. Commas stand between columns
+//! and between streams alone. So the numbers of these tokens tell how many columns, streams and comparisons there are.
+ghost use Rattle.std.specs.Prelude.{◌≡◌, ◌≤◌, ◌+◌, ◌++◌, Some, length, slice_range};
+ghost use Rattle.std.specs.Ordering.{int_eq};
+ghost use Rattle.std.specs.List.{list_any};
+ghost use Rattle.bq_parser.specs.DraftLimits.{is_long_token};
+ghost use Rattle.bq_parser.specs.Limits.{limit_of, number_of_different};
+ghost use Rattle.bq_parser.specs.declared.tree.Statement.{Statement};
+ghost use Rattle.bq_parser.specs.Syntax.{IsStatement};
+ghost use Rattle.bq_diagnosis.specs.Counted as counted;
+ghost use Rattle.bq_diagnosis.specs.Counted.{count_of, selected_number, from_number, integer_at, integer_with, integers_at, long_bytes, found_by};
+ghost use Rattle.bq_diagnosis.specs.Passed.{found_in};
+
+use crate::following::{front_of, rest_of};
+use arrayvec::ArrayVec;
+use bq_lexer::{Token, TokenKind, lex};
+use bq_parser::What;
+use bq_text::{Name, read_i64};
+
+/// Returns the bytes of a line that a token takes.
+pub fn piece_of<'a>(line: &'a [u8], token: &Token) -> &'a [u8]
+    ensures { result.now ≡ slice_range line.now token.now.from token.now.to }
+{
+    front_of(
+        rest_of(line, token.from),
+        token.to.saturating_sub(token.from),
+    )
+}
+
+// Whether a token is a comma.
+fn is_comma(kind: TokenKind) -> bool
+    ensures { result ≡ counted.is_comma kind }
+{
+    matches!(kind, TokenKind::Comma)
+}
+
+// Whether a token is a point.
+fn is_point(kind: TokenKind) -> bool
+    ensures { result ≡ counted.is_point kind }
+{
+    matches!(kind, TokenKind::Point)
+}
+
+// Whether a token is an integer.
+fn is_integer(kind: TokenKind) -> bool
+    ensures { result ≡ counted.is_integer kind }
+{
+    matches!(kind, TokenKind::Integer)
+}
+
+// Whether a token is the sign of a soft comparison.
+fn is_soft_sign(kind: TokenKind) -> bool
+    ensures { result ≡ counted.is_soft_sign kind }
+{
+    matches!(
+        kind,
+        TokenKind::LessEqual | TokenKind::GreaterEqual | TokenKind::Unequal
+    )
+}
+
+// Whether a token is the sign of a comparison.
+fn is_comparison(kind: TokenKind) -> bool
+    ensures { result ≡ counted.is_comparison kind }
+{
+    matches!(
+        kind,
+        TokenKind::Less
+            | TokenKind::Equal
+            | TokenKind::Greater
+            | TokenKind::LessEqual
+            | TokenKind::GreaterEqual
+            | TokenKind::Unequal
+    )
+}
+
+// How many commas there are.
+#[tactic(auto, using(crate::proofs::Counting::few))]
+fn commas(tokens: &[Token]) -> u16
+    requires { length tokens.now ≤ 1024 }
+    ensures number { result ≡ count_of counted.is_comma tokens.now }
+    ensures few { result ≤ 1024 }
+{
+    tokens.iter().filter(|token| is_comma(token.kind)).count() as u16
+}
+
+// How many points there are.
+#[tactic(auto, using(crate::proofs::Counting::few))]
+fn points(tokens: &[Token]) -> u16
+    requires { length tokens.now ≤ 1024 }
+    ensures number { result ≡ count_of counted.is_point tokens.now }
+    ensures few { result ≤ 1024 }
+{
+    tokens.iter().filter(|token| is_point(token.kind)).count() as u16
+}
+
+// How many integers there are.
+#[tactic(auto, using(crate::proofs::Counting::few))]
+fn integers(tokens: &[Token]) -> u16
+    requires { length tokens.now ≤ 1024 }
+    ensures number { result ≡ count_of counted.is_integer tokens.now }
+    ensures few { result ≤ 1024 }
+{
+    tokens.iter().filter(|token| is_integer(token.kind)).count() as u16
+}
+
+// How many signs of soft comparisons there are.
+#[tactic(auto, using(crate::proofs::Counting::few))]
+fn soft_signs(tokens: &[Token]) -> u16
+    requires { length tokens.now ≤ 1024 }
+    ensures { result ≡ count_of counted.is_soft_sign tokens.now }
+{
+    tokens
+        .iter()
+        .filter(|token| is_soft_sign(token.kind))
+        .count() as u16
+}
+
+// How many comparisons there are.
+#[tactic(auto, using(crate::proofs::Counting::few))]
+fn comparisons(tokens: &[Token]) -> u16
+    requires { length tokens.now ≤ 1024 }
+    ensures number { result ≡ count_of counted.is_comparison tokens.now }
+    ensures few { result ≤ 1024 }
+{
+    tokens
+        .iter()
+        .filter(|token| is_comparison(token.kind))
+        .count() as u16
+}
+
+// How many columns a query selects.
+fn selected(tokens: &[Token]) -> u16
+    requires { length tokens.now ≤ 1024 }
+    ensures { result ≡ selected_number tokens.now }
+{
+    (points(tokens) + integers(tokens)).saturating_sub(2 * comparisons(tokens))
+}
+
+// How many streams FROM names.
+fn from_streams(tokens: &[Token]) -> u16
+    requires { length tokens.now ≤ 1024 }
+    ensures { result ≡ from_number tokens.now }
+{
+    (commas(tokens) + 2).saturating_sub(selected(tokens))
+}
+
+// The integer that a token is, 0 where it has more than 64 bits.
+fn value_at(line: &[u8], token: &Token) -> i64
+    ensures { result ≡ integer_at line.now token.now }
+{
+    read_i64(piece_of(line, token)).unwrap_or(0)
+}
+
+// Adds the integer that a token is.
+fn put_value(values: &mut ArrayVec<i64, 1024>, line: &[u8], token: &Token)
+    requires { length values.old.items ≤ 1023 }
+    ensures items { values.new.items ≡ values.old.items ++ integer_with line.now token.now }
+    ensures short { length values.new.items ≤ length values.old.items + 1 }
+{
+    if is_integer(token.kind) {
+        values.push(value_at(line, token));
+    }
+}
+
+// The integers among tokens.
+fn values_at(line: &[u8], tokens: &[Token]) -> ArrayVec<i64, 1024>
+    requires { length tokens.now ≤ 1024 }
+    ensures items { result.items ≡ integers_at line.now tokens.now }
+    ensures few { length result.items ≤ 1024 }
+{
+    let mut values = ArrayVec::new();
+    for token in tokens {
+        put_value(&mut values, line, token);
+    }
+    values
+}
+
+// Whether an integer stands among others.
+fn is_among(value: i64, others: &[i64]) -> bool
+    ensures { result ≡ list_any (int_eq value) others.now }
+{
+    others.iter().any(|other| value == *other)
+}
+
+// How many different integers there are.
+fn different(values: &[i64]) -> u16
+    requires { length values.now ≤ 1024 }
+    ensures { result ≡ number_of_different int_eq values.now }
+{
+    let mut count: u16 = 0;
+    let mut rest = values;
+    'counting: while let [value, others @ ..] = rest {
+        if !is_among(*value, others) {
+            count += 1;
+        }
+        rest = others;
+    }
+    count
+}
+
+// How many different integers stand among tokens.
+fn different_values(line: &[u8], tokens: &[Token]) -> u16
+    requires { length tokens.now ≤ 1024 }
+    ensures { result ≡ number_of_different int_eq (integers_at line.now tokens.now) }
+{
+    let values = values_at(line, tokens);
+    different(values.as_slice())
+}
+
+// Whether a token is a word that is too long for a name.
+fn is_long(token: &Token) -> bool
+    ensures { result ≡ is_long_token token.now }
+{
+    match token.kind {
+        TokenKind::Word => usize::from(token.from) + Name::MOST_BYTES < usize::from(token.to),
+        _ => false,
+    }
+}
+
+// How many bytes the first word has that is too long for a name.
+fn long_word(tokens: &[Token]) -> Option<u16>
+    ensures { result ≡ long_bytes tokens.now }
+{
+    match tokens {
+        [] => None,
+        [first, others @ ..] => {
+            if is_long(first) {
+                Some(first.to.saturating_sub(first.from))
+            } else {
+                long_word(others)
+            }
+        }
+    }
+}
+
+// How many the tokens of a line tell of what a limit is on.
+fn number_found(what: What, line: &[u8], tokens: &[Token]) -> Option<u16>
+    requires { length tokens.now ≤ 1024 }
+    ensures { result ≡ found_by what line.now tokens.now }
+{
+    match what {
+        What::Name => long_word(tokens),
+        What::Columns => Some(commas(tokens) + 1),
+        What::Select => Some(selected(tokens)),
+        What::From => Some(from_streams(tokens)),
+        What::Atoms => Some(comparisons(tokens)),
+        What::Soft => Some(soft_signs(tokens)),
+        What::Consts => Some(different_values(line, tokens)),
+        What::Tuple => Some(integers(tokens)),
+        What::Attrs | What::Value | What::Domain => None,
+    }
+}
+
+/// Returns how many a statement has of what it passes a limit on, where the limit is on a number.
+pub fn found_of(what: What, text: &[u8]) -> Option<u16>
+    requires { length text.now ≤ 1024 }
+    ensures { (s : Statement) → IsStatement text.now s → limit_of s ≡ Some what → result ≡ found_in what s }
+{
+    match lex(text) {
+        Ok(tokens) => number_found(what, text, tokens.as_slice()),
+        Err(_) => None,
+    }
+}

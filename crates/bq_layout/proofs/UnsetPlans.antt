@@ -1,0 +1,14 @@
+-- The plans of drafts are those of all parts.
+use Rattle.std.proofs.Common.{◌≡◌, List, Ok, sym, subst}
+use Rattle.bq_model.specs.declared.part.Part.{Part}
+use Rattle.bq_model.specs.declared.part.Sign.{Sign}
+use Rattle.bq_model.specs.declared.plan.PartPlan.{PartPlan}
+use Rattle.bq_model.specs.Query.{QueryValue}
+use Rattle.bq_model.specs.Parts.{AreParts}
+use Rattle.bq_lto_split.specs.Split.{sign_lists}
+use Rattle.bq_layout.specs.declared.drafting.Draft.{Draft}
+use Rattle.bq_layout.specs.Sums.{IsDrafted}
+use Rattle.bq_layout.specs.Unset.{AreUnset}
+
+pub unset_plans : (q : QueryValue) (ps : List Part) (draft : Draft) (plans : List PartPlan) → AreParts q (sign_lists ps) → IsDrafted q (sign_lists ps) (Ok draft) → plans ≡ draft.parts.items → AreUnset q plans
+unset_plans q ps draft plans are h e = subst (AreUnset q) (sym e) record { parts = subst (λ (z : List (List Sign)). AreParts q z) (sym h.1) are; drafts = h.0.drafts }

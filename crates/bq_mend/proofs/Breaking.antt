@@ -1,0 +1,54 @@
+-- The part that breaks a condition first is in the list of parts.
+use Rattle.std.proofs.Common.{◌≡◌, ℕ, ◌-◌, ◌<◌, ◌≤◌, Bool, List, length, Result, Ok, Err, IfOk, ap, sym, ◌∙◌, arith}
+use Rattle.std.specs.Option.{option_map}
+use Rattle.std.specs.List.{slice_index_or}
+use Rattle.std.specs.declared.option.Option.TheVariants.{Some}
+use Rattle.std.proofs.lemmas.List.{length-map}
+use Rattle.std.proofs.lemmas.Option.{slice_get-map, slice_get-get_or, slice_get_within}
+use Rattle.bq_model.specs.declared.part.Part.{Part}
+use Rattle.bq_model.specs.Query.{QueryValue}
+use Rattle.bq_model.specs.Assignment.{Assignment}
+use Rattle.bq_model.specs.Parts.{AreParts, InPart}
+use Rattle.bq_model.specs.Violation.{Failure, IsViolation, filter, first}
+use Rattle.bq_model.proofs.Unique.{one_list_of_parts}
+use Rattle.bq_lto_split.specs.Split.{sign_lists}
+use Rattle.bq_chains.specs.declared.chains.Chain.{Chain}
+use Rattle.bq_chains.specs.Chains.{chains_of, chains_in}
+use Rattle.bq_mend.specs.Violating.{AreChainsAt, Shows}
+use Rattle.bq_mend.specs.Numbered.{IsJudgement}
+use Rattle.bq_mend.specs.declared.judging.Judgement.{Judgement}
+use Rattle.bq_mend.specs.declared.judging.Judgement.TheVariants as judgement
+
+pub number_within : (q : QueryValue) (parts : List Part) (f : Failure) → AreParts q (sign_lists parts) → IsViolation q (Some f) → (0 < f.part) × (f.part ≤ length parts)
+number_within q parts f are (filter t e) = absurd cc
+number_within q parts f are (first plain others a fails) =
+    let same : others ≡ sign_lists parts = one_list_of_parts q others (sign_lists parts) a are in
+    let size : length others ≡ length parts = ap length same ∙ length-map parts _ in
+    let there : f.part - 1 < length others = slice_get_within others (f.part - 1) fails.0.signs fails.0.at in
+    (fails.0.number, omega (arith, fails.0.number, there, size))
+
+-- the chains of the part at a place
+pub chains-at : (q : QueryValue) (parts : List Part) (number : ℕ) (p : Part) (list : List Chain) → AreParts q (sign_lists parts) → 0 < number → number ≤ length parts
+    → p ≡ slice_index_or parts (number - 1) p → list ≡ chains_of q p.signs.items → ((v : Assignment) → InPart q p.signs.items v → list ≡ chains_in q v) → AreChainsAt q number list
+chains-at q parts number p list are some within here is order = record {
+  parts = sign_lists parts;
+  are = are;
+  signs = p.signs.items;
+  at = slice_get-map (λ (z : Part). z.signs.items) parts (number - 1)
+      ∙ ap (option_map (λ (z : Part). z.signs.items)) (slice_get-get_or parts (number - 1) p (omega (arith, some, within)) ∙ ap (λ (z : Part). Some z) (sym here));
+  is = is;
+  order = order;
+}
+
+-- a judgement that names a violation names the first
+pub shows : (shared : Bool) (q : QueryValue) (own : Judgement) → IsJudgement shared q own → Shows q own
+shows shared q judgement.Filter h = tt
+shows shared q (judgement.Accepted numbers) h = tt
+shows shared q (judgement.Above which value) h = tt
+shows shared q (judgement.Violation part condition attr) h = (h.1, h.2)
+shows shared q judgement.ManyParts h = tt
+
+-- two facts of a list on success make a third
+pub if_both : {A E : Type 0} {P Q R : A → Type 0} (r : Result A E) → ((x : A) → P x → Q x → R x) → IfOk r P → IfOk r Q → IfOk r R
+if_both (Ok x) f h k = f x h k
+if_both (Err e) f h k = tt
