@@ -10,14 +10,14 @@ use Rattle.bq_constraints.specs.Solutions.{IsNegativeCycle, IsWithin}
 use Rattle.bq_certificate.specs.declared.line.Path.{Path}
 use Rattle.bq_certcheck.specs.declared.answer.Reason.{Reason}
 use Rattle.bq_certcheck.specs.declared.answer.Reason.TheVariants as reason
-use Rattle.bq_certcheck.specs.declared.place.Place.{Place}
+use Rattle.bq_certcheck.specs.declared.place.TreeCursor.{TreeCursor}
 use Rattle.bq_certificate.specs.Nodes.{split, infeasible, against, leaf}
 use Rattle.bq_certcheck.specs.Rules.{ArePaths, AreClosed, IsNextPair, IsRefuted, MayBePart, IsGoodLeaf, Breaks, no_split, no_cycle, no_refuted, no_part, no_paths, not_closed}
 use Rattle.bq_certcheck.specs.Bounds.{KeepsEach, Tells, ReadsBounds}
 use Rattle.bq_certcheck.specs.Standing.{Stands}
 use Rattle.bq_certcheck.proofs.Keeping.{closed_from, keeps_from}
 
-pub cycle_wrong : (q : QueryValue) (p : Place) (cs : List Constraint) (numbers : List ℕ) (why : Reason) → Stands q p → cs ≡ p.constraints.items → (why ≡ reason.Cycle) × ¬ IsNegativeCycle cs numbers → Breaks q p.signs.items (infeasible numbers) why
+pub cycle_wrong : (q : QueryValue) (p : TreeCursor) (cs : List Constraint) (numbers : List ℕ) (why : Reason) → Stands q p → cs ≡ p.constraints.items → (why ≡ reason.Cycle) × ¬ IsNegativeCycle cs numbers → Breaks q p.signs.items (infeasible numbers) why
 cycle_wrong q p cs numbers why s e h =
     let n : ¬ IsNegativeCycle (of_prefix q p.signs.items) numbers = subst (λ (z : List Constraint). ¬ IsNegativeCycle z numbers) (e ∙ s.constraints) h.1 in
     subst (λ (w : Reason). Breaks q p.signs.items (infeasible numbers) w) (sym h.0) (no_cycle n)
@@ -27,7 +27,7 @@ against_wrong q signs here number why e h =
     let n : ¬ IsRefuted q signs number = subst (λ (z : List Sign). ¬ IsRefuted q z number) e h.1 in
     subst (λ (w : Reason). Breaks q signs (against number) w) (sym h.0) (no_refuted n)
 
-module _ (q : QueryValue) (p : Place) (paths : List Path) (s : Stands q p) (signs : List Sign) (e : signs ≡ p.signs.items) where
+module _ (q : QueryValue) (p : TreeCursor) (paths : List Path) (s : Stands q p) (signs : List Sign) (e : signs ≡ p.signs.items) where
   pub leaf_above : ¬ MayBePart q signs → Breaks q p.signs.items (leaf paths) reason.Shape
   leaf_above n = no_part (subst (λ (z : List Sign). ¬ MayBePart q z) e n)
 

@@ -15,7 +15,7 @@ use Rattle.bq_constraints.specs.Nodes.{constraints_of, between}
 use Rattle.bq_constraints.specs.PartConstraints.{of_base, of_prefix, AddsSign}
 use Rattle.bq_constraints.specs.Solutions.{IsWithin}
 use Rattle.bq_constraints.proofs.Prefix.{prefix_more, of_no_prefix, length-of_prefix}
-use Rattle.bq_certcheck.specs.declared.place.Place.{Place}
+use Rattle.bq_certcheck.specs.declared.place.TreeCursor.{TreeCursor}
 use Rattle.bq_certcheck.specs.Reading.{advanced, following}
 use Rattle.bq_certcheck.specs.Standing.{width, Stands, Drops, next_sign, at}
 
@@ -33,12 +33,12 @@ length-between xs x y Sign.Gt = refl
 -- ---- the place
 
 -- there is room for the constraints of one more sign
-pub room_more : (q : QueryValue) (p : Place) (s : Sign) (cs : List Constraint) → Stands q p → length p.signs.items < length (pairs q) → AddsSign q p.signs.items s cs → length p.constraints.items + length cs ≤ 268
+pub room_more : (q : QueryValue) (p : TreeCursor) (s : Sign) (cs : List Constraint) → Stands q p → length p.signs.items < length (pairs q) → AddsSign q p.signs.items s cs → length p.constraints.items + length cs ≤ 268
 room_more q p s cs h l a =
     let n : length p.constraints.items ≡ length (of_prefix q p.signs.items) = ap length h.constraints in
     omega (arith, n, a.few, few_with_soft q h.limits, length-of_prefix q h.limits p.signs.items, l)
 
-pub stands_deeper : (q : QueryValue) (p r : Place) (s : Sign) (cs : List Constraint) → Stands q p → length p.signs.items < length (pairs q) → AddsSign q p.signs.items s cs
+pub stands_deeper : (q : QueryValue) (p r : TreeCursor) (s : Sign) (cs : List Constraint) → Stands q p → length p.signs.items < length (pairs q) → AddsSign q p.signs.items s cs
     → r.signs.items ≡ p.signs.items ++ s ∷ [] → r.constraints.items ≡ p.constraints.items ++ cs → Stands q r
 stands_deeper q p r s cs h l a es ec =
     let n : length r.signs.items ≡ length p.signs.items + 1 = ap length es ∙ length-append p.signs.items (s ∷ []) in
@@ -62,12 +62,12 @@ front_of xs ys n e =
     let b : length (xs ++ ys) - n ≡ length xs = omega arith in
     ap (λ (k : ℕ). take k (xs ++ ys)) b ∙ take-append_seam xs ys
 
-pub room_above : (q : QueryValue) (old new : Place) (s : Sign) → Stands q old → Drops (Some s) old new → length new.signs.items < length (pairs q)
+pub room_above : (q : QueryValue) (old new : TreeCursor) (s : Sign) → Stands q old → Drops (Some s) old new → length new.signs.items < length (pairs q)
 room_above q old new s h d =
     let n : length old.signs.items ≡ length new.signs.items + 1 = ap length d.0 ∙ length-append new.signs.items (s ∷ []) in
     omega (arith, n, h.room)
 
-pub stands_above : (q : QueryValue) (old new : Place) (s : Sign) → Stands q old → Drops (Some s) old new → Stands q new
+pub stands_above : (q : QueryValue) (old new : TreeCursor) (s : Sign) → Stands q old → Drops (Some s) old new → Stands q new
 stands_above q old new s h d =
     let r : length new.signs.items < length (pairs q) = room_above q old new s h d in
     let p : (p : Pair) × (slice_get (pairs q) (length new.signs.items) ≡ Some p) = some_pair (pairs q) (length new.signs.items) r in
@@ -94,16 +94,16 @@ following_same [] Sign.Eq h = absurd cc
 following_same [] Sign.Gt h = refl
 following_same (x ∷ xs) s h = ap (advanced x) (following_same xs s h)
 
-pub goes_on : (begin : List Sign) (old mid new : Place) (s t : Sign) → following old.signs.items ≡ following begin → Drops (Some s) old mid → next_sign s ≡ Some t → new.signs.items ≡ mid.signs.items ++ t ∷ [] → at true new.signs.items ≡ following begin
+pub goes_on : (begin : List Sign) (old mid new : TreeCursor) (s t : Sign) → following old.signs.items ≡ following begin → Drops (Some s) old mid → next_sign s ≡ Some t → new.signs.items ≡ mid.signs.items ++ t ∷ [] → at true new.signs.items ≡ following begin
 goes_on begin old mid new s t e d n h = ap Some h ∙ sym (following_more mid.signs.items s t n) ∙ sym (ap following d.0) ∙ e
 
-pub drops_on : (begin : List Sign) (old mid : Place) (s : Sign) → following old.signs.items ≡ following begin → Drops (Some s) old mid → next_sign s ≡ None → following mid.signs.items ≡ following begin
+pub drops_on : (begin : List Sign) (old mid : TreeCursor) (s : Sign) → following old.signs.items ≡ following begin → Drops (Some s) old mid → next_sign s ≡ None → following mid.signs.items ≡ following begin
 drops_on begin old mid s e d n = sym (following_same mid.signs.items s n) ∙ sym (ap following d.0) ∙ e
 
-pub ends_here : (begin : List Sign) (old mid : Place) → following old.signs.items ≡ following begin → Drops None old mid → at false mid.signs.items ≡ following begin
+pub ends_here : (begin : List Sign) (old mid : TreeCursor) → following old.signs.items ≡ following begin → Drops None old mid → at false mid.signs.items ≡ following begin
 ends_here begin old mid e d = sym (ap following d.0) ∙ e
 
-pub stands_root : (q : QueryValue) (p : Place) → p.signs.items ≡ [] → p.constraints.items ≡ of_base q → All (IsWithin 12) p.constraints.items → IsWithinLimits q → Stands q p
+pub stands_root : (q : QueryValue) (p : TreeCursor) → p.signs.items ≡ [] → p.constraints.items ≡ of_base q → All (IsWithin 12) p.constraints.items → IsWithinLimits q → Stands q p
 stands_root q p es ec w l =
     let n : length p.signs.items ≡ 0 = ap length es in
     record {

@@ -5,7 +5,7 @@ use Rattle.bq_model.specs.Query.{QueryValue, IsWithinLimits}
 use Rattle.bq_model.specs.Parts.{pairs}
 use Rattle.bq_constraints.specs.PartConstraints.{of_prefix}
 use Rattle.bq_constraints.specs.Solutions.{IsWithin}
-use Rattle.bq_certcheck.specs.declared.place.Place.{Place}
+use Rattle.bq_certcheck.specs.declared.place.TreeCursor.{TreeCursor}
 
 -- how many constraints a sign stands for
 abbrev pub width : Sign → ℕ
@@ -14,14 +14,14 @@ width Sign.Eq = 2
 width Sign.Gt = 1
 
 -- the signs are those of some first pairs, and the constraints are theirs
-pub record Stands (q : QueryValue) (p : Place) : Type 0 where
+pub record Stands (q : QueryValue) (p : TreeCursor) : Type 0 where
   pub constraints : p.constraints.items ≡ of_prefix q p.signs.items
   pub within : All (IsWithin 12) p.constraints.items
   pub room : length p.signs.items ≤ length (pairs q)
   pub limits : IsWithinLimits q
 
 -- the last sign and its constraints are taken away, or there is none
-abbrev pub Drops : Option Sign → Place → Place → Type 0
+abbrev pub Drops : Option Sign → TreeCursor → TreeCursor → Type 0
 Drops (Some s) old new = (old.signs.items ≡ new.signs.items ++ s ∷ []) × (new.constraints.items ≡ take (length old.constraints.items - width s) old.constraints.items)
 Drops None old new = (old.signs.items ≡ []) × (new ≡ old)
 

@@ -10,7 +10,7 @@ use bq_model::{Pair, Query, Sign, Signs};
 
 /// The signs of the first pairs, and the constraints of the query's comparisons, of its domains, and of these signs.
 #[derive(Drop)]
-pub struct Place {
+pub struct TreeCursor {
     pub signs: Signs,
     pub constraints: ArrayVec<Constraint, 268>,
 }
@@ -37,15 +37,15 @@ fn next_sign(sign: Sign) -> Option<Sign>
     }
 }
 
-impl Place {
+impl TreeCursor {
     /// Begins at the first node: there is no sign yet.
-    pub fn root(q: &Query, pairs: &[Pair]) -> Place
+    pub fn root(q: &Query, pairs: &[Pair]) -> TreeCursor
         requires pairs { pairs.now ≡ pairs_of q.now }
         requires few { length pairs.now ≤ 114 }
         ensures stands { Stands q.now result }
         ensures signs { result.signs.items ≡ [] }
     {
-        Place {
+        TreeCursor {
             signs: Signs::new(),
             constraints: of_query(q),
         }

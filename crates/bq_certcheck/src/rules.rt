@@ -10,7 +10,7 @@ ghost use Rattle.bq_certcheck.specs.Walking.{IsUnless, JudgesLeaf};
 use crate::answer::Reason;
 use crate::bounds::{bounds_of, is_closed};
 use crate::chain::is_negative_cycle;
-use crate::place::Place;
+use crate::place::TreeCursor;
 use crate::refuting::{any_refuted, refutes};
 use bq_certificate::Line;
 use bq_constraints::Constraint;
@@ -65,7 +65,7 @@ fn may_be_part(q: &Query, pairs: &[Pair], signs: &[Sign]) -> bool
 pub fn judge_leaf(
     q: &Query,
     pairs: &[Pair],
-    place: &Place,
+    place: &TreeCursor,
     behind: &[Line],
 ) -> Result<[Option<i64>; 169], Reason>
     requires pairs { pairs.now ≡ pairs_of q.now }

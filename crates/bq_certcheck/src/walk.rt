@@ -10,7 +10,7 @@ ghost use Rattle.bq_certcheck.specs.Walking.{node_at, PassesOr, StepsOr, Walked}
 use crate::answer::Reason;
 use crate::decision::DecisionSoFar;
 use crate::leaf::Leaf;
-use crate::place::Place;
+use crate::place::TreeCursor;
 use crate::rules::{judge_against, judge_cycle, judge_leaf, judge_split};
 use bq_certificate::Line;
 use bq_model::{Pair, Query, Sign};
@@ -19,7 +19,7 @@ use bq_model::{Pair, Query, Sign};
 /// were, and the decision on the leaves.
 #[derive(Drop)]
 pub struct Walk {
-    pub place: Place,
+    pub place: TreeCursor,
     pub more: bool,
     pub nodes: u32,
     pub leaves: u32,
@@ -34,7 +34,7 @@ impl Walk {
         ensures { Walked q.now [] result }
     {
         Walk {
-            place: Place::root(q, pairs),
+            place: TreeCursor::root(q, pairs),
             more: true,
             nodes: 0,
             leaves: 0,

@@ -4,6 +4,8 @@ use Rattle.std.specs.declared.result.Result.{Result}
 use Rattle.std.specs.declared.result.Result.TheVariants.{Ok, Err}
 use Rattle.std.specs.Io.KnownBytes.{Consumes}
 use Rattle.bq_io.specs.Counts.{Rose}
+use Rattle.bq_io.specs.declared.sink.WriteFault.{WriteFault}
+use Rattle.bq_io.specs.declared.status.Status.{Status}
 use Rattle.bq_io.specs.declared.status.Status.TheVariants as status
 use Rattle.bq_io.specs.Source.{SourceState}
 use Rattle.bq_text.specs.Lines.{lines}
@@ -23,7 +25,8 @@ use Rattle.bq_script.specs.declared.end.ScriptEnd.TheVariants.{Refused, ReadFaul
 use Rattle.bq_script.specs.Ends.{IsFull}
 use Rattle.bq_script.specs.Script.{name_of}
 use Rattle.bq_certify.specs.declared.checking.Checked.{Checked}
-use Rattle.bq_script.specs.Commands.{Outcome, ComesTo, TookUnsettled, error_text}
+use Rattle.bq_script.specs.Commands.{Outcome, ComesTo}
+use Rattle.bq_script.specs.Ending.{StopsAt}
 use Rattle.bq_certify.specs.Checking.{Collect, IsRefusedLine, answered, Checks}
 
 -- some lines were given, since the source was in some state
@@ -79,11 +82,6 @@ ReadsCertificate (Err ReadFault) source now given = Rose source.faults now.fault
 ReadsCertificate (Err ByteLimit) source now given = GaveLines source now given IsFull
 ReadsCertificate (Err Memory) source now given = ⊤
 
--- The check of a script comes to a refusal of this line, which is known once all lines were read or before.
-pub record Refuses (source now : SourceState) (number : ℕ) (word : Word) : Type 0 where
-  pub needs : Option ℕ
-  pub comes : ComesTo Checks source now (record { status = status.Invalid; text = error_text number word; needs = needs })
-
 -- what the answer of the check of a script comes to
 abbrev pub outcome_of : Checked → Outcome
 outcome_of checked = answered checked.script.catalog (name_of checked.script.statement) checked.script.query checked.answer
@@ -97,7 +95,9 @@ pub record IsSound (checked : Checked) : Type 0 where
 -- how the check of a script ends before anything is written
 abbrev pub ReadsAnswer : Result Checked ScriptEnd → SourceState → SourceState → Type 0
 ReadsAnswer (Ok checked) source now = ComesTo Checks source now (outcome_of checked) × IsSound checked
-ReadsAnswer (Err (Refused number word)) source now = Refuses source now number word
-ReadsAnswer (Err ReadFault) source now = Rose source.faults now.faults × TookUnsettled Checks source now (λ text. ⊤)
-ReadsAnswer (Err ByteLimit) source now = TookUnsettled Checks source now IsFull
-ReadsAnswer (Err Memory) source now = ⊤
+ReadsAnswer (Err end) source now = StopsAt Checks end source now
+
+-- the status behind a write: this one, or that the sink failed
+abbrev pub status_after : Result Unit WriteFault → Status → Status
+status_after (Ok done) aim = aim
+status_after (Err fault) aim = status.WriteFault

@@ -3,4 +3,3 @@ pub mod Certified
 pub mod Checking
 pub mod Collecting
 pub mod Laws
-pub mod Telling

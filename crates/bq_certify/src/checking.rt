@@ -2,17 +2,16 @@
 ghost use Rattle.std.specs.Prelude.{◌≡◌, ◌≤◌};
 ghost use Rattle.bq_feed.specs.Reading.{fresh};
 ghost use Rattle.bq_script.specs.Commands.{CommandEnds};
+ghost use Rattle.bq_script.specs.Ending.{EndsWith};
 ghost use Rattle.bq_certify.specs.Checking.{Checks};
-ghost use Rattle.bq_certify.specs.Telling.{Tells};
-ghost use Rattle.bq_certify.specs.Collecting.{IsSound, ReadsAnswer, outcome_of};
+ghost use Rattle.bq_certify.specs.Collecting.{IsSound, ReadsAnswer, outcome_of, status_after};
 
 use crate::answering::{write_decision, write_no};
 use crate::collecting::read_certificate;
-use crate::telling::{status_after, tell_end};
 use bq_certcheck::{CheckAnswer, check};
 use bq_feed::LineReader;
-use bq_io::{Sink, Source, Status};
-use bq_script::{Script, ScriptEnd, read_script};
+use bq_io::{Sink, Source, Status, WriteFault};
+use bq_script::{Script, ScriptEnd, end_early, read_script};
 use std::alloc::Global;
 
 /// A script, and the answer to the certificate behind its query.
@@ -44,10 +43,21 @@ fn read_answer<I: Source>(
     }
 }
 
+// The status behind a write: this one, or that the sink failed.
+fn status_after(written: Result<(), WriteFault>, aim: Status) -> Status
+    ensures { result ≡ status_after written aim }
+{
+    match written {
+        Ok(()) => aim,
+        Err(_) => Status::WriteFault,
+    }
+}
+
 // Writes the answer to a certificate, and gives the status.
-fn tell_answer<O: Sink>(checked: &Checked, output: &mut O) -> Status
+fn end_answered<O: Sink>(checked: &Checked, output: &mut O) -> Status
     requires { IsSound checked.now }
-    ensures { Tells (outcome_of checked.now).status result (O.seen output.old) (O.seen output.new) (outcome_of checked.now).text }
+    ensures ends { EndsWith (outcome_of checked.now).status (outcome_of checked.now).text result (O.seen output.old) (O.seen output.new) }
+    ensures later { (O.seen output.old).faults ≤ (O.seen output.new).faults }
 {
     match checked.answer {
         CheckAnswer::Yes { decision, parts } => status_after(
@@ -73,7 +83,7 @@ pub fn check_script<I: Source, O: Sink>(alloc: Global, input: &mut I, output: &m
         return Status::Memory;
     };
     match read_answer(alloc, &mut reader, input) {
-        Ok(checked) => tell_answer(&checked, output),
-        Err(end) => tell_end(end, output),
+        Ok(checked) => end_answered(&checked, output),
+        Err(end) => end_early(end, output),
     }
 }

@@ -9,7 +9,6 @@ mod certifying;
 mod checking;
 mod collecting;
 pub mod laws;
-mod telling;
 
 pub use certifying::certify;
 pub use checking::check_script;

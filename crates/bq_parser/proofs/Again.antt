@@ -2,8 +2,8 @@
 use Rattle.std.proofs.Common.{◌≡◌, ℕ, ◌<◌, ◌⊎◌, Bool, true, false, cond, codes, List, [], ◌∷◌, ◌++◌, length, map, Option, Some, None, ℤ, refl, ap, sym, ◌∙◌, append_assoc, append-nil, arith, inl, inr, Ok}
 use Rattle.std.specs.List.{AllByRecursion}
 use Rattle.bq_text.specs.declared.key.Key.TheVariants.{CreateKey, QueryKey, AsKey, SelectKey, FromKey, AndKey}
-use Rattle.bq_parser.specs.declared.places.Place.{Place}
-use Rattle.bq_parser.specs.declared.places.Place.TheVariants.{Start, AfterCompact, ColumnName, QuerySelect, FirstSelected, SelectedStream, AfterSelected, FromName, AfterFrom, AtomLeft, AfterAtom, AfterValue, Complete, Ended}
+use Rattle.bq_parser.specs.declared.places.State.{State}
+use Rattle.bq_parser.specs.declared.places.State.TheVariants.{Start, AfterCompact, ColumnName, QuerySelect, FirstSelected, SelectedStream, AfterSelected, FromName, AfterFrom, AtomLeft, AfterAtom, AfterValue, Complete, Ended}
 use Rattle.bq_parser.specs.declared.places.Action.TheVariants.{BeginCompact, BeginSharedCompact}
 use Rattle.bq_schema.specs.declared.column.ColumnDef.{ColumnDef}
 use Rattle.bq_parser.specs.declared.tree.ColumnAst.{ColumnAst}
@@ -114,7 +114,7 @@ atoms_walk p a (b ∷ atoms) h =
 
 -- the tokens lead to a place where the statement may end, and where a semicolon may stand
 pub record IsRead (w : List ℕ) (s : Statement) : Type 0 where
-  pub to : Place
+  pub to : State
   pub parts : Parts
   pub read : walk Start no_parts (tokens_with (word w ∷ []) s) ≡ Ok (to, parts)
   pub finished_there : finished to parts ≡ Some s
@@ -229,7 +229,7 @@ is_read w (ResumeTuple name values) is h = tuple_items w name values.items h
 
 -- what a spelled statement is read as
 pub record ReadAs (ts : List Lexeme) (s : Statement) : Type 0 where
-  pub to : Place
+  pub to : State
   pub parts : Parts
   pub read : walk Start no_parts ts ≡ Ok (to, parts)
   pub finished_there : finished to parts ≡ Some s

@@ -1,8 +1,8 @@
 -- At each place some statement may go on.
 use Rattle.std.proofs.Common.{◌≡◌, pos, List, [], ◌∷◌, ◌++◌, refl, ap, sym, ◌∙◌, append_assoc, append-nil, subst}
 use Rattle.bq_text.specs.declared.key.Key.TheVariants.{CreateKey, StreamKey, QueryKey, AsKey, SelectKey, FromKey}
-use Rattle.bq_parser.specs.declared.places.Place.{Place}
-use Rattle.bq_parser.specs.declared.places.Place.TheVariants.{Start, AfterCreate, AfterShared, AfterCompact, StreamName, OpenColumns, ColumnName, AfterColumn, DomainLow, FirstPoint, SecondPoint, DomainHigh, AfterDomain, QueryName, QueryAs, QuerySelect, FirstSelected, SelectedStream, SelectedPoint, SelectedColumn, AfterSelected, FromName, AfterFrom, AtomLeft, LeftPoint, LeftColumn, ColumnOp, RightAny, IntegerOp, RightStream, RightPoint, RightColumn, AfterAtom, ExplainName, AfterDrop, DropName, AfterResume, ResumeWhat, GivenRows, CellIndex, CellContent, TupleValue, AfterValue, Complete, Ended}
+use Rattle.bq_parser.specs.declared.places.State.{State}
+use Rattle.bq_parser.specs.declared.places.State.TheVariants.{Start, AfterCreate, AfterShared, AfterCompact, StreamName, OpenColumns, ColumnName, AfterColumn, DomainLow, FirstPoint, SecondPoint, DomainHigh, AfterDomain, QueryName, QueryAs, QuerySelect, FirstSelected, SelectedStream, SelectedPoint, SelectedColumn, AfterSelected, FromName, AfterFrom, AtomLeft, LeftPoint, LeftColumn, ColumnOp, RightAny, IntegerOp, RightStream, RightPoint, RightColumn, AfterAtom, ExplainName, AfterDrop, DropName, AfterResume, ResumeWhat, GivenRows, CellIndex, CellContent, TupleValue, AfterValue, Complete, Ended}
 use Rattle.bq_parser.specs.declared.tree.Statement.{Statement}
 use Rattle.bq_parser.specs.Grammar.{Lexeme, word, number, key, point, opening, closing, less, Spells, Begins}
 use Rattle.bq_parser.specs.declared.draft.Form.TheVariants as forms
@@ -156,7 +156,7 @@ begun_Start : (p : Parts) → Fine Start p → IsSpelt p → Begins (told Start 
 begun_Start p f h = let next = told_step Start p (key CreateKey) f in begun_by (told Start p) _ (key CreateKey) next.0 (begun_AfterCreate (act actions.Nothing (key CreateKey) p) next.1 h)
 
 -- at each place some statement goes on
-pub begun : (place : Place) (p : Parts) → Fine place p → IsSpelt p → Begins (told place p)
+pub begun : (place : State) (p : Parts) → Fine place p → IsSpelt p → Begins (told place p)
 begun Start p f h = begun_Start p f h
 begun AfterCreate p f h = begun_AfterCreate p f h
 begun AfterShared p f h = begun_AfterShared p f h

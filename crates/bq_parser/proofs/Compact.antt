@@ -12,8 +12,8 @@ use Rattle.bq_text.specs.declared.key.Key.TheVariants.{CreateKey, StreamKey, Que
 use Rattle.bq_lexer.specs.declared.token.TokenKind.TheVariants.{Word}
 use Rattle.bq_parser.specs.declared.places.Action.{Action}
 use Rattle.bq_parser.specs.declared.places.Action.TheVariants.{BeginCompact, BeginSharedCompact}
-use Rattle.bq_parser.specs.declared.places.Place.{Place}
-use Rattle.bq_parser.specs.declared.places.Place.TheVariants.{Start, AfterCreate, AfterShared, AfterCompact, StreamName, OpenColumns, ColumnName, AfterColumn, DomainLow, FirstPoint, SecondPoint, DomainHigh, AfterDomain, QueryName, QueryAs, QuerySelect, FirstSelected, SelectedStream, SelectedPoint, SelectedColumn, AfterSelected, FromName, AfterFrom, AtomLeft, LeftPoint, LeftColumn, ColumnOp, RightAny, IntegerOp, RightStream, RightPoint, RightColumn, AfterAtom, ExplainName, AfterDrop, DropName, AfterResume, ResumeWhat, GivenRows, CellIndex, CellContent, TupleValue, AfterValue, Complete, Ended}
+use Rattle.bq_parser.specs.declared.places.State.{State}
+use Rattle.bq_parser.specs.declared.places.State.TheVariants.{Start, AfterCreate, AfterShared, AfterCompact, StreamName, OpenColumns, ColumnName, AfterColumn, DomainLow, FirstPoint, SecondPoint, DomainHigh, AfterDomain, QueryName, QueryAs, QuerySelect, FirstSelected, SelectedStream, SelectedPoint, SelectedColumn, AfterSelected, FromName, AfterFrom, AtomLeft, LeftPoint, LeftColumn, ColumnOp, RightAny, IntegerOp, RightStream, RightPoint, RightColumn, AfterAtom, ExplainName, AfterDrop, DropName, AfterResume, ResumeWhat, GivenRows, CellIndex, CellContent, TupleValue, AfterValue, Complete, Ended}
 use Rattle.bq_parser.specs.declared.tree.Statement.{Statement}
 use Rattle.bq_parser.specs.declared.tree.Statement.TheVariants.{CreateStream, CreateQuery, Explain, DropQuery, Checkpoint, ResumeRows, ResumeGiven, ResumeCell, ResumeTuple}
 use Rattle.bq_parser.specs.Grammar.{Lexeme, word, number, key, comma, point, opening, closing, less, equal, greater, less_equal, greater_equal, unequal, semicolon, shared_tokens, compact_tokens, select_tokens, tokens_with, is_compact}
@@ -22,7 +22,7 @@ use Rattle.bq_parser.specs.Reading.{Parts, act, text_of, kind_at, walk, walk_on}
 use Rattle.bq_parser.specs.Steps.{step, word_step, step_of}
 
 -- elsewhere a word is one by its kind alone
-pub other_word : (place : Place) (w : List ℕ) → place ≢ AfterCreate → place ≢ AfterShared → step place Word ≡ word_step place w
+pub other_word : (place : State) (w : List ℕ) → place ≢ AfterCreate → place ≢ AfterShared → step place Word ≡ word_step place w
 other_word AfterCreate w h k = absurd (h refl)
 other_word AfterShared w h k = absurd (k refl)
 other_word _ w h k = refl
@@ -55,7 +55,7 @@ where_true : {X : Type 0} (b : Bool) (x : X) (P : X → Type 0) → (b ≡ true 
 where_true true x P h = h refl
 where_true false x P h = tt
 
-spelt_step : (place : Place) (p : Parts) (l : Lexeme) → IsSpelt p → IfSome (step_of place (kind_at l) (text_of l)) (λ m. IsSpelt (act m.1 l p))
+spelt_step : (place : State) (p : Parts) (l : Lexeme) → IsSpelt p → IfSome (step_of place (kind_at l) (text_of l)) (λ m. IsSpelt (act m.1 l p))
 spelt_step AfterCreate p (word w) h = where_true (is_compact w) (AfterCompact, BeginCompact) (λ m. IsSpelt (act m.1 (word w) p)) (λ e. e)
 spelt_step AfterShared p (word w) h = where_true (is_compact w) (AfterCompact, BeginSharedCompact) (λ m. IsSpelt (act m.1 (word w) p)) (λ e. e)
 spelt_step Start p (key CreateKey) h = h
@@ -135,15 +135,15 @@ spelt_step Complete p semicolon h = h
 spelt_step Ended p (word w) h = tt
 spelt_step _ _ _ _ = tt
 
-spelt_on : (p : Parts) (l : Lexeme) (ts : List Lexeme) (o : Option (Place × Action)) (to : Place) (q : Parts) → ((pl : Place) (r : Parts) → IsSpelt r → walk pl r ts ≡ Ok (to, q) → IsSpelt q) → IfSome o (λ m. IsSpelt (act m.1 l p)) → walk_on o p l ts (λ pl r. walk pl r ts) ≡ Ok (to, q) → IsSpelt q
+spelt_on : (p : Parts) (l : Lexeme) (ts : List Lexeme) (o : Option (State × Action)) (to : State) (q : Parts) → ((pl : State) (r : Parts) → IsSpelt r → walk pl r ts ≡ Ok (to, q) → IsSpelt q) → IfSome o (λ m. IsSpelt (act m.1 l p)) → walk_on o p l ts (λ pl r. walk pl r ts) ≡ Ok (to, q) → IsSpelt q
 spelt_on p l ts None to q ih h e = cc
 spelt_on p l ts (Some m) to q ih h e = ih m.0 (act m.1 l p) h e
 
 -- and so it is after reading
-pub spelt_walk : (place : Place) (p : Parts) (ts : List Lexeme) (to : Place) (q : Parts) → IsSpelt p → walk place p ts ≡ Ok (to, q) → IsSpelt q
+pub spelt_walk : (place : State) (p : Parts) (ts : List Lexeme) (to : State) (q : Parts) → IsSpelt p → walk place p ts ≡ Ok (to, q) → IsSpelt q
 spelt_walk place p [] to q h e =
     let same : (place, p) ≡ (to, q) = cc in
-    let P : Place × Parts → Type 0 = λ m. IsSpelt m.1 in
+    let P : State × Parts → Type 0 = λ m. IsSpelt m.1 in
     subst P same h
 spelt_walk place p (l ∷ ts) to q h e = spelt_on p l ts (step_of place (kind_at l) (text_of l)) to q (λ pl r. spelt_walk pl r ts to q) (spelt_step place p l h) e
 

@@ -5,8 +5,8 @@ use Rattle.bq_text.specs.Value.{value_of, fits_i64, integer, is_integer}
 use Rattle.bq_text.specs.declared.key.Key.TheVariants.{CreateKey, StreamKey, QueryKey, AsKey, SelectKey, DistinctKey, FromKey, WhereKey, AndKey, InKey, CheckpointKey, ResumeKey}
 use Rattle.bq_lexer.specs.declared.token.TokenKind.{TokenKind}
 use Rattle.bq_lexer.specs.declared.token.TokenKind.TheVariants as kinds
-use Rattle.bq_parser.specs.declared.places.Place.{Place}
-use Rattle.bq_parser.specs.declared.places.Place.TheVariants.{Start, AfterCreate, AfterShared, AfterCompact, StreamName, OpenColumns, ColumnName, AfterColumn, DomainLow, FirstPoint, SecondPoint, DomainHigh, AfterDomain, QueryName, QueryAs, QuerySelect, FirstSelected, SelectedStream, SelectedPoint, SelectedColumn, AfterSelected, FromName, AfterFrom, AtomLeft, LeftPoint, LeftColumn, ColumnOp, RightAny, IntegerOp, RightStream, RightPoint, RightColumn, AfterAtom, ExplainName, AfterDrop, DropName, AfterResume, ResumeWhat, GivenRows, CellIndex, CellContent, TupleValue, AfterValue, Complete, Ended}
+use Rattle.bq_parser.specs.declared.places.State.{State}
+use Rattle.bq_parser.specs.declared.places.State.TheVariants.{Start, AfterCreate, AfterShared, AfterCompact, StreamName, OpenColumns, ColumnName, AfterColumn, DomainLow, FirstPoint, SecondPoint, DomainHigh, AfterDomain, QueryName, QueryAs, QuerySelect, FirstSelected, SelectedStream, SelectedPoint, SelectedColumn, AfterSelected, FromName, AfterFrom, AtomLeft, LeftPoint, LeftColumn, ColumnOp, RightAny, IntegerOp, RightStream, RightPoint, RightColumn, AfterAtom, ExplainName, AfterDrop, DropName, AfterResume, ResumeWhat, GivenRows, CellIndex, CellContent, TupleValue, AfterValue, Complete, Ended}
 use Rattle.bq_parser.specs.Steps.{step_of}
 use Rattle.bq_parser.specs.Grammar.{is_compact}
 use Rattle.bq_parser.specs.Syntax.{lexeme_as, lexeme_of, lexemes}
@@ -121,7 +121,7 @@ says_value : (w : List ℕ) → is_integer w ≡ true → or_far (value_of w) �
 unfolding value_of
 says_value w h = ap (λ t. or_far (cond (t && fits_i64 (integer w)) (Some (integer w)) None)) h ∙ far_cond (fits_i64 (integer w)) (integer w)
 
-pub says : (place : Place) (k : TokenKind) (w : List ℕ) → (k ≡ kinds.Integer → is_integer w ≡ true) → IfSome (step_of place k w) (λ m. SaysFor m.1 (lexeme_as k w) w)
+pub says : (place : State) (k : TokenKind) (w : List ℕ) → (k ≡ kinds.Integer → is_integer w ≡ true) → IfSome (step_of place k w) (λ m. SaysFor m.1 (lexeme_as k w) w)
 says AtomLeft kinds.Integer w h = says_value w (h refl)
 says RightAny kinds.Integer w h = says_value w (h refl)
 says DomainLow kinds.Integer w h = says_value w (h refl)
@@ -185,10 +185,10 @@ says AfterAtom (kinds.Reserved AndKey) w h = tt
 says _ _ _ _ = tt
 
 -- one token more is read
-pub read_more : (line : List ℕ) (ts : List Token) (t : Token) (place to : Place) (a : Action) (d : Draft) (w : List ℕ) → IsRead line ts place d → step_of place t.kind (slice_range line t.from t.to) ≡ Some (to, a) → w ≡ slice_range line t.from t.to → IsCut line t → IsRead line (ts ++ t ∷ []) to (drafted a w d)
+pub read_more : (line : List ℕ) (ts : List Token) (t : Token) (place to : State) (a : Action) (d : Draft) (w : List ℕ) → IsRead line ts place d → step_of place t.kind (slice_range line t.from t.to) ≡ Some (to, a) → w ≡ slice_range line t.from t.to → IsCut line t → IsRead line (ts ++ t ∷ []) to (drafted a w d)
 read_more line ts t place to a d w r e same cut =
     let l = lexeme_of line t in
-    let P : Option (Place × Action) → Type 0 = λ o. IfSome o (λ m. SaysFor m.1 l (slice_range line t.from t.to)) in
+    let P : Option (State × Action) → Type 0 = λ o. IfSome o (λ m. SaysFor m.1 l (slice_range line t.from t.to)) in
     let says_it = subst P e (says place t.kind (slice_range line t.from t.to) (λ e. integer_text (slice_range line t.from t.to) (cut.kind ∙ ap Some e))) in
     record {
       parts = act a l r.parts;

@@ -3,8 +3,8 @@ use Rattle.std.proofs.Common.{◌≡◌, ◌<◌, Bool, true, false, cond, List,
 use Rattle.std.specs.List.{AllByRecursion}
 use Rattle.std.proofs.lemmas.List.{map-append}
 use Rattle.bq_text.specs.declared.key.Key.TheVariants.{CreateKey, StreamKey, QueryKey, AsKey, SelectKey, DistinctKey, FromKey, WhereKey, AndKey, ExplainKey, DropKey, InKey, SharedKey, CheckpointKey, ResumeKey}
-use Rattle.bq_parser.specs.declared.places.Place.{Place}
-use Rattle.bq_parser.specs.declared.places.Place.TheVariants.{Start, AfterCreate, AfterShared, AfterCompact, StreamName, OpenColumns, ColumnName, AfterColumn, DomainLow, FirstPoint, SecondPoint, DomainHigh, AfterDomain, QueryName, QueryAs, QuerySelect, FirstSelected, SelectedStream, SelectedPoint, SelectedColumn, AfterSelected, FromName, AfterFrom, AtomLeft, LeftPoint, LeftColumn, ColumnOp, RightAny, IntegerOp, RightStream, RightPoint, RightColumn, AfterAtom, ExplainName, AfterDrop, DropName, AfterResume, ResumeWhat, GivenRows, CellIndex, CellContent, TupleValue, AfterValue, Complete, Ended}
+use Rattle.bq_parser.specs.declared.places.State.{State}
+use Rattle.bq_parser.specs.declared.places.State.TheVariants.{Start, AfterCreate, AfterShared, AfterCompact, StreamName, OpenColumns, ColumnName, AfterColumn, DomainLow, FirstPoint, SecondPoint, DomainHigh, AfterDomain, QueryName, QueryAs, QuerySelect, FirstSelected, SelectedStream, SelectedPoint, SelectedColumn, AfterSelected, FromName, AfterFrom, AtomLeft, LeftPoint, LeftColumn, ColumnOp, RightAny, IntegerOp, RightStream, RightPoint, RightColumn, AfterAtom, ExplainName, AfterDrop, DropName, AfterResume, ResumeWhat, GivenRows, CellIndex, CellContent, TupleValue, AfterValue, Complete, Ended}
 use Rattle.bq_parser.specs.declared.places.Action.TheVariants.{BeginCompact, BeginSharedCompact}
 use Rattle.bq_schema.specs.declared.column.ColumnDef.{ColumnDef}
 use Rattle.bq_parser.specs.declared.tree.OperandAst.TheVariants.{Column, Integer}
@@ -61,7 +61,7 @@ abbrev pub tuple_head : Parts → List Lexeme
 tuple_head p = key ResumeKey ∷ word p.name ∷ key SelectKey ∷ []
 
 -- the tokens before a place
-abbrev pub told : Place → Parts → List Lexeme
+abbrev pub told : State → Parts → List Lexeme
 told Start p = []
 told AfterCreate p = key CreateKey ∷ []
 told AfterShared p = key CreateKey ∷ key SharedKey ∷ []
@@ -119,7 +119,7 @@ pub record Sourced (p : Parts) : Type 0 where
   pub from : 0 < length p.from
   pub atoms : AllByRecursion HasColumn p.atoms
 
-abbrev pub Fine : Place → Parts → Type 0
+abbrev pub Fine : State → Parts → Type 0
 Fine StreamName p = p.form ≡ forms.Stream
 Fine OpenColumns p = p.form ≡ forms.Stream
 Fine ColumnName p = p.form ≡ forms.Stream
@@ -231,7 +231,7 @@ where_some true x P h = h
 where_some false x P h = tt
 
 -- each step adds its token
-pub told_step : (place : Place) (p : Parts) (l : Lexeme) → Fine place p → IfSome (step_of place (kind_at l) (text_of l)) (λ m. (told m.0 (act m.1 l p) ≡ told place p ++ l ∷ []) × Fine m.0 (act m.1 l p))
+pub told_step : (place : State) (p : Parts) (l : Lexeme) → Fine place p → IfSome (step_of place (kind_at l) (text_of l)) (λ m. (told m.0 (act m.1 l p) ≡ told place p ++ l ∷ []) × Fine m.0 (act m.1 l p))
 told_step Start p (key CreateKey) f = (refl, tt)
 told_step Start p (key ExplainKey) f = (refl, refl)
 told_step Start p (key DropKey) f = (refl, refl)

@@ -3,8 +3,8 @@ use Rattle.std.proofs.Common.{◌≡◌, ℕ, true, false, List, [], ◌∷◌, 
 use Rattle.bq_lexer.specs.declared.token.TokenKind.{TokenKind}
 use Rattle.bq_lexer.specs.declared.token.TokenKind.TheVariants.{Word, Reserved, Integer, Comma, Point, Open, Close, Less, Equal, Greater, LessEqual, GreaterEqual, Unequal, Semi}
 use Rattle.bq_lexer.specs.declared.token.Token.{Token}
-use Rattle.bq_parser.specs.declared.places.Place.{Place}
-use Rattle.bq_parser.specs.declared.places.Place.TheVariants.{Start, AfterFrom, AfterAtom, AfterValue, Complete, Ended}
+use Rattle.bq_parser.specs.declared.places.State.{State}
+use Rattle.bq_parser.specs.declared.places.State.TheVariants.{Start, AfterFrom, AfterAtom, AfterValue, Complete, Ended}
 use Rattle.bq_parser.specs.declared.places.Action.{Action}
 use Rattle.bq_parser.specs.declared.tree.Statement.{Statement}
 use Rattle.std.specs.Prelude.{slice_range}
@@ -19,7 +19,7 @@ use Rattle.bq_parser.proofs.Begun.{begun}
 use Rattle.bq_parser.proofs.Again.{spelled_read}
 
 -- a token leads where its kind and text do
-pub step_same : (place : Place) (k : TokenKind) (w : List ℕ) → step_of place (kind_at (lexeme_as k w)) (text_of (lexeme_as k w)) ≡ step_of place k w
+pub step_same : (place : State) (k : TokenKind) (w : List ℕ) → step_of place (kind_at (lexeme_as k w)) (text_of (lexeme_as k w)) ≡ step_of place k w
 step_same place Word w = refl
 step_same place (Reserved k) w = refl
 step_same place Integer w = refl
@@ -36,18 +36,18 @@ step_same place Unequal w = refl
 step_same place Semi w = refl
 
 -- a walk that stops at a token
-pub record StopsIn (line : List ℕ) (place : Place) (p : Parts) (ts : List Token) (at : ℕ) : Type 0 where
+pub record StopsIn (line : List ℕ) (place : State) (p : Parts) (ts : List Token) (at : ℕ) : Type 0 where
   pub front : List Token
   pub stop : Token
   pub after : List Token
-  pub to : Place
+  pub to : State
   pub parts : Parts
   pub whole : ts ≡ front ++ stop ∷ after
   pub place_is : at ≡ stop.from
   pub read : walk place p (lexemes line front) ≡ Ok (to, parts)
   pub none : step_of to (kind_at (lexeme_of line stop)) (text_of (lexeme_of line stop)) ≡ None
 
-stops_on : (line : List ℕ) (place : Place) (p : Parts) (t : Token) (ts : List Token) (at : ℕ) (o : Option (Place × Action)) → step_of place t.kind (slice_range line t.from t.to) ≡ o → ((pl : Place) (r : Parts) → place_after line pl ts ≡ Err at → StopsIn line pl r ts at) → after_step o t (λ pl. place_after line pl ts) ≡ Err at → StopsIn line place p (t ∷ ts) at
+stops_on : (line : List ℕ) (place : State) (p : Parts) (t : Token) (ts : List Token) (at : ℕ) (o : Option (State × Action)) → step_of place t.kind (slice_range line t.from t.to) ≡ o → ((pl : State) (r : Parts) → place_after line pl ts ≡ Err at → StopsIn line pl r ts at) → after_step o t (λ pl. place_after line pl ts) ≡ Err at → StopsIn line place p (t ∷ ts) at
 stops_on line place p t ts at None is ih e = record { front = []; stop = t; after = ts; to = place; parts = p; whole = refl; place_is = cc; read = refl; none = step_same place t.kind (slice_range line t.from t.to) ∙ is }
 stops_on line place p t ts at (Some m) is ih e =
     let l = lexeme_of line t in
@@ -64,15 +64,15 @@ stops_on line place p t ts at (Some m) is ih e =
       none = s.none;
     }
 
-stops : (line : List ℕ) (place : Place) (p : Parts) (ts : List Token) (at : ℕ) → place_after line place ts ≡ Err at → StopsIn line place p ts at
+stops : (line : List ℕ) (place : State) (p : Parts) (ts : List Token) (at : ℕ) → place_after line place ts ≡ Err at → StopsIn line place p ts at
 stops line place p [] at e = cc
 stops line place p (t ∷ ts) at e = stops_on line place p t ts at (step_of place t.kind (slice_range line t.from t.to)) refl (λ pl r. stops line pl r ts at) e
 
 -- what is read so far begins a statement
-pub begins_read : (ts : List Lexeme) (to : Place) (q : Parts) → walk Start no_parts ts ≡ Ok (to, q) → Begins ts
+pub begins_read : (ts : List Lexeme) (to : State) (q : Parts) → walk Start no_parts ts ≡ Ok (to, q) → Begins ts
 begins_read ts to q e = let t = walk_told Start no_parts ts to q tt e in subst Begins t.0 (begun to q t.1 (spelt_walk Start no_parts ts to q capitals e))
 
-stopped_begins : (front : List Lexeme) (stop : Lexeme) (to : Place) (q : Parts) → walk Start no_parts front ≡ Ok (to, q) → step_of to (kind_at stop) (text_of stop) ≡ None → Begins (front ++ stop ∷ []) → ⊥
+stopped_begins : (front : List Lexeme) (stop : Lexeme) (to : State) (q : Parts) → walk Start no_parts front ≡ Ok (to, q) → step_of to (kind_at stop) (text_of stop) ≡ None → Begins (front ++ stop ∷ []) → ⊥
 stopped_begins front stop to q read none (more, s, spells) =
     let r = spelled_read ((front ++ stop ∷ []) ++ more) s spells in
     let stuck = ap (walk Start no_parts) (append_assoc front (stop ∷ []) more) ∙ stopped_always Start no_parts front stop more to q read none in
@@ -92,7 +92,7 @@ stops_at line ts at e =
     }
 
 -- where no statement may end, nothing is finished, and where one may, one is
-not_finished : (place : Place) (p : Parts) → may_end place ≡ false → finished place p ≡ None
+not_finished : (place : State) (p : Parts) → may_end place ≡ false → finished place p ≡ None
 not_finished AfterFrom p e = cc
 not_finished AfterAtom p e = cc
 not_finished AfterValue p e = cc
@@ -100,7 +100,7 @@ not_finished Complete p e = cc
 not_finished Ended p e = cc
 not_finished _ p e = refl
 
-pub is_finished : (place : Place) (p : Parts) → may_end place ≡ true → (s : Statement) × (finished place p ≡ Some s)
+pub is_finished : (place : State) (p : Parts) → may_end place ≡ true → (s : Statement) × (finished place p ≡ Some s)
 is_finished AfterFrom p e = (built forms.Query p, refl)
 is_finished AfterAtom p e = (built forms.Query p, refl)
 is_finished AfterValue p e = (built forms.Tuple p, refl)
@@ -108,17 +108,17 @@ is_finished Complete p e = (built p.form p, refl)
 is_finished Ended p e = (built p.form p, refl)
 is_finished _ p e = cc
 
-same_ok : (a b : Place × Parts) (r : Result (Place × Parts) (List Lexeme)) → r ≡ Ok a → r ≡ Ok b → a ≡ b
+same_ok : (a b : State × Parts) (r : Result (State × Parts) (List Lexeme)) → r ≡ Ok a → r ≡ Ok b → a ≡ b
 same_ok a b r e f = cc
 
-unfinished : (ts : List Lexeme) (to : Place) (q : Parts) → walk Start no_parts ts ≡ Ok (to, q) → finished to q ≡ None → (s : Statement) → Spells ts s → ⊥
+unfinished : (ts : List Lexeme) (to : State) (q : Parts) → walk Start no_parts ts ≡ Ok (to, q) → finished to q ≡ None → (s : Statement) → Spells ts s → ⊥
 unfinished ts to q read none s spells =
     let r = spelled_read ts s spells in
     let same = same_ok (r.to, r.parts) (to, q) (walk Start no_parts ts) r.read read in
-    let there : finished to q ≡ Some s = ap (λ (m : Place × Parts). finished m.0 m.1) (sym same) ∙ r.finished_there in
+    let there : finished to q ≡ Some s = ap (λ (m : State × Parts). finished m.0 m.1) (sym same) ∙ r.finished_there in
     cc (there, none)
 
-pub ends_early : (line : List ℕ) (ts : List Token) (to : Place) (q : Parts) → walk Start no_parts (lexemes line ts) ≡ Ok (to, q) → may_end to ≡ false → EndsEarly line ts (length line)
+pub ends_early : (line : List ℕ) (ts : List Token) (to : State) (q : Parts) → walk Start no_parts (lexemes line ts) ≡ Ok (to, q) → may_end to ≡ false → EndsEarly line ts (length line)
 ends_early line ts to q read never = record {
   place = refl;
   begins = begins_read (lexemes line ts) to q read;

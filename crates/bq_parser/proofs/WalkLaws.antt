@@ -1,7 +1,7 @@
 -- What reading tells of the grammar.
 use Rattle.std.proofs.Common.{◌≡◌, List, [], ◌∷◌, ◌++◌, Option, Some, None, IfSome, refl, ap, sym, ◌∙◌, append_assoc, inl, inr, append-nil, subst, Ok, Err}
-use Rattle.bq_parser.specs.declared.places.Place.{Place}
-use Rattle.bq_parser.specs.declared.places.Place.TheVariants.{AfterFrom, AfterAtom, AfterValue, Complete, Ended}
+use Rattle.bq_parser.specs.declared.places.State.{State}
+use Rattle.bq_parser.specs.declared.places.State.TheVariants.{AfterFrom, AfterAtom, AfterValue, Complete, Ended}
 use Rattle.bq_parser.specs.declared.tree.Statement.{Statement}
 use Rattle.bq_parser.specs.Steps.{step_of}
 use Rattle.bq_parser.specs.Grammar.{Lexeme, Spells}
@@ -12,36 +12,36 @@ use Rattle.bq_parser.proofs.Compact.{IsSpelt}
 use Rattle.bq_parser.proofs.Told.{told, Fine, told_step, none_told, query_spelled, no_atoms}
 
 -- what one step and the rest of a walk tell
-abbrev pub WalkTold : Place → Parts → List Lexeme → Place → Parts → Type 0
+abbrev pub WalkTold : State → Parts → List Lexeme → State → Parts → Type 0
 WalkTold place p ts to q = (told to q ≡ told place p ++ ts) × Fine to q
 
-told_on : (place : Place) (p : Parts) (l : Lexeme) (ts : List Lexeme) (o : Option (Place × Action)) (to : Place) (q : Parts) → ((pl : Place) (r : Parts) → Fine pl r → walk pl r ts ≡ Ok (to, q) → WalkTold pl r ts to q) → IfSome o (λ m. (told m.0 (act m.1 l p) ≡ told place p ++ l ∷ []) × Fine m.0 (act m.1 l p)) → walk_on o p l ts (λ pl r. walk pl r ts) ≡ Ok (to, q) → WalkTold place p (l ∷ ts) to q
+told_on : (place : State) (p : Parts) (l : Lexeme) (ts : List Lexeme) (o : Option (State × Action)) (to : State) (q : Parts) → ((pl : State) (r : Parts) → Fine pl r → walk pl r ts ≡ Ok (to, q) → WalkTold pl r ts to q) → IfSome o (λ m. (told m.0 (act m.1 l p) ≡ told place p ++ l ∷ []) × Fine m.0 (act m.1 l p)) → walk_on o p l ts (λ pl r. walk pl r ts) ≡ Ok (to, q) → WalkTold place p (l ∷ ts) to q
 told_on place p l ts None to q ih h e = cc
 told_on place p l ts (Some m) to q ih h e =
     let rest = ih m.0 (act m.1 l p) h.1 e in
     (rest.0 ∙ ap (λ r. r ++ ts) h.0 ∙ append_assoc (told place p) (l ∷ []) ts, rest.1)
 
 -- reading goes on: the tokens so far and those read are the tokens then
-pub walk_told : (place : Place) (p : Parts) (ts : List Lexeme) (to : Place) (q : Parts) → Fine place p → walk place p ts ≡ Ok (to, q) → WalkTold place p ts to q
+pub walk_told : (place : State) (p : Parts) (ts : List Lexeme) (to : State) (q : Parts) → Fine place p → walk place p ts ≡ Ok (to, q) → WalkTold place p ts to q
 walk_told place p [] to q f e =
     let same : (place, p) ≡ (to, q) = cc in
-    let P : Place × Parts → Type 0 = λ m. WalkTold place p [] m.0 m.1 in
+    let P : State × Parts → Type 0 = λ m. WalkTold place p [] m.0 m.1 in
     subst P same (sym (append-nil (told place p)), f)
 walk_told place p (l ∷ ts) to q f e = told_on place p l ts (step_of place (kind_at l) (text_of l)) to q (λ pl r. walk_told pl r ts to q) (told_step place p l f) e
 
 -- where reading stops: a front that is read, and a token that goes on nowhere
-pub record Stopped (place : Place) (p : Parts) (ts rest : List Lexeme) : Type 0 where
+pub record Stopped (place : State) (p : Parts) (ts rest : List Lexeme) : Type 0 where
   pub front : List Lexeme
   pub stop : Lexeme
   pub after : List Lexeme
-  pub to : Place
+  pub to : State
   pub parts : Parts
   pub left : rest ≡ stop ∷ after
   pub whole : ts ≡ front ++ stop ∷ after
   pub read : walk place p front ≡ Ok (to, parts)
   pub none : step_of to (kind_at stop) (text_of stop) ≡ None
 
-stopped_on : (place : Place) (p : Parts) (l : Lexeme) (ts rest : List Lexeme) (o : Option (Place × Action)) → step_of place (kind_at l) (text_of l) ≡ o → ((pl : Place) (r : Parts) → walk pl r ts ≡ Err rest → Stopped pl r ts rest) → walk_on o p l ts (λ pl r. walk pl r ts) ≡ Err rest → Stopped place p (l ∷ ts) rest
+stopped_on : (place : State) (p : Parts) (l : Lexeme) (ts rest : List Lexeme) (o : Option (State × Action)) → step_of place (kind_at l) (text_of l) ≡ o → ((pl : State) (r : Parts) → walk pl r ts ≡ Err rest → Stopped pl r ts rest) → walk_on o p l ts (λ pl r. walk pl r ts) ≡ Err rest → Stopped place p (l ∷ ts) rest
 stopped_on place p l ts rest None is ih e = record { front = []; stop = l; after = ts; to = place; parts = p; left = cc; whole = refl; read = refl; none = is }
 stopped_on place p l ts rest (Some m) is ih e =
     let s = ih m.0 (act m.1 l p) e in
@@ -57,27 +57,27 @@ stopped_on place p l ts rest (Some m) is ih e =
       none = s.none;
     }
 
-pub walk_stopped : (place : Place) (p : Parts) (ts rest : List Lexeme) → walk place p ts ≡ Err rest → Stopped place p ts rest
+pub walk_stopped : (place : State) (p : Parts) (ts rest : List Lexeme) → walk place p ts ≡ Err rest → Stopped place p ts rest
 walk_stopped place p [] rest e = cc
 walk_stopped place p (l ∷ ts) rest e = stopped_on place p l ts rest (step_of place (kind_at l) (text_of l)) refl (λ pl r. walk_stopped pl r ts rest) e
 
-walk_append_on : (o : Option (Place × Action)) (p : Parts) (l : Lexeme) (ts more : List Lexeme) (to : Place) (q : Parts) → ((pl : Place) (r : Parts) → walk pl r ts ≡ Ok (to, q) → walk pl r (ts ++ more) ≡ walk to q more) → walk_on o p l ts (λ pl r. walk pl r ts) ≡ Ok (to, q) → walk_on o p l (ts ++ more) (λ pl r. walk pl r (ts ++ more)) ≡ walk to q more
+walk_append_on : (o : Option (State × Action)) (p : Parts) (l : Lexeme) (ts more : List Lexeme) (to : State) (q : Parts) → ((pl : State) (r : Parts) → walk pl r ts ≡ Ok (to, q) → walk pl r (ts ++ more) ≡ walk to q more) → walk_on o p l ts (λ pl r. walk pl r ts) ≡ Ok (to, q) → walk_on o p l (ts ++ more) (λ pl r. walk pl r (ts ++ more)) ≡ walk to q more
 walk_append_on None p l ts more to q ih e = cc
 walk_append_on (Some m) p l ts more to q ih e = ih m.0 (act m.1 l p) e
 
 -- a walk goes on from where it came to
-pub walk_append : (place : Place) (p : Parts) (ts more : List Lexeme) (to : Place) (q : Parts) → walk place p ts ≡ Ok (to, q) → walk place p (ts ++ more) ≡ walk to q more
+pub walk_append : (place : State) (p : Parts) (ts more : List Lexeme) (to : State) (q : Parts) → walk place p ts ≡ Ok (to, q) → walk place p (ts ++ more) ≡ walk to q more
 walk_append place p [] more to q e =
     let same : (place, p) ≡ (to, q) = cc in
-    ap (λ (m : Place × Parts). walk m.0 m.1 more) same
+    ap (λ (m : State × Parts). walk m.0 m.1 more) same
 walk_append place p (l ∷ ts) more to q e = walk_append_on (step_of place (kind_at l) (text_of l)) p l ts more to q (λ pl r. walk_append pl r ts more to q) e
 
 -- what stops a walk stops each that begins so
-pub stopped_always : (place : Place) (p : Parts) (front : List Lexeme) (stop : Lexeme) (more : List Lexeme) (to : Place) (q : Parts) → walk place p front ≡ Ok (to, q) → step_of to (kind_at stop) (text_of stop) ≡ None → walk place p (front ++ stop ∷ more) ≡ Err (stop ∷ more)
+pub stopped_always : (place : State) (p : Parts) (front : List Lexeme) (stop : Lexeme) (more : List Lexeme) (to : State) (q : Parts) → walk place p front ≡ Ok (to, q) → step_of to (kind_at stop) (text_of stop) ≡ None → walk place p (front ++ stop ∷ more) ≡ Err (stop ∷ more)
 stopped_always place p front stop more to q e none = walk_append place p front (stop ∷ more) to q e ∙ ap (λ o. walk_on o q stop more (λ pl r. walk pl r more)) none
 
 -- where a statement may end, the tokens are one's
-pub finished_spells : (place : Place) (p : Parts) (s : Statement) → Fine place p → IsSpelt p → finished place p ≡ Some s → Spells (told place p) s
+pub finished_spells : (place : State) (p : Parts) (s : Statement) → Fine place p → IsSpelt p → finished place p ≡ Some s → Spells (told place p) s
 finished_spells AfterFrom p s f h e =
     let same : built forms.Query p ≡ s = cc in
     let P : Statement → Type 0 = λ s. Spells (told AfterFrom p) s in

@@ -11,8 +11,8 @@ use Rattle.bq_lexer.specs.declared.token.Token.{Token}
 use Rattle.bq_lexer.specs.Tokens.{tokens}
 use Rattle.bq_lexer.specs.Standing.{StandFrom}
 use Rattle.bq_model.specs.Query.{is_soft}
-use Rattle.bq_parser.specs.declared.places.Place.{Place}
-use Rattle.bq_parser.specs.declared.places.Place.TheVariants.{Start, AfterFrom, AfterAtom, AfterValue, Complete, Ended}
+use Rattle.bq_parser.specs.declared.places.State.{State}
+use Rattle.bq_parser.specs.declared.places.State.TheVariants.{Start, AfterFrom, AfterAtom, AfterValue, Complete, Ended}
 use Rattle.bq_schema.specs.declared.column.ColumnDef.{ColumnDef}
 use Rattle.bq_parser.specs.declared.tree.ColumnAst.{ColumnAst}
 use Rattle.bq_parser.specs.declared.tree.OperandAst.{OperandAst}
@@ -368,7 +368,7 @@ same_some : {X : Type 0} (a b : X) → Some a ≡ Some b → a ≡ b
 same_some a b e = cc
 
 -- the form of a statement that may end
-form_there : (place : Place) (p : Parts) (s : Statement) → Fine place p → finished place p ≡ Some s → s ≡ built p.form p
+form_there : (place : State) (p : Parts) (s : Statement) → Fine place p → finished place p ≡ Some s → s ≡ built p.form p
 form_there AfterFrom p s f e = same_some s (built forms.Query p) (sym e) ∙ ap (λ m. built m p) (sym f.0.form)
 form_there AfterAtom p s f e = same_some s (built forms.Query p) (sym e) ∙ ap (λ m. built m p) (sym f.0.form)
 form_there AfterValue p s f e = same_some s (built forms.Tuple p) (sym e) ∙ ap (λ m. built m p) (sym f.0)
@@ -414,7 +414,7 @@ judged_parts line ts p is spells stand =
           same_statement spells.1 p.form p refl (named n.0) n.1;
     }
 
-pub judged : (line : List ℕ) (ts : List Token) (place : Place) (d : Draft) → tokens line ≡ Ok ts → StandFrom line 0 ts → IsRead line ts place d → may_end place ≡ true → Judged line ts d
+pub judged : (line : List ℕ) (ts : List Token) (place : State) (d : Draft) → tokens line ≡ Ok ts → StandFrom line 0 ts → IsRead line ts place d → may_end place ≡ true → Judged line ts d
 judged line ts place d lexed stand r ends =
     let f = is_finished place r.parts ends in
     let t = walk_told Start no_parts (lexemes line ts) place r.parts tt r.read in

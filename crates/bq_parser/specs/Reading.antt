@@ -2,8 +2,8 @@
 use Rattle.std.specs.Prelude.{ℕ, Bool, true, false, ℤ, pos, List, [], ◌∷◌, ◌++◌, codes, Option, Some, None, Result, Ok, Err}
 use Rattle.bq_lexer.specs.declared.token.TokenKind.{TokenKind}
 use Rattle.bq_lexer.specs.declared.token.TokenKind.TheVariants as kinds
-use Rattle.bq_parser.specs.declared.places.Place.{Place}
-use Rattle.bq_parser.specs.declared.places.Place.TheVariants as places
+use Rattle.bq_parser.specs.declared.places.State.{State}
+use Rattle.bq_parser.specs.declared.places.State.TheVariants as places
 use Rattle.bq_parser.specs.declared.places.Action.{Action}
 use Rattle.bq_parser.specs.declared.places.Action.TheVariants as actions
 use Rattle.bq_model.specs.declared.atom.Op.{Op}
@@ -130,7 +130,7 @@ built forms.Cell p = ResumeCell p.name p.index p.count
 built forms.Tuple p = ResumeTuple p.name (record { items = p.values })
 
 -- the statement, where one may end there
-abbrev pub finished : Place → Parts → Option Statement
+abbrev pub finished : State → Parts → Option Statement
 finished places.AfterFrom p = Some (built forms.Query p)
 finished places.AfterAtom p = Some (built forms.Query p)
 finished places.AfterValue p = Some (built forms.Tuple p)
@@ -139,17 +139,17 @@ finished places.Ended p = Some (built p.form p)
 finished _ p = None
 
 -- one step, and on from there
-abbrev pub walk_on : Option (Place × Action) → Parts → Lexeme → List Lexeme → (Place → Parts → Result (Place × Parts) (List Lexeme)) → Result (Place × Parts) (List Lexeme)
+abbrev pub walk_on : Option (State × Action) → Parts → Lexeme → List Lexeme → (State → Parts → Result (State × Parts) (List Lexeme)) → Result (State × Parts) (List Lexeme)
 walk_on None p l ts on = Err (l ∷ ts)
 walk_on (Some m) p l ts on = on m.0 (act m.1 l p)
 
 -- The place and the parts after the tokens; or what is left from the first token on that begins no statement.
-abbrev pub walk : Place → Parts → List Lexeme → Result (Place × Parts) (List Lexeme)
+abbrev pub walk : State → Parts → List Lexeme → Result (State × Parts) (List Lexeme)
 walk place p [] = Ok (place, p)
 walk place p (l ∷ ts) = walk_on (step_of place (kind_at l) (text_of l)) p l ts (λ to q. walk to q ts)
 
 -- whether a statement may end at a place
-abbrev pub may_end : Place → Bool
+abbrev pub may_end : State → Bool
 may_end places.AfterFrom = true
 may_end places.AfterAtom = true
 may_end places.AfterValue = true

@@ -1,10 +1,10 @@
 -- The sections of a statement: which places belong together.
 use Rattle.std.specs.Prelude.{Bool, true, false}
-use Rattle.bq_parser.specs.declared.places.Place.{Place}
-use Rattle.bq_parser.specs.declared.places.Place.TheVariants.{Start, AfterCreate, AfterShared, AfterCompact, StreamName, OpenColumns, ColumnName, AfterColumn, DomainLow, FirstPoint, SecondPoint, DomainHigh, AfterDomain, QueryName, QueryAs, QuerySelect, FirstSelected, SelectedStream, SelectedPoint, SelectedColumn, AfterSelected, FromName, AfterFrom, AtomLeft, LeftPoint, LeftColumn, ColumnOp, IntegerOp, RightAny, RightStream, RightPoint, RightColumn, AfterAtom, AfterResume, ResumeWhat, GivenRows, CellIndex, CellContent, TupleValue, AfterValue, ExplainName, AfterDrop, DropName, Complete, Ended}
+use Rattle.bq_parser.specs.declared.places.State.{State}
+use Rattle.bq_parser.specs.declared.places.State.TheVariants.{Start, AfterCreate, AfterShared, AfterCompact, StreamName, OpenColumns, ColumnName, AfterColumn, DomainLow, FirstPoint, SecondPoint, DomainHigh, AfterDomain, QueryName, QueryAs, QuerySelect, FirstSelected, SelectedStream, SelectedPoint, SelectedColumn, AfterSelected, FromName, AfterFrom, AtomLeft, LeftPoint, LeftColumn, ColumnOp, IntegerOp, RightAny, RightStream, RightPoint, RightColumn, AfterAtom, AfterResume, ResumeWhat, GivenRows, CellIndex, CellContent, TupleValue, AfterValue, ExplainName, AfterDrop, DropName, Complete, Ended}
 
 -- at the beginning of a statement
-abbrev pub is_begun : Place → Bool
+abbrev pub is_begun : State → Bool
 is_begun Start = true
 is_begun AfterCreate = true
 is_begun AfterShared = true
@@ -12,7 +12,7 @@ is_begun AfterCompact = true
 is_begun _ = false
 
 -- among the columns of a stream
-abbrev pub is_in_columns : Place → Bool
+abbrev pub is_in_columns : State → Bool
 is_in_columns StreamName = true
 is_in_columns OpenColumns = true
 is_in_columns ColumnName = true
@@ -20,7 +20,7 @@ is_in_columns AfterColumn = true
 is_in_columns _ = false
 
 -- in the domain of a column
-abbrev pub is_in_domain : Place → Bool
+abbrev pub is_in_domain : State → Bool
 is_in_domain DomainLow = true
 is_in_domain FirstPoint = true
 is_in_domain SecondPoint = true
@@ -29,7 +29,7 @@ is_in_domain AfterDomain = true
 is_in_domain _ = false
 
 -- between the name of a query and what it selects
-abbrev pub is_in_query : Place → Bool
+abbrev pub is_in_query : State → Bool
 is_in_query QueryName = true
 is_in_query QueryAs = true
 is_in_query QuerySelect = true
@@ -37,7 +37,7 @@ is_in_query FirstSelected = true
 is_in_query _ = false
 
 -- among the selected columns and the streams of a query
-abbrev pub is_in_select : Place → Bool
+abbrev pub is_in_select : State → Bool
 is_in_select SelectedStream = true
 is_in_select SelectedPoint = true
 is_in_select SelectedColumn = true
@@ -47,7 +47,7 @@ is_in_select AfterFrom = true
 is_in_select _ = false
 
 -- on the left of a comparison, or at its operator
-abbrev pub is_on_left : Place → Bool
+abbrev pub is_on_left : State → Bool
 is_on_left AtomLeft = true
 is_on_left LeftPoint = true
 is_on_left LeftColumn = true
@@ -56,7 +56,7 @@ is_on_left IntegerOp = true
 is_on_left _ = false
 
 -- on the right of a comparison, or behind it
-abbrev pub is_on_right : Place → Bool
+abbrev pub is_on_right : State → Bool
 is_on_right RightAny = true
 is_on_right RightStream = true
 is_on_right RightPoint = true
@@ -65,7 +65,7 @@ is_on_right AfterAtom = true
 is_on_right _ = false
 
 -- in a line that sets what is gone on from
-abbrev pub is_in_resume : Place → Bool
+abbrev pub is_in_resume : State → Bool
 is_in_resume AfterResume = true
 is_in_resume ResumeWhat = true
 is_in_resume GivenRows = true
@@ -76,7 +76,7 @@ is_in_resume AfterValue = true
 is_in_resume _ = false
 
 -- in EXPLAIN and DROP, or at the end of a statement
-abbrev pub is_at_end : Place → Bool
+abbrev pub is_at_end : State → Bool
 is_at_end ExplainName = true
 is_at_end AfterDrop = true
 is_at_end DropName = true
@@ -85,7 +85,7 @@ is_at_end Ended = true
 is_at_end _ = false
 
 -- in a query
-abbrev pub is_of_query : Place → Bool
+abbrev pub is_of_query : State → Bool
 is_of_query QueryName = true
 is_of_query QueryAs = true
 is_of_query QuerySelect = true

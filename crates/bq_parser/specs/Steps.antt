@@ -3,14 +3,14 @@ use Rattle.std.specs.Prelude.{ℕ, if◌then◌else◌, List, Option, Some, None
 use Rattle.bq_text.specs.declared.key.Key.TheVariants.{CreateKey, StreamKey, QueryKey, AsKey, SelectKey, DistinctKey, FromKey, WhereKey, AndKey, ExplainKey, DropKey, InKey, SharedKey, CheckpointKey, ResumeKey}
 use Rattle.bq_lexer.specs.declared.token.TokenKind.{TokenKind}
 use Rattle.bq_lexer.specs.declared.token.TokenKind.TheVariants.{Word, Reserved, Integer, Comma, Point, Open, Close, Less, Equal, Greater, LessEqual, GreaterEqual, Unequal, Semi}
-use Rattle.bq_parser.specs.declared.places.Place.{Place}
-use Rattle.bq_parser.specs.declared.places.Place.TheVariants.{Start, AfterCreate, AfterShared, AfterCompact, StreamName, OpenColumns, ColumnName, AfterColumn, DomainLow, FirstPoint, SecondPoint, DomainHigh, AfterDomain, QueryName, QueryAs, QuerySelect, FirstSelected, SelectedStream, SelectedPoint, SelectedColumn, AfterSelected, FromName, AfterFrom, AtomLeft, LeftPoint, LeftColumn, ColumnOp, RightAny, IntegerOp, RightStream, RightPoint, RightColumn, AfterAtom, ExplainName, AfterDrop, DropName, AfterResume, ResumeWhat, GivenRows, CellIndex, CellContent, TupleValue, AfterValue, Complete, Ended}
+use Rattle.bq_parser.specs.declared.places.State.{State}
+use Rattle.bq_parser.specs.declared.places.State.TheVariants.{Start, AfterCreate, AfterShared, AfterCompact, StreamName, OpenColumns, ColumnName, AfterColumn, DomainLow, FirstPoint, SecondPoint, DomainHigh, AfterDomain, QueryName, QueryAs, QuerySelect, FirstSelected, SelectedStream, SelectedPoint, SelectedColumn, AfterSelected, FromName, AfterFrom, AtomLeft, LeftPoint, LeftColumn, ColumnOp, RightAny, IntegerOp, RightStream, RightPoint, RightColumn, AfterAtom, ExplainName, AfterDrop, DropName, AfterResume, ResumeWhat, GivenRows, CellIndex, CellContent, TupleValue, AfterValue, Complete, Ended}
 use Rattle.bq_parser.specs.declared.places.Action.{Action}
 use Rattle.bq_parser.specs.declared.places.Action.TheVariants.{Nothing, BeginExplain, BeginDrop, BeginStream, BeginQuery, BeginShared, BeginCompact, BeginSharedCompact, Named, BeginColumns, ColumnIs, AddColumn, LowIs, AddBounded, BeginSelect, SetDistinct, StreamIs, AddSelected, BeginFrom, AddFrom, LeftInteger, LeftColumnIs, OpLess, OpEqual, OpGreater, OpLessEqual, OpGreaterEqual, OpUnequal, AddIntegerAtom, AddColumnAtom, BeginCheckpoint, RowsAre, BeginGiven, BeginCell, IndexIs, CountIs, BeginTuple, AddValue}
 use Rattle.bq_parser.specs.Grammar.{is_compact}
 
 -- the place behind a token of this kind, and what the token adds; nothing, where no statement goes on so
-abbrev pub step : Place → TokenKind → Option (Place × Action)
+abbrev pub step : State → TokenKind → Option (State × Action)
 step Start (Reserved CreateKey) = Some (AfterCreate, Nothing)
 step Start (Reserved ExplainKey) = Some (ExplainName, BeginExplain)
 step Start (Reserved DropKey) = Some (AfterDrop, BeginDrop)
@@ -88,12 +88,12 @@ step Complete Semi = Some (Ended, Nothing)
 step _ _ = None
 
 -- the same for a word, which is COMPACT where that may stand
-abbrev pub word_step : Place → List ℕ → Option (Place × Action)
+abbrev pub word_step : State → List ℕ → Option (State × Action)
 word_step AfterCreate w = if is_compact w then Some (AfterCompact, BeginCompact) else None
 word_step AfterShared w = if is_compact w then Some (AfterCompact, BeginSharedCompact) else None
 word_step place w = step place Word
 
 -- the same for a token of this kind and text
-abbrev pub step_of : Place → TokenKind → List ℕ → Option (Place × Action)
+abbrev pub step_of : State → TokenKind → List ℕ → Option (State × Action)
 step_of place Word w = word_step place w
 step_of place kind w = step place kind

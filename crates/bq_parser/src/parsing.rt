@@ -6,7 +6,7 @@ ghost use Rattle.bq_parser.specs.Limits.{limit_of};
 ghost use Rattle.bq_parser.specs.Refusal.{IsRefusal};
 
 use crate::limits::limit_passed;
-use crate::places::Place;
+use crate::places::State;
 use crate::reading::read_parts;
 use crate::tree::Statement;
 use bq_lexer::lex;
@@ -40,12 +40,12 @@ pub enum ParseError {
 }
 
 // Whether a statement may end at a place.
-fn is_end(place: Place) -> bool
+fn is_end(place: State) -> bool
     ensures { result ≡ may_end place }
 {
     matches!(
         place,
-        Place::AfterFrom | Place::AfterAtom | Place::AfterValue | Place::Complete | Place::Ended
+        State::AfterFrom | State::AfterAtom | State::AfterValue | State::Complete | State::Ended
     )
 }
 

@@ -6,10 +6,10 @@ ghost use Rattle.std.specs.Prelude.{◌≡◌, ◌≤◌, Ok, Err, length, slice
 ghost use Rattle.bq_parser.specs.Syntax.{place_after};
 ghost use Rattle.bq_parser.specs.Reading.{no_parts};
 ghost use Rattle.bq_parser.specs.Keeping.{kept_parts, IsCut, IsRead};
-ghost use Rattle.bq_parser.specs.declared.places.Place.TheVariants.{Start};
+ghost use Rattle.bq_parser.specs.declared.places.State.TheVariants.{Start};
 
 use crate::draft::{Draft, start};
-use crate::places::{Place, next_of};
+use crate::places::{State, next_of};
 use bq_lexer::Token;
 
 // The bytes of a token.
@@ -21,11 +21,11 @@ fn text_at<'a>(line: &'a [u8], token: &Token) -> &'a [u8]
 }
 
 /// Returns the place behind the tokens and what is kept of them, or where the first token stands that begins no statement.
-pub fn read_parts(line: &[u8], tokens: &[Token]) -> Result<(Place, Draft), u16>
+pub fn read_parts(line: &[u8], tokens: &[Token]) -> Result<(State, Draft), u16>
     requires { All (IsCut line.now) tokens.now }
     ensures { MatchResult result (λ found. IsRead line.now tokens.now found.0 found.1) (λ at. place_after line.now Start tokens.now ≡ Err at) }
 {
-    let mut place = Place::Start;
+    let mut place = State::Start;
     let mut draft = start();
     for token in tokens {
         let text = text_at(line, token);

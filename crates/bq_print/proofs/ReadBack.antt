@@ -14,8 +14,8 @@ use Rattle.bq_print.specs.Printed.{text_for, joins_last, gap_by, spaced_by, join
 use Rattle.bq_parser.proofs.Compact.{capitals}
 use Rattle.bq_print.proofs.Spaced.{IsSound, MayFollow, StopsFor, stops_digits, front, number_again}
 use Rattle.bq_parser.specs.declared.tree.Statement.{Statement}
-use Rattle.bq_parser.specs.declared.places.Place.{Place}
-use Rattle.bq_parser.specs.declared.places.Place.TheVariants.{Start}
+use Rattle.bq_parser.specs.declared.places.State.{State}
+use Rattle.bq_parser.specs.declared.places.State.TheVariants.{Start}
 use Rattle.bq_parser.specs.Grammar.{IsWhole, statement_tokens}
 use Rattle.bq_parser.specs.Reading.{Parts, no_parts, walk, finished}
 use Rattle.bq_parser.specs.Syntax.{IsStatement}
@@ -166,7 +166,7 @@ printed_statement s w sound = spaced_statement joins s w sound (printed_apart (s
 pub short_statement : (s : Statement) → IsWhole s → AllByRecursion IsSound (statement_tokens s) → IsApart joins_short (statement_tokens s) → IsStatement (short_form s) s
 short_statement s w sound apart = spaced_statement joins_short s w sound apart
 
-same_found : (a b : Result (Place × Parts) (List Lexeme)) (x y : Place × Parts) → a ≡ b → a ≡ Ok x → b ≡ Ok y → x ≡ y
+same_found : (a b : Result (State × Parts) (List Lexeme)) (x y : State × Parts) → a ≡ b → a ≡ Ok x → b ≡ Ok y → x ≡ y
 same_found a b x y e f g = cc
 
 same_some : (o : Option Statement) (s t : Statement) → o ≡ Some s → o ≡ Some t → s ≡ t
@@ -182,4 +182,4 @@ one_statement line s t a b =
     let x = spelled_read (lexemes line a.its_tokens) s a.spelled in
     let y = spelled_read (lexemes line b.its_tokens) t b.spelled in
     let there = same_found (walk Start no_parts (lexemes line a.its_tokens)) (walk Start no_parts (lexemes line b.its_tokens)) (x.to, x.parts) (y.to, y.parts) (ap (λ ts. walk Start no_parts (lexemes line ts)) same) x.read y.read in
-    same_some (finished x.to x.parts) s t x.finished_there (ap (λ (m : Place × Parts). finished m.0 m.1) there ∙ y.finished_there)
+    same_some (finished x.to x.parts) s t x.finished_there (ap (λ (m : State × Parts). finished m.0 m.1) there ∙ y.finished_there)

@@ -1,6 +1,6 @@
 use Rattle.std.proofs.Common.{◌≡◌, ◌∙◌, ap, sym, subst, None, List, ℕ, inl, inr, length, Result, All}
 use Rattle.bq_lexer.specs.declared.token.Token.{Token}
-use Rattle.bq_parser.specs.declared.places.Place.TheVariants.{Start}
+use Rattle.bq_parser.specs.declared.places.State.TheVariants.{Start}
 use Rattle.bq_parser.specs.declared.tree.Statement.{Statement}
 use Rattle.bq_parser.specs.DraftLimits.{limit_in}
 use Rattle.bq_parser.specs.Keeping.{IsCut, IsRead}
