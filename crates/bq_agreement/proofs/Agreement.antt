@@ -21,9 +21,9 @@ use Rattle.bq_parser.specs.Resolution.{resolved}
 use Rattle.bq_parser.proofs.Taken.{or_left, or_right}
 use Rattle.bq_print.proofs.ReadBack.{one_statement}
 use Rattle.bq_registry.specs.Live.{LiveQuery, names}
-use Rattle.bq_reply.specs.declared.word.Word.{Word}
-use Rattle.bq_reply.specs.declared.word.Word.TheVariants as words
-use Rattle.bq_reply.specs.declared.word.Word.TheVariants.{Duplicate, TooMany, UnknownQuery}
+use Rattle.bq_reply.specs.declared.refusal.Refusal.{Refusal}
+use Rattle.bq_reply.specs.declared.refusal.Refusal.TheVariants as words
+use Rattle.bq_reply.specs.declared.refusal.Refusal.TheVariants.{Duplicate, TooMany, UnknownQuery}
 use Rattle.bq_diagnosis.specs.declared.fault.Asks.{Asks}
 use Rattle.bq_diagnosis.specs.declared.fault.Asks.TheVariants as asks
 use Rattle.bq_diagnosis.specs.Asked as found
@@ -84,13 +84,13 @@ statement_agrees s (statements.ResumeCell name index content) = load_agrees s na
 statement_agrees s (statements.ResumeTuple name values) = load_agrees s name _ (is_live (live_names s) name) refl
 
 -- by what was found and what is asked
-by_both : (a b : Result Asks Word) (r q : Request) → a ≡ b → r ≡ q → IsAnsweredBy b q → IsAnsweredBy a r
-by_both a b r q e f h = subst (λ (x : Request). IsAnsweredBy a x) (sym f) (subst (λ (x : Result Asks Word). IsAnsweredBy x q) (sym e) h)
+by_both : (a b : Result Asks Refusal) (r q : Request) → a ≡ b → r ≡ q → IsAnsweredBy b q → IsAnsweredBy a r
+by_both a b r q e f h = subst (λ (x : Request). IsAnsweredBy a x) (sym f) (subst (λ (x : Result Asks Refusal). IsAnsweredBy x q) (sym e) h)
 
 limits_differ : (s t : Statement) (what : What) → s ≡ t → limit_of s ≡ Some what → limit_of t ≡ None → ⊥
 limits_differ s t what e h k = let f : Some what ≡ None = sym h ∙ ap limit_of e ∙ k in cc
 
-text_agrees : (s : State) (text : List ℕ) (a : Result Asks Word) (r : Request) → IsStatementAsked s.streams (live_names s) text a → IsStatementRequest s text r → IsAnsweredBy a r
+text_agrees : (s : State) (text : List ℕ) (a : Result Asks Refusal) (r : Request) → IsStatementAsked s.streams (live_names s) text a → IsStatementRequest s text r → IsAnsweredBy a r
 text_agrees s text a r (found.outside none p) (session.outside unread q) = by_both a (Err words.Syntax) r (refused words.Syntax) p q refl
 text_agrees s text a r (found.outside none p) (session.limited t w i l q) = absurd (none t i)
 text_agrees s text a r (found.outside none p) (session.stated t i l q) = absurd (none t i)
@@ -101,7 +101,7 @@ text_agrees s text a r (found.stated t i l p) (session.outside none q) = absurd 
 text_agrees s text a r (found.stated t i l p) (session.limited u v j m q) = absurd (limits_differ u t v (one_statement text u t j i) m l)
 text_agrees s text a r (found.stated t i l p) (session.stated u j m q) = by_both a (statement_asked s.streams (live_names s) t) r (statement_request s t) p (q ∙ ap (statement_request s) (one_statement text u t j i)) (statement_agrees s t)
 
-kind_agrees : (s : State) (kind : LineKind) (text : List ℕ) (a : Result Asks Word) (r : Request) → IsTextAsked s.streams (live_names s) kind text a → IsTextRequest s kind text r → IsAnsweredBy a r
+kind_agrees : (s : State) (kind : LineKind) (text : List ℕ) (a : Result Asks Refusal) (r : Request) → IsTextAsked s.streams (live_names s) kind text a → IsTextRequest s kind text r → IsAnsweredBy a r
 kind_agrees s kinds.Nothing text a r p q = by_both a (Ok asks.Nothing) r silent p q refl
 kind_agrees s kinds.RowLine text a r p q = by_both a (row_asked (row_of s.streams text)) r (entry_request (has_room s) (row_of s.streams text)) p q (row_agrees (row_of s.streams text) (has_room s))
 kind_agrees s kinds.StatementLine text a r p q = text_agrees s text a r p q

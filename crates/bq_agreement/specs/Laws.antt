@@ -2,8 +2,8 @@
 use Rattle.std.specs.Prelude.{◌≡◌, ℕ, List}
 use Rattle.std.specs.declared.result.Result.{Result}
 use Rattle.std.specs.declared.result.Result.TheVariants.{Ok, Err}
-use Rattle.bq_reply.specs.declared.word.Word.{Word}
-use Rattle.bq_reply.specs.declared.word.Word.TheVariants.{RowLimit}
+use Rattle.bq_reply.specs.declared.refusal.Refusal.{Refusal}
+use Rattle.bq_reply.specs.declared.refusal.Refusal.TheVariants.{RowLimit}
 use Rattle.bq_diagnosis.specs.declared.fault.Asks.{Asks}
 use Rattle.bq_diagnosis.specs.declared.fault.Asks.TheVariants as asks
 use Rattle.bq_diagnosis.specs.Asked.{IsAsked}
@@ -24,7 +24,7 @@ IsExplained _ = ⊥
 
 -- What is found for a line agrees with what it asks a session for: a fault has the word of the refusal; else the session takes the line as it is
 -- found to ask. Of a row only the number of rows is left to the session, and of the lines of a checkpoint all but the name of their query.
-abbrev pub IsAnsweredBy : Result Asks Word → Request → Type 0
+abbrev pub IsAnsweredBy : Result Asks Refusal → Request → Type 0
 IsAnsweredBy (Err word) request = request ≡ refused word
 IsAnsweredBy (Ok asks.Nothing) request = request ≡ silent
 IsAnsweredBy (Ok asks.Row) request = IsTakenOrLate request
@@ -36,4 +36,4 @@ IsAnsweredBy (Ok asks.Other) request = Unit {0}
 
 -- what is found for a line over the streams and live queries of a session agrees with what it asks this session for
 abbrev pub FindsAnswers : Type 0
-FindsAnswers = (s : State) → (line : List ℕ) → (found : Result Asks Word) → (request : Request) → IsAsked s.streams (live_names s) line found → IsRequest s line request → IsAnsweredBy found request
+FindsAnswers = (s : State) → (line : List ℕ) → (found : Result Asks Refusal) → (request : Request) → IsAsked s.streams (live_names s) line found → IsRequest s line request → IsAnsweredBy found request

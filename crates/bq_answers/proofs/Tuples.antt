@@ -5,7 +5,7 @@ use Rattle.std.specs.Ordering.{is_eq}
 use Rattle.std.specs.declared.cmp.Ordering.{Ordering}
 use Rattle.std.specs.declared.cmp.Ordering.TheVariants.{Less, Equal, Greater}
 use Rattle.std.proofs.lemmas.Bool.Decides.{nat_tests}
-use Rattle.bq_model.specs.Tuples.{is_before, is_same, placed, ascending}
+use Rattle.bq_model.specs.Tuples.{is_before, is_same, insert_sorted, sorted}
 use Rattle.bq_answers.specs.Order.{tuple_order}
 use Rattle.bq_answers.specs.Entries.{Entry, entry_of, changed_at, changed, has_at, has, AllAbove, Ascends, waits, waiting_entries, tuples_of}
 use Rattle.bq_answers.proofs.ThreeWay.{order_three_way, same_three_way}
@@ -43,7 +43,7 @@ before_greater a b e = at (is_before a b) (is_before b a) refl e
     at true y is e = cc
 
 -- a tuple without an entry is put at its place
-pub tuples_new : (t : List ℤ) (f : ℕ → ℕ) (es : List Entry) → has t es ≡ false → tuples_of (changed f t es) ≡ placed t (tuples_of es)
+pub tuples_new : (t : List ℤ) (f : ℕ → ℕ) (es : List Entry) → has t es ≡ false → tuples_of (changed f t es) ≡ insert_sorted t (tuples_of es)
 unfolding changed has
 tuples_new t f [] h = refl
 tuples_new t f (e ∷ es) h =
@@ -52,8 +52,8 @@ tuples_new t f (e ∷ es) h =
     at : (o : Ordering)
         → tuple_order t e.tuple ≡ o
         → has_at o (has t es) ≡ false
-        → (has t es ≡ false → tuples_of (changed f t es) ≡ placed t (tuples_of es))
-        → tuples_of (changed_at o f t e es (changed f t es)) ≡ placed t (e.tuple ∷ tuples_of es)
+        → (has t es ≡ false → tuples_of (changed f t es) ≡ insert_sorted t (tuples_of es))
+        → tuples_of (changed_at o f t e es (changed f t es)) ≡ insert_sorted t (e.tuple ∷ tuples_of es)
     at Less is k rest = rw (before_greater e.tuple t (order_turn t e.tuple is)) refl
     at Equal is k rest = cc
     at Greater is k rest =
@@ -81,14 +81,14 @@ tuples_old t f (e ∷ es) a h =
     at Equal is k rest = refl
     at Greater is k rest = ap (λ (ts : List (List ℤ)). e.tuple ∷ ts) (rest k)
 
-placed_first : (t : List ℤ) (es : List Entry) → AllAbove t es → placed t (tuples_of es) ≡ t ∷ tuples_of es
+placed_first : (t : List ℤ) (es : List Entry) → AllAbove t es → insert_sorted t (tuples_of es) ≡ t ∷ tuples_of es
 placed_first t [] a = refl
 placed_first t (e ∷ es) a = rw (before_greater e.tuple t (order_turn t e.tuple a.0)) refl
 
 -- the tuples stand in the order of answers
-pub tuples_ascend : (es : List Entry) → Ascends es → ascending (tuples_of es) ≡ tuples_of es
+pub tuples_ascend : (es : List Entry) → Ascends es → sorted (tuples_of es) ≡ tuples_of es
 tuples_ascend [] a = refl
-tuples_ascend (e ∷ es) a = ap (placed e.tuple) (tuples_ascend es a.1) ∙ placed_first e.tuple es a.0
+tuples_ascend (e ∷ es) a = ap (insert_sorted e.tuple) (tuples_ascend es a.1) ∙ placed_first e.tuple es a.0
 
 above_waiting : (t : List ℤ) (es : List Entry) → AllAbove t es → AllAbove t (waiting_entries es)
 above_waiting t [] a = tt

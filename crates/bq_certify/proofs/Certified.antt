@@ -11,8 +11,8 @@ use Rattle.bq_feed.proofs.GivenEnds.{front-lines, took-lines, took-all}
 use Rattle.bq_schema.specs.Streams.{Shape}
 use Rattle.bq_parser.specs.declared.tree.SelectAst.{SelectAst}
 use Rattle.bq_parser.specs.declared.tree.Statement.{Statement}
-use Rattle.bq_reply.specs.declared.word.Word.{Word}
-use Rattle.bq_reply.specs.declared.word.Word.TheVariants.{Limit}
+use Rattle.bq_reply.specs.declared.refusal.Refusal.{Refusal}
+use Rattle.bq_reply.specs.declared.refusal.Refusal.TheVariants.{Limit}
 use Rattle.bq_certificate.specs.declared.line.Line.{Line}
 use Rattle.bq_certificate.specs.Nodes.{nodes_of}
 use Rattle.bq_certificate.specs.Certificate.{AreLines}
@@ -70,7 +70,7 @@ comes-large script source now reader g large =
     }
 
 -- a line behind the query says something
-pub comes-misplaced : (script : Script) (source now now' : SourceState) (old new : Reading) (number : ℕ) (word : Word) (g : GaveScript script source now old) → ¬ IsTooLarge script.query
+pub comes-misplaced : (script : Script) (source now now' : SourceState) (old new : Reading) (number : ℕ) (word : Refusal) (g : GaveScript script source now old) → ¬ IsTooLarge script.query
     → GaveLine source now' g.given new (λ place line. (number ≡ place) × IsMisplaced line word) → ComesTo Certifies source now' (refusal number word)
 comes-misplaced script source now now' old new number word g small t =
     let more = t.blanks ++ t.line ∷ [] in

@@ -14,7 +14,7 @@ use Rattle.bq_text.specs.Lines.{lines}
 use Rattle.bq_model.specs.Query.{QueryValue}
 use Rattle.bq_schema.specs.Streams.{Shape}
 use Rattle.bq_parser.specs.declared.tree.SelectAst.{SelectAst}
-use Rattle.bq_reply.specs.declared.word.Word.{Word}
+use Rattle.bq_reply.specs.declared.refusal.Refusal.{Refusal}
 use Rattle.bq_certificate.specs.declared.line.Line.{Line}
 use Rattle.bq_certcheck.specs.declared.answer.CheckAnswer.{CheckAnswer}
 use Rattle.bq_certificate.specs.Nodes.{nodes_of}
@@ -54,7 +54,7 @@ asks-all given more all streams name select shared q number a last e = record {
 }
 
 -- a line is refused before the query, or the script ends before it
-early : (source now : SourceState) (number : ℕ) (word : Word) → IsRefused number word source now → Refuses Checks number word source now
+early : (source now : SourceState) (number : ℕ) (word : Refusal) → IsRefused number word source now → Refuses Checks number word source now
 early source now number word r = record {
   needs = lines_for number r.refused;
   comes = record {
@@ -86,7 +86,7 @@ stands script source now reader g = record {
 }
 
 -- a line of the certificate is refused
-later : (script : Script) (source now now' : SourceState) (reader : Reading) (number : ℕ) (word : Word) → (g : GaveScript script source now reader) → GaveRefused source now' g.given number word → Refuses Checks number word source now'
+later : (script : Script) (source now now' : SourceState) (reader : Reading) (number : ℕ) (word : Refusal) → (g : GaveScript script source now reader) → GaveRefused source now' g.given number word → Refuses Checks number word source now'
 later script source now now' reader number word g r =
     let place : number ≡ script.line + length r.before + 1 = omega (arith, r.number_is, g.last) in
     record {

@@ -7,8 +7,8 @@ use Rattle.bq_feed.specs.Reading.{Reading}
 use Rattle.bq_feed.specs.GivenLines.{GivenLines}
 use Rattle.bq_feed.proofs.GivenEnds.{front-lines, took-lines}
 use Rattle.bq_parser.specs.LineKind.{stripped}
-use Rattle.bq_reply.specs.declared.word.Word.{Word}
-use Rattle.bq_reply.specs.declared.word.Word.TheVariants as words
+use Rattle.bq_reply.specs.declared.refusal.Refusal.{Refusal}
+use Rattle.bq_reply.specs.declared.refusal.Refusal.TheVariants as words
 use Rattle.bq_certificate.specs.declared.line.Line.{Line}
 use Rattle.bq_certificate.specs.declared.error.CertError.{CertError}
 use Rattle.bq_certificate.specs.declared.error.CertError.TheVariants as why
@@ -77,7 +77,7 @@ goes-on source now now' old new given certificate certificate' c t (l, is, (next
     regrouped given behind blanks line = append_assoc given behind (blanks ++ line ∷ []) ∙ ap (λ l. given ++ l) (sym (append_assoc behind blanks (line ∷ [])))
 
 -- a line is refused
-refused-line : (source now now' : SourceState) (old new : Reading) (given : List (List ℕ)) (certificate : List Line) (word : Word) (P : ℕ → List ℕ → Type 0) → (c : Collected source now given old certificate)
+refused-line : (source now now' : SourceState) (old new : Reading) (given : List (List ℕ)) (certificate : List Line) (word : Refusal) (P : ℕ → List ℕ → Type 0) → (c : Collected source now given old certificate)
     → (t : GaveLine source now' (given ++ c.behind) new P) → IsRefusedLine certificate t.line word → GaveRefused source now' given new.lines word
 refused-line source now now' old new given certificate word P c t refused = record {
   text = t.front;

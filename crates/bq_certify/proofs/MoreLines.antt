@@ -3,7 +3,7 @@ use Rattle.std.proofs.Common.{◌≡◌, ℕ, Bool, List, ◌∷◌, ◌++◌, N
 use Rattle.bq_model.specs.Query.{QueryValue}
 use Rattle.bq_schema.specs.Streams.{Shape}
 use Rattle.bq_parser.specs.declared.tree.SelectAst.{SelectAst}
-use Rattle.bq_reply.specs.declared.word.Word.{Word}
+use Rattle.bq_reply.specs.declared.refusal.Refusal.{Refusal}
 use Rattle.bq_script.specs.Script.{Asks, IsRefusedAt, at_line, at_end}
 use Rattle.bq_script.specs.Commands.{Outcome, early_refusal}
 use Rattle.bq_certify.specs.Certifying as certifying
@@ -37,8 +37,8 @@ needs-all o p n e none some =
 
 -- a refusal before the query stays
 early-stays : (IsOutcome : List (List ℕ) → Outcome → Type 0)
-    → ((all : List (List ℕ)) (number : ℕ) (word : Word) (refused : IsRefusedAt all number word) (o : Outcome) → o ≡ early_refusal number word refused → IsOutcome all o)
-    → (all more : List (List ℕ)) (o : Outcome) (n : ℕ) (number : ℕ) (word : Word) (refused : IsRefusedAt all number word) → o ≡ early_refusal number word refused → o.needs ≡ Some n → IsOutcome (all ++ more) o
+    → ((all : List (List ℕ)) (number : ℕ) (word : Refusal) (refused : IsRefusedAt all number word) (o : Outcome) → o ≡ early_refusal number word refused → IsOutcome all o)
+    → (all more : List (List ℕ)) (o : Outcome) (n : ℕ) (number : ℕ) (word : Refusal) (refused : IsRefusedAt all number word) → o ≡ early_refusal number word refused → o.needs ≡ Some n → IsOutcome (all ++ more) o
 early-stays IsOutcome early all more o n number word (at_line before line behind streams whole create is number_is) e some =
     early (all ++ more) number word (at_line before line (behind ++ more) streams (more-behind all before line behind more whole) create is number_is) o e
 early-stays IsOutcome early all more o n number word (at_end streams create word_is number_is) e some = absurd (needs-all o (early_refusal {lines = all} number word (at_end streams create word_is number_is)) n e refl some)

@@ -4,8 +4,8 @@ use Rattle.std.specs.List.{All, AllByRecursion}
 use Rattle.std.proofs.lemmas.List.Elements.{recursion_from_All}
 use Rattle.bq_schema.specs.Streams.{Shape}
 use Rattle.bq_parser.specs.declared.tree.SelectAst.{SelectAst}
-use Rattle.bq_reply.specs.declared.word.Word.{Word}
-use Rattle.bq_reply.specs.declared.word.Word.TheVariants.{Limit}
+use Rattle.bq_reply.specs.declared.refusal.Refusal.{Refusal}
+use Rattle.bq_reply.specs.declared.refusal.Refusal.TheVariants.{Limit}
 use Rattle.bq_certificate.specs.declared.line.Line.{Line}
 use Rattle.bq_certmake.specs.Made.{IsTooLarge}
 use Rattle.bq_script.specs.Script as scripts
@@ -18,18 +18,18 @@ use Rattle.bq_certify.specs.Laws.{AreAlike, same, both}
 use Rattle.bq_script.proofs.OneRefusal.{head-same, tail-same, behind-same, early-same}
 
 -- a line that has no place is not blank
-misplaced-loud : (line : List ℕ) (w : Word) → IsMisplaced line w → IsBlank line → ⊥
+misplaced-loud : (line : List ℕ) (w : Refusal) → IsMisplaced line w → IsBlank line → ⊥
 misplaced-loud line w (scripts.IsMisplaced.too_long m p) b = omega (arith, m, b.short)
 misplaced-loud line w (scripts.loud short n p) b = n b
 
-one-word : (line : List ℕ) (v w : Word) → IsMisplaced line v → IsMisplaced line w → v ≡ w
+one-word : (line : List ℕ) (v w : Refusal) → IsMisplaced line v → IsMisplaced line w → v ≡ w
 one-word line v w (scripts.IsMisplaced.too_long m p) (scripts.IsMisplaced.too_long n q) = p ∙ sym q
 one-word line v w (scripts.IsMisplaced.too_long m p) (scripts.loud short n q) = absurd (omega (arith, m, short))
 one-word line v w (scripts.loud short n p) (scripts.IsMisplaced.too_long m q) = absurd (omega (arith, m, short))
 one-word line v w (scripts.loud short n p) (scripts.loud s m q) = p ∙ sym q
 
 -- one line is the first that has no place
-one-misplaced : (xs ys : List (List ℕ)) (x y : List ℕ) (rest others : List (List ℕ)) (v w : Word) → AllByRecursion IsBlank xs → AllByRecursion IsBlank ys → IsMisplaced x v → IsMisplaced y w
+one-misplaced : (xs ys : List (List ℕ)) (x y : List ℕ) (rest others : List (List ℕ)) (v w : Refusal) → AllByRecursion IsBlank xs → AllByRecursion IsBlank ys → IsMisplaced x v → IsMisplaced y w
     → xs ++ x ∷ rest ≡ ys ++ y ∷ others → (length xs ≡ length ys) × (v ≡ w)
 one-misplaced [] [] x y rest others v w a b i k e = (refl, one-word x v w i (subst (λ l. IsMisplaced l w) (sym (head-same x y rest others e)) k))
 one-misplaced [] (z ∷ ys) x y rest others v w a b i k e = absurd (misplaced-loud x v i (subst IsBlank (sym (head-same x z rest (ys ++ y ∷ others) e)) b.0))
@@ -39,11 +39,11 @@ one-misplaced (u ∷ xs) (z ∷ ys) x y rest others v w a b i k e =
     (ap suc same.0, same.1)
 
 -- none of blank lines is misplaced
-blank-placed : (xs : List (List ℕ)) (x : List ℕ) (rest : List (List ℕ)) (w : Word) → AllByRecursion IsBlank (xs ++ x ∷ rest) → IsMisplaced x w → ⊥
+blank-placed : (xs : List (List ℕ)) (x : List ℕ) (rest : List (List ℕ)) (w : Refusal) → AllByRecursion IsBlank (xs ++ x ∷ rest) → IsMisplaced x w → ⊥
 blank-placed [] x rest w all i = misplaced-loud x w i all.0
 blank-placed (z ∷ xs) x rest w all i = blank-placed xs x rest w all.1 i
 
-all-placed : (texts xs : List (List ℕ)) (x : List ℕ) (rest : List (List ℕ)) (w : Word) → texts ≡ xs ++ x ∷ rest → All IsBlank texts → IsMisplaced x w → ⊥
+all-placed : (texts xs : List (List ℕ)) (x : List ℕ) (rest : List (List ℕ)) (w : Refusal) → texts ≡ xs ++ x ∷ rest → All IsBlank texts → IsMisplaced x w → ⊥
 all-placed texts xs x rest w e all i = blank-placed xs x rest w (subst (AllByRecursion IsBlank) e (recursion_from_All IsBlank texts all)) i
 
 certified-same : (streams shapes : List Shape) (name title : List ℕ) (select choice : SelectAst) (shared joint : Bool) (c : List Line) → streams ≡ shapes → name ≡ title → select ≡ choice → shared ≡ joint
@@ -74,7 +74,7 @@ alike all o p (certifying.misplaced streams name select shared q m asks small bl
     let i = (one_end all).0 streams shapes name title select choice shared joint q r m n asks also in
     let behind : asks.behind ≡ also.behind = behind-same all streams shapes name title select choice shared joint q r m n asks also i.5 in
     let k = one-misplaced blanks empty line text others more v w (recursion_from_All IsBlank blanks blank) (recursion_from_All IsBlank empty bare) wrong bad (sym is ∙ behind ∙ it) in
-    same (e ∙ ap₂ (λ (j : ℕ) (x : Word). refusal j x) (omega (arith, i.5, k.0)) k.1 ∙ sym f)
+    same (e ∙ ap₂ (λ (j : ℕ) (x : Refusal). refusal j x) (omega (arith, i.5, k.0)) k.1 ∙ sym f)
 alike all o p (certifying.misplaced streams name select shared q m asks small blanks line others v is blank wrong e) (certifying.whole shapes title choice joint r n also little bare c are good f) =
     let i = (one_end all).0 streams shapes name title select choice shared joint q r m n asks also in
     let behind : asks.behind ≡ also.behind = behind-same all streams shapes name title select choice shared joint q r m n asks also i.5 in

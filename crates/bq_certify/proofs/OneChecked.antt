@@ -3,7 +3,7 @@ use Rattle.std.proofs.Common.{◌≡◌, ℕ, Bool, None, List, [], refl, sym, a
 use Rattle.bq_model.specs.Query.{QueryValue}
 use Rattle.bq_schema.specs.Streams.{Shape}
 use Rattle.bq_parser.specs.declared.tree.SelectAst.{SelectAst}
-use Rattle.bq_reply.specs.declared.word.Word.{Word}
+use Rattle.bq_reply.specs.declared.refusal.Refusal.{Refusal}
 use Rattle.bq_certificate.specs.declared.line.Line.{Line}
 use Rattle.bq_certcheck.specs.declared.answer.CheckAnswer.{CheckAnswer}
 use Rattle.bq_certcheck.specs.declared.answer.CheckAnswer.TheVariants.{Yes, No}
@@ -34,7 +34,7 @@ one-checked all o p (checking.later streams name select shared q m asks before t
     let same = (one_end all).0 streams shapes name title select choice shared joint q r m n asks also in
     let behind : asks.behind ≡ also.behind = behind-same all streams shapes name title select choice shared joint q r m n asks also same.5 in
     let i = one-refused asks.behind before front text line others more c d v w is (behind ∙ it) collect gather refused denied in
-    e ∙ ap₂ (λ (k : ℕ) (x : Word). refusal k x) (omega (arith, same.5, i.0)) i.1 ∙ sym f
+    e ∙ ap₂ (λ (k : ℕ) (x : Refusal). refusal k x) (omega (arith, same.5, i.0)) i.1 ∙ sym f
 one-checked all o p (checking.later streams name select shared q m asks before text others c v is collect refused e) (checking.whole shapes title choice joint r n also d answer gather it f) =
     let same = (one_end all).0 streams shapes name title select choice shared joint q r m n asks also in
     let behind : asks.behind ≡ also.behind = behind-same all streams shapes name title select choice shared joint q r m n asks also same.5 in

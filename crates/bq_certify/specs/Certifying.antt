@@ -6,8 +6,8 @@ use Rattle.bq_model.specs.Query.{QueryValue}
 use Rattle.bq_schema.specs.Streams.{Shape}
 use Rattle.bq_parser.specs.declared.tree.SelectAst.{SelectAst}
 use Rattle.bq_parser.specs.declared.tree.Statement.TheVariants.{CreateQuery}
-use Rattle.bq_reply.specs.declared.word.Word.{Word}
-use Rattle.bq_reply.specs.declared.word.Word.TheVariants.{Limit}
+use Rattle.bq_reply.specs.declared.refusal.Refusal.{Refusal}
+use Rattle.bq_reply.specs.declared.refusal.Refusal.TheVariants.{Limit}
 use Rattle.bq_certificate.specs.declared.line.Line.{Line}
 use Rattle.bq_certificate.specs.Nodes.{nodes_of}
 use Rattle.bq_certificate.specs.Certificate.{AreLines}
@@ -25,11 +25,11 @@ certified streams name select shared lines = record { status = status.Done; text
 -- What it comes to: the first line that is refused before the query; the line of a query that is too large for a certificate; the first
 -- line behind it that says something; or else the script with a good certificate, whichever it is.
 pub data Certifies (lines : List (List ℕ)) (o : Outcome) : Type 0 where
-  early : (number : ℕ) (word : Word) (refused : IsRefusedAt lines number word) → o ≡ early_refusal number word refused → Certifies lines o
+  early : (number : ℕ) (word : Refusal) (refused : IsRefusedAt lines number word) → o ≡ early_refusal number word refused → Certifies lines o
   large : (streams : List Shape) (name : List ℕ) (select : SelectAst) (shared : Bool) (q : QueryValue) (number : ℕ) → Asks lines streams name select shared q number
       → IsTooLarge q → o ≡ refusal number Limit → Certifies lines o
   misplaced : (streams : List Shape) (name : List ℕ) (select : SelectAst) (shared : Bool) (q : QueryValue) (number : ℕ) (asks : Asks lines streams name select shared q number)
-      → ¬ IsTooLarge q → (blanks : List (List ℕ)) (line : List ℕ) (others : List (List ℕ)) (word : Word) → asks.behind ≡ blanks ++ line ∷ others → All IsBlank blanks
+      → ¬ IsTooLarge q → (blanks : List (List ℕ)) (line : List ℕ) (others : List (List ℕ)) (word : Refusal) → asks.behind ≡ blanks ++ line ∷ others → All IsBlank blanks
       → IsMisplaced line word → o ≡ refusal (number + length blanks + 1) word → Certifies lines o
   whole : (streams : List Shape) (name : List ℕ) (select : SelectAst) (shared : Bool) (q : QueryValue) (number : ℕ) (asks : Asks lines streams name select shared q number)
       → ¬ IsTooLarge q → All IsBlank asks.behind → (certificate : List Line) → AreLines certificate → IsGood q (nodes_of certificate)

@@ -10,8 +10,8 @@ use Rattle.bq_parser.specs.Resolution.{column_named}
 use Rattle.bq_parser.specs.LineKind.{stripped}
 use Rattle.bq_parser.specs.Naming.{column_text}
 use Rattle.bq_reply.specs.Texts.{condition_text}
-use Rattle.bq_reply.specs.declared.word.Word.{Word}
-use Rattle.bq_reply.specs.declared.word.Word.TheVariants.{LineTooLong, Syntax, Limit}
+use Rattle.bq_reply.specs.declared.refusal.Refusal.{Refusal}
+use Rattle.bq_reply.specs.declared.refusal.Refusal.TheVariants.{LineTooLong, Syntax, Limit}
 use Rattle.bq_certificate.specs.declared.line.Line.{Line}
 use Rattle.bq_certcheck.specs.declared.answer.Reason.{Reason}
 use Rattle.bq_certcheck.specs.declared.answer.Reason.TheVariants as reason
@@ -32,7 +32,7 @@ pub data Collect : List Line → List (List ℕ) → List Line → Type 0 where
       → IsLine (stripped text) l → IsNext (last_of certificate) l → HasRoom certificate l → Collect (certificate ++ l ∷ []) texts all → Collect certificate (text ∷ texts) all
 
 -- why a line is refused behind those of a certificate
-pub data IsRefusedLine (certificate : List Line) (text : List ℕ) (word : Word) : Type 0 where
+pub data IsRefusedLine (certificate : List Line) (text : List ℕ) (word : Refusal) : Type 0 where
   too_long : 1024 < length text → word ≡ LineTooLong → IsRefusedLine certificate text word
   no_line : length text ≤ 1024 → ¬ IsBlank text → IsNoNextText certificate (stripped text) → word ≡ Syntax → IsRefusedLine certificate text word
   too_many : (l : Line) → length text ≤ 1024 → ¬ IsBlank text → IsLine (stripped text) l → IsNext (last_of certificate) l → IsTooMany certificate l
@@ -58,9 +58,9 @@ answered streams name q (No place why) = record { status = status.Invalid; text 
 -- What it comes to: the first line that is refused before the query; the first line of the certificate that is refused; or else the
 -- answer to the certificate.
 pub data Checks (lines : List (List ℕ)) (o : Outcome) : Type 0 where
-  early : (number : ℕ) (word : Word) (refused : IsRefusedAt lines number word) → o ≡ early_refusal number word refused → Checks lines o
+  early : (number : ℕ) (word : Refusal) (refused : IsRefusedAt lines number word) → o ≡ early_refusal number word refused → Checks lines o
   later : (streams : List Shape) (name : List ℕ) (select : SelectAst) (shared : Bool) (q : QueryValue) (number : ℕ) (asks : Asks lines streams name select shared q number)
-      → (before : List (List ℕ)) (text : List ℕ) (others : List (List ℕ)) (certificate : List Line) (word : Word) → asks.behind ≡ before ++ text ∷ others
+      → (before : List (List ℕ)) (text : List ℕ) (others : List (List ℕ)) (certificate : List Line) (word : Refusal) → asks.behind ≡ before ++ text ∷ others
       → Collect [] before certificate → IsRefusedLine certificate text word → o ≡ refusal (number + length before + 1) word → Checks lines o
   whole : (streams : List Shape) (name : List ℕ) (select : SelectAst) (shared : Bool) (q : QueryValue) (number : ℕ) (asks : Asks lines streams name select shared q number)
       → (certificate : List Line) (answer : CheckAnswer) → Collect [] asks.behind certificate → IsCheckAnswer q (nodes_of certificate) answer

@@ -13,8 +13,8 @@ use Rattle.bq_feed.specs.Reading.{Reading, TakesAll}
 use Rattle.bq_feed.specs.Texts.{ended_part}
 use Rattle.bq_feed.specs.GivenLines.{GivenLines, TookLines}
 use Rattle.bq_parser.specs.Resolution.{HasNamed}
-use Rattle.bq_reply.specs.declared.word.Word.{Word}
-use Rattle.bq_reply.specs.declared.word.Word.TheVariants as words
+use Rattle.bq_reply.specs.declared.refusal.Refusal.{Refusal}
+use Rattle.bq_reply.specs.declared.refusal.Refusal.TheVariants as words
 use Rattle.bq_certificate.specs.declared.line.Line.{Line}
 use Rattle.bq_certificate.specs.declared.error.CertError.{CertError}
 use Rattle.bq_certificate.specs.declared.error.CertError.TheVariants as why
@@ -52,7 +52,7 @@ pub record GaveCertificate (source now : SourceState) (given : List (List ℕ)) 
   pub collect : Collect [] behind certificate
 
 -- Behind the lines that were given and those of a certificate, the line of this number is refused.
-pub record GaveRefused (source now : SourceState) (given : List (List ℕ)) (number : ℕ) (word : Word) : Type 0 where
+pub record GaveRefused (source now : SourceState) (given : List (List ℕ)) (number : ℕ) (word : Refusal) : Type 0 where
   pub text : List ℕ
   pub took : TookLines source now text
   pub before : List (List ℕ)

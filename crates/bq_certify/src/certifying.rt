@@ -14,7 +14,7 @@ use bq_certificate::Certificate;
 use bq_certmake::{MakeError, make};
 use bq_feed::LineReader;
 use bq_io::{Gathered, Sink, Source, Status, WriteFault};
-use bq_reply::Word;
+use bq_reply::Refusal;
 use bq_script::{Script, ScriptEnd, end_early, print_script, read_blank, read_script};
 use std::alloc::Global;
 
@@ -37,7 +37,7 @@ fn make_for(alloc: Global, script: &Script) -> Result<Certificate, ScriptEnd>
         }
         Err(MakeError::Limit) => Err(ScriptEnd::Refused {
             line: script.line,
-            word: Word::Limit,
+            word: Refusal::Limit,
         }),
         Err(MakeError::Memory) => Err(ScriptEnd::Memory),
     }
@@ -135,7 +135,7 @@ fn end_done<O: Sink>(certified: &Certified, output: &mut O) -> Status
 /// Reads a script to the end of the source, and writes its statements in printed form and a certificate of its query.
 ///
 /// The script is one of CREATE STREAM lines and then one CREATE QUERY line, between blank lines and comments. The first line that is
-/// not is refused with `error L Word` and `Invalid`, as is the line of a query of more than 4,096 parts, or whose certificate has more
+/// not is refused with `error L Refusal` and `Invalid`, as is the line of a query of more than 4,096 parts, or whose certificate has more
 /// than 262,144 nodes, with the word `Limit`. The source is read no further than the read in which such a line ends, so where it fails, or
 /// has more bytes than can be counted, no line that ended before is refused. Nothing is written before it is known what the command comes
 /// to, so nothing is in these two cases and for want of memory. Where the sink fails, a front of the text was written.

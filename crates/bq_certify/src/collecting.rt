@@ -8,12 +8,12 @@ ghost use Rattle.bq_certify.specs.Collecting.{HasGiven, ReadsCertificate};
 use bq_certificate::{CertError, Certificate};
 use bq_feed::LineReader;
 use bq_io::Source;
-use bq_reply::Word;
+use bq_reply::Refusal;
 use bq_script::{ScriptEnd, TextAnswer, next_text, text};
 use std::alloc::Global;
 
 // The end of a script at the line that was given last, which this word refuses.
-fn refused(reader: &LineReader, word: Word) -> ScriptEnd
+fn refused(reader: &LineReader, word: Refusal) -> ScriptEnd
     ensures { result ≡ ScriptEnd.Refused reader.now.lines word }
 {
     ScriptEnd::Refused {
@@ -27,8 +27,8 @@ fn end_at(reader: &LineReader, error: CertError) -> ScriptEnd
     ensures { result ≡ collecting.end_at reader.now.lines error }
 {
     match error {
-        CertError::Syntax => refused(reader, Word::Syntax),
-        CertError::Limit => refused(reader, Word::Limit),
+        CertError::Syntax => refused(reader, Refusal::Syntax),
+        CertError::Limit => refused(reader, Refusal::Limit),
         CertError::Memory => ScriptEnd::Memory,
     }
 }
@@ -51,7 +51,7 @@ pub fn read_certificate<I: Source>(
                 Ok(()) => {}
                 Err(error) => return Err(end_at(reader, error)),
             },
-            TextAnswer::TooLong => return Err(refused(reader, Word::LineTooLong)),
+            TextAnswer::TooLong => return Err(refused(reader, Refusal::LineTooLong)),
             TextAnswer::End => return Ok(certificate),
             TextAnswer::ReadFault => return Err(ScriptEnd::ReadFault),
             TextAnswer::ByteLimit => return Err(ScriptEnd::ByteLimit),

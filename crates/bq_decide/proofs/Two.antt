@@ -5,7 +5,7 @@ use Rattle.bq_model.specs.declared.atom.Attr.{Attr}
 use Rattle.bq_model.specs.declared.part.Sign.{Sign}
 use Rattle.bq_model.specs.Query.{QueryValue}
 use Rattle.bq_model.specs.Links.{AreOneClass, IsMinRef, IsMaxRef, HasTwoRefs, AreTwoRefs, two_mins, two_maxes, both}
-use Rattle.bq_refs.specs.declared.told.Refs.{Refs}
+use Rattle.bq_refs.specs.declared.types.Refs.{Refs}
 use Rattle.bq_refs.specs.Refs.{AreRefs}
 use Rattle.bq_decide.proofs.Told.{contains_from_any, any_from_contains, turned, joined}
 use Rattle.bq_decide.specs.Deciding.{AreNamedAll, IsOther}

@@ -9,7 +9,7 @@ ghost use Rattle.bq_decide.specs.Chosen.{IsFirstBreak, chosen};
 
 use crate::bounded::is_bounded;
 use crate::first::sooner_if;
-use crate::looking::{has_left, has_right, is_among};
+use crate::lookup::{has_left, has_right, is_among};
 use crate::references::breaks_third;
 use bq_model::{Attr, Condition, Part, Query};
 use bq_refs::Refs;

@@ -9,7 +9,7 @@ ghost use Rattle.bq_refs.specs.Refs.{AreRefs};
 ghost use Rattle.bq_decide.specs.Deciding.{AreNamedAll, IsOther};
 
 use crate::bounded::are_one_class;
-use crate::looking::{has_stream, is_among};
+use crate::lookup::{has_stream, is_among};
 use bq_model::{Attr, Part, Query};
 use bq_refs::Refs;
 

@@ -7,7 +7,7 @@ use Rattle.bq_parser.specs.declared.tree.Statement.{Statement}
 use Rattle.bq_parser.specs.LineKind.{stripped, kind_of_line}
 use Rattle.bq_parser.specs.Syntax.{IsStatement}
 use Rattle.bq_parser.specs.Limits.{limit_of}
-use Rattle.bq_reply.specs.declared.word.Word.{Word}
+use Rattle.bq_reply.specs.declared.refusal.Refusal.{Refusal}
 use Rattle.bq_diagnosis.specs.declared.fault.Asks.{Asks}
 use Rattle.bq_diagnosis.specs.declared.fault.Asks.TheVariants as asks
 use Rattle.bq_diagnosis.specs.declared.fault.Fault.{Fault}
@@ -84,7 +84,7 @@ of_row streams live line (Value field) h = h
 of_row streams live line (Domain stream field) h = h
 
 -- a line of a kind asks for what its text does
-of_kind : (streams : List Shape) (live : List (List ℕ)) (kind : LineKind) (line text : List ℕ) (asked : Result Asks Word) → length line ≤ 1024 → kind_of_line (stripped line) ≡ kind → stripped line ≡ text
+of_kind : (streams : List Shape) (live : List (List ℕ)) (kind : LineKind) (line text : List ℕ) (asked : Result Asks Refusal) → length line ≤ 1024 → kind_of_line (stripped line) ≡ kind → stripped line ≡ text
     → IsTextAsked streams live kind text asked → IsAsked streams live line asked
 of_kind streams live kind line text asked short k t h =
     fits short (subst (λ x. IsTextAsked streams live x (stripped line) asked) (sym k) (subst (λ x. IsTextAsked streams live kind x asked) (sym t) h))

@@ -7,8 +7,8 @@ use Rattle.bq_schema.specs.declared.column.ColumnDef.{ColumnDef}
 use Rattle.bq_schema.specs.declared.stream_error.StreamError.{StreamError}
 use Rattle.bq_schema.specs.declared.stream_error.StreamError.TheVariants.{Duplicate, TooMany}
 use Rattle.bq_schema.specs.Streams.{Shape, added, all_differ, column_names}
-use Rattle.bq_reply.specs.declared.word.Word.{Word}
-use Rattle.bq_reply.specs.declared.word.Word.TheVariants as words
+use Rattle.bq_reply.specs.declared.refusal.Refusal.{Refusal}
+use Rattle.bq_reply.specs.declared.refusal.Refusal.TheVariants as words
 use Rattle.bq_diagnosis.specs.declared.fault.Asks.{Asks}
 use Rattle.bq_diagnosis.specs.Asked.{is_live, query_asked}
 use Rattle.bq_diagnosis.specs.Faults.{first_repeated}
@@ -51,6 +51,6 @@ few : (n : ℕ) → n < 64 → nat_le 64 n ≡ false
 few n h = grind (arith, nat_tests)
 
 -- a query whose names stand for none, under a name that no live query has
-pub name_refused : (live : List (List ℕ)) (name : List ℕ) (named : Result Asks Word) (word : Word) → is_live live name ≡ false → length live < 64 → named ≡ Err word → Err word ≡ query_asked live name named
+pub name_refused : (live : List (List ℕ)) (name : List ℕ) (named : Result Asks Refusal) (word : Refusal) → is_live live name ≡ false → length live < 64 → named ≡ Err word → Err word ≡ query_asked live name named
 name_refused live name named word p l e =
     sym (ap (λ b. cond b (Err words.Duplicate) (cond (nat_le 64 (length live)) (Err words.TooMany) named)) p ∙ ap (λ b. cond b (Err words.TooMany) named) (few (length live) l) ∙ e)

@@ -20,25 +20,25 @@ use Rattle.bq_parser.specs.LineKind.{stripped, kind_of_line}
 use Rattle.bq_parser.specs.Syntax.{IsStatement}
 use Rattle.bq_parser.specs.Limits.{limit_of}
 use Rattle.bq_parser.specs.Resolution.{resolved}
-use Rattle.bq_reply.specs.Words.{stream_word, row_word, resolve_word}
-use Rattle.bq_reply.specs.declared.word.Word.{Word}
-use Rattle.bq_reply.specs.declared.word.Word.TheVariants.{LineTooLong, Syntax, Limit, Duplicate, TooMany, UnknownQuery}
+use Rattle.bq_reply.specs.Words.{stream_refusal, row_refusal, resolve_refusal}
+use Rattle.bq_reply.specs.declared.refusal.Refusal.{Refusal}
+use Rattle.bq_reply.specs.declared.refusal.Refusal.TheVariants.{LineTooLong, Syntax, Limit, Duplicate, TooMany, UnknownQuery}
 use Rattle.bq_diagnosis.specs.declared.fault.Asks.{Asks}
 use Rattle.bq_diagnosis.specs.declared.fault.Asks.TheVariants as asks
 
 -- a row asks for nothing more where it has the form of one
-abbrev pub row_asked : Result Entry RowError → Result Asks Word
-row_asked (Err error) = Err (row_word error)
+abbrev pub row_asked : Result Entry RowError → Result Asks Refusal
+row_asked (Err error) = Err (row_refusal error)
 row_asked (Ok entry) = Ok asks.Row
 
 -- a stream is asked for that can be added
-abbrev pub stream_asked : Asks → Result ℕ StreamError → Result Asks Word
-stream_asked stream (Err error) = Err (stream_word error)
+abbrev pub stream_asked : Asks → Result ℕ StreamError → Result Asks Refusal
+stream_asked stream (Err error) = Err (stream_refusal error)
 stream_asked stream (Ok number) = Ok stream
 
 -- the query that names stand for
-abbrev pub query_named : List ℕ → Bool → Result QueryValue ResolveError → Result Asks Word
-query_named name shared (Err error) = Err (resolve_word error)
+abbrev pub query_named : List ℕ → Bool → Result QueryValue ResolveError → Result Asks Refusal
+query_named name shared (Err error) = Err (resolve_refusal error)
 query_named name shared (Ok query) = Ok (asks.Query name query shared)
 
 -- whether a live query has the name
@@ -46,15 +46,15 @@ abbrev pub is_live : List (List ℕ) → List ℕ → Bool
 is_live live name = list_any (λ other. bytes_eq other name) live
 
 -- a query is asked for under a name that no live query has, while fewer than 64 are live
-abbrev pub query_asked : List (List ℕ) → List ℕ → Result Asks Word → Result Asks Word
+abbrev pub query_asked : List (List ℕ) → List ℕ → Result Asks Refusal → Result Asks Refusal
 query_asked live name named = if is_live live name then Err Duplicate else (if nat_le 64 (length live) then Err TooMany else named)
 
 -- a live query is asked for by its name
-abbrev pub live_asked : List (List ℕ) → List ℕ → Asks → Result Asks Word
+abbrev pub live_asked : List (List ℕ) → List ℕ → Asks → Result Asks Refusal
 live_asked live name asked = if is_live live name then Ok asked else Err UnknownQuery
 
 -- what a statement asks for
-abbrev pub statement_asked : List Shape → List (List ℕ) → Statement → Result Asks Word
+abbrev pub statement_asked : List Shape → List (List ℕ) → Statement → Result Asks Refusal
 statement_asked streams live (statements.CreateStream name columns) = stream_asked (asks.Stream name columns) (added streams (record { name = name; columns = columns.items }))
 statement_asked streams live (statements.CreateQuery name select shared) = query_asked live name (query_named name shared (resolved streams select))
 statement_asked streams live (statements.Explain name) = live_asked live name asks.Explain
@@ -66,18 +66,18 @@ statement_asked streams live (statements.ResumeCell name index content) = live_a
 statement_asked streams live (statements.ResumeTuple name values) = live_asked live name asks.Other
 
 -- What a text asks for that is read as a statement: it is none, or one that passes a limit, or what the statement asks for.
-pub data IsStatementAsked (streams : List Shape) (live : List (List ℕ)) (text : List ℕ) (asked : Result Asks Word) : Type 0 where
+pub data IsStatementAsked (streams : List Shape) (live : List (List ℕ)) (text : List ℕ) (asked : Result Asks Refusal) : Type 0 where
   outside : ((s : Statement) → IsStatement text s → ⊥) → asked ≡ Err Syntax → IsStatementAsked streams live text asked
   limited : (s : Statement) → (what : What) → IsStatement text s → limit_of s ≡ Some what → asked ≡ Err Limit → IsStatementAsked streams live text asked
   stated : (s : Statement) → IsStatement text s → limit_of s ≡ None → asked ≡ statement_asked streams live s → IsStatementAsked streams live text asked
 
 -- what a text of a kind asks for
-abbrev pub IsTextAsked : List Shape → List (List ℕ) → LineKind → List ℕ → Result Asks Word → Type 0
+abbrev pub IsTextAsked : List Shape → List (List ℕ) → LineKind → List ℕ → Result Asks Refusal → Type 0
 IsTextAsked streams live kinds.Nothing text asked = asked ≡ Ok asks.Nothing
 IsTextAsked streams live kinds.RowLine text asked = asked ≡ row_asked (row_of streams text)
 IsTextAsked streams live kinds.StatementLine text asked = IsStatementAsked streams live text asked
 
 -- What a line asks for: it is too long, or what is left of it asks for this.
-pub data IsAsked (streams : List Shape) (live : List (List ℕ)) (line : List ℕ) (asked : Result Asks Word) : Type 0 where
+pub data IsAsked (streams : List Shape) (live : List (List ℕ)) (line : List ℕ) (asked : Result Asks Refusal) : Type 0 where
   too_long : 1024 < length line → asked ≡ Err LineTooLong → IsAsked streams live line asked
   fits : length line ≤ 1024 → IsTextAsked streams live (kind_of_line (stripped line)) (stripped line) asked → IsAsked streams live line asked

@@ -1,11 +1,11 @@
 -- The word by which a session refuses a line, by what is wrong with it.
-use Rattle.bq_reply.specs.declared.word.Word.{Word}
-use Rattle.bq_reply.specs.declared.word.Word.TheVariants as words
+use Rattle.bq_reply.specs.declared.refusal.Refusal.{Refusal}
+use Rattle.bq_reply.specs.declared.refusal.Refusal.TheVariants as words
 use Rattle.bq_diagnosis.specs.declared.fault.Fault.{Fault}
 use Rattle.bq_diagnosis.specs.declared.fault.Fault.TheVariants.{LineTooLong, Syntax, Limit, DuplicateStream, DuplicateColumn, DuplicateQuery, TooManyStreams, TooManyQueries, NoStream, NotInFrom, NoColumn, SelfJoin, NoQuery, RowKey, RowName, RowStream, Arity, Value, Domain}
 
 -- the word by which a session refuses a line with this fault
-abbrev pub word_of : Fault → Word
+abbrev pub word_of : Fault → Refusal
 word_of LineTooLong = words.LineTooLong
 word_of (Syntax at next) = words.Syntax
 word_of (Limit what found) = words.Limit

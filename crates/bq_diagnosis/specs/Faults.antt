@@ -15,7 +15,7 @@ use Rattle.bq_parser.specs.Limits.{limit_of, columns_of, selected_by, streams_of
 use Rattle.bq_parser.specs.Resolution.{place_in, place_under, resolved, query_for, HasNamed}
 use Rattle.bq_parser.specs.declared.tree.SelectAst.{SelectAst}
 use Rattle.bq_parser.specs.declared.resolution.ResolveError.{ResolveError}
-use Rattle.bq_reply.specs.Words.{resolve_word}
+use Rattle.bq_reply.specs.Words.{resolve_refusal}
 use Rattle.bq_diagnosis.specs.declared.candidates.TheConstants.{ALL}
 use Rattle.bq_diagnosis.specs.declared.fault.Asks.{Asks}
 use Rattle.bq_diagnosis.specs.declared.fault.Asks.TheVariants as asks
@@ -118,7 +118,7 @@ live_found live name asked = if is_live live name then Ok asked else Err (NoQuer
 pub record HasNameFault (streams : List Shape) (select : SelectAst) (fault : Fault) : Type 0 where
   pub error : ResolveError
   pub refused : resolved streams select ≡ Err error
-  pub word : resolve_word error ≡ word_of fault
+  pub word : resolve_refusal error ≡ word_of fault
   pub fact : (live : List (List ℕ)) (name : List ℕ) (shared : Bool) → IsOfStatement streams live (statements.CreateQuery name select shared) fault
 
 -- the fault of the names of a query, or the query that they stand for

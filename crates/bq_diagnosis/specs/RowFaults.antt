@@ -8,7 +8,7 @@ use Rattle.bq_schema.specs.declared.column.ColumnDef.{ColumnDef}
 use Rattle.bq_schema.specs.declared.row_error.RowError.{RowError}
 use Rattle.bq_schema.specs.Streams.{Shape, stream_number, shape_at, lies_within}
 use Rattle.bq_schema.specs.Rows.{Entry, fields_of, row_with, row_of}
-use Rattle.bq_reply.specs.Words.{row_word}
+use Rattle.bq_reply.specs.Words.{row_refusal}
 use Rattle.bq_diagnosis.specs.declared.fault.Fault.{Fault}
 use Rattle.bq_diagnosis.specs.declared.fault.Fault.TheVariants.{RowKey, RowName, RowStream, Arity, Value, Domain}
 use Rattle.bq_diagnosis.specs.FaultWords.{word_of}
@@ -62,7 +62,7 @@ IsOfRow streams line fault = IsOfNamed streams line fault
 pub record HasFieldsFault (streams : List Shape) (stream : ℕ) (fields : List (List ℕ)) (fault : Fault) : Type 0 where
   pub error : RowError
   pub refused : row_with stream (columns_at streams stream) fields ≡ Err error
-  pub word : row_word error ≡ word_of fault
+  pub word : row_refusal error ≡ word_of fault
   pub fact : IsOfFields streams stream fields fault
 
 -- the fault of fields, or none where they are a row of the stream
@@ -74,7 +74,7 @@ IsFieldsFault streams stream fields (Some fault) = HasFieldsFault streams stream
 pub record HasRowFault (streams : List Shape) (line : List ℕ) (fault : Fault) : Type 0 where
   pub error : RowError
   pub refused : row_of streams line ≡ Err error
-  pub word : row_word error ≡ word_of fault
+  pub word : row_refusal error ≡ word_of fault
   pub fact : IsOfRow streams line fault
 
 -- the fault of a row line, or none where it is a row

@@ -6,7 +6,7 @@ use crate::candidates::Candidate;
 use arrayvec::ArrayVec;
 use bq_model::Query;
 use bq_parser::{ColumnAst, What};
-use bq_reply::Word;
+use bq_reply::Refusal;
 use bq_schema::{Catalog, ColumnDef};
 use bq_text::Name;
 
@@ -121,23 +121,24 @@ pub enum Fault {
 }
 
 /// Returns the word by which a session refuses a line with this fault.
-pub fn word_of(fault: &Fault) -> Word
+pub fn word_of(fault: &Fault) -> Refusal
     ensures { result ≡ words.word_of fault.now }
 {
     match fault {
-        Fault::LineTooLong => Word::LineTooLong,
-        Fault::Syntax { .. } | Fault::RowKey => Word::Syntax,
-        Fault::Limit { .. } | Fault::RowName { .. } => Word::Limit,
+        Fault::LineTooLong => Refusal::LineTooLong,
+        Fault::Syntax { .. } | Fault::RowKey => Refusal::Syntax,
+        Fault::Limit { .. } | Fault::RowName { .. } => Refusal::Limit,
         Fault::DuplicateStream { .. }
         | Fault::DuplicateColumn { .. }
-        | Fault::DuplicateQuery { .. } => Word::Duplicate,
-        Fault::TooManyStreams | Fault::TooManyQueries => Word::TooMany,
-        Fault::NoStream { .. } | Fault::NotInFrom { .. } | Fault::RowStream => Word::UnknownStream,
-        Fault::NoColumn { .. } => Word::UnknownColumn,
-        Fault::SelfJoin { .. } => Word::SelfJoin,
-        Fault::NoQuery { .. } => Word::UnknownQuery,
-        Fault::Arity { .. } => Word::Arity,
-        Fault::Value { .. } => Word::Value,
-        Fault::Domain { .. } => Word::Domain,
+        | Fault::DuplicateQuery { .. } => Refusal::Duplicate,
+        Fault::TooManyStreams | Fault::TooManyQueries => Refusal::TooMany,
+        Fault::NoStream { .. } | Fault::NotInFrom { .. } | Fault::RowStream =>
+            Refusal::UnknownStream,
+        Fault::NoColumn { .. } => Refusal::UnknownColumn,
+        Fault::SelfJoin { .. } => Refusal::SelfJoin,
+        Fault::NoQuery { .. } => Refusal::UnknownQuery,
+        Fault::Arity { .. } => Refusal::Arity,
+        Fault::Value { .. } => Refusal::Value,
+        Fault::Domain { .. } => Refusal::Domain,
     }
 }

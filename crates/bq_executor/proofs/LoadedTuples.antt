@@ -4,7 +4,7 @@ use Rattle.std.specs.List.{list_any}
 use Rattle.std.proofs.lemmas.List.{length-map}
 use Rattle.bq_model.specs.declared.plan.Plan.{Plan}
 use Rattle.bq_model.specs.declared.plan.Plan.TheVariants as plan
-use Rattle.bq_model.specs.Tuples.{is_same, ascending}
+use Rattle.bq_model.specs.Tuples.{is_same, sorted}
 use Rattle.bq_model.specs.Combinations.{Found, read_from}
 use Rattle.bq_model.specs.Merge.{merged_table}
 use Rattle.bq_model.specs.Numbers.{parts_of}
@@ -59,7 +59,7 @@ table-merges t es a none =
     settled-tuples (added t 1 es)
     ∙ sym (ap (λ b. tuples_of (cond b es (added t 1 es))) none)
     ∙ tuples_new_all (one ∷ []) es a only
-    ∙ ap (λ b. merged_table (tuples_of es) (ascending (cond (not b) (t ∷ []) []))) (has_tuple t es ∙ none)
+    ∙ ap (λ b. merged_table (tuples_of es) (sorted (cond (not b) (t ∷ []) []))) (has_tuple t es ∙ none)
   where
     one : Found
     one = record { tuple = t; count = 1 }

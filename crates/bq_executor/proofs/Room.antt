@@ -5,7 +5,7 @@ use Rattle.std.proofs.lemmas.List.Elements.{All-contains}
 use Rattle.std.specs.declared.option.Option.TheVariants.{None}
 use Rattle.bq_model.specs.declared.plan.PartPlan.{PartPlan}
 use Rattle.bq_model.specs.Query.{QueryValue, IsWithinLimits, is_filter}
-use Rattle.bq_model.specs.Tuples.{is_before, placed}
+use Rattle.bq_model.specs.Tuples.{is_before, insert_sorted}
 use Rattle.bq_model.specs.Violation.{IsViolation}
 use Rattle.bq_model.specs.Plan.{ArePartPlans}
 use Rattle.bq_model.specs.Ranges.{all_tuples, at_column, different, selected_ranges}
@@ -40,19 +40,19 @@ lie_from q plan ts h t k = Has-from_contains (all_tuples q plan) t (All-contains
 pub lie_all : (q : QueryValue) (plan : List PartPlan) (ts : List (List ℤ)) → Lie q plan ts → All (Contains (all_tuples q plan)) ts
 lie_all q plan ts h = all_from (Contains (all_tuples q plan)) ts (λ t k. Contains-from_has (all_tuples q plan) t (h t k))
 
-length-placed : (t : List ℤ) (us : List (List ℤ)) → length (placed t us) ≡ suc (length us)
+length-placed : (t : List ℤ) (us : List (List ℤ)) → length (insert_sorted t us) ≡ suc (length us)
 length-placed t [] = refl
 length-placed t (u ∷ us) = by (is_before u t) (length-placed t us)
   where
-    by : (b : Bool) → length (placed t us) ≡ suc (length us) → length (cond b (u ∷ placed t us) (t ∷ u ∷ us)) ≡ suc (suc (length us))
+    by : (b : Bool) → length (insert_sorted t us) ≡ suc (length us) → length (cond b (u ∷ insert_sorted t us) (t ∷ u ∷ us)) ≡ suc (suc (length us))
     by true h = omega (arith, h)
     by false h = refl
 
-has-placed : (t : List ℤ) (us : List (List ℤ)) (z : List ℤ) → Has (placed t us) z → (t ≡ z) ⊎ Has us z
+has-placed : (t : List ℤ) (us : List (List ℤ)) (z : List ℤ) → Has (insert_sorted t us) z → (t ≡ z) ⊎ Has us z
 has-placed t [] z h = has_cases t z [] h
 has-placed t (u ∷ us) z h =
-    elim (cond_has (is_before u t) (u ∷ placed t us) (t ∷ u ∷ us) z h) [
-      | inl k ↦ elim (has_cases u z (placed t us) k.1) [
+    elim (cond_has (is_before u t) (u ∷ insert_sorted t us) (t ∷ u ∷ us) z h) [
+      | inl k ↦ elim (has_cases u z (insert_sorted t us) k.1) [
         | inl e ↦ inr (Has-head z u us e)
         | inr l ↦ elim (has-placed t us z l) [ inl e ↦ inl e | inr m ↦ inr (later m) ]
       ]

@@ -12,7 +12,7 @@ use Rattle.bq_model.specs.declared.plan.Plan.TheVariants as plan
 use Rattle.bq_model.specs.Query.{QueryValue, IsWithinLimits}
 use Rattle.bq_model.specs.Assignment.{projected, holds}
 use Rattle.bq_model.specs.Violation.{IsViolation}
-use Rattle.bq_model.specs.Tuples.{ascending, fresh}
+use Rattle.bq_model.specs.Tuples.{sorted, new_tuples}
 use Rattle.bq_model.specs.Meaning.{Arrival, by_column, assignment_of}
 use Rattle.bq_model.specs.Plan.{ArePartPlans, IsPartPlan, stream_at}
 use Rattle.bq_model.specs.Admission.{admits}
@@ -100,7 +100,7 @@ module _ (q : QueryValue) (p : Plan) (is : HasParts q p) (read : Reading) (r : A
           let b : bit (not (has z (settled es))) ≡ bit (not (has z es)) = ap (λ b. bit (not b)) (settled-has z es) in
           let o : occurs z (future q (parts_of p) read (tuples_of es) r) ≡ bit (not (has z es)) * min 1 (times z (spelled_out fs))
           = occurs-is z (future q (parts_of p) read (tuples_of es) r) ∙ ap (times z) (new_future q read (tuples_of es) r p is e)
-          ∙ times-ascending z (fresh (tuples_of es) (spelled_out fs)) ∙ times-fresh z (tuples_of es) (spelled_out fs)
+          ∙ times-ascending z (new_tuples (tuples_of es) (spelled_out fs)) ∙ times-fresh z (tuples_of es) (spelled_out fs)
           ∙ ap (λ b. bit (not b) * min 1 (times z (spelled_out fs))) (has_tuple z es) in
           n ∙ (λ j. w j + b j * min 1 (times z (spelled_out fs))) ∙ small (has z es) (times z (spelled_out fs)) ∙ ap (λ m. min m (2 ^ 127)) (sym o)
         where
@@ -125,7 +125,7 @@ module _ (q : QueryValue) (p : Plan) (is : HasParts q p) (read : Reading) (r : A
   tuples_row ones e =
       ap (λ d. tuples_of (with_all d fs (cleared d es))) e
       ∙ tuples_new_all fs (settled es) (ascends_settled es a) ones
-      ∙ ap (λ ts. merged_table ts (ascending (fresh ts (spelled_out fs)))) (settled-tuples es)
+      ∙ ap (λ ts. merged_table ts (sorted (new_tuples ts (spelled_out fs)))) (settled-tuples es)
       ∙ ap (merged_table (tuples_of es)) (sym (new_future q read (tuples_of es) r p is e))
 
   pub ascends_row : Ascends (with_all q.distinct fs (cleared q.distinct es))

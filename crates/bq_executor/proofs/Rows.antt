@@ -9,7 +9,7 @@ use Rattle.bq_model.specs.declared.plan.PartPlan.{PartPlan}
 use Rattle.bq_model.specs.declared.plan.Plan.{Plan}
 use Rattle.bq_model.specs.declared.plan.Plan.TheVariants as plan
 use Rattle.bq_model.specs.Query.{QueryValue, is_filter}
-use Rattle.bq_model.specs.Tuples.{ascending, fresh}
+use Rattle.bq_model.specs.Tuples.{sorted, new_tuples}
 use Rattle.bq_model.specs.Meaning.{Arrival, new_answers}
 use Rattle.bq_model.specs.Filter.{filter_tuple}
 use Rattle.bq_model.specs.Plan.{IsPartPlan, stream_at}
@@ -65,7 +65,7 @@ future-table q plan read t u r d =
     λ j. cond (is_filter q) (option_to_list (filter_tuple q r)) (cond (list_any (λ stream. r.stream == stream) q.from) (same j) [])
   where
     kept : List (List ℤ) → Bool → List (List ℤ)
-    kept table b = cond b (ascending (fresh table (waiting q plan read r))) (ascending (waiting q plan read r))
+    kept table b = cond b (sorted (new_tuples table (waiting q plan read r))) (sorted (waiting q plan read r))
 
     same : kept t q.distinct ≡ kept u q.distinct
     same = ap (kept t) d ∙ sym (ap (kept u) d)

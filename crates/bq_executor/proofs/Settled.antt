@@ -4,7 +4,7 @@ use Rattle.std.proofs.lemmas.List.{take-replicate, drop-replicate, length-replic
 use Rattle.bq_model.specs.declared.cell.Cell.{Cell}
 use Rattle.bq_model.specs.declared.plan.PartPlan.{PartPlan}
 use Rattle.bq_model.specs.Query.{QueryValue, IsWithinLimits}
-use Rattle.bq_model.specs.Tuples.{ascending, once}
+use Rattle.bq_model.specs.Tuples.{sorted, distinct_tuples}
 use Rattle.bq_model.specs.Assignment.{holds, projected}
 use Rattle.bq_model.specs.Meaning.{Arrival, rows, product, answers, assignment_of}
 use Rattle.bq_model.specs.Cells.{printed}
@@ -68,8 +68,8 @@ answers-none q within = by q.from within.streams.0
 printed-none : (q : QueryValue) → IsWithinLimits q → [] ≡ printed q []
 printed-none q within = by q.distinct
   where
-    by : (d : Bool) → [] ≡ cond d (ascending (once (answers q []))) []
-    by true = ap (λ ts. ascending (once ts)) (sym (answers-none q within))
+    by : (d : Bool) → [] ≡ cond d (sorted (distinct_tuples (answers q []))) []
+    by true = ap (λ ts. sorted (distinct_tuples ts)) (sym (answers-none q within))
     by false = refl
 
 -- an executor to which no row was given stands for no rows

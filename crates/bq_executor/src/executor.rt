@@ -22,11 +22,11 @@ ghost use Rattle.bq_index.specs.Prefilter.{IsRefused};
 ghost use Rattle.bq_executor.specs.Passing.{IsBoxFor};
 ghost use Rattle.bq_executor.specs.Written.{answer_lines};
 
-use crate::arrive::{Arrived, QueryAt, arrive};
+use crate::join::Scratch;
 use crate::loading::{cell_to_load, fill, put_printed};
-use crate::part::Scratch;
+use crate::output::put_waiting;
+use crate::row::{Arrived, QueryAt, apply_row};
 use crate::saturation::Saturation;
-use crate::written::put_waiting;
 use bq_answers::Answers;
 use bq_candidates::QueryBox;
 use bq_index::{Prefilter, PreparedPlan, prefilter_of, prepare_all};
@@ -153,7 +153,7 @@ impl Executor {
         ensures bases { TookFrom self.old pool.old (arrival stream row.now.items) self.new pool.new }
     {
         // Whether something waits is not asked here.
-        let _waits = self.take(pool, stream, row, steps);
+        let _waits = self.apply(pool, stream, row, steps);
     }
 
     // Whether a row passes the prefilter; one that does not is answered nothing, and no cell takes it.
@@ -171,7 +171,7 @@ impl Executor {
     }
 
     /// Takes a row as `row` does. Where it says no, no answer waits; where it says yes, some may.
-    pub fn take<L: Ledger>(
+    pub fn apply<L: Ledger>(
         &mut self,
         pool: &mut Pool,
         stream: u8,
@@ -199,14 +199,14 @@ impl Executor {
             self.given += 1;
             return false;
         }
-        self.take_up_row(passes, pool, stream, row, steps)
+        self.apply_filtered(passes, pool, stream, row, steps)
     }
 
-    // Takes a row as `take` does, of which it is known whether it passes the prefilter. It is not inlined, and the way to it is laid aside,
+    // Takes a row as `apply` does, of which it is known whether it passes the prefilter. It is not inlined, and the way to it is laid aside,
     // so that a row that is refused pays nothing for it.
     #[cold]
     #[inline(never)]
-    fn take_up_row<L: Ledger>(
+    fn apply_filtered<L: Ledger>(
         &mut self,
         passes: bool,
         pool: &mut Pool,
@@ -242,7 +242,7 @@ impl Executor {
             known,
         };
         let arrived = Arrived { stream, row };
-        arrive(
+        apply_row(
             passes,
             pool,
             &query,

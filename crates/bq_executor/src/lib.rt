@@ -15,15 +15,15 @@
 #![tactic(auto)]
 
 mod alone;
-mod arrive;
 mod executor;
+mod join;
 mod known;
 pub mod laws;
 mod loading;
-mod part;
-mod parts;
+mod output;
 mod ranges;
+mod route;
+mod row;
 mod saturation;
-mod written;
 
 pub use executor::Executor;

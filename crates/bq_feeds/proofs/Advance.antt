@@ -9,7 +9,7 @@ use Rattle.bq_session.specs.State.{State}
 use Rattle.bq_session.specs.declared.outcome.LineOutcome.TheVariants as outcome
 use Rattle.bq_feed.specs.GivenLines.{GivenLines}
 use Rattle.bq_feed.specs.Reading.{NextLine}
-use Rattle.bq_session.specs.Session.{Kept, StandsFor}
+use Rattle.bq_session.specs.Session.{SessionValue, StandsFor}
 use Rattle.bq_session.specs.Events.{Event, line, fault, lines_of}
 use Rattle.bq_session.specs.Fetched.{Read}
 use Rattle.bq_session.proofs.ToldEvents.{Told, at, events_of, event_of, events_of-append, at-push, lines_of-append, lines_of-here}
@@ -165,12 +165,12 @@ standing-fault starts ends all answered pending round place lane source z l o fa
     (ap (λ es. es ++ fault n ∷ []) (events_of-append answered pending) ∙ ap (λ es. (A ++ P) ++ es) (sym (event-fault n round later.feed o.size refl)))
 
 -- the feed of a place, which has not ended, in the session
-pub record Here (s : State) (starts ends : List SourceState) (all : List Lane) (session : Kept) (before below : SinkState) (held : List ℕ) (lines round place : ℕ) (i : Around s starts ends all session before below held lines round place) : Type 0 where
+pub record Here (s : State) (starts ends : List SourceState) (all : List Lane) (session : SessionValue) (before below : SinkState) (held : List ℕ) (lines round place : ℕ) (i : Around s starts ends all session before below held lines round place) : Type 0 where
   pub lane : slot all place new_lane ≡ (slot i.standing.rows place no_row).lane
   pub now : slot ends place no_source ≡ (slot i.standing.rows place no_row).now
   pub yet-open : Opened (events_of i.answered) (events_of i.pending) (1 + place) round (slot i.standing.rows place no_row)
 
-pub around-here : (s : State) (starts ends : List SourceState) (all : List Lane) (session : Kept) (before below : SinkState) (held : List ℕ) (lines round place : ℕ) → (i : Around s starts ends all session before below held lines round place)
+pub around-here : (s : State) (starts ends : List SourceState) (all : List Lane) (session : SessionValue) (before below : SinkState) (held : List ℕ) (lines round place : ℕ) → (i : Around s starts ends all session before below held lines round place)
     → place < length i.standing.rows → is_open (slot all place new_lane).stage ≡ true → Here s starts ends all session before below held lines round place i
 around-here s starts ends all session before below held lines round place i l yet =
     let a = standing-at starts ends all (events_of i.answered) (events_of i.pending) round place i.standing l in
@@ -180,7 +180,7 @@ around-here s starts ends all session before below held lines round place i l ye
       yet-open = opened (events_of i.answered) (events_of i.pending) (1 + place) round (slot i.standing.rows place no_row) a.known (sym (ap (λ (x : Lane). is_open x.stage) a.lane) ∙ yet);
     }
 
-pub around-skip : (s : State) (starts ends : List SourceState) (all : List Lane) (session : Kept) (before below : SinkState) (held : List ℕ) (lines round place : ℕ)
+pub around-skip : (s : State) (starts ends : List SourceState) (all : List Lane) (session : SessionValue) (before below : SinkState) (held : List ℕ) (lines round place : ℕ)
     → (i : Around s starts ends all session before below held lines round place) → place < length i.standing.rows → is_open (slot all place new_lane).stage ≡ false
     → Around s starts ends all session before below held lines round (suc place)
 around-skip s starts ends all session before below held lines round place i l closed = record {
@@ -194,7 +194,7 @@ around-skip s starts ends all session before below held lines round place i l cl
 }
 
 -- the feed of a place gave a line, which was answered
-pub around-line : (s : State) (starts ends : List SourceState) (all : List Lane) (session session' : Kept) (before below below' : SinkState) (held held' : List ℕ) (lines round place : ℕ) (lane : Lane) (source : SourceState)
+pub around-line : (s : State) (starts ends : List SourceState) (all : List Lane) (session session' : SessionValue) (before below below' : SinkState) (held held' : List ℕ) (lines round place : ℕ) (lane : Lane) (source : SourceState)
     → (i : Around s starts ends all session before below held lines round place) → place < length i.standing.rows → (h : Here s starts ends all session before below held lines round place i) → lane.stage ≡ stage.Open
     → AnsweredLine outcome.Done (at s (i.answered ++ i.pending)) (slot i.standing.rows place no_row).lane.reader lane.reader (slot i.standing.rows place no_row).now source session' below below' held held'
     → Around s starts (slice_set ends place source) (slice_set all place lane) session' before below' held' (lines + 1) round (suc place)
@@ -221,7 +221,7 @@ around-line s starts ends all session session' before below below' held held' li
     }
 
 -- the feed of a place is at its end
-pub around-ended : (s : State) (starts ends : List SourceState) (all : List Lane) (session session' : Kept) (before below below' : SinkState) (held held' : List ℕ) (lines round place : ℕ) (lane : Lane) (source : SourceState)
+pub around-ended : (s : State) (starts ends : List SourceState) (all : List Lane) (session session' : SessionValue) (before below below' : SinkState) (held held' : List ℕ) (lines round place : ℕ) (lane : Lane) (source : SourceState)
     → (i : Around s starts ends all session before below held lines round place) → place < length i.standing.rows → (h : Here s starts ends all session before below held lines round place i) → lane.stage ≡ stage.Ended → session' ≡ session
     → Read reads.End (slot i.standing.rows place no_row).lane.reader lane.reader (slot i.standing.rows place no_row).now source below below' held held'
     → Around s starts (slice_set ends place source) (slice_set all place lane) session' before below' held' lines round (suc place)
@@ -234,12 +234,12 @@ around-ended s starts ends all session session' before below below' held held' l
       has = held-flushed s i.answered i.pending before below below' held held' i.has r.wrote r.none;
       stands = subst (λ k. StandsFor k (at s (sunk ++ []))) (sym kept) (subst (λ ts. StandsFor session (at s ts)) (sym same) i.stands);
       standing = standing-ended starts ends all i.answered i.pending round place lane source i.standing l h.yet-open ended r.next;
-      counted = ap (λ (k : Kept). k.lines) kept ∙ i.counted;
+      counted = ap (λ (k : SessionValue). k.lines) kept ∙ i.counted;
       many = ap line_count (append-nil (events_of sunk) ∙ events_of-append i.answered i.pending) ∙ i.many;
     }
 
 -- the source of the feed of a place failed, and that was written
-pub around-fault : (s : State) (starts ends : List SourceState) (all : List Lane) (session session' : Kept) (before below below' : SinkState) (held held' : List ℕ) (lines round place : ℕ) (lane : Lane) (source : SourceState)
+pub around-fault : (s : State) (starts ends : List SourceState) (all : List Lane) (session session' : SessionValue) (before below below' : SinkState) (held held' : List ℕ) (lines round place : ℕ) (lane : Lane) (source : SourceState)
     → (i : Around s starts ends all session before below held lines round place) → place < length i.standing.rows → (h : Here s starts ends all session before below held lines round place i) → lane.stage ≡ stage.Failed → session' ≡ session
     → FaultMet (1 + place) (slot i.standing.rows place no_row).lane.reader lane.reader (slot i.standing.rows place no_row).now source below below' held held' Wrote
     → Around s starts (slice_set ends place source) (slice_set all place lane) session' before below' held' lines round (suc place)
@@ -255,14 +255,14 @@ around-fault s starts ends all session session' before below below' held held' l
       has = held-more s sunk [] before f.between below' f.left held' f.name f.name' t flushed tt f.told;
       stands = subst (λ k. StandsFor k (at s (sunk ++ t ∷ []))) (sym kept) (subst (λ u. StandsFor session u) (sym (at-push s sunk t)) i.stands);
       standing = standing-fault starts ends all i.answered i.pending round place lane source i.standing l h.yet-open failed r.next;
-      counted = ap (λ (k : Kept). k.lines) kept ∙ i.counted;
+      counted = ap (λ (k : SessionValue). k.lines) kept ∙ i.counted;
       many =
           line_count-append (events_of sunk) (fault n ∷ []) ∙ (let z : line_count (events_of sunk) + 0 ≡ line_count (events_of sunk) = omega arith in z)
           ∙ ap line_count (events_of-append i.answered i.pending) ∙ i.many;
     }
 
 -- a round is over
-pub around-round : (s : State) (starts ends : List SourceState) (all : List Lane) (session : Kept) (before below : SinkState) (held : List ℕ) (lines round place : ℕ)
+pub around-round : (s : State) (starts ends : List SourceState) (all : List Lane) (session : SessionValue) (before below : SinkState) (held : List ℕ) (lines round place : ℕ)
     → (i : Around s starts ends all session before below held lines round place) → place ≡ length i.standing.rows → Around s starts ends all session before below held lines (round + 1) 0
 around-round s starts ends all session before below held lines round place i over = record {
   answered = i.answered;

@@ -6,7 +6,7 @@ use Rattle.bq_io.specs.Source.{SourceState}
 use Rattle.bq_io.specs.Sink.{SinkState}
 use Rattle.bq_feed.specs.GivenLines.{AllGiven, LastGiven}
 use Rattle.bq_session.specs.State.{State}
-use Rattle.bq_session.specs.Session.{Kept, StandsFor}
+use Rattle.bq_session.specs.Session.{SessionValue, StandsFor}
 use Rattle.bq_session.specs.Events.{Event, line, fault, lines_of}
 use Rattle.bq_session.proofs.ToldEvents.{Told, at, events_of, events_of-append, lines_of-append}
 use Rattle.bq_session.proofs.Held.{Held, Moves, stay, sink}
@@ -61,7 +61,7 @@ pub record Standing (starts ends : List SourceState) (all : List Lane) (answered
   pub events : answered ++ pending ≡ told_in round place (feeds_of rows)
 
 -- A session over feeds, before the turn of the feed of a place, in a round.
-pub record Around (s : State) (starts ends : List SourceState) (all : List Lane) (session : Kept) (before below : SinkState) (held : List ℕ) (lines round place : ℕ) : Type 0 where
+pub record Around (s : State) (starts ends : List SourceState) (all : List Lane) (session : SessionValue) (before below : SinkState) (held : List ℕ) (lines round place : ℕ) : Type 0 where
   pub answered : List Told
   pub pending : List Told
   pub has : Held s answered pending before below held

@@ -4,7 +4,7 @@ use Rattle.std.specs.List.{list_any}
 use Rattle.bq_io.specs.Source.{SourceState}
 use Rattle.bq_io.specs.Sink.{SinkState}
 use Rattle.bq_session.specs.State.{State}
-use Rattle.bq_session.specs.Session.{Kept, StandsFor}
+use Rattle.bq_session.specs.Session.{SessionValue, StandsFor}
 use Rattle.bq_session.specs.Run.{HasState}
 use Rattle.bq_session.specs.Events.{Event, line, fault, lines_of}
 use Rattle.bq_session.proofs.ToldEvents.{at, at-none, events_of}
@@ -44,7 +44,7 @@ each-new number [] = tt
 each-new number (x ∷ starts) = (gives refl (given-begins number x new_lane.reader refl) refl refl refl, each-new (number + 1) starts)
 
 -- nothing was taken of any feed
-pub around-begins : (s : State) (starts : List SourceState) (all : List Lane) (session : Kept) (before : SinkState) (held : List ℕ) → all ≡ replicate (length starts) new_lane → session.lines ≡ 0 → held ≡ [] → StandsFor session s
+pub around-begins : (s : State) (starts : List SourceState) (all : List Lane) (session : SessionValue) (before : SinkState) (held : List ℕ) → all ≡ replicate (length starts) new_lane → session.lines ≡ 0 → held ≡ [] → StandsFor session s
     → Around s starts starts all session before before held 0 0 0
 around-begins s starts all session before held lanes none empty stands = record {
   answered = [];
@@ -67,11 +67,11 @@ length-lanes : (rows : List Row) → length (lanes_of rows) ≡ length rows
 length-lanes [] = refl
 length-lanes (r ∷ rows) = ap suc (length-lanes rows)
 
-pub rows-size : (s : State) (starts ends : List SourceState) (all : List Lane) (session : Kept) (before below : SinkState) (held : List ℕ) (lines round place : ℕ) → (i : Around s starts ends all session before below held lines round place)
+pub rows-size : (s : State) (starts ends : List SourceState) (all : List Lane) (session : SessionValue) (before below : SinkState) (held : List ℕ) (lines round place : ℕ) → (i : Around s starts ends all session before below held lines round place)
     → length i.standing.rows ≡ length all
 rows-size s starts ends all session before below held lines round place i = sym (length-lanes i.standing.rows) ∙ ap (length {A = Lane}) i.standing.lanes
 
-pub around-state : (s : State) (starts ends : List SourceState) (all : List Lane) (session : Kept) (before below : SinkState) (held : List ℕ) (lines round place : ℕ) → Around s starts ends all session before below held lines round place → HasState session
+pub around-state : (s : State) (starts ends : List SourceState) (all : List Lane) (session : SessionValue) (before below : SinkState) (held : List ℕ) (lines round place : ℕ) → Around s starts ends all session before below held lines round place → HasState session
 around-state s starts ends all session before below held lines round place i = record { state = at s (i.answered ++ i.pending); stands = i.stands }
 
 -- a feed has no more lines than there are
@@ -98,7 +98,7 @@ closed-lanes answered pending number round (row ∷ rows) l p =
     ap (λ b. b || list_any (λ (lane : Lane). is_open lane.stage) (lanes_of rows)) (closed-lane answered pending number round row l p.0) ∙ closed-lanes answered pending (number + 1) round rows l p.1
 
 -- behind as many rounds as a session takes lines, all feeds have ended
-pub all-closed : (s : State) (starts ends : List SourceState) (all : List Lane) (session : Kept) (before below : SinkState) (held : List ℕ) (lines round : ℕ) → (i : Around s starts ends all session before below held lines round 0) → lines < round
+pub all-closed : (s : State) (starts ends : List SourceState) (all : List Lane) (session : SessionValue) (before below : SinkState) (held : List ℕ) (lines round : ℕ) → (i : Around s starts ends all session before below held lines round 0) → lines < round
     → list_any (λ (lane : Lane). is_open lane.stage) all ≡ false
 all-closed s starts ends all session before below held lines round i l =
     ap (list_any (λ (lane : Lane). is_open lane.stage)) (sym i.standing.lanes) ∙ closed-lanes (events_of i.answered) (events_of i.pending) 1 round i.standing.rows (omega (arith, l, i.many)) i.standing.each

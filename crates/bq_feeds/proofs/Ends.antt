@@ -11,7 +11,7 @@ use Rattle.bq_io.specs.declared.status.Status.{Status}
 use Rattle.bq_io.specs.declared.status.Status.TheVariants as status
 use Rattle.bq_session.specs.State.{State, next_of}
 use Rattle.bq_session.specs.Replies.{reply_to}
-use Rattle.bq_session.specs.Session.{Kept}
+use Rattle.bq_session.specs.Session.{SessionValue}
 use Rattle.bq_session.specs.Events.{Event, fault_text, lines_of, IsClose}
 use Rattle.bq_session.proofs.Passing.{IfSome-map}
 use Rattle.bq_session.proofs.Stops.{Stopped}
@@ -116,7 +116,7 @@ stops-cut s starts ends before below round place answered pending waiting c are 
     text-of u (told.fault number) text is e = e
 
 -- the sink failed while what was held was written
-pub ends-blocked : (s : State) (starts ends : List SourceState) (all : List Lane) (session : Kept) (before below below' : SinkState) (held held' : List ℕ) (lines round place : ℕ) → (i : Around s starts ends all session before below held lines round place)
+pub ends-blocked : (s : State) (starts ends : List SourceState) (all : List Lane) (session : SessionValue) (before below below' : SinkState) (held held' : List ℕ) (lines round place : ℕ) → (i : Around s starts ends all session before below held lines round place)
     → StaysHeld below below' held held' → RanLater status.WriteFault s starts ends before below'
 ends-blocked s starts ends all session before below below' held held' lines round place i stays =
     let A = events_of i.answered in
@@ -213,7 +213,7 @@ record AllOver (s : State) (starts ends : List SourceState) (all : List Lane) (b
   pub wrote : WroteEvents s (turns (map feed_of f.taken)) before below
   pub room : HasRoom (turns (map feed_of f.taken))
 
-all-over : (s : State) (starts ends : List SourceState) (all : List Lane) (session : Kept) (before below below' : SinkState) (held : List ℕ) (lines round : ℕ) → (i : Around s starts ends all session before below held lines round 0)
+all-over : (s : State) (starts ends : List SourceState) (all : List Lane) (session : SessionValue) (before below below' : SinkState) (held : List ℕ) (lines round : ℕ) → (i : Around s starts ends all session before below held lines round 0)
     → lines ≤ 2 ^ 64 - 2 → list_any (λ (lane : Lane). is_open lane.stage) all ≡ false → Wrote below below' held → AllOver s starts ends all before below'
 all-over s starts ends all session before below below' held lines round i few closed wrote =
     let A = events_of i.answered in
@@ -234,7 +234,7 @@ all-over s starts ends all session before below below' held lines round i few cl
     }
 
 -- all feeds have ended
-pub ends-finished : (result : Status) (s : State) (starts ends : List SourceState) (all : List Lane) (session : Kept) (before below below' : SinkState) (held held' : List ℕ) (lines round : ℕ) → (i : Around s starts ends all session before below held lines round 0)
+pub ends-finished : (result : Status) (s : State) (starts ends : List SourceState) (all : List Lane) (session : SessionValue) (before below below' : SinkState) (held held' : List ℕ) (lines round : ℕ) → (i : Around s starts ends all session before below held lines round 0)
     → lines ≤ 2 ^ 64 - 2 → list_any (λ (lane : Lane). is_open lane.stage) all ≡ false → Finished result all below below' held held' → RanLater result s starts ends before below'
 ends-finished result s starts ends all session before below below' held held' lines round i few closed (well e none wrote) =
     let o = all-over s starts ends all session before below below' held lines round i few closed wrote in

@@ -15,7 +15,7 @@ use Rattle.bq_session.specs.declared.outcome.LineOutcome.{LineOutcome}
 use Rattle.bq_session.specs.declared.outcome.LineOutcome.TheVariants as outcome
 use Rattle.bq_session.specs.Requests.{IsRequest}
 use Rattle.bq_session.specs.State.{State}
-use Rattle.bq_session.specs.Session.{Kept, Answered}
+use Rattle.bq_session.specs.Session.{SessionValue, Answered}
 use Rattle.bq_session.specs.Events.{Event, line, fault, lines_of, IsClose}
 use Rattle.bq_session.specs.Fetched.{Read}
 use Rattle.bq_session.specs.Turned.{AnsweredLine, LacksMemory, SinkFailed, ahead, reply, behind}
@@ -65,7 +65,7 @@ length-set (r ∷ rows) zero row = refl
 length-set (r ∷ rows) (suc place) row = ap suc (length-set rows place row)
 
 -- the feed of a place has more bytes than can be counted
-pub ends-full : (s : State) (starts ends : List SourceState) (all : List Lane) (session : Kept) (before below below' : SinkState) (held held' : List ℕ) (lines round place : ℕ) (lane : Lane) (source : SourceState)
+pub ends-full : (s : State) (starts ends : List SourceState) (all : List Lane) (session : SessionValue) (before below below' : SinkState) (held held' : List ℕ) (lines round place : ℕ) (lane : Lane) (source : SourceState)
     → (i : Around s starts ends all session before below held lines round place) → place < length i.standing.rows → (h : Here s starts ends all session before below held lines round place i) → lane.stage ≡ stage.Open
     → Read reads.ByteLimit (slot i.standing.rows place no_row).lane.reader lane.reader (slot i.standing.rows place no_row).now source below below' held held'
     → RanLater status.ByteLimit s starts (slice_set ends place source) before below'
@@ -115,7 +115,7 @@ ends-full s starts ends all session before below below' held held' lines round p
     }
 
 -- the feed of a place has another line, and the session takes no more
-pub ends-more : (s : State) (starts ends : List SourceState) (all : List Lane) (session : Kept) (before below below' : SinkState) (held held' : List ℕ) (lines round place : ℕ) (lane : Lane) (source : SourceState) (long : Bool)
+pub ends-more : (s : State) (starts ends : List SourceState) (all : List Lane) (session : SessionValue) (before below below' : SinkState) (held held' : List ℕ) (lines round place : ℕ) (lane : Lane) (source : SourceState) (long : Bool)
     → (i : Around s starts ends all session before below held lines round place) → place < length i.standing.rows → (h : Here s starts ends all session before below held lines round place i) → lane.stage ≡ stage.Open
     → lines ≡ 2 ^ 64 - 2 → Read (answer_to long) (slot i.standing.rows place no_row).lane.reader lane.reader (slot i.standing.rows place no_row).now source below below' held held'
     → RanLater status.ByteLimit s starts (slice_set ends place source) before below'
@@ -155,7 +155,7 @@ ends-more s starts ends all session before below below' held held' lines round p
     }
 
 -- A line of the feed of a place came, which was answered so: where it waits, and what is known of the feeds then.
-record Asked (how : LineOutcome) (s : State) (starts ends : List SourceState) (all : List Lane) (session : Kept) (before between below : SinkState) (left held : List ℕ) (name name' round place : ℕ) : Type 0 where
+record Asked (how : LineOutcome) (s : State) (starts ends : List SourceState) (all : List Lane) (session : SessionValue) (before between below : SinkState) (left held : List ℕ) (name name' round place : ℕ) : Type 0 where
   pub answered : List Told
   pub pending : List Told
   pub has : Held s answered pending before between left
@@ -163,7 +163,7 @@ record Asked (how : LineOutcome) (s : State) (starts ends : List SourceState) (a
   pub does : Answered how (at s (answered ++ pending)) text session (gathered_seen between name left) (gathered_seen below name' held)
   pub standing : Standing starts ends all (events_of answered) (events_of pending ++ line (1 + place) text ∷ []) round (suc place)
 
-asked : (how : LineOutcome) (s : State) (starts ends : List SourceState) (all : List Lane) (session session' : Kept) (before below below' : SinkState) (held held' : List ℕ) (lines round place : ℕ) (lane : Lane) (source : SourceState)
+asked : (how : LineOutcome) (s : State) (starts ends : List SourceState) (all : List Lane) (session session' : SessionValue) (before below below' : SinkState) (held held' : List ℕ) (lines round place : ℕ) (lane : Lane) (source : SourceState)
     → (i : Around s starts ends all session before below held lines round place) → place < length i.standing.rows → (h : Here s starts ends all session before below held lines round place i) → lane.stage ≡ stage.Open
     → (answer : AnsweredLine how (at s (i.answered ++ i.pending)) (slot i.standing.rows place no_row).lane.reader lane.reader (slot i.standing.rows place no_row).now source session' below below' held held')
     → Asked how s starts (slice_set ends place source) (slice_set all place lane) session' before answer.between below' answer.left held' answer.name answer.name' round place
@@ -182,7 +182,7 @@ asked how s starts ends all session session' before below below' held held' line
     }
 
 -- the sink failed in the reply to a line, or in an earlier text that was held
-ends-reply : (s : State) (starts ends : List SourceState) (all : List Lane) (session session' : Kept) (before below below' : SinkState) (held held' : List ℕ) (lines round place : ℕ) (lane : Lane) (source : SourceState)
+ends-reply : (s : State) (starts ends : List SourceState) (all : List Lane) (session session' : SessionValue) (before below below' : SinkState) (held held' : List ℕ) (lines round place : ℕ) (lane : Lane) (source : SourceState)
     → (i : Around s starts ends all session before below held lines round place) → place < length i.standing.rows → (h : Here s starts ends all session before below held lines round place i) → lane.stage ≡ stage.Open
     → AnsweredLine outcome.WriteFault (at s (i.answered ++ i.pending)) (slot i.standing.rows place no_row).lane.reader lane.reader (slot i.standing.rows place no_row).now source session' below below' held held'
     → RanLater status.WriteFault s starts (slice_set ends place source) before below'
@@ -209,7 +209,7 @@ ends-reply s starts ends all session session' before below below' held held' lin
     }
 
 -- no memory was found for a line, and the sink failed in an earlier text that was held
-ends-behind : (s : State) (starts ends : List SourceState) (all : List Lane) (session session' : Kept) (before below below' below'' : SinkState) (held held' kept : List ℕ) (lines round place : ℕ) (lane : Lane) (source : SourceState)
+ends-behind : (s : State) (starts ends : List SourceState) (all : List Lane) (session session' : SessionValue) (before below below' below'' : SinkState) (held held' kept : List ℕ) (lines round place : ℕ) (lane : Lane) (source : SourceState)
     → (i : Around s starts ends all session before below held lines round place) → place < length i.standing.rows → (h : Here s starts ends all session before below held lines round place i) → lane.stage ≡ stage.Open
     → AnsweredLine outcome.Memory (at s (i.answered ++ i.pending)) (slot i.standing.rows place no_row).lane.reader lane.reader (slot i.standing.rows place no_row).now source session' below below' held held'
     → StaysHeld below' below'' held' kept → RanLater status.WriteFault s starts (slice_set ends place source) before below''
@@ -230,7 +230,7 @@ ends-behind s starts ends all session session' before below below' below'' held 
     }
 
 -- the sink failed in the turn of a feed
-pub ends-stopped : (s : State) (starts ends : List SourceState) (all : List Lane) (session session' : Kept) (before below below' : SinkState) (held held' : List ℕ) (lines round place : ℕ) (lane : Lane) (source : SourceState)
+pub ends-stopped : (s : State) (starts ends : List SourceState) (all : List Lane) (session session' : SessionValue) (before below below' : SinkState) (held held' : List ℕ) (lines round place : ℕ) (lane : Lane) (source : SourceState)
     → (i : Around s starts ends all session before below held lines round place) → place < length i.standing.rows → (h : Here s starts ends all session before below held lines round place i) → lane.stage ≡ stage.Open
     → SinkFailed (at s (i.answered ++ i.pending)) (slot i.standing.rows place no_row).lane.reader lane.reader (slot i.standing.rows place no_row).now source session session' below below' held held'
     → RanLater status.WriteFault s starts (slice_set ends place source) before below'
@@ -243,7 +243,7 @@ ends-stopped s starts ends all session session' before below below' held held' l
     ends-behind s starts ends all session session' before below m.sink below' held m.full held' lines round place lane source i l h yet-open m.lacks m.flushes
 
 -- the sink failed in the line of a fault, or in an earlier text that was held
-pub ends-untold : (s : State) (starts ends : List SourceState) (all : List Lane) (session : Kept) (before below below' : SinkState) (held held' : List ℕ) (lines round place : ℕ) (lane : Lane) (source : SourceState)
+pub ends-untold : (s : State) (starts ends : List SourceState) (all : List Lane) (session : SessionValue) (before below below' : SinkState) (held held' : List ℕ) (lines round place : ℕ) (lane : Lane) (source : SourceState)
     → (i : Around s starts ends all session before below held lines round place) → place < length i.standing.rows → (h : Here s starts ends all session before below held lines round place i) → lane.stage ≡ stage.Failed
     → FaultMet (1 + place) (slot i.standing.rows place no_row).lane.reader lane.reader (slot i.standing.rows place no_row).now source below below' held held' BrokeOff
     → RanLater status.WriteFault s starts (slice_set ends place source) before below'
@@ -268,7 +268,7 @@ ends-untold s starts ends all session before below below' held held' lines round
     }
 
 -- no memory was found for a line, and all that was held was written
-pub ends-memory : (s : State) (starts ends : List SourceState) (all : List Lane) (session session' : Kept) (before below below'' : SinkState) (held : List ℕ) (lines round place : ℕ) (lane : Lane) (source : SourceState)
+pub ends-memory : (s : State) (starts ends : List SourceState) (all : List Lane) (session session' : SessionValue) (before below below'' : SinkState) (held : List ℕ) (lines round place : ℕ) (lane : Lane) (source : SourceState)
     → (i : Around s starts ends all session before below held lines round place) → place < length i.standing.rows → (h : Here s starts ends all session before below held lines round place i) → lane.stage ≡ stage.Open
     → LacksMemory (at s (i.answered ++ i.pending)) (slot i.standing.rows place no_row).lane.reader lane.reader (slot i.standing.rows place no_row).now source session' below held (λ lower full. Wrote lower below'' full)
     → RanLater status.Memory s starts (slice_set ends place source) before below''

@@ -4,14 +4,14 @@ use Rattle.bq_io.specs.Source.{SourceState}
 use Rattle.bq_io.specs.Sink.{SinkState}
 use Rattle.bq_feed.specs.Reading.{Reading}
 use Rattle.bq_session.specs.State.{State}
-use Rattle.bq_session.specs.Session.{Kept}
+use Rattle.bq_session.specs.Session.{SessionValue}
 use Rattle.bq_session.specs.declared.one_turn.Turn.{Turn}
 use Rattle.bq_session.specs.declared.one_turn.Turn.TheVariants as turn
 use Rattle.bq_session.specs.Turned.{Turned, ahead}
 use Rattle.bq_feeds.specs.Lanes.{Looked, TurnedWith, bytes, lines}
 
 -- a line was taken where the session takes one more
-pub turned-more : (how : Turn) (more : Bool) (s : State) (old new : Reading) (source now : SourceState) (session session' : Kept) (below after : SinkState) (held kept : List ℕ) → more ≡ true
+pub turned-more : (how : Turn) (more : Bool) (s : State) (old new : Reading) (source now : SourceState) (session session' : SessionValue) (below after : SinkState) (held kept : List ℕ) → more ≡ true
     → Turned how s old new source now session session' below after held kept → TurnedWith how more s old new source now session session' below after held kept
 turned-more turn.Answered more s old new source now session session' below after held kept one t = (t, one)
 turned-more turn.Ended more s old new source now session session' below after held kept one t = t
@@ -21,7 +21,7 @@ turned-more turn.Stopped more s old new source now session session' below after 
 turned-more turn.Memory more s old new source now session session' below after held kept one t = t
 
 -- the source was asked where the session takes no more
-pub turned-looked : (how : Turn) (more : Bool) (s : State) (old new : Reading) (source now : SourceState) (session : Kept) (below after : SinkState) (held kept : List ℕ) → more ≡ false
+pub turned-looked : (how : Turn) (more : Bool) (s : State) (old new : Reading) (source now : SourceState) (session : SessionValue) (below after : SinkState) (held kept : List ℕ) → more ≡ false
     → Looked how old new source now below after held kept → TurnedWith how more s old new source now session session below after held kept
 turned-looked turn.Answered more s old new source now session below after held kept none t = absurd t
 turned-looked turn.Ended more s old new source now session below after held kept none t = (t, refl)

@@ -8,7 +8,7 @@ use Rattle.bq_io.specs.Sink.{SinkState}
 use Rattle.bq_io.specs.declared.status.Status.{Status}
 use Rattle.bq_io.specs.declared.status.Status.TheVariants as status
 use Rattle.bq_session.specs.State.{State}
-use Rattle.bq_session.specs.Session.{Kept}
+use Rattle.bq_session.specs.Session.{SessionValue}
 use Rattle.bq_session.specs.declared.one_turn.Turn.{Turn}
 use Rattle.bq_session.specs.declared.one_turn.Turn.TheVariants as turn
 use Rattle.bq_session.proofs.ToldEvents.{at}
@@ -23,7 +23,7 @@ use Rattle.bq_feeds.proofs.Advance.{Here, around-here, around-skip, around-line,
 use Rattle.bq_feeds.proofs.Stopping.{ends-full, ends-more, ends-stopped, ends-untold, ends-memory}
 
 -- the turn of the feed, by what is known of it
-turned-here : (how : Turn) (more : Bool) (s : State) (starts ends ends' : List SourceState) (all all' : List Lane) (session session' : Kept) (before below below' : SinkState) (held held' : List ℕ) (lines round place : ℕ)
+turned-here : (how : Turn) (more : Bool) (s : State) (starts ends ends' : List SourceState) (all all' : List Lane) (session session' : SessionValue) (before below below' : SinkState) (held held' : List ℕ) (lines round place : ℕ)
     → (i : Around s starts ends all session before below held lines round place) → Here s starts ends all session before below held lines round place i
     → (t : FeedTurned how more (at s (i.answered ++ i.pending)) place all all' ends ends' session session' below below' held held')
     → LaneTurned how more (at s (i.answered ++ i.pending)) (1 + place) (slot i.standing.rows place no_row).lane t.lane (slot i.standing.rows place no_row).now t.source session session' below below' held held'
@@ -33,12 +33,12 @@ turned-here how more s starts ends ends' all all' session session' before below 
     (subst (λ (n : ℕ). LaneTurned how more (at s (i.answered ++ i.pending)) n (slot all place new_lane) t.lane (slot ends place no_source) t.source session session' below below' held held') (let z : place + 1 ≡ 1 + place = omega arith in z) t.turned))
 
 -- The session goes on with the next feed, or it ends with a status.
-abbrev pub Leads : Option Status → State → List SourceState → List SourceState → List Lane → Kept → SinkState → SinkState → List ℕ → ℕ → ℕ → ℕ → Type 0
+abbrev pub Leads : Option Status → State → List SourceState → List SourceState → List Lane → SessionValue → SinkState → SinkState → List ℕ → ℕ → ℕ → ℕ → Type 0
 Leads None s starts ends all session before below held lines round place = Around s starts ends all session before below held lines round place
 Leads (Some how) s starts ends all session before below held lines round place = RanLater how s starts ends before below
 
 -- a feed has more bytes than can be counted, or a line more than the session takes
-by-filled : (more : Bool) (s : State) (starts ends : List SourceState) (all : List Lane) (session : Kept) (before below below' : SinkState) (held held' : List ℕ) (lines round place : ℕ) (lane : Lane) (source : SourceState)
+by-filled : (more : Bool) (s : State) (starts ends : List SourceState) (all : List Lane) (session : SessionValue) (before below below' : SinkState) (held held' : List ℕ) (lines round place : ℕ) (lane : Lane) (source : SourceState)
     → (i : Around s starts ends all session before below held lines round place) → place < length i.standing.rows → (h : Here s starts ends all session before below held lines round place i) → (more ≡ false → lines ≡ 2 ^ 64 - 2) → lane.stage ≡ stage.Open
     → Filled more (slot i.standing.rows place no_row).lane.reader lane.reader (slot i.standing.rows place no_row).now source below below' held held'
     → RanLater status.ByteLimit s starts (slice_set ends place source) before below'
@@ -47,7 +47,7 @@ by-filled more s starts ends all session before below below' held held' lines ro
 by-filled more s starts ends all session before below below' held held' lines round place lane source i l h few yet-open (filled.lines none long r) =
     ends-more s starts ends all session before below below' held held' lines round place lane source long i l h yet-open (few none) r
 
-by-turn : (how : Turn) (more : Bool) (s : State) (starts ends : List SourceState) (all : List Lane) (session session' : Kept) (before below below' : SinkState) (held held' : List ℕ) (lines round place : ℕ) (lane : Lane) (source : SourceState)
+by-turn : (how : Turn) (more : Bool) (s : State) (starts ends : List SourceState) (all : List Lane) (session session' : SessionValue) (before below below' : SinkState) (held held' : List ℕ) (lines round place : ℕ) (lane : Lane) (source : SourceState)
     → (i : Around s starts ends all session before below held lines round place) → place < length i.standing.rows → (h : Here s starts ends all session before below held lines round place i) → (more ≡ false → lines ≡ 2 ^ 64 - 2)
     → LaneTurned how more (at s (i.answered ++ i.pending)) (1 + place) (slot i.standing.rows place no_row).lane lane (slot i.standing.rows place no_row).now source session session' below below' held held'
     → Leads (status_after how) s starts (slice_set ends place source) (slice_set all place lane) session' before below' held' (lines_after how lines) round (suc place)
@@ -70,7 +70,7 @@ by-turn turn.Memory more s starts ends all session session' before below below' 
 none-more : (lines : ℕ) → lines ≤ 2 ^ 64 - 2 → nat_lt lines (2 ^ 64 - 2) ≡ false → lines ≡ 2 ^ 64 - 2
 none-more lines room none = grind (arith, nat_tests, room, none)
 
-pub leads : (result : Option Status) (s : State) (starts ends ends' : List SourceState) (all all' : List Lane) (session session' : Kept) (before below below' : SinkState) (held held' : List ℕ) (lines lines' round place : ℕ)
+pub leads : (result : Option Status) (s : State) (starts ends ends' : List SourceState) (all all' : List Lane) (session session' : SessionValue) (before below below' : SinkState) (held held' : List ℕ) (lines lines' round place : ℕ)
     → (i : Around s starts ends all session before below held lines round place) → place < length i.standing.rows → lines ≤ 2 ^ 64 - 2
     → Visited result (at s (i.answered ++ i.pending)) place all all' ends ends' session session' below below' held held' lines lines'
     → Leads result s starts ends' all' session' before below' held' lines' round (suc place)
@@ -84,7 +84,7 @@ leads result s starts ends ends' all all' session session' before below below' h
     (turned-here how more s starts ends ends' all all' session session' before below below' held held' lines round place i h t))
 
 -- the feed of a place took its turn, by the elements at that place
-pub feed-turned : (how : Turn) (more : Bool) (s : State) (place : ℕ) (lanes lanes' : List Lane) (nows nows' : List SourceState) (session session' : Kept) (below after : SinkState) (held kept : List ℕ) (old lane : Lane) (was source : SourceState)
+pub feed-turned : (how : Turn) (more : Bool) (s : State) (place : ℕ) (lanes lanes' : List Lane) (nows nows' : List SourceState) (session session' : SessionValue) (below after : SinkState) (held kept : List ℕ) (old lane : Lane) (was source : SourceState)
     → slot lanes place new_lane ≡ old → slot nows place no_source ≡ was → lanes' ≡ slice_set lanes place lane → nows' ≡ slice_set nows place source
     → LaneTurned how more s (place + 1) old lane was source session session' below after held kept → FeedTurned how more s place lanes lanes' nows nows' session session' below after held kept
 feed-turned how more s place lanes lanes' nows nows' session session' below after held kept old lane was source a b c d t = record {
@@ -96,6 +96,6 @@ feed-turned how more s place lanes lanes' nows nows' session session' below afte
       (subst (λ (x : SourceState). LaneTurned how more s (place + 1) old lane x source session session' below after held kept) (sym b) t);
 }
 
-pub around-next : (s : State) (starts ends : List SourceState) (all : List Lane) (session : Kept) (before below : SinkState) (held : List ℕ) (lines round place : ℕ)
+pub around-next : (s : State) (starts ends : List SourceState) (all : List Lane) (session : SessionValue) (before below : SinkState) (held : List ℕ) (lines round place : ℕ)
     → Around s starts ends all session before below held lines round (suc place) → Around s starts ends all session before below held lines round (place + 1)
 around-next s starts ends all session before below held lines round place i = subst (λ (k : ℕ). Around s starts ends all session before below held lines round k) (let z : suc place ≡ place + 1 = omega arith in z) i

@@ -7,7 +7,7 @@ use Rattle.bq_feed.specs.Reading.{Reading, answer_to}
 use Rattle.bq_feed.specs.declared.reader.LineAnswer.TheVariants as line
 use Rattle.bq_session.specs.declared.outcome.LineOutcome.TheVariants as outcome
 use Rattle.bq_session.specs.State.{State}
-use Rattle.bq_session.specs.Session.{Kept}
+use Rattle.bq_session.specs.Session.{SessionValue}
 use Rattle.bq_session.specs.declared.one_turn.Turn.{Turn}
 use Rattle.bq_session.specs.declared.one_turn.Turn.TheVariants as turns
 use Rattle.bq_session.specs.Events.{fault_text}
@@ -45,7 +45,7 @@ pub data Filled (more : Bool) (old new : Reading) (source now : SourceState) (be
   lines : more ≡ false → (long : Bool) → Read (answer_to long) old new source now below after held kept → Filled more old new source now below after held kept
 
 -- How a turn of a source goes in a session that takes one more line, or no more: a line is answered only where it takes one.
-abbrev pub TurnedWith : Turn → Bool → State → Reading → Reading → SourceState → SourceState → Kept → Kept → SinkState → SinkState → List ℕ → List ℕ → Type 0
+abbrev pub TurnedWith : Turn → Bool → State → Reading → Reading → SourceState → SourceState → SessionValue → SessionValue → SinkState → SinkState → List ℕ → List ℕ → Type 0
 TurnedWith turns.Answered more s old new source now session session' below after held kept = AnsweredLine outcome.Done s old new source now session' below after held kept × (more ≡ true)
 TurnedWith turns.Ended more s old new source now session session' below after held kept = Read line.End old new source now below after held kept × (session' ≡ session)
 TurnedWith turns.Failed more s old new source now session session' below after held kept = Read line.ReadFault old new source now below after held kept × (session' ≡ session)
@@ -63,7 +63,7 @@ pub record FaultMet (number : ℕ) (old new : Reading) (source now : SourceState
   pub told : P (gathered_seen between name left) (gathered_seen after name' kept) (fault_text number)
 
 -- How a turn of the feed of this number goes that has not ended: as the turn of its source, and a fault is written.
-abbrev pub LaneTurned : Turn → Bool → State → ℕ → Lane → Lane → SourceState → SourceState → Kept → Kept → SinkState → SinkState → List ℕ → List ℕ → Type 0
+abbrev pub LaneTurned : Turn → Bool → State → ℕ → Lane → Lane → SourceState → SourceState → SessionValue → SessionValue → SinkState → SinkState → List ℕ → List ℕ → Type 0
 LaneTurned turns.Answered more s number old new source now session session' below after held kept = AnsweredLine outcome.Done s old.reader new.reader source now session' below after held kept × (new.stage ≡ Open)
 LaneTurned turns.Ended more s number old new source now session session' below after held kept = Read line.End old.reader new.reader source now below after held kept × (session' ≡ session) × (new.stage ≡ Ended)
 LaneTurned turns.Failed more s number old new source now session session' below after held kept = FaultMet number old.reader new.reader source now below after held kept Wrote × (session' ≡ session) × (new.stage ≡ Failed)

@@ -10,7 +10,7 @@ use Rattle.bq_io.specs.declared.status.Status.{Status}
 use Rattle.bq_io.specs.declared.status.Status.TheVariants as status
 use Rattle.bq_feed.specs.Reading.{fresh}
 use Rattle.bq_session.specs.State.{State}
-use Rattle.bq_session.specs.Session.{Kept}
+use Rattle.bq_session.specs.Session.{SessionValue}
 use Rattle.bq_session.specs.declared.one_turn.Turn.{Turn}
 use Rattle.bq_session.specs.declared.one_turn.Turn.TheVariants as turns
 use Rattle.bq_feeds.specs.declared.stage.Stage.TheVariants.{Open}
@@ -47,7 +47,7 @@ lines_after turns.Stopped lines = lines
 lines_after turns.Memory lines = lines
 
 -- The feed of this place took a turn, and the others stayed as they were.
-pub record FeedTurned (turn : Turn) (more : Bool) (s : State) (place : ℕ) (lanes lanes' : List Lane) (nows nows' : List SourceState) (session session' : Kept) (below after : SinkState) (held kept : List ℕ) : Type 0 where
+pub record FeedTurned (turn : Turn) (more : Bool) (s : State) (place : ℕ) (lanes lanes' : List Lane) (nows nows' : List SourceState) (session session' : SessionValue) (below after : SinkState) (held kept : List ℕ) : Type 0 where
   pub lane : Lane
   pub source : SourceState
   pub lanes_set : lanes' ≡ slice_set lanes place lane
@@ -56,7 +56,7 @@ pub record FeedTurned (turn : Turn) (more : Bool) (s : State) (place : ℕ) (lan
 
 -- What a visit to the feed of a place does. It has ended, and nothing is changed; or it took its turn, in which a line was taken only where fewer
 -- were given than a session over feeds takes.
-pub data Visited (result : Option Status) (s : State) (place : ℕ) (lanes lanes' : List Lane) (nows nows' : List SourceState) (session session' : Kept) (below after : SinkState) (held kept : List ℕ) (lines lines' : ℕ) : Type 0 where
+pub data Visited (result : Option Status) (s : State) (place : ℕ) (lanes lanes' : List Lane) (nows nows' : List SourceState) (session session' : SessionValue) (below after : SinkState) (held kept : List ℕ) (lines lines' : ℕ) : Type 0 where
   skipped : result ≡ None → is_open (slot lanes place new_lane).stage ≡ false → lanes' ≡ lanes → nows' ≡ nows → session' ≡ session → after ≡ below → kept ≡ held → lines' ≡ lines
       → Visited result s place lanes lanes' nows nows' session session' below after held kept lines lines'
   turned : (turn : Turn) → result ≡ status_after turn → is_open (slot lanes place new_lane).stage ≡ true → FeedTurned turn (nat_lt lines (2 ^ 64 - 2)) s place lanes lanes' nows nows' session session' below after held kept → lines' ≡ lines_after turn lines

@@ -1,5 +1,5 @@
 -- Texts that are written one after another.
-use Rattle.std.proofs.Common.{◌≡◌, ℕ, ◌+◌, ◌-◌, ◌<◌, ◌≤◌, get_or, arith, List, [], ◌++◌, length, take, drop, refl, sym, ap, ◌∙◌, append_assoc}
+use Rattle.std.proofs.Common.{◌≡◌, ℕ, ◌+◌, ◌-◌, ◌<◌, ◌≤◌, get_or, arith, List, [], ◌∷◌, ◌++◌, length, take, drop, refl, sym, ap, ◌∙◌, append_assoc}
 use Rattle.std.proofs.lemmas.List.{take-append-drop, take_rest, drop_more}
 use Rattle.std.proofs.lemmas.List.Concat.{flat_map-append}
 use Rattle.std.specs.List.{flat_map}
@@ -76,3 +76,13 @@ flat_map-at f xs i d lt =
 -- the texts of the items were written up to one of them, and this one broke off
 pub BrokeOff-at : {X : Type 0} (f : X → List ℕ) (xs : List X) (i : ℕ) (d : X) (a b c : SinkState) → i < length xs → Wrote a b (flat_map f (take i xs)) → BrokeOff b c (f (get_or xs i d)) → BrokeOff a c (flat_map f xs)
 BrokeOff-at f xs i d a b c lt p q = rw (flat_map-at f xs i d lt) (BrokeOff-then a b c _ _ p (BrokeOff-stop b c _ _ q))
+
+-- of two fronts of one text the shorter begins the longer
+pub front-of : (x y held text : List ℕ) → y ++ held ≡ x ++ text → length x ≤ length y → (more : List ℕ) × (y ≡ x ++ more) × (more ++ held ≡ text)
+front-of [] y held text e le = (y, refl, e)
+front-of (a ∷ x) [] held text e le = absurd (omega arith)
+front-of (a ∷ x) (b ∷ y) held text e le =
+    let tails : y ++ held ≡ x ++ text = cc in
+    let heads : b ≡ a = cc in
+    let h = front-of x y held text tails (omega arith) in
+    (h.0, ap (λ l. b ∷ l) h.1 ∙ ap (λ c. c ∷ (x ++ h.0)) heads, h.2)

@@ -5,7 +5,7 @@ use Rattle.std.proofs.lemmas.List.Elements.{All-nil, All-head, All-tail}
 use Rattle.bq_model.specs.declared.cell.Cell.{Cell}
 use Rattle.bq_model.specs.declared.plan.PartPlan.{PartPlan}
 use Rattle.bq_model.specs.Query.{QueryValue, IsWithinLimits}
-use Rattle.bq_model.specs.Tuples.{is_same, ascending, once, minus, fresh, at_most}
+use Rattle.bq_model.specs.Tuples.{is_same, sorted, distinct_tuples, bag_minus, new_tuples, at_most}
 use Rattle.bq_model.specs.Assignment.{holds, projected}
 use Rattle.bq_model.specs.Meaning.{Arrival, rows, product, assignment_of, answers, new_answers}
 use Rattle.bq_model.specs.Domains.{RowKeeps, RowsKeep}
@@ -80,9 +80,9 @@ bases-keep-on q plan list base e = record {
 -- a list that rises and has no tuple more often is as it was
 pub times-at_most : (most : ℕ) (z : List ℤ) (ts : List (List ℤ)) → times z (at_most most ts) ≡ min most (times z ts)
 times-at_most most z ts =
-    sums_flat_map (λ t. bit (is_same z t)) (λ t. replicate (min most (length (filter (is_same t) ts))) t) (once ts)
-    ∙ sums_same_in (λ t. times z (replicate (min most (length (filter (is_same t) ts))) t)) (λ t. min most (times z ts) * bit (is_same z t)) (once ts) (λ t h. one t)
-    ∙ sums_times (min most (times z ts)) (λ t. bit (is_same z t)) (once ts)
+    sums_flat_map (λ t. bit (is_same z t)) (λ t. replicate (min most (length (filter (is_same t) ts))) t) (distinct_tuples ts)
+    ∙ sums_same_in (λ t. times z (replicate (min most (length (filter (is_same t) ts))) t)) (λ t. min most (times z ts) * bit (is_same z t)) (distinct_tuples ts) (λ t h. one t)
+    ∙ sums_times (min most (times z ts)) (λ t. bit (is_same z t)) (distinct_tuples ts)
     ∙ ap (λ n. min most (times z ts) * n) (times-once z ts)
     ∙ less (times z ts)
   where
@@ -97,18 +97,18 @@ times-at_most most z ts =
     less zero = omega arith
     less (suc n) = (let e : min 1 (suc n) ≡ 1 = omega arith in ap (λ m. min most (suc n) * m) e) ∙ omega arith
 
-pub capped-same : (most : ℕ) (ts : List (List ℤ)) → Rises ts → ((z : List ℤ) → times z ts ≤ most) → ascending (at_most most ts) ≡ ts
+pub capped-same : (most : ℕ) (ts : List (List ℤ)) → Rises ts → ((z : List ℤ) → times z ts ≤ most) → sorted (at_most most ts) ≡ ts
 capped-same most ts rises few =
-    same-counts (ascending (at_most most ts)) ts (ascending-rises (at_most most ts)) rises (λ z.
+    same-counts (sorted (at_most most ts)) ts (ascending-rises (at_most most ts)) rises (λ z.
     times-ascending z (at_most most ts) ∙ times-at_most most z ts ∙ (let f = few z in let e : min most (times z ts) ≡ times z ts = omega (arith, f) in e))
 
 rises-new : (q : QueryValue) (h : List Arrival) (r : Arrival) → Rises (new_answers q h r)
 unfolding new_answers
 rises-new q h r = by q.distinct
   where
-    by : (b : Bool) → Rises (cond b (ascending (fresh (answers q h) (answers q (h ++ r ∷ [])))) (ascending (minus (answers q (h ++ r ∷ [])) (answers q h))))
-    by true = ascending-rises (fresh (answers q h) (answers q (h ++ r ∷ [])))
-    by false = ascending-rises (minus (answers q (h ++ r ∷ [])) (answers q h))
+    by : (b : Bool) → Rises (cond b (sorted (new_tuples (answers q h) (answers q (h ++ r ∷ [])))) (sorted (bag_minus (answers q (h ++ r ∷ [])) (answers q h))))
+    by true = ascending-rises (new_tuples (answers q h) (answers q (h ++ r ∷ [])))
+    by false = ascending-rises (bag_minus (answers q (h ++ r ∷ [])) (answers q h))
 
 module _ (q : QueryValue) (plan : List PartPlan) (list : List Box) (within : IsWithinLimits q) (violation : IsViolation q None) (is : IsKept q plan list) where
   pub suffices : (h : List Arrival) (r : Arrival) → RowsKeep q h → RowKeeps q r → future q plan (read_from (synopsis_in q list h)) (printed q h) r ≡ new_answers q h r
@@ -130,8 +130,8 @@ module _ (q : QueryValue) (plan : List PartPlan) (list : List Box) (within : IsW
   none_printed : [] ≡ printed q []
   none_printed = by q.distinct
     where
-      by : (b : Bool) → [] ≡ cond b (ascending (once (answers q []))) []
-      by true = ap (λ (ts : List (List ℤ)). ascending (once ts)) (sym no_answers)
+      by : (b : Bool) → [] ≡ cond b (sorted (distinct_tuples (answers q []))) []
+      by true = ap (λ (ts : List (List ℤ)). sorted (distinct_tuples ts)) (sym no_answers)
       by false = refl
 
   table-grows : (h : List Arrival) (r : Arrival) → RowsKeep q h → RowKeeps q r → table_with q plan (synopsis_in q list h) (printed q h) r ≡ printed q (h ++ r ∷ [])
@@ -144,7 +144,7 @@ module _ (q : QueryValue) (plan : List PartPlan) (list : List Box) (within : IsW
           ∙ ap (merged_table (printed q h)) (suffices h r keep_h keep_r) ∙ sym (printed-grows q h r within d)
       by false d =
           ap (λ b. cond b (merged_table (printed q h) (future q plan (read_from (synopsis_in q list h)) (printed q h) r)) []) d
-          ∙ sym (ap (λ b. cond b (ascending (once (answers q (h ++ r ∷ [])))) []) d)
+          ∙ sym (ap (λ b. cond b (sorted (distinct_tuples (answers q (h ++ r ∷ [])))) []) d)
 
   table-of : (h g : List Arrival) → RowsKeep q h → RowsKeep q g → table_after q plan list (synopsis_in q list h) (printed q h) g ≡ printed q (h ++ g)
   unfolding table_after
@@ -172,7 +172,7 @@ module _ (q : QueryValue) (plan : List PartPlan) (list : List Box) (within : IsW
 
   answers-from : (h : List Arrival) (r : Arrival) → RowsKeep q h → RowKeeps q r → length h ≤ 2 ^ 40 → answers_from q plan (base_of q list h) r ≡ new_answers q h r
   answers-from h r keep_h keep_r few =
-      ap (λ (ts : List (List ℤ)). ascending (at_most (2 ^ 127) ts)) (suffices h r keep_h keep_r)
+      ap (λ (ts : List (List ℤ)). sorted (at_most (2 ^ 127) ts)) (suffices h r keep_h keep_r)
       ∙ capped-same (2 ^ 127) (new_answers q h r) (rises-new q h r) (λ z.
       let c = counts-fit q within h r z few in
       let o = occurs-is z (new_answers q h r) in omega (arith, c, o))

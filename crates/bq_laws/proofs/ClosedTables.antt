@@ -11,7 +11,7 @@ use Rattle.bq_model.specs.Plan.{stream_at, dims_at}
 use Rattle.bq_model.specs.Admission.{admits}
 use Rattle.bq_model.specs.Cells.{row_place, content, upto}
 use Rattle.bq_model.specs.Merge.{merged, merged_table}
-use Rattle.bq_model.specs.Tuples.{ascending, fresh}
+use Rattle.bq_model.specs.Tuples.{sorted, new_tuples}
 use Rattle.bq_model.specs.Combinations.{Choice, choice, cell_choice, Reading, read_from, found_in}
 use Rattle.bq_model.specs.Numbers.{places}
 use Rattle.bq_model.specs.Probing.{choices_beside, found_beside}
@@ -74,10 +74,10 @@ module _ (q : QueryValue) (plan : List PartPlan) (is : IsDistinctPlan q plan) (l
 
   new-tuple : list_any (λ stream. r.stream == stream) q.from ≡ true → (t : List ℤ) → Has (waiting q plan old r) t → Has table t
   new-tuple named t h =
-      let f : future q plan old base.table r ≡ ascending (fresh base.table (waiting q plan old r))
+      let f : future q plan old base.table r ≡ sorted (new_tuples base.table (waiting q plan old r))
       = future-is q plan old base.table r true false named is.several
-      ∙ ap (λ b. cond b (ascending (fresh base.table (waiting q plan old r))) (ascending (waiting q plan old r))) is.distinct in
-      let o : Has base.table t ⊎ Has (ascending (fresh base.table (waiting q plan old r))) t = waits-or-stands base.table (waiting q plan old r) t h in
+      ∙ ap (λ b. cond b (sorted (new_tuples base.table (waiting q plan old r))) (sorted (waiting q plan old r))) is.distinct in
+      let o : Has base.table t ⊎ Has (sorted (new_tuples base.table (waiting q plan old r))) t = waits-or-stands base.table (waiting q plan old r) t h in
       subst (λ ts. Has ts t) (sym table-is) (in-merged base.table (future q plan old base.table r) t (subst (λ us. Has base.table t ⊎ Has us t) (sym f) o))
 
   module _ (part : PartPlan) (known : Has plan part) where

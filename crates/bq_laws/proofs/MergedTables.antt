@@ -1,7 +1,7 @@
 -- What a table has after it took what is answered.
 use Rattle.std.proofs.Common.{◌≡◌, ℕ, ◌+◌, ◌*◌, min, ◌<◌, ◌⊎◌, inl, inr, List, ◌++◌, not, Bool, true, false, refl, sym, ap, ◌∙◌, subst, arith, ℤ}
 use Rattle.std.specs.List.{list_any}
-use Rattle.bq_model.specs.Tuples.{is_same, ascending, once, fresh}
+use Rattle.bq_model.specs.Tuples.{is_same, sorted, distinct_tuples, new_tuples}
 use Rattle.bq_model.specs.Merge.{merged_table}
 use Rattle.bq_model.proofs.Has.{Has}
 use Rattle.bq_laws.proofs.Sums.{sums_append, bit}
@@ -22,20 +22,20 @@ in-merged table us z h = times-has z (merged_table table us) (subst (λ (n : ℕ
   where
     all : times z (merged_table table us) ≡ min 1 (times z table + times z us)
     all =
-        times-ascending z (once (table ++ us)) ∙ times-once z (table ++ us) ∙ ap (min 1) (sums_append (λ t. bit (is_same z t)) table us)
+        times-ascending z (distinct_tuples (table ++ us)) ∙ times-once z (table ++ us) ∙ ap (min 1) (sums_append (λ t. bit (is_same z t)) table us)
 
     by : Has table z ⊎ Has us z → 0 < min 1 (times z table + times z us)
     by (inl k) = let l = has-times z table k in omega (arith, l)
     by (inr k) = let l = has-times z us k in omega (arith, l)
 
 -- what waits is in the table, or is answered
-pub waits-or-stands : (table ts : List (List ℤ)) (z : List ℤ) → Has ts z → Has table z ⊎ Has (ascending (fresh table ts)) z
+pub waits-or-stands : (table ts : List (List ℤ)) (z : List ℤ) → Has ts z → Has table z ⊎ Has (sorted (new_tuples table ts)) z
 waits-or-stands table ts z h = by (list_any (is_same z) table) refl
   where
-    by : (b : Bool) → list_any (is_same z) table ≡ b → Has table z ⊎ Has (ascending (fresh table ts)) z
+    by : (b : Bool) → list_any (is_same z) table ≡ b → Has table z ⊎ Has (sorted (new_tuples table ts)) z
     by true e = inl (times-has z table (any-times z table e))
     by false e =
-        let n : times z (ascending (fresh table ts)) ≡ 1 * min 1 (times z ts)
-        = times-ascending z (fresh table ts) ∙ times-fresh z table ts ∙ ap (λ b. bit (not b) * min 1 (times z ts)) e in
+        let n : times z (sorted (new_tuples table ts)) ≡ 1 * min 1 (times z ts)
+        = times-ascending z (new_tuples table ts) ∙ times-fresh z table ts ∙ ap (λ b. bit (not b) * min 1 (times z ts)) e in
         let l = has-times z ts h in
-        inr (times-has z (ascending (fresh table ts)) (omega (arith, n, l)))
+        inr (times-has z (sorted (new_tuples table ts)) (omega (arith, n, l)))

@@ -12,7 +12,7 @@ use Rattle.bq_model.specs.declared.plan.PartPlan.{PartPlan}
 use Rattle.bq_model.specs.Query.{QueryValue, attr_lt}
 use Rattle.bq_model.specs.Links.{IsEquality, IsInequality}
 use Rattle.bq_model.specs.Plan.{AreDims, IsKind, IsStreamPlan, link, link_lt}
-use Rattle.bq_refs.specs.declared.told.Refs.{Refs}
+use Rattle.bq_refs.specs.declared.types.Refs.{Refs}
 use Rattle.bq_refs.specs.Refs.{AreRefs}
 use Rattle.bq_layout.specs.Capped.{capped}
 use Rattle.bq_layout.specs.Boxed.{cells_over, size_for, boxed_streams}

@@ -20,7 +20,7 @@ use Rattle.bq_model.specs.Verdict.{number_of, is_above, first_above}
 use Rattle.bq_lto_split.specs.Split.{sign_lists}
 use Rattle.bq_layout.specs.declared.error.LayoutError.{LayoutError}
 use Rattle.bq_layout.specs.declared.error.LayoutError.TheVariants as why
-use Rattle.bq_layout.specs.declared.drafting.Draft.{Draft}
+use Rattle.bq_layout.specs.declared.draft.Draft.{Draft}
 use Rattle.bq_layout.specs.Capped.{capped}
 use Rattle.bq_layout.specs.Boxed.{cells_for, boxed}
 use Rattle.bq_layout.specs.Drafts.{IsDraft, signs_of}

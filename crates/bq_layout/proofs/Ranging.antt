@@ -10,7 +10,7 @@ use Rattle.bq_model.specs.Query.{QueryValue, attrs_of}
 use Rattle.bq_model.specs.Order.{IsBounded, IsLeast, IsGreatest}
 use Rattle.bq_model.specs.Boxes.{range_size, dim_size, box_size}
 use Rattle.bq_refs.specs.declared.range.Range.{Range}
-use Rattle.bq_refs.specs.declared.told.Refs.{Refs}
+use Rattle.bq_refs.specs.declared.types.Refs.{Refs}
 use Rattle.bq_refs.specs.Refs.{IsRange, AreRefs}
 use Rattle.bq_closure.proofs.Zips.{zip_at, zip_length}
 use Rattle.bq_layout.specs.Looking.{attr_at}

@@ -6,7 +6,7 @@ use Rattle.bq_model.specs.declared.plan.PartPlan.{PartPlan}
 use Rattle.bq_model.specs.Query.{QueryValue}
 use Rattle.bq_model.specs.Parts.{AreParts}
 use Rattle.bq_lto_split.specs.Split.{sign_lists}
-use Rattle.bq_layout.specs.declared.drafting.Draft.{Draft}
+use Rattle.bq_layout.specs.declared.draft.Draft.{Draft}
 use Rattle.bq_layout.specs.Sums.{IsDrafted}
 use Rattle.bq_layout.specs.Unset.{AreUnset}
 

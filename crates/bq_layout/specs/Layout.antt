@@ -12,7 +12,7 @@ use Rattle.bq_model.specs.Sharing.{IsPlanFor, IsPlanOf, numbers_for}
 use Rattle.bq_model.specs.Verdict.{number_of, first_above}
 use Rattle.bq_layout.specs.declared.error.LayoutError.{LayoutError}
 use Rattle.bq_layout.specs.declared.error.LayoutError.TheVariants as why
-use Rattle.bq_layout.specs.declared.drafting.Draft.{Draft}
+use Rattle.bq_layout.specs.declared.draft.Draft.{Draft}
 use Rattle.bq_layout.specs.Capped.{capped}
 
 -- no number of the plan is above its limit

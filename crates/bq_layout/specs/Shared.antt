@@ -6,7 +6,7 @@ use Rattle.bq_model.specs.declared.plan.PartPlan.{PartPlan}
 use Rattle.bq_model.specs.Query.{QueryValue}
 use Rattle.bq_model.specs.Plan.{stream_at}
 use Rattle.bq_model.specs.Sharing.{Box, box_at, boxes_in, same_box, different_boxes, boxes, start_in, shared_cells}
-use Rattle.bq_layout.specs.declared.drafting.Draft.{Draft}
+use Rattle.bq_layout.specs.declared.draft.Draft.{Draft}
 use Rattle.bq_layout.specs.declared.boxes.Slot.{Slot}
 use Rattle.bq_layout.specs.declared.boxes.Boxes.{Boxes}
 use Rattle.bq_layout.specs.Capped.{capped}

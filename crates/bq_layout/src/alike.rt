@@ -5,7 +5,7 @@ ghost use Rattle.bq_model.specs.Plan.{stream_at};
 ghost use Rattle.bq_model.specs.Admission.{sign_eq};
 ghost use Rattle.bq_model.specs.Sharing.{box_at, same_signs, same_dim, same_dims, same_kind, same_box};
 
-use crate::looking::is_same;
+use crate::lookup::is_same;
 use crate::shares::dims_at;
 use bq_model::{Dim, Element, Kind, Pair, PartPlan, Query, Sign};
 

@@ -8,7 +8,7 @@ ghost use Rattle.bq_layout.specs.Listed.{no_part, box_in, box_of, listed, with_b
 
 use crate::alike::is_box;
 use crate::codes::code_of;
-use crate::drafting::{cells_over, narrowed};
+use crate::draft::{cells_over, narrowed};
 use crate::shares::dims_at;
 use bq_model::{PartPlan, Query};
 use std::alloc::{AllocError, Global};

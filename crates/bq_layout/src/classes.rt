@@ -6,7 +6,7 @@ ghost use Rattle.bq_refs.specs.Refs.{AreRefs};
 ghost use Rattle.bq_layout.specs.Looking.{attr_at};
 ghost use Rattle.bq_layout.specs.Classes.{NamesOf};
 
-use crate::looking::attr_at;
+use crate::lookup::attr_at;
 use bq_model::{Part, Query};
 use bq_refs::Refs;
 

@@ -14,13 +14,13 @@ mod boxes;
 mod classes;
 mod codes;
 mod dims;
-mod drafting;
+mod draft;
 mod error;
 mod kinds;
-mod laying;
 mod limits;
-mod looking;
+mod lookup;
 mod placing;
+mod plan;
 mod ranges;
 mod selecting;
 mod shares;
@@ -28,7 +28,7 @@ mod sizes;
 #[cfg(test)]
 mod tests;
 
-pub use drafting::cells_over;
+pub use draft::cells_over;
 pub use error::LayoutError;
-pub use laying::{lay_out, layout, layout_shared, part_plans};
+pub use plan::{lay_out, layout, layout_shared, part_plans};
 pub use shares::dims_at;

@@ -9,7 +9,7 @@ ghost use Rattle.bq_refs.specs.Refs.{AreRefs};
 ghost use Rattle.bq_layout.specs.Capped.{capped};
 ghost use Rattle.bq_layout.specs.Sums.{IsSizeOf, AreSizesOf};
 
-use crate::looking::is_among;
+use crate::lookup::is_among;
 use crate::ranges::range_of;
 use crate::sizes::range_size;
 use arrayvec::ArrayVec;

@@ -7,7 +7,7 @@ ghost use Rattle.bq_model.specs.Plan.{dims_at};
 ghost use Rattle.bq_model.specs.Numbers.{is_earlier_dim, is_fixed, free_dims, share_of, share};
 ghost use Rattle.bq_layout.specs.Capped.{capped};
 
-use crate::looking::is_same;
+use crate::lookup::is_same;
 use crate::sizes::dim_size;
 use bq_model::{Attr, Dim, PartPlan};
 

@@ -1,5 +1,5 @@
 //! A plan with shared cells.
-use crate::laying::{layout, layout_shared};
+use crate::plan::{layout, layout_shared};
 use bq_lto_split::split;
 use bq_model::{Atom, Attr, Element, Numbers, Op, Plan, Query};
 use std::test::Fail;

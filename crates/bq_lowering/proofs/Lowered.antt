@@ -12,8 +12,8 @@ use Rattle.bq_feed.proofs.GivenEnds.{front-lines, took-lines, took-all}
 use Rattle.bq_schema.specs.Streams.{Shape}
 use Rattle.bq_parser.specs.declared.tree.SelectAst.{SelectAst}
 use Rattle.bq_parser.specs.declared.tree.Statement.{Statement}
-use Rattle.bq_reply.specs.declared.word.Word.{Word}
-use Rattle.bq_reply.specs.declared.word.Word.TheVariants.{Limit}
+use Rattle.bq_reply.specs.declared.refusal.Refusal.{Refusal}
+use Rattle.bq_reply.specs.declared.refusal.Refusal.TheVariants.{Limit}
 use Rattle.bq_script.specs.declared.end.ScriptEnd.{ScriptEnd}
 use Rattle.bq_script.specs.declared.end.ScriptEnd.TheVariants.{Refused, ReadFault, ByteLimit, Memory}
 use Rattle.bq_script.specs.declared.script.Script.{Script}
@@ -65,7 +65,7 @@ comes-large n script source now reader g large =
     }
 
 -- a line behind the query says something
-pub comes-misplaced : (n : ℕ) (script : Script) (source now now' : SourceState) (old new : Reading) (number : ℕ) (word : Word) (g : GaveScript script source now old) → ¬ HasMoreParts script.query 4096
+pub comes-misplaced : (n : ℕ) (script : Script) (source now now' : SourceState) (old new : Reading) (number : ℕ) (word : Refusal) (g : GaveScript script source now old) → ¬ HasMoreParts script.query 4096
     → GaveLine source now' g.given new (λ place line. (number ≡ place) × IsMisplaced line word) → ComesTo (Lowers n) source now' (refusal number word)
 comes-misplaced n script source now now' old new number word g small t =
     let more = t.blanks ++ t.line ∷ [] in

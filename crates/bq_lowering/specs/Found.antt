@@ -10,7 +10,7 @@ use Rattle.bq_lower.specs.declared.error.LowerError.{LowerError}
 use Rattle.bq_lower.specs.declared.error.LowerError.TheVariants as why
 use Rattle.bq_lower.specs.Family.{FamilyValue}
 use Rattle.bq_parser.specs.Resolution.{HasNamed}
-use Rattle.bq_reply.specs.declared.word.Word.TheVariants.{Limit}
+use Rattle.bq_reply.specs.declared.refusal.Refusal.TheVariants.{Limit}
 use Rattle.bq_script.specs.declared.end.ScriptEnd.{ScriptEnd}
 use Rattle.bq_script.specs.declared.end.ScriptEnd.TheVariants.{Refused, ReadFault, ByteLimit, Memory}
 use Rattle.bq_script.specs.declared.script.Script.{Script}

@@ -6,8 +6,8 @@ use Rattle.bq_model.specs.Query.{QueryValue}
 use Rattle.bq_model.specs.Parts.{HasMoreParts}
 use Rattle.bq_schema.specs.Streams.{Shape}
 use Rattle.bq_parser.specs.declared.tree.SelectAst.{SelectAst}
-use Rattle.bq_reply.specs.declared.word.Word.{Word}
-use Rattle.bq_reply.specs.declared.word.Word.TheVariants.{Limit}
+use Rattle.bq_reply.specs.declared.refusal.Refusal.{Refusal}
+use Rattle.bq_reply.specs.declared.refusal.Refusal.TheVariants.{Limit}
 use Rattle.bq_script.specs.Script.{Asks, IsRefusedAt, IsBlank, IsMisplaced}
 use Rattle.bq_script.specs.Commands.{Outcome, refusal, early_refusal}
 use Rattle.bq_lowering.specs.declared.finding.Finding.{Finding}
@@ -21,11 +21,11 @@ found streams name q n finding = record { status = status.Done; text = finding_t
 -- What it comes to: the first line that is refused before the query; the line of a query of more than 4,096 parts; the first line behind it
 -- that says something; or else what is found for the query, whichever family it is.
 pub data Lowers (n : ℕ) (lines : List (List ℕ)) (o : Outcome) : Type 0 where
-  early : (number : ℕ) (word : Word) (refused : IsRefusedAt lines number word) → o ≡ early_refusal number word refused → Lowers n lines o
+  early : (number : ℕ) (word : Refusal) (refused : IsRefusedAt lines number word) → o ≡ early_refusal number word refused → Lowers n lines o
   large : (streams : List Shape) (name : List ℕ) (select : SelectAst) (shared : Bool) (q : QueryValue) (number : ℕ) → Asks lines streams name select shared q number
       → HasMoreParts q 4096 → o ≡ refusal number Limit → Lowers n lines o
   misplaced : (streams : List Shape) (name : List ℕ) (select : SelectAst) (shared : Bool) (q : QueryValue) (number : ℕ) (asks : Asks lines streams name select shared q number)
-      → ¬ HasMoreParts q 4096 → (blanks : List (List ℕ)) (line : List ℕ) (others : List (List ℕ)) (word : Word) → asks.behind ≡ blanks ++ line ∷ others → All IsBlank blanks
+      → ¬ HasMoreParts q 4096 → (blanks : List (List ℕ)) (line : List ℕ) (others : List (List ℕ)) (word : Refusal) → asks.behind ≡ blanks ++ line ∷ others → All IsBlank blanks
       → IsMisplaced line word → o ≡ refusal (number + length blanks + 1) word → Lowers n lines o
   whole : (streams : List Shape) (name : List ℕ) (select : SelectAst) (shared : Bool) (q : QueryValue) (number : ℕ) (asks : Asks lines streams name select shared q number)
       → ¬ HasMoreParts q 4096 → All IsBlank asks.behind → (finding : Finding) → IsFinding streams q n finding → o ≡ found streams name q n finding → Lowers n lines o

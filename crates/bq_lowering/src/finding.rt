@@ -11,7 +11,7 @@ use bq_families::family;
 use bq_lower::{Family, LowerError};
 use bq_lto_split::{SplitError, split};
 use bq_model::{Attr, Condition, Decision, Part};
-use bq_reply::Word;
+use bq_reply::Refusal;
 use bq_script::{Script, ScriptEnd};
 use std::alloc::Global;
 
@@ -87,7 +87,7 @@ pub fn find(alloc: Global, script: &Script, n: u16) -> Result<Finding, ScriptEnd
         Ok(parts) => find_in(alloc, script, &parts, n),
         Err(SplitError::TooManyParts) => Err(ScriptEnd::Refused {
             line: script.line,
-            word: Word::Limit,
+            word: Refusal::Limit,
         }),
         Err(SplitError::Memory) => Err(ScriptEnd::Memory),
     }

@@ -9,7 +9,7 @@ use Rattle.bq_model.specs.declared.cell.Cell.{Cell}
 use Rattle.bq_model.specs.declared.plan.PartPlan.{PartPlan}
 use Rattle.bq_model.specs.Query.{QueryValue}
 use Rattle.bq_model.specs.Plan.{IsPlanned}
-use Rattle.bq_model.specs.Tuples.{is_same, ascending, once}
+use Rattle.bq_model.specs.Tuples.{is_same, sorted, distinct_tuples}
 use Rattle.bq_model.specs.Meaning.{Arrival, answers}
 use Rattle.bq_model.specs.Cells.{synopsis, printed}
 use Rattle.bq_model.specs.Ranges.{all_tuples}
@@ -37,8 +37,8 @@ mark-below q h t = by q.distinct
     one true = omega arith
     one false = omega arith
 
-    by : (d : Bool) → bit (list_any (is_same t) (cond d (ascending (once (answers q h))) [])) < cond d 2 1
-    by true = one (list_any (is_same t) (ascending (once (answers q h))))
+    by : (d : Bool) → bit (list_any (is_same t) (cond d (sorted (distinct_tuples (answers q h))) [])) < cond d 2 1
+    by true = one (list_any (is_same t) (sorted (distinct_tuples (answers q h))))
     by false = omega arith
 
 one-pow : (k : ℕ) → 1 ^ k ≡ 1

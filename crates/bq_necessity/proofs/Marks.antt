@@ -6,7 +6,7 @@ use Rattle.bq_model.specs.Query.{QueryValue, IsWithinLimits, is_filter}
 use Rattle.bq_model.specs.declared.plan.PartPlan.{PartPlan}
 use Rattle.std.specs.declared.option.Option.TheVariants.{None}
 use Rattle.bq_model.specs.Meaning.{Arrival, answers}
-use Rattle.bq_model.specs.Tuples.{is_same, ascending, once}
+use Rattle.bq_model.specs.Tuples.{is_same, sorted, distinct_tuples}
 use Rattle.bq_model.specs.Violation.{IsViolation}
 use Rattle.bq_model.specs.Plan.{IsPlanned, filter as of_filter, parts}
 use Rattle.bq_model.specs.Cells.{printed}
@@ -62,11 +62,11 @@ has-times z [] h = elim h [ ]
 has-times z (t ∷ ts) first = let e : bit (is_same z z) ≡ 1 = ap bit (same-itself z) in omega (arith, e)
 has-times z (t ∷ ts) (later k) = omega (arith, has-times z ts k)
 
-pub table-again : (ts table : List (List ℤ)) → IsTable ts table → ascending (once (marked (map (mark table) ts) ts)) ≡ table
+pub table-again : (ts table : List (List ℤ)) → IsTable ts table → sorted (distinct_tuples (marked (map (mark table) ts) ts)) ≡ table
 table-again ts table is =
-    ap (λ l. ascending (once l)) (marked-is table ts)
-    ∙ same-counts (ascending (once kept)) table (ascending-rises (once kept)) is.rises (λ z.
-    times-ascending z (once kept) ∙ times-once z kept ∙ by z (list_any (is_same z) table) refl)
+    ap (λ l. sorted (distinct_tuples l)) (marked-is table ts)
+    ∙ same-counts (sorted (distinct_tuples kept)) table (ascending-rises (distinct_tuples kept)) is.rises (λ z.
+    times-ascending z (distinct_tuples kept) ∙ times-once z kept ∙ by z (list_any (is_same z) table) refl)
   where
     test : List ℤ → Bool
     test t = list_any (is_same t) table
@@ -95,7 +95,7 @@ plain-is q h = grind (arith, h)
 pub printed-is : (q : QueryValue) (plan : List PartPlan) → IsWithinLimits q → HasNoDomains q → IsPlanned q plan → IsViolation q None → (h : List Arrival)
     → IsTable (all_tuples q plan) (printed q h)
 printed-is q plan within none (of_filter f e) violation h =
-    no-table (all_tuples q plan) (printed q h) (ap (λ b. cond b (ascending (once (answers q h))) []) (plain-is q f))
+    no-table (all_tuples q plan) (printed q h) (ap (λ b. cond b (sorted (distinct_tuples (answers q h))) []) (plain-is q f))
 printed-is q plan within none (parts n is) violation h = by q.distinct refl
   where
     at_most_one : (n m : ℕ) → n ≡ min 1 m → n ≤ 1
@@ -103,10 +103,10 @@ printed-is q plan within none (parts n is) violation h = by q.distinct refl
 
     by : (b : Bool) → q.distinct ≡ b → IsTable (all_tuples q plan) (printed q h)
     by true d = record {
-      rises = subst Rises (sym (ap (λ b. cond b (ascending (once (answers q h))) []) d)) (ascending-rises (once (answers q h)));
+      rises = subst Rises (sym (ap (λ b. cond b (sorted (distinct_tuples (answers q h))) []) d)) (ascending-rises (distinct_tuples (answers q h)));
       single = λ z. at_most_one _ _ (times-printed-is q h z d);
       among = λ z k. has-times z (all_tuples q plan) (Has-from_contains (all_tuples q plan) z
           ((table-has-room q plan within n (part-plans q plan is) violation).0 h (rows-none q none h) z (Contains-from_has (answers q h) z
           (any-has z (answers q h) (times-any z (answers q h) (omega (arith, k, times-printed-is q h z d)))))));
     }
-    by false d = no-table (all_tuples q plan) (printed q h) (ap (λ b. cond b (ascending (once (answers q h))) []) d)
+    by false d = no-table (all_tuples q plan) (printed q h) (ap (λ b. cond b (sorted (distinct_tuples (answers q h))) []) d)

@@ -6,7 +6,7 @@ use Rattle.bq_model.specs.declared.cell.Cell.{Cell}
 use Rattle.bq_model.specs.declared.plan.PartPlan.{PartPlan}
 use Rattle.bq_model.specs.Query.{QueryValue, IsWithinLimits}
 use Rattle.bq_model.specs.Meaning.{Arrival, answers, new_answers}
-use Rattle.bq_model.specs.Tuples.{ascending, once}
+use Rattle.bq_model.specs.Tuples.{sorted, distinct_tuples}
 use Rattle.bq_model.specs.Violation.{IsViolation}
 use Rattle.bq_model.specs.Plan.{IsPlanned}
 use Rattle.bq_model.specs.Cells.{synopsis, printed}
@@ -36,7 +36,7 @@ cells_of plan s = map cell_at (numbers (cell_count plan) (parted s).0)
 
 -- the table in a number
 pub table_of : QueryValue → List PartPlan → ℕ → List (List ℤ)
-table_of q plan s = ascending (once (marked (numbers (length (all_tuples q plan)) (parted s).1) (all_tuples q plan)))
+table_of q plan s = sorted (distinct_tuples (marked (numbers (length (all_tuples q plan)) (parted s).1) (all_tuples q plan)))
 
 -- what is answered to a row, and the state after it, by cells and table
 abbrev said : QueryValue → List PartPlan → List Cell → List (List ℤ) → Arrival → List (List ℤ)
@@ -73,9 +73,9 @@ module _ (q : QueryValue) (plan : List PartPlan) (within : IsWithinLimits q) (no
       let ts : List (List ℤ) = all_tuples q plan in
       let marks : List ℕ = map (mark (printed q h)) ts in
       let n : length ts ≡ length marks = sym (length-map ts (mark (printed q h))) in
-      ap (λ (p : ℕ × ℕ). ascending (once (marked (numbers (length ts) p.1) ts))) (parted-paired (coded (map number (synopsis q plan h))) (coded marks))
-      ∙ ap (λ (k : ℕ). ascending (once (marked (numbers k (coded marks)) ts))) n
-      ∙ ap (λ (ms : List ℕ). ascending (once (marked ms ts))) (numbers-coded marks) ∙ table-again ts (printed q h) (printed-is q plan within none is violation h)
+      ap (λ (p : ℕ × ℕ). sorted (distinct_tuples (marked (numbers (length ts) p.1) ts))) (parted-paired (coded (map number (synopsis q plan h))) (coded marks))
+      ∙ ap (λ (k : ℕ). sorted (distinct_tuples (marked (numbers k (coded marks)) ts))) n
+      ∙ ap (λ (ms : List ℕ). sorted (distinct_tuples (marked ms ts))) (numbers-coded marks) ∙ table-again ts (printed q h) (printed-is q plan within none is violation h)
 
   says-right : (h : List Arrival) (r : Arrival) → (evaluator q plan).says (standing q plan h) r ≡ new_answers q h r
   says-right h r =
@@ -89,7 +89,7 @@ module _ (q : QueryValue) (plan : List PartPlan) (within : IsWithinLimits q) (no
       by true d = ap (λ b. cond b (merged_table (printed q h) (new_answers q h r)) []) d ∙ sym (printed-grows q h r within d)
       by false d =
           ap (λ b. cond b (merged_table (printed q h) (new_answers q h r)) []) d
-          ∙ sym (ap (λ b. cond b (ascending (once (answers q (h ++ r ∷ [])))) []) d)
+          ∙ sym (ap (λ b. cond b (sorted (distinct_tuples (answers q (h ++ r ∷ [])))) []) d)
 
   steps-right : (h : List Arrival) (r : Arrival) → (evaluator q plan).step (standing q plan h) r ≡ standing q plan (h ++ r ∷ [])
   steps-right h r =

@@ -6,7 +6,7 @@ use Rattle.bq_model.proofs.Has.{Has, first, later}
 use Rattle.bq_model.specs.Query.{QueryValue}
 use Rattle.bq_model.specs.Assignment.{holds, projected}
 use Rattle.bq_model.specs.Meaning.{Arrival, rows, product, assignment_of, answers, new_answers}
-use Rattle.bq_model.specs.Tuples.{ascending, minus, fresh}
+use Rattle.bq_model.specs.Tuples.{sorted, bag_minus, new_tuples}
 use Rattle.bq_laws.proofs.Tests.{nat_true}
 use Rattle.bq_laws.proofs.TableRoom.{product-length}
 use Rattle.bq_necessity.specs.States.{Evaluator, after}
@@ -86,7 +86,7 @@ module _ (f : ℕ → List ℤ → List ℤ) where
         let before : answers other (map changed_row h) ≡ answers q h = answers-changed h in
         let now : answers other (map changed_row h ++ changed_row r ∷ []) ≡ answers q (h ++ r ∷ [])
         = ap (answers other) (sym (map-append changed_row h (r ∷ []))) ∙ answers-changed (h ++ r ∷ []) in
-        λ i. cond (follows.distinct i) (ascending (fresh (before i) (now i))) (ascending (minus (now i) (before i)))
+        λ i. cond (follows.distinct i) (sorted (new_tuples (before i) (now i))) (sorted (bag_minus (now i) (before i)))
 
   -- an evaluator that sees each row changed
   pub changing : Evaluator → Evaluator

@@ -11,7 +11,7 @@ use Rattle.bq_model.specs.Query.{QueryValue}
 use Rattle.bq_model.specs.Assignment.{Assignment, meets, holds, projected, lies_in, keeps_domains}
 use Rattle.bq_model.specs.Meaning.{Arrival, rows, product, by_column, at_place, assignment_of, answers, new_answers}
 use Rattle.bq_model.specs.Domains.{keeps_at, RowKeeps}
-use Rattle.bq_model.specs.Tuples.{is_same, ascending, without, minus, once, fresh}
+use Rattle.bq_model.specs.Tuples.{is_same, sorted, remove_one, bag_minus, distinct_tuples, new_tuples}
 use Rattle.bq_laws.proofs.Order.{same-itself}
 use Rattle.bq_laws.proofs.TableRoom.{product-length}
 use Rattle.bq_laws.proofs.Tests.{and-left, and-right, and-both, or-cases, or-right, same_bool, all_at, all_if, any_if, nat_true}
@@ -58,17 +58,17 @@ all-append t (x ∷ xs) ys = by (t x) (all-append t xs ys)
     by false e = refl
 
 -- nothing is new where nothing came
-minus-itself : (ts : List (List ℤ)) → minus ts ts ≡ []
+minus-itself : (ts : List (List ℤ)) → bag_minus ts ts ≡ []
 minus-itself [] = refl
-minus-itself (t ∷ ts) = ap (λ (us : List (List ℤ)). minus us ts) (ap (λ b. cond b ts (t ∷ without t ts)) (same-itself t)) ∙ minus-itself ts
+minus-itself (t ∷ ts) = ap (λ (us : List (List ℤ)). bag_minus us ts) (ap (λ b. cond b ts (t ∷ remove_one t ts)) (same-itself t)) ∙ minus-itself ts
 
-once-from : (ts : List (List ℤ)) (z : List ℤ) → Has (once ts) z → Has ts z
+once-from : (ts : List (List ℤ)) (z : List ℤ) → Has (distinct_tuples ts) z → Has ts z
 once-from [] z h = elim h [ ]
 once-from (t ∷ ts) z first = first
-once-from (t ∷ ts) z (later h) = later (once-from ts z (Has-filter_from (λ u. not (is_same u t)) (once ts) z h))
+once-from (t ∷ ts) z (later h) = later (once-from ts z (Has-filter_from (λ u. not (is_same u t)) (distinct_tuples ts) z h))
 
-fresh-itself : (ts : List (List ℤ)) → fresh ts ts ≡ []
-fresh-itself ts = filter-none (λ t. not (list_any (is_same t) ts)) (once ts) (λ t h. ap not (any_if (is_same t) ts t (once-from ts t h) (same-itself t)))
+fresh-itself : (ts : List (List ℤ)) → new_tuples ts ts ≡ []
+fresh-itself ts = filter-none (λ t. not (list_any (is_same t) ts)) (distinct_tuples ts) (λ t h. ap not (any_if (is_same t) ts t (once-from ts t h) (same-itself t)))
 
 -- a column lies in its domain exactly where the comparisons hold
 ends : (x l h : ℤ) → (int_lt (l -ℤ pos 1) x && (int_lt x (h +ℤ pos 1) && true)) ≡ (not (int_lt x l) && not (int_lt h x))
@@ -287,7 +287,7 @@ module _ (q : QueryValue) (p : IsFormed q) where
       let before : answers (written q) h ≡ answers q (kept h) = answers-written h in
       let now : answers (written q) (h ++ r ∷ []) ≡ answers q (kept h ++ r ∷ [])
       = answers-written (h ++ r ∷ []) ∙ ap (answers q) (kept-more h r ∙ ap (λ b. kept h ++ cond b (r ∷ []) []) e) in
-      λ i. cond q.distinct (ascending (fresh (before i) (now i))) (ascending (minus (now i) (before i)))
+      λ i. cond q.distinct (sorted (new_tuples (before i) (now i))) (sorted (bag_minus (now i) (before i)))
 
   -- and to one outside them it answers nothing
   pub new-outside : (h : List Arrival) (r : Arrival) → keeps r ≡ false → new_answers (written q) h r ≡ []
@@ -295,9 +295,9 @@ module _ (q : QueryValue) (p : IsFormed q) where
   new-outside h r e =
       let now : answers (written q) (h ++ r ∷ []) ≡ answers (written q) h
       = answers-written (h ++ r ∷ []) ∙ ap (answers q) (kept-more h r ∙ ap (λ b. kept h ++ cond b (r ∷ []) []) e ∙ append-nil (kept h)) ∙ sym (answers-written h) in
-      ap (λ (l : List (List ℤ)). cond q.distinct (ascending (fresh (answers (written q) h) l)) (ascending (minus l (answers (written q) h)))) now
+      ap (λ (l : List (List ℤ)). cond q.distinct (sorted (new_tuples (answers (written q) h) l)) (sorted (bag_minus l (answers (written q) h)))) now
       ∙ by q.distinct (answers (written q) h)
     where
-      by : (b : Bool) (l : List (List ℤ)) → cond b (ascending (fresh l l)) (ascending (minus l l)) ≡ []
-      by true l = ap ascending (fresh-itself l)
-      by false l = ap ascending (minus-itself l)
+      by : (b : Bool) (l : List (List ℤ)) → cond b (sorted (new_tuples l l)) (sorted (bag_minus l l)) ≡ []
+      by true l = ap sorted (fresh-itself l)
+      by false l = ap sorted (minus-itself l)

@@ -1,6 +1,6 @@
 //! The oracle: a query and every row so far.
 ghost use Rattle.std.specs.Prelude.{◌≡◌, [], ◌∷◌, ◌++◌, map, IfOk, OnOk, OnErr, if◌then◌else◌};
-ghost use Rattle.bq_model.specs.Tuples.{ascending, minus, fresh};
+ghost use Rattle.bq_model.specs.Tuples.{sorted, bag_minus, new_tuples};
 ghost use Rattle.bq_model.specs.Meaning.{answers, new_answers};
 ghost use Rattle.bq_oracle.specs.Oracle.{OracleValue, history_of, values_of};
 
@@ -75,8 +75,8 @@ fn added(
     kept: &[Kept],
 ) -> Result<Vec<Tuple>, AllocError>
     ensures { IfOk result (λ v. values_of v.items ≡ (if query.now.distinct
-        then ascending (fresh (values_of before.now) (answers query.now (history_of kept.now)))
-        else ascending (minus (answers query.now (history_of kept.now)) (values_of before.now)))) }
+        then sorted (new_tuples (values_of before.now) (answers query.now (history_of kept.now)))
+        else sorted (bag_minus (answers query.now (history_of kept.now)) (values_of before.now)))) }
 {
     let now = answers(alloc, query, kept)?;
     if query.distinct() {

@@ -8,7 +8,7 @@ use Rattle.bq_model.specs.declared.plan.Dim.{Dim}
 use Rattle.bq_model.specs.declared.plan.PartPlan.{PartPlan}
 use Rattle.bq_model.specs.Plan.{stream_at, dims_at}
 use Rattle.bq_model.proofs.BoxLaws.{place-values}
-use Rattle.bq_probe.specs.declared.chosen.Chosen.{Chosen}
+use Rattle.bq_probe.specs.declared.binding.Binding.{Binding}
 use Rattle.bq_probe.specs.Lined.{IsLine, StandOn, AreFixed}
 use Rattle.bq_synopsis.specs.Pinning.{IsWhole}
 use Rattle.bq_synopsis.specs.Premises.{IsLaidOut}
@@ -28,7 +28,7 @@ place-low (d ∷ ds) =
     none s = omega arith
 
 -- a level at which all values are left
-module _ (ps : List Pair) (part : PartPlan) (arriving : ℕ) (row : List ℤ) (known : List Chosen) (laid : IsLaidOut (stream_at part (length known)) (2 ^ 32)) (other : length known ≢ arriving) (whole : IsWhole part arriving (length known)) where
+module _ (ps : List Pair) (part : PartPlan) (arriving : ℕ) (row : List ℤ) (known : List Binding) (laid : IsLaidOut (stream_at part (length known)) (2 ^ 32)) (other : length known ≢ arriving) (whole : IsWhole part arriving (length known)) where
   pub whole-dims : narrowed_dims ps part arriving row known ≡ dims_at part (length known)
   unfolding narrowed_dims
   whole-dims =

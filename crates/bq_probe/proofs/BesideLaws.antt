@@ -25,18 +25,18 @@ use Rattle.bq_model.specs.Query.{QueryValue}
 use Rattle.bq_pool.specs.declared.scan.StridedCells.{StridedCells}
 use Rattle.bq_pool.specs.Strides.{NoneOccupied}
 use Rattle.bq_probe.specs.Beside.{last_beside, beside_dims, IsEmptyBeside, IsInnerBox, IsEmptyIn}
-use Rattle.bq_probe.specs.declared.chosen.Chosen.{Chosen}
+use Rattle.bq_probe.specs.declared.binding.Binding.{Binding}
 use Rattle.bq_probe.specs.Choosing.{Setting, setting, chosen, value, cell_at, cell_in, dims_in, dims_beside, meets, meets_links, found}
 use Rattle.bq_probe.specs.Lined.{IsLine}
 use Rattle.bq_synopsis.specs.Premises.{IsWalked, IsLaidOut}
 use Rattle.bq_probe.specs.Values.{value_in, chosen_value, extreme_of}
 use Rattle.bq_probe.specs.Walk.{walk}
-use Rattle.bq_synopsis.specs.Narrowing.{cut}
+use Rattle.bq_synopsis.specs.Narrowing.{clip}
 use Rattle.bq_probe.proofs.BreakLaws.{breaks, breaks-inequality, value-chosen, valued-own, get-here}
 use Rattle.bq_probe.proofs.CutLaws.{is_allowed, breaks-less}
 use Rattle.bq_probe.proofs.ExactLaws.{kept, choices, combinations_from, flat_map-same, flat_map-flat_map, narrow-box, walk-all, walk-is}
 use Rattle.bq_probe.proofs.ModelLaws.{combinations-are}
-use Rattle.bq_probe.proofs.NarrowLaws.{cut-narrower, map-sound, map-inside, map-low}
+use Rattle.bq_probe.proofs.NarrowLaws.{clip-narrower, map-sound, map-inside, map-low}
 use Rattle.bq_synopsis.proofs.PlanLaws.{IsNamed, named}
 
 none-of : {X Y : Type 0} (f : X → List Y) (xs : List X) → ((x : X) → f x ≡ []) → flat_map f xs ≡ []
@@ -54,7 +54,7 @@ not-both false t e = refl
 none-is-no : (a : Attr) → None ≡ Some a → ⊥
 none-is-no a e = cc
 
-row-value : (ps : List Pair) (part : PartPlan) (arriving : ℕ) (row : List ℤ) (known : List Chosen) (a : Attr) → is_known arriving 0 a ≡ true → value_in ps part arriving row known a ≡ by_column row a.column
+row-value : (ps : List Pair) (part : PartPlan) (arriving : ℕ) (row : List ℤ) (known : List Binding) (a : Attr) → is_known arriving 0 a ≡ true → value_in ps part arriving row known a ≡ by_column row a.column
 unfolding value_in
 row-value ps part arriving row known a = by (a.stream == arriving)
   where
@@ -80,7 +80,7 @@ module _ (w : Setting) (name : IsNamed w.pairs w.part) (place : ℕ) (other : pl
       by false e = refl
 
   -- a value that the row's own columns exclude breaks an inequality, whatever is chosen
-  breaks-beside : (known : List Chosen) (k : ℕ) (d : Dim) (vs : List ℤ) (c : Cell) (cs : List Chosen) → length known ≡ place → k < length (dims_at w.part place) → k < length vs
+  breaks-beside : (known : List Binding) (k : ℕ) (d : Dim) (vs : List ℤ) (c : Cell) (cs : List Binding) → length known ≡ place → k < length (dims_at w.part place) → k < length vs
       → is_allowed w.arriving 0 w.part.less.items (λ a. by_column w.row a.column) (get_or (dims_at w.part place) k d).attr (get_or vs k (pos 0)) ≡ false
       → meets w ((known ++ chosen vs c ∷ []) ++ cs) ≡ false
   unfolding meets_links
@@ -100,20 +100,20 @@ module _ (w : Setting) (name : IsNamed w.pairs w.part) (place : ℕ) (other : pl
       apart true e = absurd (other (grind (arith, nat_tests)))
       apart false e = refl
 
-  gone-whole : (cs : List Chosen) → meets w cs ≡ false → walk w 0 cs ≡ []
+  gone-whole : (cs : List Binding) → meets w cs ≡ false → walk w 0 cs ≡ []
   unfolding walk
   gone-whole cs e = ap (λ b. if b then found w cs ∷ [] else []) e
 
   -- all that begins with these choices and goes on with one more
-  abbrev with_one : ℕ → List Chosen → Chosen → List Found
+  abbrev with_one : ℕ → List Binding → Binding → List Found
   with_one m known c = flat_map (λ cs. walk w 0 (known ++ c ∷ cs)) (combinations_from w m (length known + 1))
 
-  one-more-level : (m : ℕ) (known : List Chosen) → flat_map (λ cs. walk w 0 (known ++ cs)) (combinations_from w (suc m) (length known)) ≡ flat_map (with_one m known) (choices w (length known))
+  one-more-level : (m : ℕ) (known : List Binding) → flat_map (λ cs. walk w 0 (known ++ cs)) (combinations_from w (suc m) (length known)) ≡ flat_map (with_one m known) (choices w (length known))
   one-more-level m known =
       flat_map-flat_map (λ cs. walk w 0 (known ++ cs)) (λ c. map (λ cs. c ∷ cs) (combinations_from w m (length known + 1))) (choices w (length known))
-      ∙ flat_map-same _ _ (choices w (length known)) (λ c. flat_map-map (λ cs. walk w 0 (known ++ cs)) (λ (cs : List Chosen). c ∷ cs) (combinations_from w m (length known + 1)))
+      ∙ flat_map-same _ _ (choices w (length known)) (λ c. flat_map-map (λ cs. walk w 0 (known ++ cs)) (λ (cs : List Binding). c ∷ cs) (combinations_from w m (length known + 1)))
 
-  kept-none : (G : Chosen → List Found) (vs : List ℤ) (c : Cell) → ((x : Cell) → G (chosen vs x) ≡ []) → flat_map G (kept vs c) ≡ []
+  kept-none : (G : Binding → List Found) (vs : List ℤ) (c : Cell) → ((x : Cell) → G (chosen vs x) ≡ []) → flat_map G (kept vs c) ≡ []
   kept-none G vs Empty h = refl
   kept-none G vs (Count n) h = λ k. h (Count n) k ++ []
   kept-none G vs Present h = λ k. h Present k ++ []
@@ -121,7 +121,7 @@ module _ (w : Setting) (name : IsNamed w.pairs w.part) (place : ℕ) (other : pl
 
   module _ (empty : IsEmptyBeside w.part w.read w.arriving w.row place) where
     -- at that place itself
-    none-there : (m : ℕ) (known : List Chosen) → length known ≡ place → flat_map (with_one m known) (choices w place) ≡ []
+    none-there : (m : ℕ) (known : List Binding) → length known ≡ place → flat_map (with_one m known) (choices w place) ≡ []
     none-there m known at =
         let G = with_one m known in
         let g : List ℤ → List Found = λ vs. flat_map G (kept vs (cell_at w place vs)) in
@@ -138,7 +138,7 @@ module _ (w : Setting) (name : IsNamed w.pairs w.part) (place : ℕ) (other : pl
         ∙ cells
 
     -- and before it
-    none-from : (m : ℕ) (known : List Chosen) → length known ≤ place → place < length known + m → flat_map (λ cs. walk w 0 (known ++ cs)) (combinations_from w m (length known)) ≡ []
+    none-from : (m : ℕ) (known : List Binding) → length known ≤ place → place < length known + m → flat_map (λ cs. walk w 0 (known ++ cs)) (combinations_from w m (length known)) ≡ []
     none-from zero known a b = absurd (omega (arith, a, b))
     none-from (suc m) known a b = elim (here-or-before (length known) place a) [
       | inl e ↦ one-more-level m known ∙ ap (λ p. flat_map (with_one m known) (choices w p)) e ∙ none-there m known e
@@ -173,8 +173,8 @@ last-there arriving streams e l = by (arriving == streams - 1) refl
 -- what is left of the dims of a place lies inside them
 pub inner-box : (part : PartPlan) (arriving : ℕ) (row : List ℤ) (place cells : ℕ) → IsLaidOut (stream_at part place) cells → IsInnerBox (dims_at part place) (beside_dims part arriving row place)
 inner-box part arriving row place cells laid =
-    let f = cut arriving 0 part.less.items (λ a. by_column row a.column) in
-    let narrows = λ (d : Dim) (s : d.lo ≤ℤ d.hi). cut-narrower arriving 0 part.less.items (λ a. by_column row a.column) d in
+    let f = clip arriving 0 part.less.items (λ a. by_column row a.column) in
+    let narrows = λ (d : Dim) (s : d.lo ≤ℤ d.hi). clip-narrower arriving 0 part.less.items (λ a. by_column row a.column) d in
     let sound : AreNumbered (dims_at part place) = sound-full _ laid.full (omega (arith, laid.size, laid.few)) in
     record {
       sound = map-sound f narrows (dims_at part place) laid.full sound;

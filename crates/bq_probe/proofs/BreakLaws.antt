@@ -16,11 +16,11 @@ use Rattle.bq_model.specs.Meaning.{by_column}
 use Rattle.bq_model.specs.Plan.{dims_at}
 use Rattle.bq_model.specs.Combinations.{any_ties}
 use Rattle.bq_model.specs.Probing.{is_known}
-use Rattle.bq_probe.specs.declared.chosen.Chosen.{Chosen}
+use Rattle.bq_probe.specs.declared.binding.Binding.{Binding}
 use Rattle.bq_synopsis.specs.Classes.{are_tied}
 use Rattle.bq_probe.specs.Values.{valued, extreme_of, chosen_value, value_in}
 use Rattle.bq_probe.specs.Choosing.{Setting, chosen, value, dims_in, meets, meets_links}
-use Rattle.bq_synopsis.specs.Narrowing.{witness}
+use Rattle.bq_synopsis.specs.Narrowing.{binding_column}
 use Rattle.bq_probe.proofs.ExactLaws.{Breaks, BreaksLess}
 use Rattle.bq_probe.proofs.CutLaws.{is_allowed, breaks-less}
 use Rattle.bq_synopsis.proofs.PlanLaws.{IsNamed}
@@ -55,12 +55,12 @@ not-equal x y h = by (int_eq x y) refl
     by false e = refl
 
 module _ (arriving place : ℕ) (a : Attr) (U V : Attr → ℤ) (kept : (y : Attr) → is_known arriving place y ≡ true → V y ≡ U y) where
-  breaks-link : (links : List Link) (x : Attr) → witness arriving place a links ≡ Some x → V a ≢ U x → list_all (λ l. int_eq (V l.left) (V l.right)) links ≡ false
+  breaks-link : (links : List Link) (x : Attr) → binding_column arriving place a links ≡ Some x → V a ≢ U x → list_all (λ l. int_eq (V l.left) (V l.right)) links ≡ false
   breaks-link [] x e h = absurd (none-is x e)
   breaks-link (l ∷ ls) x e h = first (attr_eq l.left a && is_known arriving place l.right) refl e
       (λ f. breaks-link ls x f h)
     where
-      second : (t : Bool) → (attr_eq l.right a && is_known arriving place l.left) ≡ t → (if t then Some l.left else witness arriving place a ls) ≡ Some x → (witness arriving place a ls ≡ Some x → list_all (λ l. int_eq (V l.left) (V l.right)) ls ≡ false) → list_all (λ l. int_eq (V l.left) (V l.right)) (l ∷ ls) ≡ false
+      second : (t : Bool) → (attr_eq l.right a && is_known arriving place l.left) ≡ t → (if t then Some l.left else binding_column arriving place a ls) ≡ Some x → (binding_column arriving place a ls ≡ Some x → list_all (λ l. int_eq (V l.left) (V l.right)) ls ≡ false) → list_all (λ l. int_eq (V l.left) (V l.right)) (l ∷ ls) ≡ false
       second true g f ih =
           let r = same-attr l.right a (left-true _ _ g) in
           let k = kept l.left (right-true (attr_eq l.right a) _ g) in
@@ -68,7 +68,7 @@ module _ (arriving place : ℕ) (a : Attr) (U V : Attr → ℤ) (kept : (y : Att
           ap (λ b. b && list_all (λ l. int_eq (V l.left) (V l.right)) ls) (not-equal (V l.left) (V l.right) (λ i. h (ap V (sym r) ∙ sym i ∙ k ∙ ap U z)))
       second false g f ih = no-and (int_eq (V l.left) (V l.right)) _ (ih f)
 
-      first : (t : Bool) → (attr_eq l.left a && is_known arriving place l.right) ≡ t → (if t then Some l.right else (if attr_eq l.right a && is_known arriving place l.left then Some l.left else witness arriving place a ls)) ≡ Some x → (witness arriving place a ls ≡ Some x → list_all (λ l. int_eq (V l.left) (V l.right)) ls ≡ false) → list_all (λ l. int_eq (V l.left) (V l.right)) (l ∷ ls) ≡ false
+      first : (t : Bool) → (attr_eq l.left a && is_known arriving place l.right) ≡ t → (if t then Some l.right else (if attr_eq l.right a && is_known arriving place l.left then Some l.left else binding_column arriving place a ls)) ≡ Some x → (binding_column arriving place a ls ≡ Some x → list_all (λ l. int_eq (V l.left) (V l.right)) ls ≡ false) → list_all (λ l. int_eq (V l.left) (V l.right)) (l ∷ ls) ≡ false
       first true g f ih =
           let r = same-attr l.left a (left-true _ _ g) in
           let k = kept l.right (right-true (attr_eq l.left a) _ g) in
@@ -101,7 +101,7 @@ valued-own ps ss (d ∷ dims) (x ∷ xs) (suc k) o z names l m =
     ap (λ b. if b then x else valued ps ss dims xs z (get_or dims k o).attr) e
     ∙ valued-own ps ss dims xs k o z (λ i j p h g. names (suc i) (suc j) p (omega (arith, h)) (omega (arith, g))) (omega (arith, l)) (omega (arith, m))
 
-pub value-chosen : (ps : List Pair) (part : PartPlan) (arriving place : ℕ) (row : List ℤ) (cs : List Chosen) (a : Attr) (c : Chosen) (v : ℤ)
+pub value-chosen : (ps : List Pair) (part : PartPlan) (arriving place : ℕ) (row : List ℤ) (cs : List Binding) (a : Attr) (c : Binding) (v : ℤ)
     → a.stream ≡ place → (place == arriving) ≡ false → slice_get cs place ≡ Some c
     → valued ps part.signs.items (dims_at part place) c.values.items (extreme_of c.cell) a ≡ v
     → value_in ps part arriving row cs a ≡ v
@@ -111,11 +111,11 @@ value-chosen ps part arriving place row cs a c v s e g h =
     ∙ (λ i. if e i then by_column row a.column else from place (g i))
     ∙ h
   where
-    from : ℕ → Option Chosen → ℤ
+    from : ℕ → Option Binding → ℤ
     from n None = pos 0
     from n (Some d) = valued ps part.signs.items (dims_at part n) d.values.items (extreme_of d.cell) a
 
-value-known : (ps : List Pair) (part : PartPlan) (arriving : ℕ) (row : List ℤ) (known more : List Chosen) (a : Attr) → is_known arriving (length known) a ≡ true → value_in ps part arriving row (known ++ more) a ≡ value_in ps part arriving row known a
+value-known : (ps : List Pair) (part : PartPlan) (arriving : ℕ) (row : List ℤ) (known more : List Binding) (a : Attr) → is_known arriving (length known) a ≡ true → value_in ps part arriving row (known ++ more) a ≡ value_in ps part arriving row known a
 unfolding value_in
 value-known ps part arriving row known more a = by (a.stream == arriving)
   where
@@ -128,7 +128,7 @@ unfolding meets_links dims_in
 breaks w named known k d a vs c cs = by (length known == w.arriving) refl
   where
     by : (t : Bool) → (length known == w.arriving) ≡ t → k < length (if t then [] else dims_at w.part (length known)) → k < length vs →
-        witness w.arriving (length known) (get_or (if t then [] else dims_at w.part (length known)) k d).attr w.part.equal.items ≡ Some a → get_or vs k (pos 0) ≢ value w known a →
+        binding_column w.arriving (length known) (get_or (if t then [] else dims_at w.part (length known)) k d).attr w.part.equal.items ≡ Some a → get_or vs k (pos 0) ≢ value w known a →
         meets w ((known ++ chosen vs c ∷ []) ++ cs) ≡ false
     by true e l m f h = absurd (omega (arith, l))
     by false e l m f h =

@@ -11,7 +11,7 @@ use Rattle.bq_model.specs.declared.plan.Link.{Link}
 use Rattle.bq_model.specs.Query.{attr_eq}
 use Rattle.bq_model.specs.Combinations.{Found}
 use Rattle.bq_model.specs.Probing.{is_known}
-use Rattle.bq_synopsis.specs.Narrowing.{below, above, cut_by, cut}
+use Rattle.bq_synopsis.specs.Narrowing.{below, above, clip_by, clip}
 
 -- the value meets the inequality with a known column, if this is one
 abbrev pub is_allowed_by : ℕ → ℕ → Attr → (Attr → ℤ) → ℤ → Link → Bool
@@ -125,8 +125,8 @@ right-fails true t e = e
 right-fails false t e = refl
 
 module _ (arriving place : ℕ) (values : Attr → ℤ) (a : Attr) where
-  cut-by-attr : (l : Link) (d : Dim) → d.attr ≡ a → (cut_by arriving place l values d).attr ≡ a
-  cut-by-attr l d e = by (attr_eq l.left d.attr && is_known arriving place l.right) (attr_eq l.right d.attr && is_known arriving place l.left)
+  clip-by-attr : (l : Link) (d : Dim) → d.attr ≡ a → (clip_by arriving place l values d).attr ≡ a
+  clip-by-attr l d e = by (attr_eq l.left d.attr && is_known arriving place l.right) (attr_eq l.right d.attr && is_known arriving place l.left)
     where
       below-attr : (v : ℤ) (s t : Bool) → (if s then (if t then d else record { attr = d.attr; lo = d.lo; hi = v -ℤ pos 1 }) else record { attr = d.attr; lo = pos 1; hi = pos 0 }).attr ≡ a
       below-attr v true true = e
@@ -143,10 +143,10 @@ module _ (arriving place : ℕ) (values : Attr → ℤ) (a : Attr) where
       by false true = above-attr (values l.left) (int_lt (values l.left) d.hi) (int_lt (values l.left) d.lo)
       by false false = e
 
-  cut-by-same : (H : ℤ → List Found) (l : Link) (d : Dim) → d.attr ≡ a → ((x : ℤ) → is_allowed_by arriving place a values x l ≡ false → H x ≡ [])
-      → flat_map H (values_from (cut_by arriving place l values d).lo (dim_size (cut_by arriving place l values d))) ≡ flat_map H (values_from d.lo (dim_size d))
-  cut-by-same H l d e h =
-      by (attr_eq l.left a && is_known arriving place l.right) (attr_eq l.right a && is_known arriving place l.left) h (cut_by arriving place l values d)
+  clip-by-same : (H : ℤ → List Found) (l : Link) (d : Dim) → d.attr ≡ a → ((x : ℤ) → is_allowed_by arriving place a values x l ≡ false → H x ≡ [])
+      → flat_map H (values_from (clip_by arriving place l values d).lo (dim_size (clip_by arriving place l values d))) ≡ flat_map H (values_from d.lo (dim_size d))
+  clip-by-same H l d e h =
+      by (attr_eq l.left a && is_known arriving place l.right) (attr_eq l.right a && is_known arriving place l.left) h (clip_by arriving place l values d)
       (λ k. if attr_eq l.left (e k) && is_known arriving place l.right then below d (values l.right) else (if attr_eq l.right (e k) && is_known arriving place l.left then above d (values l.left) else d))
     where
       by : (s t : Bool) → ((x : ℤ) → (not s || int_lt x (values l.right)) && (not t || int_lt (values l.left) x) ≡ false → H x ≡ []) → (n : Dim) → n ≡ (if s then below d (values l.right) else (if t then above d (values l.left) else d))
@@ -155,12 +155,12 @@ module _ (arriving place : ℕ) (values : Attr → ℤ) (a : Attr) where
       by false true h n i = (λ k. flat_map H (values_from (i k).lo (dim_size (i k)))) ∙ above-same H d (values l.left) (λ x f. h x f)
       by false false h n i = λ k. flat_map H (values_from (i k).lo (dim_size (i k)))
 
-  pub cut-same : (H : ℤ → List Found) (links : List Link) (d : Dim) → d.attr ≡ a → ((x : ℤ) → is_allowed arriving place links values a x ≡ false → H x ≡ [])
-      → flat_map H (values_from (cut arriving place links values d).lo (dim_size (cut arriving place links values d))) ≡ flat_map H (values_from d.lo (dim_size d))
-  cut-same H [] d e h = refl
-  cut-same H (l ∷ ls) d e h =
-      cut-same H ls (cut_by arriving place l values d) (cut-by-attr l d e) (λ x f. h x (right-fails (is_allowed_by arriving place a values x l) _ f))
-      ∙ cut-by-same H l d e (λ x f. h x (left-fails _ _ f))
+  pub clip-same : (H : ℤ → List Found) (links : List Link) (d : Dim) → d.attr ≡ a → ((x : ℤ) → is_allowed arriving place links values a x ≡ false → H x ≡ [])
+      → flat_map H (values_from (clip arriving place links values d).lo (dim_size (clip arriving place links values d))) ≡ flat_map H (values_from d.lo (dim_size d))
+  clip-same H [] d e h = refl
+  clip-same H (l ∷ ls) d e h =
+      clip-same H ls (clip_by arriving place l values d) (clip-by-attr l d e) (λ x f. h x (right-fails (is_allowed_by arriving place a values x l) _ f))
+      ∙ clip-by-same H l d e (λ x f. h x (left-fails _ _ f))
 
 -- an excluded value breaks an inequality, whatever is chosen later
 module _ (arriving place : ℕ) (a : Attr) (U V : Attr → ℤ) (kept : (y : Attr) → is_known arriving place y ≡ true → V y ≡ U y) (x : ℤ) (own : V a ≡ x) where

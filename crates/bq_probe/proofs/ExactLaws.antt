@@ -11,25 +11,25 @@ use Rattle.bq_model.specs.declared.cell.Cell.{Cell}
 use Rattle.bq_model.specs.declared.cell.Cell.TheVariants.{Empty, Count, Present, Extreme}
 use Rattle.bq_model.specs.Combinations.{Found}
 use Rattle.bq_model.specs.declared.plan.Link.{Link}
-use Rattle.bq_probe.proofs.CutLaws.{is_allowed, cut-same}
-use Rattle.bq_probe.specs.declared.chosen.Chosen.{Chosen}
+use Rattle.bq_probe.proofs.CutLaws.{is_allowed, clip-same}
+use Rattle.bq_probe.specs.declared.binding.Binding.{Binding}
 use Rattle.bq_probe.specs.Choosing.{Setting, value, chosen, cell_at, dims_beside, meets, found}
-use Rattle.bq_synopsis.specs.Narrowing.{cut, narrowed_to, narrowed_by, narrow, witness}
+use Rattle.bq_synopsis.specs.Narrowing.{clip, narrowed_to, narrowed_by, narrow, binding_column}
 use Rattle.bq_probe.specs.Walk.{narrowed_dims, entered, opened, walk}
 
 -- a cell with these values, where it is not empty
-abbrev pub kept : List ℤ → Cell → List Chosen
+abbrev pub kept : List ℤ → Cell → List Binding
 kept values Empty = []
 kept values (Count n) = chosen values (Count n) ∷ []
 kept values Present = chosen values Present ∷ []
 kept values (Extreme v) = chosen values (Extreme v) ∷ []
 
 -- the cells of a stream that are not empty
-abbrev pub choices : Setting → ℕ → List Chosen
+abbrev pub choices : Setting → ℕ → List Binding
 choices w place = flat_map (λ values. kept values (cell_at w place values)) (box (dims_beside w place))
 
 -- one of them for each of some places of FROM, from a place on
-abbrev pub combinations_from : Setting → ℕ → ℕ → List (List Chosen)
+abbrev pub combinations_from : Setting → ℕ → ℕ → List (List Binding)
 combinations_from w zero place = [] ∷ []
 combinations_from w (suc more) place = flat_map (λ c. map (λ cs. c ∷ cs) (combinations_from w more (place + 1))) (choices w place)
 
@@ -105,30 +105,30 @@ module _ (arriving place : ℕ) (less : List Link) (values : Attr → ℤ) (wit 
   pub narrow-box : (ds : List Dim) (g : List ℤ → List Found) →
       ((k : ℕ) (d : Dim) (a : Attr) (vs : List ℤ) → k < length ds → k < length vs → wit (get_or ds k d) ≡ Some a → get_or vs k (pos 0) ≢ values a → g vs ≡ []) →
       ((k : ℕ) (d : Dim) (vs : List ℤ) → k < length ds → k < length vs → is_allowed arriving place less values (get_or ds k d).attr (get_or vs k (pos 0)) ≡ false → g vs ≡ []) →
-      flat_map g (box (map (λ d. narrowed_by d (cut arriving place less values d) values (wit d)) ds)) ≡ flat_map g (box ds)
+      flat_map g (box (map (λ d. narrowed_by d (clip arriving place less values d) values (wit d)) ds)) ≡ flat_map g (box ds)
   narrow-box [] g h c = refl
   narrow-box (d ∷ ds) g h c =
-      let n = narrowed_by d (cut arriving place less values d) values (wit d) in
-      let others = map (λ d. narrowed_by d (cut arriving place less values d) values (wit d)) ds in
+      let n = narrowed_by d (clip arriving place less values d) values (wit d) in
+      let others = map (λ d. narrowed_by d (clip arriving place less values d) values (wit d)) ds in
       let H : ℤ → List Found = λ v. flat_map (λ vs. g (v ∷ vs)) (box ds) in
       flat_map-flat_map g (λ v. map (λ vs. v ∷ vs) (box others)) (values_from n.lo (dim_size n))
       ∙ flat_map-same _ H (values_from n.lo (dim_size n))
       (λ v. flat_map-map g (λ (vs : List ℤ). v ∷ vs) (box others) ∙ narrow-box ds (λ vs. g (v ∷ vs))
       (λ k e a vs l m w i. h (suc k) e a (v ∷ vs) (omega (arith, l)) (omega (arith, m)) w i)
       (λ k e vs l m w. c (suc k) e (v ∷ vs) (omega (arith, l)) (omega (arith, m)) w))
-      ∙ narrow-values H values d (cut arriving place less values d) (wit d)
+      ∙ narrow-values H values d (clip arriving place less values d) (wit d)
       (λ a w v i. flat_map-none (λ vs. g (v ∷ vs)) (box ds) (λ vs. h 0 d a (v ∷ vs) (omega arith) (omega arith) w i))
-      (cut-same arriving place values d.attr H less d refl (λ v w. flat_map-none (λ vs. g (v ∷ vs)) (box ds) (λ vs. c 0 d (v ∷ vs) (omega arith) (omega arith) w)))
+      (clip-same arriving place values d.attr H less d refl (λ v w. flat_map-none (λ vs. g (v ∷ vs)) (box ds) (λ vs. c 0 d (v ∷ vs) (omega arith) (omega arith) w)))
       ∙ sym (flat_map-flat_map g (λ v. map (λ vs. v ∷ vs) (box ds)) (values_from d.lo (dim_size d))
       ∙ flat_map-same _ H (values_from d.lo (dim_size d)) (λ v. flat_map-map g (λ (vs : List ℤ). v ∷ vs) (box ds)))
 
-entered-kept : (values : List ℤ) (known : List Chosen) (go : List Chosen → List Found) (c : Cell) → entered values known go c ≡ flat_map (λ x. go (known ++ x ∷ [])) (kept values c)
+entered-kept : (values : List ℤ) (known : List Binding) (go : List Binding → List Found) (c : Cell) → entered values known go c ≡ flat_map (λ x. go (known ++ x ∷ [])) (kept values c)
 entered-kept values known go Empty = refl
 entered-kept values known go (Count n) = sym (append-nil (go (known ++ chosen values (Count n) ∷ [])))
 entered-kept values known go Present = sym (append-nil (go (known ++ chosen values Present ∷ [])))
 entered-kept values known go (Extreme v) = sym (append-nil (go (known ++ chosen values (Extreme v) ∷ [])))
 
-entered-none : (values : List ℤ) (known : List Chosen) (go : List Chosen → List Found) (c : Cell) → ((x : Cell) → go (known ++ chosen values x ∷ []) ≡ []) → entered values known go c ≡ []
+entered-none : (values : List ℤ) (known : List Binding) (go : List Binding → List Found) (c : Cell) → ((x : Cell) → go (known ++ chosen values x ∷ []) ≡ []) → entered values known go c ≡ []
 entered-none values known go Empty h = refl
 entered-none values known go (Count n) h = h (Count n)
 entered-none values known go Present h = h Present
@@ -136,37 +136,37 @@ entered-none values known go (Extreme v) h = h (Extreme v)
 
 -- A wrong value for a dim that an equality fixes breaks that equality, whatever is chosen later.
 abbrev pub Breaks : Setting → Type 0
-Breaks w = (known : List Chosen) (k : ℕ) (d : Dim) (a : Attr) (vs : List ℤ) (c : Cell) (cs : List Chosen) → k < length (dims_beside w (length known)) → k < length vs →
-    witness w.arriving (length known) (get_or (dims_beside w (length known)) k d).attr w.part.equal.items ≡ Some a → get_or vs k (pos 0) ≢ value w known a →
+Breaks w = (known : List Binding) (k : ℕ) (d : Dim) (a : Attr) (vs : List ℤ) (c : Cell) (cs : List Binding) → k < length (dims_beside w (length known)) → k < length vs →
+    binding_column w.arriving (length known) (get_or (dims_beside w (length known)) k d).attr w.part.equal.items ≡ Some a → get_or vs k (pos 0) ≢ value w known a →
     meets w ((known ++ chosen vs c ∷ []) ++ cs) ≡ false
 
 -- And a value that an inequality excludes breaks that inequality.
 abbrev pub BreaksLess : Setting → Type 0
-BreaksLess w = (known : List Chosen) (k : ℕ) (d : Dim) (vs : List ℤ) (c : Cell) (cs : List Chosen) → k < length (dims_beside w (length known)) → k < length vs →
+BreaksLess w = (known : List Binding) (k : ℕ) (d : Dim) (vs : List ℤ) (c : Cell) (cs : List Binding) → k < length (dims_beside w (length known)) → k < length vs →
     is_allowed w.arriving (length known) w.part.less.items (value w known) (get_or (dims_beside w (length known)) k d).attr (get_or vs k (pos 0)) ≡ false →
     meets w ((known ++ chosen vs c ∷ []) ++ cs) ≡ false
 
 module _ (w : Setting) (breaks : Breaks w) (breaks-less : BreaksLess w) where
-  gone : (cs : List Chosen) → meets w cs ≡ false → walk w 0 cs ≡ []
+  gone : (cs : List Binding) → meets w cs ≡ false → walk w 0 cs ≡ []
   unfolding walk
   gone cs e = ap (λ b. if b then found w cs ∷ [] else []) e
 
-  pub walk-all : (m : ℕ) (known : List Chosen) → walk w m known ≡ flat_map (λ cs. walk w 0 (known ++ cs)) (combinations_from w m (length known))
+  pub walk-all : (m : ℕ) (known : List Binding) → walk w m known ≡ flat_map (λ cs. walk w 0 (known ++ cs)) (combinations_from w m (length known))
   unfolding walk narrowed_dims narrow
   walk-all zero known = (λ k. walk w 0 (sym (append-nil known) k)) ∙ sym (append-nil (walk w 0 (known ++ [])))
   walk-all (suc m) known =
       let p = length known in
-      narrow-box w.arriving p w.part.less.items (value w known) (λ d. witness w.arriving p d.attr w.part.equal.items) (dims_beside w p) (opened w known (walk w m))
+      narrow-box w.arriving p w.part.less.items (value w known) (λ d. binding_column w.arriving p d.attr w.part.equal.items) (dims_beside w p) (opened w known (walk w m))
       (λ k d a vs l j e i. entered-none vs known (walk w m) (cell_at w p vs) (λ c. walk-all m (known ++ chosen vs c ∷ []) ∙ flat_map-none _ (combinations_from w m (length (known ++ chosen vs c ∷ []))) (λ cs. gone _ (breaks known k d a vs c cs l j e i))))
       (λ k d vs l j e. entered-none vs known (walk w m) (cell_at w p vs) (λ c. walk-all m (known ++ chosen vs c ∷ []) ∙ flat_map-none _ (combinations_from w m (length (known ++ chosen vs c ∷ []))) (λ cs. gone _ (breaks-less known k d vs c cs l j e))))
       ∙ flat_map-same _ _ (box (dims_beside w p)) (λ vs. entered-kept vs known (walk w m) (cell_at w p vs))
       ∙ sym (flat_map-flat_map (λ x. walk w m (known ++ x ∷ [])) (λ vs. kept vs (cell_at w p vs)) (box (dims_beside w p)))
       ∙ flat_map-same _ _ (choices w p) (λ c. walk-all m (known ++ c ∷ [])
       ∙ (λ k. flat_map (λ cs. walk w 0 (append_assoc known (c ∷ []) cs k)) (combinations_from w m (length-append known (c ∷ []) k)))
-      ∙ sym (flat_map-map (λ cs. walk w 0 (known ++ cs)) (λ (cs : List Chosen). c ∷ cs) (combinations_from w m (p + 1))))
+      ∙ sym (flat_map-map (λ cs. walk w 0 (known ++ cs)) (λ (cs : List Binding). c ∷ cs) (combinations_from w m (p + 1))))
       ∙ sym (flat_map-flat_map (λ cs. walk w 0 (known ++ cs)) (λ c. map (λ cs. c ∷ cs) (combinations_from w m (p + 1))) (choices w p))
 
-  filtered : (xs : List (List Chosen)) → flat_map (walk w 0) xs ≡ map (found w) (filter (meets w) xs)
+  filtered : (xs : List (List Binding)) → flat_map (walk w 0) xs ≡ map (found w) (filter (meets w) xs)
   unfolding walk
   filtered [] = refl
   filtered (x ∷ xs) = by (meets w x) (filtered xs)

@@ -11,7 +11,7 @@ use Rattle.bq_model.specs.declared.plan.PartPlan.{PartPlan}
 use Rattle.bq_model.specs.Meaning.{by_column}
 use Rattle.bq_model.specs.Plan.{stream_at, dims_at}
 use Rattle.bq_model.proofs.BoxLaws.{sound-full, sound-from, room-at, place-below}
-use Rattle.bq_probe.specs.declared.chosen.Chosen.{Chosen}
+use Rattle.bq_probe.specs.declared.binding.Binding.{Binding}
 use Rattle.bq_synopsis.specs.declared.key_columns.KeyColumn.{KeyColumn}
 use Rattle.bq_probe.specs.Lined.{IsFixed, AreFixed}
 use Rattle.bq_synopsis.specs.Pinning.{IsKeyColumn, AreKeyColumns}
@@ -24,7 +24,7 @@ use Rattle.bq_probe.proofs.NarrowLaws.{fixed-narrow}
 use Rattle.bq_probe.proofs.StepLaws.{dims-beside}
 
 -- the value of a column of the arriving row
-own-value : (ps : List Pair) (part : PartPlan) (arriving : ℕ) (row : List ℤ) (known : List Chosen) (a : Attr) → a.stream ≡ arriving → value_in ps part arriving row known a ≡ by_column row a.column
+own-value : (ps : List Pair) (part : PartPlan) (arriving : ℕ) (row : List ℤ) (known : List Binding) (a : Attr) → a.stream ≡ arriving → value_in ps part arriving row known a ≡ by_column row a.column
 unfolding value_in
 own-value ps part arriving row known a e = by (a.stream == arriving) refl
   where
@@ -33,7 +33,7 @@ own-value ps part arriving row known a e = by (a.stream == arriving) refl
     by false f = absurd (grind (arith, nat_tests, e, f))
 
 -- a dim that such a column fixes
-pub key_column-fixes : (ps : List Pair) (part : PartPlan) (arriving : ℕ) (row : List ℤ) (known : List Chosen) (key_column : KeyColumn) (n : Dim) → IsKeyColumn part arriving (length known) key_column
+pub key_column-fixes : (ps : List Pair) (part : PartPlan) (arriving : ℕ) (row : List ℤ) (known : List Binding) (key_column : KeyColumn) (n : Dim) → IsKeyColumn part arriving (length known) key_column
     → n ≡ narrowed_to key_column.dim (by_column row key_column.column.column) → n.lo ≤ℤ n.hi
     → IsFixed key_column.dim (narrow arriving (length known) part.equal.items part.less.items (value_in ps part arriving row known) key_column.dim) n
 key_column-fixes ps part arriving row known key_column n h is some =
@@ -49,7 +49,7 @@ same-key_columns part arriving place here listed key_columns e f are = subst (Ar
 abbrev dims_of : List KeyColumn → List Dim
 dims_of key_columns = map (λ (p : KeyColumn). p.dim) key_columns
 
-module _ (ps : List Pair) (part : PartPlan) (arriving : ℕ) (row : List ℤ) (known : List Chosen) (key_columns : List KeyColumn) (are : AreKeyColumns part arriving (length known) (dims_at part (length known)) key_columns) (laid : IsLaidOut (stream_at part (length known)) (2 ^ 32)) where
+module _ (ps : List Pair) (part : PartPlan) (arriving : ℕ) (row : List ℤ) (known : List Binding) (key_columns : List KeyColumn) (are : AreKeyColumns part arriving (length known) (dims_at part (length known)) key_columns) (laid : IsLaidOut (stream_at part (length known)) (2 ^ 32)) where
   abbrev narrows : Dim → Dim
   narrows = narrow arriving (length known) part.equal.items part.less.items (value_in ps part arriving row known)
 

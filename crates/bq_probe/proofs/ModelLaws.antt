@@ -19,7 +19,7 @@ use Rattle.bq_model.specs.Plan.{dims_at}
 use Rattle.bq_model.specs.Combinations.{Choice, choice, choice_of, looked_up, tied, row_of_values, Reading, Found, chosen_values, linked, times_of}
 use Rattle.bq_model.specs.Combinations as model
 use Rattle.bq_model.specs.Probing.{choices_beside, found_beside}
-use Rattle.bq_probe.specs.declared.chosen.Chosen.{Chosen}
+use Rattle.bq_probe.specs.declared.binding.Binding.{Binding}
 use Rattle.bq_probe.specs.Values.{valued, extreme_of, rows_in, chosen_value, value_in}
 use Rattle.bq_probe.specs.Choosing.{Setting, setting, dims_in, cell_in, meets, meets_links, tuple_of, product_of, found}
 use Rattle.bq_probe.proofs.ExactLaws.{kept, choices, combinations_from, flat_map-same}
@@ -39,19 +39,19 @@ module _ {X Y Z : Type 0} where
       map-append (y ∷ ys) zs = ap (λ r. f y ∷ r) (map-append ys zs)
 
 -- each member of a list is so long
-abbrev AllLong : ℕ → List (List Chosen) → Type 0
+abbrev AllLong : ℕ → List (List Binding) → Type 0
 AllLong n [] = Unit {0}
 AllLong n (cs ∷ others) = (length cs ≡ n) × AllLong n others
 
-long-append : (n : ℕ) (xs ys : List (List Chosen)) → AllLong n xs → AllLong n ys → AllLong n (xs ++ ys)
+long-append : (n : ℕ) (xs ys : List (List Binding)) → AllLong n xs → AllLong n ys → AllLong n (xs ++ ys)
 long-append n [] ys h k = k
 long-append n (x ∷ xs) ys h k = (h.0, long-append n xs ys h.1 k)
 
-long-map : (n : ℕ) (c : Chosen) (xs : List (List Chosen)) → AllLong n xs → AllLong (suc n) (map (λ cs. c ∷ cs) xs)
+long-map : (n : ℕ) (c : Binding) (xs : List (List Binding)) → AllLong n xs → AllLong (suc n) (map (λ cs. c ∷ cs) xs)
 long-map n c [] h = tt
 long-map n c (x ∷ xs) h = (let e = h.0 in omega (arith, e), long-map n c xs h.1)
 
-long-flat : (n : ℕ) (xs : List (List Chosen)) (cs : List Chosen) → AllLong n xs → AllLong (suc n) (flat_map (λ c. map (λ others. c ∷ others) xs) cs)
+long-flat : (n : ℕ) (xs : List (List Binding)) (cs : List Binding) → AllLong n xs → AllLong (suc n) (flat_map (λ c. map (λ others. c ∷ others) xs) cs)
 long-flat n xs [] h = tt
 long-flat n xs (c ∷ cs) h = long-append (suc n) (map (λ others. c ∷ others) xs) (flat_map (λ c. map (λ others. c ∷ others) xs) cs) (long-map n c xs h) (long-flat n xs cs h)
 
@@ -64,13 +64,13 @@ module _ (q : QueryValue) (part : PartPlan) (arriving : ℕ) (row : List ℤ) (r
   w = setting (pairs q) q.select part arriving row read
 
   -- a chosen cell as the model reads it
-  abbrev as_choice : ℕ → Chosen → Choice
+  abbrev as_choice : ℕ → Binding → Choice
   as_choice place c = record {
     values = if place == arriving then by_column row else row_of_values q part place c.values.items (extreme_of c.cell);
     times = rows_in c.cell;
   }
 
-  abbrev as_choices : ℕ → List Chosen → List Choice
+  abbrev as_choices : ℕ → List Binding → List Choice
   as_choices place [] = []
   as_choices place (c ∷ cs) = as_choice place c ∷ as_choices (place + 1) cs
 
@@ -78,14 +78,14 @@ module _ (q : QueryValue) (part : PartPlan) (arriving : ℕ) (row : List ℤ) (r
   unfolding dims_in cell_in
   choices-same place = by (place == arriving)
     where
-      kept-same : (vs : List ℤ) (c : Cell) → map (λ (d : Chosen). let o : Choice = record { values = row_of_values q part place d.values.items (extreme_of d.cell); times = rows_in d.cell } in o) (kept vs c) ≡ choice_of q part place vs c
+      kept-same : (vs : List ℤ) (c : Cell) → map (λ (d : Binding). let o : Choice = record { values = row_of_values q part place d.values.items (extreme_of d.cell); times = rows_in d.cell } in o) (kept vs c) ≡ choice_of q part place vs c
       kept-same vs Empty = refl
       kept-same vs (Count n) = refl
       kept-same vs Present = refl
       kept-same vs (Extreme z) = refl
 
       by : (t : Bool)
-          → map (λ (c : Chosen). let o : Choice = record { values = if t then by_column row else row_of_values q part place c.values.items (extreme_of c.cell); times = rows_in c.cell } in o)
+          → map (λ (c : Binding). let o : Choice = record { values = if t then by_column row else row_of_values q part place c.values.items (extreme_of c.cell); times = rows_in c.cell } in o)
           (flat_map (λ vs. kept vs (if t then Present else read part place (place_of (dims_at part place) vs))) (box (if t then [] else dims_at part place)))
           ≡ (if t then choice (by_column row) 1 else flat_map (λ xs. choice_of q part place xs (read part place (place_of (dims_at part place) xs))) (box (dims_at part place)))
       by true = refl
@@ -93,7 +93,7 @@ module _ (q : QueryValue) (part : PartPlan) (arriving : ℕ) (row : List ℤ) (r
           map-flat_map _ (λ vs. kept vs (read part place (place_of (dims_at part place) vs))) (box (dims_at part place))
           ∙ flat_map-same _ _ (box (dims_at part place)) (λ vs. kept-same vs (read part place (place_of (dims_at part place) vs)))
 
-  map-cons : (place : ℕ) (c : Chosen) (xs : List (List Chosen)) → map (as_choices place) (map (λ cs. c ∷ cs) xs) ≡ map (λ os. as_choice place c ∷ os) (map (as_choices (place + 1)) xs)
+  map-cons : (place : ℕ) (c : Binding) (xs : List (List Binding)) → map (as_choices place) (map (λ cs. c ∷ cs) xs) ≡ map (λ os. as_choice place c ∷ os) (map (as_choices (place + 1)) xs)
   map-cons place c [] = refl
   map-cons place c (x ∷ xs) = ap (λ r. (as_choice place c ∷ as_choices (place + 1) x) ∷ r) (map-cons place c xs)
 
@@ -109,28 +109,28 @@ module _ (q : QueryValue) (part : PartPlan) (arriving : ℕ) (row : List ℤ) (r
       ∙ ap (flat_map (λ o. map (λ (os : List Choice). o ∷ os) P)) (choices-same place)
 
   -- the values at a place of FROM
-  abbrev read_option : ℕ → ℕ → Option Chosen → ℤ
+  abbrev read_option : ℕ → ℕ → Option Binding → ℤ
   read_option place column None = pos 0
   read_option place column (Some c) = (if place == arriving then by_column row else row_of_values q part place c.values.items (extreme_of c.cell)) column
 
-  at-as : (cs : List Chosen) (place i column : ℕ) → at_place (map (λ c. c.values) (as_choices place cs)) i column ≡ read_option (place + i) column (slice_get cs i)
+  at-as : (cs : List Binding) (place i column : ℕ) → at_place (map (λ c. c.values) (as_choices place cs)) i column ≡ read_option (place + i) column (slice_get cs i)
   at-as [] place i column = refl
   at-as (c ∷ cs) place zero column = let e : place ≡ place + 0 = omega arith in ap (λ n. read_option n column (Some c)) e
   at-as (c ∷ cs) place (suc i) column =
       let e : place + 1 + i ≡ place + suc i = omega arith in
       at-as cs (place + 1) i column ∙ ap (λ n. read_option n column (slice_get cs i)) e
 
-  get-some : (cs : List Chosen) (i : ℕ) → i < length cs → slice_get cs i ≡ None → ⊥
+  get-some : (cs : List Binding) (i : ℕ) → i < length cs → slice_get cs i ≡ None → ⊥
   get-some [] i l e = absurd (omega (arith, l))
   get-some (c ∷ cs) zero l e = cc
   get-some (c ∷ cs) (suc i) l e = get-some cs i (omega (arith, l)) e
 
-  value-same : (cs : List Chosen) → arriving < length cs → (a : Attr) → value_in (pairs q) part arriving row cs a ≡ chosen_values (as_choices 0 cs) a
+  value-same : (cs : List Binding) → arriving < length cs → (a : Attr) → value_in (pairs q) part arriving row cs a ≡ chosen_values (as_choices 0 cs) a
   unfolding value_in
   value-same cs l a =
       by (a.stream == arriving) refl (slice_get cs a.stream) refl ∙ ap (λ n. read_option n a.column (slice_get cs a.stream)) (let e : a.stream ≡ 0 + a.stream = omega arith in e) ∙ sym (at-as cs 0 a.stream a.column)
     where
-      by : (t : Bool) → (a.stream == arriving) ≡ t → (o : Option Chosen) → slice_get cs a.stream ≡ o
+      by : (t : Bool) → (a.stream == arriving) ≡ t → (o : Option Binding) → slice_get cs a.stream ≡ o
           → (if t then by_column row a.column else chosen_value (pairs q) part a o) ≡ read_option a.stream a.column o
       by true e None g =
           let h : a.stream ≡ arriving = grind (arith, nat_tests) in absurd (get-some cs a.stream (omega (arith, h, l)) g)
@@ -140,23 +140,23 @@ module _ (q : QueryValue) (part : PartPlan) (arriving : ℕ) (row : List ℤ) (r
           valued-is q part.signs.items (dims_at part a.stream) c.values.items (extreme_of c.cell) a
           ∙ ap (λ t. (if t then by_column row else row_of_values q part a.stream c.values.items (extreme_of c.cell)) a.column) (sym e)
 
-  times-same : (place : ℕ) (cs : List Chosen) → product_of cs ≡ times_of (as_choices place cs)
+  times-same : (place : ℕ) (cs : List Binding) → product_of cs ≡ times_of (as_choices place cs)
   times-same place [] = refl
   times-same place (c ∷ cs) = ap (λ n. rows_in c.cell * n) (times-same (place + 1) cs)
 
-  meets-same : (cs : List Chosen) → arriving < length cs → meets w cs ≡ linked part (chosen_values (as_choices 0 cs))
+  meets-same : (cs : List Binding) → arriving < length cs → meets w cs ≡ linked part (chosen_values (as_choices 0 cs))
   unfolding meets_links
   meets-same cs l =
       let F : value_in (pairs q) part arriving row cs ≡ chosen_values (as_choices 0 cs) = λ k a. value-same cs l a k in
       ap (λ (v : Attr → ℤ). list_all (λ m. int_eq (v m.left) (v m.right)) part.equal.items && list_all (λ m. int_lt (v m.left) (v m.right)) part.less.items) F
 
-  found-same : (cs : List Chosen) → arriving < length cs → found w cs ≡ model.found q (as_choices 0 cs)
+  found-same : (cs : List Binding) → arriving < length cs → found w cs ≡ model.found q (as_choices 0 cs)
   unfolding tuple_of
   found-same cs l =
       let F : value_in (pairs q) part arriving row cs ≡ chosen_values (as_choices 0 cs) = λ k a. value-same cs l a k in
       λ k. record { tuple = map (F k) q.select; count = times-same 0 cs k }
 
-  all-same : (n : ℕ) → arriving < n → (xs : List (List Chosen)) → AllLong n xs
+  all-same : (n : ℕ) → arriving < n → (xs : List (List Binding)) → AllLong n xs
       → map (found w) (filter (meets w) xs) ≡ map (model.found q) (filter (λ os. linked part (chosen_values os)) (map (as_choices 0) xs))
   all-same n l [] h = refl
   all-same n l (x ∷ xs) h =

@@ -9,7 +9,7 @@ use Rattle.bq_model.specs.declared.plan.Dim.{Dim}
 use Rattle.bq_model.specs.declared.plan.Link.{Link}
 use Rattle.bq_model.proofs.BoxLaws.{range-inside, range-below}
 use Rattle.bq_probe.specs.Lined.{IsFixed}
-use Rattle.bq_synopsis.specs.Narrowing.{narrowed_to, below, above, cut_by, cut, narrowed_by, narrow, witness}
+use Rattle.bq_synopsis.specs.Narrowing.{narrowed_to, below, above, clip_by, clip, narrowed_by, narrow, binding_column}
 use Rattle.bq_model.specs.Query.{attr_eq}
 use Rattle.bq_model.specs.Probing.{is_known}
 
@@ -66,19 +66,19 @@ above-narrower d v = by (int_lt v d.hi) (int_lt v d.lo) refl refl
     by true false e f = record { size = range-within d.lo d.hi (v +ℤ pos 1) d.hi (omega (arith, ints, f)) (omega (arith, ints)); inside = λ u a b. (omega (arith, ints, a, f), b) }
     by false t e f = narrower-none d
 
-cut-by-narrower : (arriving place : ℕ) (l : Link) (values : Attr → ℤ) (d : Dim) → IsNarrower (cut_by arriving place l values d) d
-cut-by-narrower arriving place l values d = by (attr_eq l.left d.attr && is_known arriving place l.right) (attr_eq l.right d.attr && is_known arriving place l.left)
+clip-by-narrower : (arriving place : ℕ) (l : Link) (values : Attr → ℤ) (d : Dim) → IsNarrower (clip_by arriving place l values d) d
+clip-by-narrower arriving place l values d = by (attr_eq l.left d.attr && is_known arriving place l.right) (attr_eq l.right d.attr && is_known arriving place l.left)
   where
     by : (s t : Bool) → IsNarrower (if s then below d (values l.right) else (if t then above d (values l.left) else d)) d
     by true t = below-narrower d (values l.right)
     by false true = above-narrower d (values l.left)
     by false false = narrower-same d
 
-pub cut-narrower : (arriving place : ℕ) (links : List Link) (values : Attr → ℤ) (d : Dim) → IsNarrower (cut arriving place links values d) d
-cut-narrower arriving place [] values d = narrower-same d
-cut-narrower arriving place (l ∷ ls) values d =
-    let a = cut-narrower arriving place ls values (cut_by arriving place l values d) in
-    let b = cut-by-narrower arriving place l values d in
+pub clip-narrower : (arriving place : ℕ) (links : List Link) (values : Attr → ℤ) (d : Dim) → IsNarrower (clip arriving place links values d) d
+clip-narrower arriving place [] values d = narrower-same d
+clip-narrower arriving place (l ∷ ls) values d =
+    let a = clip-narrower arriving place ls values (clip_by arriving place l values d) in
+    let b = clip-by-narrower arriving place l values d in
     record {
       size = (let x = a.size in let y = b.size in omega (arith, x, y));
       inside = λ v m n. (let i = a.inside v m n in b.inside v i.0 i.1);
@@ -90,17 +90,17 @@ narrower-by d other values (Some a) h = to-one d (values a) (int_le d.lo (values
 
 pub narrower : (arriving place : ℕ) (equal less : List Link) (values : Attr → ℤ) (d : Dim) → d.lo ≤ℤ d.hi → IsNarrower (narrow arriving place equal less values d) d
 unfolding narrow
-narrower arriving place equal less values d f = narrower-by d (cut arriving place less values d) values (witness arriving place d.attr equal) (cut-narrower arriving place less values d)
+narrower arriving place equal less values d f = narrower-by d (clip arriving place less values d) values (binding_column arriving place d.attr equal) (clip-narrower arriving place less values d)
 
 -- a dim that a known column fixes
-pub fixed-narrow : (arriving place : ℕ) (equal less : List Link) (values : Attr → ℤ) (d : Dim) (a : Attr) (n : Dim) → witness arriving place d.attr equal ≡ Some a → n ≡ narrowed_to d (values a) → n.lo ≤ℤ n.hi → IsFixed d (narrow arriving place equal less values d) n
+pub fixed-narrow : (arriving place : ℕ) (equal less : List Link) (values : Attr → ℤ) (d : Dim) (a : Attr) (n : Dim) → binding_column arriving place d.attr equal ≡ Some a → n ≡ narrowed_to d (values a) → n.lo ≤ℤ n.hi → IsFixed d (narrow arriving place equal less values d) n
 unfolding narrow
 fixed-narrow arriving place equal less values d a n e is some = by (int_le d.lo (values a)) (int_le (values a) d.hi) refl refl is
   where
     by : (s t : Bool) → int_le d.lo (values a) ≡ s → int_le (values a) d.hi ≡ t
-        → n ≡ (if s && t then record { attr = d.attr; lo = values a; hi = values a } else record { attr = d.attr; lo = pos 1; hi = pos 0 }) → IsFixed d (narrowed_by d (cut arriving place less values d) values (witness arriving place d.attr equal)) n
+        → n ≡ (if s && t then record { attr = d.attr; lo = values a; hi = values a } else record { attr = d.attr; lo = pos 1; hi = pos 0 }) → IsFixed d (narrowed_by d (clip arriving place less values d) values (binding_column arriving place d.attr equal)) n
     by true true f g h = record {
-      is = is ∙ ap (narrowed_by d (cut arriving place less values d) values) (sym e);
+      is = is ∙ ap (narrowed_by d (clip arriving place less values d) values) (sym e);
       one = ap dim_size h ∙ one-value (values a);
       low = (let l : n.lo ≡ values a = ap (λ x. x.lo) h in omega (arith, ints, l, f));
       high = (let l : n.lo ≡ values a = ap (λ x. x.lo) h in omega (arith, ints, l, g));

@@ -17,7 +17,7 @@ use Rattle.bq_model.specs.Probing.{found_beside}
 use Rattle.bq_model.specs.Query.{QueryValue}
 use Rattle.bq_model.specs.declared.atom.Attr.{Attr}
 use Rattle.bq_model.specs.declared.part.Pair.{Pair}
-use Rattle.bq_probe.specs.declared.chosen.Chosen.{Chosen}
+use Rattle.bq_probe.specs.declared.binding.Binding.{Binding}
 use Rattle.bq_probe.specs.Choosing.{Setting, setting, start, chosen, cell_at, cell_in}
 use Rattle.bq_probe.specs.Lined.{AreFixed}
 use Rattle.bq_synopsis.specs.Premises.{IsWalked, IsLaidOut}
@@ -43,7 +43,7 @@ box-one (d ∷ ds) e =
     (λ k. flat_map (λ x. map (λ xs. x ∷ xs) (box-one ds b.1 k)) (values_from d.lo (b.0 k)))
 
 -- the one candidate has an empty cell
-pub walk-empty : (w : Setting) (more : ℕ) (known : List Chosen) (fixed : List Dim) → fixed ≡ narrowed_dims w.pairs w.part w.arriving w.row known → box_size fixed ≡ 1
+pub walk-empty : (w : Setting) (more : ℕ) (known : List Binding) (fixed : List Dim) → fixed ≡ narrowed_dims w.pairs w.part w.arriving w.row known → box_size fixed ≡ 1
     → cell_at w (length known) (map (λ d. d.lo) fixed) ≡ Empty → walk w (suc more) known ≡ []
 unfolding walk
 walk-empty w more known fixed are one empty =
@@ -51,7 +51,7 @@ walk-empty w more known fixed are one empty =
     ap (flat_map (opened w known (walk w more))) all ∙ ap (λ c. entered (map (λ d. d.lo) fixed) known (walk w more) c ++ []) empty
 
 -- the arriving row's own level
-pub walk-own : (w : Setting) (more : ℕ) (known : List Chosen) → length known ≡ w.arriving → walk w more (known ++ chosen [] Present ∷ []) ≡ [] → walk w (suc more) known ≡ []
+pub walk-own : (w : Setting) (more : ℕ) (known : List Binding) → length known ≡ w.arriving → walk w more (known ++ chosen [] Present ∷ []) ≡ [] → walk w (suc more) known ≡ []
 unfolding walk
 walk-own w more known here nothing =
     let all : candidates w known ≡ [] ∷ [] = ap box (own-dims w.pairs w.part w.arriving w.row known here) in

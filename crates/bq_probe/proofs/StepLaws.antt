@@ -21,12 +21,12 @@ use Rattle.bq_model.specs.Probing.{is_known}
 use Rattle.bq_model.proofs.BoxLaws.{values-inside, sound-full, length-box, box-from, place-below}
 use Rattle.bq_model.specs.declared.cell.Cell.{Cell}
 use Rattle.bq_model.specs.declared.cell.Cell.TheVariants.{Empty, Count, Present, Extreme}
-use Rattle.bq_probe.specs.declared.chosen.Chosen.{Chosen}
+use Rattle.bq_probe.specs.declared.binding.Binding.{Binding}
 use Rattle.bq_probe.specs.declared.probe.Probe.{Probe}
 use Rattle.bq_probe.specs.Values.{value_in, rows_in}
 use Rattle.bq_probe.specs.Choosing.{setting, product_of, meets_links, tuple_of, found, dims_in, cell_in}
 use Rattle.bq_probe.specs.Walk.{left, walk, outer, narrowed_dims}
-use Rattle.bq_synopsis.specs.Narrowing.{narrow, narrowed_by, witness, cut}
+use Rattle.bq_synopsis.specs.Narrowing.{narrow, narrowed_by, binding_column, clip}
 use Rattle.bq_probe.specs.Costs.{Rates, cost_left, tried_size, read_at}
 use Rattle.bq_pool.specs.declared.scan.StridedCells.{StridedCells}
 use Rattle.bq_pool.specs.Strides.{at_stride}
@@ -35,7 +35,7 @@ use Rattle.bq_synopsis.specs.Premises.{IsLaidOut, AreFitting}
 use Rattle.bq_probe.specs.Remaining.{left_of, outer_of, IsPlaced, WentBack, HasEntered, ended, popped, AreLight, limit, as_found}
 use Rattle.bq_probe.proofs.WalkLaws.{left-skip, left-back, left-past, left-whole, left-enter, outer-none}
 use Rattle.bq_probe.proofs.CostLaws.{cost-skip, cost-back, cost-end, cost-next, cost-enter}
-use Rattle.bq_probe.proofs.NarrowLaws.{narrower, cut-narrower, map-low, map-sound, map-inside, one-value}
+use Rattle.bq_probe.proofs.NarrowLaws.{narrower, clip-narrower, map-low, map-sound, map-inside, one-value}
 
 pub record AreWhole (ds : List Dim) : Type 0 where
   pub full : AreFull ds
@@ -52,7 +52,7 @@ dims-whole part arriving cells place r = by (place == arriving) refl
         let out = r other in
         record { full = out.full; sound = sound-full _ out.full (omega (arith, out.size, out.few)) }
 
-module _ (ps : List Pair) (part : PartPlan) (arriving : ℕ) (row : List ℤ) (cells : ℕ) (known : List Chosen) (r : length known ≢ arriving → IsLaidOut (stream_at part (length known)) cells) where
+module _ (ps : List Pair) (part : PartPlan) (arriving : ℕ) (row : List ℤ) (cells : ℕ) (known : List Binding) (r : length known ≢ arriving → IsLaidOut (stream_at part (length known)) cells) where
   pub sound-narrowed : AreNumbered (narrowed_dims ps part arriving row known)
   unfolding narrowed_dims
   sound-narrowed = let d = dims-whole part arriving cells (length known) r in map-sound _ (narrower arriving (length known) part.equal.items part.less.items (value_in ps part arriving row known)) _ d.full d.sound
@@ -83,20 +83,20 @@ free_dim d (Some a) = 1
 
 abbrev free_product : ℕ → ℕ → List Link → List Dim → ℕ
 free_product arriving place links [] = 1
-free_product arriving place links (d ∷ ds) = free_dim d (witness arriving place d.attr links) * free_product arriving place links ds
+free_product arriving place links (d ∷ ds) = free_dim d (binding_column arriving place d.attr links) * free_product arriving place links ds
 
 -- the links tell of a known column
 abbrev is_told : ℕ → ℕ → List Link → Dim → Bool
 is_told arriving place links d =
     list_any (λ l. (attr_eq l.left d.attr && is_known arriving place l.right) || (attr_eq l.right d.attr && is_known arriving place l.left)) links
 
-free-told : (arriving place : ℕ) (links : List Link) (d : Dim) → free_dim d (witness arriving place d.attr links) ≡ cond (is_told arriving place links d) 1 (dim_size d)
+free-told : (arriving place : ℕ) (links : List Link) (d : Dim) → free_dim d (binding_column arriving place d.attr links) ≡ cond (is_told arriving place links d) 1 (dim_size d)
 free-told arriving place [] d = refl
 free-told arriving place (l ∷ ls) d =
     by (attr_eq l.left d.attr && is_known arriving place l.right) (attr_eq l.right d.attr && is_known arriving place l.left) (free-told arriving place ls d)
   where
-    by : (s t : Bool) → free_dim d (witness arriving place d.attr ls) ≡ cond (is_told arriving place ls d) 1 (dim_size d)
-        → free_dim d (if s then Some l.right else (if t then Some l.left else witness arriving place d.attr ls)) ≡ cond ((s || t) || is_told arriving place ls d) 1 (dim_size d)
+    by : (s t : Bool) → free_dim d (binding_column arriving place d.attr ls) ≡ cond (is_told arriving place ls d) 1 (dim_size d)
+        → free_dim d (if s then Some l.right else (if t then Some l.left else binding_column arriving place d.attr ls)) ≡ cond ((s || t) || is_told arriving place ls d) 1 (dim_size d)
     by true t h = refl
     by false true h = refl
     by false false h = h
@@ -130,9 +130,9 @@ free-map : (arriving place : ℕ) (equal less : List Link) (values : Attr → �
 unfolding narrow
 free-map arriving place equal less values [] = omega arith
 free-map arriving place equal less values (d ∷ ds) =
-    mul-le-mul (free-by d (cut arriving place less values d) values (witness arriving place d.attr equal) (cut-narrower arriving place less values d).size) (free-map arriving place equal less values ds)
+    mul-le-mul (free-by d (clip arriving place less values d) values (binding_column arriving place d.attr equal) (clip-narrower arriving place less values d).size) (free-map arriving place equal less values ds)
 
-pub few-candidates : (ps : List Pair) (part : PartPlan) (arriving : ℕ) (row : List ℤ) (known : List Chosen) → box_size (narrowed_dims ps part arriving row known) ≤ tried_size part arriving (length known)
+pub few-candidates : (ps : List Pair) (part : PartPlan) (arriving : ℕ) (row : List ℤ) (known : List Binding) → box_size (narrowed_dims ps part arriving row known) ≤ tried_size part arriving (length known)
 unfolding narrowed_dims
 few-candidates ps part arriving row known =
     let a = free-map arriving (length known) part.equal.items part.less.items (value_in ps part arriving row known) (dims_in part arriving (length known)) in
@@ -171,11 +171,11 @@ outer-of-back sel part read p r (popped c n z a b e v f g j m zs zv ss) o u =
     ∙ sym (left-back w r.room.now.chosen.items r.room.now.numbers.items c n m few)
     ∙ (λ k. outer w (length part.streams.items) [] (sym a k) (sym b k))
 
-pub light-front : (a i : ℕ) (cs : List Chosen) (c : Chosen) → AreLight a i (cs ++ c ∷ []) → AreLight a i cs
+pub light-front : (a i : ℕ) (cs : List Binding) (c : Binding) → AreLight a i (cs ++ c ∷ []) → AreLight a i cs
 light-front a i [] c h = tt
 light-front a i (x ∷ cs) c h = (h.0, light-front a (i + 1) cs c h.1)
 
-pub light-more : (a i : ℕ) (cs : List Chosen) (c : Chosen) → AreLight a i cs → rows_in c.cell ≤ limit a (i + length cs) → AreLight a i (cs ++ c ∷ [])
+pub light-more : (a i : ℕ) (cs : List Binding) (c : Binding) → AreLight a i cs → rows_in c.cell ≤ limit a (i + length cs) → AreLight a i (cs ++ c ∷ [])
 light-more a i [] c h l = (subst (λ n. rows_in c.cell ≤ limit a n) (let e : i + 0 ≡ i = omega arith in e) l, tt)
 light-more a i (x ∷ cs) c h l = (h.0, light-more a (i + 1) cs c h.1 (subst (λ n. rows_in c.cell ≤ limit a n) (let e : i + suc (length cs) ≡ i + 1 + length cs = omega arith in e) l))
 
@@ -233,7 +233,7 @@ pub limits : ℕ → ℕ → ℕ → ℕ
 limits a i zero = 1
 limits a i (suc n) = limit a i * limits a (i + 1) n
 
-within-limits : (a i : ℕ) (cs : List Chosen) → AreLight a i cs → product_of cs ≤ limits a i (length cs)
+within-limits : (a i : ℕ) (cs : List Binding) → AreLight a i cs → product_of cs ≤ limits a i (length cs)
 unfolding limits
 within-limits a i [] h = omega arith
 within-limits a i (c ∷ cs) h = mul-le-mul h.0 (within-limits a (i + 1) cs h.1)
@@ -266,28 +266,28 @@ three-counts (suc (suc (suc zero))) (suc (suc (suc (suc zero)))) l m = lit≤ tt
 three-counts (suc (suc (suc zero))) (suc (suc (suc (suc (suc n))))) l m = absurd (omega (arith, m))
 three-counts (suc (suc (suc (suc a)))) n l m = absurd (omega (arith, l))
 
-light-take : (a i k : ℕ) (cs : List Chosen) → AreLight a i cs → AreLight a i (take k cs)
+light-take : (a i k : ℕ) (cs : List Binding) → AreLight a i cs → AreLight a i (take k cs)
 light-take a i zero cs h = tt
 light-take a i (suc k) [] h = tt
 light-take a i (suc k) (c ∷ cs) h = (h.0, light-take a (i + 1) k cs h.1)
 
 -- no product of counts passes 120 bits
-pub light-product : (a k : ℕ) (cs : List Chosen) → a < 4 → length cs ≤ 4 → AreLight a 0 cs → product_of (take k cs) ≤ 2 ^ 120
+pub light-product : (a k : ℕ) (cs : List Binding) → a < 4 → length cs ≤ 4 → AreLight a 0 cs → product_of (take k cs) ≤ 2 ^ 120
 light-product a k cs l m h =
     let s = length-take k cs in
     let x = within-limits a 0 (take k cs) (light-take a 0 k cs h) in
     let y = three-counts a (length (take k cs)) l (omega (arith, s, m)) in
     omega (arith, x, y)
 
-pub product-more : (cs : List Chosen) (i : ℕ) (c : Chosen) → i < length cs → product_of (take (i + 1) cs) ≡ product_of (take i cs) * rows_in (get_or cs i c).cell
+pub product-more : (cs : List Binding) (i : ℕ) (c : Binding) → i < length cs → product_of (take (i + 1) cs) ≡ product_of (take i cs) * rows_in (get_or cs i c).cell
 product-more cs i c l = ap product_of (take_more cs i c l) ∙ product-end (take i cs) (get_or cs i c)
   where
-    product-end : (xs : List Chosen) (y : Chosen) → product_of (xs ++ y ∷ []) ≡ product_of xs * rows_in y.cell
+    product-end : (xs : List Binding) (y : Binding) → product_of (xs ++ y ∷ []) ≡ product_of xs * rows_in y.cell
     product-end [] y = omega arith
     product-end (x ∷ xs) y = omega (arith, ap (λ n. rows_in x.cell * n) (product-end xs y))
 
-pub product-next : (cs : List Chosen) (i : ℕ) (x : Chosen) (product w v : ℕ) → i < length cs → product ≡ product_of (take i cs) → x ≡ get_or cs i x → w ≡ rows_in x.cell → v ≡ w → product * v ≡ product_of (take (i + 1) cs)
-product-next cs i x product w v l e f g h = (λ k. e k * (h ∙ g ∙ ap (λ (y : Chosen). rows_in y.cell) f) k) ∙ sym (product-more cs i x l)
+pub product-next : (cs : List Binding) (i : ℕ) (x : Binding) (product w v : ℕ) → i < length cs → product ≡ product_of (take i cs) → x ≡ get_or cs i x → w ≡ rows_in x.cell → v ≡ w → product * v ≡ product_of (take (i + 1) cs)
+product-next cs i x product w v l e f g h = (λ k. e k * (h ∙ g ∙ ap (λ (y : Binding). rows_in y.cell) f) k) ∙ sym (product-more cs i x l)
 
 -- all streams are chosen: the combination, if it meets the links, and then the rest
 module _ (sel : List Attr) (part : PartPlan) (p r : Probe) (back : (read : Reading) → left_of sel part read r ≡ outer_of sel part read p) (o : p.over ≡ false) (whole : length p.room.now.chosen.items ≡ length part.streams.items) where
@@ -344,7 +344,7 @@ own-cell part read arriving place values e =
     ap (λ b. if b then Present else read part place (place_of (dims_at part place) values)) t
 
 -- the cells of a level that stand on a line
-module _ (ps : List Pair) (part : PartPlan) (arriving : ℕ) (row : List ℤ) (cells : ℕ) (known : List Chosen) (r : length known ≢ arriving → IsLaidOut (stream_at part (length known)) cells) (n : length known ≢ arriving) (line : StridedCells) (on : IsLine (stream_at part (length known)).base (dims_at part (length known)) (narrowed_dims ps part arriving row known) line) where
+module _ (ps : List Pair) (part : PartPlan) (arriving : ℕ) (row : List ℤ) (cells : ℕ) (known : List Binding) (r : length known ≢ arriving → IsLaidOut (stream_at part (length known)) cells) (n : length known ≢ arriving) (line : StridedCells) (on : IsLine (stream_at part (length known)).base (dims_at part (length known)) (narrowed_dims ps part arriving row known) line) where
   pub line-within : (i : ℕ) → i < box_size (narrowed_dims ps part arriving row known) → line.first + i * line.stride < (stream_at part (length known)).base + (stream_at part (length known)).size
   line-within i l =
       let D = narrowed_dims ps part arriving row known in

@@ -7,7 +7,7 @@ use Rattle.bq_model.specs.declared.plan.PartPlan.{PartPlan}
 use Rattle.bq_model.specs.Plan.{dims_at, stream_at}
 use Rattle.bq_model.specs.Query.{QueryValue}
 use Rattle.bq_model.specs.Parts.{pairs}
-use Rattle.bq_probe.specs.declared.chosen.Chosen.{Chosen}
+use Rattle.bq_probe.specs.declared.binding.Binding.{Binding}
 use Rattle.bq_probe.specs.declared.probe.Probe.{Probe}
 use Rattle.bq_synopsis.specs.Preparing.{IsPrepared}
 use Rattle.bq_model.specs.declared.atom.Attr.{Attr}
@@ -24,7 +24,7 @@ use Rattle.bq_synopsis.proofs.PlanLaws.{laid-beside}
 use Rattle.bq_probe.proofs.StepLaws.{sound-narrowed, light-front, light-more}
 
 -- the dims at a level have sizes that fit
-pub numbered : (q : QueryValue) (part : PartPlan) → IsWalked q part → (ps : List Pair) (a : ℕ) (row : List ℤ) (known : List Chosen) → a < length part.streams.items → length known < length part.streams.items → AreNumbered (narrowed_dims ps part a row known)
+pub numbered : (q : QueryValue) (part : PartPlan) → IsWalked q part → (ps : List Pair) (a : ℕ) (row : List ℤ) (known : List Binding) → a < length part.streams.items → length known < length part.streams.items → AreNumbered (narrowed_dims ps part a row known)
 numbered q part walked ps a row known here more = sound-narrowed ps part a row walked.cells known (λ n. laid-beside q part walked walked.cells (omega arith) a (length known) here more n)
 
 -- and the box of its stream is laid out
@@ -32,30 +32,30 @@ pub laid-here : (q : QueryValue) (part : PartPlan) → IsWalked q part → (a pl
 laid-here q part walked a place here more n = laid-beside q part walked (2 ^ 32) (let f = walked.few in omega (arith, f)) a place here more n
 
 module _ (ps : List Pair) (part : PartPlan) (a : ℕ) (row : List ℤ) where
-  abbrev size_at : List Chosen → ℕ
+  abbrev size_at : List Binding → ℕ
   size_at known = box_size (narrowed_dims ps part a row known)
 
-  pub sizes-push : (known cs : List Chosen) (ns : List ℕ) (c : Chosen) (n : ℕ) → AreSizes ps part a row known cs ns → n ≡ size_at (known ++ cs) → AreSizes ps part a row known (cs ++ c ∷ []) (ns ++ n ∷ [])
+  pub sizes-push : (known cs : List Binding) (ns : List ℕ) (c : Binding) (n : ℕ) → AreSizes ps part a row known cs ns → n ≡ size_at (known ++ cs) → AreSizes ps part a row known (cs ++ c ∷ []) (ns ++ n ∷ [])
   sizes-push known [] [] c n h e = (e ∙ ap size_at (append-nil known), tt)
   sizes-push known [] (y ∷ ns) c n h e = absurd h
   sizes-push known (x ∷ cs) [] c n h e = absurd h
   sizes-push known (x ∷ cs) (y ∷ ns) c n h e = (h.0, sizes-push (known ++ x ∷ []) cs ns c n h.1 (e ∙ ap size_at (sym (append_assoc known (x ∷ []) cs))))
 
-  none-after : (known : List Chosen) (ns : List ℕ) (n : ℕ) → AreSizes ps part a row known [] (ns ++ n ∷ []) → ⊥
+  none-after : (known : List Binding) (ns : List ℕ) (n : ℕ) → AreSizes ps part a row known [] (ns ++ n ∷ []) → ⊥
   none-after known [] n h = h
   none-after known (y ∷ ns) n h = h
 
-  none-before : (known cs : List Chosen) (c : Chosen) → AreSizes ps part a row known (cs ++ c ∷ []) [] → ⊥
+  none-before : (known cs : List Binding) (c : Binding) → AreSizes ps part a row known (cs ++ c ∷ []) [] → ⊥
   none-before known [] c h = h
   none-before known (x ∷ cs) c h = h
 
-  pub sizes-pop : (known cs : List Chosen) (ns : List ℕ) (c : Chosen) (n : ℕ) → AreSizes ps part a row known (cs ++ c ∷ []) (ns ++ n ∷ []) → AreSizes ps part a row known cs ns × (n ≡ size_at (known ++ cs))
+  pub sizes-pop : (known cs : List Binding) (ns : List ℕ) (c : Binding) (n : ℕ) → AreSizes ps part a row known (cs ++ c ∷ []) (ns ++ n ∷ []) → AreSizes ps part a row known cs ns × (n ≡ size_at (known ++ cs))
   sizes-pop known [] [] c n h = (tt, h.0 ∙ ap size_at (sym (append-nil known)))
   sizes-pop known [] (y ∷ ns) c n h = absurd (none-after (known ++ c ∷ []) ns n h.1)
   sizes-pop known (x ∷ cs) [] c n h = absurd (none-before (known ++ x ∷ []) cs c h.1)
   sizes-pop known (x ∷ cs) (y ∷ ns) c n h = let t = sizes-pop (known ++ x ∷ []) cs ns c n h.1 in ((h.0, t.0), t.1 ∙ ap size_at (append_assoc known (x ∷ []) cs))
 
-  pub sizes-length : (known cs : List Chosen) (ns : List ℕ) → AreSizes ps part a row known cs ns → length ns ≡ length cs
+  pub sizes-length : (known cs : List Binding) (ns : List ℕ) → AreSizes ps part a row known cs ns → length ns ≡ length cs
   sizes-length known [] [] h = refl
   sizes-length known [] (y ∷ ns) h = absurd h
   sizes-length known (x ∷ cs) [] h = absurd h
@@ -98,11 +98,11 @@ module _ (part : PartPlan) (p r : Probe) (walk : IsSameWalk p r) where
         seen = seen;
       }
 
-  pub same-dims : (known : List Chosen) → narrowed_dims p.pairs.now.items part p.arriving p.row.now.items known ≡ narrowed_dims r.pairs.now.items part r.arriving r.row.now.items known
+  pub same-dims : (known : List Binding) → narrowed_dims p.pairs.now.items part p.arriving p.row.now.items known ≡ narrowed_dims r.pairs.now.items part r.arriving r.row.now.items known
   same-dims known = λ k. narrowed_dims (sym walk.pairs k).now.items part (sym walk.arriving k) (sym walk.row k).now.items known
 
   -- a room that tells the same
-  pub same-tells : IsSameSight p r → (known others : List Chosen) → known ≡ others → TellsOf part p known → TellsOf part r others
+  pub same-tells : IsSameSight p r → (known others : List Binding) → known ≡ others → TellsOf part p known → TellsOf part r others
   same-tells sight known others e t =
       let ds : narrowed_dims p.pairs.now.items part p.arriving p.row.now.items known ≡ narrowed_dims r.pairs.now.items part r.arriving r.row.now.items others
       = same-dims known ∙ ap (narrowed_dims r.pairs.now.items part r.arriving r.row.now.items) e in (
@@ -190,7 +190,7 @@ module _ (part : PartPlan) (r s : Probe) (o : HasOpened part r s) where
   opened-cost rates = λ k. cost_left (rates (o.arriving k)) (length part.streams.items) (o.numbers k) (o.next k) (o.over k)
 
 -- one level more
-pub enter-placed : (part : PartPlan) (p r : Probe) (c : Chosen) (n z : ℕ) → IsSameWalk p r → IsSameSight p r → p.level ≢ length p.room.now.chosen.items + 1 → IsPlaced part p → z ≡ box_size (dims_now part p) → r.room.now.chosen.items ≡ p.room.now.chosen.items ++ c ∷ [] → r.room.now.numbers.items ≡ p.room.now.numbers.items ++ n ∷ []
+pub enter-placed : (part : PartPlan) (p r : Probe) (c : Binding) (n z : ℕ) → IsSameWalk p r → IsSameSight p r → p.level ≢ length p.room.now.chosen.items + 1 → IsPlaced part p → z ≡ box_size (dims_now part p) → r.room.now.chosen.items ≡ p.room.now.chosen.items ++ c ∷ [] → r.room.now.numbers.items ≡ p.room.now.numbers.items ++ n ∷ []
     → r.room.now.sizes.items ≡ p.room.now.sizes.items ++ z ∷ [] → length p.room.now.chosen.items < length part.streams.items → rows_in c.cell ≤ limit p.arriving (length p.room.now.chosen.items) → IsPlaced part r
 enter-placed part p r c n size walk sight apart u e a b zs l h =
     let x = ap length a in
@@ -223,7 +223,7 @@ start-placed q part p here a b d e h some = record {
 }
 
 -- the arriving row's own level has no dims
-pub own-dims : (ps : List Pair) (part : PartPlan) (a : ℕ) (row : List ℤ) (known : List Chosen) → length known ≡ a → narrowed_dims ps part a row known ≡ []
+pub own-dims : (ps : List Pair) (part : PartPlan) (a : ℕ) (row : List ℤ) (known : List Binding) → length known ≡ a → narrowed_dims ps part a row known ≡ []
 unfolding narrowed_dims dims_in
 own-dims ps part a row known e =
     let t : (length known == a) ≡ true = grind (arith, nat_tests) in

@@ -4,7 +4,7 @@ use Rattle.std.specs.Prelude.{flat_map, ℤ}
 use Rattle.std.proofs.lemmas.List.{drop_all}
 use Rattle.bq_model.specs.declared.cell.Cell.{Cell}
 use Rattle.bq_model.specs.declared.cell.Cell.TheVariants.{Empty, Count, Present, Extreme}
-use Rattle.bq_probe.specs.declared.chosen.Chosen.{Chosen}
+use Rattle.bq_probe.specs.declared.binding.Binding.{Binding}
 use Rattle.bq_model.specs.Combinations.{Found}
 use Rattle.bq_probe.specs.Choosing.{Setting, cell_at, chosen}
 use Rattle.bq_model.specs.Boxes.{box_size, values_at}
@@ -12,7 +12,7 @@ use Rattle.bq_model.proofs.BoxLaws.{box-from}
 use Rattle.bq_probe.specs.Walk.{narrowed_dims, candidates, entered, opened, walk, walk_from, outer, left}
 
 -- one level more
-pub outer-push : (w : Setting) (m : ℕ) (known cs : List Chosen) (ns : List ℕ) (c : Chosen) (n : ℕ) → length cs ≡ length ns → length cs < m →
+pub outer-push : (w : Setting) (m : ℕ) (known cs : List Binding) (ns : List ℕ) (c : Binding) (n : ℕ) → length cs ≡ length ns → length cs < m →
     outer w m known (cs ++ c ∷ []) (ns ++ n ∷ []) ≡ walk_from w (m - length cs) (known ++ cs) n ++ outer w m known cs ns
 unfolding outer
 outer-push w zero known cs ns c n e l = absurd (omega (arith, l))
@@ -27,30 +27,30 @@ outer-push w (suc m) known (x ∷ cs) (y ∷ ns) c n e l =
     ∙ append_assoc (walk_from w (m - length cs) ((known ++ x ∷ []) ++ cs) n) (outer w m (known ++ x ∷ []) cs ns) (walk_from w (suc m) known y)
     ∙ (λ k. walk_from w (fewer k) (append_assoc known (x ∷ []) cs k) n ++ (outer w m (known ++ x ∷ []) cs ns ++ walk_from w (suc m) known y))
 
-pub walk-first : (w : Setting) (m : ℕ) (known : List Chosen) → walk_from w m known 0 ≡ walk w m known
+pub walk-first : (w : Setting) (m : ℕ) (known : List Binding) → walk_from w m known 0 ≡ walk w m known
 unfolding walk walk_from
 walk-first w zero known = refl
 walk-first w (suc m) known = refl
 
 -- past the last candidate nothing is left here
-pub walk-past : (w : Setting) (m : ℕ) (known : List Chosen) (n : ℕ) → length (candidates w known) ≤ n → walk_from w (suc m) known n ≡ []
+pub walk-past : (w : Setting) (m : ℕ) (known : List Binding) (n : ℕ) → length (candidates w known) ≤ n → walk_from w (suc m) known n ≡ []
 unfolding walk_from
 walk-past w m known n l = ap (flat_map (opened w known (walk w m))) (drop_all n (candidates w known) l)
 
 -- one candidate
-pub walk-step : (w : Setting) (m : ℕ) (known : List Chosen) (n : ℕ) (values : List ℤ) → drop n (candidates w known) ≡ values ∷ drop (n + 1) (candidates w known) →
+pub walk-step : (w : Setting) (m : ℕ) (known : List Binding) (n : ℕ) (values : List ℤ) → drop n (candidates w known) ≡ values ∷ drop (n + 1) (candidates w known) →
     walk_from w (suc m) known n ≡ entered values known (walk w m) (cell_at w (length known) values) ++ walk_from w (suc m) known (n + 1)
 unfolding walk_from
 walk-step w m known n values e = ap (flat_map (opened w known (walk w m))) e
 
 -- one level less: what is left there from the next candidate on
-pub left-back : (w : Setting) (cs : List Chosen) (ns : List ℕ) (c : Chosen) (n : ℕ) → length cs ≡ length ns → length cs < length w.part.streams.items →
+pub left-back : (w : Setting) (cs : List Binding) (ns : List ℕ) (c : Binding) (n : ℕ) → length cs ≡ length ns → length cs < length w.part.streams.items →
     outer w (length w.part.streams.items) [] (cs ++ c ∷ []) (ns ++ n ∷ []) ≡ left w cs ns n false
 unfolding left
 left-back w cs ns c n e l = outer-push w (length w.part.streams.items) [] cs ns c n e l
 
 -- the level is used up
-pub left-past : (w : Setting) (cs : List Chosen) (ns : List ℕ) (n : ℕ) → length cs < length w.part.streams.items → length (candidates w cs) ≤ n →
+pub left-past : (w : Setting) (cs : List Binding) (ns : List ℕ) (n : ℕ) → length cs < length w.part.streams.items → length (candidates w cs) ≤ n →
     left w cs ns n false ≡ outer w (length w.part.streams.items) [] cs ns
 unfolding left
 left-past w cs ns n l past =
@@ -59,7 +59,7 @@ left-past w cs ns n l past =
     ∙ ap (λ fs. fs ++ outer w (length w.part.streams.items) [] cs ns) (walk-past w (length w.part.streams.items - length cs - 1) cs n past)
 
 -- all streams are chosen
-pub left-whole : (w : Setting) (cs : List Chosen) (ns : List ℕ) (n : ℕ) → length cs ≡ length w.part.streams.items →
+pub left-whole : (w : Setting) (cs : List Binding) (ns : List ℕ) (n : ℕ) → length cs ≡ length w.part.streams.items →
     left w cs ns n false ≡ walk w 0 cs ++ outer w (length w.part.streams.items) [] cs ns
 unfolding left walk_from
 left-whole w cs ns n e =
@@ -67,12 +67,12 @@ left-whole w cs ns n e =
     ap (λ m. walk_from w m cs n ++ outer w (length w.part.streams.items) [] cs ns) z
 
 -- nothing was chosen
-pub outer-none : (w : Setting) (m : ℕ) (known : List Chosen) (ns : List ℕ) → outer w m known [] ns ≡ []
+pub outer-none : (w : Setting) (m : ℕ) (known : List Binding) (ns : List ℕ) → outer w m known [] ns ≡ []
 unfolding outer
 outer-none w m known ns = refl
 
 -- an empty cell
-pub left-empty : (w : Setting) (cs : List Chosen) (ns : List ℕ) (n : ℕ) (values : List ℤ) → length cs < length w.part.streams.items →
+pub left-empty : (w : Setting) (cs : List Binding) (ns : List ℕ) (n : ℕ) (values : List ℤ) → length cs < length w.part.streams.items →
     drop n (candidates w cs) ≡ values ∷ drop (n + 1) (candidates w cs) → cell_at w (length cs) values ≡ Empty →
     left w cs ns n false ≡ left w cs ns (n + 1) false
 unfolding left
@@ -85,7 +85,7 @@ left-empty w cs ns n values l d e =
     ∙ ap (λ k. walk_from w k cs (n + 1) ++ outer w N [] cs ns) (sym s)
 
 -- some empty cells
-pub left-skip : (w : Setting) (cs : List Chosen) (ns : List ℕ) (d n : ℕ) → length cs < length w.part.streams.items
+pub left-skip : (w : Setting) (cs : List Binding) (ns : List ℕ) (d n : ℕ) → length cs < length w.part.streams.items
     → ((i : ℕ) → n ≤ i → i < n + d → (i < box_size (narrowed_dims w.pairs w.part w.arriving w.row cs)) × (cell_at w (length cs) (values_at (narrowed_dims w.pairs w.part w.arriving w.row cs) i) ≡ Empty))
     → left w cs ns n false ≡ left w cs ns (n + d) false
 left-skip w cs ns zero n l h = ap (λ m. left w cs ns m false) (let z : n ≡ n + 0 = omega arith in z)
@@ -95,14 +95,14 @@ left-skip w cs ns (suc d) n l h =
     ∙ left-skip w cs ns d (n + 1) l (λ i a b. h i (omega (arith, a)) (omega (arith, b)))
     ∙ ap (λ m. left w cs ns m false) (let z : n + 1 + d ≡ n + suc d = omega arith in z)
 
-entered-some : (values : List ℤ) (known : List Chosen) (go : List Chosen → List Found) (c : Cell) → (c ≡ Empty → ⊥) → entered values known go c ≡ go (known ++ chosen values c ∷ [])
+entered-some : (values : List ℤ) (known : List Binding) (go : List Binding → List Found) (c : Cell) → (c ≡ Empty → ⊥) → entered values known go c ≡ go (known ++ chosen values c ∷ [])
 entered-some values known go Empty h = absurd (h refl)
 entered-some values known go (Count n) h = refl
 entered-some values known go Present h = refl
 entered-some values known go (Extreme v) h = refl
 
 -- a cell with content: one level more
-pub left-enter : (w : Setting) (cs : List Chosen) (ns : List ℕ) (n : ℕ) (values : List ℤ) (cell : Cell) → length cs ≡ length ns → length cs < length w.part.streams.items →
+pub left-enter : (w : Setting) (cs : List Binding) (ns : List ℕ) (n : ℕ) (values : List ℤ) (cell : Cell) → length cs ≡ length ns → length cs < length w.part.streams.items →
     drop n (candidates w cs) ≡ values ∷ drop (n + 1) (candidates w cs) → cell_at w (length cs) values ≡ cell → (cell ≡ Empty → ⊥) →
     left w cs ns n false ≡ left w (cs ++ chosen values cell ∷ []) (ns ++ (n + 1) ∷ []) 0 false
 unfolding left

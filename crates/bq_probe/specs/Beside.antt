@@ -9,7 +9,7 @@ use Rattle.bq_model.specs.declared.cell.Cell.TheVariants.{Empty}
 use Rattle.bq_model.specs.declared.plan.Dim.{Dim}
 use Rattle.bq_model.specs.declared.plan.PartPlan.{PartPlan}
 use Rattle.bq_model.specs.declared.plan.StreamPlan.{StreamPlan}
-use Rattle.bq_synopsis.specs.Narrowing.{cut}
+use Rattle.bq_synopsis.specs.Narrowing.{clip}
 
 -- the last place that a walk over so many streams comes to
 abbrev pub last_beside : ℕ → ℕ → ℕ
@@ -17,7 +17,7 @@ last_beside streams arriving = if arriving == streams - 1 then streams - 2 else 
 
 -- the dims of a place, each with the values that the inequalities with the row's own columns leave
 abbrev pub beside_dims : PartPlan → ℕ → List ℤ → ℕ → List Dim
-beside_dims part arriving row place = map (cut arriving 0 part.less.items (λ a. by_column row a.column)) (dims_at part place)
+beside_dims part arriving row place = map (clip arriving 0 part.less.items (λ a. by_column row a.column)) (dims_at part place)
 
 -- the cells of a place for these values are empty
 abbrev pub IsEmptyBeside : PartPlan → Reading → ℕ → List ℤ → ℕ → Type 0

@@ -11,7 +11,7 @@ use Rattle.bq_model.specs.declared.plan.Dim.{Dim}
 use Rattle.bq_model.specs.declared.plan.PartPlan.{PartPlan}
 use Rattle.bq_model.specs.Plan.{dims_at}
 use Rattle.bq_model.specs.Combinations.{Reading, Found}
-use Rattle.bq_probe.specs.declared.chosen.Chosen.{Chosen}
+use Rattle.bq_probe.specs.declared.binding.Binding.{Binding}
 use Rattle.bq_probe.specs.Values.{value_in, rows_in}
 
 -- a row that arrives at a place of FROM, and the cells that it meets
@@ -28,7 +28,7 @@ abbrev pub setting : List Pair → List Attr → PartPlan → ℕ → List ℤ �
 setting ps select part arriving row read = record { pairs = ps; select = select; part = part; arriving = arriving; row = row; read = read }
 
 -- a cell with the values of its dims
-abbrev pub chosen : List ℤ → Cell → Chosen
+abbrev pub chosen : List ℤ → Cell → Binding
 chosen values cell = record { values = record { items = values }; cell = cell }
 
 -- the dims to choose values of; the arriving row has none
@@ -48,37 +48,37 @@ abbrev pub cell_at : Setting → ℕ → List ℤ → Cell
 cell_at w place values = cell_in w.part w.read w.arriving place values
 
 -- the value of a column in a setting, where cells were chosen at the first places
-abbrev pub value : Setting → List Chosen → Attr → ℤ
+abbrev pub value : Setting → List Binding → Attr → ℤ
 value w known = value_in w.pairs w.part w.arriving w.row known
 
 -- the links of the part hold of the values that were chosen
-unfoldable pub meets_links : List Pair → PartPlan → ℕ → List ℤ → List Chosen → Bool
+unfoldable pub meets_links : List Pair → PartPlan → ℕ → List ℤ → List Binding → Bool
 meets_links ps part arriving row known =
     list_all (λ l. int_eq (value_in ps part arriving row known l.left) (value_in ps part arriving row known l.right)) part.equal.items
     && list_all (λ l. int_lt (value_in ps part arriving row known l.left) (value_in ps part arriving row known l.right)) part.less.items
 
 -- the links hold in a setting
-abbrev pub meets : Setting → List Chosen → Bool
+abbrev pub meets : Setting → List Binding → Bool
 meets w known = meets_links w.pairs w.part w.arriving w.row known
 
 -- the values of the selected columns
-unfoldable pub tuple_of : List Pair → List Attr → PartPlan → ℕ → List ℤ → List Chosen → List ℤ
+unfoldable pub tuple_of : List Pair → List Attr → PartPlan → ℕ → List ℤ → List Binding → List ℤ
 tuple_of ps select part arriving row known = map (value_in ps part arriving row known) select
 
 -- the selected values in a setting
-abbrev pub tuple : Setting → List Chosen → List ℤ
+abbrev pub tuple : Setting → List Binding → List ℤ
 tuple w known = tuple_of w.pairs w.select w.part w.arriving w.row known
 
 -- for how many combinations of rows the chosen cells stand
-abbrev pub product_of : List Chosen → ℕ
+abbrev pub product_of : List Binding → ℕ
 product_of [] = 1
 product_of (c ∷ cs) = rows_in c.cell * product_of cs
 
 -- what a whole combination answers
-abbrev pub found : Setting → List Chosen → Found
+abbrev pub found : Setting → List Binding → Found
 found w known = record { tuple = tuple w known; count = product_of known }
 
 -- what a walk has chosen where it comes to its first cell: the arriving row, if that is of the first stream
-abbrev pub start : ℕ → List Chosen
+abbrev pub start : ℕ → List Binding
 start zero = chosen [] Present ∷ []
 start (suc arriving) = []

@@ -7,7 +7,7 @@ use Rattle.bq_model.specs.declared.plan.Dim.{Dim}
 use Rattle.bq_model.specs.declared.plan.PartPlan.{PartPlan}
 use Rattle.bq_model.specs.Boxes.{box_size}
 use Rattle.bq_model.specs.Combinations.{Reading, Found}
-use Rattle.bq_probe.specs.declared.chosen.Chosen.{Chosen}
+use Rattle.bq_probe.specs.declared.binding.Binding.{Binding}
 use Rattle.bq_probe.specs.declared.probe.Probe.{Probe}
 use Rattle.bq_synopsis.specs.Preparing.{IsPrepared}
 use Rattle.bq_probe.specs.Values.{rows_in}
@@ -37,7 +37,7 @@ abbrev pub limit : ℕ → ℕ → ℕ
 limit arriving place = if place == arriving then 1 else 2 ^ 40
 
 -- no chosen cell counts more than that
-abbrev pub AreLight : ℕ → ℕ → List Chosen → Type 0
+abbrev pub AreLight : ℕ → ℕ → List Binding → Type 0
 AreLight arriving place [] = Unit {0}
 AreLight arriving place (c ∷ cs) = (rows_in c.cell ≤ limit arriving place) × AreLight arriving (place + 1) cs
 
@@ -46,7 +46,7 @@ abbrev pub as_found : List ℤ → ℕ → Found
 as_found values n = record { tuple = values; count = n }
 
 -- the number of combinations of values to try at each level that was entered
-abbrev pub AreSizes : List Pair → PartPlan → ℕ → List ℤ → List Chosen → List Chosen → List ℕ → Type 0
+abbrev pub AreSizes : List Pair → PartPlan → ℕ → List ℤ → List Binding → List Binding → List ℕ → Type 0
 AreSizes ps part arriving row known [] [] = Unit {0}
 AreSizes ps part arriving row known [] (n ∷ ns) = ⊥
 AreSizes ps part arriving row known (c ∷ cs) [] = ⊥
@@ -57,7 +57,7 @@ abbrev pub dims_now : PartPlan → Probe → List Dim
 dims_now part p = narrowed_dims p.pairs.now.items part p.arriving p.row.now.items p.room.now.chosen.items
 
 -- what the room tells after these choices: the dims to try, and the line of their cells
-abbrev pub TellsOf : PartPlan → Probe → List Chosen → Type 0
+abbrev pub TellsOf : PartPlan → Probe → List Binding → Type 0
 TellsOf part p known =
     (p.room.now.dims.items ≡ narrowed_dims p.pairs.now.items part p.arriving p.row.now.items known)
     × StandOn part p.arriving (length known) (narrowed_dims p.pairs.now.items part p.arriving p.row.now.items known) p.room.now.line
@@ -96,7 +96,7 @@ pub record IsSameWalk (p r : Probe) : Type 0 where
 -- one level less, or the end; where it went back, the size of the level is that which was kept
 pub data WentBack : Probe → Probe → Type 0 where
   ended : {p r : Probe} → p.room.now.chosen.items ≡ [] → p.room.now.numbers.items ≡ [] → r.room.now.chosen.items ≡ [] → r.room.now.numbers.items ≡ [] → r.over ≡ true → r.arriving ≡ p.arriving → r.row ≡ p.row → r.pairs ≡ p.pairs → r.prepared ≡ p.prepared → r.room.now.sizes.items ≡ [] → IsSameSight p r → WentBack p r
-  popped : {p r : Probe} (c : Chosen) (n z : ℕ) → p.room.now.chosen.items ≡ r.room.now.chosen.items ++ c ∷ [] → p.room.now.numbers.items ≡ r.room.now.numbers.items ++ n ∷ [] → r.next ≡ n → r.over ≡ p.over → r.arriving ≡ p.arriving → r.row ≡ p.row → r.pairs ≡ p.pairs → r.prepared ≡ p.prepared → p.room.now.sizes.items ≡ r.room.now.sizes.items ++ z ∷ [] → r.size ≡ z → IsSameSight p r → WentBack p r
+  popped : {p r : Probe} (c : Binding) (n z : ℕ) → p.room.now.chosen.items ≡ r.room.now.chosen.items ++ c ∷ [] → p.room.now.numbers.items ≡ r.room.now.numbers.items ++ n ∷ [] → r.next ≡ n → r.over ≡ p.over → r.arriving ≡ p.arriving → r.row ≡ p.row → r.pairs ≡ p.pairs → r.prepared ≡ p.prepared → p.room.now.sizes.items ≡ r.room.now.sizes.items ++ z ∷ [] → r.size ≡ z → IsSameSight p r → WentBack p r
 
 -- the same walk, which sees the values to try at its level
 pub record HasOpened (part : PartPlan) (p r : Probe) : Type 0 where

@@ -9,7 +9,7 @@ use Rattle.bq_model.specs.declared.plan.Dim.{Dim}
 use Rattle.bq_model.specs.declared.plan.PartPlan.{PartPlan}
 use Rattle.bq_model.specs.Meaning.{by_column}
 use Rattle.bq_model.specs.Plan.{dims_at}
-use Rattle.bq_probe.specs.declared.chosen.Chosen.{Chosen}
+use Rattle.bq_probe.specs.declared.binding.Binding.{Binding}
 use Rattle.bq_synopsis.specs.Classes.{are_tied}
 
 -- the value of a column where the dims have these values: that of its class, or the extreme z where no dim is of its class
@@ -38,11 +38,11 @@ rows_in Present = 1
 rows_in (Extreme z) = 1
 
 -- the value of a column in the cell that was chosen for its stream, 0 where none was
-abbrev pub chosen_value : List Pair → PartPlan → Attr → Option Chosen → ℤ
+abbrev pub chosen_value : List Pair → PartPlan → Attr → Option Binding → ℤ
 chosen_value ps part a None = pos 0
 chosen_value ps part a (Some c) = valued ps part.signs.items (dims_at part a.stream) c.values.items (extreme_of c.cell) a
 
 -- the value of a column for a walk that has chosen at some places: the arriving row's own, or that of the chosen cell
-unfoldable pub value_in : List Pair → PartPlan → ℕ → List ℤ → List Chosen → Attr → ℤ
+unfoldable pub value_in : List Pair → PartPlan → ℕ → List ℤ → List Binding → Attr → ℤ
 value_in ps part arriving row known a =
     if a.stream == arriving then by_column row a.column else chosen_value ps part a (slice_get known a.stream)

@@ -6,7 +6,7 @@ ghost use Rattle.bq_model.specs.Plan.{stream_at};
 ghost use Rattle.bq_pool.specs.Extents.{cells_of, IsLive};
 ghost use Rattle.bq_probe.specs.Beside.{last_beside, beside_dims, IsEmptyBeside, IsInnerBox, IsEmptyIn};
 ghost use Rattle.bq_synopsis.specs.Premises.{IsLaidOut};
-ghost use Rattle.bq_synopsis.specs.Narrowing.{cut_by, cut};
+ghost use Rattle.bq_synopsis.specs.Narrowing.{clip_by, clip};
 
 use crate::lines::line_of;
 use crate::lists::Dims;
@@ -16,8 +16,8 @@ use bq_pool::{Extent, Pool};
 use bq_synopsis::{column_of, dims_at, is_known, is_same, stream_at};
 
 // The dim with the values that an inequality with a column of the row leaves.
-fn cut_by(arriving: u8, row: &[i64], link: Link, dim: Dim) -> Dim
-    ensures { result ≡ cut_by arriving 0 link (λ a. by_column row.now a.column) dim }
+fn clip_by(arriving: u8, row: &[i64], link: Link, dim: Dim) -> Dim
+    ensures { result ≡ clip_by arriving 0 link (λ a. by_column row.now a.column) dim }
 {
     if is_same(link.left, dim.attr) && is_known(arriving, 0, link.right) {
         return below(dim, column_of(row, link.right));
@@ -29,12 +29,12 @@ fn cut_by(arriving: u8, row: &[i64], link: Link, dim: Dim) -> Dim
 }
 
 // The dim with the values that the inequalities with columns of the row leave.
-fn cut(arriving: u8, row: &[i64], links: &[Link], dim: Dim) -> Dim
-    ensures { result ≡ cut arriving 0 links.now (λ a. by_column row.now a.column) dim }
+fn clip(arriving: u8, row: &[i64], links: &[Link], dim: Dim) -> Dim
+    ensures { result ≡ clip arriving 0 links.now (λ a. by_column row.now a.column) dim }
 {
     let mut left = dim;
     'links: for link in links {
-        left = cut_by(arriving, row, *link, left);
+        left = clip_by(arriving, row, *link, left);
     }
     left
 }
@@ -45,7 +45,7 @@ fn beside_dims(part: &PartPlan, arriving: u8, row: &[i64], place: usize, dims: &
 {
     dims.clear();
     'dims: for dim in dims_at(part, place) {
-        dims.push(cut(arriving, row, part.less.as_slice(), *dim));
+        dims.push(clip(arriving, row, part.less.as_slice(), *dim));
     }
 }
 

@@ -11,14 +11,14 @@ ghost use Rattle.bq_probe.specs.Values.{value_in};
 ghost use Rattle.bq_synopsis.specs.Narrowing.{narrow, narrowed_to};
 ghost use Rattle.bq_probe.specs.Walk.{narrowed_dims};
 
-use crate::chosen::Chosen;
+use crate::binding::Binding;
 use crate::combination::dim_size;
 use crate::lines::offset_of;
 use crate::lists::Dims;
 use crate::part::RowAt;
 use crate::values::value_in;
 use bq_model::Dim;
-use bq_synopsis::{KeyColumn, LookupKey, column_of, is_whole, stream_at, witness};
+use bq_synopsis::{KeyColumn, LookupKey, binding_column, column_of, is_whole, stream_at};
 
 // The dim with one value alone, if that is in its range.
 fn pinned(dim: Dim, value: i64) -> Option<Dim>
@@ -38,11 +38,12 @@ fn pinned(dim: Dim, value: i64) -> Option<Dim>
 }
 
 // The dim with the one value that a known column leaves it, if one does.
-fn fixed_dim(at: &RowAt<'_>, known: &[Chosen], dim: Dim) -> Option<Dim>
+fn fixed_dim(at: &RowAt<'_>, known: &[Binding], dim: Dim) -> Option<Dim>
     requires { IsPrepared at.now.pairs.now at.now.part.now at.now.prepared.now }
     ensures { IfSome result (λ fixed. IsFixed dim (narrow at.now.arriving (length known.now) at.now.part.now.equal.items at.now.part.now.less.items (value_in at.now.pairs.now at.now.part.now at.now.arriving at.now.row.now known.now) dim) fixed) }
 {
-    let Some(column) = witness(at.arriving, known.len(), dim.attr, at.part.equal.as_slice()) else {
+    let Some(column) = binding_column(at.arriving, known.len(), dim.attr, at.part.equal.as_slice())
+    else {
         return None;
     };
     let value = value_in(at, known, column);
@@ -54,7 +55,7 @@ fn fixed_dim(at: &RowAt<'_>, known: &[Chosen], dim: Dim) -> Option<Dim>
 
 /// Puts into `dims` the dims of the next stream, where known columns leave each of them one value, and tells the number of
 /// the cell for these values.
-pub fn fixed_dims(at: &RowAt<'_>, known: &[Chosen], dims: &mut Dims) -> Option<u32>
+pub fn fixed_dims(at: &RowAt<'_>, known: &[Binding], dims: &mut Dims) -> Option<u32>
     requires here { length known.now < length at.now.part.now.streams.items }
     requires other { length known.now ≢ at.now.arriving }
     requires prepared { IsPrepared at.now.pairs.now at.now.part.now at.now.prepared.now }
@@ -75,7 +76,7 @@ pub fn fixed_dims(at: &RowAt<'_>, known: &[Chosen], dims: &mut Dims) -> Option<u
 }
 
 // The dim with the one value that the arriving row's own column leaves it, if that is in its range.
-fn pinned_dim(at: &RowAt<'_>, known: &[Chosen], key_column: KeyColumn) -> Option<Dim>
+fn pinned_dim(at: &RowAt<'_>, known: &[Binding], key_column: KeyColumn) -> Option<Dim>
     requires { IsKeyColumn at.now.part.now at.now.arriving (length known.now) key_column }
     ensures { IfSome result (λ fixed. IsFixed key_column.dim (narrow at.now.arriving (length known.now) at.now.part.now.equal.items at.now.part.now.less.items (value_in at.now.pairs.now at.now.part.now at.now.arriving at.now.row.now known.now) key_column.dim) fixed) }
 {
@@ -88,7 +89,12 @@ fn pinned_dim(at: &RowAt<'_>, known: &[Chosen], key_column: KeyColumn) -> Option
 }
 
 // The same as the search, where the columns are listed.
-fn listed_dims(at: &RowAt<'_>, known: &[Chosen], listed: &LookupKey, dims: &mut Dims) -> Option<u32>
+fn listed_dims(
+    at: &RowAt<'_>,
+    known: &[Binding],
+    listed: &LookupKey,
+    dims: &mut Dims,
+) -> Option<u32>
     requires other { length known.now ≢ at.now.arriving }
     requires place { listed.now.place ≡ length known.now }
     requires pinned { IsPinned at.now.part.now at.now.arriving listed.now }
@@ -109,7 +115,7 @@ fn listed_dims(at: &RowAt<'_>, known: &[Chosen], listed: &LookupKey, dims: &mut 
 
 /// Puts into `dims` the dims of the next stream, where it is listed that the arriving row's own columns leave each of them
 /// one value, and tells the number of the cell for these values.
-pub fn pinned_dims(at: &RowAt<'_>, known: &[Chosen], dims: &mut Dims) -> Option<u32>
+pub fn pinned_dims(at: &RowAt<'_>, known: &[Binding], dims: &mut Dims) -> Option<u32>
     requires other { length known.now ≢ at.now.arriving }
     requires prepared { IsPrepared at.now.pairs.now at.now.part.now at.now.prepared.now }
     requires laid { IsLaidOut (stream_at at.now.part.now (length known.now)) (2 ^ 32) }
@@ -123,7 +129,7 @@ pub fn pinned_dims(at: &RowAt<'_>, known: &[Chosen], dims: &mut Dims) -> Option<
 
 /// Puts into `dims` the dims of the next stream, where it is listed that all their values are left and there is one
 /// combination of them, and tells the number of the cell for it.
-pub fn single_dims(at: &RowAt<'_>, known: &[Chosen], dims: &mut Dims) -> Option<u32>
+pub fn single_dims(at: &RowAt<'_>, known: &[Binding], dims: &mut Dims) -> Option<u32>
     requires here { length known.now < length at.now.part.now.streams.items }
     requires other { length known.now ≢ at.now.arriving }
     requires prepared { IsPrepared at.now.pairs.now at.now.part.now at.now.prepared.now }

@@ -9,7 +9,7 @@
 #![tactic(auto)]
 
 mod beside;
-mod chosen;
+mod binding;
 mod combination;
 mod fixed;
 mod lines;
@@ -19,11 +19,11 @@ mod narrow;
 mod nothing;
 mod part;
 mod probe;
-mod room;
+mod scratch;
 mod stack;
 mod values;
 
 pub use nothing::sees_nothing;
 pub use part::PartAt;
 pub use probe::Probe;
-pub use room::Room;
+pub use scratch::ProbeScratch;

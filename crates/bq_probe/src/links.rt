@@ -6,13 +6,13 @@ ghost use Rattle.bq_synopsis.specs.Preparing.{IsPrepared};
 ghost use Rattle.bq_probe.specs.Values.{value_in};
 ghost use Rattle.bq_probe.specs.Choosing.{meets_links, tuple_of};
 
-use crate::chosen::Chosen;
+use crate::binding::Binding;
 use crate::part::RowAt;
 use crate::values::value_in;
 use bq_model::{Attr, Link, Tuple};
 
 // Whether the two sides of each link are equal.
-fn all_equal(at: &RowAt<'_>, known: &[Chosen], links: &[Link]) -> bool
+fn all_equal(at: &RowAt<'_>, known: &[Binding], links: &[Link]) -> bool
     requires prepared { IsPrepared at.now.pairs.now at.now.part.now at.now.prepared.now }
     ensures { result ≡ list_all (λ l. int_eq (value_in at.now.pairs.now at.now.part.now at.now.arriving at.now.row.now known.now l.left) (value_in at.now.pairs.now at.now.part.now at.now.arriving at.now.row.now known.now l.right)) links.now }
 {
@@ -27,7 +27,7 @@ fn all_equal(at: &RowAt<'_>, known: &[Chosen], links: &[Link]) -> bool
 }
 
 // Whether the left side of each link is less.
-fn all_less(at: &RowAt<'_>, known: &[Chosen], links: &[Link]) -> bool
+fn all_less(at: &RowAt<'_>, known: &[Binding], links: &[Link]) -> bool
     requires prepared { IsPrepared at.now.pairs.now at.now.part.now at.now.prepared.now }
     ensures { result ≡ list_all (λ l. int_lt (value_in at.now.pairs.now at.now.part.now at.now.arriving at.now.row.now known.now l.left) (value_in at.now.pairs.now at.now.part.now at.now.arriving at.now.row.now known.now l.right)) links.now }
 {
@@ -43,7 +43,7 @@ fn all_less(at: &RowAt<'_>, known: &[Chosen], links: &[Link]) -> bool
 
 /// Returns whether all links of the part hold.
 #[tactic(auto, unfolding(crate::specs::Choosing::meets_links))]
-pub fn meets_links(at: &RowAt<'_>, known: &[Chosen]) -> bool
+pub fn meets_links(at: &RowAt<'_>, known: &[Binding]) -> bool
     requires prepared { IsPrepared at.now.pairs.now at.now.part.now at.now.prepared.now }
     ensures { result ≡ meets_links at.now.pairs.now at.now.part.now at.now.arriving at.now.row.now known.now }
 {
@@ -52,7 +52,7 @@ pub fn meets_links(at: &RowAt<'_>, known: &[Chosen]) -> bool
 
 /// Puts the values of the selected columns into `tuple`.
 #[tactic(auto, unfolding(crate::specs::Choosing::tuple_of))]
-pub fn tuple_of(at: &RowAt<'_>, known: &[Chosen], select: &[Attr], tuple: &mut Tuple)
+pub fn tuple_of(at: &RowAt<'_>, known: &[Binding], select: &[Attr], tuple: &mut Tuple)
     requires few { length select.now ≤ 8 }
     requires prepared { IsPrepared at.now.pairs.now at.now.part.now at.now.prepared.now }
     ensures { tuple.new.items ≡ tuple_of at.now.pairs.now select.now at.now.part.now at.now.arriving at.now.row.now known.now }

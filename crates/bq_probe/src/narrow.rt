@@ -3,15 +3,15 @@ ghost use Rattle.std.specs.Prelude.{◌≡◌, ◌<◌, length};
 ghost use Rattle.bq_model.specs.Probing.{is_known};
 ghost use Rattle.bq_synopsis.specs.Preparing.{IsPrepared};
 ghost use Rattle.bq_probe.specs.Values.{value_in};
-ghost use Rattle.bq_synopsis.specs.Narrowing.{witness, narrowed_to, below, above, cut_by, cut, narrow};
+ghost use Rattle.bq_synopsis.specs.Narrowing.{binding_column, narrowed_to, below, above, clip_by, clip, narrow};
 ghost use Rattle.bq_probe.specs.Walk.{narrowed_dims};
 
-use crate::chosen::Chosen;
+use crate::binding::Binding;
 use crate::lists::Dims;
 use crate::part::RowAt;
 use crate::values::value_in;
 use bq_model::{Dim, Link};
-use bq_synopsis::{is_known, is_same, witness};
+use bq_synopsis::{binding_column, is_known, is_same};
 
 // The dim with one value alone, or with none where the value is outside its range.
 fn narrowed_to(dim: Dim, value: i64) -> Dim
@@ -79,9 +79,9 @@ pub fn above(dim: Dim, value: i64) -> Dim
 }
 
 // The dim with the values that an inequality with a known column leaves.
-fn cut_by(at: &RowAt<'_>, known: &[Chosen], link: Link, dim: Dim) -> Dim
+fn clip_by(at: &RowAt<'_>, known: &[Binding], link: Link, dim: Dim) -> Dim
     requires { IsPrepared at.now.pairs.now at.now.part.now at.now.prepared.now }
-    ensures { result ≡ cut_by at.now.arriving (length known.now) link (value_in at.now.pairs.now at.now.part.now at.now.arriving at.now.row.now known.now) dim }
+    ensures { result ≡ clip_by at.now.arriving (length known.now) link (value_in at.now.pairs.now at.now.part.now at.now.arriving at.now.row.now known.now) dim }
 {
     if is_same(link.left, dim.attr) && is_known(at.arriving, known.len(), link.right) {
         return below(dim, value_in(at, known, link.right));
@@ -93,32 +93,32 @@ fn cut_by(at: &RowAt<'_>, known: &[Chosen], link: Link, dim: Dim) -> Dim
 }
 
 // The dim with the values that the inequalities with known columns leave.
-fn cut(at: &RowAt<'_>, known: &[Chosen], dim: Dim) -> Dim
+fn clip(at: &RowAt<'_>, known: &[Binding], dim: Dim) -> Dim
     requires { IsPrepared at.now.pairs.now at.now.part.now at.now.prepared.now }
-    ensures { result ≡ cut at.now.arriving (length known.now) at.now.part.now.less.items (value_in at.now.pairs.now at.now.part.now at.now.arriving at.now.row.now known.now) dim }
+    ensures { result ≡ clip at.now.arriving (length known.now) at.now.part.now.less.items (value_in at.now.pairs.now at.now.part.now at.now.arriving at.now.row.now known.now) dim }
 {
     let mut left = dim;
     'links: for link in at.part.less.as_slice() {
-        left = cut_by(at, known, *link, left);
+        left = clip_by(at, known, *link, left);
     }
     left
 }
 
 // The dim with the values that the links leave.
 #[tactic(auto, unfolding(bq_synopsis::specs::Narrowing::narrow))]
-fn narrow(at: &RowAt<'_>, known: &[Chosen], dim: Dim) -> Dim
+fn narrow(at: &RowAt<'_>, known: &[Binding], dim: Dim) -> Dim
     requires { IsPrepared at.now.pairs.now at.now.part.now at.now.prepared.now }
     ensures { result ≡ narrow at.now.arriving (length known.now) at.now.part.now.equal.items at.now.part.now.less.items (value_in at.now.pairs.now at.now.part.now at.now.arriving at.now.row.now known.now) dim }
 {
-    match witness(at.arriving, known.len(), dim.attr, at.part.equal.as_slice()) {
+    match binding_column(at.arriving, known.len(), dim.attr, at.part.equal.as_slice()) {
         Some(a) => narrowed_to(dim, value_in(at, known, a)),
-        None => cut(at, known, dim),
+        None => clip(at, known, dim),
     }
 }
 
 /// Puts into `dims` the dims of the next stream, each with the values that the links leave.
 #[tactic(auto, unfolding(crate::specs::Walk::narrowed_dims, crate::specs::Choosing::dims_in))]
-pub fn narrowed_dims(at: &RowAt<'_>, known: &[Chosen], dims: &mut Dims)
+pub fn narrowed_dims(at: &RowAt<'_>, known: &[Binding], dims: &mut Dims)
     requires here { length known.now < length at.now.part.now.streams.items }
     requires prepared { IsPrepared at.now.pairs.now at.now.part.now at.now.prepared.now }
     ensures { dims.new.items ≡ narrowed_dims at.now.pairs.now at.now.part.now at.now.arriving at.now.row.now known.now }

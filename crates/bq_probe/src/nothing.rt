@@ -11,7 +11,7 @@ ghost use Rattle.bq_synopsis.specs.Preparing.{IsPrepared};
 
 use crate::lines::is_empty;
 use crate::part::{PartAt, RowAt};
-use crate::room::Room;
+use crate::scratch::ProbeScratch;
 use bq_pool::{Pool, Steps};
 use bq_synopsis::Admitted;
 use std::sync::ledger::Ledger;
@@ -23,7 +23,7 @@ pub fn sees_nothing<L: Ledger>(
     pool: &Pool,
     part: &PartAt<'_>,
     at: &Admitted<'_>,
-    room: &mut Room,
+    room: &mut ProbeScratch,
     steps: &mut Steps<L>,
 ) -> bool
     requires here { at.now.pos < length part.now.q.now.from }

@@ -18,12 +18,12 @@ ghost use Rattle.bq_probe.specs.Values.{rows_in};
 ghost use Rattle.bq_synopsis.specs.Premises.{IsWalked, IsReady, IsLaidOut, AreFitting};
 ghost use Rattle.bq_probe.specs.Remaining.{left_of, outer_of, reads_left, turns_left, limit, IsPlaced, IsUnderway, IsSameWalk, WentBack, HasOpened, HasEntered, dims_now, as_found};
 
-use crate::chosen::Chosen;
+use crate::binding::Binding;
 use crate::combination::values_of;
 use crate::lines::is_empty;
 use crate::links::{meets_links, tuple_of};
 use crate::part::RowAt;
-use crate::room::Room;
+use crate::scratch::ProbeScratch;
 use crate::values::rows_in;
 use arrayvec::ArrayVec;
 use bq_model::{Cell, Pair, PartPlan, Query, Row, Tuple, cell_index};
@@ -41,7 +41,7 @@ pub struct Probe<'a> {
     row: &'a Row,
     pairs: &'a ArrayVec<Pair, 114>,
     prepared: &'a Prepared,
-    room: &'a mut Room,
+    room: &'a mut ProbeScratch,
     level: usize,
     next: u32,
     size: u32,
@@ -74,7 +74,7 @@ fn content<L: Ledger>(
 }
 
 // For how many combinations of rows the chosen cells stand.
-fn product_of(chosen: &[Chosen]) -> u128
+fn product_of(chosen: &[Binding]) -> u128
     requires { (k : ℕ) → product_of (take k chosen.now) ≤ 2 ^ 120 }
     ensures { result ≡ product_of chosen.now }
 {
@@ -86,7 +86,7 @@ fn product_of(chosen: &[Chosen]) -> u128
 }
 
 // The answer of a whole combination, where it meets the links: its tuple, and how often it is given.
-fn answer(q: &Query, at: &RowAt<'_>, chosen: &[Chosen], tuple: &mut Tuple) -> Option<u128>
+fn answer(q: &Query, at: &RowAt<'_>, chosen: &[Binding], tuple: &mut Tuple) -> Option<u128>
     requires prepared { IsPrepared at.now.pairs.now at.now.part.now at.now.prepared.now }
     requires light { (k : ℕ) → product_of (take k chosen.now) ≤ 2 ^ 120 }
     ensures { MatchOption result (meets_links at.now.pairs.now at.now.part.now at.now.arriving at.now.row.now chosen.now ≡ false) (λ count. (meets_links at.now.pairs.now at.now.part.now at.now.arriving at.now.row.now chosen.now ≡ true) × (tuple.new.items ≡ tuple_of at.now.pairs.now q.now.select at.now.part.now at.now.arriving at.now.row.now chosen.now) × (count ≡ product_of chosen.now)) }
@@ -109,7 +109,7 @@ impl<'a> Probe<'a> {
         prepared: &'a Prepared,
         pos: u8,
         row: &'a Row,
-        room: &'a mut Room,
+        room: &'a mut ProbeScratch,
     ) -> Probe<'a>
         requires here { pos < length q.now.from }
         requires walked { IsWalked q.now part.now }

@@ -4,24 +4,24 @@ ghost use Rattle.bq_model.specs.Boxes.{box_size, values_at, AreNumbered};
 ghost use Rattle.bq_model.specs.declared.cell.Cell.TheVariants.{Present};
 ghost use Rattle.bq_probe.specs.Choosing.{chosen};
 
-use crate::chosen::Chosen;
+use crate::binding::Binding;
 use crate::combination::values_into;
 use bq_model::{Cell, Dim};
 use std::marker::Model;
 
 /// The cells that a walk has chosen at the first places of FROM. A clause sees their list.
 #[derive(Drop, Default)]
-pub struct Choices {
-    entries: [Chosen; 4],
+pub struct Bindings {
+    entries: [Binding; 4],
     depth: usize,
 }
 
-impl Model for Choices {
+impl Model for Bindings {
     ghost use Rattle.std.specs.Prelude.{take, ◌≤◌};
     ghost use Rattle.arrayvec.specs.ArrayVec.{ArrayVec};
-    ghost use Rattle.bq_probe.specs.declared.chosen.Chosen.{Chosen};
+    ghost use Rattle.bq_probe.specs.declared.binding.Binding.{Binding};
 
-    ghost Value = { ArrayVec Chosen };
+    ghost Value = { ArrayVec Binding };
 
     ghost view = { λ choices. record { items = take choices.depth choices.entries } };
 
@@ -29,7 +29,7 @@ impl Model for Choices {
 }
 
 // Puts the combination of values at a place, and a cell, into an entry.
-fn put(entry: &mut Chosen, dims: &[Dim], combinations: u32, place: u32, cell: Cell)
+fn put(entry: &mut Binding, dims: &[Dim], combinations: u32, place: u32, cell: Cell)
     requires few { length dims.now ≤ 8 }
     requires sound { AreNumbered dims.now }
     requires size { combinations ≡ box_size dims.now }
@@ -41,14 +41,14 @@ fn put(entry: &mut Chosen, dims: &[Dim], combinations: u32, place: u32, cell: Ce
 }
 
 // Puts the arriving row into an entry: no values, and what stands for itself.
-fn put_own(entry: &mut Chosen)
+fn put_own(entry: &mut Binding)
     ensures { entry.new ≡ chosen [] Present }
 {
     entry.values.clear();
     entry.cell = Cell::Present;
 }
 
-impl Choices {
+impl Bindings {
     /// Returns how many there are.
     pub fn len(&self) -> usize
         ensures value { result ≡ length self.now.items }
@@ -58,7 +58,7 @@ impl Choices {
     }
 
     /// Returns the choices.
-    pub fn as_slice(&self) -> &[Chosen]
+    pub fn as_slice(&self) -> &[Binding]
         ensures value { result.now ≡ self.now.items }
         ensures fits { length result.now ≤ 4 }
     {

@@ -2,10 +2,10 @@
 ghost use Rattle.std.specs.Prelude.{◌≡◌};
 ghost use Rattle.bq_probe.specs.Values.{value_or, extreme_of, rows_in, chosen_value, value_in};
 ghost use Rattle.bq_synopsis.specs.Preparing.{IsPrepared};
-ghost use Rattle.bq_probe.specs.declared.chosen.Chosen.{Chosen};
+ghost use Rattle.bq_probe.specs.declared.binding.Binding.{Binding};
 ghost use Rattle.std.specs.declared.option.Option.TheVariants.{Some};
 
-use crate::chosen::Chosen;
+use crate::binding::Binding;
 use crate::part::RowAt;
 use bq_model::{Attr, Cell, Pair, PartPlan};
 use bq_synopsis::{Prepared, class_of, column_of};
@@ -48,7 +48,7 @@ fn chosen_value(
     part: &PartPlan,
     prepared: &Prepared,
     a: Attr,
-    chosen: &Chosen,
+    chosen: &Binding,
 ) -> i64
     requires { IsPrepared pairs.now part.now prepared.now }
     ensures { result ≡ chosen_value pairs.now part.now a (Some chosen.now) }
@@ -59,7 +59,7 @@ fn chosen_value(
 
 /// Returns the value of a column, where cells were chosen at the first places of FROM.
 #[tactic(auto, unfolding(crate::specs::Values::value_in))]
-pub fn value_in(at: &RowAt<'_>, known: &[Chosen], a: Attr) -> i64
+pub fn value_in(at: &RowAt<'_>, known: &[Binding], a: Attr) -> i64
     requires { IsPrepared at.now.pairs.now at.now.part.now at.now.prepared.now }
     ensures { result ≡ value_in at.now.pairs.now at.now.part.now at.now.arriving at.now.row.now known.now a }
 {

@@ -17,7 +17,7 @@ use Rattle.bq_model.specs.Order.{IsBounded}
 use Rattle.bq_model.specs.Links.{IsEquality, IsInequality, IsRedundant, between, equal_left, equal_right, IsMinRef, IsMaxRef}
 use Rattle.bq_model.specs.Plan.{link, link_lt}
 use Rattle.bq_refs.specs.declared.range.Range.{Range}
-use Rattle.bq_refs.specs.declared.told.Refs.{Refs}
+use Rattle.bq_refs.specs.declared.types.Refs.{Refs}
 use Rattle.bq_refs.specs.Redundant.{LiesBetween, Parts, middle, left, right}
 use Rattle.bq_refs.specs.Sifting.{Sifts, links_among, IsAcross, AreLinksAcross, IsOrderedEquality, IsOrderedInequality, AreInequalities}
 use Rattle.bq_refs.specs.Refs.{IsRange, IsClassPlace, AreRefs}

@@ -8,7 +8,7 @@ use Rattle.bq_model.specs.Order.{IsBounded, IsLeast, IsGreatest}
 use Rattle.bq_model.specs.Links.{IsEquality, IsInequality, IsMinRef, IsMaxRef}
 use Rattle.bq_model.specs.Plan.{AreOneClass, NamesClass, link, link_lt}
 use Rattle.bq_refs.specs.declared.range.Range.{Range}
-use Rattle.bq_refs.specs.declared.told.Refs.{Refs}
+use Rattle.bq_refs.specs.declared.types.Refs.{Refs}
 
 -- the least and the greatest value of an attribute, or none where it is not bounded
 abbrev pub IsRange : QueryValue → List Sign → Attr → Option Range → Type 0

@@ -13,9 +13,9 @@ mod placed;
 mod range;
 mod reading;
 mod redundant;
-mod told;
+mod types;
 
 pub use known::{Basis, bounds_of};
 pub use range::Range;
 pub use reading::refs;
-pub use told::Refs;
+pub use types::Refs;

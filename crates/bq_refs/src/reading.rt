@@ -13,7 +13,7 @@ use crate::classes::classes;
 use crate::known::{Basis, set_distances};
 use crate::links::{equalities, inequalities};
 use crate::range::{Range, range_at};
-use crate::told::Refs;
+use crate::types::Refs;
 use arrayvec::ArrayVec;
 use bq_closure::Distances;
 use bq_model::{Attr, Link, Part, Query};

@@ -13,12 +13,12 @@ ghost use Rattle.bq_registry.specs.Live.{Live, LiveQuery, boxes_of, with_row, wi
 ghost use Rattle.bq_registry.specs.Loaded.{LoadsAt};
 ghost use Rattle.bq_registry.specs.Registry.{IsSound, KeepQueries, waiting_text, most_cells, most_reads, most_writes};
 
-use crate::admission::{Planned, admit, drop_at};
 use crate::concerned::{Concerned, all_of};
 use crate::loading;
 use crate::queries::Queries;
 use crate::refusal::CreateError;
-use crate::taking::take_all;
+use crate::register::{Planned, admit, drop_at};
+use crate::taking::apply_to_all;
 use crate::verdict::{Verdict, judge};
 use crate::writing::write_all;
 use bq_executor::Executor;
@@ -216,7 +216,7 @@ impl Registry {
     {
         self.concerned.list(&self.live);
         let word = self.concerned.of(stream, row, self.live.len()) | self.waiting;
-        self.waiting = take_all(&mut self.pool, &mut self.live, word, stream, row, steps);
+        self.waiting = apply_to_all(&mut self.pool, &mut self.live, word, stream, row, steps);
     }
 
     /// Writes what waits, query by query in order of creation. Afterwards nothing waits, on a fault too, and the registry stands

@@ -13,10 +13,10 @@ use Rattle.bq_model.specs.Query.{QueryValue}
 use Rattle.bq_model.specs.Verdict.{Verdict}
 use Rattle.bq_model.specs.Verdict as verdicts
 use Rattle.bq_parser.specs.Naming.{column_text}
-use Rattle.bq_reply.specs.declared.word.Word.{Word}
-use Rattle.bq_reply.specs.declared.word.Word.TheVariants.{LineTooLong, Syntax, Limit, Duplicate, TooMany, UnknownStream, UnknownColumn, SelfJoin, UnknownQuery, Late, Arity, Value, Domain, RowLimit}
+use Rattle.bq_reply.specs.declared.refusal.Refusal.{Refusal}
+use Rattle.bq_reply.specs.declared.refusal.Refusal.TheVariants.{LineTooLong, Syntax, Limit, Duplicate, TooMany, UnknownStream, UnknownColumn, SelfJoin, UnknownQuery, Late, Arity, Value, Domain, RowLimit}
 
-abbrev pub word_text : Word → List ℕ
+abbrev pub word_text : Refusal → List ℕ
 word_text LineTooLong = codes "LineTooLong"
 word_text Syntax = codes "Syntax"
 word_text Limit = codes "Limit"

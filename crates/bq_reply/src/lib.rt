@@ -3,11 +3,11 @@
 //! The commands that read a script answer with the same words as a session, and stand beside it.
 #![tactic(auto)]
 
+mod refusal;
 mod reply;
-mod word;
 
+pub use refusal::{Refusal, parse_refusal, resolve_refusal, row_refusal, stream_refusal};
 pub use reply::{
     condition_text, write_created, write_dropped, write_filter, write_limit, write_no_pages,
     write_numbers, write_refused, write_violation,
 };
-pub use word::{Word, parse_word, resolve_word, row_word, stream_word};

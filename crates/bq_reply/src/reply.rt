@@ -4,7 +4,7 @@ ghost use Rattle.bq_io.specs.Sink.{Writes};
 ghost use Rattle.bq_parser.specs.Naming.{column_text};
 ghost use Rattle.bq_reply.specs.Texts.{word_text, which_text, condition_text, numbers_text};
 
-use crate::word::Word;
+use crate::refusal::Refusal;
 use bq_io::{Sink, WriteFault, write_pieces};
 use bq_model::{Condition, Numbers, Which};
 use bq_parser::ColumnAst;
@@ -183,29 +183,29 @@ pub fn write_violation<O: Sink>(
     )
 }
 
-fn word_text(word: Word) -> &'static [u8]
+fn word_text(word: Refusal) -> &'static [u8]
     ensures { result.now ≡ word_text word }
 {
     match word {
-        Word::LineTooLong => b"LineTooLong",
-        Word::Syntax => b"Syntax",
-        Word::Limit => b"Limit",
-        Word::Duplicate => b"Duplicate",
-        Word::TooMany => b"TooMany",
-        Word::UnknownStream => b"UnknownStream",
-        Word::UnknownColumn => b"UnknownColumn",
-        Word::SelfJoin => b"SelfJoin",
-        Word::UnknownQuery => b"UnknownQuery",
-        Word::Late => b"Late",
-        Word::Arity => b"Arity",
-        Word::Value => b"Value",
-        Word::Domain => b"Domain",
-        Word::RowLimit => b"RowLimit",
+        Refusal::LineTooLong => b"LineTooLong",
+        Refusal::Syntax => b"Syntax",
+        Refusal::Limit => b"Limit",
+        Refusal::Duplicate => b"Duplicate",
+        Refusal::TooMany => b"TooMany",
+        Refusal::UnknownStream => b"UnknownStream",
+        Refusal::UnknownColumn => b"UnknownColumn",
+        Refusal::SelfJoin => b"SelfJoin",
+        Refusal::UnknownQuery => b"UnknownQuery",
+        Refusal::Late => b"Late",
+        Refusal::Arity => b"Arity",
+        Refusal::Value => b"Value",
+        Refusal::Domain => b"Domain",
+        Refusal::RowLimit => b"RowLimit",
     }
 }
 
-/// Writes `error L Word`
-pub fn write_refused<O: Sink>(out: &mut O, line: u64, word: Word) -> Result<(), WriteFault>
+/// Writes `error L Refusal`
+pub fn write_refused<O: Sink>(out: &mut O, line: u64, word: Refusal) -> Result<(), WriteFault>
     ensures { Writes result (O.seen out.old) (O.seen out.new) (codes "error " ++ decimal line ++ 32 ∷ word_text word ++ 10 ∷ []) }
 {
     let mut buffer = Buffer::new();

@@ -3,7 +3,7 @@ use Rattle.std.proofs.Common.{◌≡◌, ℕ, ◌<◌, ℤ, Bool, true, false, c
 use Rattle.std.specs.declared.result.Result.{Result}
 use Rattle.std.specs.Str.{bytes_eq}
 use Rattle.std.proofs.lemmas.Bool.Decides.{nat_tests}
-use Rattle.bq_text.specs.Word.{word_of}
+use Rattle.bq_text.specs.Refusal.{word_of}
 use Rattle.bq_text.specs.Key.{key_of}
 use Rattle.bq_schema.specs.declared.column.ColumnDef.{ColumnDef}
 use Rattle.bq_schema.specs.declared.row_error.RowError.{RowError}
@@ -20,8 +20,8 @@ use Rattle.bq_parser.specs.declared.tree.Statement.TheVariants as statements
 use Rattle.bq_parser.specs.LineKind.{stripped, kind_of_line}
 use Rattle.bq_parser.specs.Syntax.{IsStatement}
 use Rattle.bq_registry.specs.Live.{LiveQuery, names}
-use Rattle.bq_reply.specs.declared.word.Word.{Word}
-use Rattle.bq_reply.specs.declared.word.Word.TheVariants.{UnknownQuery, Late}
+use Rattle.bq_reply.specs.declared.refusal.Refusal.{Refusal}
+use Rattle.bq_reply.specs.declared.refusal.Refusal.TheVariants.{UnknownQuery, Late}
 use Rattle.bq_session.specs.Request.{Request, silent, created, asked, explained, dropped, taken, saved, resumed, based, refused}
 use Rattle.bq_session.specs.Requests.{entry_request, row_request, stream_request, query_of, found_request, query_request, is_live, live_named, explain_request, drop_request, load_request, count_request, statement_request, IsStatementRequest, outside, limited, stated, IsTextRequest, IsRequest, too_long, fits}
 use Rattle.bq_session.specs.State.{State, has_room}
@@ -142,7 +142,7 @@ stream_is_plain : (s : State) (name : List ℕ) (columns : List ColumnDef) (o : 
 stream_is_plain s name columns (Err error) = tt
 stream_is_plain s name columns (Ok number) = tt
 
-found_is_plain : (s : State) (name : List ℕ) (shared : Bool) (o : Result QueryValue Word) → IsPlainIn s (found_request name shared o)
+found_is_plain : (s : State) (name : List ℕ) (shared : Bool) (o : Result QueryValue Refusal) → IsPlainIn s (found_request name shared o)
 found_is_plain s name shared (Ok query) = tt
 found_is_plain s name shared (Err word) = tt
 

@@ -26,8 +26,8 @@ use Rattle.bq_parser.specs.declared.tree.Statement.{Statement}
 use Rattle.bq_parser.specs.declared.tree.Statement.TheVariants as statements
 use Rattle.bq_parser.specs.LineKind.{stripped, kind_of_line}
 use Rattle.bq_registry.specs.Live.{LiveQuery, boxes_of, base_in, names, newly, without}
-use Rattle.bq_reply.specs.declared.word.Word.{Word}
-use Rattle.bq_reply.specs.declared.word.Word.TheVariants.{UnknownQuery, Late, Arity, Value, RowLimit}
+use Rattle.bq_reply.specs.declared.refusal.Refusal.{Refusal}
+use Rattle.bq_reply.specs.declared.refusal.Refusal.TheVariants.{UnknownQuery, Late, Arity, Value, RowLimit}
 use Rattle.bq_session.specs.Request.{Request, silent, created, asked, explained, dropped, taken, saved, resumed, based, refused}
 use Rattle.bq_session.specs.Requests.{entry_request, stream_request, query_of, found_request, is_live, live_named, natural, natural_upto, loaded_request, load_request, statement_request, IsStatementRequest, outside, limited, stated, IsTextRequest, IsRequest, too_long, fits}
 use Rattle.bq_session.specs.Answer.{Answer, plain}
@@ -123,7 +123,7 @@ stream_keeps : (s : State) (name : List ℕ) (columns : List ColumnDef) (o : Res
 stream_keeps s name columns (Err error) = tt
 stream_keeps s name columns (Ok number) = tt
 
-found_keeps : (s : State) (name : List ℕ) (shared : Bool) (o : Result QueryValue Word) → KeepsCells s (found_request name shared o)
+found_keeps : (s : State) (name : List ℕ) (shared : Bool) (o : Result QueryValue Refusal) → KeepsCells s (found_request name shared o)
 found_keeps s name shared (Ok query) = tt
 found_keeps s name shared (Err word) = tt
 

@@ -32,7 +32,7 @@ use Rattle.bq_print.specs.Printed.{printed_form}
 use Rattle.bq_checkpoint.specs.Lines.{content_in, cell_statement, cell_statements, tuple_statements, printed_statements}
 use Rattle.bq_registry.specs.Live.{LiveQuery, newly, boxes_of, base_in}
 use Rattle.bq_registry.specs.Sound.{IsSoundLive, IsCellOf}
-use Rattle.bq_reply.specs.declared.word.Word.TheVariants.{Late, Arity}
+use Rattle.bq_reply.specs.declared.refusal.Refusal.TheVariants.{Late, Arity}
 use Rattle.bq_session.specs.Request.{Request, based, refused}
 use Rattle.bq_session.specs.Requests.{live_named, natural, natural_upto, loaded_request, load_request, statement_request, IsRequest}
 use Rattle.bq_session.specs.Answer.{plain}

@@ -37,7 +37,7 @@ use Rattle.bq_print.proofs.ReadBack.{printed_statement, short_statement}
 use Rattle.bq_print.proofs.ShortApart.{query_apart}
 use Rattle.bq_print.proofs.Spaced.{IsSound}
 use Rattle.bq_registry.specs.Live.{LiveQuery, names, free_pages}
-use Rattle.bq_reply.specs.declared.word.Word.TheVariants.{Duplicate, TooMany}
+use Rattle.bq_reply.specs.declared.refusal.Refusal.TheVariants.{Duplicate, TooMany}
 use Rattle.bq_session.specs.Request.{asked}
 use Rattle.bq_session.specs.Requests.{is_live, query_named, found_request, statement_request, IsRequest}
 use Rattle.bq_session.specs.Answer.{Answer, registered}

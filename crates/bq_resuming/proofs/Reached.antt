@@ -20,7 +20,7 @@ use Rattle.bq_session.specs.State.{State, empty, from_base, set_base, one_line_m
 use Rattle.bq_session.specs.Replies.{AreAnswers}
 use Rattle.bq_session.specs.declared.outcome.LineOutcome.{LineOutcome}
 use Rattle.bq_session.specs.declared.outcome.LineOutcome.TheVariants as outcomes
-use Rattle.bq_session.specs.Session.{Kept, StandsFor, Gives, Does}
+use Rattle.bq_session.specs.Session.{SessionValue, StandsFor, Gives, Does}
 use Rattle.bq_io.specs.Sink.{Wrote, BrokeOff}
 use Rattle.bq_resuming.proofs.Leading.{answers_joined, after_joined}
 use Rattle.bq_resuming.specs.Sound.{IsSoundIn}
@@ -308,7 +308,7 @@ state_is_reached : (limit : ℕ) → limit ≤ 2 ^ 40 → (s : State) → IsReac
 state_is_reached limit small s is = subst IsReachedState is.is (after_lines (empty limit) is.lines is.answers is.answered (first_is_reached limit small))
 
 -- after one line more
-after_given : (limit : ℕ) (s : State) (line : List ℕ) (request : Request) (new : Kept) (P : List ℕ → Type 0) → IsReached limit s → IsRequest s line request → Gives s request new P
+after_given : (limit : ℕ) (s : State) (line : List ℕ) (request : Request) (new : SessionValue) (P : List ℕ → Type 0) → IsReached limit s → IsRequest s line request → Gives s request new P
     → (t : State) × IsReached limit t × StandsFor new t
 unfolding after
 after_given limit s line request new P is asks gives =

@@ -26,8 +26,8 @@ use Rattle.bq_parser.specs.Limits.{limit_of}
 use Rattle.bq_parser.specs.Resolution.{resolved}
 use Rattle.bq_parser.specs.Syntax.{IsStatement}
 use Rattle.bq_registry.specs.Live.{LiveQuery, boxes_of, base_in, names}
-use Rattle.bq_reply.specs.declared.word.Word.{Word}
-use Rattle.bq_reply.specs.declared.word.Word.TheVariants.{Duplicate, TooMany, UnknownQuery, Late, Arity, Value, RowLimit}
+use Rattle.bq_reply.specs.declared.refusal.Refusal.{Refusal}
+use Rattle.bq_reply.specs.declared.refusal.Refusal.TheVariants.{Duplicate, TooMany, UnknownQuery, Late, Arity, Value, RowLimit}
 use Rattle.bq_reply.proofs.Stripped.{stripped-short}
 use Rattle.bq_session.specs.Request.{Request, silent, created, asked, explained, dropped, taken, saved, resumed, based, refused}
 use Rattle.bq_session.specs.Requests.{entry_request, stream_request, query_named, query_of, found_request, is_live, live_named, natural, loaded_request, load_request, statement_request, IsStatementRequest, outside, limited, stated, IsTextRequest, IsRequest, too_long, fits}
@@ -101,12 +101,12 @@ module _ (s : State) (reached : IsReachedState s) where
 
   -- a query
   query_right : (text name : List ℕ) (select : SelectAst) (shared : Bool) → IsStatement text (statements.CreateQuery name select shared) → limit_of (statements.CreateQuery name select shared) ≡ None → length text ≤ 1024
-      → (o : Result QueryValue Word) → query_of s.streams (names s.queries) name select ≡ o → IsRight s (found_request name shared o)
+      → (o : Result QueryValue Refusal) → query_of s.streams (names s.queries) name select ≡ o → IsRight s (found_request name shared o)
   query_right text name select shared is within short (Err word) e = tt
   query_right text name select shared is within short (Ok q) e = by (is_live (names s.queries) name) (nat_le 64 (length (names s.queries))) (resolved s.streams select) refl refl refl e
     where
       by : (a b : Bool) (o : Result QueryValue ResolveError) → is_live (names s.queries) name ≡ a → nat_le 64 (length (names s.queries)) ≡ b → resolved s.streams select ≡ o
-          → cond {A = Result QueryValue Word} a (Err Duplicate) (cond b (Err TooMany) (query_named o)) ≡ Ok q → IsNewQuery s name q shared
+          → cond {A = Result QueryValue Refusal} a (Err Duplicate) (cond b (Err TooMany) (query_named o)) ≡ Ok q → IsNewQuery s name q shared
       by true b o h k r f = absurd cc
       by false true o h k r f = absurd cc
       by false false (Err error) h k r f = absurd cc

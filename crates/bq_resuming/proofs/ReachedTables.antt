@@ -4,7 +4,7 @@ use Rattle.std.specs.List.{list_any, AllByRecursion}
 use Rattle.std.specs.Option.{option_to_list}
 use Rattle.bq_model.specs.declared.plan.PartPlan.{PartPlan}
 use Rattle.bq_model.specs.Query.{QueryValue, is_filter}
-use Rattle.bq_model.specs.Tuples.{is_before, is_same, placed, ascending, once, fresh}
+use Rattle.bq_model.specs.Tuples.{is_before, is_same, insert_sorted, sorted, distinct_tuples, new_tuples}
 use Rattle.bq_model.specs.Meaning.{Arrival}
 use Rattle.bq_model.specs.Filter.{filter_tuple}
 use Rattle.bq_model.specs.Combinations.{Reading}
@@ -27,29 +27,29 @@ member_of P [] t h m = elim m [ ]
 member_of P (u ∷ ts) t h m = elim (has_cases u t ts m) [ inl e ↦ subst P e h.0 | inr k ↦ member_of P ts t h.1 k ]
 
 -- the tuples in order are the same
-placed_has : (t : List ℤ) (us : List (List ℤ)) (z : List ℤ) → Has (placed t us) z → (t ≡ z) ⊎ Has us z
+placed_has : (t : List ℤ) (us : List (List ℤ)) (z : List ℤ) → Has (insert_sorted t us) z → (t ≡ z) ⊎ Has us z
 placed_has t [] z h = has_cases t z [] h
 placed_has t (u ∷ us) z h = by (is_before u t) (placed_has t us z) h
   where
-    by : (b : Bool) → (Has (placed t us) z → (t ≡ z) ⊎ Has us z) → Has (cond b (u ∷ placed t us) (t ∷ u ∷ us)) z → (t ≡ z) ⊎ Has (u ∷ us) z
-    by true rest m = elim (has_cases u z (placed t us) m) [
+    by : (b : Bool) → (Has (insert_sorted t us) z → (t ≡ z) ⊎ Has us z) → Has (cond b (u ∷ insert_sorted t us) (t ∷ u ∷ us)) z → (t ≡ z) ⊎ Has (u ∷ us) z
+    by true rest m = elim (has_cases u z (insert_sorted t us) m) [
       | inl e ↦ inr (subst (λ x. Has (u ∷ us) x) e first)
       | inr k ↦ elim (rest k) [ inl e ↦ inl e | inr l ↦ inr (later l) ]
     ]
     by false rest m = has_cases t z (u ∷ us) m
 
-ascending_has : (ts : List (List ℤ)) (z : List ℤ) → Has (ascending ts) z → Has ts z
+ascending_has : (ts : List (List ℤ)) (z : List ℤ) → Has (sorted ts) z → Has ts z
 ascending_has [] z h = elim h [ ]
-ascending_has (t ∷ ts) z h = elim (placed_has t (ascending ts) z h) [
+ascending_has (t ∷ ts) z h = elim (placed_has t (sorted ts) z h) [
   | inl e ↦ subst (λ x. Has (t ∷ ts) x) e first
   | inr k ↦ later (ascending_has ts z k)
 ]
 
-once_has : (ts : List (List ℤ)) (z : List ℤ) → Has (once ts) z → Has ts z
+once_has : (ts : List (List ℤ)) (z : List ℤ) → Has (distinct_tuples ts) z → Has ts z
 once_has [] z h = elim h [ ]
-once_has (t ∷ ts) z h = elim (has_cases t z (filter (λ u. not (is_same u t)) (once ts)) h) [
+once_has (t ∷ ts) z h = elim (has_cases t z (filter (λ u. not (is_same u t)) (distinct_tuples ts)) h) [
   | inl e ↦ subst (λ x. Has (t ∷ ts) x) e first
-  | inr k ↦ later (once_has ts z (Has-filter_from (λ u. not (is_same u t)) (once ts) z k))
+  | inr k ↦ later (once_has ts z (Has-filter_from (λ u. not (is_same u t)) (distinct_tuples ts) z k))
 ]
 
 -- each once, they differ
@@ -65,15 +65,15 @@ is_false : (b : Bool) → not b ≡ true → b ≡ false
 is_false true h = absurd cc
 is_false false h = refl
 
-once_distinct : (ts : List (List ℤ)) → Distinct (once ts)
+once_distinct : (ts : List (List ℤ)) → Distinct (distinct_tuples ts)
 once_distinct [] = tt
 once_distinct (t ∷ ts) = (
-  (λ m. not_both (is_same t t) (same-itself t) (is_false (is_same t t) (Has-filter_holds (λ u. not (is_same u t)) (once ts) t m))),
-  distinct_filter (λ u. not (is_same u t)) (once ts) (once_distinct ts),
+  (λ m. not_both (is_same t t) (same-itself t) (is_false (is_same t t) (Has-filter_holds (λ u. not (is_same u t)) (distinct_tuples ts) t m))),
+  distinct_filter (λ u. not (is_same u t)) (distinct_tuples ts) (once_distinct ts),
 )
 
 -- in order they ascend
-placed_ascends : (t : List ℤ) (us : List (List ℤ)) → (Has us t → ⊥) → Ascend us → Ascend (placed t us)
+placed_ascends : (t : List ℤ) (us : List (List ℤ)) → (Has us t → ⊥) → Ascend us → Ascend (insert_sorted t us)
 placed_ascends t [] new a = (tt, tt)
 placed_ascends t (u ∷ us) new a = by (is_before u t) refl (placed_ascends t us (λ m. new (later m)) a.1)
   where
@@ -83,9 +83,9 @@ placed_ascends t (u ∷ us) new a = by (is_before u t) refl (placed_ascends t us
       | inr o ↦ elim o [ inl b ↦ absurd (not_both (is_before u t) b e) | inr s ↦ absurd (new (subst (λ x. Has (u ∷ us) x) (sym s) first)) ]
     ]
 
-    by : (b : Bool) → is_before u t ≡ b → Ascend (placed t us) → Ascend (cond b (u ∷ placed t us) (t ∷ u ∷ us))
+    by : (b : Bool) → is_before u t ≡ b → Ascend (insert_sorted t us) → Ascend (cond b (u ∷ insert_sorted t us) (t ∷ u ∷ us))
     by true e rest = (
-      all_from (λ z. is_before u z ≡ true) (placed t us) (λ z m. elim (placed_has t us z m) [
+      all_from (λ z. is_before u z ≡ true) (insert_sorted t us) (λ z m. elim (placed_has t us z m) [
         | inl s ↦ subst (λ x. is_before u x ≡ true) s e
         | inr k ↦ member_of (λ x. is_before u x ≡ true) us z a.0 k
       ]),
@@ -96,9 +96,9 @@ placed_ascends t (u ∷ us) new a = by (is_before u t) refl (placed_ascends t us
       a,
     )
 
-distinct_ascends : (ts : List (List ℤ)) → Distinct ts → Ascend (ascending ts)
+distinct_ascends : (ts : List (List ℤ)) → Distinct ts → Ascend (sorted ts)
 distinct_ascends [] d = tt
-distinct_ascends (t ∷ ts) d = placed_ascends t (ascending ts) (λ m. d.0 (ascending_has ts t m)) (distinct_ascends ts d.1)
+distinct_ascends (t ∷ ts) d = placed_ascends t (sorted ts) (λ m. d.0 (ascending_has ts t m)) (distinct_ascends ts d.1)
 
 -- each before all later ones, by their places
 later_at : (t : List ℤ) (us : List (List ℤ)) (j : ℕ) (d : List ℤ) → AllByRecursion (λ u. is_before t u ≡ true) us → j < length us → is_before t (get_or us j d) ≡ true
@@ -114,10 +114,10 @@ ascend_at (t ∷ ts) a (suc i) (suc j) d l m = ascend_at ts a.1 i j d (omega (ar
 
 -- a table of both
 pub merged_ascends : (ts us : List (List ℤ)) → AllPairs (λ t u. is_before t u ≡ true) (merged_table ts us)
-merged_ascends ts us = ascend_at (merged_table ts us) (distinct_ascends (once (ts ++ us)) (once_distinct (ts ++ us)))
+merged_ascends ts us = ascend_at (merged_table ts us) (distinct_ascends (distinct_tuples (ts ++ us)) (once_distinct (ts ++ us)))
 
 pub merged_has : (ts us : List (List ℤ)) (t : List ℤ) → Has (merged_table ts us) t → Has ts t ⊎ Has us t
-merged_has ts us t h = Has-append_cases ts us t (once_has (ts ++ us) t (ascending_has (once (ts ++ us)) t h))
+merged_has ts us t h = Has-append_cases ts us t (once_has (ts ++ us) t (ascending_has (distinct_tuples (ts ++ us)) t h))
 
 -- what a query that is no filter answers waits
 pub future_waits : (q : QueryValue) (plan : List PartPlan) (read : Reading) (table : List (List ℤ)) (r : Arrival) (t : List ℤ) → is_filter q ≡ false
@@ -129,8 +129,8 @@ future_waits q plan read table r t n h = by (is_filter q) (list_any (λ stream. 
     ws = waiting q plan read r
 
     by : (a b c : Bool) → a ≡ false
-        → Has (cond a (option_to_list (filter_tuple q r)) (cond b (cond c (ascending (fresh table ws)) (ascending ws)) [])) t → Has ws t
+        → Has (cond a (option_to_list (filter_tuple q r)) (cond b (cond c (sorted (new_tuples table ws)) (sorted ws)) [])) t → Has ws t
     by true b c e m = absurd cc
-    by false true true e m = once_has ws t (Has-filter_from (λ u. not (list_any (is_same u) table)) (once ws) t (ascending_has (fresh table ws) t m))
+    by false true true e m = once_has ws t (Has-filter_from (λ u. not (list_any (is_same u) table)) (distinct_tuples ws) t (ascending_has (new_tuples table ws) t m))
     by false true false e m = ascending_has ws t m
     by false false c e m = elim m [ ]

@@ -16,7 +16,7 @@ use Rattle.bq_parser.specs.declared.tree.Statement.TheVariants.{ResumeRows}
 use Rattle.bq_parser.proofs.Taken.{same_name}
 use Rattle.bq_print.specs.Printed.{printed_form}
 use Rattle.bq_registry.specs.Live.{LiveQuery, names, boxes_of, base_in}
-use Rattle.bq_reply.specs.declared.word.Word.TheVariants.{Value, RowLimit}
+use Rattle.bq_reply.specs.declared.refusal.Refusal.TheVariants.{Value, RowLimit}
 use Rattle.bq_session.specs.Request.{resumed, refused}
 use Rattle.bq_session.specs.Requests.{is_live, live_named, statement_request, IsRequest}
 use Rattle.bq_session.specs.Answer.{plain}

@@ -1,7 +1,7 @@
 -- Tuples in ascending order, and one more behind them.
 use Rattle.std.proofs.Common.{◌≡◌, ℕ, suc, ◌<◌, true, false, cond, not, ◌||◌, ℤ, List, [], ◌∷◌, ◌++◌, length, filter, get_or, refl, ap, ◌∙◌, subst, arith}
 use Rattle.std.specs.List.{list_any, AllByRecursion}
-use Rattle.bq_model.specs.Tuples.{is_before, is_same, placed, ascending, once}
+use Rattle.bq_model.specs.Tuples.{is_before, is_same, insert_sorted, sorted, distinct_tuples}
 use Rattle.bq_model.specs.Merge.{merged_table}
 use Rattle.bq_laws.proofs.Order.{same-is, before-itself, before-trans}
 use Rattle.bq_laws.proofs.Tests.{false_if, not_both}
@@ -42,21 +42,21 @@ all_stay t [] h = refl
 all_stay t (u ∷ ts) h =
     ap (λ b. cond (not b) (u ∷ filter (λ x. not (is_same x t)) ts) (filter (λ x. not (is_same x t)) ts)) (not_same t u h.0) ∙ ap (λ us. u ∷ us) (all_stay t ts h.1)
 
-once_each : (ts : List (List ℤ)) → Ascend ts → once ts ≡ ts
+once_each : (ts : List (List ℤ)) → Ascend ts → distinct_tuples ts ≡ ts
 once_each [] h = refl
 once_each (t ∷ ts) h = ap (λ us. t ∷ filter (λ u. not (is_same u t)) us) (once_each ts h.1) ∙ ap (λ us. t ∷ us) (all_stay t ts h.0)
 
-placed_first : (t : List ℤ) (ts : List (List ℤ)) → AllByRecursion (λ u. is_before t u ≡ true) ts → placed t ts ≡ t ∷ ts
+placed_first : (t : List ℤ) (ts : List (List ℤ)) → AllByRecursion (λ u. is_before t u ≡ true) ts → insert_sorted t ts ≡ t ∷ ts
 placed_first t [] h = refl
-placed_first t (u ∷ ts) h = ap (λ b. cond b (u ∷ placed t ts) (t ∷ u ∷ ts)) (not_back t u h.0)
+placed_first t (u ∷ ts) h = ap (λ b. cond b (u ∷ insert_sorted t ts) (t ∷ u ∷ ts)) (not_back t u h.0)
 
-in_order : (ts : List (List ℤ)) → Ascend ts → ascending ts ≡ ts
+in_order : (ts : List (List ℤ)) → Ascend ts → sorted ts ≡ ts
 in_order [] h = refl
-in_order (t ∷ ts) h = ap (placed t) (in_order ts h.1) ∙ placed_first t ts h.0
+in_order (t ∷ ts) h = ap (insert_sorted t) (in_order ts h.1) ∙ placed_first t ts h.0
 
 -- a tuple behind all others is put at the end, and was not there
 pub merged_behind : (ts : List (List ℤ)) (t : List ℤ) → Ascend (ts ++ t ∷ []) → merged_table ts (t ∷ []) ≡ ts ++ t ∷ []
-merged_behind ts t h = ap ascending (once_each (ts ++ t ∷ []) h) ∙ in_order (ts ++ t ∷ []) h
+merged_behind ts t h = ap sorted (once_each (ts ++ t ∷ []) h) ∙ in_order (ts ++ t ∷ []) h
 
 last_after : (P : List ℤ → Type 0) (ts : List (List ℤ)) (t : List ℤ) → AllByRecursion P (ts ++ t ∷ []) → P t
 last_after P [] t h = h.0

@@ -9,7 +9,7 @@ use Rattle.bq_session.specs.Replies.{reply_by, AreAnswers}
 use Rattle.bq_session.specs.declared.outcome.LineOutcome.{LineOutcome}
 use Rattle.bq_session.specs.declared.outcome.LineOutcome.TheVariants.{Memory}
 use Rattle.bq_session.specs.Request.{saved}
-use Rattle.bq_session.specs.Session.{Kept, StandsFor, Answered}
+use Rattle.bq_session.specs.Session.{SessionValue, StandsFor, Answered}
 use Rattle.bq_session.specs.State.{State, empty, after}
 use Rattle.bq_resuming.specs.Sound.{IsSoundState}
 use Rattle.bq_resuming.specs.Continuing.{NoneResumesBeforeRows, unnumbered_replies, GoOnAlike}
@@ -25,7 +25,7 @@ pub record IsReached (limit : ℕ) (s : State) : Type 0 where
 -- after each line for which memory was found, a session that stood for such a state stands for such a state again
 abbrev pub SessionsStandForReached : Type 0
 SessionsStandForReached =
-    (limit : ℕ) (s : State) (line : List ℕ) (outcome : LineOutcome) (new : Kept) (written now : SinkState) → IsReached limit s → Answered outcome s line new written now → outcome ≢ Memory
+    (limit : ℕ) (s : State) (line : List ℕ) (outcome : LineOutcome) (new : SessionValue) (written now : SinkState) → IsReached limit s → Answered outcome s line new written now → outcome ≢ Memory
     → (t : State) × IsReached limit t × StandsFor new t
 
 -- such a state is sound, its streams are those of a catalog, and its live queries can be restored, each and together

@@ -11,7 +11,7 @@ use Rattle.bq_registry.specs.Live.{LiveQuery, boxes_of, base_in}
 use Rattle.bq_registry.specs.Registry as registry
 use Rattle.bq_session.specs.State.{State}
 use Rattle.bq_session.specs.Session as session
-use Rattle.bq_session.specs.Session.{Kept}
+use Rattle.bq_session.specs.Session.{SessionValue}
 
 -- the query is within the limits and breaks no condition, its streams, columns and domains are those of the catalog, the plan is its own,
 -- the rows since its base keep to the domains, the base has a cell for each place in its boxes, and no more rows were given than were taken
@@ -33,4 +33,4 @@ pub record IsSoundState (s : State) : Type 0 where
 -- each state that a session stands for is such a one
 abbrev pub StatesAreSound : Type 0
 StatesAreSound =
-    (k : Kept) (s : State) → session.IsSound k → registry.IsSound k.registry.pool k.registry.live → session.StandsFor k s → IsSoundState s
+    (k : SessionValue) (s : State) → session.IsSound k → registry.IsSound k.registry.pool k.registry.live → session.StandsFor k s → IsSoundState s

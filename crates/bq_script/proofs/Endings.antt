@@ -10,8 +10,8 @@ use Rattle.bq_io.specs.Sink.{SinkState, BrokeOff}
 use Rattle.bq_text.specs.Lines.{lines}
 use Rattle.bq_feed.specs.Reading.{Reading, TakesAll}
 use Rattle.bq_feed.specs.Texts.{ended_part}
-use Rattle.bq_reply.specs.declared.word.Word.{Word}
-use Rattle.bq_reply.specs.declared.word.Word.TheVariants.{Syntax}
+use Rattle.bq_reply.specs.declared.refusal.Refusal.{Refusal}
+use Rattle.bq_reply.specs.declared.refusal.Refusal.TheVariants.{Syntax}
 use Rattle.bq_script.specs.declared.end.ScriptEnd.{ScriptEnd}
 use Rattle.bq_script.specs.declared.end.ScriptEnd.TheVariants.{Refused, ReadFault, ByteLimit, Memory}
 use Rattle.bq_script.specs.Script.{CreateStreams, IsRefusedAt, at_line, at_end}
@@ -20,7 +20,7 @@ use Rattle.bq_script.specs.Commands.{Outcome, AreNeeded, ComesTo, TookUnsettled,
 use Rattle.bq_script.specs.Ending.{StopsAt, EndsWith, EndsBy}
 
 -- as many lines were read as a refusal before the query needs
-pub early-needed : (text : List ℕ) (number : ℕ) (word : Word) (source now : SourceState) (refused : IsRefusedAt (lines text) number word) → IsLast refused → IfAtEnd refused (TakesAll source now text × (length text < 2 ^ 64 - 1))
+pub early-needed : (text : List ℕ) (number : ℕ) (word : Refusal) (source now : SourceState) (refused : IsRefusedAt (lines text) number word) → IsLast refused → IfAtEnd refused (TakesAll source now text × (length text < 2 ^ 64 - 1))
     → AreNeeded (lines_for number refused) source now text
 early-needed text number word source now (at_line before line behind streams whole create is number_is) last all =
     omega (arith, ap length (whole ∙ ap (λ l. before ++ line ∷ l) last), length-append before (line ∷ []), number_is)
@@ -33,7 +33,7 @@ NeedsOne IsOutcome = (all : List (List ℕ)) (o p : Outcome) → IsOutcome all o
 -- The reader broke off before the query. The lines that came whole settle nothing, since they create streams: were they all, the script would
 -- end before its query.
 pub unsettled-streams : (IsOutcome : List (List ℕ) → Outcome → Type 0)
-    → ((all : List (List ℕ)) (number : ℕ) (word : Word) (refused : IsRefusedAt all number word) → IsOutcome all (early_refusal number word refused)) → NeedsOne IsOutcome
+    → ((all : List (List ℕ)) (number : ℕ) (word : Refusal) (refused : IsRefusedAt all number word) → IsOutcome all (early_refusal number word refused)) → NeedsOne IsOutcome
     → (source now : SourceState) (reader : Reading) (P : List ℕ → Type 0) → GaveStreams source now reader P → TookUnsettled IsOutcome source now P
 unsettled-streams IsOutcome early one source now reader P e =
     let all = lines (ended_part e.text) in
@@ -47,7 +47,7 @@ unsettled-streams IsOutcome early one source now reader P e =
 
 -- what an early end of the script comes to
 pub stops-early : (IsOutcome : List (List ℕ) → Outcome → Type 0)
-    → ((all : List (List ℕ)) (number : ℕ) (word : Word) (refused : IsRefusedAt all number word) → IsOutcome all (early_refusal number word refused)) → NeedsOne IsOutcome
+    → ((all : List (List ℕ)) (number : ℕ) (word : Refusal) (refused : IsRefusedAt all number word) → IsOutcome all (early_refusal number word refused)) → NeedsOne IsOutcome
     → (end : ScriptEnd) (source now : SourceState) (reader : Reading) → EndsEarly end source now reader → StopsAt IsOutcome end source now
 stops-early IsOutcome early one (Refused number word) source now reader e = record {
   needs = lines_for number e.refused;

@@ -6,7 +6,7 @@ use Rattle.std.specs.Io.KnownBytes.{Appends, append_known}
 use Rattle.std.proofs.KnownBytes.{Appends-nil}
 use Rattle.bq_io.specs.Gathered.{gathered_seen, told_length, Flushes}
 use Rattle.bq_io.specs.Sink.{SinkState, Wrote, BrokeOff}
-use Rattle.bq_io.proofs.Writing.{Rose-earlier}
+use Rattle.bq_io.proofs.Writing.{Rose-earlier, front-of}
 use Rattle.bq_script.specs.Commands.{WroteFront}
 use Rattle.bq_script.specs.Ending.{WritesText}
 
@@ -19,16 +19,6 @@ appends-all None m a none held text e p q = tt
 appends-all (Some x) None a none held text e p q = absurd p
 appends-all (Some x) (Some y) None none held text e p q = absurd q
 appends-all (Some x) (Some y) (Some z) none held text e p q = q ∙ p ∙ ap (λ l. l ++ text) (nothing-held x none e)
-
--- what was written below is still there, so what was passed on grew
-front-of : (x y held text : List ℕ) → y ++ held ≡ x ++ text → length x ≤ length y → (more : List ℕ) × (y ≡ x ++ more) × (more ++ held ≡ text)
-front-of [] y held text e le = (y, refl, e)
-front-of (a ∷ x) [] held text e le = absurd (omega arith)
-front-of (a ∷ x) (b ∷ y) held text e le =
-    let tails : y ++ held ≡ x ++ text = cc in
-    let heads : b ≡ a = cc in
-    let h = front-of x y held text tails (omega arith) in
-    (h.0, ap (λ l. b ∷ l) h.1 ∙ ap (λ c. c ∷ (x ++ h.0)) heads, h.2)
 
 -- A front of a text was passed on.
 record Part (b a : Option (List ℕ)) (text : List ℕ) : Type 0 where

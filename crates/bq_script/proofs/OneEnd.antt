@@ -11,8 +11,8 @@ use Rattle.bq_parser.specs.declared.tree.Statement.TheVariants as statements
 use Rattle.bq_parser.specs.LineKind.{stripped, kind_of_line}
 use Rattle.bq_parser.specs.Limits.{limit_of}
 use Rattle.bq_print.proofs.ReadBack.{one_statement}
-use Rattle.bq_reply.specs.declared.word.Word.{Word}
-use Rattle.bq_reply.specs.declared.word.Word.TheVariants.{Syntax}
+use Rattle.bq_reply.specs.declared.refusal.Refusal.{Refusal}
+use Rattle.bq_reply.specs.declared.refusal.Refusal.TheVariants.{Syntax}
 use Rattle.bq_script.specs.Script as scripts
 use Rattle.bq_script.specs.Script.{ScriptLine, nothing, stream, query, refused, statement_line, Creates, IsScriptStatement, outside, misplaced, limited, stated, IsScriptText, IsScriptLine, fits, CreateStreams, Asks, IsRefusedAt, at_line, at_end}
 use Rattle.bq_script.specs.Laws.{HasOneEnd}
@@ -118,11 +118,11 @@ asked lines streams name select shared q n a =
     (subst (λ k. Comes (a.before ++ a.line ∷ a.behind) streams (query name select shared q) k) (sym a.number_is) (stop-line a.line a.behind (query name select shared q) a.create a.is tt))
 
 -- the streams behind which a script is refused
-abbrev streams-of : {lines : List (List ℕ)} {n : ℕ} {word : Word} → IsRefusedAt lines n word → List Shape
+abbrev streams-of : {lines : List (List ℕ)} {n : ℕ} {word : Refusal} → IsRefusedAt lines n word → List Shape
 streams-of (at_line before line others streams whole create is number_is) = streams
 streams-of (at_end streams create word_is number_is) = streams
 
-was_refused : (lines : List (List ℕ)) (n : ℕ) (word : Word) → (a : IsRefusedAt lines n word) → Comes lines (streams-of a) (refused word) n
+was_refused : (lines : List (List ℕ)) (n : ℕ) (word : Refusal) → (a : IsRefusedAt lines n word) → Comes lines (streams-of a) (refused word) n
 was_refused lines n word (at_line before line others streams whole create is number_is) =
     subst (λ l. Comes l streams (refused word) n) (sym whole)
     (subst (λ k. Comes (before ++ line ∷ others) streams (refused word) k) (sym number_is) (stop-line line others (refused word) create is tt))
@@ -132,10 +132,10 @@ was_refused lines n word (at_end streams create word_is number_is) =
 same-query : (name title : List ℕ) (select choice : SelectAst) (shared joint : Bool) (q r : QueryValue) → query name select shared q ≡ query title choice joint r → (name ≡ title) × (select ≡ choice) × (shared ≡ joint) × (q ≡ r)
 same-query name title select choice shared joint q r e = (cc, cc, cc, cc)
 
-same-word : (v w : Word) → refused v ≡ refused w → v ≡ w
+same-word : (v w : Refusal) → refused v ≡ refused w → v ≡ w
 same-word v w e = cc
 
-not-refused : (name : List ℕ) (select : SelectAst) (shared : Bool) (q : QueryValue) (word : Word) → query name select shared q ≡ refused word → ⊥
+not-refused : (name : List ℕ) (select : SelectAst) (shared : Bool) (q : QueryValue) (word : Refusal) → query name select shared q ≡ refused word → ⊥
 not-refused name select shared q word e = cc
 
 pub one_end : HasOneEnd

@@ -4,7 +4,7 @@ use Rattle.bq_io.specs.declared.status.Status.TheVariants as status
 use Rattle.bq_model.specs.Query.{QueryValue}
 use Rattle.bq_schema.specs.Streams.{Shape}
 use Rattle.bq_parser.specs.declared.tree.SelectAst.{SelectAst}
-use Rattle.bq_reply.specs.declared.word.Word.{Word}
+use Rattle.bq_reply.specs.declared.refusal.Refusal.{Refusal}
 use Rattle.bq_script.specs.Script.{Asks, IsRefusedAt, at_line, at_end}
 use Rattle.bq_script.proofs.OneEnd.{one_end}
 use Rattle.bq_script.specs.Commands.{Outcome, error_text, refusal, early_refusal}
@@ -29,18 +29,18 @@ behind-same all streams shapes name title select choice shared joint q r m n a b
     rest-same a.before b.before a.line b.line a.behind b.behind (sym a.whole ∙ b.whole) (omega (arith, a.number_is, b.number_is, e))
 
 -- a line is refused, or the end: not both by the same number
-refusal-same : (all : List (List ℕ)) (m n : ℕ) (v w : Word) (a : IsRefusedAt all m v) (b : IsRefusedAt all n w) → m ≡ n → v ≡ w → early_refusal m v a ≡ early_refusal n w b
-refusal-same all m n v w (at_line before line behind streams whole create is number_is) (at_line front text others shapes cut made it place) e f = ap₂ (λ (i : ℕ) (x : Word). refusal i x) e f
+refusal-same : (all : List (List ℕ)) (m n : ℕ) (v w : Refusal) (a : IsRefusedAt all m v) (b : IsRefusedAt all n w) → m ≡ n → v ≡ w → early_refusal m v a ≡ early_refusal n w b
+refusal-same all m n v w (at_line before line behind streams whole create is number_is) (at_line front text others shapes cut made it place) e f = ap₂ (λ (i : ℕ) (x : Refusal). refusal i x) e f
 refusal-same all m n v w (at_line before line behind streams whole create is number_is) (at_end shapes made word_is place) e f =
     absurd (omega (arith, number_is, place, e, ap length whole, length-append before (line ∷ behind)))
 refusal-same all m n v w (at_end streams create word_is number_is) (at_line front text others shapes cut made it place) e f =
     absurd (omega (arith, number_is, place, e, ap length cut, length-append front (text ∷ others)))
 refusal-same all m n v w (at_end streams create word_is number_is) (at_end shapes made is place) e f =
-    let at : ℕ → Word → Outcome = λ i x. record { status = status.Invalid; text = error_text i x; needs = None } in
+    let at : ℕ → Refusal → Outcome = λ i x. record { status = status.Invalid; text = error_text i x; needs = None } in
     ap₂ at e f
 
 -- the refusal before the query is the same
-pub early-same : (all : List (List ℕ)) (m n : ℕ) (v w : Word) (a : IsRefusedAt all m v) (b : IsRefusedAt all n w) → early_refusal m v a ≡ early_refusal n w b
+pub early-same : (all : List (List ℕ)) (m n : ℕ) (v w : Refusal) (a : IsRefusedAt all m v) (b : IsRefusedAt all n w) → early_refusal m v a ≡ early_refusal n w b
 early-same all m n v w a b =
     let same : (m ≡ n) × (v ≡ w) = (one_end all).1 m n v w a b in
     refusal-same all m n v w a b same.0 same.1

@@ -6,8 +6,8 @@ use Rattle.bq_feed.specs.GivenLines.{GivenLines}
 use Rattle.bq_feed.proofs.GivenLines.{given-none}
 use Rattle.bq_feed.proofs.GivenEnds.{front-lines, took-lines, took-all}
 use Rattle.bq_schema.specs.Streams.{Shape}
-use Rattle.bq_reply.specs.declared.word.Word.{Word}
-use Rattle.bq_reply.specs.declared.word.Word.TheVariants.{LineTooLong, Syntax}
+use Rattle.bq_reply.specs.declared.refusal.Refusal.{Refusal}
+use Rattle.bq_reply.specs.declared.refusal.Refusal.TheVariants.{LineTooLong, Syntax}
 use Rattle.bq_script.specs.declared.end.ScriptEnd.{ScriptEnd}
 use Rattle.bq_script.specs.declared.end.ScriptEnd.TheVariants.{Refused, ReadFault, ByteLimit}
 use Rattle.bq_script.specs.declared.texts.TextAnswer.TheVariants as answers
@@ -89,7 +89,7 @@ ends-query source now now' old new streams streams' asked p t took =
     }
 
 -- a line is refused
-refused-line : (source now now' : SourceState) (old new : Reading) (streams : List Shape) (word : Word) (P : ℕ → List ℕ → Type 0) → (p : Progress source now old streams) → (t : GaveLine source now' p.given new P) → IsScriptLine streams t.line (refused word)
+refused-line : (source now now' : SourceState) (old new : Reading) (streams : List Shape) (word : Refusal) (P : ℕ → List ℕ → Type 0) → (p : Progress source now old streams) → (t : GaveLine source now' p.given new P) → IsScriptLine streams t.line (refused word)
     → IsRefused new.lines word source now'
 refused-line source now now' old new streams word P p t is = record {
   text = t.front;
@@ -104,7 +104,7 @@ refused-line source now now' old new streams word P p t is = record {
 }
 
 -- a line is refused that is not too long
-pub ends-refused : (source now now' : SourceState) (old new : Reading) (streams streams' : List Shape) (word : Word) (end : ScriptEnd) → (p : Progress source now old streams) → GivesText answers.Text source now' p.given new
+pub ends-refused : (source now now' : SourceState) (old new : Reading) (streams streams' : List Shape) (word : Refusal) (end : ScriptEnd) → (p : Progress source now old streams) → GivesText answers.Text source now' p.given new
     → TakesLine (Err word) streams new.line streams' → end ≡ Refused new.lines word → EndsEarly end source now' new
 ends-refused source now now' old new streams streams' word end p t took e =
     let is : IsScriptLine streams t.line (refused word) = subst (λ l. IsScriptLine streams l (refused word)) t.holds.1 (subst (IsScriptLine streams new.line) took.takes.0 took.is_line) in

@@ -14,8 +14,8 @@ use Rattle.bq_parser.specs.Grammar.{Lexeme, word, key, tokens_with, semicolon, S
 use Rattle.bq_parser.specs.Syntax.{IsStatement, lexemes, lexeme_as}
 use Rattle.bq_parser.specs.Refusal.{IsRefusal}
 use Rattle.bq_print.proofs.RoundTrip.{faults_are_none}
-use Rattle.bq_reply.specs.declared.word.Word.TheVariants.{Syntax}
-use Rattle.bq_reply.specs.Words.{parse_word}
+use Rattle.bq_reply.specs.declared.refusal.Refusal.TheVariants.{Syntax}
+use Rattle.bq_reply.specs.Words.{parse_refusal}
 use Rattle.bq_script.specs.Script.{Creates, IsScriptStatement, refused, outside, misplaced, limited}
 use Rattle.bq_script.specs.Creations.{is_create_key, is_create, begin_with_create}
 
@@ -35,7 +35,7 @@ creates (statements.CreateQuery name select shared) = true
 creates _ = false
 
 kind_says : (k : TokenKind) (w : List ℕ) → is_create k ≡ says_create (lexeme_as k w)
-kind_says kinds.Word w = refl
+kind_says kinds.Refusal w = refl
 kind_says (kinds.Reserved k) w = refl
 kind_says kinds.Integer w = refl
 kind_says kinds.Comma w = refl
@@ -80,7 +80,7 @@ creates_nothing (statements.CreateQuery name select shared) e = absurd (false≢
 creates_nothing _ e = λ c. c
 
 -- a text that begins with CREATE is refused by its own word
-pub refused-create : (streams : List Shape) (text : List ℕ) (error : ParseError) → begin_with_create (tokens text) ≡ true → IsRefusal text error → IsScriptStatement streams text (refused (parse_word error))
+pub refused-create : (streams : List Shape) (text : List ℕ) (error : ParseError) → begin_with_create (tokens text) ≡ true → IsRefusal text error → IsScriptStatement streams text (refused (parse_refusal error))
 refused-create streams text (parse_errors.Syntax at) begins fault = outside (λ s is. faults_are_none text at s fault is) refl
 refused-create streams text (parse_errors.Limit what) begins (s, is, passed) = limited s what is (does_create s (sym (text_says text s is) ∙ begins)) passed refl
 

@@ -13,7 +13,7 @@ use Rattle.bq_feed.specs.GivenLines.{TookLines}
 use Rattle.bq_script.specs.Ends.{IsFull}
 use Rattle.bq_script.specs.Script.{IsRefusedAt, at_line, at_end}
 use Rattle.bq_reply.specs.Texts.{word_text}
-use Rattle.bq_reply.specs.declared.word.Word.{Word}
+use Rattle.bq_reply.specs.declared.refusal.Refusal.{Refusal}
 
 -- What a command comes to over some lines: its status, what it writes, and how many lines must be read for it; all of them, where no
 -- number is told.
@@ -23,20 +23,20 @@ pub record Outcome : Type 0 where
   pub needs : Option ℕ
 
 -- the text for a refused line
-abbrev pub error_text : ℕ → Word → List ℕ
+abbrev pub error_text : ℕ → Refusal → List ℕ
 error_text number word = codes "error " ++ decimal number ++ 32 ∷ word_text word ++ 10 ∷ []
 
 -- a refused line, by its number and the word
-abbrev pub refusal : ℕ → Word → Outcome
+abbrev pub refusal : ℕ → Refusal → Outcome
 refusal number word = record { status = status.Invalid; text = error_text number word; needs = Some number }
 
 -- how many lines must be read for a refusal before the query: those up to it; or all, where the script ends before its query
-abbrev pub lines_for : {lines : List (List ℕ)} (number : ℕ) {word : Word} → IsRefusedAt lines number word → Option ℕ
+abbrev pub lines_for : {lines : List (List ℕ)} (number : ℕ) {word : Refusal} → IsRefusedAt lines number word → Option ℕ
 lines_for number (at_line before line behind streams whole create is number_is) = Some number
 lines_for number (at_end streams create word_is number_is) = None
 
 -- a line that is refused before the query
-abbrev pub early_refusal : {lines : List (List ℕ)} (number : ℕ) (word : Word) → IsRefusedAt lines number word → Outcome
+abbrev pub early_refusal : {lines : List (List ℕ)} (number : ℕ) (word : Refusal) → IsRefusedAt lines number word → Outcome
 early_refusal number word refused = record { status = status.Invalid; text = error_text number word; needs = lines_for number refused }
 
 -- so many lines stand in the text that was taken; or it is all there is, and has fewer bytes than can be counted

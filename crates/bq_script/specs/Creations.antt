@@ -11,7 +11,7 @@ use Rattle.bq_schema.specs.Streams.{Shape}
 use Rattle.bq_parser.specs.declared.tree.SelectAst.{SelectAst}
 use Rattle.bq_parser.specs.declared.tree.Statement.TheVariants.{CreateQuery}
 use Rattle.bq_parser.specs.Resolution.{HasNamed}
-use Rattle.bq_reply.specs.declared.word.Word.{Word}
+use Rattle.bq_reply.specs.declared.refusal.Refusal.{Refusal}
 use Rattle.bq_script.specs.declared.creation.Asked.{Asked}
 use Rattle.bq_script.specs.declared.creation.Creation.{Creation}
 use Rattle.bq_script.specs.declared.creation.Creation.TheVariants.{Stream, Query}
@@ -50,19 +50,19 @@ pub record TakesQuery (asked : Asked) (streams : List Shape) (line : ScriptLine)
   pub named : HasNamed streams asked.query
 
 -- What a line does to the streams: it adds one, or asks for the query, or is refused.
-abbrev pub Takes : Result Creation Word → List Shape → ScriptLine → List Shape → Type 0
+abbrev pub Takes : Result Creation Refusal → List Shape → ScriptLine → List Shape → Type 0
 Takes (Ok Stream) streams line now = TakesStream streams line now
 Takes (Ok (Query asked)) streams line now = TakesQuery asked streams line now
 Takes (Err word) streams line now = (line ≡ refused word) × (now ≡ streams)
 
 -- what a text does that is read as a statement
-pub record TakesText (result : Result Creation Word) (streams : List Shape) (text : List ℕ) (now : List Shape) : Type 0 where
+pub record TakesText (result : Result Creation Refusal) (streams : List Shape) (text : List ℕ) (now : List Shape) : Type 0 where
   pub line : ScriptLine
   pub is_line : IsScriptStatement streams text line
   pub takes : Takes result streams line now
 
 -- what a line does
-pub record TakesLine (result : Result Creation Word) (streams : List Shape) (bytes : List ℕ) (now : List Shape) : Type 0 where
+pub record TakesLine (result : Result Creation Refusal) (streams : List Shape) (bytes : List ℕ) (now : List Shape) : Type 0 where
   pub line : ScriptLine
   pub is_line : IsScriptLine streams bytes line
   pub takes : Takes result streams line now

@@ -8,14 +8,14 @@ use Rattle.bq_io.specs.declared.status.Status.{Status}
 use Rattle.bq_io.specs.declared.status.Status.TheVariants as status
 use Rattle.bq_io.specs.Source.{SourceState}
 use Rattle.bq_io.specs.Sink.{SinkState}
-use Rattle.bq_reply.specs.declared.word.Word.{Word}
+use Rattle.bq_reply.specs.declared.refusal.Refusal.{Refusal}
 use Rattle.bq_script.specs.declared.end.ScriptEnd.{ScriptEnd}
 use Rattle.bq_script.specs.declared.end.ScriptEnd.TheVariants.{Refused, ReadFault, ByteLimit, Memory}
 use Rattle.bq_script.specs.Ends.{IsFull}
 use Rattle.bq_script.specs.Commands.{Outcome, ComesTo, TookUnsettled, WroteFront, error_text}
 
 -- it comes to a refusal of this line
-pub record Refuses (IsOutcome : List (List ℕ) → Outcome → Type 0) (number : ℕ) (word : Word) (source now : SourceState) : Type 0 where
+pub record Refuses (IsOutcome : List (List ℕ) → Outcome → Type 0) (number : ℕ) (word : Refusal) (source now : SourceState) : Type 0 where
   pub needs : Option ℕ
   pub comes : ComesTo IsOutcome source now (record { status = status.Invalid; text = error_text number word; needs = needs })
 

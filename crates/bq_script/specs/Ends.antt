@@ -12,8 +12,8 @@ use Rattle.bq_schema.specs.Streams.{Shape}
 use Rattle.bq_parser.specs.declared.tree.SelectAst.{SelectAst}
 use Rattle.bq_parser.specs.declared.tree.Statement.TheVariants.{CreateQuery}
 use Rattle.bq_parser.specs.Resolution.{HasNamed}
-use Rattle.bq_reply.specs.declared.word.Word.{Word}
-use Rattle.bq_reply.specs.declared.word.Word.TheVariants.{LineTooLong, Syntax}
+use Rattle.bq_reply.specs.declared.refusal.Refusal.{Refusal}
+use Rattle.bq_reply.specs.declared.refusal.Refusal.TheVariants.{LineTooLong, Syntax}
 use Rattle.bq_script.specs.declared.end.ScriptEnd.{ScriptEnd}
 use Rattle.bq_script.specs.declared.end.ScriptEnd.TheVariants.{Refused, ReadFault, ByteLimit, Memory}
 use Rattle.bq_script.specs.declared.texts.TextAnswer.{TextAnswer}
@@ -92,18 +92,18 @@ pub record GaveQuery (asked : Asked) (streams : List Shape) (source now : Source
   pub named : HasNamed streams asked.query
 
 -- this holds where a script ends before its query
-abbrev pub IfAtEnd : {all : List (List ℕ)} {number : ℕ} {word : Word} → IsRefusedAt all number word → Type 0 → Type 0
+abbrev pub IfAtEnd : {all : List (List ℕ)} {number : ℕ} {word : Refusal} → IsRefusedAt all number word → Type 0 → Type 0
 IfAtEnd (at_line before line behind streams whole create is number_is) P = ⊤
 IfAtEnd (at_end streams create word_is number_is) P = P
 
 -- nothing stands behind the line that is refused
-abbrev pub IsLast : {all : List (List ℕ)} {number : ℕ} {word : Word} → IsRefusedAt all number word → Type 0
+abbrev pub IsLast : {all : List (List ℕ)} {number : ℕ} {word : Refusal} → IsRefusedAt all number word → Type 0
 IsLast (at_line before line behind streams whole create is number_is) = behind ≡ []
 IsLast (at_end streams create word_is number_is) = ⊤
 
 -- The lines of a text were taken, each of them whole, and the last of them is refused. A script that ends before its query was read to
 -- its end, and has fewer bytes than can be counted.
-pub record IsRefused (number : ℕ) (word : Word) (source now : SourceState) : Type 0 where
+pub record IsRefused (number : ℕ) (word : Refusal) (source now : SourceState) : Type 0 where
   pub text : List ℕ
   pub took : TookLines source now text
   pub refused : IsRefusedAt (lines text) number word

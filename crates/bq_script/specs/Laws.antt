@@ -3,7 +3,7 @@ use Rattle.std.specs.Prelude.{◌≡◌, ℕ, Bool, List}
 use Rattle.bq_model.specs.Query.{QueryValue}
 use Rattle.bq_schema.specs.Streams.{Shape}
 use Rattle.bq_parser.specs.declared.tree.SelectAst.{SelectAst}
-use Rattle.bq_reply.specs.declared.word.Word.{Word}
+use Rattle.bq_reply.specs.declared.refusal.Refusal.{Refusal}
 use Rattle.bq_script.specs.Script.{Asks, IsRefusedAt}
 
 -- these lines ask for one query at most, by one statement in one line, over one list of streams
@@ -13,11 +13,11 @@ AskForOne lines = (streams : List Shape) → (others : List Shape) → (name : L
 
 -- they are refused at one line at most, by one word
 abbrev pub AreRefusedOnce : List (List ℕ) → Type 0
-AreRefusedOnce lines = (m : ℕ) → (n : ℕ) → (v : Word) → (w : Word) → IsRefusedAt lines m v → IsRefusedAt lines n w → (m ≡ n) × (v ≡ w)
+AreRefusedOnce lines = (m : ℕ) → (n : ℕ) → (v : Refusal) → (w : Refusal) → IsRefusedAt lines m v → IsRefusedAt lines n w → (m ≡ n) × (v ≡ w)
 
 -- they are not refused where they ask for a query
 abbrev pub AreNotBoth : List (List ℕ) → Type 0
-AreNotBoth lines = (streams : List Shape) → (name : List ℕ) → (select : SelectAst) → (shared : Bool) → (q : QueryValue) → (m : ℕ) → (n : ℕ) → (word : Word) → Asks lines streams name select shared q m → ¬ (IsRefusedAt lines n word)
+AreNotBoth lines = (streams : List Shape) → (name : List ℕ) → (select : SelectAst) → (shared : Bool) → (q : QueryValue) → (m : ℕ) → (n : ℕ) → (word : Refusal) → Asks lines streams name select shared q m → ¬ (IsRefusedAt lines n word)
 
 -- the lines of a script determine its query, or the line that is refused and the word
 abbrev pub HasOneEnd : Type 0

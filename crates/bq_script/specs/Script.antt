@@ -16,26 +16,26 @@ use Rattle.bq_parser.specs.LineKind.{stripped, kind_of_line}
 use Rattle.bq_parser.specs.Syntax.{IsStatement}
 use Rattle.bq_parser.specs.Limits.{limit_of}
 use Rattle.bq_parser.specs.Resolution.{resolved}
-use Rattle.bq_reply.specs.Words.{stream_word, resolve_word}
-use Rattle.bq_reply.specs.declared.word.Word.{Word}
-use Rattle.bq_reply.specs.declared.word.Word.TheVariants.{LineTooLong, Syntax, Limit}
+use Rattle.bq_reply.specs.Words.{stream_refusal, resolve_refusal}
+use Rattle.bq_reply.specs.declared.refusal.Refusal.{Refusal}
+use Rattle.bq_reply.specs.declared.refusal.Refusal.TheVariants.{LineTooLong, Syntax, Limit}
 
 -- What a line is in a script before its query: nothing, a stream, the query under its name, which is shared or not, or it is refused.
 pub data ScriptLine : Type 0 where
   nothing : ScriptLine
   stream : Shape → ScriptLine
   query : List ℕ → SelectAst → Bool → QueryValue → ScriptLine
-  refused : Word → ScriptLine
+  refused : Refusal → ScriptLine
 
 -- a stream is created where it can be added
 abbrev pub stream_line : Shape → Result ℕ StreamError → ScriptLine
 stream_line shape (Ok number) = stream shape
-stream_line shape (Err error) = refused (stream_word error)
+stream_line shape (Err error) = refused (stream_refusal error)
 
 -- the query, where its names stand for one
 abbrev pub query_line : List ℕ → SelectAst → Bool → Result QueryValue ResolveError → ScriptLine
 query_line name select shared (Ok q) = query name select shared q
-query_line name select shared (Err error) = refused (resolve_word error)
+query_line name select shared (Err error) = refused (resolve_refusal error)
 
 -- a statement creates a stream or the query; no other has a place
 abbrev pub statement_line : List Shape → Statement → ScriptLine
@@ -100,7 +100,7 @@ pub record Asks (lines : List (List ℕ)) (streams : List Shape) (name : List �
 
 -- The first line that is refused before the query, by its number from 1; or the script ends before its query, which is refused at the
 -- number behind the last line.
-pub data IsRefusedAt (lines : List (List ℕ)) (number : ℕ) (word : Word) : Type 0 where
+pub data IsRefusedAt (lines : List (List ℕ)) (number : ℕ) (word : Refusal) : Type 0 where
   at_line : (before : List (List ℕ)) (line : List ℕ) (behind : List (List ℕ)) (streams : List Shape) → lines ≡ before ++ line ∷ behind
       → CreateStreams [] before streams → IsScriptLine streams line (refused word) → number ≡ suc (length before) → IsRefusedAt lines number word
   at_end : (streams : List Shape) → CreateStreams [] lines streams → word ≡ Syntax → number ≡ suc (length lines) → IsRefusedAt lines number word
@@ -115,6 +115,6 @@ pub record IsBlank (line : List ℕ) : Type 0 where
   pub nothing : SaysNothing line
 
 -- why a line behind the query is refused where none has a place there but blank ones
-pub data IsMisplaced (line : List ℕ) (word : Word) : Type 0 where
+pub data IsMisplaced (line : List ℕ) (word : Refusal) : Type 0 where
   too_long : 1024 < length line → word ≡ LineTooLong → IsMisplaced line word
   loud : length line ≤ 1024 → ¬ IsBlank line → word ≡ Syntax → IsMisplaced line word

@@ -11,7 +11,7 @@ ghost use Rattle.bq_script.specs.Creations.{Takes, TakesText, TakesLine, begin_w
 use bq_lexer::{Key, TokenKind, lex};
 use bq_model::Query;
 use bq_parser::{LineKind, ParseError, Statement, classify, parse, resolve};
-use bq_reply::{Word, parse_word, resolve_word, stream_word};
+use bq_reply::{Refusal, parse_refusal, resolve_refusal, stream_refusal};
 use bq_schema::Catalog;
 
 /// A query, and the statement that asks for it.
@@ -46,20 +46,20 @@ fn begins_with_create(text: &[u8]) -> bool
 
 // Why a text is refused that is no statement within the limits. One that creates nothing has no place, whether or not it passes a
 // limit.
-fn refusal_of(text: &[u8], error: ParseError) -> Word
+fn refusal_of(text: &[u8], error: ParseError) -> Refusal
     requires short { length text.now ≤ 1024 }
     requires refusal { IsRefusal text.now error }
     ensures { (streams : List Shape) → IsScriptStatement streams text.now (refused result) }
 {
     if begins_with_create(text) {
-        parse_word(error)
+        parse_refusal(error)
     } else {
-        Word::Syntax
+        Refusal::Syntax
     }
 }
 
 // Creates what a statement asks for.
-fn take_statement(catalog: &mut Catalog, statement: Statement) -> Result<Creation, Word>
+fn take_statement(catalog: &mut Catalog, statement: Statement) -> Result<Creation, Refusal>
     requires whole { IsWhole statement }
     requires within { limit_of statement ≡ None }
     ensures { Takes result catalog.old (statement_line catalog.old statement) catalog.new }
@@ -68,7 +68,7 @@ fn take_statement(catalog: &mut Catalog, statement: Statement) -> Result<Creatio
         Statement::CreateStream { name, columns } => {
             match catalog.add_stream(name, columns.as_slice()) {
                 Ok(_) => Ok(Creation::Stream),
-                Err(error) => Err(stream_word(error)),
+                Err(error) => Err(stream_refusal(error)),
             }
         }
         Statement::CreateQuery {
@@ -84,7 +84,7 @@ fn take_statement(catalog: &mut Catalog, statement: Statement) -> Result<Creatio
                 };
                 Ok(Creation::Query(Asked { statement, query }))
             }
-            Err(error) => Err(resolve_word(error)),
+            Err(error) => Err(resolve_refusal(error)),
         },
         Statement::Explain { .. }
         | Statement::DropQuery { .. }
@@ -92,12 +92,12 @@ fn take_statement(catalog: &mut Catalog, statement: Statement) -> Result<Creatio
         | Statement::ResumeRows { .. }
         | Statement::ResumeGiven { .. }
         | Statement::ResumeCell { .. }
-        | Statement::ResumeTuple { .. } => Err(Word::Syntax),
+        | Statement::ResumeTuple { .. } => Err(Refusal::Syntax),
     }
 }
 
 // Creates what a text asks for that is read as a statement.
-fn take_text(catalog: &mut Catalog, text: &[u8]) -> Result<Creation, Word>
+fn take_text(catalog: &mut Catalog, text: &[u8]) -> Result<Creation, Refusal>
     requires { length text.now ≤ 1024 }
     ensures { TakesText result catalog.old text.now catalog.new }
 {
@@ -109,7 +109,7 @@ fn take_text(catalog: &mut Catalog, text: &[u8]) -> Result<Creation, Word>
 
 /// Creates what a line asks for that says something: a stream, which is added to the catalog, or the query; or gives the word that
 /// refuses it, and leaves the catalog as it was.
-pub fn take_line(catalog: &mut Catalog, line: &[u8]) -> Result<Creation, Word>
+pub fn take_line(catalog: &mut Catalog, line: &[u8]) -> Result<Creation, Refusal>
     requires short { length line.now ≤ 1024 }
     requires loud { ¬ (SaysNothing line.now) }
     ensures { TakesLine result catalog.old line.now catalog.new }
@@ -117,6 +117,6 @@ pub fn take_line(catalog: &mut Catalog, line: &[u8]) -> Result<Creation, Word>
     let (kind, text) = classify(line);
     match kind {
         LineKind::StatementLine => take_text(catalog, text),
-        LineKind::RowLine | LineKind::Nothing => Err(Word::Syntax),
+        LineKind::RowLine | LineKind::Nothing => Err(Refusal::Syntax),
     }
 }

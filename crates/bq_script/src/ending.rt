@@ -6,10 +6,10 @@ ghost use Rattle.bq_script.specs.Ending.{EndsBy, EndsWith};
 
 use crate::end::ScriptEnd;
 use bq_io::{Sink, Status};
-use bq_reply::{Word, write_refused};
+use bq_reply::{Refusal, write_refused};
 
 // Writes the line of a refusal.
-fn refuse<O: Sink>(line: u64, word: Word, output: &mut O) -> Status
+fn refuse<O: Sink>(line: u64, word: Refusal, output: &mut O) -> Status
     ensures ends { EndsWith status.Invalid (error_text line word) result (O.seen output.old) (O.seen output.new) }
     ensures later { (O.seen output.old).faults ≤ (O.seen output.new).faults }
 {

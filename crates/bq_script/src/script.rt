@@ -11,7 +11,7 @@ use bq_feed::LineReader;
 use bq_io::Source;
 use bq_model::Query;
 use bq_parser::Statement;
-use bq_reply::Word;
+use bq_reply::Refusal;
 use bq_schema::Catalog;
 use std::alloc::Global;
 
@@ -47,11 +47,11 @@ pub fn name_of(statement: &Statement) -> &[u8]
 // The end of a script that ends before its query: it is refused at the number behind its last line.
 fn ended(reader: &LineReader) -> ScriptEnd
     requires { reader.now.lines < 2 ^ 64 - 1 }
-    ensures { result ≡ ScriptEnd.Refused (reader.now.lines + 1) Word.Syntax }
+    ensures { result ≡ ScriptEnd.Refused (reader.now.lines + 1) Refusal.Syntax }
 {
     ScriptEnd::Refused {
         line: reader.lines() + 1,
-        word: Word::Syntax,
+        word: Refusal::Syntax,
     }
 }
 
@@ -73,7 +73,7 @@ fn read_query<I: Source>(
                 Ok(Creation::Query(asked)) => return Ok(asked),
                 Err(word) => return Err(refused(reader, word)),
             },
-            TextAnswer::TooLong => return Err(refused(reader, Word::LineTooLong)),
+            TextAnswer::TooLong => return Err(refused(reader, Refusal::LineTooLong)),
             TextAnswer::End => return Err(ended(reader)),
             TextAnswer::ReadFault => return Err(ScriptEnd::ReadFault),
             TextAnswer::ByteLimit => return Err(ScriptEnd::ByteLimit),

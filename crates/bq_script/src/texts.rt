@@ -11,7 +11,7 @@ use crate::end::ScriptEnd;
 use bq_feed::{LineAnswer, LineReader};
 use bq_io::Source;
 use bq_parser::{LineKind, classify};
-use bq_reply::Word;
+use bq_reply::Refusal;
 
 /// What comes next in a script, behind blank lines and comments.
 #[derive(Clone, Copy, Debug, PartialEq, Eq)]
@@ -67,7 +67,7 @@ pub fn text(reader: &LineReader) -> &[u8]
 }
 
 /// Returns the end of a script at the line that was given last, which this word refuses.
-pub fn refused(reader: &LineReader, word: Word) -> ScriptEnd
+pub fn refused(reader: &LineReader, word: Refusal) -> ScriptEnd
     ensures { result ≡ ScriptEnd.Refused reader.now.lines word }
 {
     ScriptEnd::Refused {
@@ -81,8 +81,8 @@ fn blank_end(answer: TextAnswer, reader: &LineReader) -> Result<(), ScriptEnd>
     ensures { result ≡ ends.blank_end answer reader.now.lines }
 {
     match answer {
-        TextAnswer::Text => Err(refused(reader, Word::Syntax)),
-        TextAnswer::TooLong => Err(refused(reader, Word::LineTooLong)),
+        TextAnswer::Text => Err(refused(reader, Refusal::Syntax)),
+        TextAnswer::TooLong => Err(refused(reader, Refusal::LineTooLong)),
         TextAnswer::End => Ok(()),
         TextAnswer::ReadFault => Err(ScriptEnd::ReadFault),
         TextAnswer::ByteLimit => Err(ScriptEnd::ByteLimit),

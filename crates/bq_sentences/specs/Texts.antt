@@ -3,7 +3,7 @@ use Rattle.std.specs.Prelude.{ℕ, ◌+◌, ◌==◌, List, [], ◌∷◌, ◌++
 use Rattle.bq_schema.specs.Streams.{Shape}
 use Rattle.bq_parser.specs.LineKind.{stripped}
 use Rattle.bq_reply.specs.Texts.{word_text}
-use Rattle.bq_reply.specs.declared.word.Word.{Word}
+use Rattle.bq_reply.specs.declared.refusal.Refusal.{Refusal}
 use Rattle.bq_diagnosis.specs.declared.fault.Fault.{Fault}
 use Rattle.bq_diagnosis.specs.declared.fault.Fault.TheVariants as faults
 use Rattle.bq_diagnosis.specs.FaultWords.{word_of}
@@ -11,7 +11,7 @@ use Rattle.bq_diagnosis.specs.Marks.{place_of}
 use Rattle.bq_sentences.specs.Sentences.{sentence_text}
 
 -- the number of a line and the word, as `line 8: Syntax`
-unfoldable pub head_text : ℕ → Word → List ℕ
+unfoldable pub head_text : ℕ → Refusal → List ℕ
 head_text number word = codes "line " ++ (decimal number ++ (codes ": " ++ (word_text word ++ (10 ∷ []))))
 
 -- a text between two spaces and another text at the end of a line

@@ -11,37 +11,37 @@ use crate::shown::{write_mark, write_quoted};
 use bq_diagnosis::{Fault, Known, front_of, place_of, word_of};
 use bq_io::{Sink, WriteFault, write_all, write_pieces};
 use bq_parser::classify;
-use bq_reply::Word;
+use bq_reply::Refusal;
 use itoa::Buffer;
 
 /// The last place that is shown.
 const LAST_SHOWN: u16 = 200;
 
 // The text of a word of refusal.
-fn word_text(word: Word) -> &'static [u8]
+fn word_text(word: Refusal) -> &'static [u8]
     ensures { result.now ≡ replies.word_text word }
 {
     match word {
-        Word::LineTooLong => b"LineTooLong",
-        Word::Syntax => b"Syntax",
-        Word::Limit => b"Limit",
-        Word::Duplicate => b"Duplicate",
-        Word::TooMany => b"TooMany",
-        Word::UnknownStream => b"UnknownStream",
-        Word::UnknownColumn => b"UnknownColumn",
-        Word::SelfJoin => b"SelfJoin",
-        Word::UnknownQuery => b"UnknownQuery",
-        Word::Late => b"Late",
-        Word::Arity => b"Arity",
-        Word::Value => b"Value",
-        Word::Domain => b"Domain",
-        Word::RowLimit => b"RowLimit",
+        Refusal::LineTooLong => b"LineTooLong",
+        Refusal::Syntax => b"Syntax",
+        Refusal::Limit => b"Limit",
+        Refusal::Duplicate => b"Duplicate",
+        Refusal::TooMany => b"TooMany",
+        Refusal::UnknownStream => b"UnknownStream",
+        Refusal::UnknownColumn => b"UnknownColumn",
+        Refusal::SelfJoin => b"SelfJoin",
+        Refusal::UnknownQuery => b"UnknownQuery",
+        Refusal::Late => b"Late",
+        Refusal::Arity => b"Arity",
+        Refusal::Value => b"Value",
+        Refusal::Domain => b"Domain",
+        Refusal::RowLimit => b"RowLimit",
     }
 }
 
 // `line 8: Syntax`
 #[tactic(auto, unfolding(crate::specs::Texts::head_text))]
-fn write_head<O: Sink>(out: &mut O, number: u64, word: Word) -> Result<(), WriteFault>
+fn write_head<O: Sink>(out: &mut O, number: u64, word: Refusal) -> Result<(), WriteFault>
     ensures { Writes result (O.seen out.old) (O.seen out.new) (specs.head_text number word) }
 {
     let mut buffer = Buffer::new();

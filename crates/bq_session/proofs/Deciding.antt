@@ -24,11 +24,11 @@ use Rattle.bq_session.specs.Answers.{accepted, rejected, acceptance}
 use Rattle.bq_session.specs.State.{State, one_line_more}
 use Rattle.bq_parser.specs.Naming.{column_text}
 use Rattle.bq_reply.specs.Texts.{which_text, condition_text, numbers_text, plan_text}
-use Rattle.bq_session.specs.Session.{Kept, StandsFor, Does, outcome_of}
+use Rattle.bq_session.specs.Session.{SessionValue, StandsFor, Does, outcome_of}
 use Rattle.bq_session.proofs.Given.{given}
 
 -- the session with this registry in place of its own
-abbrev pub with_registry : Kept → RegistryValue → Kept
+abbrev pub with_registry : SessionValue → RegistryValue → SessionValue
 with_registry k r = record k { registry = r }
 
 -- the reply to a query that is accepted
@@ -45,7 +45,7 @@ same_verdict shared q free plans.Filter t = t
 same_verdict shared q free (plans.Parts ps numbers) t = t
 
 -- a query is accepted
-pub takes : {T E : Type 0} (written : Result T E) (outcome : LineOutcome) (s : State) (name : List ℕ) (q : QueryValue) (shared : Bool) (k : Kept) (r : RegistryValue) (v : Verdict) (before after : SinkState)
+pub takes : {T E : Type 0} (written : Result T E) (outcome : LineOutcome) (s : State) (name : List ℕ) (q : QueryValue) (shared : Bool) (k : SessionValue) (r : RegistryValue) (v : Verdict) (before after : SinkState)
     → outcome ≡ outcome_of written → StandsFor k (one_line_more s) → TellsVerdict shared q (free_pages s.queries) (Ok v) → Registered k.registry name q shared v r
     → Writes written before after (acceptance_text name v)
     → Does outcome s (asked name q shared) (with_registry k r) before after
@@ -65,7 +65,7 @@ takes written outcome s name q shared k r v before after o old tells reg w =
     (subst (λ t. Writes written before after t) (ap (acceptance_text name) reg.told ∙ same_text name reg.plan) w)
 
 -- a session whose registry is unchanged stands for what it stood for
-pub unchanged : (k : Kept) (r : RegistryValue) (s : State) → IsUnchanged k.registry r → StandsFor k s → StandsFor (with_registry k r) s
+pub unchanged : (k : SessionValue) (r : RegistryValue) (s : State) → IsUnchanged k.registry r → StandsFor k s → StandsFor (with_registry k r) s
 unchanged k r s u old = record {
   limit = old.limit;
   streams = old.streams;
@@ -77,7 +77,7 @@ unchanged k r s u old = record {
 }
 
 -- a number of the query is above its limit
-pub too_large : {T E : Type 0} (written : Result T E) (outcome : LineOutcome) (s : State) (name : List ℕ) (q : QueryValue) (shared : Bool) (k : Kept) (r : RegistryValue) (which : Which) (before after : SinkState)
+pub too_large : {T E : Type 0} (written : Result T E) (outcome : LineOutcome) (s : State) (name : List ℕ) (q : QueryValue) (shared : Bool) (k : SessionValue) (r : RegistryValue) (which : Which) (before after : SinkState)
     → outcome ≡ outcome_of written → StandsFor k (one_line_more s) → IsVerdict shared q (free_pages s.queries) (verdicts.limit which) → IsUnchanged k.registry r
     → Writes written before after (codes "refused " ++ name ++ codes " limit " ++ which_text which ++ 10 ∷ [])
     → Does outcome s (asked name q shared) (with_registry k r) before after
@@ -85,7 +85,7 @@ too_large written outcome s name q shared k r which before after o old v u w =
     given written outcome s (asked name q shared) (decided name q (verdicts.limit which)) (with_registry k r) before after o (rejected (verdicts.limit which) v refl refl) (unchanged k r (one_line_more s) u old) w
 
 -- too few pages are free
-pub no_room : {T E : Type 0} (written : Result T E) (outcome : LineOutcome) (s : State) (name : List ℕ) (q : QueryValue) (shared : Bool) (k : Kept) (r : RegistryValue) (before after : SinkState)
+pub no_room : {T E : Type 0} (written : Result T E) (outcome : LineOutcome) (s : State) (name : List ℕ) (q : QueryValue) (shared : Bool) (k : SessionValue) (r : RegistryValue) (before after : SinkState)
     → outcome ≡ outcome_of written → StandsFor k (one_line_more s) → IsVerdict shared q (free_pages s.queries) verdicts.pool → IsUnchanged k.registry r
     → Writes written before after (codes "refused " ++ name ++ codes " limit pool" ++ 10 ∷ [])
     → Does outcome s (asked name q shared) (with_registry k r) before after
@@ -93,7 +93,7 @@ no_room written outcome s name q shared k r before after o old v u w =
     given written outcome s (asked name q shared) (decided name q verdicts.pool) (with_registry k r) before after o (rejected verdicts.pool v refl refl) (unchanged k r (one_line_more s) u old) w
 
 -- a part of a query breaks a condition
-pub violated : {T E : Type 0} (written : Result T E) (outcome : LineOutcome) (s : State) (name : List ℕ) (q : QueryValue) (shared : Bool) (k : Kept) (r : RegistryValue) (part : ℕ) (condition : Condition) (attr : Attr) (column : ColumnAst) (before after : SinkState)
+pub violated : {T E : Type 0} (written : Result T E) (outcome : LineOutcome) (s : State) (name : List ℕ) (q : QueryValue) (shared : Bool) (k : SessionValue) (r : RegistryValue) (part : ℕ) (condition : Condition) (attr : Attr) (column : ColumnAst) (before after : SinkState)
     → outcome ≡ outcome_of written → StandsFor k (one_line_more s) → IsVerdict shared q (free_pages s.queries) (verdicts.violation record { part = part; condition = condition; attr = attr }) → IsUnchanged k.registry r
     → column ≡ column_named k.streams q.from attr
     → Writes written before after (codes "refused " ++ name ++ codes " part " ++ decimal part ++ 32 ∷ condition_text condition ++ 32 ∷ column_text column ++ 10 ∷ [])

@@ -19,12 +19,12 @@ use Rattle.bq_session.specs.State.{State}
 use Rattle.bq_session.specs.Requests.{IsRequest}
 use Rattle.bq_session.specs.Answers.{IsAnswer}
 use Rattle.bq_session.specs.Replies.{reply_to}
-use Rattle.bq_session.specs.Session.{Kept, Answered}
+use Rattle.bq_session.specs.Session.{SessionValue, Answered}
 use Rattle.bq_session.specs.declared.run.Ending.TheVariants as ending
 use Rattle.bq_session.specs.Events.{Event, lines_of}
 use Rattle.bq_session.specs.Events as events
 use Rattle.bq_session.specs.Fetched.{Read, StoppedHere}
-use Rattle.bq_session.specs.Run.{AreWhole, WroteText, AtLine, StopsAtLine, Streamed}
+use Rattle.bq_session.specs.Run.{AreWhole, WroteText, AtLine, StopsAtLine, Ran}
 use Rattle.bq_session.specs.Turned.{AnsweredLine, LacksMemory, SinkFailed, ahead, reply, behind}
 use Rattle.bq_session.proofs.Passing.{IfSome-map}
 use Rattle.bq_session.proofs.Stops.{Stopped}
@@ -63,7 +63,7 @@ record Flushed (s : State) (given : List (List ℕ)) (before below : SinkState) 
   pub wrote : (text : List ℕ) → lines text ≡ given → WroteText s text before below
   pub later : before.faults ≤ below.faults
 
-flushed : (answer : LineAnswer) (s : State) (source now now' : SourceState) (old new : Reading) (session : Kept) (before below below' : SinkState) (held kept : List ℕ)
+flushed : (answer : LineAnswer) (s : State) (source now now' : SourceState) (old new : Reading) (session : SessionValue) (before below below' : SinkState) (held kept : List ℕ)
     → (p : Progress s source now old session before below held) → Read answer old new now now' below below' held kept → Flushed s (lines_of 1 (events_of p.answered ++ events_of p.pending)) before below'
 flushed answer s source now now' old new session before below below' held kept p r = record {
   wrote = λ text e. wrote-told s text (p.answered ++ p.pending) before below' (e ∙ ap (lines_of 1) (sym (events_of-append p.answered p.pending))) (only-append p.answered p.pending p.only.0 p.only.1)
@@ -72,8 +72,8 @@ flushed answer s source now now' old new session before below below' held kept p
 }
 
 -- the source is at its end, and all was given
-pub ends-done : (s : State) (source now now' : SourceState) (old new : Reading) (session : Kept) (before below below' : SinkState) (held kept : List ℕ)
-    → Progress s source now old session before below held → Read reads.End old new now now' below below' held kept → Streamed ending.Done s source now' before below'
+pub ends-done : (s : State) (source now now' : SourceState) (old new : Reading) (session : SessionValue) (before below below' : SinkState) (held kept : List ℕ)
+    → Progress s source now old session before below held → Read reads.End old new now now' below below' held kept → Ran ending.Done s source now' before below'
 ends-done s source now now' old new session before below below' held kept p r =
     let f = flushed reads.End s source now now' old new session before below below' held kept p r in
     let a = all-given source now now' old new p.given.front (lines_of 1 (events_of p.answered ++ events_of p.pending)) p.given.given r.next in
@@ -84,8 +84,8 @@ ends-done s source now now' old new session before below below' held kept p r =
     }
 
 -- the source failed
-pub ends-read_fault : (s : State) (source now now' : SourceState) (old new : Reading) (session : Kept) (before below below' : SinkState) (held kept : List ℕ)
-    → Progress s source now old session before below held → Read reads.ReadFault old new now now' below below' held kept → Streamed ending.ReadFault s source now' before below'
+pub ends-read_fault : (s : State) (source now now' : SourceState) (old new : Reading) (session : SessionValue) (before below below' : SinkState) (held kept : List ℕ)
+    → Progress s source now old session before below held → Read reads.ReadFault old new now now' below below' held kept → Ran ending.ReadFault s source now' before below'
 ends-read_fault s source now now' old new session before below below' held kept p r =
     let f = flushed reads.ReadFault s source now now' old new session before below below' held kept p r in
     let g = p.given in
@@ -100,8 +100,8 @@ ends-read_fault s source now now' old new session before below below' held kept 
     }
 
 -- as many bytes were taken as can be counted
-pub ends-byte_limit : (s : State) (source now now' : SourceState) (old new : Reading) (session : Kept) (before below below' : SinkState) (held kept : List ℕ)
-    → Progress s source now old session before below held → Read reads.ByteLimit old new now now' below below' held kept → Streamed ending.ByteLimit s source now' before below'
+pub ends-byte_limit : (s : State) (source now now' : SourceState) (old new : Reading) (session : SessionValue) (before below below' : SinkState) (held kept : List ℕ)
+    → Progress s source now old session before below held → Read reads.ByteLimit old new now now' below below' held kept → Ran ending.ByteLimit s source now' before below'
 ends-byte_limit s source now now' old new session before below below' held kept p r =
     let f = flushed reads.ByteLimit s source now now' old new session before below below' held kept p r in
     let g = p.given in
@@ -203,8 +203,8 @@ stops-at s source now reader answered pending more before below g only-answered 
     }
 
 -- the sink failed before the source was read
-ends-before : (s : State) (source now now' : SourceState) (old new : Reading) (session : Kept) (before below below' : SinkState) (held kept : List ℕ)
-    → Progress s source now old session before below held → StoppedHere old new now now' below below' held kept → Streamed ending.WriteFault s source now' before below'
+ends-before : (s : State) (source now now' : SourceState) (old new : Reading) (session : SessionValue) (before below below' : SinkState) (held kept : List ℕ)
+    → Progress s source now old session before below held → StoppedHere old new now now' below below' held kept → Ran ending.WriteFault s source now' before below'
 ends-before s source now now' old new session before below below' held kept p r =
     let g = subst (λ es. Given 1 source now old (events_of p.answered) es) (sym (append-nil (events_of p.pending))) p.given in
     rw r.left record {
@@ -223,7 +223,7 @@ ends-before s source now now' old new session before below below' held kept p r 
     }
 
 -- A line came that was answered so: where it waits, and the answer in the state there.
-record Asked (how : LineOutcome) (s : State) (source now : SourceState) (reader : Reading) (session : Kept) (before between below : SinkState) (left held : List ℕ) (name name' : ℕ) : Type 0 where
+record Asked (how : LineOutcome) (s : State) (source now : SourceState) (reader : Reading) (session : SessionValue) (before between below : SinkState) (left held : List ℕ) (name name' : ℕ) : Type 0 where
   pub answered : List Told
   pub pending : List Told
   pub has : Held s answered pending before between left
@@ -232,7 +232,7 @@ record Asked (how : LineOutcome) (s : State) (source now : SourceState) (reader 
   pub given : Given 1 source now reader (events_of answered) (events_of pending ++ events.line 1 text ∷ [])
   pub does : Answered how (at s (answered ++ pending)) text session (gathered_seen between name left) (gathered_seen below name' held)
 
-asked : (how : LineOutcome) (s : State) (source now now' : SourceState) (old new : Reading) (session session' : Kept) (before below below' : SinkState) (held held' : List ℕ)
+asked : (how : LineOutcome) (s : State) (source now now' : SourceState) (old new : Reading) (session session' : SessionValue) (before below below' : SinkState) (held held' : List ℕ)
     → (p : Progress s source now old session before below held) → (line : AnsweredLine how (at s (p.answered ++ p.pending)) old new now now' session' below below' held held')
     → Asked how s source now' new session' before line.between below' line.left held' line.name line.name'
 asked how s source now now' old new session session' before below below' held held' p line =
@@ -249,9 +249,9 @@ asked how s source now now' old new session session' before below below' held he
     }
 
 -- the sink failed in the reply to the waiting line, or in an earlier one that was held
-ends-reply : (s : State) (source now now' : SourceState) (old new : Reading) (session session' : Kept) (before below below' : SinkState) (held held' : List ℕ)
+ends-reply : (s : State) (source now now' : SourceState) (old new : Reading) (session session' : SessionValue) (before below below' : SinkState) (held held' : List ℕ)
     → (p : Progress s source now old session before below held) → AnsweredLine outcome.WriteFault (at s (p.answered ++ p.pending)) old new now now' session' below below' held held'
-    → Streamed ending.WriteFault s source now' before below'
+    → Ran ending.WriteFault s source now' before below'
 ends-reply s source now now' old new session session' before below below' held held' p line =
     let a = asked outcome.WriteFault s source now now' old new session session' before below below' held held' p line in
     let broke = a.does.does.reply in
@@ -276,9 +276,9 @@ ends-reply s source now now' old new session session' before below below' held h
     }
 
 -- no memory was found for the waiting line, and the sink failed in an earlier reply that was held
-ends-behind : (s : State) (source now now' : SourceState) (old new : Reading) (session session' : Kept) (before below below' below'' : SinkState) (held held' kept : List ℕ)
+ends-behind : (s : State) (source now now' : SourceState) (old new : Reading) (session session' : SessionValue) (before below below' below'' : SinkState) (held held' kept : List ℕ)
     → (p : Progress s source now old session before below held) → AnsweredLine outcome.Memory (at s (p.answered ++ p.pending)) old new now now' session' below below' held held'
-    → StaysHeld below' below'' held' kept → Streamed ending.WriteFault s source now' before below''
+    → StaysHeld below' below'' held' kept → Ran ending.WriteFault s source now' before below''
 ends-behind s source now now' old new session session' before below below' below'' held held' kept p line stays =
     let a = asked outcome.Memory s source now now' old new session session' before below below' held held' p line in
     let still = held-still s a.answered a.pending before line.between below' line.left held' line.name line.name' a.has a.does.does.2 in
@@ -298,16 +298,16 @@ ends-behind s source now now' old new session session' before below below' below
     }
 
 -- the sink failed
-pub ends-stopped : (s : State) (source now now' : SourceState) (old new : Reading) (session session' : Kept) (before below below' : SinkState) (held kept : List ℕ)
-    → (p : Progress s source now old session before below held) → SinkFailed (at s (p.answered ++ p.pending)) old new now now' session session' below below' held kept → Streamed ending.WriteFault s source now' before below'
+pub ends-stopped : (s : State) (source now now' : SourceState) (old new : Reading) (session session' : SessionValue) (before below below' : SinkState) (held kept : List ℕ)
+    → (p : Progress s source now old session before below held) → SinkFailed (at s (p.answered ++ p.pending)) old new now now' session session' below below' held kept → Ran ending.WriteFault s source now' before below'
 ends-stopped s source now now' old new session session' before below below' held kept p (ahead r same) = ends-before s source now now' old new session before below below' held kept p r
 ends-stopped s source now now' old new session session' before below below' held kept p (reply line) = ends-reply s source now now' old new session session' before below below' held kept p line
 ends-stopped s source now now' old new session session' before below below' held kept p (behind m) = ends-behind s source now now' old new session session' before below m.sink below' held m.full kept p m.lacks m.flushes
 
 -- no memory was found for the waiting line, and all that was held was written
-pub ends-memory : (s : State) (source now now' : SourceState) (old new : Reading) (session session' : Kept) (before below below'' : SinkState) (held : List ℕ)
+pub ends-memory : (s : State) (source now now' : SourceState) (old new : Reading) (session session' : SessionValue) (before below below'' : SinkState) (held : List ℕ)
     → (p : Progress s source now old session before below held) → LacksMemory (at s (p.answered ++ p.pending)) old new now now' session' below held (λ lower full. Wrote lower below'' full)
-    → Streamed ending.Memory s source now' before below''
+    → Ran ending.Memory s source now' before below''
 ends-memory s source now now' old new session session' before below below'' held p m =
     let line = m.lacks in
     let a = asked outcome.Memory s source now now' old new session session' before below m.sink held m.full p line in

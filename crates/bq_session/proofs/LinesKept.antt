@@ -24,7 +24,7 @@ use Rattle.bq_checkpoint.proofs.LineTexts.{lines_append, each_line, each_lines, 
 use Rattle.bq_io.specs.Sink.{SinkState, Wrote, BrokeOff}
 use Rattle.bq_session.specs.Checkpoint.{stream_line, create_again, query_line, kept_lines, checkpoint_lines}
 use Rattle.bq_session.specs.State.{State}
-use Rattle.bq_session.specs.Session.{Kept, StandsFor}
+use Rattle.bq_session.specs.Session.{SessionValue, StandsFor}
 use Rattle.bq_session.specs.Told.{kept_of, live_line, live_lines, lines_kept}
 
 -- what is kept of a live query is what its base and the rows since come to
@@ -91,7 +91,7 @@ all_kept pool (l ∷ live) (q ∷ queries) all =
     ∙ ap (λ ls. kept_lines q ++ ls) (all_kept pool live queries (others_of pool l live q queries all))
 
 -- the lines of all that is kept
-pub lines_are : (k : Kept) (s : State) → StandsFor k s → lines_kept k.streams k.registry k.taken ≡ checkpoint_lines s
+pub lines_are : (k : SessionValue) (s : State) → StandsFor k s → lines_kept k.streams k.registry k.taken ≡ checkpoint_lines s
 lines_are k s h =
     let live = k.registry.live in
     let pool = k.registry.pool in

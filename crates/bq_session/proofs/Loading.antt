@@ -28,8 +28,8 @@ use Rattle.bq_session.specs.Request.{Request, refused}
 use Rattle.bq_session.specs.Requests.{live_named, natural, natural_upto, loaded_request, load_request, given_request, cell_request, tuple_request}
 use Rattle.bq_session.specs.Resuming.{IsStanding, place_to_set, Sets}
 use Rattle.bq_session.specs.State.{State, from_base, set_base}
-use Rattle.bq_reply.specs.declared.word.Word.{Word}
-use Rattle.bq_reply.specs.declared.word.Word.TheVariants.{UnknownQuery, Late, Arity, Value}
+use Rattle.bq_reply.specs.declared.refusal.Refusal.{Refusal}
+use Rattle.bq_reply.specs.declared.refusal.Refusal.TheVariants.{UnknownQuery, Late, Arity, Value}
 use Rattle.bq_session.proofs.LinesKept.{kept_same, first_of, others_of, announced_are_kept}
 
 -- a name is found at the same place among what is kept and among the live queries
@@ -97,7 +97,7 @@ none_live name pool (l ∷ live) (q ∷ queries) all e =
     (none_live name pool live queries (others_of pool l live q queries all))
 
 -- a word that refuses the line before it is read what it sets
-refused_by : (began : Bool) (name : List ℕ) (r : RegistryValue) (s : State) (load : LiveQuery → Request) (place : Option ℕ) (word : Word) → IsStanding r began s
+refused_by : (began : Bool) (name : List ℕ) (r : RegistryValue) (s : State) (load : LiveQuery → Request) (place : Option ℕ) (word : Refusal) → IsStanding r began s
     → position (λ (l : Live). bytes_eq l.name name) r.live ≡ place → place_to_set began place ≡ Err word → load_request s name load (live_named name s.queries) ≡ refused word
 refused_by began name r s load None word h at e =
     let named = none_live name r.pool r.live s.queries h.queries (not_found name r.live at) in
@@ -109,7 +109,7 @@ refused_by true name r s load (Some place) word h at e =
     ap (load_request s name load) found.is ∙ ap (λ b. cond b (refused Late) (load found.live)) (sym h.began) ∙ ap refused same
 refused_by false name r s load (Some place) word h at e = absurd cc
 
-pub refused_first : (began : Bool) (name : List ℕ) (r : RegistryValue) (s : State) (load : LiveQuery → Request) (word : Word) → IsStanding r began s
+pub refused_first : (began : Bool) (name : List ℕ) (r : RegistryValue) (s : State) (load : LiveQuery → Request) (word : Refusal) → IsStanding r began s
     → place_to_set began (position (λ (l : Live). bytes_eq l.name name) r.live) ≡ Err word → load_request s name load (live_named name s.queries) ≡ refused word
 refused_first began name r s load word h e = refused_by began name r s load (position (λ (l : Live). bytes_eq l.name name) r.live) word h refl e
 
@@ -183,10 +183,10 @@ set_twice (z ∷ queries) zero x y = refl
 set_twice (z ∷ queries) (suc place) x y = ap (λ qs. z ∷ qs) (set_twice queries place x y)
 
 -- what a load answered, and what the line did
-abbrev pub IsAnswerOf : {T : Type 0} → Bool → Result T Word → Type 0
+abbrev pub IsAnswerOf : {T : Type 0} → Bool → Result T Refusal → Type 0
 IsAnswerOf taken result = MatchResult result (λ x. taken ≡ true) (λ word. (taken ≡ false) × (word ≡ Value))
 
-sets_by : {T : Type 0} (result : Result T Word) (taken : Bool) (name : List ℕ) (o : Option Base) (live : LiveQuery) (place : ℕ) (queries others : List LiveQuery) (old new : RegistryValue)
+sets_by : {T : Type 0} (result : Result T Refusal) (taken : Bool) (name : List ℕ) (o : Option Base) (live : LiveQuery) (place : ℕ) (queries others : List LiveQuery) (old new : RegistryValue)
     → IsAnswerOf taken result → LoadsThere taken o live place queries old new → ((base : Base) → slice_set queries place (with_base base live) ≡ set_base name base others)
     → Sets result (loaded_request name o) others old new
 sets_by (Ok x) taken name (Some base) live place queries others old new a l e =
@@ -202,7 +202,7 @@ sets_by (Ok x) taken name None live place queries others old new a l e = absurd 
 sets_by (Err word) taken name None live place queries others old new a l e = (ap refused (sym a.1), l.1)
 
 -- a load did what its line asks for
-pub sets_loaded : {T : Type 0} (result : Result T Word) (taken : Bool) (name : List ℕ) (load : LiveQuery → Option Base) (request : Request) (place : ℕ) (s : State) (old new : RegistryValue)
+pub sets_loaded : {T : Type 0} (result : Result T Refusal) (taken : Bool) (name : List ℕ) (load : LiveQuery → Option Base) (request : Request) (place : ℕ) (s : State) (old new : RegistryValue)
     → (t : IsToSet name place s) → request ≡ loaded_request name (load (kept_so_far t.found.live)) → IsAnswerOf taken result → AreLiveFor old.pool old.live s.queries → AreSoundAt old.live place → LoadsAt taken place load old new
     → Sets result request s.queries old new
 sets_loaded result taken name load request place s old new t e a h sound l =
@@ -234,7 +234,7 @@ cells_of_base pool live queries place q d plan all there e is =
     ∙ sym (announced_are_kept x.executor.shared x.executor.query plan is)
 
 -- what RESUME q AS n asks for, where the line is not refused before
-pub given_refused : (began : Bool) (name : List ℕ) (r : RegistryValue) (s : State) (z : ℤ) (word : Word) → IsStanding r began s
+pub given_refused : (began : Bool) (name : List ℕ) (r : RegistryValue) (s : State) (z : ℤ) (word : Refusal) → IsStanding r began s
     → place_to_set began (position (λ (l : Live). bytes_eq l.name name) r.live) ≡ Err word → given_request s name z ≡ refused word
 given_refused began name r s z word h e =
     refused_first began name r s (λ live. loaded_request name (option_and_then (λ n. loaded_given n (base_in live)) (natural_upto s.taken z))) word h e
@@ -246,7 +246,7 @@ given_asks name place s z count o t e f =
     ∙ ap (λ (p : Option ℕ). loaded_request name (option_and_then (λ n. loaded_given n (base_in t.found.live)) p)) (ap (λ m. natural_upto m z) (sym e) ∙ f)
 
 -- what RESUME q FROM i v asks for
-pub cell_refused : (began : Bool) (name : List ℕ) (r : RegistryValue) (s : State) (i v : ℤ) (word : Word) → IsStanding r began s
+pub cell_refused : (began : Bool) (name : List ℕ) (r : RegistryValue) (s : State) (i v : ℤ) (word : Refusal) → IsStanding r began s
     → place_to_set began (position (λ (l : Live). bytes_eq l.name name) r.live) ≡ Err word → cell_request s name i v ≡ refused word
 cell_refused began name r s i v word h e =
     refused_first began name r s (λ live. loaded_request name (option_and_then (λ n. loaded_cell (boxes_of live) n v (base_in live)) (natural i))) word h e
@@ -270,7 +270,7 @@ abbrev pub tuple_load : List ℕ → List ℤ → LiveQuery → Request
 tuple_load name t live =
     cond (nat_eq (length t) (length live.query.select)) (loaded_request name (loaded_tuple live.query (parts_of live.plan) t (base_in live))) (refused Arity)
 
-pub tuple_refused : (began : Bool) (name : List ℕ) (r : RegistryValue) (s : State) (t : List ℤ) (word : Word) → IsStanding r began s
+pub tuple_refused : (began : Bool) (name : List ℕ) (r : RegistryValue) (s : State) (t : List ℤ) (word : Refusal) → IsStanding r began s
     → place_to_set began (position (λ (l : Live). bytes_eq l.name name) r.live) ≡ Err word → tuple_request s name t ≡ refused word
 tuple_refused began name r s t word h e = refused_first began name r s (tuple_load name t) word h e
 

@@ -3,22 +3,13 @@ use Rattle.std.proofs.Common.{◌≡◌, ℕ, ◌≤◌, List, [], ◌∷◌, �
 use Rattle.std.specs.declared.option.Option.{Option}
 use Rattle.std.specs.Io.KnownBytes.{Appends, append_known}
 use Rattle.bq_io.specs.Gathered.{told_length}
+use Rattle.bq_io.proofs.Writing.{front-of}
 
 -- A front of a text was passed on, behind what was written before, and the rest of it is held.
 pub record Passed (before now : Option (List ℕ)) (front text held : List ℕ) : Type 0 where
   pub passed : List ℕ
   pub written : Appends before now (front ++ passed)
   pub whole : passed ++ held ≡ text
-
--- what was written below is still there, so what was passed on grew
-front-of : (x y r s : List ℕ) → y ++ r ≡ x ++ s → length x ≤ length y → (more : List ℕ) × (y ≡ x ++ more) × (more ++ r ≡ s)
-front-of [] y r s e le = (y, refl, e)
-front-of (a ∷ x) [] r s e le = absurd (omega arith)
-front-of (a ∷ x) (b ∷ y) r s e le =
-    let tails : y ++ r ≡ x ++ s = cc in
-    let heads : b ≡ a = cc in
-    let h = front-of x y r s tails (omega arith) in
-    (h.0, ap (λ l. b ∷ l) h.1 ∙ ap (λ c. c ∷ (x ++ h.0)) heads, h.2)
 
 -- a text was written to the gatherer
 pub passed-more : (before below below' : Option (List ℕ)) (front text held held' more : List ℕ) → IfSome before (λ _. Passed before below front text held)

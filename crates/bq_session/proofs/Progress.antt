@@ -6,7 +6,7 @@ use Rattle.bq_feed.specs.Reading.{Reading, fresh, IsBegun}
 use Rattle.bq_feed.proofs.GivenLines.{step-read}
 use Rattle.bq_session.specs.declared.outcome.LineOutcome.TheVariants as outcome
 use Rattle.bq_session.specs.State.{State}
-use Rattle.bq_session.specs.Session.{Kept, StandsFor, Answered}
+use Rattle.bq_session.specs.Session.{SessionValue, StandsFor, Answered}
 use Rattle.bq_session.specs.Answer.{Answer}
 use Rattle.bq_io.specs.Gathered.{gathered_seen}
 use Rattle.bq_session.proofs.LineRuns.{next_of-lines}
@@ -83,7 +83,7 @@ only-moved answered pending answered' pending' (stay a p) o w = rw (a, p) (o, w)
 only-moved answered pending answered' pending' (sink a p) o w = rw (a, p) (only-append answered pending o w, tt)
 
 -- A line of the source of this number came and was answered, behind the events that there were.
-pub record Pushed (number : ℕ) (s : State) (source now : SourceState) (reader : Reading) (session session' : Kept) (before below : SinkState) (held : List ℕ) (old waiting : List Told) : Type 0 where
+pub record Pushed (number : ℕ) (s : State) (source now : SourceState) (reader : Reading) (session session' : SessionValue) (before below : SinkState) (held : List ℕ) (old waiting : List Told) : Type 0 where
   pub answered : List Told
   pub pending : List Told
   pub moves : Moves old waiting answered pending
@@ -94,7 +94,7 @@ pub record Pushed (number : ℕ) (s : State) (source now : SourceState) (reader 
   pub given : Given number source now reader (events_of answered) (events_of (pending ++ told.line number text answer ∷ []))
   pub counted : session'.lines ≡ session.lines + 1
 
-pub pushed : (number : ℕ) (s : State) (source now now' : SourceState) (old new : Reading) (session session' : Kept) (before below below' : SinkState) (held held' : List ℕ) (answered pending : List Told)
+pub pushed : (number : ℕ) (s : State) (source now now' : SourceState) (old new : Reading) (session session' : SessionValue) (before below below' : SinkState) (held held' : List ℕ) (answered pending : List Told)
     → Held s answered pending before below held → Given number source now old (events_of answered) (events_of pending) → StandsFor session (at s (answered ++ pending))
     → AnsweredLine outcome.Done (at s (answered ++ pending)) old new now now' session' below below' held held' → Pushed number s source now' new session session' before below' held' answered pending
 pushed number s source now now' old new session session' before below below' held held' answered pending h g stands line =
@@ -117,7 +117,7 @@ pushed number s source now now' old new session session' before below below' hel
 
 -- The replies to the lines that were answered before the last read stand below. Those to the pending lines, which came in that
 -- read, may be held.
-pub record Progress (s : State) (source now : SourceState) (reader : Reading) (session : Kept) (before below : SinkState) (held : List ℕ) : Type 0 where
+pub record Progress (s : State) (source now : SourceState) (reader : Reading) (session : SessionValue) (before below : SinkState) (held : List ℕ) : Type 0 where
   pub answered : List Told
   pub pending : List Told
   pub has : Held s answered pending before below held
@@ -127,7 +127,7 @@ pub record Progress (s : State) (source now : SourceState) (reader : Reading) (s
   pub numbers : session.lines ≡ reader.lines
 
 -- nothing was taken
-pub begins : (s : State) (source : SourceState) (reader : Reading) (session : Kept) (before : SinkState) (held : List ℕ) → reader ≡ fresh → session.lines ≡ 0 → held ≡ [] → StandsFor session s
+pub begins : (s : State) (source : SourceState) (reader : Reading) (session : SessionValue) (before : SinkState) (held : List ℕ) → reader ≡ fresh → session.lines ≡ 0 → held ≡ [] → StandsFor session s
     → Progress s source source reader session before before held
 begins s source reader session before held new none empty stands = record {
   answered = [];
@@ -139,14 +139,14 @@ begins s source reader session before held new none empty stands = record {
   numbers = none ∙ sym (ap (λ (r : Reading). r.lines) new);
 }
 
-pub has-state : (s : State) (source now : SourceState) (reader : Reading) (session : Kept) (before below : SinkState) (held : List ℕ) → Progress s source now reader session before below held → HasState session
+pub has-state : (s : State) (source now : SourceState) (reader : Reading) (session : SessionValue) (before below : SinkState) (held : List ℕ) → Progress s source now reader session before below held → HasState session
 has-state s source now reader session before below held p = record { state = at s (p.answered ++ p.pending); stands = p.stands }
 
-pub numbered : (s : State) (source now : SourceState) (reader : Reading) (session : Kept) (before below : SinkState) (held : List ℕ) → Progress s source now reader session before below held → session.lines ≤ reader.lines
+pub numbered : (s : State) (source now : SourceState) (reader : Reading) (session : SessionValue) (before below : SinkState) (held : List ℕ) → Progress s source now reader session before below held → session.lines ≤ reader.lines
 numbered s source now reader session before below held p = omega (arith, p.numbers)
 
 -- one more line was answered, and is pending
-pub progress-line : (s : State) (source now now' : SourceState) (old new : Reading) (session session' : Kept) (before below below' : SinkState) (held held' : List ℕ)
+pub progress-line : (s : State) (source now now' : SourceState) (old new : Reading) (session session' : SessionValue) (before below below' : SinkState) (held held' : List ℕ)
     → (p : Progress s source now old session before below held) → AnsweredLine outcome.Done (at s (p.answered ++ p.pending)) old new now now' session' below below' held held'
     → Progress s source now' new session' before below' held'
 progress-line s source now now' old new session session' before below below' held held' p line =

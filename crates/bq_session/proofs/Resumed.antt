@@ -11,24 +11,24 @@ use Rattle.bq_registry.specs.Live.{Live, LiveQuery, plan_reads, plan_writes, pla
 use Rattle.bq_registry.specs.Registry.{RegistryValue, AreLiveFor, IsQuiet}
 use Rattle.bq_session.specs.declared.outcome.LineOutcome.{LineOutcome}
 use Rattle.bq_session.specs.declared.outcome.LineOutcome.TheVariants.{Done}
-use Rattle.bq_reply.specs.declared.word.Word.{Word}
+use Rattle.bq_reply.specs.declared.refusal.Refusal.{Refusal}
 use Rattle.bq_session.specs.Request.{Request, resumed, based}
 use Rattle.bq_session.specs.Requests.{count_request, rows_request}
 use Rattle.bq_session.specs.Answer.{plain}
 use Rattle.bq_session.specs.Answers.{Settles}
 use Rattle.bq_session.specs.State.{State, set_base, next_by, one_line_more}
 use Rattle.bq_session.specs.Replies.{reply_by}
-use Rattle.bq_session.specs.Session.{Kept, StandsFor, Does, line_reads, line_writes, announced_line_reads, announced_line_writes}
+use Rattle.bq_session.specs.Session.{SessionValue, StandsFor, Does, line_reads, line_writes, announced_line_reads, announced_line_writes}
 use Rattle.bq_session.specs.Resuming.{IsStanding, Sets, IsSettled}
 use Rattle.bq_session.proofs.Deciding.{with_registry}
 use Rattle.bq_session.proofs.Standing.{at_most}
 
 -- a line does what one does that asks for the same
-pub same_request : (outcome : LineOutcome) (s : State) (a b : Request) (new : Kept) (before after : SinkState) → a ≡ b → Does outcome s a new before after → Does outcome s b new before after
+pub same_request : (outcome : LineOutcome) (s : State) (a b : Request) (new : SessionValue) (before after : SinkState) → a ≡ b → Does outcome s a new before after → Does outcome s b new before after
 same_request outcome s a b new before after e d = subst (λ (x : Request). Does outcome s x new before after) e d
 
 -- so many rows count as taken
-rows_resumed : (k : Kept) (s : State) (n : ℕ) (before : SinkState) → StandsFor k (one_line_more s) → Does Done s (resumed n) (record k { taken = n }) before before
+rows_resumed : (k : SessionValue) (s : State) (n : ℕ) (before : SinkState) → StandsFor k (one_line_more s) → Does Done s (resumed n) (record k { taken = n }) before before
 rows_resumed k s n before h = record {
   answer = plain (resumed n);
   settles = refl;
@@ -36,7 +36,7 @@ rows_resumed k s n before h = record {
   reply = Wrote-nil before;
 }
 
-pub rows_asked : (k : Kept) (s : State) (z : ℤ) (n : ℕ) (before : SinkState) → StandsFor k (one_line_more s) → count_request k.began k.taken k.limit z ≡ resumed n
+pub rows_asked : (k : SessionValue) (s : State) (z : ℤ) (n : ℕ) (before : SinkState) → StandsFor k (one_line_more s) → count_request k.began k.taken k.limit z ≡ resumed n
     → Does Done s (rows_request s z) (record k { taken = n }) before before
 rows_asked k s z n before h e =
     let asks : resumed n ≡ rows_request s z
@@ -44,10 +44,10 @@ rows_asked k s z n before h e =
     same_request Done s (resumed n) (rows_request s z) (record k { taken = n }) before before asks (rows_resumed k s n before h)
 
 -- the registry of a session, and a state that the session stands for
-pub standing : (k : Kept) (s : State) → StandsFor k (one_line_more s) → IsStanding k.registry k.began s
+pub standing : (k : SessionValue) (s : State) → StandsFor k (one_line_more s) → IsStanding k.registry k.began s
 standing k s h = record { queries = h.queries; began = h.began }
 
-based_settled : (k : Kept) (r : RegistryValue) (s : State) (name : List ℕ) (base : Base) → StandsFor k (one_line_more s) → IsQuiet r → AreLiveFor r.pool r.live (set_base name base s.queries)
+based_settled : (k : SessionValue) (r : RegistryValue) (s : State) (name : List ℕ) (base : Base) → StandsFor k (one_line_more s) → IsQuiet r → AreLiveFor r.pool r.live (set_base name base s.queries)
     → Settles s (based name base) (plain (based name base)) × (reply_by s (based name base) ≡ []) × StandsFor (with_registry k r) (next_by s (based name base))
 based_settled k r s name base h quiet stands = (
   refl,
@@ -63,7 +63,7 @@ based_settled k r s name base h quiet stands = (
   },
 )
 
-pub settled_set : {T : Type 0} (result : Result T Word) (k : Kept) (r : RegistryValue) (s : State) (request : Request) → StandsFor k (one_line_more s) → Sets result request s.queries k.registry r
+pub settled_set : {T : Type 0} (result : Result T Refusal) (k : SessionValue) (r : RegistryValue) (s : State) (request : Request) → StandsFor k (one_line_more s) → Sets result request s.queries k.registry r
     → (IsQuiet k.registry → IsQuiet r) → IsSettled result s request (with_registry k r)
 settled_set (Ok x) k r s request h set quiet =
     subst (λ (q : Request). Settles s q (plain q) × (reply_by s q ≡ []) × StandsFor (with_registry k r) (next_by s q)) (sym set.asks)

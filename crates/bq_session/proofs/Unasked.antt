@@ -12,7 +12,7 @@ use Rattle.bq_session.specs.Answer.{plain}
 use Rattle.bq_session.specs.Replies.{answers_to}
 use Rattle.bq_session.specs.Request.{Request, taken}
 use Rattle.bq_session.specs.Requests.{entry_request}
-use Rattle.bq_session.specs.Session.{Kept, IsSound, StandsFor, Does}
+use Rattle.bq_session.specs.Session.{SessionValue, IsSound, StandsFor, Does}
 use Rattle.bq_session.specs.State.{State, one_line_more}
 use Rattle.bq_session.proofs.Resumed.{same_request}
 
@@ -21,10 +21,10 @@ no_text r [] e = refl
 no_text r (q ∷ queries) e = absurd (omega (arith, e))
 
 -- one row more was taken
-abbrev pub one_row_more : Kept → Kept
+abbrev pub one_row_more : SessionValue → SessionValue
 one_row_more k = record k { taken = k.taken + 1; began = true }
 
-pub counted : (k : Kept) (s : State) (stream : ℕ) (values : List ℤ) (before : SinkState) → StandsFor k (one_line_more s) → length k.registry.live ≡ 0 → nat_lt k.taken k.limit ≡ true
+pub counted : (k : SessionValue) (s : State) (stream : ℕ) (values : List ℤ) (before : SinkState) → StandsFor k (one_line_more s) → length k.registry.live ≡ 0 → nat_lt k.taken k.limit ≡ true
     → Does Done s (entry_request (nat_lt k.taken k.limit) (Ok (entry stream values))) (one_row_more k) before before
 counted k s stream values before h none room =
     let r : Arrival = record { stream = stream; values = values } in
@@ -52,7 +52,7 @@ counted k s stream values before h none room =
 less : (n m : ℕ) → nat_lt n m ≡ true → n + 1 ≤ m
 less n m t = grind (arith, nat_tests)
 
-pub counted_sound : (k : Kept) → IsSound k → nat_lt k.taken k.limit ≡ true → IsSound (one_row_more k)
+pub counted_sound : (k : SessionValue) → IsSound k → nat_lt k.taken k.limit ≡ true → IsSound (one_row_more k)
 counted_sound k h room = record {
   within = less k.taken k.limit room;
   limit = h.limit;

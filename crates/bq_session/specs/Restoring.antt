@@ -5,7 +5,7 @@ use Rattle.bq_registry.specs.Sound.{IsSoundLive}
 use Rattle.bq_session.specs.Announced.{announced_by}
 use Rattle.bq_session.specs.Checkpoint.{checkpoint_lines}
 use Rattle.bq_session.specs.State.{State}
-use Rattle.bq_session.specs.Session.{Kept, StandsFor}
+use Rattle.bq_session.specs.Session.{SessionValue, StandsFor}
 
 -- two live queries are alike: they have the same name, query and plan, share their cells or not, and the same is kept of them
 pub record IsAlike (q r : LiveQuery) : Type 0 where
@@ -38,7 +38,7 @@ AlikeStatesHaveOneCheckpoint = (s t : State) → AreAlike s t → checkpoint_lin
 -- line was taken, where the live queries of that state are such as a registry stands for
 abbrev pub StandsAlike : Type 0
 StandsAlike =
-    (k : Kept) (s t : State) → StandsFor k s → AreAlike s t → All IsSoundLive t.queries → StandsFor k (record t { lines = s.lines; began = s.began })
+    (k : SessionValue) (s t : State) → StandsFor k s → AreAlike s t → All IsSoundLive t.queries → StandsFor k (record t { lines = s.lines; began = s.began })
 
 -- the lines of a checkpoint are at most the cells and answers that the live queries announce, and 200, where there are no more streams and
 -- live queries than there may be, and the live queries are such as a registry stands for

@@ -14,13 +14,13 @@ use Rattle.bq_session.specs.Answer.{Answer}
 use Rattle.bq_session.specs.State.{State, after}
 use Rattle.bq_session.specs.Answers.{IsAnswer}
 use Rattle.bq_session.specs.Replies.{reply_to, replies, AreAnswers, AreReplies}
-use Rattle.bq_session.specs.Session.{Kept, StandsFor, creates}
+use Rattle.bq_session.specs.Session.{SessionValue, StandsFor, creates}
 use Rattle.bq_session.specs.declared.run.Ending.{Ending}
 use Rattle.bq_session.specs.declared.run.Ending.TheVariants.{Done, ReadFault, WriteFault, Memory, ByteLimit}
 use Rattle.bq_feed.specs.Texts.{text_of, ended_part, IsNear}
 
 -- the session stands for some state
-pub record HasState (kept : Kept) : Type 0 where
+pub record HasState (kept : SessionValue) : Type 0 where
   pub state : State
   pub stands : StandsFor kept state
 
@@ -88,7 +88,7 @@ Streams Memory s source source' sink sink' = Took source source' (λ text. Stops
 Streams ByteLimit s source source' sink sink' = Took source source' (λ text. (length text ≡ 2 ^ 64 - 1) × WroteText s (ended_part text) sink sink')
 
 -- a run ends so, and the counts of faults did not fall
-pub record Streamed (ending : Ending) (s : State) (source source' : SourceState) (sink sink' : SinkState) : Type 0 where
+pub record Ran (ending : Ending) (s : State) (source source' : SourceState) (sink sink' : SinkState) : Type 0 where
   pub ends : Streams ending s source source' sink sink'
   pub input_later : source.faults ≤ source'.faults
   pub output_later : sink.faults ≤ sink'.faults

@@ -5,7 +5,7 @@ ghost use Rattle.bq_io.specs.Sink.{SinkState};
 ghost use Rattle.bq_io.specs.Source.{SourceState};
 ghost use Rattle.bq_feed.specs.Reading.{IsBegun, Reading};
 ghost use Rattle.bq_session.specs.State.{State};
-ghost use Rattle.bq_session.specs.Session.{StandsFor, Answered, Kept};
+ghost use Rattle.bq_session.specs.Session.{StandsFor, Answered, SessionValue};
 ghost use Rattle.bq_session.specs.Run.{HasState};
 ghost use Rattle.bq_session.specs.Turned.{AnsweredLine, Turned};
 
@@ -59,7 +59,7 @@ fn answer<O: Sink, L: Ledger>(
 // How a turn went in which a line came that was answered so.
 #[inline(always)]
 fn turn_of<O: Sink>(outcome: LineOutcome, output: &mut Gathered<'_, O>) -> Turn
-    ensures turned { (s : State) → (old new : Reading) → (source now : SourceState) → (session session' : Kept) → (below : SinkState) → (held : List ℕ)
+    ensures turned { (s : State) → (old new : Reading) → (source now : SourceState) → (session session' : SessionValue) → (below : SinkState) → (held : List ℕ)
         → AnsweredLine outcome s old new source now session' below (O.seen output.old.sink.now) held output.old.held.items
         → Turned result s old new source now session session' below (O.seen output.new.sink.now) held output.new.held.items }
     ensures same_reference { output.new.sink.ghost_name ≡ output.old.sink.ghost_name }

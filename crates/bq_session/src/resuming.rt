@@ -8,51 +8,51 @@ ghost use Rattle.bq_session.specs.Requests as requests;
 ghost use Rattle.bq_session.specs.Requests.{natural, count_request, given_request, cell_request, tuple_request};
 ghost use Rattle.bq_session.specs.Resuming.{IsStanding, Sets, place_to_set};
 ghost use Rattle.bq_session.specs.State.{State};
-ghost use Rattle.bq_reply.specs.declared.word.Word.TheVariants as words;
+ghost use Rattle.bq_reply.specs.declared.refusal.Refusal.TheVariants as words;
 
 use crate::announced::announced_by_plan;
 use bq_model::Tuple;
 use bq_pool::Steps;
 use bq_registry::Registry;
-use bq_reply::Word;
+use bq_reply::Refusal;
 use bq_text::Name;
 use std::sync::ledger::Ledger;
 
 /// Returns how many rows count as taken after `RESUME n`, or the first word that refuses the line.
-pub fn rows_to_resume(began: bool, taken: u64, limit: u64, rows: i64) -> Result<u64, Word>
+pub fn rows_to_resume(began: bool, taken: u64, limit: u64, rows: i64) -> Result<u64, Refusal>
     requires { limit ≤ 2 ^ 40 }
     ensures request { MatchResult result (λ n. count_request began taken limit rows ≡ resumed n) (λ word. count_request began taken limit rows ≡ refused word) }
     ensures within { IfOk result (λ n. n ≤ limit) }
     ensures none { IfOk result (λ _. taken ≡ 0) }
 {
     if began || taken != 0 {
-        return Err(Word::Late);
+        return Err(Refusal::Late);
     }
     if rows < 0 {
-        return Err(Word::Value);
+        return Err(Refusal::Value);
     }
     if (limit as i64) < rows {
-        return Err(Word::RowLimit);
+        return Err(Refusal::RowLimit);
     }
     Ok(rows as u64)
 }
 
 // The place of the live query that a line sets something of, or the first word that refuses the line.
-fn place_of(registry: &Registry, began: bool, name: &Name) -> Result<usize, Word>
+fn place_of(registry: &Registry, began: bool, name: &Name) -> Result<usize, Refusal>
     ensures place { result ≡ place_to_set began (position (λ l. bytes_eq l.name name.now) registry.now.live) }
     ensures there { IfOk result (λ place. place < length registry.now.live) }
 {
     match registry.find(name) {
-        Some(place) => { if began { Err(Word::Late) } else { Ok(place) } }
-        None => Err(Word::UnknownQuery),
+        Some(place) => { if began { Err(Refusal::Late) } else { Ok(place) } }
+        None => Err(Refusal::UnknownQuery),
     }
 }
 
 // Whether a load was taken, as an answer to its line.
-fn taken_or_value(taken: bool) -> Result<(), Word>
+fn taken_or_value(taken: bool) -> Result<(), Refusal>
     ensures { MatchResult result (λ _. taken ≡ true) (λ word. (taken ≡ false) × (word ≡ words.Value)) }
 {
-    if taken { Ok(()) } else { Err(Word::Value) }
+    if taken { Ok(()) } else { Err(Refusal::Value) }
 }
 
 // The natural number that an integer is, where it is one and is not above `most`.
@@ -73,7 +73,7 @@ pub fn set_given(
     taken: u64,
     name: &Name,
     rows: i64,
-) -> Result<(), Word>
+) -> Result<(), Refusal>
     requires { taken ≤ 2 ^ 40 }
     ensures sets { (s : State) → IsStanding registry.old began s → taken ≡ s.taken → Sets result (given_request s name.now rows) s.queries registry.old registry.new }
     ensures quiet { IsQuiet registry.old → IsQuiet registry.new }
@@ -88,7 +88,7 @@ pub fn set_given(
     let _distinct = registry.executor(place).query().distinct();
     match natural_upto(taken, rows) {
         Some(n) => taken_or_value(registry.load_given(place, n)),
-        None => Err(Word::Value),
+        None => Err(Refusal::Value),
     }
 }
 
@@ -112,7 +112,7 @@ pub fn set_cell<L: Ledger>(
     index: i64,
     content: i64,
     steps: &mut Steps<L>,
-) -> Result<(), Word>
+) -> Result<(), Refusal>
     ensures sets { (s : State) → IsStanding registry.old began s → Sets result (cell_request s name.now index content) s.queries registry.old registry.new }
     ensures quiet { IsQuiet registry.old → IsQuiet registry.new }
     ensures given { (n : ℕ) → GivenUpto n registry.old → GivenUpto n registry.new }
@@ -129,7 +129,7 @@ pub fn set_cell<L: Ledger>(
     let cells = announced_by_plan(registry.plan(place)).cells;
     match cell_number(cells, index) {
         Some(i) => taken_or_value(registry.load_cell(place, i, content, steps)),
-        None => Err(Word::Value),
+        None => Err(Refusal::Value),
     }
 }
 
@@ -139,7 +139,7 @@ pub fn set_tuple(
     began: bool,
     name: &Name,
     values: &Tuple,
-) -> Result<(), Word>
+) -> Result<(), Refusal>
     ensures sets { (s : State) → IsStanding registry.old began s → Sets result (tuple_request s name.now values.now.items) s.queries registry.old registry.new }
     ensures quiet { IsQuiet registry.old → IsQuiet registry.new }
     ensures given { (n : ℕ) → GivenUpto n registry.old → GivenUpto n registry.new }
@@ -150,7 +150,7 @@ pub fn set_tuple(
         Err(word) => return Err(word),
     };
     if values.as_slice().len() != registry.executor(place).query().select().len() {
-        return Err(Word::Arity);
+        return Err(Refusal::Arity);
     }
     taken_or_value(registry.load_tuple(place, values))
 }

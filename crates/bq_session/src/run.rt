@@ -3,7 +3,7 @@ ghost use Rattle.std.specs.Prelude.{◌≡◌, []};
 ghost use Rattle.bq_feed.specs.Reading.{fresh};
 ghost use Rattle.bq_session.specs.State.{State};
 ghost use Rattle.bq_session.specs.Session.{StandsFor};
-ghost use Rattle.bq_session.specs.Run.{HasState, Streamed};
+ghost use Rattle.bq_session.specs.Run.{HasState, Ran};
 
 use crate::one_turn::{Turn, take_turn};
 use crate::session::Session;
@@ -40,7 +40,7 @@ pub fn run_lines<I: Source, O: Sink, L: Ledger>(
     requires lines { session.old.lines ≡ 0 }
     requires held { output.old.held.items ≡ [] }
     ensures streams { (s : State) → StandsFor session.old s
-        → Streamed result s (I.seen input.old) (I.seen input.new) (O.seen output.old.sink.now) (O.seen output.new.sink.now) }
+        → Ran result s (I.seen input.old) (I.seen input.new) (O.seen output.old.sink.now) (O.seen output.new.sink.now) }
     ensures same_reference { output.new.sink.ghost_name ≡ output.old.sink.ghost_name }
 {
     'answering: loop {

@@ -10,7 +10,7 @@ use Rattle.bq_model.specs.Plan.{dims_at}
 use Rattle.bq_model.specs.Probing.{is_known}
 use Rattle.bq_model.specs.Query.{attr_eq}
 use Rattle.bq_synopsis.specs.Pinning.{touches, is_free, IsWhole}
-use Rattle.bq_synopsis.specs.Narrowing.{witness, below, above, cut, narrow, narrowed_by}
+use Rattle.bq_synopsis.specs.Narrowing.{binding_column, below, above, clip, narrow, narrowed_by}
 
 -- the first link touches nothing, and no later one does
 neither : (s t u : Bool) → ((s || t) || u) ≡ false → (s ≡ false) × (t ≡ false) × (u ≡ false)
@@ -24,25 +24,25 @@ otherwise false true x y z e f = absurd cc
 otherwise false false x y z e f = refl
 
 module _ (arriving place : ℕ) where
-  witness-none : (a : Attr) (ls : List Link) → list_any (touches arriving place a) ls ≡ false → witness arriving place a ls ≡ None
-  witness-none a [] h = refl
-  witness-none a (l ∷ ls) h =
+  binding_column-none : (a : Attr) (ls : List Link) → list_any (touches arriving place a) ls ≡ false → binding_column arriving place a ls ≡ None
+  binding_column-none a [] h = refl
+  binding_column-none a (l ∷ ls) h =
       let n = neither (attr_eq l.left a && is_known arriving place l.right) (attr_eq l.right a && is_known arriving place l.left) (list_any (touches arriving place a) ls) h in
-      otherwise (attr_eq l.left a && is_known arriving place l.right) (attr_eq l.right a && is_known arriving place l.left) (Some l.right) (Some l.left) (witness arriving place a ls) n.0 n.1
-      ∙ witness-none a ls n.2
+      otherwise (attr_eq l.left a && is_known arriving place l.right) (attr_eq l.right a && is_known arriving place l.left) (Some l.right) (Some l.left) (binding_column arriving place a ls) n.0 n.1
+      ∙ binding_column-none a ls n.2
 
-  cut-none : (values : Attr → ℤ) (d : Dim) (ls : List Link) → list_any (touches arriving place d.attr) ls ≡ false → cut arriving place ls values d ≡ d
-  cut-none values d [] h = refl
-  cut-none values d (l ∷ ls) h =
+  clip-none : (values : Attr → ℤ) (d : Dim) (ls : List Link) → list_any (touches arriving place d.attr) ls ≡ false → clip arriving place ls values d ≡ d
+  clip-none values d [] h = refl
+  clip-none values d (l ∷ ls) h =
       let n = neither (attr_eq l.left d.attr && is_known arriving place l.right) (attr_eq l.right d.attr && is_known arriving place l.left) (list_any (touches arriving place d.attr) ls) h in
-      ap (cut arriving place ls values) (otherwise (attr_eq l.left d.attr && is_known arriving place l.right) (attr_eq l.right d.attr && is_known arriving place l.left) (below d (values l.right)) (above d (values l.left)) d n.0 n.1)
-      ∙ cut-none values d ls n.2
+      ap (clip arriving place ls values) (otherwise (attr_eq l.left d.attr && is_known arriving place l.right) (attr_eq l.right d.attr && is_known arriving place l.left) (below d (values l.right)) (above d (values l.left)) d n.0 n.1)
+      ∙ clip-none values d ls n.2
 
   free-narrow : (part : PartPlan) (values : Attr → ℤ) (d : Dim) → is_free part arriving place d ≡ true → narrow arriving place part.equal.items part.less.items values d ≡ d
   unfolding narrow
   free-narrow part values d h =
       let n = both (list_any (touches arriving place d.attr) part.equal.items) (list_any (touches arriving place d.attr) part.less.items) h in
-      ap (narrowed_by d (cut arriving place part.less.items values d) values) (witness-none d.attr part.equal.items n.0) ∙ cut-none values d part.less.items n.1
+      ap (narrowed_by d (clip arriving place part.less.items values d) values) (binding_column-none d.attr part.equal.items n.0) ∙ clip-none values d part.less.items n.1
     where
       both : (s t : Bool) → (not s && not t) ≡ true → (s ≡ false) × (t ≡ false)
       both true t h = absurd cc

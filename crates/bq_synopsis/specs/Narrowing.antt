@@ -7,11 +7,11 @@ use Rattle.bq_model.specs.Query.{attr_eq}
 use Rattle.bq_model.specs.Probing.{is_known}
 
 -- a known column that a link says is equal, if there is one
-abbrev pub witness : ℕ → ℕ → Attr → List Link → Option Attr
-witness arriving place a [] = None
-witness arriving place a (l ∷ ls) =
+abbrev pub binding_column : ℕ → ℕ → Attr → List Link → Option Attr
+binding_column arriving place a [] = None
+binding_column arriving place a (l ∷ ls) =
     if attr_eq l.left a && is_known arriving place l.right then Some l.right
-    else (if attr_eq l.right a && is_known arriving place l.left then Some l.left else witness arriving place a ls)
+    else (if attr_eq l.right a && is_known arriving place l.left then Some l.left else binding_column arriving place a ls)
 
 -- the dim with one value alone; with none where the value is outside
 abbrev pub narrowed_to : Dim → ℤ → Dim
@@ -26,15 +26,15 @@ abbrev pub above : Dim → ℤ → Dim
 above d v = if int_lt v d.hi then (if int_lt v d.lo then d else record { attr = d.attr; lo = v +ℤ pos 1; hi = d.hi }) else record { attr = d.attr; lo = pos 1; hi = pos 0 }
 
 -- the dim with the values that an inequality with a known column leaves
-abbrev pub cut_by : ℕ → ℕ → Link → (Attr → ℤ) → Dim → Dim
-cut_by arriving place l values d =
+abbrev pub clip_by : ℕ → ℕ → Link → (Attr → ℤ) → Dim → Dim
+clip_by arriving place l values d =
     if attr_eq l.left d.attr && is_known arriving place l.right then below d (values l.right)
     else (if attr_eq l.right d.attr && is_known arriving place l.left then above d (values l.left) else d)
 
 -- the dim with the values that the inequalities with known columns leave
-abbrev pub cut : ℕ → ℕ → List Link → (Attr → ℤ) → Dim → Dim
-cut arriving place [] values d = d
-cut arriving place (l ∷ ls) values d = cut arriving place ls values (cut_by arriving place l values d)
+abbrev pub clip : ℕ → ℕ → List Link → (Attr → ℤ) → Dim → Dim
+clip arriving place [] values d = d
+clip arriving place (l ∷ ls) values d = clip arriving place ls values (clip_by arriving place l values d)
 
 -- the dim with the value of a known column alone, or another dim where there is none
 abbrev pub narrowed_by : Dim → Dim → (Attr → ℤ) → Option Attr → Dim
@@ -43,4 +43,4 @@ narrowed_by d other values (Some a) = narrowed_to d (values a)
 
 -- the dim with the values that the links leave
 unfoldable pub narrow : ℕ → ℕ → List Link → List Link → (Attr → ℤ) → Dim → Dim
-narrow arriving place equal less values d = narrowed_by d (cut arriving place less values d) values (witness arriving place d.attr equal)
+narrow arriving place equal less values d = narrowed_by d (clip arriving place less values d) values (binding_column arriving place d.attr equal)

@@ -8,7 +8,7 @@ ghost use Rattle.bq_synopsis.specs.declared.accesses.Access.{Access};
 ghost use Rattle.bq_synopsis.specs.declared.accesses.Access.TheVariants as accesses;
 
 use crate::classes::{dims_at, is_same};
-use crate::known::{is_known, witness};
+use crate::known::{binding_column, is_known};
 use arrayvec::ArrayVec;
 use bq_model::{Attr, Dim, Link, PartPlan};
 
@@ -82,7 +82,12 @@ fn all_free(part: &PartPlan, arriving: u8, place: usize, dims: &[Dim]) -> bool
 
 // Whether known columns fix all dims of a place.
 fn are_fixed(part: &PartPlan, arriving: u8, place: usize, dims: &[Dim]) -> bool {
-    dims.iter().all(|dim| witness(arriving, place, dim.attr, part.equal.as_slice()).is_some())
+    dims.iter().all(|dim| binding_column(
+        arriving,
+        place,
+        dim.attr,
+        part.equal.as_slice(),
+    ).is_some())
 }
 
 // What the links leave at a place; of the arriving row's own none is asked.

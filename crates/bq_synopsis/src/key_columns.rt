@@ -6,7 +6,7 @@ ghost use Rattle.bq_synopsis.specs.Pinning.{IsKeyColumn, AreKeyColumns, IsPinned
 
 use crate::admission::stream_at;
 use crate::classes::dims_at;
-use crate::known::witness;
+use crate::known::binding_column;
 use arrayvec::ArrayVec;
 use bq_model::{Attr, Dim, PartPlan};
 
@@ -29,7 +29,7 @@ pub struct LookupKey {
 fn key_column_of(part: &PartPlan, arriving: u8, place: u8, dim: Dim) -> Option<KeyColumn>
     ensures { IfSome result (λ key_column. (key_column.dim ≡ dim) × IsKeyColumn part.now arriving place key_column) }
 {
-    let Some(column) = witness(
+    let Some(column) = binding_column(
         arriving,
         usize::from(place),
         dim.attr,

@@ -1,7 +1,7 @@
 //! Which columns a walk knows, and by which of them a link fixes another.
 ghost use Rattle.std.specs.Prelude.{◌≡◌, ◌<◌};
 ghost use Rattle.bq_model.specs.Probing.{is_known};
-ghost use Rattle.bq_synopsis.specs.Narrowing.{witness};
+ghost use Rattle.bq_synopsis.specs.Narrowing.{binding_column};
 
 use crate::classes::is_same;
 use bq_model::{Attr, Link};
@@ -14,8 +14,8 @@ pub fn is_known(arriving: u8, place: usize, a: Attr) -> bool
 }
 
 /// Returns a known column that a link says is equal.
-pub fn witness(arriving: u8, place: usize, a: Attr, links: &[Link]) -> Option<Attr>
-    ensures { result ≡ witness arriving place a links.now }
+pub fn binding_column(arriving: u8, place: usize, a: Attr, links: &[Link]) -> Option<Attr>
+    ensures { result ≡ binding_column arriving place a links.now }
 {
     'links: for link in links {
         if is_same(link.left, a) && is_known(arriving, place, link.right) {

@@ -14,7 +14,7 @@ use bq_model::{
     Atom, Attr, Dim, Element, Kind, Link, Op, PartPlan, Query, Row, Sign, StreamPlan, Tuple,
 };
 use bq_pool::{Extent, Pool, Steps};
-use bq_probe::{Probe, Room};
+use bq_probe::{Probe, ProbeScratch};
 use bq_synopsis::{Admitted, Placement, admits, own_cell, prepare, put_own};
 use std::alloc::{AllocError, Global};
 use std::marker::Brand;
@@ -109,7 +109,7 @@ fn walk<L: Ledger>(
 {
     let mut told = Vec::new(alloc);
     let prepared = prepare(q, part);
-    let mut room = Room::default();
+    let mut room = ProbeScratch::default();
     let mut tuple = Tuple::new();
     let mut probe = Probe::new(q, part, &prepared, pos, row, &mut room);
     'walk: while let Some(count) = probe.next(pool, e, q, part, &mut tuple, steps) {

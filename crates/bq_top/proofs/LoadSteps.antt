@@ -9,7 +9,7 @@ use Rattle.bq_session.specs.declared.announced.Announced.{Announced}
 use Rattle.bq_session.specs.declared.outcome.LineOutcome.TheVariants as outcome
 use Rattle.bq_session.specs.Announced.{announced_by}
 use Rattle.bq_session.specs.State.{State, after}
-use Rattle.bq_session.specs.Session.{Kept, StandsFor, Answered}
+use Rattle.bq_session.specs.Session.{SessionValue, StandsFor, Answered}
 use Rattle.bq_session.specs.Replies.{reply_to, replies, AreAnswers}
 use Rattle.bq_session.specs.Answer.{Answer}
 use Rattle.bq_session.proofs.LineRuns.{after-push, replies-append, replies-one, AreAnswers-push, next_of-lines}
@@ -17,7 +17,7 @@ use Rattle.bq_top.specs.Load.{line_count, start, summary_text, Summarized}
 use Rattle.bq_top.specs.Loading.{Counted, AnsweredScript}
 
 -- the reply to a line stands alone in a sink in memory
-pub counted : (s : State) (line : List ℕ) (new : Kept) (before now : MemSinkState) (n : ℕ) → before.bytes ≡ [] → Answered outcome.Done s line new (mem_sink_seen before) (mem_sink_seen now) → n ≡ line_count now.bytes
+pub counted : (s : State) (line : List ℕ) (new : SessionValue) (before now : MemSinkState) (n : ℕ) → before.bytes ≡ [] → Answered outcome.Done s line new (mem_sink_seen before) (mem_sink_seen now) → n ≡ line_count now.bytes
     → Counted s line new n
 counted s line new before now n none a e = record {
   answer = a.does.answer;
@@ -27,7 +27,7 @@ counted s line new before now n none a e = record {
 }
 
 -- These lines of a script were answered, and these are left.
-pub record LoadProgress (all left : List (List ℕ)) (session : Kept) (count : ℕ) : Type 0 where
+pub record LoadProgress (all left : List (List ℕ)) (session : SessionValue) (count : ℕ) : Type 0 where
   pub done : List (List ℕ)
   pub answers : List Answer
   pub whole : done ++ left ≡ all
@@ -37,7 +37,7 @@ pub record LoadProgress (all left : List (List ℕ)) (session : Kept) (count : �
   pub count_is : count ≡ line_count (replies start answers)
   pub few : count ≤ length done * 2 ^ 64
 
-pub load_begins : (all : List (List ℕ)) (session : Kept) → StandsFor session start → LoadProgress all all session 0
+pub load_begins : (all : List (List ℕ)) (session : SessionValue) → StandsFor session start → LoadProgress all all session 0
 unfolding after replies
 load_begins all session stands = record {
   done = [];
@@ -54,7 +54,7 @@ line_count-append : (front rest : List ℕ) → line_count (front ++ rest) ≡ l
 line_count-append front rest = sum_by-append (λ b. cond (is_line_feed b) 1 0) front rest
 
 -- one more line was answered
-pub load_next : (all left rest : List (List ℕ)) (line : List ℕ) (session new : Kept) (count n : ℕ) → LoadProgress all left session count → left ≡ line ∷ rest
+pub load_next : (all left rest : List (List ℕ)) (line : List ℕ) (session new : SessionValue) (count n : ℕ) → LoadProgress all left session count → left ≡ line ∷ rest
     → ((s : State) → StandsFor session s → Counted s line new n) → n < 2 ^ 64 → LoadProgress all rest new (count + n)
 load_next all left rest line session new count n p e tells small =
     let now = after start p.answers in
@@ -74,7 +74,7 @@ load_next all left rest line session new count n p e tells small =
       few = omega (arith, p.few, longer);
     }
 
-pub load_done : (all : List (List ℕ)) (session : Kept) (count : ℕ) → LoadProgress all [] session count → AnsweredScript all session count
+pub load_done : (all : List (List ℕ)) (session : SessionValue) (count : ℕ) → LoadProgress all [] session count → AnsweredScript all session count
 load_done all session count p = record {
   answers = p.answers;
   are = subst (λ l. AreAnswers start l p.answers) (sym (append-nil p.done) ∙ p.whole) p.are;
@@ -83,7 +83,7 @@ load_done all session count p = record {
 }
 
 -- what holds of the summary of the numbers that were found
-pub summarized : (rows lines : ℕ) (announced : Announced) (new : Kept) (script : List (List ℕ)) (summary : List ℕ) (P : List ℕ → Type 0) → script ≡ script_lines rows → AnsweredScript script new lines
+pub summarized : (rows lines : ℕ) (announced : Announced) (new : SessionValue) (script : List (List ℕ)) (summary : List ℕ) (P : List ℕ → Type 0) → script ≡ script_lines rows → AnsweredScript script new lines
     → ((s : State) → StandsFor new s → announced ≡ announced_by s.queries) → summary ≡ summary_text rows lines announced → P summary → Summarized rows P
 summarized rows lines announced new script summary P is_script a tells is_summary holds =
     let live = announced_by (after start a.answers).queries in

@@ -5,7 +5,7 @@ ghost use Rattle.bq_feed.specs.Reading.{fresh};
 ghost use Rattle.bq_session.specs.State.{State, empty};
 ghost use Rattle.bq_session.specs.Session.{StandsFor};
 ghost use Rattle.bq_top.specs.Run.{SessionEnds, status_of};
-ghost use Rattle.bq_session.specs.Run.{HasState, Streamed, IsNoFault};
+ghost use Rattle.bq_session.specs.Run.{HasState, Ran, IsNoFault};
 ghost use Rattle.bq_top.specs.Ends.{Ends};
 
 use crate::command::{Command, command_of};
@@ -36,7 +36,7 @@ fn gather<I: Source, O: Sink, L: Ledger>(
     requires name { blank.name ≡ L.name }
     requires parts { blank.parts ≡ L.parts }
     requires two { 2 ≤ L.parts }
-    ensures { (s : State) → StandsFor session.old s → Streamed result s (I.seen input.old) (I.seen input.new) (O.seen output.old) (O.seen output.new) }
+    ensures { (s : State) → StandsFor session.old s → Ran result s (I.seen input.old) (I.seen input.new) (O.seen output.old) (O.seen output.new) }
 {
     let mut steps = Steps::<L>::new(blank);
     let mut gathered = Gathered::new(output);
@@ -57,7 +57,7 @@ fn answer_all<I: Source, O: Sink>(
     requires reader { reader.old ≡ fresh }
     requires stands { HasState session.old }
     requires lines { session.old.lines ≡ 0 }
-    ensures { (s : State) → StandsFor session.old s → Streamed result s (I.seen input.old) (I.seen input.new) (O.seen output.old) (O.seen output.new) }
+    ensures { (s : State) → StandsFor session.old s → Ran result s (I.seen input.old) (I.seen input.new) (O.seen output.old) (O.seen output.new) }
 {
     gather::<I, O, Brand>(reader, session, input, output, Blank::new(2))
 }

@@ -7,8 +7,8 @@ use Rattle.bq_session.proofs.session.Session.answer_parsed.Goals as goal
 
 pub returns-in-Err-clause-reply : goal.returns-in-Err-clause-reply
 returns-in-Err-clause-reply g c = λ s stands. record {
-  request = refused c.parse_word.result;
-  asks = rw c.parse_word.ensures (refusal_request s _ _ c.in-Err.ensures);
+  request = refused c.parse_refusal.result;
+  asks = rw c.parse_refusal.ensures (refusal_request s _ _ c.in-Err.ensures);
   does = c.refuse.ensures s stands;
 }
 

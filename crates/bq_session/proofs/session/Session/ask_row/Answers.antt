@@ -10,7 +10,7 @@ use Rattle.bq_session.specs.Requests.{entry_request}
 use Rattle.bq_session.specs.Answer.{plain}
 use Rattle.bq_session.specs.Answers.{Settles}
 use Rattle.bq_session.specs.State.{one_line_more}
-use Rattle.bq_session.specs.Session.{Kept, StandsFor}
+use Rattle.bq_session.specs.Session.{SessionValue, StandsFor}
 use Rattle.bq_session.proofs.Explaining.{named_kept}
 use Rattle.bq_session.proofs.Given.{given, row_reply}
 use Rattle.bq_session.proofs.Keeping.{keeps_to_each}
@@ -26,12 +26,12 @@ less n m t = grind (arith, nat_tests)
 pub row-requires-clause-keeps : goal.row-requires-clause-keeps
 row-requires-clause-keeps g c =
     keeps_to_each c.self.inside.catalog c.args.stream c.args.row.now.items c.self.inside.registry.live c.self.invariant.named
-    (subst (λ (k : Kept). KeepsDomains k.streams c.args.stream c.args.row.now.items) (sym c.self.view_is) c.requires)
+    (subst (λ (k : SessionValue). KeepsDomains k.streams c.args.stream c.args.row.now.items) (sym c.self.view_is) c.requires)
 
 pub invariant_of-self : goal.invariant_of-self
 invariant_of-self g c =
     record {
-      within = less c.self.inside.taken c.self.inside.limit (ap (λ (k : Kept). nat_lt k.taken k.limit) c.self.view_is ∙ sym c.has_room.ensures ∙ c.if-not-has_room.false);
+      within = less c.self.inside.taken c.self.inside.limit (ap (λ (k : SessionValue). nat_lt k.taken k.limit) c.self.view_is ∙ sym c.has_room.ensures ∙ c.if-not-has_room.false);
       limit = c.self.invariant.limit;
       given = c.emit.ensures.given (c.self.inside.taken + 1) (c.row.ensures.given c.self.inside.taken c.self.invariant.given);
       named = named_kept c.self.inside.catalog c.row.new.self.live c.emit.new.self.live
@@ -43,7 +43,7 @@ invariant_of-self g c =
 pub returns-clause-reply : goal.returns-clause-reply
 returns-clause-reply g c = λ s stands.
     let r : Arrival = record { stream = c.args.stream; values = c.args.row.now.items } in
-    let old = subst (λ (k : Kept). StandsFor k (one_line_more s)) (sym c.self.view_is) stands in
+    let old = subst (λ (k : SessionValue). StandsFor k (one_line_more s)) (sym c.self.view_is) stands in
     let room = sym c.has_room.ensures ∙ c.if-not-has_room.false in
     let asks = ap (λ b. entry_request b (Ok (entry c.args.stream c.args.row.now.items))) room in
     let stood = c.row.ensures.stands s.queries old.queries in

@@ -1,13 +1,13 @@
 use Rattle.std.proofs.Common.{sym, ap, subst, ◌+◌}
 use Rattle.bq_session.specs.Plain.{IsPlainRow}
-use Rattle.bq_session.specs.Session.{Kept, StandsFor}
+use Rattle.bq_session.specs.Session.{SessionValue, StandsFor}
 use Rattle.bq_session.proofs.Standing.{plain_asks}
 use Rattle.bq_session.proofs.session.Session.plain_row.Goals as goal
 
 pub returns-clause-reply : goal.returns-clause-reply
 returns-clause-reply g c = λ s line short row stands.
-    let old = subst (λ (k : Kept). StandsFor k s) (sym c.self.view_is) stands in
-    let is = subst (λ (k : Kept). IsPlainRow k.streams line c.args.stream c.args.row.now.items) (sym c.self.view_is) row in
+    let old = subst (λ (k : SessionValue). StandsFor k s) (sym c.self.view_is) stands in
+    let is = subst (λ (k : SessionValue). IsPlainRow k.streams line c.args.stream c.args.row.now.items) (sym c.self.view_is) row in
     record {
       request = _;
       asks = plain_asks _ s line c.args.stream c.args.row.now.items short old is;

@@ -1,7 +1,7 @@
 use Rattle.std.proofs.Common.{rules, w64, to_z, of_z, ap, ◌∙◌, subst, sym}
 use Rattle.std.proofs.lemmas.Int.{to_z-of_z}
 use Rattle.bq_session.specs.Requests.{cell_request}
-use Rattle.bq_session.specs.Session.{Kept, StandsFor}
+use Rattle.bq_session.specs.Session.{SessionValue, StandsFor}
 use Rattle.bq_session.specs.State.{one_line_more}
 use Rattle.bq_session.proofs.Explaining.{named_kept}
 use Rattle.bq_session.proofs.Resumed.{same_request, standing, settled_set}
@@ -19,7 +19,7 @@ invariant_of-self g c = record {
 
 pub returns-clause-reply : goal.returns-clause-reply
 returns-clause-reply g c = λ s stands.
-    let old = subst (λ (k : Kept). StandsFor k (one_line_more s)) (sym c.self.view_is) stands in
+    let old = subst (λ (k : SessionValue). StandsFor k (one_line_more s)) (sym c.self.view_is) stands in
     same_request c.settle.result s _ _ _ _ _
     (ap (λ x. cell_request s c.args.name.now x (to_z w64 (of_z w64 c.args.content))) (to_z-of_z w64 c.args.index (search rules)) ∙ ap (cell_request s c.args.name.now c.args.index) (to_z-of_z w64 c.args.content (search rules)))
     (c.settle.ensures s _ (settled_set c.set_cell-set.result _ c.set_cell-set.new.registry s _ old (c.set_cell-set.ensures.sets s (standing _ s old)) c.set_cell-set.ensures.quiet))

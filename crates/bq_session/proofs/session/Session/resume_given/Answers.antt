@@ -1,7 +1,7 @@
 use Rattle.std.proofs.Common.{rules, w64, ap, subst, sym}
 use Rattle.std.proofs.lemmas.Int.{to_z-of_z}
 use Rattle.bq_session.specs.Requests.{given_request}
-use Rattle.bq_session.specs.Session.{Kept, StandsFor}
+use Rattle.bq_session.specs.Session.{SessionValue, StandsFor}
 use Rattle.bq_session.specs.State.{one_line_more}
 use Rattle.bq_session.proofs.Explaining.{named_kept}
 use Rattle.bq_session.proofs.Resumed.{same_request, standing, settled_set}
@@ -19,6 +19,6 @@ invariant_of-self g c = record {
 
 pub returns : goal.returns
 returns g c = λ s stands.
-    let old = subst (λ (k : Kept). StandsFor k (one_line_more s)) (sym c.self.view_is) stands in
+    let old = subst (λ (k : SessionValue). StandsFor k (one_line_more s)) (sym c.self.view_is) stands in
     same_request c.settle.result s _ _ _ _ _ (ap (given_request s c.args.name.now) (to_z-of_z w64 c.args.rows (search rules)))
     (c.settle.ensures s _ (settled_set c.set_given-set.result _ c.set_given-set.new.registry s _ old (c.set_given-set.ensures.sets s (standing _ s old) old.taken) c.set_given-set.ensures.quiet))

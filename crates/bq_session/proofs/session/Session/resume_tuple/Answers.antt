@@ -1,5 +1,5 @@
 use Rattle.std.proofs.Common.{subst, sym}
-use Rattle.bq_session.specs.Session.{Kept, StandsFor}
+use Rattle.bq_session.specs.Session.{SessionValue, StandsFor}
 use Rattle.bq_session.specs.State.{one_line_more}
 use Rattle.bq_session.proofs.Explaining.{named_kept}
 use Rattle.bq_session.proofs.Resumed.{standing, settled_set}
@@ -17,5 +17,5 @@ invariant_of-self g c = record {
 
 pub returns : goal.returns
 returns g c = λ s stands.
-    let old = subst (λ (k : Kept). StandsFor k (one_line_more s)) (sym c.self.view_is) stands in
+    let old = subst (λ (k : SessionValue). StandsFor k (one_line_more s)) (sym c.self.view_is) stands in
     c.settle.ensures s _ (settled_set c.set_tuple-set.result _ c.set_tuple-set.new.registry s _ old (c.set_tuple-set.ensures.sets s (standing _ s old)) c.set_tuple-set.ensures.quiet)

@@ -3,7 +3,7 @@ use Rattle.bq_io.specs.Sink.{Writes}
 use Rattle.bq_checkpoint.specs.Lines.{text_of_lines}
 use Rattle.bq_session.specs.Answer.{plain}
 use Rattle.bq_session.specs.Request.{saved}
-use Rattle.bq_session.specs.Session.{Kept, StandsFor}
+use Rattle.bq_session.specs.Session.{SessionValue, StandsFor}
 use Rattle.bq_session.specs.State.{one_line_more}
 use Rattle.bq_session.proofs.Given.{given}
 use Rattle.bq_session.proofs.LinesKept.{lines_are}
@@ -11,6 +11,6 @@ use Rattle.bq_session.proofs.session.Session.write_checkpoint.Goals as goal
 
 pub returns-clause-reply : goal.returns-clause-reply
 returns-clause-reply g c = λ s stands.
-    let old = subst (λ (k : Kept). StandsFor k (one_line_more s)) (sym c.self.view_is) stands in
+    let old = subst (λ (k : SessionValue). StandsFor k (one_line_more s)) (sym c.self.view_is) stands in
     given c.write_checkpoint-written.result c.outcome_of.result s saved (plain saved) _ _ _ c.outcome_of.ensures refl stands
     (subst (λ lines. Writes c.write_checkpoint-written.result (g.O.Sink.seen c.args.out.now) (g.O.Sink.seen c.write_checkpoint-written.new.out) (text_of_lines lines)) (lines_are _ (one_line_more s) old) c.write_checkpoint-written.ensures.lines)

@@ -1,0 +1,6 @@
+use Rattle.bq_lto_split.specs.Split.{sign_lists}
+use Rattle.bq_decide.specs.Chosen.{NoneBefore}
+use Rattle.bq_decide.proofs.decision.decide.Given as goal
+
+abbrev pub invariant-loop-i : goal.invariant-loop-i
+invariant-loop-i l = NoneBefore l.q (sign_lists l.parts) l.i

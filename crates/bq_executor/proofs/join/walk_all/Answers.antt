@@ -1,0 +1,38 @@
+use Rattle.std.proofs.Common.{◌≡◌, ◌∙◌, arith, List, ◌∷◌}
+use Rattle.bq_answers.specs.Entries.{TableValue, with_entries}
+use Rattle.bq_model.specs.Combinations.{read_from, Found}
+use Rattle.bq_model.specs.Meaning.{by_column}
+use Rattle.bq_model.specs.Probing.{found_beside}
+use Rattle.bq_pool.specs.Extents.{cells_of}
+use Rattle.bq_probe.specs.Remaining.{as_found, left_of}
+use Rattle.bq_executor.specs.Taking.{with_found, with_all}
+use Rattle.bq_executor.proofs.Taking.{taken_room, taken_table, taken_none, found_same}
+use Rattle.bq_executor.proofs.InPart.{none_added}
+use Rattle.bq_executor.proofs.join.walk_all.Goals as goal
+
+pub walk-preserved : goal.walk-preserved
+walk-preserved g c =
+    let d = c.args.part.now.q.now.distinct in
+    let f : Found = as_found c.next.new.tuple.items c.in-Some.count in
+    let left : List Found = left_of c.args.part.now.q.now.select c.args.part.now.plan.now (read_from (cells_of c.args.pool.now c.args.part.now.extent.now)) c.walk.probe in
+    let others : List Found = left_of c.args.part.now.q.now.select c.args.part.now.plan.now (read_from (cells_of c.args.pool.now c.args.part.now.extent.now)) c.next.new.self in
+    let e : left ≡ f ∷ others = c.in-Some.ensures.left in
+    let is : c.record_found.new.table ≡ with_entries c.walk.table (with_found d f c.walk.table.entries)
+    = found_same c.distinct.result d f c.walk.table c.record_found.new.table c.distinct.ensures c.record_found.ensures in
+    let whole : TableValue = with_entries c.args.table.now (with_all d (found_beside c.args.part.now.q.now c.args.part.now.plan.now (read_from (cells_of c.args.pool.now c.args.part.now.extent.now)) c.args.at.now.pos (by_column c.args.at.now.row.now.items)) c.args.table.now.entries) in
+    record {
+      underway = c.next.ensures.underway;
+      room = taken_room d f left others c.walk.table c.record_found.new.table e is c.walk.invariant.room;
+      table = taken_table d f left others c.walk.table c.record_found.new.table whole e is c.walk.invariant.table;
+      reads = omega arith;
+      writes = c.next.ensures.writes ∙ c.walk.invariant.writes;
+    }
+
+pub returns-clause-table : goal.returns-clause-table
+returns-clause-table g c =
+    taken_none c.args.part.now.q.now.distinct (left_of c.args.part.now.q.now.select c.args.part.now.plan.now (read_from (cells_of c.args.pool.now c.args.part.now.extent.now)) c.walk.probe) c.walk.table _ c.in_default.ensures.left.0 c.walk.invariant.table
+
+pub returns-then-sees_nothing-clause-table : goal.returns-then-sees_nothing-clause-table
+returns-then-sees_nothing-clause-table g c =
+    none_added c.args.part.now.q.now.distinct (found_beside c.args.part.now.q.now c.args.part.now.plan.now (read_from (cells_of c.args.pool.now c.args.part.now.extent.now)) c.args.at.now.pos (by_column c.args.at.now.row.now.items)) c.args.table.now
+    (c.sees_nothing.ensures.nothing c.if-sees_nothing.true)

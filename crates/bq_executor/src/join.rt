@@ -1,0 +1,239 @@
+//! What a row does in one part: what the cells answer to it waits in the table, and its own cell takes it.
+ghost use Rattle.std.specs.Prelude.{◌≡◌, ◌<◌, ◌≤◌, ◌+◌, ◌*◌, ◌||◌, length, true, false};
+ghost use Rattle.bq_model.specs.Admission.{admits};
+ghost use Rattle.bq_model.specs.Meaning.{by_column};
+ghost use Rattle.bq_model.specs.Combinations.{read_from, found_in};
+ghost use Rattle.bq_model.specs.Probing.{found_beside};
+ghost use Rattle.bq_model.specs.Numbers.{share};
+ghost use Rattle.bq_pool.specs.Extents.{cells_of};
+ghost use Rattle.bq_model.specs.Parts.{pairs};
+ghost use Rattle.bq_synopsis.specs.Premises.{IsReady};
+ghost use Rattle.bq_synopsis.specs.Preparing.{IsPrepared};
+ghost use Rattle.bq_synopsis.specs.Axes.{IsCell};
+ghost use Rattle.bq_synopsis.specs.Own as own_cells;
+ghost use Rattle.bq_probe.specs.Remaining.{as_found};
+ghost use Rattle.bq_answers.specs.Entries.{with_entries, Fits};
+ghost use Rattle.bq_executor.specs.Taking.{with_found, with_all, HaveRoom, AreOld};
+ghost use Rattle.bq_executor.specs.Arriving.{arrives, with_row, CanCount, LeavesCell};
+ghost use Rattle.bq_executor.specs.Known.{AnswersOne};
+
+use crate::known::answers_one;
+use bq_answers::Answers;
+use bq_model::{Row, Tuple};
+use bq_pool::{Pool, Steps};
+use bq_probe::{PartAt, Probe, ProbeScratch, sees_nothing};
+use bq_synopsis::{Admitted, OwnCell, own_cell, put_own};
+use std::sync::ledger::Ledger;
+
+/// The most times that one answer waits.
+const MOST_TIMES: u128 = 1 << 127;
+
+/// How a part takes a row: whether it takes it into a box of its own, and whether it is known that a row which leaves its cell as it is
+/// is answered nothing new.
+#[derive(Clone, Copy, Debug, PartialEq, Eq, Drop)]
+pub struct Takes {
+    pub owns: bool,
+    pub known: bool,
+}
+
+impl Takes {
+    // Whether the row's own cell is looked at.
+    fn looks(self) -> bool
+        ensures { result ≡ (self.owns || self.known) }
+    {
+        self.owns || self.known
+    }
+
+    // Whether the row is known to be answered nothing new, by its own cell.
+    fn spares(self, own: &OwnCell, row: &Row) -> bool
+        ensures known { result ≡ true → self.known ≡ true }
+        ensures stays { result ≡ true → own_cells.with_row own.now row.now.items ≡ own.now.held }
+        ensures sure { self.known ≡ true → own_cells.with_row own.now row.now.items ≡ own.now.held → result ≡ true }
+    {
+        if !self.known {
+            return false;
+        }
+        own.stays(row)
+    }
+}
+
+/// ProbeScratch to work in, of which nothing is asked.
+#[derive(Drop)]
+pub struct Scratch {
+    pub room: ProbeScratch,
+    pub tuple: Tuple,
+}
+
+impl Scratch {
+    /// Returns room to work in.
+    pub fn new() -> Scratch {
+        Scratch {
+            room: ProbeScratch::default(),
+            tuple: Tuple::new(),
+        }
+    }
+}
+
+/// Takes up a tuple that was found: with DISTINCT it waits once, and that only where it has no entry.
+pub fn record_found(distinct: bool, tuple: &Tuple, count: u128, table: &mut Answers)
+    requires width { length tuple.now.items ≡ table.old.width }
+    requires room { Fits tuple.now.items table.old }
+    ensures { table.new ≡ with_entries table.old (with_found distinct (as_found tuple.now.items count) table.old.entries) }
+{
+    if distinct {
+        table.add_new(tuple);
+    } else {
+        table.add_upto(tuple, count, MOST_TIMES);
+    }
+}
+
+// Takes up all that a walk over the cells of a part finds for a row.
+fn walk_all<L: Ledger>(
+    pool: &Pool,
+    part: &PartAt<'_>,
+    at: &Admitted<'_>,
+    room: &mut ProbeScratch,
+    tuple: &mut Tuple,
+    table: &mut Answers,
+    steps: &mut Steps<L>,
+)
+    requires here { at.now.pos < length part.now.q.now.from }
+    requires ready { IsReady part.now.q.now part.now.plan.now pool.now part.now.extent.now }
+    requires prepared { IsPrepared (pairs part.now.q.now) part.now.plan.now part.now.prepared.now }
+    requires room { HaveRoom part.now.q.now.distinct (found_beside part.now.q.now part.now.plan.now (read_from (cells_of pool.now part.now.extent.now)) at.now.pos (by_column at.now.row.now.items)) table.old }
+    ensures table { table.new ≡ with_entries table.old (with_all part.now.q.now.distinct (found_beside part.now.q.now part.now.plan.now (read_from (cells_of pool.now part.now.extent.now)) at.now.pos (by_column at.now.row.now.items)) table.old.entries) }
+    ensures reads { steps.new.reads ≤ steps.old.reads + 3 * share part.now.plan.now }
+    ensures writes { steps.new.writes ≡ steps.old.writes }
+{
+    let (q, plan, prepared) = (part.q, part.plan, part.prepared);
+    if sees_nothing(pool, part, at, room, steps) {
+        return;
+    }
+    let mut probe = Probe::new(q, plan, prepared, at.pos, at.row, room);
+    'walk: while let Some(count) = probe.next(pool, part.extent, q, plan, tuple, steps) {
+        record_found(q.distinct(), tuple, count, table);
+    }
+}
+
+// Takes up the one tuple that a part can answer to a row. Where it has an entry nothing changes, and no cell is read;
+// else the walk ends at the first find.
+fn answer_once<L: Ledger>(
+    pool: &Pool,
+    part: &PartAt<'_>,
+    at: &Admitted<'_>,
+    room: &mut ProbeScratch,
+    tuple: &mut Tuple,
+    table: &mut Answers,
+    steps: &mut Steps<L>,
+)
+    requires here { at.now.pos < length part.now.q.now.from }
+    requires ready { IsReady part.now.q.now part.now.plan.now pool.now part.now.extent.now }
+    requires prepared { IsPrepared (pairs part.now.q.now) part.now.plan.now part.now.prepared.now }
+    requires room { HaveRoom part.now.q.now.distinct (found_beside part.now.q.now part.now.plan.now (read_from (cells_of pool.now part.now.extent.now)) at.now.pos (by_column at.now.row.now.items)) table.old }
+    requires one { AnswersOne part.now.q.now part.now.plan.now at.now.pos at.now.row.now.items tuple.old.items }
+    ensures table { table.new ≡ with_entries table.old (with_all part.now.q.now.distinct (found_beside part.now.q.now part.now.plan.now (read_from (cells_of pool.now part.now.extent.now)) at.now.pos (by_column at.now.row.now.items)) table.old.entries) }
+    ensures reads { steps.new.reads ≤ steps.old.reads + 3 * share part.now.plan.now }
+    ensures writes { steps.new.writes ≡ steps.old.writes }
+{
+    if table.has(tuple) {
+        return;
+    }
+    let (q, plan, prepared) = (part.q, part.plan, part.prepared);
+    if sees_nothing(pool, part, at, room, steps) {
+        return;
+    }
+    let mut probe = Probe::new(q, plan, prepared, at.pos, at.row, room);
+    match probe.next(pool, part.extent, q, plan, tuple, steps) {
+        Some(count) => record_found(true, tuple, count, table),
+        None => {}
+    }
+}
+
+// Takes up all that the cells of a part answer to a row. It is not inlined: with DISTINCT most rows do without it.
+#[inline(never)]
+fn walk<L: Ledger>(
+    pool: &Pool,
+    part: &PartAt<'_>,
+    at: &Admitted<'_>,
+    room: &mut ProbeScratch,
+    tuple: &mut Tuple,
+    table: &mut Answers,
+    steps: &mut Steps<L>,
+)
+    requires here { at.now.pos < length part.now.q.now.from }
+    requires ready { IsReady part.now.q.now part.now.plan.now pool.now part.now.extent.now }
+    requires prepared { IsPrepared (pairs part.now.q.now) part.now.plan.now part.now.prepared.now }
+    requires room { HaveRoom part.now.q.now.distinct (found_beside part.now.q.now part.now.plan.now (read_from (cells_of pool.now part.now.extent.now)) at.now.pos (by_column at.now.row.now.items)) table.old }
+    ensures table { table.new ≡ with_entries table.old (with_all part.now.q.now.distinct (found_beside part.now.q.now part.now.plan.now (read_from (cells_of pool.now part.now.extent.now)) at.now.pos (by_column at.now.row.now.items)) table.old.entries) }
+    ensures reads { steps.new.reads ≤ steps.old.reads + 3 * share part.now.plan.now }
+    ensures writes { steps.new.writes ≡ steps.old.writes }
+{
+    if answers_one(part.q, part.plan, at.pos, at.row, tuple) {
+        answer_once(pool, part, at, room, tuple, table, steps);
+    } else {
+        walk_all(pool, part, at, room, tuple, table, steps);
+    }
+}
+
+/// Takes a row into a part that admits it: all that the cells answer to it is taken up, and where the part takes rows into a box of its
+/// own, the row's own cell takes it. Where it is known that a row which leaves its cell as it is is answered nothing new, such a row
+/// walks over no cell. Returns false where no cell changed.
+pub fn apply_to_part<L: Ledger>(
+    pool: &mut Pool,
+    part: &PartAt<'_>,
+    at: &Admitted<'_>,
+    takes: Takes,
+    scratch: &mut Scratch,
+    table: &mut Answers,
+    steps: &mut Steps<L>,
+) -> bool
+    requires here { at.now.pos < length part.now.q.now.from }
+    requires ready { IsReady part.now.q.now part.now.plan.now pool.old part.now.extent.now }
+    requires prepared { IsPrepared (pairs part.now.q.now) part.now.plan.now part.now.prepared.now }
+    requires admitted { admits part.now.q.now part.now.plan.now at.now.pos (by_column at.now.row.now.items) ≡ true }
+    requires placement { IsCell part.now.plan.now at.now.pos at.now.row.now.items at.now.placement }
+    requires several { (takes.owns || takes.known) ≡ true → 1 < length part.now.q.now.from }
+    requires counts { (takes.owns || takes.known) ≡ true → CanCount part.now.plan.now (read_from (cells_of pool.old part.now.extent.now)) }
+    requires old { takes.known ≡ true → LeavesCell part.now.plan.now (read_from (cells_of pool.old part.now.extent.now)) at.now.pos at.now.row.now.items → AreOld part.now.q.now.distinct (found_in part.now.q.now part.now.plan.now (read_from (cells_of pool.old part.now.extent.now)) (arrives part.now.q.now at.now.pos at.now.row.now.items)) table.old.entries }
+    requires room { HaveRoom part.now.q.now.distinct (found_in part.now.q.now part.now.plan.now (read_from (cells_of pool.old part.now.extent.now)) (arrives part.now.q.now at.now.pos at.now.row.now.items)) table.old }
+    ensures table { table.new ≡ with_entries table.old (with_all part.now.q.now.distinct (found_in part.now.q.now part.now.plan.now (read_from (cells_of pool.old part.now.extent.now)) (arrives part.now.q.now at.now.pos at.now.row.now.items)) table.old.entries) }
+    ensures pool { pool.new ≡ with_row takes.owns part.now.q.now part.now.plan.now at.now.pos at.now.row.now.items part.now.extent.now pool.old }
+    ensures same { result ≡ false → pool.new ≡ pool.old }
+    ensures reads { steps.new.reads ≤ steps.old.reads + 3 * share part.now.plan.now + 1 }
+    ensures writes { steps.new.writes ≤ steps.old.writes + 1 }
+{
+    // Read for the proof alone: the call tells how many streams there are.
+    let _from = part.q.from();
+    if !takes.looks() {
+        // Copies of its own for the call that is not inlined, so that the others stay in registers.
+        let (walked, row) = (*part, *at);
+        walk(
+            pool,
+            &walked,
+            &row,
+            &mut scratch.room,
+            &mut scratch.tuple,
+            table,
+            steps,
+        );
+        return false;
+    }
+    let own = own_cell(pool, part.extent, part.q, part.plan, at, steps);
+    if takes.spares(&own, at.row) {
+        return false;
+    }
+    let (walked, row) = (*part, *at);
+    walk(
+        pool,
+        &walked,
+        &row,
+        &mut scratch.room,
+        &mut scratch.tuple,
+        table,
+        steps,
+    );
+    if takes.owns {
+        put_own(pool, part.extent, part.plan, at, &own, steps);
+    }
+    takes.owns
+}

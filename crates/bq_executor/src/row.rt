@@ -1,0 +1,129 @@
+//! What a row does by the plan of a query.
+ghost use Rattle.std.specs.Prelude.{◌≡◌, ◌<◌, ◌≤◌, ◌+◌, ◌*◌, ◌==◌, [], length, MatchOption, slice_index_or, position, true, false};
+ghost use Rattle.std.specs.List.{list_any};
+ghost use Rattle.bq_model.specs.declared.plan.Plan.TheVariants as plans;
+ghost use Rattle.bq_model.specs.Combinations.{read_from};
+ghost use Rattle.bq_model.specs.Numbers.{work, parts_of};
+ghost use Rattle.bq_pool.specs.Extents.{cells_of};
+ghost use Rattle.bq_answers.specs.Entries.{with_entries};
+ghost use Rattle.bq_executor.specs.Executor.{arrival};
+ghost use Rattle.bq_executor.specs.Taking.{with_all, HaveRoom};
+ghost use Rattle.bq_executor.specs.Arriving.{answered_by, HasTaken, IsPlanReady, AnswersNothingNew};
+ghost use Rattle.bq_index.specs.Prepared.{IsPreparedPlan};
+ghost use Rattle.bq_index.specs.Prefilter.{IsRefused};
+
+use crate::alone::answer_alone;
+use crate::join::Scratch;
+use crate::route::{PartsAt, apply_to_parts};
+use bq_answers::Answers;
+use bq_index::PreparedPlan;
+use bq_model::{Plan, Query, Row};
+use bq_pool::{Extent, Pool, Steps};
+use std::sync::ledger::Ledger;
+
+/// A query: its plan, what its parts are asked of every row, the extent of the cells, and whether it is known that a row which leaves its
+/// cell as it is is answered nothing new.
+#[derive(Clone, Copy)]
+pub struct QueryAt<'a> {
+    pub q: &'a Query,
+    pub plan: &'a Plan,
+    pub prepared: &'a PreparedPlan,
+    pub extent: &'a Extent,
+    pub known: bool,
+}
+
+/// A row, and its stream.
+#[derive(Clone, Copy)]
+pub struct Arrived<'a> {
+    pub stream: u8,
+    pub row: &'a Row,
+}
+
+// The first place at which a stream stands in a list.
+fn position_of(from: &[u8], stream: u8) -> Option<usize>
+    ensures { result ≡ position (λ s. stream == s) from.now }
+{
+    from.iter().position(|s| stream == *s)
+}
+
+// The place of FROM of a stream, where the query names it.
+fn place_of(from: &[u8], stream: u8) -> Option<u8>
+    requires { length from.now ≤ 4 }
+    ensures { MatchOption result (list_any (λ s. stream == s) from.now ≡ false) (λ place. (place < length from.now) × (slice_index_or from.now place 0 ≡ stream) × (list_any (λ s. stream == s) from.now ≡ true)) }
+{
+    match position_of(from, stream) {
+        Some(place) => Some(place as u8),
+        None => None,
+    }
+}
+
+// Takes a row that passed the prefilter.
+fn apply_by_plan<L: Ledger>(
+    pool: &mut Pool,
+    query: &QueryAt<'_>,
+    arrived: &Arrived<'_>,
+    scratch: &mut Scratch,
+    table: &mut Answers,
+    steps: &mut Steps<L>,
+)
+    requires ready { IsPlanReady query.now.q.now query.now.plan.now pool.old query.now.extent.now }
+    requires prepared { IsPreparedPlan query.now.q.now (parts_of query.now.plan.now) query.now.prepared.now }
+    requires known { query.now.known ≡ true → AnswersNothingNew query.now.q.now (parts_of query.now.plan.now) (read_from (cells_of pool.old query.now.extent.now)) table.old.entries }
+    requires room { HaveRoom query.now.q.now.distinct (answered_by query.now.q.now query.now.plan.now (read_from (cells_of pool.old query.now.extent.now)) (arrival arrived.now.stream arrived.now.row.now.items)) table.old }
+    ensures table { table.new ≡ with_entries table.old (with_all query.now.q.now.distinct (answered_by query.now.q.now query.now.plan.now (read_from (cells_of pool.old query.now.extent.now)) (arrival arrived.now.stream arrived.now.row.now.items)) table.old.entries) }
+    ensures pool { HasTaken query.now.q.now (parts_of query.now.plan.now) query.now.extent.now (arrival arrived.now.stream arrived.now.row.now.items) (length (parts_of query.now.plan.now)) pool.old pool.new }
+    ensures reads { steps.new.reads ≤ steps.old.reads + 3 * work (parts_of query.now.plan.now) + length (parts_of query.now.plan.now) }
+    ensures writes { steps.new.writes ≤ steps.old.writes + length (parts_of query.now.plan.now) }
+    ensures alone { query.now.plan.now ≡ plans.Filter → steps.new ≡ steps.old }
+    ensures outside { list_any (λ s. arrived.now.stream == s) query.now.q.now.from ≡ false → steps.new ≡ steps.old }
+{
+    let q = query.q;
+    match query.plan {
+        Plan::Filter => answer_alone(q, arrived.stream, arrived.row, &mut scratch.tuple, table),
+        Plan::Parts { parts, .. } => match place_of(q.from(), arrived.stream) {
+            Some(pos) => {
+                let all = PartsAt {
+                    q,
+                    parts,
+                    prepared: query.prepared,
+                    extent: query.extent,
+                    known: query.known,
+                };
+                apply_to_parts(pool, &all, pos, arrived.row, scratch, table, steps)
+            }
+            None => {}
+        },
+    }
+}
+
+/// Takes a row by the plan of a query: what it answers comes to wait in the table, and the cells take the row. A filter has
+/// no cells, and a row of a stream outside FROM, or one that did not pass the prefilter, does nothing. Where it says no, nothing was
+/// answered.
+pub fn apply_row<L: Ledger>(
+    passes: bool,
+    pool: &mut Pool,
+    query: &QueryAt<'_>,
+    arrived: &Arrived<'_>,
+    scratch: &mut Scratch,
+    table: &mut Answers,
+    steps: &mut Steps<L>,
+) -> bool
+    requires prefilter { passes ≡ false → IsRefused query.now.q.now query.now.plan.now (arrival arrived.now.stream arrived.now.row.now.items) }
+    requires ready { IsPlanReady query.now.q.now query.now.plan.now pool.old query.now.extent.now }
+    requires prepared { IsPreparedPlan query.now.q.now (parts_of query.now.plan.now) query.now.prepared.now }
+    requires known { query.now.known ≡ true → AnswersNothingNew query.now.q.now (parts_of query.now.plan.now) (read_from (cells_of pool.old query.now.extent.now)) table.old.entries }
+    requires room { HaveRoom query.now.q.now.distinct (answered_by query.now.q.now query.now.plan.now (read_from (cells_of pool.old query.now.extent.now)) (arrival arrived.now.stream arrived.now.row.now.items)) table.old }
+    ensures table { table.new ≡ with_entries table.old (with_all query.now.q.now.distinct (answered_by query.now.q.now query.now.plan.now (read_from (cells_of pool.old query.now.extent.now)) (arrival arrived.now.stream arrived.now.row.now.items)) table.old.entries) }
+    ensures none { result ≡ false → answered_by query.now.q.now query.now.plan.now (read_from (cells_of pool.old query.now.extent.now)) (arrival arrived.now.stream arrived.now.row.now.items) ≡ [] }
+    ensures pool { HasTaken query.now.q.now (parts_of query.now.plan.now) query.now.extent.now (arrival arrived.now.stream arrived.now.row.now.items) (length (parts_of query.now.plan.now)) pool.old pool.new }
+    ensures reads { steps.new.reads ≤ steps.old.reads + 3 * work (parts_of query.now.plan.now) + length (parts_of query.now.plan.now) }
+    ensures writes { steps.new.writes ≤ steps.old.writes + length (parts_of query.now.plan.now) }
+    ensures alone { query.now.plan.now ≡ plans.Filter → steps.new ≡ steps.old }
+    ensures outside { list_any (λ s. arrived.now.stream == s) query.now.q.now.from ≡ false → steps.new ≡ steps.old }
+{
+    if !passes {
+        return false;
+    }
+    apply_by_plan(pool, query, arrived, scratch, table, steps);
+    true
+}

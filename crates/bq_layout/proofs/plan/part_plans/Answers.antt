@@ -1,0 +1,9 @@
+use Rattle.bq_layout.proofs.Planning.{few_drafts}
+use Rattle.bq_layout.proofs.UnsetPlans.{unset_plans}
+use Rattle.bq_layout.proofs.plan.part_plans.Goals as goal
+
+pub returns-in-Ok-clause-plans : goal.returns-in-Ok-clause-plans
+returns-in-Ok-clause-plans c = unset_plans c.args.q.now c.args.parts.now c.in-Ok.draft _ c.requires.parts c.in-Ok.ensures c.parts_of.ensures
+
+pub returns-in-Ok-clause-few : goal.returns-in-Ok-clause-few
+returns-in-Ok-clause-few c = rw c.parts_of.ensures (few_drafts c.args.parts.now c.in-Ok.draft.parts.items c.requires.few c.in-Ok.ensures.1)

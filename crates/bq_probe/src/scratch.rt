@@ -1,0 +1,246 @@
+//! ProbeScratch for a walk, and the values that there are to try at the next place.
+ghost use Rattle.std.specs.Prelude.{◌≡◌, ◌≢◌, ◌*◌, ◌<◌, ◌^◌, length, [], ◌∷◌, ◌++◌, IfSome, map, true, false, Option, Some};
+ghost use Rattle.bq_model.specs.Boxes.{box_size, values_at, AreInside, AreNumbered};
+ghost use Rattle.bq_model.specs.Combinations.{read_from};
+ghost use Rattle.bq_model.specs.Parts.{pairs};
+ghost use Rattle.bq_model.specs.Plan.{stream_at, dims_at};
+ghost use Rattle.bq_pool.specs.Extents.{cells_of, IsLive};
+ghost use Rattle.bq_probe.specs.Beside.{last_beside, IsEmptyBeside};
+ghost use Rattle.bq_probe.specs.Choosing.{start, chosen};
+ghost use Rattle.bq_probe.specs.Lined.{StandOn, AreFixed};
+ghost use Rattle.bq_synopsis.specs.Preparing.{IsPrepared};
+ghost use Rattle.bq_probe.specs.Walk.{narrowed_dims};
+ghost use Rattle.bq_synopsis.specs.Premises.{IsLaidOut};
+
+use crate::beside::leaves_nothing;
+use crate::fixed::{fixed_dims, pinned_dims, single_dims};
+use crate::lines::{is_empty, line_of};
+use crate::lists::{Dims, Numbers};
+use crate::narrow::narrowed_dims;
+use crate::part::RowAt;
+use crate::stack::Bindings;
+use bq_model::{Cell, Dim, PartPlan, size_of};
+use bq_pool::{Extent, Pool, StridedCells};
+use bq_synopsis::{is_whole, may_fix, stream_at};
+
+/// ProbeScratch for a walk. What it holds between two walks means nothing.
+#[derive(Drop, Default)]
+pub struct ProbeScratch {
+    pub(crate) chosen: Bindings,
+    pub(crate) numbers: Numbers,
+    pub(crate) sizes: Numbers,
+    pub(crate) dims: Dims,
+    pub(crate) line: Option<StridedCells>,
+}
+
+// The line on which the cells stand for what there is to try at a place, if they stand on one.
+fn line_in(
+    part: &PartPlan,
+    arriving: u8,
+    place: usize,
+    dims: &[Dim],
+    size: u32,
+) -> Option<StridedCells>
+    requires here { place < length part.now.streams.items }
+    requires laid { place ≢ arriving → IsLaidOut (stream_at part.now place) (2 ^ 32) }
+    requires size { size ≡ box_size dims.now }
+    requires sound { AreNumbered dims.now }
+    requires inside { place ≢ arriving → 0 < box_size dims.now → AreInside (dims_at part.now place) (map (λ d. d.lo) dims.now) }
+    ensures { StandOn part.now arriving place dims.now result }
+{
+    if arriving as usize == place {
+        return None;
+    }
+    if size == 0 {
+        return None;
+    }
+    let plan = stream_at(part, place);
+    line_of(plan.base, plan.dims.as_slice(), dims)
+}
+
+impl ProbeScratch {
+    // Sees the values to try after these choices, where it is listed that the row's own columns fix
+    // them all; else it may not tell.
+    pub(crate) fn look_pinned(&mut self, at: &RowAt<'_>) -> bool
+        requires more { length self.old.chosen.items < length at.now.part.now.streams.items }
+        requires prepared { IsPrepared at.now.pairs.now at.now.part.now at.now.prepared.now }
+        requires laid { length self.old.chosen.items ≢ at.now.arriving → IsLaidOut (stream_at at.now.part.now (length self.old.chosen.items)) (2 ^ 32) }
+        ensures chosen { self.new.chosen ≡ self.old.chosen }
+        ensures numbers { self.new.numbers ≡ self.old.numbers }
+        ensures sizes { self.new.sizes ≡ self.old.sizes }
+        ensures fixed { result ≡ true → (self.new.dims.items ≡ narrowed_dims at.now.pairs.now at.now.part.now at.now.arriving at.now.row.now self.old.chosen.items) × (box_size (narrowed_dims at.now.pairs.now at.now.part.now at.now.arriving at.now.row.now self.old.chosen.items) ≡ 1) × StandOn at.now.part.now at.now.arriving (length self.old.chosen.items) (narrowed_dims at.now.pairs.now at.now.part.now at.now.arriving at.now.row.now self.old.chosen.items) self.new.line }
+    {
+        let place = self.chosen.len();
+        if at.arriving as usize == place {
+            return false;
+        }
+        let Some(first) = pinned_dims(at, self.chosen.as_slice(), &mut self.dims) else {
+            return false;
+        };
+        self.line = Some(StridedCells { first, stride: 1 });
+        true
+    }
+
+    // Sees the values to try after these choices, where known columns fix them all; else it may not tell.
+    fn look_fixed(&mut self, at: &RowAt<'_>) -> bool
+        requires more { length self.old.chosen.items < length at.now.part.now.streams.items }
+        requires prepared { IsPrepared at.now.pairs.now at.now.part.now at.now.prepared.now }
+        requires laid { length self.old.chosen.items ≢ at.now.arriving → IsLaidOut (stream_at at.now.part.now (length self.old.chosen.items)) (2 ^ 32) }
+        ensures chosen { self.new.chosen ≡ self.old.chosen }
+        ensures numbers { self.new.numbers ≡ self.old.numbers }
+        ensures sizes { self.new.sizes ≡ self.old.sizes }
+        ensures fixed { result ≡ true → (self.new.dims.items ≡ narrowed_dims at.now.pairs.now at.now.part.now at.now.arriving at.now.row.now self.old.chosen.items) × (box_size (narrowed_dims at.now.pairs.now at.now.part.now at.now.arriving at.now.row.now self.old.chosen.items) ≡ 1) × StandOn at.now.part.now at.now.arriving (length self.old.chosen.items) (narrowed_dims at.now.pairs.now at.now.part.now at.now.arriving at.now.row.now self.old.chosen.items) self.new.line }
+    {
+        let place = self.chosen.len();
+        if at.arriving as usize == place {
+            return false;
+        }
+        if !may_fix(at.prepared.access(at.arriving, place)) {
+            return false;
+        }
+        let Some(first) = fixed_dims(at, self.chosen.as_slice(), &mut self.dims) else {
+            return false;
+        };
+        self.line = Some(StridedCells { first, stride: 1 });
+        true
+    }
+
+    // Sees the values to try after these choices, and tells for how many combinations, where no link with a known column
+    // says anything of them; else it may not tell.
+    fn look_whole(&mut self, at: &RowAt<'_>) -> Option<u32>
+        requires more { length self.old.chosen.items < length at.now.part.now.streams.items }
+        requires prepared { IsPrepared at.now.pairs.now at.now.part.now at.now.prepared.now }
+        requires laid { length self.old.chosen.items ≢ at.now.arriving → IsLaidOut (stream_at at.now.part.now (length self.old.chosen.items)) (2 ^ 32) }
+        ensures chosen { self.new.chosen ≡ self.old.chosen }
+        ensures numbers { self.new.numbers ≡ self.old.numbers }
+        ensures sizes { self.new.sizes ≡ self.old.sizes }
+        ensures whole { IfSome result (λ size. (self.new.dims.items ≡ narrowed_dims at.now.pairs.now at.now.part.now at.now.arriving at.now.row.now self.old.chosen.items) × (size ≡ box_size (narrowed_dims at.now.pairs.now at.now.part.now at.now.arriving at.now.row.now self.old.chosen.items)) × StandOn at.now.part.now at.now.arriving (length self.old.chosen.items) (narrowed_dims at.now.pairs.now at.now.part.now at.now.arriving at.now.row.now self.old.chosen.items) self.new.line) }
+    {
+        let place = self.chosen.len();
+        if at.arriving as usize == place {
+            return None;
+        }
+        if !is_whole(at.prepared.access(at.arriving, place)) {
+            return None;
+        }
+        let plan = stream_at(at.part, place);
+        self.dims.copy_from(plan.dims.as_slice());
+        self.line = Some(StridedCells {
+            first: plan.base,
+            stride: 1,
+        });
+        Some(plan.size)
+    }
+
+    // Sees which values there are to try after these choices, one dim after the other.
+    fn look_all(&mut self, at: &RowAt<'_>) -> u32
+        requires more { length self.old.chosen.items < length at.now.part.now.streams.items }
+        requires prepared { IsPrepared at.now.pairs.now at.now.part.now at.now.prepared.now }
+        requires laid { length self.old.chosen.items ≢ at.now.arriving → IsLaidOut (stream_at at.now.part.now (length self.old.chosen.items)) (2 ^ 32) }
+        ensures size { result ≡ box_size (narrowed_dims at.now.pairs.now at.now.part.now at.now.arriving at.now.row.now self.old.chosen.items) }
+        ensures dims { self.new.dims.items ≡ narrowed_dims at.now.pairs.now at.now.part.now at.now.arriving at.now.row.now self.old.chosen.items }
+        ensures chosen { self.new.chosen ≡ self.old.chosen }
+        ensures numbers { self.new.numbers ≡ self.old.numbers }
+        ensures sizes { self.new.sizes ≡ self.old.sizes }
+        ensures line { StandOn at.now.part.now at.now.arriving (length self.old.chosen.items) (narrowed_dims at.now.pairs.now at.now.part.now at.now.arriving at.now.row.now self.old.chosen.items) self.new.line }
+    {
+        narrowed_dims(at, self.chosen.as_slice(), &mut self.dims);
+        let size = size_of(self.dims.as_slice());
+        self.line = line_in(
+            at.part,
+            at.arriving,
+            self.chosen.len(),
+            self.dims.as_slice(),
+            size,
+        );
+        size
+    }
+
+    // Sees which values there are to try after these choices, and tells for how many combinations.
+    pub(crate) fn look_other(&mut self, at: &RowAt<'_>) -> u32
+        requires more { length self.old.chosen.items < length at.now.part.now.streams.items }
+        requires prepared { IsPrepared at.now.pairs.now at.now.part.now at.now.prepared.now }
+        requires laid { length self.old.chosen.items ≢ at.now.arriving → IsLaidOut (stream_at at.now.part.now (length self.old.chosen.items)) (2 ^ 32) }
+        ensures size { result ≡ box_size (narrowed_dims at.now.pairs.now at.now.part.now at.now.arriving at.now.row.now self.old.chosen.items) }
+        ensures dims { self.new.dims.items ≡ narrowed_dims at.now.pairs.now at.now.part.now at.now.arriving at.now.row.now self.old.chosen.items }
+        ensures chosen { self.new.chosen ≡ self.old.chosen }
+        ensures numbers { self.new.numbers ≡ self.old.numbers }
+        ensures sizes { self.new.sizes ≡ self.old.sizes }
+        ensures line { StandOn at.now.part.now at.now.arriving (length self.old.chosen.items) (narrowed_dims at.now.pairs.now at.now.part.now at.now.arriving at.now.row.now self.old.chosen.items) self.new.line }
+    {
+        if self.look_fixed(at) {
+            return 1;
+        }
+        if let Some(size) = self.look_whole(at) {
+            return size;
+        }
+        self.look_all(at)
+    }
+
+    // Takes up what a walk has chosen where it comes to its first cell.
+    fn begin(&mut self, arriving: u8)
+        ensures { self.new.chosen.items ≡ start arriving }
+    {
+        self.chosen.clear();
+        if arriving == 0 {
+            self.chosen.push_own();
+        }
+    }
+
+    /// Tells the number of the cell to which a walk comes first, where it is listed that this one alone is left there.
+    pub(crate) fn first_cell(&mut self, at: &RowAt<'_>) -> Option<u32>
+        requires prepared { IsPrepared at.now.pairs.now at.now.part.now at.now.prepared.now }
+        requires laid { length (start at.now.arriving) < length at.now.part.now.streams.items → IsLaidOut (stream_at at.now.part.now (length (start at.now.arriving))) (2 ^ 32) }
+        ensures { IfSome result (λ first. (length (start at.now.arriving) < length at.now.part.now.streams.items) × AreFixed at.now.part.now (length (start at.now.arriving)) (narrowed_dims at.now.pairs.now at.now.part.now at.now.arriving at.now.row.now (start at.now.arriving)) self.new.dims.items first) }
+    {
+        self.begin(at.arriving);
+        if self.chosen.len() >= at.part.streams.as_slice().len() {
+            return None;
+        }
+        let known = self.chosen.as_slice();
+        let pinned = pinned_dims(at, known, &mut self.dims);
+        if pinned.is_some() {
+            return pinned;
+        }
+        single_dims(at, known, &mut self.dims)
+    }
+
+    /// Tells whether it is seen that the row's own columns leave no cell that holds anything at the last place that a walk comes to. Over
+    /// two streams a walk sees that itself, and where links say that columns are equal one cell mostly tells it. No cell is read.
+    #[inline(never)]
+    pub(crate) fn is_cut_off(
+        &mut self,
+        pool: &Pool,
+        e: &Extent,
+        part: &PartPlan,
+        arriving: u8,
+        row: &[i64],
+    ) -> bool
+        requires live { IsLive pool.now e.now }
+        requires laid { 2 < length part.now.streams.items → IsLaidOut (stream_at part.now (last_beside (length part.now.streams.items) arriving)) (64 * e.now.pages) }
+        ensures { result ≡ true → (2 < length part.now.streams.items) × IsEmptyBeside part.now (read_from (cells_of pool.now e.now)) arriving row.now (last_beside (length part.now.streams.items) arriving) }
+    {
+        if part.streams.as_slice().len() < 3 {
+            return false;
+        }
+        if !part.equal.as_slice().is_empty() {
+            return false;
+        }
+        leaves_nothing(pool, e, part, arriving, row, &mut self.dims)
+    }
+
+    // Takes up a cell with the values at a place of these dims.
+    pub(crate) fn choose(&mut self, size: u32, place: u32, cell: Cell)
+        requires room { length self.old.chosen.items < 4 }
+        requires sound { AreNumbered self.old.dims.items }
+        requires size { size ≡ box_size self.old.dims.items }
+        requires below { place < size }
+        ensures chosen { self.new.chosen.items ≡ self.old.chosen.items ++ chosen (values_at self.old.dims.items place) cell ∷ [] }
+        ensures numbers { self.new.numbers ≡ self.old.numbers }
+        ensures sizes { self.new.sizes ≡ self.old.sizes }
+        ensures dims { self.new.dims ≡ self.old.dims }
+        ensures line { self.new.line ≡ self.old.line }
+    {
+        self.chosen.push(self.dims.as_slice(), size, place, cell);
+    }
+}
