@@ -25,6 +25,10 @@ abbrev pub narrowed : ℕ → List ℤ → List Column → ℕ
 narrowed word row [] = word
 narrowed word row (c ∷ columns) = narrowed (bit_and word (word_at c row)) row columns
 
+-- each column, in which the row's value is an integer of 64 bits, has a bit set in the word of the row's bucket
+abbrev pub AreMarked : ℕ → List ℤ → List Column → Type 0
+AreMarked k row columns = (i : ℕ) (c : Column) → slice_get columns i ≡ Some c → IsMachine (slice_index_or row c.column (pos 0)) → bit_at (word_at c row) k ≡ 1
+
 -- the candidates for a row
 abbrev pub candidates_of : Candidates → List ℤ → ℕ
 candidates_of c row = narrowed c.named row c.columns.items

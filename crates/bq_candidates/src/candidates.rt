@@ -1,10 +1,10 @@
 //! The queries that a row may concern.
-ghost use Rattle.std.specs.Prelude.{◌≡◌, ℕ, ◌<◌, ◌≤◌, List, [], length, slice_get, Option, Some, IfOk, pos, slice_index_or};
+ghost use Rattle.std.specs.Prelude.{◌≡◌, ℕ, ◌<◌, ◌≤◌, List, [], length, false, slice_get, Option, Some, IfOk, pos, slice_index_or};
 ghost use Rattle.std.specs.Int.{bit_at};
 ghost use Rattle.bq_candidates.specs.declared.boxes.QueryBox.{QueryBox};
 ghost use Rattle.bq_candidates.specs.declared.column.Column.{Column};
-ghost use Rattle.bq_candidates.specs.Boxes.{IsInside};
-ghost use Rattle.bq_candidates.specs.Buckets.{AreColumns, AreFor, candidates_of, narrowed, IsMachine};
+ghost use Rattle.bq_candidates.specs.Boxes.{IsInside, unbounded};
+ghost use Rattle.bq_candidates.specs.Buckets.{AreColumns, AreFor, AreMarked, candidates_of, narrowed};
 
 use crate::boxes::QueryBox;
 use crate::column::Column;
@@ -18,9 +18,18 @@ pub struct Candidates {
     pub columns: Vec<Column>,
 }
 
+/// The queries that a row may concern, and those of them that hold it by the buckets alone. Nothing is promised of the latter: a query that
+/// holds the row and has no bit there is asked by its prefilter.
+#[derive(Clone, Copy, Debug)]
+pub struct Concerns {
+    pub word: u64,
+    pub within: u64,
+}
+
 // Whether some box bounds a column.
 fn is_bounded(boxes: &[Option<QueryBox>], column: usize) -> bool
     requires { column < 8 }
+    ensures { result ≡ false → (k : ℕ) (box : QueryBox) → slice_get boxes.now k ≡ Some (Some box) → slice_index_or box.columns column unbounded ≡ unbounded }
 {
     for place in boxes {
         if let Some(own) = place {
@@ -44,17 +53,23 @@ fn put_column(columns: &mut Vec<Column>, boxes: &[Option<QueryBox>], column: usi
     let _stored = columns.push(own).is_ok();
 }
 
-// What is left of a word by all columns.
+// What is left of a word by all columns. Where nothing is left, the other columns are not looked at.
 #[inline(always)]
-fn narrowed(word: u64, row: &[i64], columns: &[Column]) -> u64
-    ensures value { result ≡ narrowed word row.now columns.now }
-    ensures machine { (i : ℕ) (column : Column) → slice_get columns.now i ≡ Some column → IsMachine (slice_index_or row.now column.column (pos 0)) }
+fn narrowed(word: u64, row: &[i64], columns: &[Column]) -> Concerns
+    ensures value { result.word ≡ narrowed word row.now columns.now }
+    ensures held { (k : ℕ) → AreMarked k row.now columns.now → bit_at word k ≡ 1 → bit_at result.word k ≡ 1 }
 {
     let mut left = word;
+    let mut within = word;
     for column in columns {
-        left &= column.of(row);
+        let (own, all) = column.of(row);
+        left &= own;
+        within &= all;
+        if left == 0 {
+            return Concerns { word: 0, within: 0 };
+        }
     }
-    left
+    Concerns { word: left, within }
 }
 
 impl Candidates {
@@ -82,10 +97,10 @@ impl Candidates {
 
     /// Returns the candidates for a row: a bit for each query whose box meets the bucket of each value.
     #[inline(always)]
-    pub fn of(&self, row: &[i64]) -> u64
-        ensures value { result ≡ candidates_of self.now row.now }
-        ensures held { (boxes : List (Option QueryBox)) → AreFor boxes self.now → (k : ℕ) (box : QueryBox) → slice_get boxes k ≡ Some (Some box) → IsInside box row.now → bit_at result k ≡ 1 }
-        ensures only { (boxes : List (Option QueryBox)) → AreFor boxes self.now → (k : ℕ) → bit_at result k ≡ 1 → k < length boxes }
+    pub fn of(&self, row: &[i64]) -> Concerns
+        ensures value { result.word ≡ candidates_of self.now row.now }
+        ensures held { (boxes : List (Option QueryBox)) → AreFor boxes self.now → (k : ℕ) (box : QueryBox) → slice_get boxes k ≡ Some (Some box) → IsInside box row.now → bit_at result.word k ≡ 1 }
+        ensures only { (boxes : List (Option QueryBox)) → AreFor boxes self.now → (k : ℕ) → bit_at result.word k ≡ 1 → k < length boxes }
     {
         narrowed(self.named, row, self.columns.as_slice())
     }

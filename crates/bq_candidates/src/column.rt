@@ -15,12 +15,13 @@ pub struct Grid {
     pub shift: u32,
 }
 
-/// A column of rows, its buckets, and for each of them the queries whose interval meets it.
+/// A column of rows, its buckets, and for each of them the queries whose interval meets it, and those whose interval holds all of it.
 #[derive(Clone, Copy, Debug)]
 pub struct Column {
     pub column: u8,
     pub grid: Grid,
     pub words: [u64; 256],
+    pub within: [u64; 256],
 }
 
 impl Grid {
@@ -131,6 +132,45 @@ fn words_of(boxes: &[Option<QueryBox>], column: usize, grid: &Grid) -> [u64; 256
     words
 }
 
+// The first bucket of which an interval holds all, and the one behind the last. There may be none between.
+fn buckets_within(grid: &Grid, interval: &Interval) -> (usize, usize)
+    ensures { result.1 ≤ 256 }
+{
+    let from = match interval.least.checked_sub(1) {
+        Some(below) => grid.bucket(below) + 1,
+        None => 0,
+    };
+    let end = match interval.greatest.checked_add(1) {
+        Some(above) => grid.bucket(above),
+        None => 256,
+    };
+    (from, end)
+}
+
+// Sets a bit in the words of the buckets of which an interval holds all.
+fn mark_within(words: &mut [u64; 256], grid: &Grid, interval: &Interval, bit: usize)
+    requires bit { bit < 64 }
+{
+    let (from, end) = buckets_within(grid, interval);
+    for j in from..end {
+        words[j] = with_bit(words[j], bit);
+    }
+}
+
+// For each bucket the queries that need not be asked again. No answer rests on it: a query that is asked answers the same.
+fn within_of(boxes: &[Option<QueryBox>], column: usize, grid: &Grid) -> [u64; 256]
+    requires few { length boxes.now ≤ 64 }
+    requires column { column < 8 }
+{
+    let mut words = [0; 256];
+    for k in 0..boxes.len() {
+        if let Some(own) = &boxes[k] {
+            mark_within(&mut words, grid, &own.columns[column], k);
+        }
+    }
+    words
+}
+
 // The value of a column in a row, 0 where the row has none.
 fn value_of(row: &[i64], column: u8) -> i64
     ensures { result ≡ slice_index_or row.now column (pos 0) }
@@ -147,20 +187,23 @@ impl Column {
     {
         let grid = grid_over(span_of(boxes, column));
         let words = words_of(boxes, column, &grid);
+        let within = within_of(boxes, column, &grid);
         Column {
             column: column as u8,
             grid,
             words,
+            within,
         }
     }
 
-    /// Returns the queries that the bucket of a row's value is marked with.
+    /// Returns the queries that the bucket of a row's value is marked with, and those that hold all of it.
     #[inline(always)]
-    pub fn of(&self, row: &[i64]) -> u64
-        ensures value { result ≡ word_at self.now row.now }
+    pub fn of(&self, row: &[i64]) -> (u64, u64)
+        ensures value { result.0 ≡ word_at self.now row.now }
         ensures machine { IsMachine (slice_index_or row.now self.now.column (pos 0)) }
     {
         let x = value_of(row, self.column);
-        self.words[self.grid.bucket(x)]
+        let bucket = self.grid.bucket(x);
+        (self.words[bucket], self.within[bucket])
     }
 }

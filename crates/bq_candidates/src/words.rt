@@ -1,5 +1,5 @@
 //! Words with a bit for each query.
-ghost use Rattle.std.specs.Prelude.{◌≡◌, ◌≢◌, ℕ, ◌<◌, ◌≤◌, length};
+ghost use Rattle.std.specs.Prelude.{◌≡◌, ◌≢◌, ℕ, ◌<◌, ◌≤◌, length, true, false};
 ghost use Rattle.std.specs.Int.{bit_at};
 ghost use Rattle.bq_candidates.specs.Buckets.{AreNamed};
 
@@ -12,6 +12,15 @@ pub fn with_bit(word: u64, bit: usize) -> u64
     ensures others { (i : ℕ) → i ≢ bit → bit_at result i ≡ bit_at word i }
 {
     word | (1 << bit)
+}
+
+/// Returns whether a bit of a word is set.
+pub fn has_bit(word: u64, bit: usize) -> bool
+    requires { bit < 64 }
+    ensures set { result ≡ true → bit_at word bit ≡ 1 }
+    ensures clear { result ≡ false → bit_at word bit ≡ 0 }
+{
+    (word >> bit) & 1 == 1
 }
 
 /// Returns the word with a bit cleared.

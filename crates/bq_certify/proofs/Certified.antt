@@ -1,15 +1,12 @@
 -- What certifying a script comes to.
-use Rattle.std.proofs.Common.{◌≡◌, ℕ, ◌+◌, Bool, None, Some, List, [], ◌∷◌, ◌++◌, length, refl, sym, ap, ◌∙◌, subst, append_assoc, append-nil, length-append, arith, Err}
+use Rattle.std.proofs.Common.{◌≡◌, ℕ, ◌+◌, None, Some, List, [], ◌∷◌, ◌++◌, length, refl, sym, ap, ◌∙◌, subst, append-nil, length-append, arith, Err}
 use Rattle.std.specs.Prelude.{⊤}
 use Rattle.std.proofs.lemmas.List.Elements.{All-from_recursion}
 use Rattle.bq_io.specs.Source.{SourceState}
-use Rattle.bq_model.specs.Query.{QueryValue}
 use Rattle.bq_text.specs.Lines.{lines}
 use Rattle.bq_feed.specs.Reading.{Reading}
 use Rattle.bq_feed.specs.Texts.{ended_part}
 use Rattle.bq_feed.proofs.GivenEnds.{front-lines, took-lines, took-all}
-use Rattle.bq_schema.specs.Streams.{Shape}
-use Rattle.bq_parser.specs.declared.tree.SelectAst.{SelectAst}
 use Rattle.bq_parser.specs.declared.tree.Statement.{Statement}
 use Rattle.bq_reply.specs.declared.refusal.Refusal.{Refusal}
 use Rattle.bq_reply.specs.declared.refusal.Refusal.TheVariants.{Limit}
@@ -22,7 +19,7 @@ use Rattle.bq_certmake.specs.Made.{IsTooLarge}
 use Rattle.bq_script.specs.declared.end.ScriptEnd.{ScriptEnd}
 use Rattle.bq_script.specs.declared.end.ScriptEnd.TheVariants.{Refused, ReadFault, ByteLimit, Memory}
 use Rattle.bq_script.specs.declared.script.Script.{Script}
-use Rattle.bq_script.specs.Script.{Asks, IsBlank, IsMisplaced}
+use Rattle.bq_script.specs.Script.{IsBlank, IsMisplaced}
 use Rattle.bq_script.specs.Texts.{script_text}
 use Rattle.bq_script.specs.Ends.{GaveScript, GaveLine, GaveAll, GaveLast, IsFull, ReadsBlank}
 use Rattle.bq_io.specs.declared.status.Status.TheVariants as status
@@ -30,31 +27,9 @@ use Rattle.bq_script.specs.Commands.{Outcome, ComesTo, TookUnsettled, refusal}
 use Rattle.bq_certify.specs.Certifying.{Certifies, certified}
 use Rattle.bq_certify.specs.Certifying as certifying
 use Rattle.bq_script.specs.Ending.{StopsAt}
+use Rattle.bq_script.proofs.Behind.{none-behind, asks-then}
 use Rattle.bq_certify.specs.Certified.{MakesFor, ends_with}
 use Rattle.bq_certify.proofs.OneCertified.{certifies-alike}
-
-no-more : (xs : List (List ℕ)) → length xs ≡ 0 → xs ≡ []
-no-more [] e = refl
-no-more (x ∷ xs) e = absurd (omega arith)
-
--- the line of the query is the last of those that were given up to it
-none-behind : (given : List (List ℕ)) (streams : List Shape) (name : List ℕ) (select : SelectAst) (shared : Bool) (q : QueryValue) (number : ℕ)
-    → (a : Asks given streams name select shared q number) → number ≡ length given → a.behind ≡ []
-none-behind given streams name select shared q number a last =
-    no-more a.behind (omega (arith, last, a.number_is, ap length a.whole, length-append a.before (a.line ∷ a.behind)))
-
--- lines that ask for a query, and more lines behind them
-abbrev asks-then : (given more all : List (List ℕ)) (streams : List Shape) (name : List ℕ) (select : SelectAst) (shared : Bool) (q : QueryValue) (number : ℕ)
-    → (a : Asks given streams name select shared q number) → a.behind ≡ [] → all ≡ given ++ more → Asks all streams name select shared q number
-asks-then given more all streams name select shared q number a none e = record {
-  before = a.before;
-  line = a.line;
-  behind = more;
-  whole = e ∙ ap (λ l. l ++ more) (a.whole ∙ ap (λ l. a.before ++ a.line ∷ l) none) ∙ append_assoc a.before (a.line ∷ []) more;
-  create = a.create;
-  is = a.is;
-  number_is = a.number_is;
-}
 
 -- the query of a script is too large
 pub comes-large : (script : Script) (source now : SourceState) (reader : Reading) → GaveScript script source now reader → IsTooLarge script.query → ComesTo Certifies source now (refusal script.line Limit)

@@ -1,12 +1,7 @@
 -- What a script with a certificate comes to.
 use Rattle.std.proofs.Common.{◌≡◌, ℕ, suc, ◌+◌, Bool, List, [], ◌∷◌, ◌++◌, length, Some, refl, sym, ap, ◌∙◌, subst, append_assoc, length-append, arith, Ok, Err}
 use Rattle.std.specs.Prelude.{⊤}
-use Rattle.std.specs.declared.result.Result.{Result}
-use Rattle.bq_io.specs.declared.sink.WriteFault.{WriteFault}
-use Rattle.bq_io.specs.declared.status.Status.{Status}
-use Rattle.bq_io.specs.declared.status.Status.TheVariants as status
 use Rattle.bq_io.specs.Source.{SourceState}
-use Rattle.bq_io.specs.Sink.{SinkState, Writes}
 use Rattle.bq_feed.specs.Reading.{Reading}
 use Rattle.bq_feed.specs.Texts.{ended_part}
 use Rattle.bq_feed.proofs.GivenEnds.{took-all}
@@ -26,13 +21,12 @@ use Rattle.bq_script.specs.Script.{Asks, name_of}
 use Rattle.bq_script.specs.Ends.{IsRefused, EndsEarly, GaveScript, GaveStreams, IsFull}
 use Rattle.bq_certify.specs.declared.checking.Checked.{Checked}
 use Rattle.bq_script.specs.Commands.{AreNeeded, TookUnsettled, refusal, lines_for}
-use Rattle.bq_script.specs.Ending.{EndsWith}
-use Rattle.bq_script.proofs.Endings.{HasText, early-needed, unsettled-streams, front-written}
+use Rattle.bq_script.proofs.Endings.{early-needed, unsettled-streams}
 use Rattle.bq_certify.proofs.OneChecked.{answered-needs, checks-alike, collected-unsettled}
 use Rattle.bq_certify.specs.Checking as checking
 use Rattle.bq_certify.specs.Checking.{answered, Checks}
 use Rattle.bq_script.specs.Ending.{Refuses}
-use Rattle.bq_certify.specs.Collecting.{status_after, HasGiven, GaveLines, GaveRefused, ReadsCertificate, ReadsAnswer}
+use Rattle.bq_certify.specs.Collecting.{GaveLines, GaveRefused, ReadsCertificate, ReadsAnswer}
 
 -- nothing stands behind the last line
 pub none-behind : (before : List (List ℕ)) (line : List ℕ) (behind : List (List ℕ)) (n : ℕ) → n ≡ suc (length before) → n ≡ length (before ++ line ∷ behind) → behind ≡ []
@@ -75,15 +69,6 @@ ends-early source now reader (Refused number word) r = early source now number w
 ends-early source now reader ReadFault r = (r.0, unsettled source now reader (λ text. ⊤) r.1)
 ends-early source now reader ByteLimit r = unsettled source now reader IsFull r
 ends-early source now reader Memory r = tt
-
--- lines were given up to the query
-pub stands : (script : Script) (source now : SourceState) (reader : Reading) → GaveScript script source now reader → HasGiven now reader
-stands script source now reader g = record {
-  source = source;
-  front = g.front;
-  given = g.given;
-  lines = g.lines;
-}
 
 -- a line of the certificate is refused
 later : (script : Script) (source now now' : SourceState) (reader : Reading) (number : ℕ) (word : Refusal) → (g : GaveScript script source now reader) → GaveRefused source now' g.given number word → Refuses Checks number word source now'
@@ -135,14 +120,3 @@ ends-whole script source now now' reader certificate answer checked g c is e =
       },
       record { nodes = nodes_of certificate; is = is; named = g.named },
     )
-
--- a text was written, and the status is the one that goes with it, or the sink failed
-pub ends-written : (r : Result Unit WriteFault) (aim : Status) (before after : SinkState) (text : List ℕ) → HasText aim → Writes r before after text → EndsWith aim text (status_after r aim) before after
-ends-written (Ok done) status.Done before after text final w = (refl, w.bytes)
-ends-written (Ok done) status.Invalid before after text final w = (refl, w.bytes)
-ends-written (Ok done) status.Usage before after text final w = absurd final
-ends-written (Ok done) status.ReadFault before after text final w = absurd final
-ends-written (Ok done) status.WriteFault before after text final w = absurd final
-ends-written (Ok done) status.Memory before after text final w = absurd final
-ends-written (Ok done) status.ByteLimit before after text final w = absurd final
-ends-written (Err fault) aim before after text final w = front-written before after text w

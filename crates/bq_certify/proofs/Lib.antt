@@ -1,5 +1,4 @@
 pub mod Certified
-pub mod Texts
 pub mod Checks
 pub mod Collected
 pub mod Grouped

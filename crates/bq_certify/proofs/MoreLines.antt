@@ -1,11 +1,9 @@
 -- What the commands come to stays when more lines follow.
-use Rattle.std.proofs.Common.{◌≡◌, ℕ, Bool, List, ◌∷◌, ◌++◌, None, Some, refl, sym, ap, ◌∙◌, append_assoc}
-use Rattle.bq_model.specs.Query.{QueryValue}
-use Rattle.bq_schema.specs.Streams.{Shape}
-use Rattle.bq_parser.specs.declared.tree.SelectAst.{SelectAst}
+use Rattle.std.proofs.Common.{◌≡◌, ℕ, List, ◌∷◌, ◌++◌, None, Some, refl, sym, ap, ◌∙◌, append_assoc}
 use Rattle.bq_reply.specs.declared.refusal.Refusal.{Refusal}
-use Rattle.bq_script.specs.Script.{Asks, IsRefusedAt, at_line, at_end}
+use Rattle.bq_script.specs.Script.{IsRefusedAt, at_line, at_end}
 use Rattle.bq_script.specs.Commands.{Outcome, early_refusal}
+use Rattle.bq_script.proofs.Behind.{asks-more}
 use Rattle.bq_certify.specs.Certifying as certifying
 use Rattle.bq_certify.specs.Certifying.{Certifies}
 use Rattle.bq_certify.specs.Checking as checking
@@ -16,18 +14,6 @@ use Rattle.bq_certify.proofs.OneChecked.{answered-needs}
 -- more lines behind one
 more-behind : (all before : List (List ℕ)) (line : List ℕ) (behind more : List (List ℕ)) → all ≡ before ++ line ∷ behind → all ++ more ≡ before ++ line ∷ (behind ++ more)
 more-behind all before line behind more e = ap (λ l. l ++ more) e ∙ append_assoc before (line ∷ behind) more
-
--- more lines behind a query
-abbrev asks-more : (all more : List (List ℕ)) (streams : List Shape) (name : List ℕ) (select : SelectAst) (shared : Bool) (q : QueryValue) (number : ℕ) → Asks all streams name select shared q number → Asks (all ++ more) streams name select shared q number
-asks-more all more streams name select shared q number a = record {
-  before = a.before;
-  line = a.line;
-  behind = a.behind ++ more;
-  whole = more-behind all a.before a.line a.behind more a.whole;
-  create = a.create;
-  is = a.is;
-  number_is = a.number_is;
-}
 
 -- an outcome that needs all lines needs no number of them
 needs-all : (o p : Outcome) (n : ℕ) → o ≡ p → p.needs ≡ None → o.needs ≡ Some n → ⊥

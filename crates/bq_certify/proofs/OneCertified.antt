@@ -1,6 +1,6 @@
 -- The lines determine what `certify` comes to, but for the certificate.
 use Rattle.std.proofs.Common.{◌≡◌, ℕ, suc, Bool, None, List, [], ◌∷◌, ◌++◌, length, refl, sym, ap, ap₂, ◌∙◌, subst, arith}
-use Rattle.std.specs.List.{All, AllByRecursion}
+use Rattle.std.specs.List.{AllByRecursion}
 use Rattle.std.proofs.lemmas.List.Elements.{recursion_from_All}
 use Rattle.bq_schema.specs.Streams.{Shape}
 use Rattle.bq_parser.specs.declared.tree.SelectAst.{SelectAst}
@@ -15,12 +15,7 @@ use Rattle.bq_script.specs.Commands.{Outcome, refusal}
 use Rattle.bq_certify.specs.Certifying as certifying
 use Rattle.bq_certify.specs.Certifying.{Certifies, certified}
 use Rattle.bq_certify.specs.Laws.{AreAlike, same, both}
-use Rattle.bq_script.proofs.OneRefusal.{head-same, tail-same, behind-same, early-same}
-
--- a line that has no place is not blank
-misplaced-loud : (line : List ℕ) (w : Refusal) → IsMisplaced line w → IsBlank line → ⊥
-misplaced-loud line w (scripts.IsMisplaced.too_long m p) b = omega (arith, m, b.short)
-misplaced-loud line w (scripts.loud short n p) b = n b
+use Rattle.bq_script.proofs.OneRefusal.{head-same, tail-same, behind-same, early-same, misplaced-loud, all-placed}
 
 one-word : (line : List ℕ) (v w : Refusal) → IsMisplaced line v → IsMisplaced line w → v ≡ w
 one-word line v w (scripts.IsMisplaced.too_long m p) (scripts.IsMisplaced.too_long n q) = p ∙ sym q
@@ -37,14 +32,6 @@ one-misplaced (z ∷ xs) [] x y rest others v w a b i k e = absurd (misplaced-lo
 one-misplaced (u ∷ xs) (z ∷ ys) x y rest others v w a b i k e =
     let same = one-misplaced xs ys x y rest others v w a.1 b.1 i k (tail-same u z (xs ++ x ∷ rest) (ys ++ y ∷ others) e) in
     (ap suc same.0, same.1)
-
--- none of blank lines is misplaced
-blank-placed : (xs : List (List ℕ)) (x : List ℕ) (rest : List (List ℕ)) (w : Refusal) → AllByRecursion IsBlank (xs ++ x ∷ rest) → IsMisplaced x w → ⊥
-blank-placed [] x rest w all i = misplaced-loud x w i all.0
-blank-placed (z ∷ xs) x rest w all i = blank-placed xs x rest w all.1 i
-
-all-placed : (texts xs : List (List ℕ)) (x : List ℕ) (rest : List (List ℕ)) (w : Refusal) → texts ≡ xs ++ x ∷ rest → All IsBlank texts → IsMisplaced x w → ⊥
-all-placed texts xs x rest w e all i = blank-placed xs x rest w (subst (AllByRecursion IsBlank) e (recursion_from_All IsBlank texts all)) i
 
 certified-same : (streams shapes : List Shape) (name title : List ℕ) (select choice : SelectAst) (shared joint : Bool) (c : List Line) → streams ≡ shapes → name ≡ title → select ≡ choice → shared ≡ joint
     → certified streams name select shared c ≡ certified shapes title choice joint c

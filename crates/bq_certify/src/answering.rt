@@ -1,9 +1,7 @@
 //! The answer of a check, written in one line.
 ghost use Rattle.std.specs.Prelude.{◌≡◌, ◌++◌, ◌∷◌, [], codes, decimal};
 ghost use Rattle.bq_io.specs.Sink.{Writes};
-ghost use Rattle.bq_parser.specs.Naming.{column_text};
 ghost use Rattle.bq_parser.specs.Resolution.{HasNamed};
-ghost use Rattle.bq_reply.specs.Texts as texts;
 ghost use Rattle.bq_script.specs.Script as scripts;
 ghost use Rattle.bq_model.specs.Verdict.{IsDecision};
 ghost use Rattle.bq_certify.specs.Checking as checking;
@@ -11,9 +9,9 @@ ghost use Rattle.bq_certify.specs.Checking.{decision_text};
 
 use bq_certcheck::Reason;
 use bq_io::{Sink, WriteFault, write_pieces};
-use bq_model::{Condition, Decision};
-use bq_parser::{ColumnAst, column_named};
-use bq_reply::condition_text;
+use bq_model::Decision;
+use bq_parser::column_named;
+use bq_reply::write_broken;
 use bq_script::{Script, name_of};
 use itoa::Buffer;
 
@@ -49,58 +47,6 @@ fn write_bounded<O: Sink>(out: &mut O, name: &[u8], parts: u32) -> Result<(), Wr
     write_bounded_text(out, name, number)
 }
 
-// `certified q part N C3 S.b`, by its parts.
-fn write_violation_text<'a, O: Sink>(
-    out: &mut O,
-    name: &'a [u8],
-    part: &'a [u8],
-    condition: &'a [u8],
-    stream: &'a [u8],
-    column: &'a [u8],
-) -> Result<(), WriteFault>
-    ensures { Writes result (O.seen out.old) (O.seen out.new)
-        (codes "certified " ++ name.now ++ codes " part " ++ part.now ++ 32 ∷ condition.now ++ 32 ∷ (stream.now ++ 46 ∷ column.now) ++ 10 ∷ []) }
-{
-    let pieces: [&[u8]; 11] = [
-        b"certified ",
-        name,
-        b" part ",
-        part,
-        b" ",
-        condition,
-        b" ",
-        stream,
-        b".",
-        column,
-        b"\n",
-    ];
-    write_pieces(out, &pieces)
-}
-
-// `certified q part N C3 S.b`
-fn write_violation<O: Sink>(
-    out: &mut O,
-    name: &[u8],
-    part: u32,
-    condition: Condition,
-    column: &ColumnAst,
-) -> Result<(), WriteFault>
-    ensures { Writes result (O.seen out.old) (O.seen out.new)
-        (codes "certified " ++ name.now ++ codes " part " ++ decimal part ++ 32 ∷ texts.condition_text condition ++ 32 ∷ column_text column.now ++ 10 ∷ []) }
-{
-    let mut buffer = Buffer::new();
-    let number = buffer.format(part).as_bytes();
-    let condition = condition_text(condition);
-    write_violation_text(
-        out,
-        name,
-        number,
-        condition,
-        column.stream.bytes(),
-        column.column.bytes(),
-    )
-}
-
 /// Writes the decision of a certificate that is good, and where no condition is broken how many parts the query has.
 pub fn write_decision<O: Sink>(
     out: &mut O,
@@ -122,7 +68,7 @@ pub fn write_decision<O: Sink>(
             attr,
         } => {
             let column = column_named(attr, script.query.from(), &script.catalog);
-            write_violation(out, name, part, condition, &column)
+            write_broken(out, b"certified ", name, part, condition, &column)
         }
     }
 }

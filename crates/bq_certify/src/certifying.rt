@@ -82,7 +82,7 @@ fn read_certified<I: Source>(
 }
 
 // Writes the statements of the script in printed form, and then the certificate.
-#[tactic(auto, using(crate::proofs::Texts::writes_behind))]
+#[tactic(auto, using(bq_print::proofs::WritesBehind::writes_behind))]
 fn print<O: Sink>(certified: &Certified, out: &mut O) -> Result<(), WriteFault>
     ensures { Writes result (O.seen out.old) (O.seen out.new) (text_with certified.now.script certified.now.certificate) }
 {
@@ -135,7 +135,7 @@ fn end_done<O: Sink>(certified: &Certified, output: &mut O) -> Status
 /// Reads a script to the end of the source, and writes its statements in printed form and a certificate of its query.
 ///
 /// The script is one of CREATE STREAM lines and then one CREATE QUERY line, between blank lines and comments. The first line that is
-/// not is refused with `error L Refusal` and `Invalid`, as is the line of a query of more than 4,096 parts, or whose certificate has more
+/// not is refused with `error L Word` and `Invalid`, as is the line of a query of more than 4,096 parts, or whose certificate has more
 /// than 262,144 nodes, with the word `Limit`. The source is read no further than the read in which such a line ends, so where it fails, or
 /// has more bytes than can be counted, no line that ended before is refused. Nothing is written before it is known what the command comes
 /// to, so nothing is in these two cases and for want of memory. Where the sink fails, a front of the text was written.

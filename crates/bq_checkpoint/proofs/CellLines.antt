@@ -1,6 +1,6 @@
 -- The lines for cells.
-use Rattle.std.proofs.Common.{◌≡◌, ℕ, zero, suc, ◌+◌, List, [], ◌∷◌, ◌++◌, get_or, take, map, refl, sym, ap, ◌∙◌, subst, arith, append_assoc, append-nil, ◌≤◌}
-use Rattle.std.proofs.lemmas.List.{length-take, map-append, take_all}
+use Rattle.std.proofs.Common.{◌≡◌, ℕ, zero, suc, ◌+◌, List, [], ◌∷◌, ◌++◌, get_or, take, map, refl, sym, ap, ◌∙◌, subst, arith, append_assoc, append-nil}
+use Rattle.std.proofs.lemmas.List.{map-append}
 use Rattle.bq_io.specs.Sink.{SinkState, Wrote, BrokeOff}
 use Rattle.bq_io.proofs.Writing.{Wrote-nil, Wrote-trans, BrokeOff-then, BrokeOff-stop}
 use Rattle.bq_model.specs.declared.cell.Cell.{Cell}
@@ -95,11 +95,6 @@ broke_cell name cells i a b c p q =
     let e : statements_text (cell_statements name 0 cells) ≡ (statements_text front ++ statements_text one) ++ statements_text cut.rest
     = ap statements_text (cut.whole ∙ ap (λ ls. ls ++ cut.rest) cut.more) ∙ text_append (front ++ one) cut.rest ∙ ap (λ t. t ++ statements_text cut.rest) (text_append front one) in
     subst (BrokeOff a c) (sym e) (BrokeOff-stop a c _ _ (BrokeOff-then a b c _ _ p (subst (λ ls. BrokeOff b c (statements_text ls)) (sym (from_none name cells i)) q)))
-
--- all cells were written where as many were as there are at most
-pub wrote_cells : (name : List ℕ) (n : ℕ) (all : List Cell) (i : ℕ) (a b : SinkState) → n ≤ i → Wrote a b (statements_text (cell_statements name 0 (take i (take n all))))
-    → Wrote a b (statements_text (cell_statements name 0 (take n all)))
-wrote_cells name n all i a b le p = subst (λ cs. Wrote a b (statements_text (cell_statements name 0 cs))) (take_all i (take n all) (omega (arith, le, length-take n all))) p
 
 -- no cell was written yet
 pub wrote_none : (name : List ℕ) (a : SinkState) → Wrote a a (statements_text (cell_statements name 0 []))

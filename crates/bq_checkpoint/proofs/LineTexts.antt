@@ -1,6 +1,6 @@
 -- The text of lines that are written one after another.
-use Rattle.std.proofs.Common.{◌≡◌, ℕ, ◌+◌, ◌<◌, ◌≤◌, List, [], ◌∷◌, ◌++◌, length, get_or, take, map, flat_map, Result, Ok, Err, refl, sym, ap, ◌∙◌, subst, append-nil}
-use Rattle.std.proofs.lemmas.List.{take_all, take_more}
+use Rattle.std.proofs.Common.{◌≡◌, ℕ, ◌+◌, ◌<◌, List, [], ◌∷◌, ◌++◌, length, get_or, take, map, flat_map, Result, Ok, Err, refl, sym, ap, ◌∙◌, subst, append-nil}
+use Rattle.std.proofs.lemmas.List.{take_more}
 use Rattle.std.proofs.lemmas.List.Concat.{flat_map-append}
 use Rattle.bq_io.specs.Sink.{SinkState, Wrote, BrokeOff, Writes}
 use Rattle.bq_io.proofs.Writing.{Wrote-trans, BrokeOff-then, BrokeOff-at}
@@ -30,9 +30,6 @@ text_more f xs i d lt =
 -- the text of one more item was written, and the texts of all were
 pub wrote_more : {X : Type 0} (f : X → List ℕ) (xs : List X) (i : ℕ) (d : X) (a b c : SinkState) → i < length xs → Wrote a b (flat_map f (take i xs)) → Wrote b c (f (get_or xs i d)) → Wrote a c (flat_map f (take (i + 1) xs))
 wrote_more f xs i d a b c lt p q = subst (Wrote a c) (sym (text_more f xs i d lt)) (Wrote-trans a b c _ _ p q)
-
-pub wrote_all : {X : Type 0} (f : X → List ℕ) (xs : List X) (i : ℕ) (a b : SinkState) → length xs ≤ i → Wrote a b (flat_map f (take i xs)) → Wrote a b (flat_map f xs)
-wrote_all f xs i a b le p = subst (λ ys. Wrote a b (flat_map f ys)) (take_all i xs le) p
 
 -- the text of an item broke off behind those of the items before it
 pub broke_at : {X : Type 0} (f : X → List ℕ) (xs : List X) (i : ℕ) (d : X) (a b c : SinkState) → i < length xs → Wrote a b (flat_map f (take i xs)) → BrokeOff b c (f (get_or xs i d)) → BrokeOff a c (flat_map f xs)

@@ -7,7 +7,7 @@ use Rattle.bq_model.specs.declared.plan.PartPlan.{PartPlan}
 use Rattle.bq_model.specs.Query.{QueryValue}
 use Rattle.bq_model.specs.Tuples.{at_most}
 use Rattle.bq_model.specs.Meaning.{Arrival, new_answers}
-use Rattle.bq_model.specs.Domains.{RowKeeps, RowsKeep}
+use Rattle.bq_model.specs.Domains.{RowsKeep}
 use Rattle.bq_model.specs.Combinations.{read_from}
 use Rattle.bq_model.specs.Future.{future}
 use Rattle.bq_model.specs.Merge.{merged_table}
@@ -26,15 +26,13 @@ use Rattle.bq_laws.proofs.Bases.{bases-keep-on, bases-stand-for-histories, times
 use Rattle.bq_pool.specs.Extents.{PoolValue, cells_of, IsLive}
 use Rattle.bq_pool.proofs.CallerLemmas.{cells_of_with}
 use Rattle.bq_answers.specs.Entries.{Entry, Ascends, waiting_of, tuples_of}
-use Rattle.bq_executor.specs.Executor.{ExecutorValue, parts_in, list_in, cells_in, rest_in, tuples_in, waiting_in, IsSound, with_given, cleared}
-use Rattle.bq_executor.specs.Standing.{StandsFor, IsReady, future_in, Took}
-use Rattle.bq_executor.specs.Bases.{kept_in, is_empty, is_fresh, answers_by, StandsFrom, TookFrom, TakingKeepsOn, BasesAndHistories}
+use Rattle.bq_executor.specs.Executor.{ExecutorValue, parts_in, list_in, cells_in, rest_in, tuples_in, waiting_in, IsSound, with_given}
+use Rattle.bq_executor.specs.Standing.{StandsFor, future_in}
+use Rattle.bq_executor.specs.Bases.{kept_in, is_empty, is_fresh, answers_by, StandsFrom, TakingKeepsOn, BasesAndHistories}
 use Rattle.bq_executor.proofs.Spelled.{spelled_is}
-use Rattle.bq_executor.specs.Taking.{with_all}
-use Rattle.bq_executor.specs.Arriving.{answered_by, HasTaken}
 use Rattle.bq_executor.proofs.Answered.{settled-tuples}
 use Rattle.bq_executor.proofs.Settled.{written}
-use Rattle.bq_executor.proofs.Rows.{future-table, sound_later, waits, cells, tuples, kept, history}
+use Rattle.bq_executor.proofs.Rows.{future-table}
 use Rattle.bq_executor.proofs.PlanFacts.{kept_is}
 
 front : (xs ys : List Cell) (n : ℕ) → n ≡ length xs → take n (xs ++ ys) ≡ xs
@@ -225,29 +223,6 @@ bases-and-histories e pool sound = (
   where
     law : StandsForHistories e.query (parts_in e) (list_in e)
     law = histories e sound
-
--- an executor that took up a row goes on from each base
-pub row-from : (e : ExecutorValue) → IsSound e → (pool : PoolValue) → IsReady e pool → (r : Arrival) → RowKeeps e.query r → (after : PoolValue)
-    → HasTaken e.query (parts_in e) e.extent r (length (parts_in e)) pool after
-    → TookFrom e pool r (with_given e (e.given + 1) (with_all e.query.distinct (answered_by e.query e.plan (read_from (cells_of pool e.extent)) r) (cleared e.query.distinct e.table.entries))) after
-row-from e sound pool ready r keep after taken =
-    let a = sound.ascends in
-    taking-keeps-on e (with_given e (e.given + 1) (with_all e.query.distinct (answered_by e.query e.plan (read_from (cells_of pool e.extent)) r) (cleared e.query.distinct e.table.entries))) pool after r sound keep
-    (sound_later e sound pool ready r a).ascends
-    record {
-      waits = waits e sound pool ready r a;
-      cells = cells e sound pool ready r a after taken;
-      tuples = tuples e sound pool ready r a;
-      same = refl;
-      kept = kept e sound pool ready r a after taken;
-      history = history e sound pool ready r a after taken keep;
-    }
-
--- so does one that refused a row by its prefilter, seen by another name
-pub refused-from : (e x : ExecutorValue) → e ≡ x → IsSound e → (pool : PoolValue) (r : Arrival) → RowKeeps x.query r
-    → Took x pool r (with_given e (e.given + 1) e.table.entries) pool → TookFrom x pool r (with_given e (e.given + 1) e.table.entries) pool
-refused-from e x same sound pool r keep took =
-    taking-keeps-on x (with_given e (e.given + 1) e.table.entries) pool pool r (subst IsSound same sound) keep sound.ascends took
 
 -- an executor whose answers were written stands for what it stood for
 pub written-from : (e : ExecutorValue) (pool : PoolValue) (base : Base) (history : List Arrival) → StandsFrom e pool base history → StandsFrom (written e) pool base history

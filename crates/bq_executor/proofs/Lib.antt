@@ -21,11 +21,13 @@ pub mod CallerLemmas
 pub mod ClearedNone
 pub mod PrefilterLaws
 pub mod OneTuple
+pub mod PassedRepeats
 pub mod PassedOver
 pub mod Refused
 pub mod RangeLaws
 pub mod Behind
 pub mod Bases
+pub mod TakenRow
 pub mod CellKinds
 pub mod ListedTuples
 pub mod Loadings

@@ -1,5 +1,5 @@
 -- Rows that a query does not concern are counted alone, and a box tells them.
-use Rattle.std.proofs.Common.{◌≡◌, ℕ, zero, suc, ◌+◌, ◌≤◌, ◌^◌, ◌++◌, nat_lt, cond, true, List, [], ◌∷◌, Option, Some, None, inl, inr, replicate, refl, ap, ◌∙◌, arith}
+use Rattle.std.proofs.Common.{◌≡◌, ℕ, zero, suc, ◌+◌, ◌≤◌, ◌^◌, ◌++◌, nat_lt, cond, List, [], ◌∷◌, Option, Some, None, inl, inr, replicate, refl, ap, ◌∙◌, arith}
 use Rattle.bq_candidates.specs.declared.boxes.QueryBox.{QueryBox}
 use Rattle.bq_model.specs.declared.plan.Plan.{Plan}
 use Rattle.bq_model.specs.Query.{QueryValue}
@@ -10,9 +10,8 @@ use Rattle.bq_index.specs.Prefilter.{passes, IsPrefilter}
 use Rattle.bq_index.specs.Passing.{IsBoxOf}
 use Rattle.bq_executor.specs.Executor.{ExecutorValue, IsSound, arrival, spelled, with_given}
 use Rattle.bq_executor.specs.Passing.{IsBoxFor, RefusedRowsPass}
-use Rattle.bq_executor.proofs.Bases.{refused-from}
-use Rattle.bq_executor.proofs.Keeping.{counted-within}
 use Rattle.bq_executor.proofs.Refused.{refused_took}
+use Rattle.bq_executor.proofs.TakenRow.{row-refused}
 
 -- entries that are not spelled do not wait
 waiting-none : (es : List Entry) → spelled es ≡ [] → waiting_entries es ≡ []
@@ -39,12 +38,12 @@ counted-sound e n few s = record {
 
 pub refused-rows-pass : RefusedRowsPass
 refused-rows-pass e pool r sound ready keeps none refused =
-    let took = refused_took e sound pool ready r keeps (waiting-none e.table.entries none) refused in
+    let took = row-refused e e refl sound pool r keeps (refused_took e sound pool ready r keeps (waiting-none e.table.entries none) refused) in
     record {
       sound = counted-sound e (e.given + 1) (let few = ready.few in omega (arith, few)) sound;
-      kept = took.kept;
-      within = λ w. counted-within e (e.given + 1) pool w;
-      bases = refused-from e e refl sound pool r keeps took;
+      kept = took.row.kept;
+      within = took.within;
+      bases = took.bases;
     }
 
 -- a row outside of the box of a prefilter is refused

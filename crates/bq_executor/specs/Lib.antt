@@ -7,4 +7,5 @@ pub mod Arriving
 pub mod Known
 pub mod Bases
 pub mod Loading
+pub mod Row
 pub mod Passing

@@ -1,22 +1,19 @@
 //! A live query: a clause sees the query, its plan, the extent of its cells, how many rows were given, and the answer table.
-ghost use Rattle.std.specs.Prelude.{◌≡◌, ℕ, ℤ, List, [], ◌+◌, ◌*◌, ◌<◌, ◌≤◌, ◌^◌, ◌==◌, min, nat_eq, true, false, IsTrue, MatchResult, IfOk, length, replicate, slice_index_or, if◌then◌else◌};
-ghost use Rattle.std.specs.List.{list_any};
+ghost use Rattle.std.specs.Prelude.{◌≡◌, List, [], ◌+◌, ◌*◌, ◌<◌, ◌≤◌, ◌^◌, min, nat_eq, true, false, MatchResult, IfOk, length, replicate, slice_index_or, if◌then◌else◌};
 ghost use Rattle.bq_model.specs.declared.cell.Cell.TheVariants as cell;
-ghost use Rattle.bq_model.specs.Query.{is_filter};
 ghost use Rattle.bq_model.specs.Meaning.{Arrival};
 ghost use Rattle.bq_model.specs.Domains.{RowKeeps};
-ghost use Rattle.bq_model.specs.Merge.{merged_table};
-ghost use Rattle.bq_model.specs.Numbers.{pages_of, work};
+ghost use Rattle.bq_model.specs.Numbers.{pages_of};
 ghost use Rattle.bq_model.specs.Sharing.{sizes_in};
 ghost use Rattle.bq_model.specs.Bases.{Base, first_base};
-ghost use Rattle.bq_laws.specs.Growth.{occurs};
 ghost use Rattle.bq_io.specs.Sink.{Writes};
 ghost use Rattle.bq_pool.specs.Extents.{PoolValue, cells_of, with_cells, IsLive, IsGivenBack};
-ghost use Rattle.bq_answers.specs.Entries.{with_entries, waiting_entries, waiting_of, settled};
+ghost use Rattle.bq_answers.specs.Entries.{with_entries, waiting_entries, settled};
 ghost use Rattle.bq_executor.specs.declared.saturation.Saturation.TheVariants as saturation;
 ghost use Rattle.bq_executor.specs.Executor.{IsAccepted, IsSound, arrival, cells_in, cleared, list_in, most_answers, parts_in, tuples_in, waiting_in, with_given, with_saturation};
-ghost use Rattle.bq_executor.specs.Standing.{StandsFor, AreKept, KeepsWithin, IsReady, TookRow, future_in, pool_with};
-ghost use Rattle.bq_executor.specs.Bases.{StandsFrom, TookFrom};
+ghost use Rattle.bq_executor.specs.Standing.{StandsFor, AreKept, KeepsWithin, IsReady};
+ghost use Rattle.bq_executor.specs.Bases.{StandsFrom};
+ghost use Rattle.bq_executor.specs.Row.{KeepsToWork, TakesRow};
 ghost use Rattle.bq_executor.specs.Loading.{loaded_given, loaded_cell, loaded_tuple, Loads};
 ghost use Rattle.bq_index.specs.Prefilter.{IsRefused};
 ghost use Rattle.bq_executor.specs.Passing.{IsBoxFor};
@@ -89,6 +86,13 @@ fn clear(distinct: bool, table: &mut Answers)
     }
 }
 
+// Whether an answer waits in a table.
+fn waits_in(table: &Answers) -> bool
+    ensures { result ≡ false → waiting_entries table.now.entries ≡ [] }
+{
+    table.waiting_len() != 0
+}
+
 impl Executor {
     /// Returns the executor of an accepted query, with shared cells or without, to which no row was given. An error says that memory was not
     /// found, and gives the extent back; no other call takes any.
@@ -139,27 +143,21 @@ impl Executor {
     pub fn row<L: Ledger>(&mut self, pool: &mut Pool, stream: u8, row: &Row, steps: &mut Steps<L>)
         requires ready { IsReady self.old pool.old }
         requires keeps { RowKeeps self.old.query (arrival stream row.now.items) }
-        ensures waits { (t : List ℤ) → waiting_of t self.new.table.entries ≡ min (occurs t (future_in self.old pool.old (arrival stream row.now.items))) (2 ^ 127) }
-        ensures cells { pool.new ≡ pool_with self.old pool.old (arrival stream row.now.items) }
-        ensures tuples { self.old.query.distinct ≡ true → tuples_in self.new ≡ merged_table (tuples_in self.old) (future_in self.old pool.old (arrival stream row.now.items)) }
-        ensures same { self.new ≡ with_given self.old (self.old.given + 1) self.new.table.entries }
-        ensures kept { AreKept self.new pool.new }
-        ensures within { KeepsWithin self.old pool.old → KeepsWithin self.new pool.new }
-        ensures reads { steps.new.reads ≤ steps.old.reads + 3 * work (parts_in self.old) + length (parts_in self.old) }
-        ensures writes { steps.new.writes ≤ steps.old.writes + length (parts_in self.old) }
-        ensures alone { IsTrue (is_filter self.old.query) → steps.new ≡ steps.old }
-        ensures outside { list_any (λ s. stream == s) self.old.query.from ≡ false → steps.new ≡ steps.old }
-        ensures history { TookRow self.old pool.old (arrival stream row.now.items) self.new pool.new }
-        ensures bases { TookFrom self.old pool.old (arrival stream row.now.items) self.new pool.new }
+        ensures took { TakesRow self.old pool.old (arrival stream row.now.items) self.new pool.new }
+        ensures steps { KeepsToWork self.old (arrival stream row.now.items) steps.old steps.new }
     {
         // Whether something waits is not asked here.
-        let _waits = self.apply(pool, stream, row, steps);
+        let _waits = self.apply(false, pool, stream, row, steps);
     }
 
-    // Whether a row passes the prefilter; one that does not is answered nothing, and no cell takes it.
-    fn passes(&self, stream: u8, row: &Row) -> bool
+    // Whether a row is to be taken up: one that is not is answered nothing, and no cell takes it. The prefilter is not asked where it is
+    // known already that the row passes.
+    fn passes(&self, is_within: bool, stream: u8, row: &Row) -> bool
         ensures { result ≡ false → IsRefused self.now.query self.now.plan (arrival stream row.now.items) }
     {
+        if is_within {
+            return true;
+        }
         self.prefilter.passes(stream, row)
     }
 
@@ -167,12 +165,14 @@ impl Executor {
     fn has_waiting(&self) -> bool
         ensures { result ≡ false → waiting_entries self.now.table.entries ≡ [] }
     {
-        self.table.waiting_len() != 0
+        waits_in(&self.table)
     }
 
-    /// Takes a row as `row` does. Where it says no, no answer waits; where it says yes, some may.
+    /// Takes a row as `row` does. Where it says no, no answer waits; where it says yes, some may. The prefilter is not asked of a row of which
+    /// the caller says that it lies within the query's box; what is said decides on the time alone.
     pub fn apply<L: Ledger>(
         &mut self,
+        is_within: bool,
         pool: &mut Pool,
         stream: u8,
         row: &Row,
@@ -180,21 +180,11 @@ impl Executor {
     ) -> bool
         requires ready { IsReady self.old pool.old }
         requires keeps { RowKeeps self.old.query (arrival stream row.now.items) }
-        ensures waits { (t : List ℤ) → waiting_of t self.new.table.entries ≡ min (occurs t (future_in self.old pool.old (arrival stream row.now.items))) (2 ^ 127) }
+        ensures took { TakesRow self.old pool.old (arrival stream row.now.items) self.new pool.new }
         ensures none { result ≡ false → waiting_in self.new ≡ [] }
-        ensures cells { pool.new ≡ pool_with self.old pool.old (arrival stream row.now.items) }
-        ensures tuples { self.old.query.distinct ≡ true → tuples_in self.new ≡ merged_table (tuples_in self.old) (future_in self.old pool.old (arrival stream row.now.items)) }
-        ensures same { self.new ≡ with_given self.old (self.old.given + 1) self.new.table.entries }
-        ensures kept { AreKept self.new pool.new }
-        ensures within { KeepsWithin self.old pool.old → KeepsWithin self.new pool.new }
-        ensures reads { steps.new.reads ≤ steps.old.reads + 3 * work (parts_in self.old) + length (parts_in self.old) }
-        ensures writes { steps.new.writes ≤ steps.old.writes + length (parts_in self.old) }
-        ensures alone { IsTrue (is_filter self.old.query) → steps.new ≡ steps.old }
-        ensures outside { list_any (λ s. stream == s) self.old.query.from ≡ false → steps.new ≡ steps.old }
-        ensures history { TookRow self.old pool.old (arrival stream row.now.items) self.new pool.new }
-        ensures bases { TookFrom self.old pool.old (arrival stream row.now.items) self.new pool.new }
+        ensures steps { KeepsToWork self.old (arrival stream row.now.items) steps.old steps.new }
     {
-        let passes = self.passes(stream, row);
+        let passes = self.passes(is_within, stream, row);
         if !passes && !self.has_waiting() {
             self.given += 1;
             return false;
@@ -217,19 +207,9 @@ impl Executor {
         requires prefilter { passes ≡ false → IsRefused self.old.query self.old.plan (arrival stream row.now.items) }
         requires ready { IsReady self.old pool.old }
         requires keeps { RowKeeps self.old.query (arrival stream row.now.items) }
-        ensures waits { (t : List ℤ) → waiting_of t self.new.table.entries ≡ min (occurs t (future_in self.old pool.old (arrival stream row.now.items))) (2 ^ 127) }
+        ensures took { TakesRow self.old pool.old (arrival stream row.now.items) self.new pool.new }
         ensures none { result ≡ false → waiting_in self.new ≡ [] }
-        ensures cells { pool.new ≡ pool_with self.old pool.old (arrival stream row.now.items) }
-        ensures tuples { self.old.query.distinct ≡ true → tuples_in self.new ≡ merged_table (tuples_in self.old) (future_in self.old pool.old (arrival stream row.now.items)) }
-        ensures same { self.new ≡ with_given self.old (self.old.given + 1) self.new.table.entries }
-        ensures kept { AreKept self.new pool.new }
-        ensures within { KeepsWithin self.old pool.old → KeepsWithin self.new pool.new }
-        ensures reads { steps.new.reads ≤ steps.old.reads + 3 * work (parts_in self.old) + length (parts_in self.old) }
-        ensures writes { steps.new.writes ≤ steps.old.writes + length (parts_in self.old) }
-        ensures alone { IsTrue (is_filter self.old.query) → steps.new ≡ steps.old }
-        ensures outside { list_any (λ s. stream == s) self.old.query.from ≡ false → steps.new ≡ steps.old }
-        ensures history { TookRow self.old pool.old (arrival stream row.now.items) self.new pool.new }
-        ensures bases { TookFrom self.old pool.old (arrival stream row.now.items) self.new pool.new }
+        ensures steps { KeepsToWork self.old (arrival stream row.now.items) steps.old steps.new }
     {
         self.given += 1;
         clear(self.query.distinct(), &mut self.table);
@@ -242,7 +222,8 @@ impl Executor {
             known,
         };
         let arrived = Arrived { stream, row };
-        apply_row(
+        // Most rows that pass meet nothing, which the table alone tells.
+        let _answers = apply_row(
             passes,
             pool,
             &query,
@@ -250,7 +231,8 @@ impl Executor {
             &mut self.scratch,
             &mut self.table,
             steps,
-        )
+        );
+        waits_in(&self.table)
     }
 
     /// Writes a line for each answer that waits, in ascending order. Then nothing waits, also after a fault; all else is as

@@ -112,6 +112,7 @@ fn walk_all<L: Ledger>(
     let mut probe = Probe::new(q, plan, prepared, at.pos, at.row, room);
     'walk: while let Some(count) = probe.next(pool, part.extent, q, plan, tuple, steps) {
         record_found(q.distinct(), tuple, count, table);
+        probe.pass_repeats(q, plan, tuple);
     }
 }
 

@@ -1,26 +1,20 @@
 -- Texts that are written one behind another.
 use Rattle.std.proofs.Common.{List, ◌++◌, ◌∷◌, [], ◌≡◌, ℕ, zero, suc, ◌+◌, ◌<◌, ◌≤◌, ◌⊎◌, inl, inr, length, get_or, All, refl, sym, ap, ap₂, ◌∙◌, subst, arith, append_assoc, append-nil, ℤ, slice_index_or, Contains}
-use Rattle.std.specs.declared.result.Result.{Result}
 use Rattle.std.specs.List.{flat_map}
 use Rattle.std.proofs.lemmas.List.{length-map}
 use Rattle.std.proofs.lemmas.List.Concat.{flat_map-append}
 use Rattle.std.proofs.lemmas.List.Elements.{Contains-get_or}
 use Rattle.arrayvec.specs.ArrayVec.{ArrayVec as Items}
-use Rattle.bq_io.specs.Sink.{SinkState, Wrote, BrokeOff, Writes}
+use Rattle.bq_io.specs.Sink.{SinkState, Wrote, BrokeOff}
 use Rattle.bq_io.proofs.Writing.{Wrote-trans, BrokeOff-then, BrokeOff-stop}
 use Rattle.bq_model.specs.Meaning.{Arrival}
 use Rattle.bq_model.specs.Cells.{upto}
 use Rattle.bq_schema.specs.Streams.{Shape}
-use Rattle.bq_print.proofs.WritesBehind.{writes_then}
 use Rattle.bq_lower.specs.Family.{FamilyValue, row_at, asking_at}
 use Rattle.bq_lower.specs.Shown.{rows_in, arrivals, asking_in}
 use Rattle.bq_families.specs.Answer.{AreTakenRows}
-use Rattle.bq_families.specs.Text.{own_text, asking_text, asked_text, member_text, rows_text}
+use Rattle.bq_families.specs.Text.{own_text, asking_text, asked_text, member_text}
 use Rattle.bq_families.proofs.Taken.{get-map}
-
--- a text was written, and then a second one
-pub writes_behind : {T E : Type 0} (r : Result T E) (a b c : SinkState) (s t : List ℕ) → Wrote a b s → Writes r b c t → Writes r a c (s ++ t)
-writes_behind r a b c s t p q = writes_then r a b c s t (s ++ t) refl p q
 
 -- the family that rows and the rows that ask for them are
 abbrev pub family_in : ℕ → List (Items ℤ) → List (Items (ℕ × Items ℤ)) → FamilyValue

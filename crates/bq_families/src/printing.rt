@@ -23,7 +23,7 @@ fn write_front<'a, O: Sink>(out: &mut O, word: &'a [u8], digits: &'a [u8]) -> Re
 }
 
 // `m 1 S,11,0`
-#[tactic(auto, using(crate::proofs::Texts::writes_behind))]
+#[tactic(auto, using(bq_print::proofs::WritesBehind::writes_behind))]
 fn write_row<O: Sink>(
     out: &mut O,
     word: &[u8],

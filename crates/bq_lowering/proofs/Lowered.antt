@@ -1,55 +1,29 @@
 -- What a script comes to.
-use Rattle.std.proofs.Common.{◌≡◌, ℕ, ◌+◌, Bool, None, Some, List, [], ◌∷◌, ◌++◌, length, refl, sym, ap, ◌∙◌, subst, append_assoc, append-nil, length-append, arith, Err}
+use Rattle.std.proofs.Common.{◌≡◌, ℕ, ◌+◌, Some, List, [], ◌∷◌, ◌++◌, length, refl, sym, ap, ◌∙◌, subst, append-nil, length-append, arith, Err}
 use Rattle.std.specs.Prelude.{⊤}
 use Rattle.std.proofs.lemmas.List.Elements.{All-from_recursion}
 use Rattle.bq_io.specs.Source.{SourceState}
-use Rattle.bq_model.specs.Query.{QueryValue}
 use Rattle.bq_model.specs.Parts.{HasMoreParts}
 use Rattle.bq_text.specs.Lines.{lines}
 use Rattle.bq_feed.specs.Reading.{Reading}
 use Rattle.bq_feed.specs.Texts.{ended_part}
 use Rattle.bq_feed.proofs.GivenEnds.{front-lines, took-lines, took-all}
-use Rattle.bq_schema.specs.Streams.{Shape}
-use Rattle.bq_parser.specs.declared.tree.SelectAst.{SelectAst}
-use Rattle.bq_parser.specs.declared.tree.Statement.{Statement}
 use Rattle.bq_reply.specs.declared.refusal.Refusal.{Refusal}
 use Rattle.bq_reply.specs.declared.refusal.Refusal.TheVariants.{Limit}
 use Rattle.bq_script.specs.declared.end.ScriptEnd.{ScriptEnd}
 use Rattle.bq_script.specs.declared.end.ScriptEnd.TheVariants.{Refused, ReadFault, ByteLimit, Memory}
 use Rattle.bq_script.specs.declared.script.Script.{Script}
-use Rattle.bq_script.specs.Script.{Asks, IsBlank, IsMisplaced, name_of}
+use Rattle.bq_script.specs.Script.{IsBlank, IsMisplaced, name_of}
 use Rattle.bq_script.specs.Ends.{GaveScript, GaveLine, GaveAll, GaveLast, IsFull, ReadsBlank}
 use Rattle.bq_script.specs.Commands.{Outcome, ComesTo, TookUnsettled, refusal}
 use Rattle.bq_script.specs.Ending.{StopsAt}
+use Rattle.bq_script.proofs.Behind.{none-behind, asks-then}
 use Rattle.bq_lowering.specs.declared.finding.Finding.{Finding}
 use Rattle.bq_lowering.specs.Finding.{IsFinding}
 use Rattle.bq_lowering.specs.Found.{FindsFor}
 use Rattle.bq_lowering.specs.Lowering.{Lowers, found}
 use Rattle.bq_lowering.specs.Lowering as lowering
 use Rattle.bq_lowering.proofs.OneOutcome.{needs-one}
-
-no-more : (xs : List (List ℕ)) → length xs ≡ 0 → xs ≡ []
-no-more [] e = refl
-no-more (x ∷ xs) e = absurd (omega arith)
-
--- the line of the query is the last of those that were given up to it
-none-behind : (given : List (List ℕ)) (streams : List Shape) (name : List ℕ) (select : SelectAst) (shared : Bool) (q : QueryValue) (number : ℕ)
-    → (a : Asks given streams name select shared q number) → number ≡ length given → a.behind ≡ []
-none-behind given streams name select shared q number a last =
-    no-more a.behind (omega (arith, last, a.number_is, ap length a.whole, length-append a.before (a.line ∷ a.behind)))
-
--- lines that ask for a query, and more lines behind them
-abbrev asks-then : (given more all : List (List ℕ)) (streams : List Shape) (name : List ℕ) (select : SelectAst) (shared : Bool) (q : QueryValue) (number : ℕ)
-    → (a : Asks given streams name select shared q number) → a.behind ≡ [] → all ≡ given ++ more → Asks all streams name select shared q number
-asks-then given more all streams name select shared q number a none e = record {
-  before = a.before;
-  line = a.line;
-  behind = more;
-  whole = e ∙ ap (λ l. l ++ more) (a.whole ∙ ap (λ l. a.before ++ a.line ∷ l) none) ∙ append_assoc a.before (a.line ∷ []) more;
-  create = a.create;
-  is = a.is;
-  number_is = a.number_is;
-}
 
 -- the query of a script is too large
 pub comes-large : (n : ℕ) (script : Script) (source now : SourceState) (reader : Reading) → GaveScript script source now reader → HasMoreParts script.query 4096 → ComesTo (Lowers n) source now (refusal script.line Limit)

@@ -1,31 +1,14 @@
 -- Where one outcome over some lines needs all of them, each does.
-use Rattle.std.proofs.Common.{◌≡◌, ℕ, suc, Bool, None, Some, List, [], ◌∷◌, ◌++◌, length, sym, ap, ◌∙◌, subst, arith}
-use Rattle.std.specs.List.{All, AllByRecursion}
-use Rattle.std.proofs.lemmas.List.Elements.{recursion_from_All}
+use Rattle.std.proofs.Common.{◌≡◌, ℕ, None, Some, List, sym, ap, ◌∙◌, subst}
 use Rattle.bq_model.specs.Query.{QueryValue}
 use Rattle.bq_model.specs.Parts.{HasMoreParts}
 use Rattle.bq_reply.specs.declared.refusal.Refusal.{Refusal}
 use Rattle.bq_reply.specs.declared.refusal.Refusal.TheVariants.{Limit}
-use Rattle.bq_script.specs.Script as scripts
-use Rattle.bq_script.specs.Script.{IsBlank, IsMisplaced}
 use Rattle.bq_script.proofs.OneEnd.{one_end}
-use Rattle.bq_script.specs.Commands.{Outcome, refusal, early_refusal}
-use Rattle.bq_script.proofs.OneRefusal.{behind-same, early-same}
+use Rattle.bq_script.specs.Commands.{Outcome, refusal}
+use Rattle.bq_script.proofs.OneRefusal.{behind-same, early-same, all-placed}
 use Rattle.bq_lowering.specs.Lowering as lowering
 use Rattle.bq_lowering.specs.Lowering.{Lowers}
-
--- a line that has no place is not blank
-misplaced-loud : (line : List ℕ) (w : Refusal) → IsMisplaced line w → IsBlank line → ⊥
-misplaced-loud line w (scripts.IsMisplaced.too_long m p) b = omega (arith, m, b.short)
-misplaced-loud line w (scripts.loud short n p) b = n b
-
--- none of blank lines is misplaced
-blank-placed : (xs : List (List ℕ)) (x : List ℕ) (rest : List (List ℕ)) (w : Refusal) → AllByRecursion IsBlank (xs ++ x ∷ rest) → IsMisplaced x w → ⊥
-blank-placed [] x rest w all i = misplaced-loud x w i all.0
-blank-placed (z ∷ xs) x rest w all i = blank-placed xs x rest w all.1 i
-
-all-placed : (texts xs : List (List ℕ)) (x : List ℕ) (rest : List (List ℕ)) (w : Refusal) → texts ≡ xs ++ x ∷ rest → All IsBlank texts → IsMisplaced x w → ⊥
-all-placed texts xs x rest w e all i = blank-placed xs x rest w (subst (AllByRecursion IsBlank) e (recursion_from_All IsBlank texts all)) i
 
 -- an outcome that is a refusal needs some lines
 needs-some : (p : Outcome) (number : ℕ) (word : Refusal) → p ≡ refusal number word → p.needs ≡ None → ⊥

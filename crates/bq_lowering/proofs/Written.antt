@@ -19,7 +19,7 @@ use Rattle.bq_lowering.specs.declared.finding.Finding.{Finding}
 use Rattle.bq_lowering.specs.declared.finding.Finding.TheVariants.{Rows}
 use Rattle.bq_lowering.specs.Finding.{IsFinding}
 use Rattle.bq_lowering.specs.Text.{head_text, end_text, finding_text}
-use Rattle.bq_lowering.proofs.Texts.{writes_behind}
+use Rattle.bq_print.proofs.WritesBehind.{writes_behind}
 
 -- a family that is found is one for what is decided
 pub rows-found : (streams : List Shape) (q : QueryValue) (n : ℕ) (finding : Finding) (part : ℕ) (condition : Condition) (a : Attr) (f : FamilyValue) → finding ≡ Rows part condition a f → IsFinding streams q n finding

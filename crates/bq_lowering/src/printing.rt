@@ -53,7 +53,7 @@ fn write_first<O: Sink>(
 }
 
 // The rows of a family, and its last line.
-#[tactic(auto, using(crate::proofs::Texts::writes_behind))]
+#[tactic(auto, using(bq_print::proofs::WritesBehind::writes_behind))]
 fn write_behind<O: Sink>(
     out: &mut O,
     name: &[u8],

@@ -204,31 +204,6 @@ impl Pool {
         );
     }
 
-    /// Puts into a cell of an extent what a function makes of it, and changes no other cell of any extent. This is one read
-    /// and one write.
-    pub fn update<L: Ledger, F: FnOnce(Cell) -> Cell>(
-        &mut self,
-        extent: &Extent,
-        index: u32,
-        change: F,
-        steps: &mut Steps<L>,
-    )
-        requires live { IsLive self.old extent.now }
-        requires within { index < 64 * extent.now.pages }
-        requires callable { F.pre change (slice_index_or (cells_of self.old extent.now) index empty) }
-        ensures cells { (cell : Cell) × F.post change (slice_index_or (cells_of self.old extent.now) index empty) cell × (self.new ≡ with_cells self.old extent.now (slice_set (cells_of self.old extent.now) index cell)) }
-        ensures reads { steps.new.reads ≡ steps.old.reads + 1 }
-        ensures writes { steps.new.writes ≡ steps.old.writes + 1 }
-    {
-        steps.count_read();
-        let i = index as usize;
-        let page = self.places[usize::from(extent.slot) * PAGES_PER_SLOT + i / CELLS_PER_PAGE];
-        let place = usize::from(page) * CELLS_PER_PAGE + i % CELLS_PER_PAGE;
-        let made = changed(*self.cells.cell(place), change);
-        self.cells.set(place, made);
-        steps.count_write();
-    }
-
     /// Makes the pages of an extent free again.
     pub fn give_back(&mut self, extent: Extent)
         requires { IsLive self.old extent }
@@ -245,14 +220,6 @@ impl Pool {
         self.slots[slot] = None;
         self.free += u32::from(pages);
     }
-}
-
-// What a function makes of a cell.
-fn changed<F: FnOnce(Cell) -> Cell>(cell: Cell, change: F) -> Cell
-    requires { F.pre change cell }
-    ensures { F.post change cell result }
-{
-    change(cell)
 }
 
 /// The slots of a pool in which no extent is live.

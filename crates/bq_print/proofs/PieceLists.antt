@@ -1,13 +1,13 @@
 -- Lists of tokens by their first item and the others, as the code takes them.
-use Rattle.std.proofs.Common.{◌≡◌, ℕ, ◌+◌, ◌-◌, ◌<◌, ◌≤◌, Bool, true, false, cond, not, nat_le, List, [], ◌∷◌, ◌++◌, length, map, get_or, take, drop, flat_map, refl, ap, sym, ◌∙◌, arith, append_assoc, append-nil}
+use Rattle.std.proofs.Common.{◌≡◌, ℕ, ◌+◌, ◌-◌, ◌≤◌, Bool, nat_le, List, [], ◌∷◌, ◌++◌, length, map, get_or, take, drop, flat_map, refl, ap, sym, ◌∙◌, arith, append_assoc, append-nil}
 use Rattle.std.proofs.lemmas.Bool.Decides.{nat_tests}
 use Rattle.std.proofs.lemmas.List.{take_rest}
 use Rattle.bq_text.specs.declared.key.Key.TheVariants.{WhereKey, AndKey}
 use Rattle.bq_print.specs.declared.pieces.Piece.{Piece}
 use Rattle.bq_parser.specs.declared.tree.AtomAst.{AtomAst}
 use Rattle.bq_parser.specs.Grammar.{Lexeme, key, separated, atom_tokens, where_tokens}
-use Rattle.bq_print.specs.Printed.{text_for, joins, joins_short, gap_by, spaced_by}
-use Rattle.bq_print.specs.Pieces.{said, close_by, behind_by}
+use Rattle.bq_print.specs.Printed.{text_for, gap_by, spaced_by}
+use Rattle.bq_print.specs.Pieces.{said, behind_by}
 use Rattle.bq_print.proofs.PrintedText.{separated_first}
 
 separated_cons : {X : Type 0} (sep : Lexeme) (f : X → List Lexeme) (xs : List X) (d : X) → 1 ≤ length xs → separated sep f xs ≡ f (get_or xs 0 d) ++ flat_map (λ y. sep ∷ f y) (drop 1 xs)
@@ -57,14 +57,6 @@ module _ (close : Lexeme → Lexeme → Bool) where
   pub spaced_rest : (xs : List Piece) (x : Piece) → 1 ≤ length xs → x ≡ get_or xs 0 x → spaced_by close (map said xs) ≡ text_for (said x) ++ behind_by close (said x) (map said (take (length xs - 1) (drop 1 xs)))
   spaced_rest xs x h is = rw take_rest (spaced_cons xs x h ∙ ap (λ y. text_for (said y) ++ behind_by close (said y) (map said (drop 1 xs))) (sym is))
 
--- the printed form where it fits, else the short one
-pub shorter_or_printed : (b : Bool) (ls : List Lexeme) → cond b (spaced_by joins ls) (spaced_by joins_short ls) ≡ spaced_by (close_by (not b)) ls
-shorter_or_printed true ls = refl
-shorter_or_printed false ls = refl
-
 -- a text fits where its front does and the rest fits in the room that is left
 pub fits_more : (size rest whole room : ℕ) → whole ≡ size + rest → size ≤ room → nat_le rest (room - size) ≡ nat_le whole room
 fits_more size rest whole room e h = grind (arith, nat_tests)
-
-pub fits_never : (size rest whole room : ℕ) → whole ≡ size + rest → room < size → false ≡ nat_le whole room
-fits_never size rest whole room e h = grind (arith, nat_tests)

@@ -44,10 +44,6 @@ pub separated_first : {X : Type 0} (sep : Lexeme) (f : X → List Lexeme) (x : X
 separated_first sep f x [] = sym (append-nil (f x))
 separated_first sep f x (y ∷ ys) = ap (λ ls. f x ++ sep ∷ ls) (separated_first sep f y ys)
 
--- the tokens of one item behind a token print as a text
-abbrev pub PrintsBehind : {X : Type 0} → Lexeme → (X → List Lexeme) → List ℕ → (X → List ℕ) → Type 0
-PrintsBehind {X = X} l f lead text = (x : X) (rest : List Lexeme) → behind l (f x ++ rest) ≡ lead ++ (text x ++ behind_name rest)
-
 more_behind : {X : Type 0} (sep : Lexeme) (f : X → List Lexeme) (sep_text : List ℕ) (text : X → List ℕ) → ((x : X) (rest : List Lexeme) → behind_name (sep ∷ (f x ++ rest)) ≡ sep_text ++ (text x ++ behind_name rest)) → (xs : List X) (rest : List Lexeme) → behind_name (flat_map (λ y. sep ∷ f y) xs ++ rest) ≡ each_behind sep_text text xs ++ behind_name rest
 more_behind sep f sep_text text each [] rest = refl
 more_behind sep f sep_text text each (x ∷ xs) rest =

@@ -5,13 +5,14 @@ use Rattle.bq_io.specs.Sink.{SinkState, Wrote, BrokeOff, Writes}
 use Rattle.bq_io.proofs.Writing.{Wrote-trans, BrokeOff-then, BrokeOff-stop, BrokeOff-at}
 use Rattle.bq_print.specs.PrintedParts.{listed, each_behind}
 
-writes_after : {T E : Type 0} (r : Result T E) (a b c : SinkState) (s t : List ℕ) → Wrote a b s → Writes r b c t → Writes r a c (s ++ t)
-writes_after (Ok x) a b c s t p q = Wrote-trans a b c s t p q
-writes_after (Err e) a b c s t p q = BrokeOff-then a b c s t p q
-
 -- a text was written, and then a second one
+pub writes_behind : {T E : Type 0} (r : Result T E) (a b c : SinkState) (s t : List ℕ) → Wrote a b s → Writes r b c t → Writes r a c (s ++ t)
+writes_behind (Ok x) a b c s t p q = Wrote-trans a b c s t p q
+writes_behind (Err e) a b c s t p q = BrokeOff-then a b c s t p q
+
+-- the same, of a text that is the two
 pub writes_then : {T E : Type 0} (r : Result T E) (a b c : SinkState) (s t u : List ℕ) → u ≡ s ++ t → Wrote a b s → Writes r b c t → Writes r a c u
-writes_then r a b c s t u e p q = let P : List ℕ → Type 0 = λ v. Writes r a c v in subst P (sym e) (writes_after r a b c s t p q)
+writes_then r a b c s t u e p q = let P : List ℕ → Type 0 = λ v. Writes r a c v in subst P (sym e) (writes_behind r a b c s t p q)
 
 -- the first text broke off
 pub writes_stop : (a b : SinkState) (s t u : List ℕ) → u ≡ s ++ t → BrokeOff a b s → BrokeOff a b u

@@ -1,12 +1,12 @@
 -- A row whose own columns leave no cell that holds anything at some other place is answered nothing.
 use Rattle.std.proofs.lemmas.List.{take_more, map-append}
-use Rattle.std.proofs.Common.{◌≡◌, ◌≢◌, ℕ, zero, suc, ◌+◌, ◌-◌, ◌*◌, ◌<◌, ◌≤◌, ◌==◌, ◌⊎◌, inl, inr, Bool, true, false, get_or, List, [], ◌∷◌, ◌++◌, map, take, length, refl, sym, ap, ◌∙◌, subst, arith, append_assoc, length-append, ℤ, pos, ◌≤ℤ◌, if◌then◌else◌, ◌&&◌, ◌||◌}
+use Rattle.std.proofs.Common.{◌≡◌, ◌≢◌, ℕ, zero, suc, ◌+◌, ◌-◌, ◌*◌, ◌<◌, ◌≤◌, ◌==◌, ◌⊎◌, inl, inr, Bool, true, false, get_or, List, [], ◌∷◌, ◌++◌, map, take, length, refl, sym, ap, ◌∙◌, subst, arith, append_assoc, length-append, ℤ, pos, ◌-ℤ◌, ◌≤ℤ◌, nat_abs, ◌^◌, if◌then◌else◌, ◌&&◌, ◌||◌}
 use Rattle.std.specs.Prelude.{Some, None, flat_map, nat_lt, slice_get, slice_index_or}
 use Rattle.std.specs.List.{list_all}
 use Rattle.std.specs.Ordering.{int_eq}
 use Rattle.std.proofs.lemmas.Bool.Decides.{nat_tests}
 use Rattle.std.proofs.lemmas.List.Folds.{flat_map-map}
-use Rattle.bq_model.specs.Boxes.{box, box_size, place_of, values_at, AreNumbered}
+use Rattle.bq_model.specs.Boxes.{box, dim_size, box_size, place_of, values_at, AreNumbered, AreInside}
 use Rattle.bq_model.proofs.BoxLaws.{place-below, values-inside, length-box, at-box, sound-full}
 use Rattle.bq_model.specs.declared.atom.Attr.{Attr}
 use Rattle.bq_model.specs.declared.cell.Cell.{Cell}
@@ -28,6 +28,7 @@ use Rattle.bq_probe.specs.Beside.{last_beside, beside_dims, IsEmptyBeside, IsInn
 use Rattle.bq_probe.specs.declared.binding.Binding.{Binding}
 use Rattle.bq_probe.specs.Choosing.{Setting, setting, chosen, value, cell_at, cell_in, dims_in, dims_beside, meets, meets_links, found}
 use Rattle.bq_probe.specs.Lined.{IsLine}
+use Rattle.bq_probe.proofs.LineLaws.{line-more}
 use Rattle.bq_synopsis.specs.Premises.{IsWalked, IsLaidOut}
 use Rattle.bq_probe.specs.Values.{value_in, chosen_value, extreme_of}
 use Rattle.bq_probe.specs.Walk.{walk}
@@ -204,6 +205,45 @@ module _ (plan : StreamPlan) (dims : List Dim) (cells : ℕ) (line : StridedCell
 
   pub axis-empty : (contents : List Cell) (size : ℕ) → size ≡ box_size dims → NoneOccupied (λ i. slice_index_or contents (line.first + i) Empty) 0 size → IsEmptyIn plan contents dims
   axis-empty contents size e none i l = ap (λ n. slice_index_or contents n Empty) (number-is i l) ∙ none i (omega arith) (omega (arith, l, e))
+
+-- the cells of a box of one dim stand side by side
+pub only-line : (base : ℕ) (f d : Dim) → f.lo ≤ℤ d.lo → IsLine base (f ∷ []) (d ∷ []) (record { first = base + nat_abs (d.lo -ℤ f.lo); stride = 1 })
+only-line base f d low i l =
+    line-more f d [] [] base base 1 1 (λ k m. omega (arith, m)) low (omega arith) (λ k m. omega arith) i l
+    ∙ (let e : base + nat_abs (d.lo -ℤ f.lo) * 1 + i * 1 ≡ base + nat_abs (d.lo -ℤ f.lo) + i * 1 = omega arith in e)
+
+-- some values of the one dim of a box
+pub record IsWithin (plan : StreamPlan) (cells : ℕ) (whole left : Dim) : Type 0 where
+  pub low : whole.lo ≤ℤ left.lo
+  pub high : left.lo ≤ℤ whole.hi
+  pub size : dim_size whole < 2 ^ 32
+  pub line : IsLine plan.base plan.dims.items (left ∷ []) (record { first = plan.base + nat_abs (left.lo -ℤ whole.lo); stride = 1 })
+  pub room : plan.base + nat_abs (left.lo -ℤ whole.lo) + dim_size left ≤ cells
+  pub fits : plan.base + nat_abs (left.lo -ℤ whole.lo) < 2 ^ 32
+
+pub only-within : (plan : StreamPlan) (cells : ℕ) (whole left : Dim) → IsLaidOut plan cells → plan.dims.items ≡ whole ∷ [] → IsInnerBox plan.dims.items (left ∷ []) → (dim_size left ≡ 0 → ⊥) → IsWithin plan cells whole left
+only-within plan cells whole left laid only inner some =
+    let e : dim_size left ≡ box_size (left ∷ []) = omega arith in
+    let inside = subst (λ ds. AreInside ds (left.lo ∷ [])) only (inner.low (omega (arith, e, some))) in
+    let numbered = subst AreNumbered only (sound-full _ laid.full (omega (arith, laid.size, laid.few))) in
+    let line = subst (λ ds. IsLine plan.base ds (left ∷ []) (record { first = plan.base + nat_abs (left.lo -ℤ whole.lo); stride = 1 })) (sym only) (only-line plan.base whole left inside.0) in
+    let room = axis-within plan (left ∷ []) cells (record { first = plan.base + nat_abs (left.lo -ℤ whole.lo); stride = 1 }) laid inner line refl (dim_size left) e some in
+    let below = axis-within plan (left ∷ []) (plan.base + plan.size) (record { first = plan.base + nat_abs (left.lo -ℤ whole.lo); stride = 1 }) (record { full = laid.full; size = laid.size; room = omega arith; few = laid.few }) inner line refl (dim_size left) e some in
+    record { low = inside.0; high = inside.1; size = numbered.0; line = line; room = room; fits = omega (arith, below, some, laid.few) }
+
+one-item : (xs : List Dim) (o : Dim) → 1 ≤ length xs → length xs < 2 → xs ≡ get_or xs 0 o ∷ []
+one-item [] o l m = absurd (omega (arith, l))
+one-item (x ∷ []) o l m = refl
+one-item (x ∷ y ∷ xs) o l m = absurd (omega (arith, m))
+
+-- what is left of the one dim of a box
+pub only-beside : (part : PartPlan) (arriving : ℕ) (row : List ℤ) (place : ℕ) (items : List Dim) (links : List Link) (left o : Dim)
+    → items ≡ dims_at part place → 1 ≤ length items → length items < 2 → links ≡ part.less.items
+    → left ≡ clip arriving 0 links (λ a. by_column row a.column) (get_or items 0 o)
+    → beside_dims part arriving row place ≡ left ∷ []
+only-beside part arriving row place items links left o whole l m less is =
+    ap (map (clip arriving 0 part.less.items (λ a. by_column row a.column))) (sym whole ∙ one-item items o l m)
+    ∙ (λ k. sym (is ∙ ap (λ ls. clip arriving 0 ls (λ a. by_column row a.column) (get_or items 0 o)) less) k ∷ [])
 
 -- one dim more
 pub next_beside : (F : List Link → Dim → Dim) (links less : List Link) (items old new : List Dim) (i : ℕ) (one o : Dim)

@@ -115,7 +115,7 @@ value-chosen ps part arriving place row cs a c v s e g h =
     from n None = pos 0
     from n (Some d) = valued ps part.signs.items (dims_at part n) d.values.items (extreme_of d.cell) a
 
-value-known : (ps : List Pair) (part : PartPlan) (arriving : ℕ) (row : List ℤ) (known more : List Binding) (a : Attr) → is_known arriving (length known) a ≡ true → value_in ps part arriving row (known ++ more) a ≡ value_in ps part arriving row known a
+pub value-known : (ps : List Pair) (part : PartPlan) (arriving : ℕ) (row : List ℤ) (known more : List Binding) (a : Attr) → is_known arriving (length known) a ≡ true → value_in ps part arriving row (known ++ more) a ≡ value_in ps part arriving row known a
 unfolding value_in
 value-known ps part arriving row known more a = by (a.stream == arriving)
   where

@@ -13,6 +13,7 @@ pub mod ModelLaws
 pub mod NarrowLaws
 pub mod NothingLaws
 pub mod OneEach
+pub mod RepeatLaws
 pub mod StartLaws
 pub mod StepLaws
 pub mod UnderwayLaws

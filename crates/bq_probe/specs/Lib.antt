@@ -5,3 +5,4 @@ pub mod Choosing
 pub mod Costs
 pub mod Lined
 pub mod Remaining
+pub mod Repeats

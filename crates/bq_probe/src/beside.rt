@@ -1,5 +1,5 @@
 //! Rows whose own columns leave, at the last place that a walk would come to, no cell that holds anything.
-ghost use Rattle.std.specs.Prelude.{◌≡◌, ◌*◌, ◌≤◌, length, true};
+ghost use Rattle.std.specs.Prelude.{◌≡◌, ◌*◌, ◌≤◌, [], ◌∷◌, length, true};
 ghost use Rattle.bq_model.specs.Combinations.{read_from};
 ghost use Rattle.bq_model.specs.Meaning.{by_column};
 ghost use Rattle.bq_model.specs.Plan.{stream_at};
@@ -8,7 +8,8 @@ ghost use Rattle.bq_probe.specs.Beside.{last_beside, beside_dims, IsEmptyBeside,
 ghost use Rattle.bq_synopsis.specs.Premises.{IsLaidOut};
 ghost use Rattle.bq_synopsis.specs.Narrowing.{clip_by, clip};
 
-use crate::lines::line_of;
+use crate::combination::dim_size;
+use crate::lines::{line_of, offset_of};
 use crate::lists::Dims;
 use crate::narrow::{above, below};
 use bq_model::{Dim, Link, PartPlan, StreamPlan, size_of};
@@ -69,6 +70,21 @@ fn holds_nothing(pool: &Pool, e: &Extent, plan: &StreamPlan, dims: &[Dim]) -> bo
     pool.is_clear(e, line.first, size)
 }
 
+// Whether the cells of a box of one dim are seen to be empty for these of its values.
+fn holds_none(pool: &Pool, e: &Extent, plan: &StreamPlan, whole: Dim, left: Dim) -> bool
+    requires live { IsLive pool.now e.now }
+    requires laid { IsLaidOut plan.now (64 * e.now.pages) }
+    requires only { plan.now.dims.items ≡ whole ∷ [] }
+    requires inner { IsInnerBox plan.now.dims.items (left ∷ []) }
+    ensures { result ≡ true → IsEmptyIn plan.now (cells_of pool.now e.now) (left ∷ []) }
+{
+    let size = dim_size(left);
+    if size == 0 {
+        return true;
+    }
+    pool.is_clear(e, plan.base + offset_of(whole, left), size)
+}
+
 // The last place that a walk comes to.
 fn last_beside(streams: usize, arriving: u8) -> usize
     requires { 2 ≤ streams }
@@ -97,6 +113,11 @@ pub fn leaves_nothing(
     ensures { result ≡ true → IsEmptyBeside part.now (read_from (cells_of pool.now e.now)) arriving row.now (last_beside (length part.now.streams.items) arriving) }
 {
     let place = last_beside(part.streams.as_slice().len(), arriving);
+    let plan = stream_at(part, place);
+    if let [dim] = plan.dims.as_slice() {
+        let left = clip(arriving, row, part.less.as_slice(), *dim);
+        return holds_none(pool, e, plan, *dim, left);
+    }
     beside_dims(part, arriving, row, place, dims);
-    holds_nothing(pool, e, stream_at(part, place), dims.as_slice())
+    holds_nothing(pool, e, plan, dims.as_slice())
 }

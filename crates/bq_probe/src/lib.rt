@@ -5,7 +5,8 @@
 //! dim that stands in an inequality with such a column has the values on its side. Where the cells to try stand equally far
 //! apart, empty ones are passed by their numbers alone. It leaves a branch at the first empty cell. What the links leave at a
 //! place is listed with the part as far as it is the same for all rows, so that mostly no link is looked at; and where one cell
-//! is left at the first place, it is seen before a walk begins whether that is empty. It holds fixed arrays and takes no memory.
+//! is left at the first place, it is seen before a walk begins whether that is empty. With DISTINCT, combinations that are known to give
+//! the tuple that was found last are passed. It holds fixed arrays and takes no memory.
 #![tactic(auto)]
 
 mod beside;
@@ -19,6 +20,7 @@ mod narrow;
 mod nothing;
 mod part;
 mod probe;
+mod repeats;
 mod scratch;
 mod stack;
 mod values;

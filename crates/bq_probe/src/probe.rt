@@ -13,6 +13,7 @@ ghost use Rattle.bq_pool.specs.Extents.{cells_of, IsLive};
 ghost use Rattle.bq_probe.specs.Choosing.{start, chosen, dims_in, cell_in, meets_links, tuple_of, product_of};
 ghost use Rattle.bq_probe.specs.Costs.{read_at};
 ghost use Rattle.bq_probe.specs.Lined.{StandOn};
+ghost use Rattle.bq_probe.specs.Repeats.{IsTold, ArePassed};
 ghost use Rattle.bq_synopsis.specs.Preparing.{IsPrepared};
 ghost use Rattle.bq_probe.specs.Values.{rows_in};
 ghost use Rattle.bq_synopsis.specs.Premises.{IsWalked, IsReady, IsLaidOut, AreFitting};
@@ -23,6 +24,7 @@ use crate::combination::values_of;
 use crate::lines::is_empty;
 use crate::links::{meets_links, tuple_of};
 use crate::part::RowAt;
+use crate::repeats::is_told;
 use crate::scratch::ProbeScratch;
 use crate::values::rows_in;
 use arrayvec::ArrayVec;
@@ -471,5 +473,47 @@ impl<'a> Probe<'a> {
             }
         }
         None
+    }
+
+    // Whether DISTINCT leaves out a tuple that was given, and all that is left at this level is known to give this one.
+    fn tells(&self, q: &Query, part: &PartPlan, tuple: &Tuple) -> bool
+        requires prepared { IsPrepared self.now.pairs.now.items part.now self.now.prepared.now }
+        ensures distinct { result ≡ true → q.now.distinct ≡ true }
+        ensures going { result ≡ true → self.now.over ≡ false }
+        ensures told { result ≡ true → IsTold self.now.pairs.now.items q.now.select part.now self.now.arriving self.now.row.now.items self.now.room.now.chosen.items tuple.now.items }
+    {
+        if !q.distinct() {
+            return false;
+        }
+        if self.over {
+            return false;
+        }
+        let at = RowAt {
+            pairs: self.pairs.as_slice(),
+            part,
+            prepared: self.prepared,
+            arriving: self.arriving,
+            row: self.row.as_slice(),
+        };
+        is_told(
+            &at,
+            self.room.chosen.as_slice(),
+            q.select(),
+            tuple.as_slice(),
+        )
+    }
+
+    /// Passes what the walk would give next, as far as the cells chosen so far tell that it is this tuple again, where DISTINCT leaves
+    /// that out. No cell is read.
+    pub fn pass_repeats(&mut self, q: &Query, part: &PartPlan, tuple: &Tuple)
+        requires walked { IsWalked q.now part.now }
+        requires underway { IsUnderway part.now self.old }
+        ensures underway { IsUnderway part.now self.new }
+        ensures left { (read : Reading) → ArePassed q.now.distinct tuple.now.items (left_of q.now.select part.now read self.old) (left_of q.now.select part.now read self.new) }
+        ensures reads { reads_left part.now self.new ≤ reads_left part.now self.old }
+    {
+        'levels: while self.tells(q, part, tuple) {
+            self.retreat(q, part);
+        }
     }
 }

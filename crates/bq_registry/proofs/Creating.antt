@@ -1,5 +1,5 @@
 -- What CREATE QUERY does.
-use Rattle.std.proofs.Common.{◌≡◌, ℕ, Bool, ◌≤◌, List, [], ◌∷◌, ◌++◌, sym, ap, subst, arith, Ok, Err, All, length}
+use Rattle.std.proofs.Common.{◌≡◌, ℕ, Bool, ◌≤◌, List, [], ◌∷◌, ◌++◌, sym, ap, subst, arith, Ok, Err, All}
 use Rattle.std.specs.declared.result.Result.{Result}
 use Rattle.bq_model.specs.declared.plan.Plan.{Plan}
 use Rattle.bq_model.specs.Query.{QueryValue}

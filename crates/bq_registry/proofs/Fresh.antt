@@ -1,7 +1,6 @@
 -- A registry with no live query.
-use Rattle.std.proofs.Common.{◌≡◌, ◌≢◌, ◌+◌, ◌≤◌, List, [], length, subst, sym, ap, arith, All, AllPairs}
-use Rattle.std.specs.List.{sum_by}
-use Rattle.bq_pool.specs.Extents.{PoolValue, IsFresh, live_extents}
+use Rattle.std.proofs.Common.{◌≡◌, List, [], subst, sym, arith}
+use Rattle.bq_pool.specs.Extents.{PoolValue, IsFresh}
 use Rattle.bq_registry.specs.Live.{Live}
 use Rattle.bq_registry.specs.Registry.{IsSound}
 

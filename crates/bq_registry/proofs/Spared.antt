@@ -1,8 +1,7 @@
 -- Live queries that a row does not concern are passed over, and counted.
-use Rattle.std.proofs.Common.{◌≡◌, ◌≢◌, ℕ, zero, suc, ◌+◌, ◌-◌, ◌%◌, ◌<◌, ◌≤◌, ◌^◌, inl, inr, List, [], ◌∷◌, length, map, take, refl, sym, ap, ◌∙◌, subst, arith, slice_index_or, slice_set, All}
+use Rattle.std.proofs.Common.{◌≡◌, ℕ, zero, suc, ◌+◌, ◌-◌, ◌%◌, ◌<◌, ◌≤◌, ◌^◌, List, [], ◌∷◌, length, map, take, refl, sym, ap, ◌∙◌, subst, arith, slice_index_or, slice_set, All}
 use Rattle.std.specs.List.{sum_by}
-use Rattle.std.proofs.lemmas.Bool.{cases_eq}
-use Rattle.std.proofs.lemmas.List.{length-map, length-set, get_or_default, get_or-map, set-get_or}
+use Rattle.std.proofs.lemmas.List.{length-map, get_or-map, set-get_or}
 use Rattle.bq_model.specs.Meaning.{Arrival}
 use Rattle.bq_pool.specs.Extents.{PoolValue}
 use Rattle.bq_executor.specs.Executor as executor
@@ -13,12 +12,11 @@ use Rattle.bq_model.specs.Domains.{RowKeeps}
 use Rattle.bq_executor.proofs.Taken.{with_own}
 use Rattle.bq_executor.proofs.PassingOn.{refused-rows-pass}
 use Rattle.bq_registry.specs.declared.queries.Runner.{Runner}
-use Rattle.bq_registry.specs.Live.{Live, named, live_of}
+use Rattle.bq_registry.specs.Live.{Live, named}
 use Rattle.bq_registry.specs.Counted.{run_to, shown, IsCounted}
 use Rattle.bq_registry.specs.Registry.{KeepsToEach}
 use Rattle.bq_registry.specs.Taken.{TookOne, TookFirst}
 use Rattle.bq_registry.proofs.SideBySide.{under, under_at, under_set}
-use Rattle.bq_registry.proofs.Shown.{shown_set}
 use Rattle.bq_registry.proofs.InTurn.{took_more, next_ready, next_keeps, sum_more}
 
 -- what runs the queries, of which the first so many took one row more

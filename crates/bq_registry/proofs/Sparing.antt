@@ -1,10 +1,10 @@
 -- Which live queries a row may be spared.
-use Rattle.std.proofs.Common.{◌≡◌, ℕ, ℤ, ◌+◌, ◌<◌, max, List, [], ◌∷◌, ◌++◌, length, slice_set, sym, ap, ◌∙◌, subst, arith, slice_index_or, slice_get, bit_or, Option, Some, None, inl, inr}
+use Rattle.std.proofs.Common.{◌≡◌, ◌≢◌, ℕ, ℤ, ◌<◌, ◌≤◌, List, [], ◌∷◌, ◌++◌, length, slice_set, sym, ap, ◌∙◌, subst, arith, slice_index_or, slice_get, bit_or, Option, Some, None, inl, inr}
 use Rattle.std.specs.Int.{bit_at}
 use Rattle.std.proofs.lemmas.Bool.{cases_eq, cases_lt}
-use Rattle.std.proofs.lemmas.List.{get_or_append_left, length-append, get_or-set_same, get_or-set_other}
+use Rattle.std.proofs.lemmas.List.{get_or_append_left, length-append, get_or-set_same, get_or-set_other, length-set}
 use Rattle.std.proofs.Math.Seq.{get_or-append_seam}
-use Rattle.std.proofs.lemmas.Nat.Bits.{bit_at_or, bit_at-lt}
+use Rattle.std.proofs.lemmas.Nat.Bits.{bit_at_or, bit_at-lt, bit_at-zero}
 use Rattle.std.proofs.lemmas.Option.{slice_get_within, slice_get-get_or, get_or_from_slice_get}
 use Rattle.bq_candidates.specs.declared.boxes.QueryBox.{QueryBox}
 use Rattle.bq_candidates.specs.declared.candidates.Candidates.{Candidates}
@@ -18,10 +18,9 @@ use Rattle.bq_index.specs.Prefilter.{IsRefused}
 use Rattle.bq_executor.specs.Passing.{IsBoxFor}
 use Rattle.bq_registry.specs.declared.concerned.Concerned.{Concerned}
 use Rattle.bq_registry.specs.Live.{Live}
-use Rattle.bq_registry.specs.Concerned.{AreBoxes, IsListed, AreListed, IsTold, MayConcern}
+use Rattle.bq_registry.specs.Concerned.{IsListed, IsTold, MayConcern}
 use Rattle.bq_registry.specs.Waiting.{AreQuiet}
 use Rattle.bq_registry.specs.Taken.{AreSpared}
-use Rattle.bq_registry.proofs.BitsLeft.{bit_cases}
 
 left_off : (a b k : ℕ) → bit_at (bit_or a b) k ≡ 0 → bit_at a k ≡ 0
 left_off a b k h = (let m = bit_at_or a b k in omega (arith, m, h))
@@ -73,8 +72,8 @@ pub told_kept : (c : Concerned) (before after : List Live) → length after ≡ 
     → IsTold c before → IsTold c after
 told_kept c before after size asks plans told = record {
   streams = told.streams;
-  listed = λ yes stream own there.
-      (let was = told.listed yes stream own there in
+  listed = λ stream own on there.
+      (let was = told.listed stream own on there in
       let many = was.own.size in
       record {
         boxes = was.boxes;
@@ -114,16 +113,31 @@ boxes_more stream live boxes new own n e is size runs each box k l o there =
           (subst (λ (b : Option QueryBox). IsBoxFor e.query e.plan stream b) same box))
     ]
 
--- one more stream
-pub lists_more : (live : List Live) (now : List Candidates) (n : ℕ) (new : Candidates) → n < length now
-    → ((s : ℕ) (c : Candidates) → s < n → slice_get now s ≡ Some c → IsListed s c live) → IsListed n new live
-    → (s : ℕ) (c : Candidates) → s < n + 1 → slice_get (slice_set now n new) s ≡ Some c → IsListed s c live
-lists_more live now n new inside old own s c h e =
-    let is : slice_index_or (slice_set now n new) s c ≡ c = get_or_from_slice_get (slice_set now n new) s c c e in
-    elim (cases_eq s n) [
-      | inl same ↦
-          let mine : new ≡ c = sym (get_or-set_same now n new c inside) ∙ ap (λ (k : ℕ). slice_index_or (slice_set now n new) k c) (sym same) ∙ is in
-          subst (λ (k : ℕ). IsListed k c live) (sym same) (subst (λ (z : Candidates). IsListed n z live) mine own)
-      | inr ne ↦
-          old s c (omega (arith, h, ne)) (slice_get-get_or now s c (omega (arith, h, inside)) ∙ ap (λ (z : Candidates). Some z) (sym (get_or-set_other now n s new c ne) ∙ is))
-    ]
+-- where the candidates of no stream are listed
+pub told_none : (c : Concerned) (live : List Live) → length c.streams.items ≤ 16 → c.listed ≡ 0 → IsTold c live
+told_none c live few none = record {
+  streams = few;
+  listed = λ stream own on there. absurd (let off = bit_at-zero stream in let is = ap (λ (word : ℕ). bit_at word stream) none in omega (arith, on, off, is));
+}
+
+-- one more stream is listed
+pub lists_one : (live : List Live) (before after : Concerned) (n : ℕ) (new : Candidates) → n < length before.streams.items → IsTold before live → IsListed n new live
+    → after.streams.items ≡ slice_set before.streams.items n new → ((i : ℕ) → i ≢ n → bit_at after.listed i ≡ bit_at before.listed i) → IsTold after live
+lists_one live before after n new inside told own is others =
+    let now = before.streams.items in
+    record {
+      streams = (let size = ap (λ (xs : List Candidates). length xs) is in let same = length-set now n new in let few = told.streams in omega (arith, size, same, few));
+      listed = λ s c on there.
+          (let e : slice_get (slice_set now n new) s ≡ Some c = ap (λ (xs : List Candidates). slice_get xs s) (sym is) ∙ there in
+          let at : slice_index_or (slice_set now n new) s c ≡ c = get_or_from_slice_get (slice_set now n new) s c c e in
+          elim (cases_eq s n) [
+            | inl same ↦
+                let mine : new ≡ c = sym (get_or-set_same now n new c inside) ∙ ap (λ (k : ℕ). slice_index_or (slice_set now n new) k c) (sym same) ∙ at in
+                subst (λ (k : ℕ). IsListed k c live) (sym same) (subst (λ (z : Candidates). IsListed n z live) mine own)
+            | inr ne ↦
+                let within = slice_get_within (slice_set now n new) s c e in
+                let all = length-set now n new in
+                told.listed s c (sym (others s ne) ∙ on)
+                (slice_get-get_or now s c (omega (arith, within, all)) ∙ ap (λ (z : Candidates). Some z) (sym (get_or-set_other now n s new c ne) ∙ at))
+          ]);
+    }

@@ -1,5 +1,5 @@
 -- Which live queries a row may concern.
-use Rattle.std.specs.Prelude.{◌≡◌, ℕ, ◌<◌, ◌≤◌, true, List, length, slice_get, slice_index_or, Option, Some}
+use Rattle.std.specs.Prelude.{◌≡◌, ℕ, ◌<◌, ◌≤◌, List, length, slice_get, slice_index_or, Option, Some}
 use Rattle.std.specs.Int.{bit_at}
 use Rattle.bq_candidates.specs.declared.boxes.QueryBox.{QueryBox}
 use Rattle.bq_candidates.specs.declared.candidates.Candidates.{Candidates}
@@ -22,14 +22,10 @@ pub record IsListed (stream : ℕ) (c : Candidates) (live : List Live) : Type 0 
   pub own : AreBoxes stream boxes live
   pub are : AreFor boxes c
 
--- so are those of all streams
-abbrev pub AreListed : List Candidates → List Live → Type 0
-AreListed streams live = (stream : ℕ) (c : Candidates) → slice_get streams stream ≡ Some c → IsListed stream c live
-
--- the candidates are listed, or it is known that they are not
+-- the candidates of each stream are listed, or it is known that they are not
 pub record IsTold (c : Concerned) (live : List Live) : Type 0 where
   pub streams : length c.streams.items ≤ 16
-  pub listed : c.is_listed ≡ true → AreListed c.streams.items live
+  pub listed : (stream : ℕ) (own : Candidates) → bit_at c.listed stream ≡ 1 → slice_get c.streams.items stream ≡ Some own → IsListed stream own live
 
 -- the word has bits of live queries alone, and each that has none refuses the row
 pub record MayConcern (word : ℕ) (r : Arrival) (live : List Live) : Type 0 where

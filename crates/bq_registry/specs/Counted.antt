@@ -1,5 +1,5 @@
 -- What runs the live queries, and how many rows were given to each, also of those that did not concern it.
-use Rattle.std.specs.Prelude.{◌≡◌, ℕ, ◌+◌, ◌≤◌, ◌^◌, List, map}
+use Rattle.std.specs.Prelude.{ℕ, ◌+◌, ◌≤◌, ◌^◌, List, map}
 use Rattle.bq_executor.specs.Executor.{ExecutorValue, with_given}
 use Rattle.bq_registry.specs.declared.queries.Runner.{Runner}
 

@@ -21,6 +21,7 @@ use crate::register::{Planned, admit, drop_at};
 use crate::taking::apply_to_all;
 use crate::verdict::{Verdict, judge};
 use crate::writing::write_all;
+use bq_candidates::Concerns;
 use bq_executor::Executor;
 use bq_io::{Sink, WriteFault};
 use bq_model::{Plan, Query, Row, Tuple};
@@ -214,9 +215,12 @@ impl Registry {
         ensures reads { steps.new.reads ≤ steps.old.reads + most_reads self.old.live }
         ensures writes { steps.new.writes ≤ steps.old.writes + most_writes self.old.live }
     {
-        self.concerned.list(&self.live);
-        let word = self.concerned.of(stream, row, self.live.len()) | self.waiting;
-        self.waiting = apply_to_all(&mut self.pool, &mut self.live, word, stream, row, steps);
+        let concerns = self.concerned.of(stream, row, &self.live);
+        let asked = Concerns {
+            word: concerns.word | self.waiting,
+            within: concerns.within,
+        };
+        self.waiting = apply_to_all(&mut self.pool, &mut self.live, asked, stream, row, steps);
     }
 
     /// Writes what waits, query by query in order of creation. Afterwards nothing waits, on a fault too, and the registry stands

@@ -131,9 +131,10 @@ pub fn condition_text(condition: Condition) -> &'static [u8]
     }
 }
 
-// `refused q part N C2 S.b`, by its parts.
-fn write_violation_text<'a, O: Sink>(
+// `refused q part N C2 S.b`, by its parts: what stands before the name, the name, and what is broken where.
+fn write_broken_text<'a, O: Sink>(
     out: &mut O,
+    lead: &'a [u8],
     name: &'a [u8],
     part: &'a [u8],
     condition: &'a [u8],
@@ -141,22 +142,38 @@ fn write_violation_text<'a, O: Sink>(
     column: &'a [u8],
 ) -> Result<(), WriteFault>
     ensures { Writes result (O.seen out.old) (O.seen out.new)
-        (codes "refused " ++ name.now ++ codes " part " ++ part.now ++ 32 ∷ condition.now ++ 32 ∷ (stream.now ++ 46 ∷ column.now) ++ 10 ∷ []) }
+        (lead.now ++ name.now ++ codes " part " ++ part.now ++ 32 ∷ condition.now ++ 32 ∷ (stream.now ++ 46 ∷ column.now) ++ 10 ∷ []) }
 {
     let pieces: [&[u8]; 11] = [
-        b"refused ",
-        name,
-        b" part ",
-        part,
-        b" ",
-        condition,
-        b" ",
-        stream,
-        b".",
-        column,
-        b"\n",
+        lead, name, b" part ", part, b" ", condition, b" ", stream, b".", column, b"\n",
     ];
     write_pieces(out, &pieces)
+}
+
+/// Writes which condition a part of a query breaks at which column, as `q part N C2 S.b` behind the words that lead.
+pub fn write_broken<O: Sink>(
+    out: &mut O,
+    lead: &[u8],
+    name: &[u8],
+    part: u32,
+    condition: Condition,
+    column: &ColumnAst,
+) -> Result<(), WriteFault>
+    ensures { Writes result (O.seen out.old) (O.seen out.new)
+        (lead.now ++ name.now ++ codes " part " ++ decimal part ++ 32 ∷ condition_text condition ++ 32 ∷ column_text column.now ++ 10 ∷ []) }
+{
+    let mut buffer = Buffer::new();
+    let number = buffer.format(part).as_bytes();
+    let condition = condition_text(condition);
+    write_broken_text(
+        out,
+        lead,
+        name,
+        number,
+        condition,
+        column.stream.bytes(),
+        column.column.bytes(),
+    )
 }
 
 /// Writes `refused q part N C2 S.b`
@@ -170,17 +187,7 @@ pub fn write_violation<O: Sink>(
     ensures { Writes result (O.seen out.old) (O.seen out.new)
         (codes "refused " ++ name.now ++ codes " part " ++ decimal part ++ 32 ∷ condition_text condition ++ 32 ∷ column_text column.now ++ 10 ∷ []) }
 {
-    let mut buffer = Buffer::new();
-    let number = buffer.format(part).as_bytes();
-    let condition = condition_text(condition);
-    write_violation_text(
-        out,
-        name.bytes(),
-        number,
-        condition,
-        column.stream.bytes(),
-        column.column.bytes(),
-    )
+    write_broken(out, b"refused ", name.bytes(), part, condition, column)
 }
 
 fn word_text(word: Refusal) -> &'static [u8]
@@ -204,7 +211,7 @@ fn word_text(word: Refusal) -> &'static [u8]
     }
 }
 
-/// Writes `error L Refusal`
+/// Writes `error L Word`
 pub fn write_refused<O: Sink>(out: &mut O, line: u64, word: Refusal) -> Result<(), WriteFault>
     ensures { Writes result (O.seen out.old) (O.seen out.new) (codes "error " ++ decimal line ++ 32 ∷ word_text word ++ 10 ∷ []) }
 {

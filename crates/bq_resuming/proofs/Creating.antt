@@ -34,6 +34,7 @@ use Rattle.bq_parser.proofs.Said.{numbers_query, select_grouped}
 use Rattle.bq_parser.proofs.Taken.{same_name}
 use Rattle.bq_parser.proofs.Within.{kept_length}
 use Rattle.bq_registry.specs.Live.{LiveQuery}
+use Rattle.bq_session.proofs.ResumeTexts.{few, not_long}
 
 -- the statement that creates a query again
 abbrev pub creation : List Shape → LiveQuery → Statement
@@ -162,7 +163,8 @@ map_same : (zs : List ℤ) → map (λ z. z) zs ≡ zs
 map_same [] = refl
 map_same (z ∷ zs) = ap (λ ys. z ∷ ys) (map_same zs)
 
-near : (z : ℤ) → IsShort z → is_far z ≡ false
+-- an integer of fifteen digits is near
+pub near : (z : ℤ) → IsShort z → is_far z ≡ false
 near z h = (let low = h.low in let high = h.high in grind (arith, ints))
 
 all_near : (zs : List ℤ) → AllByRecursion IsShort zs → list_any is_far zs ≡ false
@@ -198,9 +200,6 @@ words_named (greater_equal ∷ ls) h = words_named ls h.1
 words_named (unequal ∷ ls) h = words_named ls h.1
 words_named (semicolon ∷ ls) h = words_named ls h.1
 
-not_long : (w : List ℕ) → length w ≤ 24 → is_long w ≡ false
-not_long w h = grind (arith, nat_tests)
-
 none_long : (ns : List (List ℕ)) → AllByRecursion IsName ns → list_any is_long ns ≡ false
 none_long [] h = refl
 none_long (n ∷ ns) h = ap (λ b. b || list_any is_long ns) (not_long n (name_facts n h.0).short) ∙ none_long ns h.1
@@ -213,9 +212,6 @@ separated_words sep f own (x ∷ y ∷ xs) h = both_words (f x) (sep ∷ separat
 mapped : {X Y : Type 0} (P : Y → Type 0) (Q : X → Type 0) (f : X → Y) → ((x : X) → Q x → P (f x)) → (xs : List X) → AllByRecursion Q xs → AllByRecursion P (map f xs)
 mapped P Q f g [] h = tt
 mapped P Q f g (x ∷ xs) h = (g x h.0, mapped P Q f g xs h.1)
-
-few : (most n : ℕ) → n ≤ most → nat_lt most n ≡ false
-few most n h = grind (arith, nat_tests)
 
 module _ (streams : List Shape) (catalog : IsCatalog streams) (q : LiveQuery) (own : IsName q.name) (within : IsWithinLimits q.query) (has : HasNamed streams q.query) where
   abbrev v : QueryValue

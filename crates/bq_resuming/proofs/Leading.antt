@@ -1,7 +1,6 @@
 -- Lines that lead from one state to another.
-use Rattle.std.proofs.Common.{◌≡◌, ℕ, ◌≤◌, false, ◌||◌, List, [], ◌∷◌, ◌++◌, length, flat_map, None, refl, sym, ap, ◌∙◌, subst, arith}
+use Rattle.std.proofs.Common.{◌≡◌, ℕ, ◌≤◌, false, ◌||◌, List, [], ◌∷◌, ◌++◌, length, flat_map, None, refl, sym, ap, ◌∙◌, subst}
 use Rattle.std.specs.List.{list_any, AllByRecursion}
-use Rattle.std.proofs.lemmas.Bool.Decides.{nat_tests}
 use Rattle.std.proofs.lemmas.List.Elements.{All-append, All-cons, All-nil}
 use Rattle.bq_parser.specs.declared.line.LineKind.{LineKind}
 use Rattle.bq_parser.specs.declared.tree.Statement.{Statement}
@@ -16,6 +15,7 @@ use Rattle.bq_session.specs.Answers.{IsAnswer}
 use Rattle.bq_session.specs.Replies.{AreAnswers}
 use Rattle.bq_session.specs.Requests.{statement_request, stated, IsTextRequest, IsRequest, fits}
 use Rattle.bq_session.specs.State.{State, next_of, after}
+use Rattle.bq_session.proofs.ResumeTexts.{not_long}
 use Rattle.bq_resuming.specs.Restores.{IsOneLine, LeadsTo}
 use Rattle.bq_resuming.proofs.PrintedLines.{IsStatementText}
 
@@ -57,9 +57,6 @@ joined s t u a b first rest = record {
 }
 
 -- the names among such tokens are short
-not_long : (w : List ℕ) → length w ≤ 24 → is_long w ≡ false
-not_long w h = grind (arith, nat_tests)
-
 pub names_short : (ls : List Lexeme) → AllByRecursion IsSound ls → list_any is_long (flat_map word_in ls) ≡ false
 names_short [] h = refl
 names_short (word w ∷ ls) h = ap (λ b. b || list_any is_long (flat_map word_in ls)) (not_long w (name_facts w h.0).short) ∙ names_short ls h.1

@@ -18,7 +18,8 @@ use Rattle.bq_model.specs.declared.decision.Which.{Which}
 use Rattle.bq_model.specs.Query.{QueryValue}
 use Rattle.bq_model.specs.Numbers.{pages_of, page_count}
 use Rattle.bq_model.specs.Verdict as verdicts
-use Rattle.bq_model.specs.Verdict.{Verdict, IsVerdict, of_filter, of_plan, first_above, verdict_after, verdict_by}
+use Rattle.bq_model.specs.Verdict.{IsVerdict, of_filter, of_plan, first_above, verdict_after, verdict_by}
+use Rattle.bq_laws.proofs.PlanTests.{not-true}
 use Rattle.bq_laws.proofs.Tests.{and-left, and-right, or-false}
 use Rattle.bq_schema.specs.Streams.{Shape, IsCatalog, all_differ}
 use Rattle.bq_executor.specs.Executor.{IsAccepted}
@@ -127,15 +128,11 @@ no_later : (p : List ℕ → Bool) (before : List (List ℕ)) (n : List ℕ) (re
 no_later p [] n rest h = (or-false (p n) (list_any p rest) h).0
 no_later p (m ∷ before) n rest h = no_later p before n rest (or-false (p m) (list_any p (before ++ n ∷ rest)) h).1
 
-is_false : (b : Bool) → not b ≡ true → b ≡ false
-is_false true h = absurd cc
-is_false false h = refl
-
 pub not_among : (before : List (List ℕ)) (n : List ℕ) (rest : List (List ℕ)) → all_differ (before ++ n ∷ rest) ≡ true → is_live before n ≡ false
 not_among [] n rest h = refl
 not_among (m ∷ before) n rest h =
     let others : Bool = list_any (bytes_eq m) (before ++ n ∷ rest) in
-    ap (λ b. b || is_live before n) (no_later (bytes_eq m) before n rest (is_false others (and-left (not others) (all_differ (before ++ n ∷ rest)) h)))
+    ap (λ b. b || is_live before n) (no_later (bytes_eq m) before n rest (not-true others (and-left (not others) (all_differ (before ++ n ∷ rest)) h)))
     ∙ not_among before n rest (and-right (not others) (all_differ (before ++ n ∷ rest)) h)
 
 below : (n : ℕ) → n < 64 → nat_le 64 n ≡ false

@@ -9,6 +9,7 @@ use Rattle.bq_model.specs.Query.{QueryValue}
 use Rattle.bq_model.specs.Meaning.{Arrival}
 use Rattle.bq_model.specs.Numbers.{pages_of}
 use Rattle.bq_model.specs.Bases.{Base}
+use Rattle.bq_laws.proofs.PlanTests.{not-true}
 use Rattle.bq_laws.proofs.Tests.{and-left, and-right, or-false}
 use Rattle.bq_schema.specs.Streams.{Shape, IsShape, KeepsDomains, all_differ}
 use Rattle.bq_registry.specs.Live.{LiveQuery, names, newly, with_row, without, free_pages}
@@ -128,16 +129,12 @@ none_left p name (q ∷ qs) h = by (bytes_eq q.name name) (none_left p name qs b
     by true rest = both.1
     by false rest = ap₂ (λ a b. a || b) both.0 rest
 
-is_false : (b : Bool) → not b ≡ true → b ≡ false
-is_false true h = absurd cc
-is_false false h = refl
-
 drop_differ : (name : List ℕ) (qs : List LiveQuery) → all_differ (names qs) ≡ true → all_differ (names (without name qs)) ≡ true
 drop_differ name [] h = refl
 drop_differ name (q ∷ qs) h = by (bytes_eq q.name name) (drop_differ name qs rest)
   where
     own : list_any (bytes_eq q.name) (names qs) ≡ false
-    own = is_false (list_any (bytes_eq q.name) (names qs)) (and-left (not (list_any (bytes_eq q.name) (names qs))) (all_differ (names qs)) h)
+    own = not-true (list_any (bytes_eq q.name) (names qs)) (and-left (not (list_any (bytes_eq q.name) (names qs))) (all_differ (names qs)) h)
 
     rest : all_differ (names qs) ≡ true
     rest = and-right (not (list_any (bytes_eq q.name) (names qs))) (all_differ (names qs)) h
@@ -154,7 +151,7 @@ none_more p (m ∷ ns) n h k = (let both = or-false (p m) (list_any p ns) h in a
 differ_more : (ns : List (List ℕ)) (n : List ℕ) → all_differ ns ≡ true → is_live ns n ≡ false → all_differ (ns ++ n ∷ []) ≡ true
 differ_more [] n h new = refl
 differ_more (m ∷ ns) n h new =
-    let own = is_false (list_any (bytes_eq m) ns) (and-left (not (list_any (bytes_eq m) ns)) (all_differ ns) h) in
+    let own = not-true (list_any (bytes_eq m) ns) (and-left (not (list_any (bytes_eq m) ns)) (all_differ ns) h) in
     let both = or-false (bytes_eq m n) (is_live ns n) new in
     ap₂ (λ a b. not a && b) (none_more (bytes_eq m) ns n own both.0) (differ_more ns n (and-right (not (list_any (bytes_eq m) ns)) (all_differ ns) h) both.1)
 

@@ -13,6 +13,7 @@ use Rattle.bq_model.specs.Future.{waiting, future}
 use Rattle.bq_model.proofs.Has.{Has, first, later, Has-append_cases, Has-filter_from, Has-filter_holds}
 use Rattle.bq_laws.proofs.OnePartFits.{has_cases}
 use Rattle.bq_laws.proofs.Order.{same-itself, before-three, before-trans}
+use Rattle.bq_laws.proofs.PlanTests.{not-true}
 use Rattle.bq_laws.proofs.TableRoom.{Distinct}
 use Rattle.bq_laws.proofs.Tests.{not_both}
 use Rattle.bq_resuming.proofs.TupleOrder.{Ascend}
@@ -61,14 +62,10 @@ distinct_filter p (t ∷ ts) d = by (p t) (distinct_filter p ts d.1)
     by true rest = ((λ m. d.0 (Has-filter_from p ts t m)), rest)
     by false rest = rest
 
-is_false : (b : Bool) → not b ≡ true → b ≡ false
-is_false true h = absurd cc
-is_false false h = refl
-
 once_distinct : (ts : List (List ℤ)) → Distinct (distinct_tuples ts)
 once_distinct [] = tt
 once_distinct (t ∷ ts) = (
-  (λ m. not_both (is_same t t) (same-itself t) (is_false (is_same t t) (Has-filter_holds (λ u. not (is_same u t)) (distinct_tuples ts) t m))),
+  (λ m. not_both (is_same t t) (same-itself t) (not-true (is_same t t) (Has-filter_holds (λ u. not (is_same u t)) (distinct_tuples ts) t m))),
   distinct_filter (λ u. not (is_same u t)) (distinct_tuples ts) (once_distinct ts),
 )
 

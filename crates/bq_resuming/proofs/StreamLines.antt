@@ -7,7 +7,7 @@ use Rattle.std.proofs.lemmas.Int.{ints}
 use Rattle.std.proofs.lemmas.List.Elements.{All-head, All-tail}
 use Rattle.bq_text.specs.Name.{is_name}
 use Rattle.bq_text.specs.declared.key.Key.TheVariants.{CreateKey, StreamKey}
-use Rattle.bq_model.specs.Query.{IsShort}
+use Rattle.bq_laws.proofs.PlanTests.{not-true}
 use Rattle.bq_laws.proofs.Tests.{and-left, and-right, or-false}
 use Rattle.bq_schema.specs.declared.column.ColumnDef.{ColumnDef}
 use Rattle.bq_schema.specs.declared.stream_error.StreamError.TheVariants as StreamErrors
@@ -29,12 +29,10 @@ use Rattle.bq_session.specs.Checkpoint.{stream_line}
 use Rattle.bq_session.specs.State.{State, empty}
 use Rattle.bq_resuming.specs.Restores.{LeadsTo, StreamsAreRestored}
 use Rattle.bq_resuming.proofs.ShortLines.{AreShort, IsShortLine, short_streams}
+use Rattle.bq_session.proofs.ResumeTexts.{few}
 use Rattle.bq_resuming.proofs.PrintedLines.{line_text}
+use Rattle.bq_resuming.proofs.Creating.{near}
 use Rattle.bq_resuming.proofs.Leading.{line_asks, no_line, one_line, joined, names_short}
-
--- an end of a domain is near
-near_end : (z : ℤ) → IsShort z → is_far z ≡ false
-near_end z h = (let low = h.low in let high = h.high in grind (arith, ints))
 
 in_order : (low high : ℤ) → low ≤ℤ high → int_lt high low ≡ false
 in_order low high h = grind (arith, ints)
@@ -58,7 +56,7 @@ columns_of s is (c ∷ cs) names domains = (
 
 domain_sound : (d : Option (ℤ × ℤ)) → HasEnds d → AllByRecursion IsSound (domain_tokens d)
 domain_sound None h = tt
-domain_sound (Some ends) h = (tt, (near_fits ends.0 (near_end ends.0 h.short_low), (tt, (tt, (near_fits ends.1 (near_end ends.1 h.short_high), tt)))))
+domain_sound (Some ends) h = (tt, (near_fits ends.0 (near ends.0 h.short_low), (tt, (tt, (near_fits ends.1 (near ends.1 h.short_high), tt)))))
 
 columns_sound : (cs : List ColumnDef) → AllByRecursion IsColumnDef cs → AllByRecursion IsSound (separated comma coldef_tokens cs)
 columns_sound [] h = tt
@@ -70,7 +68,7 @@ columns_sound (c ∷ d ∷ cs) h =
 domain_near : (d : Option (ℤ × ℤ)) (more : Bool) → HasEnds d → more ≡ false → (list_any is_far (ends_in d) || more) ≡ false
 domain_near None more h e = e
 domain_near (Some ends) more h e =
-    ap (λ b. (b || (is_far ends.1 || false)) || more) (near_end ends.0 h.short_low) ∙ ap (λ b. (b || false) || more) (near_end ends.1 h.short_high) ∙ e
+    ap (λ b. (b || (is_far ends.1 || false)) || more) (near ends.0 h.short_low) ∙ ap (λ b. (b || false) || more) (near ends.1 h.short_high) ∙ e
 
 columns_near : (cs : List ColumnDef) → AllByRecursion IsColumnDef cs → any_far cs ≡ false
 columns_near [] h = refl
@@ -83,9 +81,6 @@ domain_forward (Some ends) h = in_order ends.0 ends.1 h.some
 columns_forward : (cs : List ColumnDef) → AllByRecursion IsColumnDef cs → any_reversed cs ≡ false
 columns_forward [] h = refl
 columns_forward (c ∷ cs) h = ap (λ b. b || any_reversed cs) (domain_forward c.domain h.0.ends) ∙ columns_forward cs h.1
-
-few : (n : ℕ) → n ≤ 8 → nat_lt 8 n ≡ false
-few n h = grind (arith, nat_tests)
 
 abbrev told : Shape → Statement
 told s = CreateStream s.name (record { items = s.columns })
@@ -100,7 +95,7 @@ stream_within s is =
     let n : Bool = any_reversed s.columns in
     ap (λ b. cond b (Some limits.Name) (cond (nat_lt 8 (length s.columns)) (Some limits.Columns) (cond (list_any is_far (integers_of (told s))) (Some limits.Value) (cond n (Some limits.Domain) None))))
     (names_short (statement_tokens (told s)) (tokens_sound s is))
-    ∙ ap (λ b. cond b (Some limits.Columns) (cond (list_any is_far (integers_of (told s))) (Some limits.Value) (cond n (Some limits.Domain) None))) (few (length s.columns) is.few)
+    ∙ ap (λ b. cond b (Some limits.Columns) (cond (list_any is_far (integers_of (told s))) (Some limits.Value) (cond n (Some limits.Domain) None))) (few 8 (length s.columns) is.few)
     ∙ ap (λ b. cond b (Some limits.Value) (cond n (Some limits.Domain) None)) (far_stream s.name s.columns ∙ columns_near s.columns columns)
     ∙ ap (λ b. cond b (Some limits.Domain) None) (columns_forward s.columns columns)
 
@@ -116,15 +111,11 @@ no_later : (p : List ℕ → Bool) (done : List Shape) (s : Shape) (rest : List 
 no_later p [] s rest h = (or-false (p s.name) (list_any p (names_in rest)) h).0
 no_later p (d ∷ done) s rest h = no_later p done s rest (or-false (p d.name) (list_any p (names_in (done ++ s ∷ rest))) h).1
 
-is_false : (b : Bool) → not b ≡ true → b ≡ false
-is_false true h = absurd cc
-is_false false h = refl
-
 not_there : (done : List Shape) (s : Shape) (rest : List Shape) → all_differ (names_in (done ++ s ∷ rest)) ≡ true → list_any (λ (d : Shape). bytes_eq d.name s.name) done ≡ false
 not_there [] s rest h = refl
 not_there (d ∷ done) s rest h =
     let others : Bool = list_any (bytes_eq d.name) (names_in (done ++ s ∷ rest)) in
-    let own : bytes_eq d.name s.name ≡ false = no_later (bytes_eq d.name) done s rest (is_false others (and-left (not others) (all_differ (names_in (done ++ s ∷ rest))) h)) in
+    let own : bytes_eq d.name s.name ≡ false = no_later (bytes_eq d.name) done s rest (not-true others (and-left (not others) (all_differ (names_in (done ++ s ∷ rest))) h)) in
     ap (λ b. b || list_any (λ (x : Shape). bytes_eq x.name s.name) done) own ∙ not_there done s rest (and-right (not others) (all_differ (names_in (done ++ s ∷ rest))) h)
 
 below : (n : ℕ) → n < 16 → nat_lt n 16 ≡ true

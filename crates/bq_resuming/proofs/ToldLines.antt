@@ -1,7 +1,6 @@
 -- The lines that tell what is kept are statements within the limits.
 use Rattle.std.proofs.Common.{◌≡◌, ℕ, ◌≤◌, false, cond, not, ◌||◌, nat_lt, ℤ, List, [], ◌∷◌, map, flat_map, length, Some, None, refl, ap, ◌∙◌, arith, IsTrue}
 use Rattle.std.specs.List.{list_any, AllByRecursion}
-use Rattle.std.proofs.lemmas.Bool.Decides.{nat_tests}
 use Rattle.bq_text.specs.Value.{fits_i64}
 use Rattle.bq_text.specs.declared.key.Key.TheVariants.{AsKey, SelectKey, FromKey, ResumeKey}
 use Rattle.bq_schema.specs.Streams.{IsName}
@@ -14,6 +13,7 @@ use Rattle.bq_parser.specs.Syntax.{IsStatement}
 use Rattle.bq_print.specs.Printed.{printed_form, joins}
 use Rattle.bq_print.proofs.Spaced.{IsSound}
 use Rattle.bq_print.proofs.ReadBack.{printed_statement}
+use Rattle.bq_session.proofs.ResumeTexts.{numbers_sound, none_wide, few}
 use Rattle.bq_resuming.proofs.PrintedLines.{IsStatementText, line_text}
 use Rattle.bq_resuming.proofs.Leading.{names_short}
 
@@ -51,17 +51,6 @@ cell_told name i v own place fits =
           ∙ ap (λ b. cond (not b || false) (Some limits.Value) None) fits;
     }
 
-numbers_sound : (zs : List ℤ) → AllByRecursion (λ z. IsTrue (fits_i64 z)) zs → AllByRecursion IsSound (map number zs)
-numbers_sound [] h = tt
-numbers_sound (z ∷ zs) h = (h.0, numbers_sound zs h.1)
-
-none_wide : (zs : List ℤ) → AllByRecursion (λ z. IsTrue (fits_i64 z)) zs → list_any is_wide (flat_map number_in (map number zs)) ≡ false
-none_wide [] h = refl
-none_wide (z ∷ zs) h = ap (λ b. not b || list_any is_wide (flat_map number_in (map number zs))) h.0 ∙ none_wide zs h.1
-
-few : (n : ℕ) → n ≤ 8 → nat_lt 8 n ≡ false
-few n h = grind (arith, nat_tests)
-
 abbrev pub tuple_line : List ℕ → List ℤ → Statement
 tuple_line name zs = ResumeTuple name (record { items = zs })
 
@@ -75,5 +64,5 @@ tuple_told name z zs own most fits =
       within = ap (λ b. cond b (Some limits.Name) (cond (list_any is_wide (flat_map number_in (map number (z ∷ zs)))) (Some limits.Value) (cond (nat_lt 8 (length (z ∷ zs))) (Some limits.Tuple) None)))
           (names_short (statement_tokens x) sound)
           ∙ ap (λ b. cond b (Some limits.Value) (cond (nat_lt 8 (length (z ∷ zs))) (Some limits.Tuple) None)) (none_wide (z ∷ zs) fits)
-          ∙ ap (λ b. cond b (Some limits.Tuple) None) (few (length (z ∷ zs)) most);
+          ∙ ap (λ b. cond b (Some limits.Tuple) None) (few 8 (length (z ∷ zs)) most);
     }

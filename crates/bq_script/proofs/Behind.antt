@@ -1,5 +1,5 @@
 -- What stands behind the query.
-use Rattle.std.proofs.Common.{ℕ, Bool, List, ◌++◌, refl, ap, ◌∙◌, append_assoc, ◌∷◌}
+use Rattle.std.proofs.Common.{◌≡◌, ℕ, Bool, List, [], ◌∷◌, ◌++◌, length, refl, ap, ◌∙◌, append_assoc, length-append, arith}
 use Rattle.bq_io.specs.Source.{SourceState}
 use Rattle.bq_feed.specs.Reading.{Reading}
 use Rattle.bq_model.specs.Query.{QueryValue}
@@ -34,12 +34,35 @@ behind answers.ReadFault source now given reader t = t
 behind answers.ByteLimit source now given reader t = t
 
 -- lines that ask for a query still do where more lines stand behind them
-pub asks-more : (lines more : List (List ℕ)) (streams : List Shape) (name : List ℕ) (select : SelectAst) (shared : Bool) (q : QueryValue) (number : ℕ) → Asks lines streams name select shared q number → Asks (lines ++ more) streams name select shared q number
+abbrev pub asks-more : (lines more : List (List ℕ)) (streams : List Shape) (name : List ℕ) (select : SelectAst) (shared : Bool) (q : QueryValue) (number : ℕ) → Asks lines streams name select shared q number → Asks (lines ++ more) streams name select shared q number
 asks-more lines more streams name select shared q number a = record {
   before = a.before;
   line = a.line;
   behind = a.behind ++ more;
   whole = ap (λ l. l ++ more) a.whole ∙ append_assoc a.before (a.line ∷ a.behind) more;
+  create = a.create;
+  is = a.is;
+  number_is = a.number_is;
+}
+
+no-more : (xs : List (List ℕ)) → length xs ≡ 0 → xs ≡ []
+no-more [] e = refl
+no-more (x ∷ xs) e = absurd (omega arith)
+
+-- the line of the query is the last of those that were given up to it
+pub none-behind : (given : List (List ℕ)) (streams : List Shape) (name : List ℕ) (select : SelectAst) (shared : Bool) (q : QueryValue) (number : ℕ)
+    → (a : Asks given streams name select shared q number) → number ≡ length given → a.behind ≡ []
+none-behind given streams name select shared q number a last =
+    no-more a.behind (omega (arith, last, a.number_is, ap length a.whole, length-append a.before (a.line ∷ a.behind)))
+
+-- lines that ask for a query, and more lines behind them
+abbrev pub asks-then : (given more all : List (List ℕ)) (streams : List Shape) (name : List ℕ) (select : SelectAst) (shared : Bool) (q : QueryValue) (number : ℕ)
+    → (a : Asks given streams name select shared q number) → a.behind ≡ [] → all ≡ given ++ more → Asks all streams name select shared q number
+asks-then given more all streams name select shared q number a none e = record {
+  before = a.before;
+  line = a.line;
+  behind = more;
+  whole = e ∙ ap (λ l. l ++ more) (a.whole ∙ ap (λ l. a.before ++ a.line ∷ l) none) ∙ append_assoc a.before (a.line ∷ []) more;
   create = a.create;
   is = a.is;
   number_is = a.number_is;

@@ -1,11 +1,14 @@
--- Lines are refused once before the query, or the same lines stand behind it.
-use Rattle.std.proofs.Common.{◌≡◌, ℕ, Bool, List, [], ◌∷◌, ◌++◌, length, None, sym, ap, ap₂, ◌∙◌, length-append, arith}
+-- Lines are refused once before the query, or the same lines stand behind it; blank lines have no line among them that is refused.
+use Rattle.std.proofs.Common.{◌≡◌, ℕ, Bool, List, [], ◌∷◌, ◌++◌, length, None, sym, ap, ap₂, ◌∙◌, subst, length-append, arith}
+use Rattle.std.specs.List.{All, AllByRecursion}
+use Rattle.std.proofs.lemmas.List.Elements.{recursion_from_All}
 use Rattle.bq_io.specs.declared.status.Status.TheVariants as status
 use Rattle.bq_model.specs.Query.{QueryValue}
 use Rattle.bq_schema.specs.Streams.{Shape}
 use Rattle.bq_parser.specs.declared.tree.SelectAst.{SelectAst}
 use Rattle.bq_reply.specs.declared.refusal.Refusal.{Refusal}
-use Rattle.bq_script.specs.Script.{Asks, IsRefusedAt, at_line, at_end}
+use Rattle.bq_script.specs.Script as scripts
+use Rattle.bq_script.specs.Script.{Asks, IsBlank, IsMisplaced, IsRefusedAt, at_line, at_end}
 use Rattle.bq_script.proofs.OneEnd.{one_end}
 use Rattle.bq_script.specs.Commands.{Outcome, error_text, refusal, early_refusal}
 
@@ -44,3 +47,16 @@ pub early-same : (all : List (List ℕ)) (m n : ℕ) (v w : Refusal) (a : IsRefu
 early-same all m n v w a b =
     let same : (m ≡ n) × (v ≡ w) = (one_end all).1 m n v w a b in
     refusal-same all m n v w a b same.0 same.1
+
+-- a line that has no place is not blank
+pub misplaced-loud : (line : List ℕ) (w : Refusal) → IsMisplaced line w → IsBlank line → ⊥
+misplaced-loud line w (scripts.IsMisplaced.too_long m p) b = omega (arith, m, b.short)
+misplaced-loud line w (scripts.loud short n p) b = n b
+
+-- none of blank lines is misplaced
+blank-placed : (xs : List (List ℕ)) (x : List ℕ) (rest : List (List ℕ)) (w : Refusal) → AllByRecursion IsBlank (xs ++ x ∷ rest) → IsMisplaced x w → ⊥
+blank-placed [] x rest w all i = misplaced-loud x w i all.0
+blank-placed (z ∷ xs) x rest w all i = blank-placed xs x rest w all.1 i
+
+pub all-placed : (texts xs : List (List ℕ)) (x : List ℕ) (rest : List (List ℕ)) (w : Refusal) → texts ≡ xs ++ x ∷ rest → All IsBlank texts → IsMisplaced x w → ⊥
+all-placed texts xs x rest w e all i = blank-placed xs x rest w (subst (AllByRecursion IsBlank) e (recursion_from_All IsBlank texts all)) i

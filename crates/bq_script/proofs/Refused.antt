@@ -35,7 +35,7 @@ creates (statements.CreateQuery name select shared) = true
 creates _ = false
 
 kind_says : (k : TokenKind) (w : List ℕ) → is_create k ≡ says_create (lexeme_as k w)
-kind_says kinds.Refusal w = refl
+kind_says kinds.Word w = refl
 kind_says (kinds.Reserved k) w = refl
 kind_says kinds.Integer w = refl
 kind_says kinds.Comma w = refl

@@ -53,7 +53,7 @@ name_by false word name e h = cc
 pub name_of : (word name : List ℕ) → (if is_name word then Some word else None) ≡ Some name → IsNameOf word name
 name_of word name h = name_by (is_name word) word name refl h
 
-not_long : (w : List ℕ) → length w ≤ 24 → is_long w ≡ false
+pub not_long : (w : List ℕ) → length w ≤ 24 → is_long w ≡ false
 not_long w h = grind (arith, nat_tests)
 
 name_not_long : (name : List ℕ) → IsTrue (is_name name) → (is_long name || false) ≡ false
@@ -84,12 +84,12 @@ cell_line text word fields name index content e named f place fits =
     resumed text word fields (content_text index content) e f ∙ ap (λ w. cell_text w index content) (sym n.same) ∙ cell_printed name index content in
     subst (λ bs. IsResumeText bs (lines.Cell name index content)) (sym printed) (cell_is name index content own place fits)
 
--- a tuple
-numbers_sound : (zs : List ℤ) → AllFit zs → AllByRecursion IsSound (map number zs)
+-- integers of 64 bits are sound tokens, and none is wide
+pub numbers_sound : (zs : List ℤ) → AllFit zs → AllByRecursion IsSound (map number zs)
 numbers_sound [] h = tt
 numbers_sound (z ∷ zs) h = (h.0, numbers_sound zs h.1)
 
-none_wide : (zs : List ℤ) → AllFit zs → list_any is_wide (flat_map number_in (map number zs)) ≡ false
+pub none_wide : (zs : List ℤ) → AllFit zs → list_any is_wide (flat_map number_in (map number zs)) ≡ false
 none_wide [] h = refl
 none_wide (z ∷ zs) h = ap (λ b. not b || list_any is_wide (flat_map number_in (map number zs))) h.0 ∙ none_wide zs h.1
 
@@ -101,8 +101,8 @@ no_names (z ∷ zs) = no_names zs
 one_name : (name : List ℕ) (zs : List ℤ) → IsTrue (is_name name) → (is_long name || list_any is_long (flat_map word_in (map number zs))) ≡ false
 one_name name zs own = ap (λ b. is_long name || b) (no_names zs) ∙ name_not_long name own
 
-few : (n : ℕ) → n ≤ 8 → nat_lt 8 n ≡ false
-few n h = grind (arith, nat_tests)
+pub few : (most n : ℕ) → n ≤ most → nat_lt most n ≡ false
+few most n h = grind (arith, nat_tests)
 
 tuple_is : (name : List ℕ) (zs : List ℤ) → IsTrue (is_name name) → AllFit zs → 0 < length zs → length zs ≤ 8
     → IsResumeText (printed_form (statements.ResumeTuple name (record { items = zs }))) (lines.Tuple name (record { items = zs }))
@@ -114,7 +114,7 @@ tuple_is name zs own fit some most =
       within = ap (λ b. cond b (Some limits.Name) (cond (list_any is_wide (flat_map number_in (map number zs))) (Some limits.Value) (cond (nat_lt 8 (length zs)) (Some limits.Tuple) None)))
           (one_name name zs own)
           ∙ ap (λ b. cond b (Some limits.Value) (cond (nat_lt 8 (length zs)) (Some limits.Tuple) None)) (none_wide zs fit)
-          ∙ ap (λ b. cond b (Some limits.Tuple) None) (few (length zs) most);
+          ∙ ap (λ b. cond b (Some limits.Tuple) None) (few 8 (length zs) most);
     }
 
 pub tuple_line : (text word fields name : List ℕ) (zs : List ℤ) → text ≡ codes "RESUME " ++ (word ++ fields) → (if is_name word then Some word else None) ≡ Some name

@@ -1,21 +1,18 @@
 //! A live query with shared cells: a clause sees the executor that it is.
-ghost use Rattle.std.specs.Prelude.{◌≡◌, ◌+◌, ◌*◌, ◌<◌, ◌≤◌, ◌^◌, ◌==◌, ℤ, List, [], min, nat_eq, true, false, IsTrue, MatchResult, IfOk, length, replicate, slice_index_or, if◌then◌else◌};
-ghost use Rattle.std.specs.List.{list_any};
+ghost use Rattle.std.specs.Prelude.{◌≡◌, ◌+◌, ◌*◌, ◌<◌, ◌≤◌, ◌^◌, List, [], min, nat_eq, true, MatchResult, IfOk, length, replicate, slice_index_or, if◌then◌else◌};
 ghost use Rattle.bq_model.specs.declared.cell.Cell.TheVariants as cell;
-ghost use Rattle.bq_model.specs.Query.{is_filter};
 ghost use Rattle.bq_model.specs.Meaning.{Arrival};
 ghost use Rattle.bq_model.specs.Domains.{RowKeeps};
-ghost use Rattle.bq_model.specs.Merge.{merged_table};
-ghost use Rattle.bq_model.specs.Numbers.{page_count, pages_of, parts_of, work};
+ghost use Rattle.bq_model.specs.Numbers.{page_count, pages_of, parts_of};
 ghost use Rattle.bq_model.specs.Sharing.{boxes, shared_cells};
 ghost use Rattle.bq_model.specs.Bases.{Base, first_base};
-ghost use Rattle.bq_laws.specs.Growth.{occurs};
 ghost use Rattle.bq_io.specs.Sink.{Writes};
 ghost use Rattle.bq_pool.specs.Extents.{PoolValue, cells_of, with_cells, IsLive, IsGivenBack};
-ghost use Rattle.bq_answers.specs.Entries.{waiting_of, settled};
+ghost use Rattle.bq_answers.specs.Entries.{settled};
 ghost use Rattle.bq_executor.specs.declared.saturation.Saturation.TheVariants as saturation;
 ghost use Rattle.bq_executor.specs.Executor.{IsAccepted, IsSound, arrival, most_answers, parts_in, tuples_in, waiting_in, with_given, with_saturation};
-ghost use Rattle.bq_executor.specs.Standing.{AreKept, KeepsWithin, IsReady, future_in, pool_with};
+ghost use Rattle.bq_executor.specs.Standing.{AreKept, KeepsWithin, IsReady};
+ghost use Rattle.bq_executor.specs.Row.{KeepsToWork, TakesRow};
 ghost use Rattle.bq_executor.specs.Loading.{loaded_given, loaded_cell, loaded_tuple};
 ghost use Rattle.bq_executor.specs.Written.{answer_lines};
 ghost use Rattle.bq_share.specs.Shared.{StandsForShared, TookSharedRow, StandsFromShared, TookSharedFrom, LoadsShared};
@@ -73,16 +70,8 @@ impl SharedExecutor {
     pub fn row<L: Ledger>(&mut self, pool: &mut Pool, stream: u8, row: &Row, steps: &mut Steps<L>)
         requires ready { IsReady self.old pool.old }
         requires keeps { RowKeeps self.old.query (arrival stream row.now.items) }
-        ensures waits { (t : List ℤ) → waiting_of t self.new.table.entries ≡ min (occurs t (future_in self.old pool.old (arrival stream row.now.items))) (2 ^ 127) }
-        ensures cells { pool.new ≡ pool_with self.old pool.old (arrival stream row.now.items) }
-        ensures tuples { self.old.query.distinct ≡ true → tuples_in self.new ≡ merged_table (tuples_in self.old) (future_in self.old pool.old (arrival stream row.now.items)) }
-        ensures same { self.new ≡ with_given self.old (self.old.given + 1) self.new.table.entries }
-        ensures kept { AreKept self.new pool.new }
-        ensures within { KeepsWithin self.old pool.old → KeepsWithin self.new pool.new }
-        ensures reads { steps.new.reads ≤ steps.old.reads + 3 * work (parts_in self.old) + length (parts_in self.old) }
-        ensures writes { steps.new.writes ≤ steps.old.writes + length (parts_in self.old) }
-        ensures alone { IsTrue (is_filter self.old.query) → steps.new ≡ steps.old }
-        ensures outside { list_any (λ s. stream == s) self.old.query.from ≡ false → steps.new ≡ steps.old }
+        ensures took { TakesRow self.old pool.old (arrival stream row.now.items) self.new pool.new }
+        ensures steps { KeepsToWork self.old (arrival stream row.now.items) steps.old steps.new }
         ensures history { TookSharedRow self.old pool.old (arrival stream row.now.items) self.new pool.new }
         ensures bases { TookSharedFrom self.old pool.old (arrival stream row.now.items) self.new pool.new }
     {

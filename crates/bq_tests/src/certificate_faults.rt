@@ -57,7 +57,7 @@ fn each_read_fails_in_turn(rt: HostRuntime) -> Result<(), Fail> {
     Ok(())
 }
 
-// StridedCells 2 ends in read 7, and is refused: no later read is made.
+// Line 2 ends in read 7, and is refused: no later read is made.
 #[test]
 fn a_refused_line_comes_before_a_later_read(rt: HostRuntime) -> Result<(), Fail> {
     let text =
@@ -77,7 +77,7 @@ fn a_refused_line_comes_before_a_later_read(rt: HostRuntime) -> Result<(), Fail>
     Ok(())
 }
 
-// StridedCells 3 is refused: no read behind its end is made.
+// Line 3 is refused: no read behind its end is made.
 #[test]
 fn a_refused_node_comes_before_a_later_read(rt: HostRuntime) -> Result<(), Fail> {
     let text = changed_example(rt.alloc(), 3, b"split 65536")?;

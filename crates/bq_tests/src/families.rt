@@ -20,7 +20,7 @@ enum Case {
 
 /// A row of a family, or one that asks for it.
 #[derive(Drop)]
-struct StridedCells {
+struct FamilyRow {
     asks: bool,
     number: u64,
     stream: u8,
@@ -176,12 +176,12 @@ fn row_of(fields: &str) -> Row {
 }
 
 // What a line of the text says, as `m 1 S,11,0`; nothing for the first line and the last one.
-fn line_of(text: &str) -> Option<StridedCells> {
+fn line_of(text: &str) -> Option<FamilyRow> {
     let (word, rest) = text.split_once(' ')?;
     let (number, row) = rest.split_once(' ')?;
     let (name, fields) = row.split_once(',')?;
     let number = number.parse::<u64>().ok()?;
-    Some(StridedCells {
+    Some(FamilyRow {
         asks: word == "g",
         number,
         stream: if name == "S" { 0 } else { 1 },
@@ -189,7 +189,7 @@ fn line_of(text: &str) -> Option<StridedCells> {
     })
 }
 
-fn lines_of(alloc: Global, text: &str) -> Result<Vec<StridedCells>, AllocError> {
+fn lines_of(alloc: Global, text: &str) -> Result<Vec<FamilyRow>, AllocError> {
     let mut lines = Vec::new(alloc);
     for line in text.split('\n') {
         if let Some(line) = line_of(line) {
@@ -212,7 +212,7 @@ fn is_in(set: u64, number: u64) -> bool {
 fn says(
     alloc: Global,
     case: Case,
-    lines: &[StridedCells],
+    lines: &[FamilyRow],
     set: u64,
     number: u64,
 ) -> Result<bool, AllocError> {
@@ -244,7 +244,7 @@ fn says(
 }
 
 // How many of the eight sets are told by a family of three rows, at all three numbers.
-fn told_sets(alloc: Global, case: Case, lines: &[StridedCells]) -> Result<u64, AllocError> {
+fn told_sets(alloc: Global, case: Case, lines: &[FamilyRow]) -> Result<u64, AllocError> {
     let mut told = 0u64;
     for set in 0..8 {
         let first = says(alloc, case, lines, set, 1)? == is_in(set, 1);

@@ -4,7 +4,7 @@ ghost use Rattle.std.specs.Prelude.{◌<◌};
 use bq_io::{MemSink, MemSource, Status};
 use std::alloc::{AllocError, Global};
 
-/// A script with a reply of each kind of this stage. StridedCells 9 has no LF.
+/// A script with a reply of each kind. Line 9 has no LF.
 pub const SCRIPT: &[u8] =
     b"CREATE STREAM S (a, b)\nCREATE QUERY q AS SELECT S.a FROM S WHERE S.a > 10\nS,10,0\nS,11,0\nS,11\nX,1\nDROP QUERY p\nS,1,x\nS,12,-5";
 

@@ -1,28 +1,25 @@
-use Rattle.std.proofs.Common.{◌≡◌, ◌∙◌, ℕ, ◌+◌, ◌<◌, inl, inr, pos, List, Some, slice_get, slice_index_or, sym, ap, subst, arith, ℤ}
+use Rattle.std.proofs.Common.{◌≡◌, ◌∙◌, ◌+◌, ℕ, drop, sym, subst, arith, bit_and}
+use Rattle.std.specs.Int.{bit_at}
 use Rattle.std.proofs.lemmas.Grind.{common_steps}
-use Rattle.std.proofs.lemmas.Bool.{cases_eq}
-use Rattle.std.proofs.lemmas.Option.{slice_get_within, get_or_from_slice_get}
-use Rattle.bq_candidates.specs.declared.column.Column.{Column}
-use Rattle.bq_candidates.specs.Buckets.{IsMachine}
+use Rattle.bq_candidates.specs.Buckets.{narrowed}
+use Rattle.bq_candidates.proofs.Marked.{held_more, none_left}
 use Rattle.bq_candidates.proofs.candidates.narrowed.Goals as goal
-
-machine-more : (row : List ℤ) (columns : List Column) (n : ℕ) (d : Column)
-    → ((i : ℕ) (c : Column) → i < n → slice_get columns i ≡ Some c → IsMachine (slice_index_or row c.column (pos 0)))
-    → IsMachine (slice_index_or row (slice_index_or columns n d).column (pos 0))
-    → (i : ℕ) (c : Column) → i < n + 1 → slice_get columns i ≡ Some c → IsMachine (slice_index_or row c.column (pos 0))
-machine-more row columns n d before own i c a e = elim (cases_eq i n) [
-  | inl same ↦ subst (λ (x : Column). IsMachine (slice_index_or row x.column (pos 0))) (ap (λ k. slice_index_or columns k d) (sym same) ∙ get_or_from_slice_get columns i c d e) own
-  | inr ne ↦ before i c (omega (arith, a, ne)) e
-]
 
 pub loop-column-preserved : goal.loop-column-preserved
 loop-column-preserved c = record {
   value = grind (arith, common_steps);
-  machine = machine-more c.args.row.now c.args.columns.now c.loop-column.column-index _ c.loop-column.invariant.machine c.of-left.ensures.machine;
+  held = λ k marks on. held_more c.args.row.now c.args.columns.now c.loop-column.left c.of-own.result.0 c.loop-column.column-index _ c.loop-column-test.true
+      c.of-own.ensures.value c.of-own.ensures.machine k marks (c.loop-column.invariant.held k marks on);
 }
 
-pub returns-clause-machine : goal.returns-clause-machine
-returns-clause-machine c i column e =
-    let within = slice_get_within c.args.columns.now i column e in
-    let end = c.loop-column-test.false in
-    c.loop-column.invariant.machine i column (omega (arith, within, end)) e
+pub returns-then-left-eq0-clause-value : goal.returns-then-left-eq0-clause-value
+returns-then-left-eq0-clause-value c =
+    let more : narrowed (bit_and c.loop-column.left c.of-own.result.0) c.args.row.now (drop (c.loop-column.column-index + 1) c.args.columns.now) ≡ narrowed c.args.word c.args.row.now c.args.columns.now
+    = grind (arith, common_steps) in
+    sym (none_left (drop (c.loop-column.column-index + 1) c.args.columns.now) c.args.row.now (bit_and c.loop-column.left c.of-own.result.0) c.if-left-eq0.true) ∙ more
+
+pub returns-then-left-eq0-clause-held : goal.returns-then-left-eq0-clause-held
+returns-then-left-eq0-clause-held c = λ k marks on.
+    subst (λ (w : ℕ). bit_at w k ≡ 1) c.if-left-eq0.true
+    (held_more c.args.row.now c.args.columns.now c.loop-column.left c.of-own.result.0 c.loop-column.column-index _ c.loop-column-test.true
+    c.of-own.ensures.value c.of-own.ensures.machine k marks (c.loop-column.invariant.held k marks on))

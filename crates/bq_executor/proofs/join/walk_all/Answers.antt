@@ -1,4 +1,4 @@
-use Rattle.std.proofs.Common.{◌≡◌, ◌∙◌, arith, List, ◌∷◌}
+use Rattle.std.proofs.Common.{◌≡◌, ◌∙◌, ap, arith, length, List, ◌∷◌}
 use Rattle.bq_answers.specs.Entries.{TableValue, with_entries}
 use Rattle.bq_model.specs.Combinations.{read_from, Found}
 use Rattle.bq_model.specs.Meaning.{by_column}
@@ -7,6 +7,7 @@ use Rattle.bq_pool.specs.Extents.{cells_of}
 use Rattle.bq_probe.specs.Remaining.{as_found, left_of}
 use Rattle.bq_executor.specs.Taking.{with_found, with_all}
 use Rattle.bq_executor.proofs.Taking.{taken_room, taken_table, taken_none, found_same}
+use Rattle.bq_executor.proofs.PassedRepeats.{passed_room, passed_table, passed_less}
 use Rattle.bq_executor.proofs.InPart.{none_added}
 use Rattle.bq_executor.proofs.join.walk_all.Goals as goal
 
@@ -20,13 +21,29 @@ walk-preserved g c =
     let is : c.record_found.new.table ≡ with_entries c.walk.table (with_found d f c.walk.table.entries)
     = found_same c.distinct.result d f c.walk.table c.record_found.new.table c.distinct.ensures c.record_found.ensures in
     let whole : TableValue = with_entries c.args.table.now (with_all d (found_beside c.args.part.now.q.now c.args.part.now.plan.now (read_from (cells_of c.args.pool.now c.args.part.now.extent.now)) c.args.at.now.pos (by_column c.args.at.now.row.now.items)) c.args.table.now.entries) in
+    let rest : List Found = left_of c.args.part.now.q.now.select c.args.part.now.plan.now (read_from (cells_of c.args.pool.now c.args.part.now.extent.now)) c.pass_repeats.new.self in
+    let passed = c.pass_repeats.ensures.left (read_from (cells_of c.args.pool.now c.args.part.now.extent.now)) in
     record {
-      underway = c.next.ensures.underway;
-      room = taken_room d f left others c.walk.table c.record_found.new.table e is c.walk.invariant.room;
-      table = taken_table d f left others c.walk.table c.record_found.new.table whole e is c.walk.invariant.table;
+      underway = c.pass_repeats.ensures.underway;
+      room = passed_room d f c.walk.table c.record_found.new.table others rest is passed (taken_room d f left others c.walk.table c.record_found.new.table e is c.walk.invariant.room);
+      table = passed_table d f c.walk.table c.record_found.new.table others rest is passed whole (taken_table d f left others c.walk.table c.record_found.new.table whole e is c.walk.invariant.table);
       reads = omega arith;
       writes = c.next.ensures.writes ∙ c.walk.invariant.writes;
     }
+
+pub walk-smaller : goal.walk-smaller
+walk-smaller g c =
+    let d = c.args.part.now.q.now.distinct in
+    let f : Found = as_found c.next.new.tuple.items c.in-Some.count in
+    let read = read_from (cells_of c.args.pool.now c.args.part.now.extent.now) in
+    let left : List Found = left_of c.args.part.now.q.now.select c.args.part.now.plan.now read c.walk.probe in
+    let others : List Found = left_of c.args.part.now.q.now.select c.args.part.now.plan.now read c.next.new.self in
+    let rest : List Found = left_of c.args.part.now.q.now.select c.args.part.now.plan.now read c.pass_repeats.new.self in
+    let e : left ≡ f ∷ others = c.in-Some.ensures.left in
+    let is : c.record_found.new.table ≡ with_entries c.walk.table (with_found d f c.walk.table.entries)
+    = found_same c.distinct.result d f c.walk.table c.record_found.new.table c.distinct.ensures c.record_found.ensures in
+    let less = passed_less d f c.walk.table c.record_found.new.table others rest is (c.pass_repeats.ensures.left read) in
+    omega (arith, ap length e, less)
 
 pub returns-clause-table : goal.returns-clause-table
 returns-clause-table g c =

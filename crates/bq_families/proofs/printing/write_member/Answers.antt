@@ -1,7 +1,7 @@
 use Rattle.std.specs.List.{flat_map}
 use Rattle.bq_io.proofs.Writing.{BrokeOff-stop}
 use Rattle.bq_families.specs.Text.{own_text, asked_text}
-use Rattle.bq_families.proofs.Texts.{writes_behind}
+use Rattle.bq_print.proofs.WritesBehind.{writes_behind}
 use Rattle.bq_families.proofs.printing.write_member.Goals as goal
 
 pub returns-in-Ok : goal.returns-in-Ok

@@ -1,16 +1,12 @@
-use Rattle.std.proofs.Common.{◌≡◌, ◌∙◌, ℕ, ℤ, List, [], sym, ap, subst, arith, to_z, of_z, w64, rules, length, All, slice_set}
-use Rattle.std.proofs.lemmas.Int.{to_z-of_z}
+use Rattle.std.proofs.Common.{◌∙◌, ℕ, [], sym, ap, subst, arith, length, All, slice_set}
 use Rattle.std.proofs.lemmas.List.{length-set}
 use Rattle.bq_model.specs.Numbers.{parts_of}
-use Rattle.bq_pool.specs.Extents.{IsLive}
 use Rattle.bq_executor.specs.Executor.{ExecutorValue}
-use Rattle.bq_executor.specs.Loading.{loaded_given, loaded_cell, loaded_tuple}
-use Rattle.bq_registry.specs.declared.queries.Runner.{Runner}
-use Rattle.bq_registry.specs.Live.{Live, named, boxes_for}
+use Rattle.bq_executor.specs.Loading.{loaded_tuple}
+use Rattle.bq_registry.specs.Live.{Live, named}
 use Rattle.bq_registry.specs.Counted.{IsCounted, run_to}
-use Rattle.bq_registry.specs.Loaded.{LoadedOne}
 use Rattle.bq_registry.proofs.Shown.{size_run, level_size, level_live, counted_at, all_set}
-use Rattle.bq_registry.proofs.Loads.{loaded_run, loaded_run_here, run_there, cells_of_all}
+use Rattle.bq_registry.proofs.Loads.{loaded_run, run_there}
 use Rattle.bq_registry.proofs.loading.load_tuple.Goals as goal
 
 pub index_mut-requires : goal.index_mut-requires

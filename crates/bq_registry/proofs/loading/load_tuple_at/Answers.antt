@@ -1,7 +1,7 @@
 use Rattle.std.proofs.Common.{◌≡◌, ℕ, ◌+◌, sym, ap, subst, arith}
 use Rattle.bq_model.specs.Numbers.{parts_of}
 use Rattle.bq_executor.specs.Executor.{ExecutorValue, with_given}
-use Rattle.bq_executor.specs.Loading.{loaded_given, loaded_tuple}
+use Rattle.bq_executor.specs.Loading.{loaded_tuple}
 use Rattle.bq_registry.specs.Counted.{run_to}
 use Rattle.bq_registry.specs.Loaded.{LoadedAlone}
 use Rattle.bq_registry.proofs.loading.load_tuple_at.Goals as goal

@@ -6,15 +6,15 @@ use Rattle.bq_registry.specs.Admitted.{IsLast, AreBeside}
 use Rattle.bq_registry.proofs.Admitting.{added, returned, beside_taken}
 use Rattle.bq_registry.proofs.register.admit.Goals as goal
 
-pub returns-in-Ok-settle_in : goal.returns-in-Ok-settle_in
-returns-in-Ok-settle_in c =
+pub returns-in-Ok-install : goal.returns-in-Ok-install
+returns-in-Ok-install c =
     let before : List Live = c.args.live.now in
-    let after : List Live = c.settle_in.new.live in
+    let after : List Live = c.install.new.live in
     let t = c.in-Ok.ensures in
-    let s = c.in-Ok-settle_in.ensures in
+    let s = c.in-Ok-install.ensures in
     let last = s.1 in
     let sound = added c.args.pool.now c.take.new.self c.pages_of.result c.in-Ok.extent before last.live c.requires.sound c.requires.room t last.new.pages last.new.sound last.new.within last.new.kept in
-    let same : c.settle_in.new.pool ≡ c.take.new.self = s.0 in (
+    let same : c.install.new.pool ≡ c.take.new.self = s.0 in (
       c.verdict_of-verdict.ensures,
       omega (arith, c.pages_of.ensures.value, t.free),
       subst (λ (p : PoolValue). IsSound p after) (sym same) (subst (λ (x : List Live). IsSound c.take.new.self x) (sym last.last) sound),
@@ -27,5 +27,5 @@ returns-in-Err c =
     let before : List Live = c.args.live.now in
     let t = c.in-Ok.ensures in
     let s = c.in-Err.ensures in
-    let back = returned c.args.pool.now c.take.new.self c.settle_in.new.pool c.pages_of.result c.in-Ok.extent before c.requires.sound t s.1 in
-    (subst (λ (x : List Live). IsSound c.settle_in.new.pool x) (sym s.0) back.0, back.1, back.2, s.0)
+    let back = returned c.args.pool.now c.take.new.self c.install.new.pool c.pages_of.result c.in-Ok.extent before c.requires.sound t s.1 in
+    (subst (λ (x : List Live). IsSound c.install.new.pool x) (sym s.0) back.0, back.1, back.2, s.0)

@@ -1,13 +1,11 @@
-use Rattle.std.proofs.Common.{◌≡◌, ◌≢◌, ℕ, suc, ◌+◌, ◌-◌, ◌%◌, ◌<◌, ◌≤◌, ◌^◌, ◌∙◌, Bool, true, false, inl, inr, List, [], ap, sym, refl, subst, arith, rules, length, take, slice_index_or, slice_set, All}
+use Rattle.std.proofs.Common.{◌≡◌, ℕ, suc, ◌+◌, ◌-◌, ◌%◌, ◌<◌, ◌≤◌, ◌^◌, ◌∙◌, Bool, true, false, inl, inr, List, [], ap, sym, refl, subst, arith, rules, length, take, slice_index_or, slice_set, All}
 use Rattle.std.specs.Int.{bit_at}
 use Rattle.std.proofs.lemmas.Bool.{cases_eq, cases_lt}
 use Rattle.std.proofs.lemmas.Nat.Bits.{bit_at-zero}
-use Rattle.std.proofs.lemmas.List.{apply_to_all, length-set, get_or-set_same, get_or-set_other, with_items_is}
+use Rattle.std.proofs.lemmas.List.{length-set, get_or-set_same, get_or-set_other, with_items_is}
 use Rattle.std.specs.Vec.{with_items}
 use Rattle.bq_model.specs.Meaning.{Arrival}
-use Rattle.bq_model.specs.Domains.{RowKeeps}
 use Rattle.bq_executor.specs.Executor.{ExecutorValue, arrival, waiting_in}
-use Rattle.bq_executor.specs.Standing.{IsReady}
 use Rattle.bq_registry.specs.declared.queries.Runner.{Runner}
 use Rattle.bq_registry.specs.Live.{Live, live_of, named, plan_reads, plan_writes}
 use Rattle.bq_registry.specs.Counted.{shown, run_to, IsCounted}
@@ -15,10 +13,10 @@ use Rattle.bq_registry.specs.Registry.{most_reads, most_writes}
 use Rattle.bq_registry.specs.Taken.{TookFirst, TookOne}
 use Rattle.bq_registry.specs.Waiting.{AreQuiet}
 use Rattle.bq_registry.proofs.SideBySide.{under, under_same, under_names}
-use Rattle.bq_registry.proofs.Shown.{sized, size_run, run_at}
+use Rattle.bq_registry.proofs.Shown.{sized, size_run}
 use Rattle.bq_registry.proofs.InTurn.{took_none, sum_more}
 use Rattle.bq_registry.proofs.BitsLeft.{left_all, left_next, left_between, left_more, none_after}
-use Rattle.bq_registry.proofs.Spared.{mixed, step_ready, step_keeps, step_plan, step_took, ahead_waits, all_took, all_counted, wrapped, few_rows, shown_waits, wrapped_counted, sum_front}
+use Rattle.bq_registry.proofs.Spared.{step_ready, step_keeps, step_plan, step_took, ahead_waits, all_took, all_counted, wrapped, few_rows, shown_waits, wrapped_counted, sum_front}
 use Rattle.bq_registry.proofs.taking.apply_to_all.Goals as goal
 
 pub bits-init : goal.bits-init
@@ -35,7 +33,7 @@ bits-init g c =
     = λ i r a. subst (λ (rs : List Runner). IsCounted rows (slice_index_or rs i r)) (sym value) (c.live.invariant.1 i r (omega (arith, many, a))) in
     record {
       size = many ∙ size_run rows c.live.inside.names.keys c.live.inside.runners.items before c.live.invariant.0 c.live.view_is;
-      left = left_all c.args.word;
+      left = left_all c.args.asked.word;
       few = omega arith;
       order = omega arith;
       live = subst (λ (now : List Live). TookFirst (arrival c.args.stream c.args.row.now.items) 0 c.args.pool.now c.args.pool.now before now) (sym same) (took_none _ c.args.pool.now before c.requires.sound);
@@ -55,9 +53,9 @@ take_next-waits-requires g c =
     let i = c.bits.invariant in
     let place : ℕ = c.lowest_bit-place.result in
     let few = c.lowest_bit-place.ensures.few in
-    let next = left_next c.args.word c.bits.left c.bits.next place i.left few c.lowest_bit-place.ensures.own in
+    let next = left_next c.args.asked.word c.bits.left c.bits.next place i.left few c.lowest_bit-place.ensures.own in
     let within : place < length before = c.requires.spared.only place next.1 in
-    let between = left_between c.args.word c.bits.left c.bits.next place i.left few c.lowest_bit-place.ensures.below in
+    let between = left_between c.args.asked.word c.bits.left c.bits.next place i.left few c.lowest_bit-place.ensures.below in
     let refused = λ (j : ℕ) (l : Live) (a : c.bits.next ≤ j) (b : j < place). c.requires.spared.refused j l (omega (arith, b, within)) (between j a b) in
     let quiet = λ (j : ℕ) (l : Live) (a : c.bits.next ≤ j) (b : j < place). c.requires.spared.quiet j l (omega (arith, b, within)) (between j a b) in
     let own : Runner = c.index-runners-place.result in
@@ -76,10 +74,10 @@ bits-preserved g c =
     let i = c.bits.invariant in
     let place : ℕ = c.lowest_bit-place.result in
     let few = c.lowest_bit-place.ensures.few in
-    let next = left_next c.args.word c.bits.left c.bits.next place i.left few c.lowest_bit-place.ensures.own in
+    let next = left_next c.args.asked.word c.bits.left c.bits.next place i.left few c.lowest_bit-place.ensures.own in
     let le : c.bits.next ≤ place = next.0 in
     let within : place < length before = c.requires.spared.only place next.1 in
-    let between = left_between c.args.word c.bits.left c.bits.next place i.left few c.lowest_bit-place.ensures.below in
+    let between = left_between c.args.asked.word c.bits.left c.bits.next place i.left few c.lowest_bit-place.ensures.below in
     let refused = λ (j : ℕ) (l : Live) (a : c.bits.next ≤ j) (b : j < place). c.requires.spared.refused j l (omega (arith, b, within)) (between j a b) in
     let quiet = λ (j : ℕ) (l : Live) (a : c.bits.next ≤ j) (b : j < place). c.requires.spared.quiet j l (omega (arith, b, within)) (between j a b) in
     let rs : List Runner = c.bits.runners in
@@ -105,7 +103,7 @@ bits-preserved g c =
     let own_writes = ap plan_writes plan_is in
     record {
       size = length-set rs place new ∙ i.size;
-      left = left_more c.args.word c.bits.left c.bits.next place c.without_bit-left.result i.left few c.lowest_bit-place.ensures.own c.lowest_bit-place.ensures.below c.without_bit-left.ensures.own c.without_bit-left.ensures.others;
+      left = left_more c.args.asked.word c.bits.left c.bits.next place c.without_bit-left.result i.left few c.lowest_bit-place.ensures.own c.lowest_bit-place.ensures.below c.without_bit-left.ensures.own c.without_bit-left.ensures.others;
       few = omega (arith, few);
       order = omega (arith, within);
       live = step_took r c.args.pool.now c.bits.pool before rows rs i.size c.requires.few c.requires.keeps c.bits.next place i.live le within refused quiet c.take_next-waits.new.pool own new same one;
@@ -142,7 +140,7 @@ bits-preserved g c =
 
 pub bits-smaller : goal.bits-smaller
 bits-smaller g c =
-    let next = left_next c.args.word c.bits.left c.bits.next c.lowest_bit-place.result c.bits.invariant.left c.lowest_bit-place.ensures.few c.lowest_bit-place.ensures.own in
+    let next = left_next c.args.asked.word c.bits.left c.bits.next c.lowest_bit-place.result c.bits.invariant.left c.lowest_bit-place.ensures.few c.lowest_bit-place.ensures.own in
     let few = c.lowest_bit-place.ensures.few in
     let le = next.0 in
     omega (arith, le, few)
@@ -154,7 +152,7 @@ returns-clause-taken g c =
     let rows : ℕ = c.live.inside.rows in
     let rs : List Runner = c.bits.runners in
     let before : List Live = c.args.live.now in
-    let none = none_after c.args.word c.bits.left c.bits.next (search rules) i.left c.bits-test.false in
+    let none = none_after c.args.asked.word c.bits.left c.bits.next (search rules) i.left c.bits-test.false in
     let t : TookFirst r (length before) c.args.pool.now c.bits.pool before (under before (shown (rows + 1) rs))
     = all_took r c.args.pool.now c.bits.pool before rows rs i.size c.requires.few c.requires.keeps c.bits.next i.live i.order
     (λ j l a b. c.requires.spared.refused j l b (none j a)) (λ j l a b. c.requires.spared.quiet j l b (none j a)) in
@@ -176,7 +174,7 @@ returns-clause-waiting g c =
     let rows : ℕ = c.live.inside.rows in
     let rs : List Runner = c.bits.runners in
     let before : List Live = c.args.live.now in
-    let none = none_after c.args.word c.bits.left c.bits.next (search rules) i.left c.bits-test.false in
+    let none = none_after c.args.asked.word c.bits.left c.bits.next (search rules) i.left c.bits-test.false in
     let t : TookFirst r (length before) c.args.pool.now c.bits.pool before (under before (shown (rows + 1) rs))
     = all_took r c.args.pool.now c.bits.pool before rows rs i.size c.requires.few c.requires.keeps c.bits.next i.live i.order
     (λ j l a b. c.requires.spared.refused j l b (none j a)) (λ j l a b. c.requires.spared.quiet j l b (none j a)) in
@@ -211,7 +209,7 @@ invariant_of-live g c =
     let rows : ℕ = c.live.inside.rows in
     let rs : List Runner = c.bits.runners in
     let before : List Live = c.args.live.now in
-    let none = none_after c.args.word c.bits.left c.bits.next (search rules) i.left c.bits-test.false in
+    let none = none_after c.args.asked.word c.bits.left c.bits.next (search rules) i.left c.bits-test.false in
     let t : TookFirst r (length before) c.args.pool.now c.bits.pool before (under before (shown (rows + 1) rs))
     = all_took r c.args.pool.now c.bits.pool before rows rs i.size c.requires.few c.requires.keeps c.bits.next i.live i.order
     (λ j l a b. c.requires.spared.refused j l b (none j a)) (λ j l a b. c.requires.spared.quiet j l b (none j a)) in

@@ -13,7 +13,7 @@ use Rattle.bq_registry.proofs.taking.apply_to_all.Given as goal
 abbrev pub invariant-bits : goal.invariant-bits
 invariant-bits g l = record {
   size : length l.runners ≡ length l.fn.live;
-  left : AreLeft l.word l.left l.next;
+  left : AreLeft l.asked.word l.left l.next;
   few : l.next ≤ 64;
   order : l.next ≤ length l.fn.live;
   live : TookFirst (arrival l.stream l.row.items) l.next l.fn.pool l.pool l.fn.live (under l.fn.live (mixed l.rows l.next l.runners));

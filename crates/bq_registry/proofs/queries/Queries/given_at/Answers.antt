@@ -1,4 +1,4 @@
-use Rattle.std.proofs.Common.{◌∙◌, sym, ap, arith, [], ◌+◌}
+use Rattle.std.proofs.Common.{◌∙◌, sym, ap, arith}
 use Rattle.bq_executor.specs.Executor.{ExecutorValue}
 use Rattle.bq_registry.proofs.Shown.{size_run, runs_as, counted_at}
 use Rattle.bq_registry.proofs.queries.Queries.given_at.Goals as goal

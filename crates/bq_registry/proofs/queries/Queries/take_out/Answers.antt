@@ -1,5 +1,4 @@
-use Rattle.std.proofs.Common.{◌≡◌, ◌∙◌, ◌+◌, List, length, arith, sym, ap, subst, All}
-use Rattle.std.specs.List.{remove}
+use Rattle.std.proofs.Common.{◌∙◌, List, length, arith, sym, ap, subst, All}
 use Rattle.std.proofs.lemmas.List.Edits.{length-remove}
 use Rattle.bq_registry.specs.declared.queries.Runner.{Runner}
 use Rattle.bq_registry.specs.Counted.{shown, IsCounted}

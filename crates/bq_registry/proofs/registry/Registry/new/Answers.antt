@@ -1,4 +1,4 @@
-use Rattle.std.proofs.Common.{◌≡◌, ◌<◌, [], length, List, ap, arith}
+use Rattle.std.proofs.Common.{length, List, ap, arith}
 use Rattle.bq_registry.specs.Live.{Live}
 use Rattle.bq_registry.proofs.Quiet.{quiet_after}
 use Rattle.bq_registry.proofs.Fresh.{sound_none}

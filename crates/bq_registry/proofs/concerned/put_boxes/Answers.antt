@@ -1,6 +1,6 @@
 use Rattle.std.proofs.Common.{arith}
 use Rattle.bq_registry.proofs.Sparing.{boxes_more}
-use Rattle.bq_registry.proofs.concerned.boxes_of.Goals as goal
+use Rattle.bq_registry.proofs.concerned.put_boxes.Goals as goal
 
 pub loop-place-preserved : goal.loop-place-preserved
 loop-place-preserved c = record {

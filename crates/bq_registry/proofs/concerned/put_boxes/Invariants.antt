@@ -2,7 +2,7 @@ use Rattle.std.proofs.Common.{◌≡◌, ℕ, Some, Option, length, slice_get, s
 use Rattle.bq_candidates.specs.declared.boxes.QueryBox.{QueryBox}
 use Rattle.bq_executor.specs.Passing.{IsBoxFor}
 use Rattle.bq_registry.specs.Live.{Live}
-use Rattle.bq_registry.proofs.concerned.boxes_of.Given as goal
+use Rattle.bq_registry.proofs.concerned.put_boxes.Given as goal
 
 abbrev pub invariant-loop-place : goal.invariant-loop-place
 invariant-loop-place l = record {

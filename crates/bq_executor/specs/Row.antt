@@ -1,0 +1,26 @@
+-- What a row does to an executor.
+use Rattle.std.specs.Prelude.{◌≡◌, ◌+◌, ◌*◌, ◌≤◌, ◌==◌, false, IsTrue, length}
+use Rattle.std.specs.List.{list_any}
+use Rattle.bq_model.specs.Query.{is_filter}
+use Rattle.bq_model.specs.Meaning.{Arrival}
+use Rattle.bq_model.specs.Numbers.{work}
+use Rattle.bq_pool.specs.Counted.{StepsValue}
+use Rattle.bq_pool.specs.Extents.{PoolValue}
+use Rattle.bq_executor.specs.Executor.{ExecutorValue, parts_in}
+use Rattle.bq_executor.specs.Standing.{KeepsWithin, Took}
+use Rattle.bq_executor.specs.Bases.{TookFrom}
+
+-- all that a row does to an executor and its cells: the executor took it, also where it goes on from a base, and keeps within the numbers
+-- that its plan announces
+pub record TakesRow (before : ExecutorValue) (pool : PoolValue) (r : Arrival) (after : ExecutorValue) (later : PoolValue) : Type 0 where
+  pub row : Took before pool r after later
+  pub within : KeepsWithin before pool → KeepsWithin after later
+  pub bases : TookFrom before pool r after later
+
+-- the executor kept to the announced work when it took a row: it read at most three cells for each unit of it and one for each part, and
+-- wrote at most one for each part; a filter, and a query that does not name the stream, read and wrote none
+pub record KeepsToWork (before : ExecutorValue) (r : Arrival) (steps later : StepsValue) : Type 0 where
+  pub reads : later.reads ≤ steps.reads + 3 * work (parts_in before) + length (parts_in before)
+  pub writes : later.writes ≤ steps.writes + length (parts_in before)
+  pub alone : IsTrue (is_filter before.query) → later ≡ steps
+  pub outside : list_any (λ stream. r.stream == stream) before.query.from ≡ false → later ≡ steps
