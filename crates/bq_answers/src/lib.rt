@@ -6,7 +6,8 @@
 //! | call | cost |
 //! |---|---|
 //! | `has` | at most log2 n + 1 comparisons of tuples |
-//! | `add`, `add_upto`, `add_new` | at most log2 n + 1 comparisons of tuples; a new tuple moves at most n numbers |
+//! | `add_upto` of a tuple behind all others, as the first | at most one comparison of tuples, and no number moves |
+//! | `add`, `add_upto`, `add_new` | at most log2 n + 2 comparisons of tuples; a new tuple moves at most n numbers |
 //! | and where the entry begins or ceases to wait | at most log2 w + 1 comparisons more, and at most w numbers moved |
 //! | `entry`, `waiting_entry` | one lookup |
 //! | `settle` | w counts |

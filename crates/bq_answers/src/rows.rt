@@ -1,5 +1,5 @@
 //! Rows in order of arrival with their counts, and their numbers in order of tuples.
-ghost use Rattle.std.specs.Prelude.{◌≡◌, ℕ, ◌+◌, ◌*◌, ◌<◌, ◌≤◌, ◌^◌, ◌⊎◌, [], ◌∷◌, ◌++◌, length, filter, slice_index, slice_set, vec_capacity};
+ghost use Rattle.std.specs.Prelude.{◌≡◌, ℕ, ◌+◌, ◌*◌, ◌<◌, ◌≤◌, ◌^◌, ◌⊎◌, [], ◌∷◌, ◌++◌, length, filter, if◌then◌else◌, nat_lt, slice_index, slice_set, vec_capacity};
 ghost use Rattle.std.specs.List.{insert};
 ghost use Rattle.bq_answers.specs.Entries.{Ascends};
 ghost use Rattle.bq_answers.specs.Fields.{entries_of};
@@ -34,6 +34,61 @@ pub fn insert_row(
     let _values_stored = values.extend_from_slice(t).is_ok();
     let _count_stored = counts.push(0).is_ok();
     let _number_stored = order.insert(place, number).is_ok();
+}
+
+// Appends a value.
+fn push_value(values: &mut Vec<i64>, value: &i64)
+    requires { length values.old.items < vec_capacity values.old }
+    ensures values { values.new.items ≡ values.old.items ++ value.now ∷ [] }
+    ensures room { vec_capacity values.old ≤ vec_capacity values.new }
+{
+    // There is room, so this is done.
+    let _stored = values.push(*value).is_ok();
+}
+
+// Appends the values of a tuple. Most tuples have one or two, and to copy a slice costs more than these.
+fn push_all(values: &mut Vec<i64>, t: &[i64])
+    requires { length values.old.items + length t.now ≤ vec_capacity values.old }
+    ensures values { values.new.items ≡ values.old.items ++ t.now }
+    ensures room { vec_capacity values.old ≤ vec_capacity values.new }
+{
+    for value in t {
+        push_value(values, value);
+    }
+}
+
+/// Appends a row that stands behind all others, with this count.
+pub fn append_row(
+    values: &mut Vec<i64>,
+    counts: &mut Vec<u128>,
+    order: &mut Vec<u32>,
+    due: &mut Vec<u32>,
+    t: &[i64],
+    count: u128,
+)
+    requires few { length counts.old.items < 2 ^ 32 }
+    requires values { length values.old.items + length t.now ≤ vec_capacity values.old }
+    requires counts { length counts.old.items < vec_capacity counts.old }
+    requires order { length order.old.items < vec_capacity order.old }
+    requires due { length due.old.items < vec_capacity due.old }
+    ensures values { values.new.items ≡ values.old.items ++ t.now }
+    ensures counts { counts.new.items ≡ counts.old.items ++ count ∷ [] }
+    ensures order { order.new.items ≡ order.old.items ++ length counts.old.items ∷ [] }
+    ensures due { due.new.items ≡ (if nat_lt 0 count then due.old.items ++ length counts.old.items ∷ [] else due.old.items) }
+    ensures value_room { vec_capacity values.old ≤ vec_capacity values.new }
+    ensures count_room { vec_capacity counts.old ≤ vec_capacity counts.new }
+    ensures order_room { vec_capacity order.old ≤ vec_capacity order.new }
+    ensures due_room { vec_capacity due.old ≤ vec_capacity due.new }
+{
+    let number = counts.len() as u32;
+    push_all(values, t);
+    // There is room, so this is done.
+    let _count_stored = counts.push(count).is_ok();
+    let _number_stored = order.push(number).is_ok();
+    if count > 0 {
+        // Here too.
+        let _due_stored = due.push(number).is_ok();
+    }
 }
 
 /// Sets the count of the row at that place of the order, and keeps the list of the numbers of those that wait.
@@ -72,8 +127,8 @@ pub fn set_count(
     }
 }
 
-/// Sets the counts of these numbers to 0.
-pub fn clear_counts(counts: &mut [u128], numbers: &[u32])
+// Sets the counts of these numbers to 0, one after another.
+fn clear_each(counts: &mut [u128], numbers: &[u32])
     requires { (i : ℕ) → i < length numbers.now → slice_index numbers.now i < length counts.old }
     ensures cleared { (i : ℕ) → i < length numbers.now → slice_index counts.new (slice_index numbers.now i) ≡ 0 }
     ensures others { (k : ℕ) → (slice_index counts.new k ≡ 0) ⊎ (slice_index counts.new k ≡ slice_index counts.old k) }
@@ -81,6 +136,19 @@ pub fn clear_counts(counts: &mut [u128], numbers: &[u32])
     for i in 0..numbers.len() {
         counts[numbers[i] as usize] = 0;
     }
+}
+
+/// Sets the counts of these numbers to 0. Mostly there is one, which wants no loop.
+pub fn clear_counts(counts: &mut [u128], numbers: &[u32])
+    requires { (i : ℕ) → i < length numbers.now → slice_index numbers.now i < length counts.old }
+    ensures cleared { (i : ℕ) → i < length numbers.now → slice_index counts.new (slice_index numbers.now i) ≡ 0 }
+    ensures others { (k : ℕ) → (slice_index counts.new k ≡ 0) ⊎ (slice_index counts.new k ≡ slice_index counts.old k) }
+{
+    if numbers.len() == 1 {
+        counts[numbers[0] as usize] = 0;
+        return;
+    }
+    clear_each(counts, numbers);
 }
 
 /// Returns the values of a row as a tuple.

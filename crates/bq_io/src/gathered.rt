@@ -1,5 +1,6 @@
 //! A sink that gathers what is written, and passes it on to the sink below in large pieces.
-ghost use Rattle.std.specs.Prelude.{◌≡◌, ◌≤◌, ◌+◌, ◌++◌, [], length, drop};
+ghost use Rattle.std.specs.Prelude.{◌≡◌, ◌<◌, ◌≤◌, ◌+◌, ◌++◌, [], length, drop};
+ghost use Rattle.bq_io.specs.Sink.{WritesSome};
 ghost use Rattle.bq_io.specs.Gathered.{gathered_seen, WritesFront, Flushes};
 
 use crate::sink::{Sink, WriteAnswer, WriteFault};
@@ -74,20 +75,33 @@ impl<'a, O: Sink> Gathered<'a, O> {
         remove_front(&mut self.held, written);
         result
     }
+
+    // Takes a piece for which there is no room: what is held is passed on first. It is not inlined, so that a piece for which there is
+    // room pays nothing for it.
+    #[cold]
+    #[inline(never)]
+    fn write_more(&mut self, piece: &[u8]) -> WriteAnswer
+        requires { 0 < length piece.now }
+        ensures { WritesSome result piece.now (gathered_seen (O.seen self.old.sink.now) self.old.sink.ghost_name self.old.held.items) (gathered_seen (O.seen self.new.sink.now) self.new.sink.ghost_name self.new.held.items) }
+    {
+        match self.flush() {
+            Ok(()) => {}
+            Err(_) => return WriteAnswer::Failed,
+        }
+        let count = piece.len().min(self.held.remaining_capacity());
+        append(&mut self.held, &piece[..count]);
+        WriteAnswer::Took(count)
+    }
 }
 
 impl<O: Sink> Sink for Gathered<'_, O> {
     ghost seen = { λ g. gathered_seen (O.seen g.sink.now) g.sink.ghost_name g.held.items };
 
     fn write(&mut self, piece: &[u8]) -> WriteAnswer {
-        if piece.len() > self.held.remaining_capacity() {
-            match self.flush() {
-                Ok(()) => {}
-                Err(_) => return WriteAnswer::Failed,
-            }
+        if piece.len() <= self.held.remaining_capacity() {
+            append(&mut self.held, piece);
+            return WriteAnswer::Took(piece.len());
         }
-        let count = piece.len().min(self.held.remaining_capacity());
-        append(&mut self.held, &piece[..count]);
-        WriteAnswer::Took(count)
+        self.write_more(piece)
     }
 }

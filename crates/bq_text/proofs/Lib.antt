@@ -6,3 +6,5 @@ pub mod LinesInPieces
 pub mod ParsedValue
 pub mod Trimmed
 pub mod WordLists
+pub mod Signs
+pub mod Repeats

@@ -1,5 +1,5 @@
 use Rattle.std.proofs.Common.{◌≡◌, ℕ, ◌<◌, ◌⊎◌, get_or}
-use Rattle.bq_answers.proofs.rows.clear_counts.Given as goal
+use Rattle.bq_answers.proofs.rows.clear_each.Given as goal
 
 abbrev pub invariant-loop-i : goal.invariant-loop-i
 invariant-loop-i l = record {
