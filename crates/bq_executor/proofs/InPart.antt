@@ -19,7 +19,7 @@ use Rattle.bq_pool.specs.declared.pool.Extent.{Extent}
 use Rattle.bq_pool.specs.Extents.{PoolValue, cells_of, with_cells}
 use Rattle.bq_answers.specs.Entries.{TableValue, with_entries}
 use Rattle.bq_synopsis.specs.Premises.{HasRoom, row_cell}
-use Rattle.bq_executor.specs.Taking.{with_all}
+use Rattle.bq_executor.specs.Taking.{with_found, with_all}
 use Rattle.bq_executor.specs.Arriving.{arrives, with_row, CanCount}
 
 module _ (q : QueryValue) (part : PartPlan) (within : IsWithinLimits q) (plan : IsPartPlan q part) (pos : ℕ) (here : pos < length q.from) (values : List ℤ) where
@@ -54,6 +54,12 @@ module _ (q : QueryValue) (part : PartPlan) (within : IsWithinLimits q) (plan : 
 pub none_added : (d : Bool) (fs : List Found) (table : TableValue) → fs ≡ [] → table ≡ with_entries table (with_all d fs table.entries)
 unfolding with_all
 none_added d fs table e = ap (λ (gs : List Found). with_entries table (with_all d gs table.entries)) (sym e)
+
+-- a table to which the one find was added
+pub one_added : (d : Bool) (f : Found) (fs : List Found) (table more : TableValue) → fs ≡ f ∷ []
+    → more ≡ with_entries table (with_found d f table.entries) → more ≡ with_entries table (with_all d fs table.entries)
+unfolding with_all
+one_added d f fs table more e is = is ∙ ap (λ (gs : List Found). with_entries table (with_all d gs table.entries)) (sym e)
 
 -- a table to which all was added that a part found
 pub all_added : (d : Bool) (fs gs : List Found) (table more : TableValue) → gs ≡ fs

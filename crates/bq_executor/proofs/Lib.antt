@@ -36,3 +36,4 @@ pub mod OldAnswers
 pub mod Closing
 pub mod OwnCells
 pub mod PassingOn
+pub mod Alike

@@ -21,7 +21,7 @@ use crate::known::answers_one;
 use bq_answers::Answers;
 use bq_model::{Row, Tuple};
 use bq_pool::{Pool, Steps};
-use bq_probe::{PartAt, Probe, ProbeScratch, sees_nothing};
+use bq_probe::{FirstLook, PartAt, Probe, ProbeScratch, first_look, sees_nothing};
 use bq_synopsis::{Admitted, OwnCell, own_cell, put_own};
 use std::sync::ledger::Ledger;
 
@@ -176,6 +176,64 @@ fn walk<L: Ledger>(
     }
 }
 
+// Takes up what one look-up tells of the answers of a part to a row, or what a walk finds where it tells nothing. It is not inlined, as the
+// walk is not.
+#[inline(never)]
+fn look<L: Ledger>(
+    pool: &Pool,
+    part: &PartAt<'_>,
+    at: &Admitted<'_>,
+    room: &mut ProbeScratch,
+    tuple: &mut Tuple,
+    table: &mut Answers,
+    steps: &mut Steps<L>,
+)
+    requires here { at.now.pos < length part.now.q.now.from }
+    requires ready { IsReady part.now.q.now part.now.plan.now pool.now part.now.extent.now }
+    requires prepared { IsPrepared (pairs part.now.q.now) part.now.plan.now part.now.prepared.now }
+    requires room { HaveRoom part.now.q.now.distinct (found_beside part.now.q.now part.now.plan.now (read_from (cells_of pool.now part.now.extent.now)) at.now.pos (by_column at.now.row.now.items)) table.old }
+    ensures table { table.new ≡ with_entries table.old (with_all part.now.q.now.distinct (found_beside part.now.q.now part.now.plan.now (read_from (cells_of pool.now part.now.extent.now)) at.now.pos (by_column at.now.row.now.items)) table.old.entries) }
+    ensures reads { steps.new.reads ≤ steps.old.reads + 3 * share part.now.plan.now }
+    ensures writes { steps.new.writes ≡ steps.old.writes }
+{
+    match first_look(pool, part, at, tuple, steps) {
+        FirstLook::Nothing => {}
+        FirstLook::One(count) => {
+            record_found(part.q.distinct(), tuple, u128::from(count), table)
+        }
+        FirstLook::Unknown => walk(pool, part, at, room, tuple, table, steps),
+    }
+}
+
+// Takes up all that the cells of a part answer to a row: by one look-up where it is listed how the row finds the one cell that can
+// answer with it, else by a walk.
+#[inline(always)]
+fn answer<L: Ledger>(
+    pool: &Pool,
+    part: &PartAt<'_>,
+    at: &Admitted<'_>,
+    scratch: &mut Scratch,
+    table: &mut Answers,
+    steps: &mut Steps<L>,
+)
+    requires here { at.now.pos < length part.now.q.now.from }
+    requires ready { IsReady part.now.q.now part.now.plan.now pool.now part.now.extent.now }
+    requires prepared { IsPrepared (pairs part.now.q.now) part.now.plan.now part.now.prepared.now }
+    requires room { HaveRoom part.now.q.now.distinct (found_beside part.now.q.now part.now.plan.now (read_from (cells_of pool.now part.now.extent.now)) at.now.pos (by_column at.now.row.now.items)) table.old }
+    ensures table { table.new ≡ with_entries table.old (with_all part.now.q.now.distinct (found_beside part.now.q.now part.now.plan.now (read_from (cells_of pool.now part.now.extent.now)) at.now.pos (by_column at.now.row.now.items)) table.old.entries) }
+    ensures reads { steps.new.reads ≤ steps.old.reads + 3 * share part.now.plan.now }
+    ensures writes { steps.new.writes ≡ steps.old.writes }
+{
+    // Copies of its own for the calls that are not inlined, so that the others stay in registers.
+    let (met, row) = (*part, *at);
+    let (room, tuple) = (&mut scratch.room, &mut scratch.tuple);
+    if part.prepared.join_lookup(at.pos).is_some() {
+        look(pool, &met, &row, room, tuple, table, steps);
+    } else {
+        walk(pool, &met, &row, room, tuple, table, steps);
+    }
+}
+
 /// Takes a row into a part that admits it: all that the cells answer to it is taken up, and where the part takes rows into a box of its
 /// own, the row's own cell takes it. Where it is known that a row which leaves its cell as it is is answered nothing new, such a row
 /// walks over no cell. Returns false where no cell changed.
@@ -206,33 +264,14 @@ pub fn apply_to_part<L: Ledger>(
     // Read for the proof alone: the call tells how many streams there are.
     let _from = part.q.from();
     if !takes.looks() {
-        // Copies of its own for the call that is not inlined, so that the others stay in registers.
-        let (walked, row) = (*part, *at);
-        walk(
-            pool,
-            &walked,
-            &row,
-            &mut scratch.room,
-            &mut scratch.tuple,
-            table,
-            steps,
-        );
+        answer(pool, part, at, scratch, table, steps);
         return false;
     }
     let own = own_cell(pool, part.extent, part.q, part.plan, at, steps);
     if takes.spares(&own, at.row) {
         return false;
     }
-    let (walked, row) = (*part, *at);
-    walk(
-        pool,
-        &walked,
-        &row,
-        &mut scratch.room,
-        &mut scratch.tuple,
-        table,
-        steps,
-    );
+    answer(pool, part, at, scratch, table, steps);
     if takes.owns {
         put_own(pool, part.extent, part.plan, at, &own, steps);
     }

@@ -5,3 +5,4 @@ pub mod Owning
 pub mod PreparedParts
 pub mod Telling
 pub mod PassingOn
+pub mod Shifting

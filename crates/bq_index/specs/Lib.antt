@@ -3,3 +3,4 @@ pub mod PartIndex
 pub mod Prefilter
 pub mod Prepared
 pub mod Passing
+pub mod Shifts

@@ -13,6 +13,7 @@ mod part_index;
 mod passing;
 mod prefilter;
 mod prepared;
+mod shifts;
 
 pub use part_index::{CodedRow, IndexHit, PartIndex};
 pub use prefilter::{Prefilter, column_of, prefilter_of, stream_of};

@@ -1,6 +1,6 @@
 //! Which parts may admit a row: those that ask for the signs that the row has. Parts that ask for the same signs stand in one bucket, and a
 //! chain leads through them, so that a row is led to them by one look-up.
-ghost use Rattle.std.specs.Prelude.{◌≡◌, ◌+◌, ◌*◌, ◌%◌, ◌^◌, ◌<◌, ◌≤◌, length, map, slice_get, slice_index_or, bit_and, true, false, Some, All, IfOk};
+ghost use Rattle.std.specs.Prelude.{◌≡◌, ◌+◌, ◌*◌, ◌%◌, ◌^◌, ◌<◌, ◌≤◌, length, map, slice_get, slice_index_or, bit_and, true, false, Some, All, IfOk, IfSome};
 ghost use Rattle.std.specs.List.{list_all};
 ghost use Rattle.bq_model.specs.Parts.{pairs, is_within, sign, sign_at};
 ghost use Rattle.bq_model.specs.Assignment.{value};
@@ -9,21 +9,25 @@ ghost use Rattle.bq_model.specs.Admission.{alone, keeps_signs, in_range, admits}
 ghost use Rattle.bq_model.specs.Plan.{dims_at};
 ghost use Rattle.bq_synopsis.specs.Preparing.{IsPrepared};
 ghost use Rattle.bq_synopsis.specs.Axes.{IsPlacement};
+ghost use Rattle.bq_index.specs.Prepared.{ArePrepared};
+ghost use Rattle.bq_index.specs.Shifts.{IsNextShifted, StandsAt};
 ghost use Rattle.bq_index.specs.Owners.{BeginBehind, EachTakes, takes_rows};
 ghost use Rattle.bq_index.specs.PartIndex.{IsLocal, signs_at, signs_of_part, number_of, code_after, codes_of, row_code, buckets_of, row_bucket, AreOf, IsNext, IsMarked, AreKeyPairs, HasKeyPairs, TellAll, AreLinked, IsPartIndex};
 
 use crate::key_pairs::KeyPairs;
 use crate::owners::{each_takes, owners_at};
 use crate::prefilter::column_of;
+use crate::shifts::{Chained, shifts_of};
 use arrayvec::ArrayVec;
 use bq_model::{Element, Pair, PartPlan, PartPlans, Query, Row, Sign};
-use bq_synopsis::{Placement, Prepared, placement_of};
+use bq_synopsis::{CellAt, Placement, Prepared, Shift, placement_of};
 use std::alloc::{AllocError, Global};
 
 /// The numbers of the pairs whose signs make a code, these pairs in the same order, whether a code tells all signs of a row in the
 /// ranges of a part, the code of each part, and whether it takes rows into a box of its own, whether each part does, the number of the
 /// greatest bucket, the first part of each bucket, and for each part the next one of its bucket. Where there is no such part, the
-/// number of all parts stands.
+/// number of all parts stands. And for each part how many cells later the box of the next one begins, where a row that stands in one of both
+/// stands at the same place in the other.
 #[derive(Drop)]
 pub struct PartIndex {
     tests: ArrayVec<u8, 114>,
@@ -35,6 +39,7 @@ pub struct PartIndex {
     greatest: u32,
     firsts: Vec<u32>,
     nexts: Vec<u32>,
+    shifts: Vec<Option<Shift>>,
 }
 
 /// The code of a row, and the first part that it is led to.
@@ -173,11 +178,48 @@ impl PartIndex {
     pub fn after(&self, q: &Query, parts: &PartPlans, pos: u8, i: u32) -> u32
         requires inside { i < length parts.now }
         requires part_index { IsPartIndex q.now parts.now pos self.now }
-        ensures { IsNext (buckets_of parts.now self.now.tests.items self.now.greatest) (slice_index_or (buckets_of parts.now self.now.tests.items self.now.greatest) i 0) (i + 1) result }
+        ensures next { IsNext (buckets_of parts.now self.now.tests.items self.now.greatest) (slice_index_or (buckets_of parts.now self.now.tests.items self.now.greatest) i 0) (i + 1) result }
+        ensures number { result ≡ slice_index_or self.now.nexts.items i 0 }
     {
         // Named for the proof alone: the contract speaks of it.
         let _parts = parts.len();
         self.nexts[i as usize]
+    }
+
+    // How many cells later the box of the next part of a part's bucket begins, where a row stands at the same place of both.
+    fn shift(&self, q: &Query, parts: &PartPlans, pos: u8, i: u32) -> Option<Shift>
+        requires inside { i < length parts.now }
+        requires part_index { IsPartIndex q.now parts.now pos self.now }
+        ensures { IfSome result (λ shift. IsNextShifted parts.now pos self.now.exact self.now.codes.items self.now.nexts.items i shift) }
+    {
+        // Named for the proof alone: the contract speaks of it.
+        let _parts = parts.len();
+        self.shifts[i as usize]
+    }
+
+    /// Returns the cell of a row in the next part of a part's bucket, where it follows from where the row stands in the part.
+    pub fn cell_after(
+        &self,
+        coded: &CodedRow<'_>,
+        part: &PartPlan,
+        placement: Placement,
+        i: u32,
+    ) -> Option<CellAt>
+        requires part_index { IsPartIndex coded.now.q.now coded.now.parts.now coded.now.pos self.now }
+        requires inside { i < length coded.now.parts.now }
+        requires part { slice_get coded.now.parts.now i ≡ Some part.now }
+        requires placement { IsPlacement part.now coded.now.pos coded.now.row.now.items (admits coded.now.q.now part.now coded.now.pos (by_column coded.now.row.now.items)) placement }
+        ensures { IfSome result (λ cell. StandsAt coded.now.q.now coded.now.parts.now coded.now.pos coded.now.row.now.items (slice_index_or self.now.nexts.items i 0) cell) }
+    {
+        match placement {
+            Placement::Cell { number, .. } => {
+                match self.shift(coded.q, coded.parts, coded.pos, i) {
+                    Some(shift) => Some(shift.after(number)),
+                    None => None,
+                }
+            }
+            Placement::Inside | Placement::Outside => None,
+        }
     }
 
     /// Returns whether each part takes rows into a box of its own.
@@ -401,11 +443,13 @@ pub fn part_index_at(
     alloc: Global,
     q: &Query,
     parts: &PartPlans,
+    prepared: &[Prepared],
     key_pairs: &KeyPairs,
     place: u8,
 ) -> Result<PartIndex, AllocError>
     requires here { place < length q.now.from }
     requires bases { BeginBehind (length q.now.from) parts.now }
+    requires prepared { ArePrepared (pairs q.now) parts.now prepared.now }
     requires key_pairs { key_pairs.now.is_complete ≡ true → AreKeyPairs (pairs q.now) parts.now key_pairs.now.marks }
     ensures { IfOk result (λ part_index. IsPartIndex q.now parts.now place part_index) }
 {
@@ -425,6 +469,12 @@ pub fn part_index_at(
         nexts[i as usize] = firsts[bucket];
         firsts[bucket] = i;
     }
+    let chained = Chained {
+        exact,
+        codes: codes.as_slice(),
+        nexts: nexts.as_slice(),
+    };
+    let shifts = shifts_of(alloc, q, parts, prepared, place, &chained)?;
     Ok(PartIndex {
         tests: numbers,
         tested,
@@ -435,5 +485,6 @@ pub fn part_index_at(
         greatest,
         firsts,
         nexts,
+        shifts,
     })
 }

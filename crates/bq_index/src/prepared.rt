@@ -70,9 +70,11 @@ fn index_parts(
     alloc: Global,
     q: &Query,
     parts: &PartPlans,
+    prepared: &[Prepared],
     key_pairs: &KeyPairs,
 ) -> Result<Vec<PartIndex>, AllocError>
     requires bases { BeginBehind (length q.now.from) parts.now }
+    requires prepared { ArePrepared (pairs q.now) parts.now prepared.now }
     requires key_pairs { key_pairs.now.is_complete ≡ true → AreKeyPairs (pairs q.now) parts.now key_pairs.now.marks }
     ensures many { IfOk result (λ all. length all.items ≡ length q.now.from) }
     ensures part_index { IfOk result (λ all. ArePartIndexes q.now parts.now all.items) }
@@ -80,7 +82,7 @@ fn index_parts(
     let places = q.from().len() as u8;
     let mut all: Vec<PartIndex> = Vec::with_capacity(alloc, usize::from(places))?;
     'places: for place in 0..places {
-        all.push(part_index_at(alloc, q, parts, key_pairs, place)?)?;
+        all.push(part_index_at(alloc, q, parts, prepared, key_pairs, place)?)?;
     }
     Ok(all)
 }
@@ -92,7 +94,7 @@ fn prepare_over(alloc: Global, q: &Query, parts: &PartPlans) -> Result<PreparedP
 {
     let prepared = prepare_parts(alloc, q, parts)?;
     let key_pairs = key_pairs_of(q, parts, prepared.as_slice());
-    let part_index = index_parts(alloc, q, parts, &key_pairs)?;
+    let part_index = index_parts(alloc, q, parts, prepared.as_slice(), &key_pairs)?;
     Ok(PreparedPlan {
         parts: prepared,
         part_index,

@@ -24,7 +24,7 @@ use Rattle.bq_probe.proofs.NarrowLaws.{fixed-narrow}
 use Rattle.bq_probe.proofs.StepLaws.{dims-beside}
 
 -- the value of a column of the arriving row
-own-value : (ps : List Pair) (part : PartPlan) (arriving : ℕ) (row : List ℤ) (known : List Binding) (a : Attr) → a.stream ≡ arriving → value_in ps part arriving row known a ≡ by_column row a.column
+pub own-value : (ps : List Pair) (part : PartPlan) (arriving : ℕ) (row : List ℤ) (known : List Binding) (a : Attr) → a.stream ≡ arriving → value_in ps part arriving row known a ≡ by_column row a.column
 unfolding value_in
 own-value ps part arriving row known a e = by (a.stream == arriving) refl
   where

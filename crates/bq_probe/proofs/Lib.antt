@@ -19,3 +19,4 @@ pub mod StepLaws
 pub mod UnderwayLaws
 pub mod ValueLaws
 pub mod WalkLaws
+pub mod JoinLaws

@@ -36,7 +36,7 @@ both-one (suc zero) b e = (refl, omega (arith, e))
 both-one (suc (suc a)) zero e = absurd (omega (arith, e))
 both-one (suc (suc a)) (suc b) e = absurd (omega (arith, e))
 
-box-one : (ds : List Dim) → box_size ds ≡ 1 → box ds ≡ map (λ d. d.lo) ds ∷ []
+pub box-one : (ds : List Dim) → box_size ds ≡ 1 → box ds ≡ map (λ d. d.lo) ds ∷ []
 box-one [] e = refl
 box-one (d ∷ ds) e =
     let b = both-one (dim_size d) (box_size ds) e in

@@ -95,7 +95,7 @@ left-skip w cs ns (suc d) n l h =
     ∙ left-skip w cs ns d (n + 1) l (λ i a b. h i (omega (arith, a)) (omega (arith, b)))
     ∙ ap (λ m. left w cs ns m false) (let z : n + 1 + d ≡ n + suc d = omega arith in z)
 
-entered-some : (values : List ℤ) (known : List Binding) (go : List Binding → List Found) (c : Cell) → (c ≡ Empty → ⊥) → entered values known go c ≡ go (known ++ chosen values c ∷ [])
+pub entered-some : (values : List ℤ) (known : List Binding) (go : List Binding → List Found) (c : Cell) → (c ≡ Empty → ⊥) → entered values known go c ≡ go (known ++ chosen values c ∷ [])
 entered-some values known go Empty h = absurd (h refl)
 entered-some values known go (Count n) h = refl
 entered-some values known go Present h = refl

@@ -6,3 +6,4 @@ pub mod Costs
 pub mod Lined
 pub mod Remaining
 pub mod Repeats
+pub mod Joining

@@ -6,13 +6,15 @@
 //! apart, empty ones are passed by their numbers alone. It leaves a branch at the first empty cell. What the links leave at a
 //! place is listed with the part as far as it is the same for all rows, so that mostly no link is looked at; and where one cell
 //! is left at the first place, it is seen before a walk begins whether that is empty. With DISTINCT, combinations that are known to give
-//! the tuple that was found last are passed. It holds fixed arrays and takes no memory.
+//! the tuple that was found last are passed. Over two streams, where it is listed how columns of the row tell the one cell that can answer
+//! with it, one look-up takes the place of the walk. It holds fixed arrays and takes no memory.
 #![tactic(auto)]
 
 mod beside;
 mod binding;
 mod combination;
 mod fixed;
+mod join;
 mod lines;
 mod links;
 mod lists;
@@ -25,6 +27,7 @@ mod scratch;
 mod stack;
 mod values;
 
+pub use join::{FirstLook, first_look};
 pub use nothing::sees_nothing;
 pub use part::PartAt;
 pub use probe::Probe;

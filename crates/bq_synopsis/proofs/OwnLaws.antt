@@ -4,7 +4,6 @@ use Rattle.std.proofs.lemmas.List.{set-get_or}
 use Rattle.bq_model.specs.declared.cell.Cell.{Cell}
 use Rattle.bq_model.specs.declared.cell.Cell.TheVariants.{Empty}
 use Rattle.bq_model.specs.declared.plan.PartPlan.{PartPlan}
-use Rattle.bq_model.specs.Plan.{stream_at}
 use Rattle.bq_model.specs.Cells.{content}
 use Rattle.bq_model.specs.Merge.{merged}
 use Rattle.bq_pool.specs.declared.pool.Extent.{Extent}

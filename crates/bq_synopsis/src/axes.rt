@@ -97,7 +97,7 @@ fn offset_in(axis: Axis, row: &[i64]) -> Option<u32>
 }
 
 // The place of a row in the box of these dims, where it lies in their ranges.
-fn place_among(dims: &[Dim], axes: &[Axis], row: &[i64]) -> Option<u32>
+pub(crate) fn place_among(dims: &[Dim], axes: &[Axis], row: &[i64]) -> Option<u32>
     requires axes { AreAxes dims.now axes.now }
     requires few { box_size dims.now < 2 ^ 32 }
     ensures { MatchOption result (list_all (in_range (by_column row.now)) dims.now ≡ false) (λ place. (list_all (in_range (by_column row.now)) dims.now ≡ true) × (place ≡ row_place dims.now (by_column row.now)) × (place < box_size dims.now)) }
@@ -116,7 +116,7 @@ fn place_among(dims: &[Dim], axes: &[Axis], row: &[i64]) -> Option<u32>
 
 // Puts the dims into a list as a row is asked of them, and tells how many cells their box has. It gives up where there is no room, or
 // where 32 bits do not hold that number.
-fn put_axes(dims: &[Dim], axes: &mut ArrayVec<Axis, 4>) -> Option<u32>
+pub(crate) fn put_axes(dims: &[Dim], axes: &mut ArrayVec<Axis, 4>) -> Option<u32>
     requires { axes.old.items ≡ [] }
     ensures { IfSome result (λ cells. AreAxes dims.now axes.new.items × (cells ≡ box_size dims.now)) }
 {
@@ -138,7 +138,7 @@ fn put_axes(dims: &[Dim], axes: &mut ArrayVec<Axis, 4>) -> Option<u32>
 }
 
 // Whether 32 bits hold the numbers of so many cells from the first one on.
-fn are_numbered(base: u32, cells: u32) -> bool
+pub(crate) fn are_numbered(base: u32, cells: u32) -> bool
     ensures { result ≡ true → base + cells < 2 ^ 32 }
 {
     cells <= u32::MAX - base

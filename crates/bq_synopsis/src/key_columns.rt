@@ -45,7 +45,11 @@ fn key_column_of(part: &PartPlan, arriving: u8, place: u8, dim: Dim) -> Option<K
 }
 
 // The dims of a place with the columns of the arriving row that fix them, where they are at most two and all are fixed so.
-fn key_columns_at(part: &PartPlan, arriving: u8, place: u8) -> Option<ArrayVec<KeyColumn, 2>>
+pub(crate) fn key_columns_at(
+    part: &PartPlan,
+    arriving: u8,
+    place: u8,
+) -> Option<ArrayVec<KeyColumn, 2>>
     ensures { IfSome result (λ key_columns. AreKeyColumns part.now arriving place (dims_at part.now place) key_columns.items) }
 {
     let dims = dims_at(part, usize::from(place));

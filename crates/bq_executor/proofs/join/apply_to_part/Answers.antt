@@ -7,14 +7,14 @@ use Rattle.bq_executor.proofs.OldAnswers.{old-adds-none}
 use Rattle.bq_executor.proofs.OwnCells.{leaves-cell}
 use Rattle.bq_executor.proofs.join.apply_to_part.Goals as goal
 
-pub walk-requires-clause-room : goal.walk-requires-clause-room
-walk-requires-clause-room g c =
+pub answer-requires-clause-room : goal.answer-requires-clause-room
+answer-requires-clause-room g c =
     subst (λ fs. HaveRoom c.args.part.now.q.now.distinct fs c.args.table.now)
     (found_admitted c.args.part.now.q.now c.args.part.now.plan.now c.from-from.ensures.limits c.requires.ready.held.walked.plan c.args.at.now.pos c.requires.here c.args.at.now.row.now.items (read_from (cells_of c.args.pool.now c.args.part.now.extent.now)) c.requires.admitted)
     c.requires.room
 
-pub walk-requires-2-clause-room : goal.walk-requires-2-clause-room
-walk-requires-2-clause-room g c =
+pub answer-requires-2-clause-room : goal.answer-requires-2-clause-room
+answer-requires-2-clause-room g c =
     subst (λ fs. HaveRoom c.args.part.now.q.now.distinct fs c.args.table.now)
     (found_admitted c.args.part.now.q.now c.args.part.now.plan.now c.from-from.ensures.limits c.requires.ready.held.walked.plan c.args.at.now.pos c.requires.here c.args.at.now.row.now.items (read_from (cells_of c.args.pool.now c.args.part.now.extent.now)) c.requires.admitted)
     c.requires.room
@@ -27,21 +27,21 @@ own_cell-own-requires-clause-room g c =
 
 pub returns-then-not-looks-clause-table : goal.returns-then-not-looks-clause-table
 returns-then-not-looks-clause-table g c =
-    all_added c.args.part.now.q.now.distinct _ _ c.args.table.now c.walk.new.table
+    all_added c.args.part.now.q.now.distinct _ _ c.args.table.now c.answer.new.table
     (found_admitted c.args.part.now.q.now c.args.part.now.plan.now c.from-from.ensures.limits c.requires.ready.held.walked.plan c.args.at.now.pos c.requires.here c.args.at.now.row.now.items (read_from (cells_of c.args.pool.now c.args.part.now.extent.now)) c.requires.admitted)
-    c.walk.ensures.table
+    c.answer.ensures.table
 
 pub returns-then-takes-clause-table : goal.returns-then-takes-clause-table
 returns-then-takes-clause-table g c =
-    all_added c.args.part.now.q.now.distinct _ _ c.args.table.now c.walk-2.new.table
+    all_added c.args.part.now.q.now.distinct _ _ c.args.table.now c.answer-2.new.table
     (found_admitted c.args.part.now.q.now c.args.part.now.plan.now c.from-from.ensures.limits c.requires.ready.held.walked.plan c.args.at.now.pos c.requires.here c.args.at.now.row.now.items (read_from (cells_of c.args.pool.now c.args.part.now.extent.now)) c.requires.admitted)
-    c.walk-2.ensures.table
+    c.answer-2.ensures.table
 
 pub returns-else-takes-clause-table : goal.returns-else-takes-clause-table
 returns-else-takes-clause-table g c =
-    all_added c.args.part.now.q.now.distinct _ _ c.args.table.now c.walk-2.new.table
+    all_added c.args.part.now.q.now.distinct _ _ c.args.table.now c.answer-2.new.table
     (found_admitted c.args.part.now.q.now c.args.part.now.plan.now c.from-from.ensures.limits c.requires.ready.held.walked.plan c.args.at.now.pos c.requires.here c.args.at.now.row.now.items (read_from (cells_of c.args.pool.now c.args.part.now.extent.now)) c.requires.admitted)
-    c.walk-2.ensures.table
+    c.answer-2.ensures.table
 
 pub returns-then-spares-clause-table : goal.returns-then-spares-clause-table
 returns-then-spares-clause-table g c =

@@ -1,0 +1,10 @@
+use Rattle.std.proofs.Common.{◌≡◌, ℕ, length, slice_get, Some}
+use Rattle.bq_synopsis.specs.declared.shift.Shift.{Shift}
+use Rattle.bq_index.specs.Shifts.{IsNextShifted}
+use Rattle.bq_index.proofs.shifts.shifts_of.Given as goal
+
+abbrev pub invariant-parts : goal.invariant-parts
+invariant-parts l = record {
+  many : length l.shifts.items ≡ l.i;
+  each : (k : ℕ) (shift : Shift) → slice_get l.shifts.items k ≡ Some (Some shift) → IsNextShifted l.parts l.place l.chained.exact l.chained.codes.now l.chained.nexts.now k shift;
+}

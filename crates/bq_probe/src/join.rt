@@ -1,0 +1,93 @@
+//! Rows over two streams of which their own columns tell the one cell that can answer: one look-up tells all.
+ghost use Rattle.std.specs.Prelude.{◌≡◌, ◌+◌, ◌*◌, ◌<◌, ◌≤◌, length, true, []};
+ghost use Rattle.bq_model.specs.Combinations.{read_from};
+ghost use Rattle.bq_model.specs.Meaning.{by_column};
+ghost use Rattle.bq_model.specs.Numbers.{share};
+ghost use Rattle.bq_model.specs.Parts.{pairs};
+ghost use Rattle.bq_model.specs.Probing.{found_beside};
+ghost use Rattle.bq_pool.specs.Extents.{cells_of};
+ghost use Rattle.bq_synopsis.specs.Premises.{IsReady};
+ghost use Rattle.bq_synopsis.specs.Preparing.{IsPrepared};
+ghost use Rattle.bq_probe.specs.Joining.{are_told, told_values, Tells};
+ghost use Rattle.bq_probe.specs.declared.join.FirstLook.TheVariants as look;
+
+use crate::lines::is_empty;
+use crate::part::PartAt;
+use crate::values::rows_in;
+use bq_model::{Attr, Tuple};
+use bq_pool::{Pool, Steps};
+use bq_synopsis::{Admitted, JoinLookup};
+use std::sync::ledger::Ledger;
+
+/// What one look-up tells of the answers to a row: there is none, there is one tuple so many times, or a walk must tell.
+#[derive(Clone, Copy, Debug, PartialEq, Eq)]
+pub enum FirstLook {
+    Nothing,
+    One(u64),
+    Unknown,
+}
+
+// The value of a column in a row, 0 where the row has none.
+fn value_at(row: &[i64], column: u8) -> i64
+    ensures { result ≡ by_column row.now column }
+{
+    row.get(usize::from(column)).copied().unwrap_or(0)
+}
+
+// Puts the values of the selected columns into a tuple, where columns of the row are listed that have them.
+fn put_values(
+    listed: &JoinLookup,
+    arriving: u8,
+    row: &[i64],
+    select: &[Attr],
+    tuple: &mut Tuple,
+) -> bool
+    requires { length select.now ≤ 8 }
+    ensures told { result ≡ true → are_told listed.now arriving select.now ≡ true }
+    ensures values { result ≡ true → tuple.new.items ≡ told_values listed.now arriving row.now select.now }
+{
+    tuple.clear();
+    'selected: for a in select {
+        match listed.column_of(arriving, *a) {
+            Some(column) => tuple.push(value_at(row, column)),
+            None => return false,
+        }
+    }
+    true
+}
+
+/// Returns what one look-up tells of the answers to a row, and puts the tuple. Where nothing is told no cell is read, else this is at
+/// most one read.
+#[inline(always)]
+pub fn first_look<L: Ledger>(
+    pool: &Pool,
+    part: &PartAt<'_>,
+    at: &Admitted<'_>,
+    tuple: &mut Tuple,
+    steps: &mut Steps<L>,
+) -> FirstLook
+    requires here { at.now.pos < length part.now.q.now.from }
+    requires ready { IsReady part.now.q.now part.now.plan.now pool.now part.now.extent.now }
+    requires prepared { IsPrepared (pairs part.now.q.now) part.now.plan.now part.now.prepared.now }
+    ensures found { Tells result tuple.new.items (found_beside part.now.q.now part.now.plan.now (read_from (cells_of pool.now part.now.extent.now)) at.now.pos (by_column at.now.row.now.items)) }
+    ensures unknown { result ≡ look.Unknown → steps.new ≡ steps.old }
+    ensures reads { steps.new.reads ≤ steps.old.reads + share part.now.plan.now }
+    ensures writes { steps.new.writes ≡ steps.old.writes }
+{
+    let Some(listed) = part.prepared.join_lookup(at.pos) else {
+        return FirstLook::Unknown;
+    };
+    let row = at.row.as_slice();
+    if !put_values(listed, at.pos, row, part.q.select(), tuple) {
+        return FirstLook::Unknown;
+    }
+    let Some(number) = listed.cell_of(row) else {
+        return FirstLook::Nothing;
+    };
+    let cell = pool.read(part.extent, number, steps);
+    if is_empty(cell) {
+        FirstLook::Nothing
+    } else {
+        FirstLook::One(rows_in(cell))
+    }
+}
