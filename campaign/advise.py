@@ -27,6 +27,8 @@ MOST_TOLD = 5
 MOST_DEAR, MOST_HALVINGS = 3, 20
 # the largest number of cells that is told
 MOST_COUNTED = 2**64 - 1
+# of how many wrong rows it is told what is wrong
+MOST_ROWS = 20
 # how many parts the analysis goes through for one set, and of how many columns; beyond that `run` is asked
 FEW_PARTS, FEW_COLUMNS = 60, 6
 # how often a query of more parts is taken all the same, and one that is not refused
@@ -54,11 +56,13 @@ ENDS = (b"  LO and HI are two integers of your own for all columns: -99999999999
         b" were tried; the numbers may still pass a limit, so write yours and then ask again for the numbers")
 LEAVES_OUT = b"  a comparison leaves out all other rows: take one that every row that counts meets"
 NOTHING = b"  nothing that was tried mends it"
-NOT_LIFTED = b"  nothing that was tried lifts it"
-NARROW = NOT_LIFTED + b": narrow the ranges named above, or ask for parts of them in several queries"
+NOTHING_LIFTS = b"  nothing that was tried lifts it"
+NOT_LIFTED = NOTHING_LIFTS + b": add COMPACT, if it is not there, and ask again what it lacks then"
+NARROW = NOTHING_LIFTS + b": narrow the ranges named above, or ask for parts of them in several queries"
 NO_ROW = b" never answers: no row meets its comparisons"
 CUT = b"  not all was tried"
 CHAIN, KEPT = re.compile(rb"  part \d+ has "), re.compile(rb"  part \d+ keeps ")
+COUNTED = b": 20 wrong rows are told above; this one is wrong too, and from here on such rows are counted alone"
 LIMITS = {"cells": MOST_CELLS, "answers": MOST_ANSWERS, "work": MOST_WORK}
 REASONS = {"C1": b" is selected and nothing bounds it",
            "C2": b" equals a column of another stream and nothing bounds it",
@@ -204,6 +208,11 @@ def is_told(line, word):
         return True
 
 
+def told(number):
+    """A number, of which those from the greatest of 64 bits on are told alike."""
+    return (b"at least " if number == MOST_COUNTED else b"") + b"%d" % number
+
+
 def head_of(number, asked, reply, free):
     """The head of the text on a query by the reply of `run`, or None where nothing is said of it."""
     statement, query, verdict = asked
@@ -217,7 +226,7 @@ def head_of(number, asked, reply, free):
         word = reply.split()[-1].decode()
         numbers = analysis.numbers_of(query, verdict.parts, statement.shared)
         value = min(dict(zip(LIMITS, numbers))[word], MOST_COUNTED)
-        return front + b" is refused: %s %d of %d" % (word.encode(), value, LIMITS[word])
+        return front + b" is refused: %s %s of %d" % (word.encode(), told(value), LIMITS[word])
     if reply.startswith(b"refused"):
         _, _, _, part, condition, column = reply.split()
         reason = REASONS[condition.decode()]
@@ -281,7 +290,7 @@ class Reckoning:
     def __init__(self, part, writer):
         self.part, self.session = part, writer.session
         self.due, self.pages = [], {}
-        self.accepted = self.refused = self.at_fault = 0
+        self.accepted = self.refused = self.at_fault = self.rows = 0
         for number, (line, reply) in enumerate(zip(writer.lines, writer.replies), 1):
             self.take(number, line, reply.rstrip(b"\n"))
         lines = counted(len(writer.lines), b"line read", b"lines read")
@@ -296,11 +305,20 @@ class Reckoning:
             word = reply.split()[-1]
             if is_told(line, word):
                 self.at_fault += 1
-                self.due.append(Due(b"line %d: %s" % (number, word), None, line))
+                self.take_fault(number, line, word)
         elif reply.startswith(b"ok drop "):
             del self.pages[reply.split()[-1]]
         elif reply.startswith((b"ok query ", b"refused ")):
             self.take_query(number, line, reply)
+
+    def take_fault(self, number, line, word):
+        """A line at fault: of wrong rows the first are told, and of the next it is told that it is counted alone."""
+        is_row = word != b"LineTooLong" and bool(language.row_name(language.strip_line(line)))
+        self.rows += is_row
+        if not is_row or self.rows <= MOST_ROWS:
+            self.due.append(Due(b"line %d: %s" % (number, word), None, line))
+        elif self.rows == MOST_ROWS + 1:
+            self.due.append(Due(b"line %d" % number + COUNTED, None, None))
 
     def take_query(self, number, line, reply):
         statement = language.parse(language.strip_line(line))
@@ -341,7 +359,11 @@ def texts_of(output):
 
 
 def judge_fault(due, rest):
-    """Looks at the text on a line that is at fault: the line, perhaps a mark, and a sentence."""
+    """Looks at the text on a line that is at fault: the line, perhaps a mark, and a sentence; nothing where it is counted alone."""
+    if due.head.endswith(COUNTED):
+        if rest:
+            raise Wrong(f"{due.head!r}: more is said: {rest!r}")
+        return
     if not due.head.endswith(b" LineTooLong"):
         stripped = language.strip_line(due.line)
         shown = b"  " + stripped[:200] + (b".." if len(stripped) > 200 else b"")
@@ -502,7 +524,8 @@ class Trial:
         wanted = []
         for chain in chains_of(self.query, part_at(self.query, number)):
             text = b"".join((b" = " if equal else b" < ") + self.name(it) for it, equal in chain)
-            wanted.append(b"  part %d has " % number + text[3:])
+            if len(chain) > 1:
+                wanted.append(b"  part %d has " % number + text[3:])
         if lines != wanted:
             self.fail(f"chains {lines!r}, wanted {wanted!r}")
         self.part.count("chains", len(lines))
@@ -514,7 +537,9 @@ class Trial:
                 cells, kept = min(cells, MOST_COUNTED), min(kept, MOST_COUNTED)
                 part = self.verdict.parts[it]
                 ranges = [b"%s %d..%d" % (self.name(column), *part.facts.range(column)) for column in part.dims[place]]
-                count = b"%d cell%s:" % (cells, b"" if cells == 1 else b"s") if cells == kept else b"%d cells, %d of them of" % (cells, kept)
+                count = b"%d cell%s:" % (cells, b"" if cells == 1 else b"s")
+                if cells != kept or cells == MOST_COUNTED:
+                    count = b"%s cells, %s of them of" % (told(cells), told(kept))
                 text = b"  part %d keeps %s %s" % (it + 1, count, self.statement.streams[place])
                 wanted.append(text + (b" by " + b", ".join(ranges) if ranges else b""))
         if lines != wanted:
@@ -619,11 +644,11 @@ class Trial:
             self.fail(f"that the search was cut short, with {many} columns: {bool(cut)}")
         self.part.count("queries whose sets were sought")
         self.part.count("searches cut short", int(is_cut))
-        for told, head, text, stand in ((bounds, b"  mended by", self.bounds_text, self.bounds_stand),
-                                        (domains, b"  mended at CREATE STREAM by", self.domains_text, self.domains_stand)):
+        for found, head, text, stand in ((bounds, b"  mended by", self.bounds_text, self.bounds_stand),
+                                         (domains, b"  mended at CREATE STREAM by", self.domains_text, self.domains_stand)):
             wanted = [head + text(it) for it in self.least_sets(stand)]
-            if told != wanted:
-                self.fail(f"sets {told!r}, wanted {wanted!r}")
+            if found != wanted:
+                self.fail(f"sets {found!r}, wanted {wanted!r}")
 
     def try_cost(self, rest):
         """What a query costs, where a limit refuses it or it has several parts: each line is tried."""

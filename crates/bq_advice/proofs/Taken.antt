@@ -6,7 +6,6 @@ use Rattle.bq_diagnosis.specs.declared.fault.Asks.TheVariants as asks
 use Rattle.bq_diagnosis.specs.declared.fault.Fault.{Fault}
 use Rattle.bq_diagnosis.specs.declared.fault.Fault.TheVariants.{LineTooLong}
 use Rattle.bq_diagnosis.specs.Faults.{IsDiagnosis}
-use Rattle.bq_sentences.specs.Texts.{fault_text}
 use Rattle.std.proofs.lemmas.Bool.Decides.{nat_tests}
 use Rattle.std.specs.Result.{OnOk}
 use Rattle.bq_io.specs.Memory.{MemSinkState, mem_sink_seen}
@@ -18,7 +17,7 @@ use Rattle.bq_mend.specs.Advised.{IsAdvice}
 use Rattle.bq_advice.specs.declared.advised.AdvisedQuery.{AdvisedQuery}
 use Rattle.bq_advice.specs.Queries.{query_text}
 use Rattle.bq_advice.specs.State.{State, free_pages, one_fault_more, one_query_more}
-use Rattle.bq_advice.specs.Finding.{fine, fault, query, too_long, fits, ComesOf, advised, after, after_asks, shown}
+use Rattle.bq_advice.specs.Finding.{fine, fault, query, too_long, fits, ComesOf, advised, after, after_asks, shown, is_row_fault, told_text}
 use Rattle.bq_advice.specs.Taking.{TookLine, TookFault, TookSilently, TookQuery, TookAsks, TookAdvised}
 
 short-test : (n : ℕ) → n ≤ 1024 → nat_lt 1024 n ≡ false
@@ -47,7 +46,7 @@ took_fault line wrong s t held now short is took = record {
   finding = fault wrong;
   is = fits short (Err wrong) is refl;
   state = took.state;
-  text = took.text ∙ ap (λ l. held ++ fault_text (s.lines + 1) l wrong s.streams s.live) (sym (shown-whole line short));
+  text = took.text ∙ ap (λ l. held ++ told_text s l wrong) (sym (shown-whole line short));
 }
 
 -- a line is too long
@@ -56,7 +55,7 @@ took_long line s t held now long took = record {
   finding = fault LineTooLong;
   is = too_long long refl;
   state = took.state;
-  text = took.text ∙ ap (λ l. held ++ fault_text (s.lines + 1) l LineTooLong s.streams s.live) (sym (shown-none line long));
+  text = took.text ∙ ap (λ l. held ++ told_text s l LineTooLong) (sym (shown-none line long));
 }
 
 silently : (line : List ℕ) (a : Asks) (s t : State) (held now : List ℕ) → length line ≤ 1024 → IsDiagnosis s.streams s.live line (Ok a) → ComesOf s (Ok a) (fine a) → TookSilently (after_asks s a) t held now → TookLine line s t held now
@@ -113,7 +112,7 @@ advised_taken (Ok done) a s t streams before after e wrote is = record {
 }
 advised_taken (Err x) a s t streams before after e wrote is = tt
 
--- what is wrong was put behind what is held, and the line was counted
-pub fault_told : (line : List ℕ) (wrong : Fault) (s t : State) (before after : MemSinkState) → Wrote (mem_sink_seen before) (mem_sink_seen after) (fault_text (s.lines + 1) line wrong s.streams s.live) → t ≡ one_fault_more s
+-- what is said of a line at fault was put behind what is held, and the line was counted
+pub fault_told : (line : List ℕ) (wrong : Fault) (s t : State) (before after : MemSinkState) → Wrote (mem_sink_seen before) (mem_sink_seen after) (told_text s line wrong) → (row : Bool) → row ≡ is_row_fault wrong → t ≡ one_fault_more s row
     → TookFault line wrong s t before.bytes after.bytes
-fault_told line wrong s t before after wrote is = record { state = is; text = wrote.bytes }
+fault_told line wrong s t before after wrote row e is = record { state = is ∙ ap (one_fault_more s) e; text = wrote.bytes }

@@ -1,5 +1,5 @@
 -- What is said of the order of a part.
-use Rattle.std.specs.Prelude.{ℕ, Bool, if◌then◌else◌, List, [], ◌∷◌, ◌++◌, codes}
+use Rattle.std.specs.Prelude.{ℕ, nat_lt, Bool, if◌then◌else◌, List, [], ◌∷◌, ◌++◌, length, codes}
 use Rattle.bq_schema.specs.Streams.{Shape}
 use Rattle.bq_chains.specs.declared.chains.Step.{Step}
 use Rattle.bq_chains.specs.declared.chains.Chain.{Chain}
@@ -22,6 +22,10 @@ next_step streams from step = behind streams from (sign_text step.equal) step.el
 abbrev pub steps_text : List Shape → List ℕ → List Step → List ℕ
 steps_text streams from steps = headed (first_step streams from) (next_step streams from) steps
 
--- a chain of a part, as `  part 23 has 0 < S.a = S.b < 9`
+-- a chain of several elements
+abbrev pub order_line : List Shape → List ℕ → ℕ → Chain → List ℕ
+order_line streams from part chain = part_head part ++ (steps_text streams from chain.steps.items ++ 10 ∷ [])
+
+-- a chain of a part, as `  part 23 has 0 < S.a = S.b < 9`: nothing where it has one element, which is in no order
 abbrev pub chain_line : List Shape → List ℕ → ℕ → Chain → List ℕ
-chain_line streams from part chain = part_head part ++ (steps_text streams from chain.steps.items ++ 10 ∷ [])
+chain_line streams from part chain = if nat_lt 1 (length chain.steps.items) then order_line streams from part chain else []

@@ -1,5 +1,5 @@
 -- What a line of a script comes to.
-use Rattle.std.specs.Prelude.{◌≡◌, ℕ, ◌+◌, ◌<◌, ◌≤◌, nat_lt, Bool, if◌then◌else◌, List, [], length}
+use Rattle.std.specs.Prelude.{◌≡◌, ℕ, ◌+◌, ◌<◌, ◌≤◌, nat_lt, nat_eq, Bool, true, false, if◌then◌else◌, List, [], ◌∷◌, length, decimal}
 use Rattle.std.specs.declared.result.Result.{Result}
 use Rattle.std.specs.declared.result.Result.TheVariants.{Ok, Err}
 use Rattle.bq_model.specs.Query.{QueryValue}
@@ -7,12 +7,15 @@ use Rattle.bq_diagnosis.specs.declared.fault.Asks.{Asks}
 use Rattle.bq_diagnosis.specs.declared.fault.Asks.TheVariants as asks
 use Rattle.bq_diagnosis.specs.declared.fault.Fault.{Fault}
 use Rattle.bq_diagnosis.specs.declared.fault.Fault.TheVariants.{LineTooLong}
+use Rattle.bq_diagnosis.specs.declared.fault.Fault.TheVariants as faults
 use Rattle.bq_diagnosis.specs.Faults.{IsDiagnosis}
 use Rattle.bq_sentences.specs.Texts.{fault_text}
 use Rattle.bq_mend.specs.declared.advising.QueryAdvice.{QueryAdvice}
 use Rattle.bq_mend.specs.Advised.{IsAdvice}
+use Rattle.bq_advice_lines.specs.Lines.{text_of}
 use Rattle.bq_advice.specs.declared.advised.AdvisedQuery.{AdvisedQuery}
 use Rattle.bq_advice.specs.State.{State, free_pages, one_line_more, one_fault_more, one_stream_more, one_query_less, one_query_more}
+use Rattle.bq_advice.specs.declared.faults.TheConstants.{MOST_ROWS, COUNTED, COUNTED_TAIL}
 use Rattle.bq_advice.specs.Queries.{query_text}
 
 -- What a line comes to: nothing is to be said of what it asks for; it is at fault; or it asks for a query, on which this is advised.
@@ -57,18 +60,42 @@ after_asks s asks.Explain = one_line_more s
 after_asks s (asks.Drop name) = one_query_less s name
 after_asks s asks.Other = one_line_more s
 
+-- whether a fault is one of a row
+abbrev pub is_row_fault : Fault → Bool
+is_row_fault faults.RowKey = true
+is_row_fault (faults.RowName bytes) = true
+is_row_fault faults.RowStream = true
+is_row_fault (faults.Arity stream wanted found) = true
+is_row_fault (faults.Value field) = true
+is_row_fault (faults.Domain stream field) = true
+is_row_fault _ = false
+
 -- the state behind a line that comes to this
 abbrev pub after : State → Finding → State
 after s (fine asks) = after_asks s asks
-after s (fault wrong) = one_fault_more s
+after s (fault wrong) = one_fault_more s (is_row_fault wrong)
 after s (query a) = one_query_more s a.name a.advice.judgement
 
 -- of a line that is too long nothing is shown
 abbrev pub shown : List ℕ → List ℕ
 shown line = if nat_lt 1024 (length line) then [] else line
 
+-- that a row is wrong, and that from here on such rows are counted alone
+unfoldable pub counted_text : ℕ → List ℕ
+counted_text number = text_of (COUNTED.now ∷ decimal number ∷ COUNTED_TAIL.now ∷ [])
+
+-- what is said of a row that is wrong: of the first 20 what is wrong, of the next that it is counted alone, and nothing of those behind it
+abbrev pub row_text : State → List ℕ → Fault → List ℕ
+row_text s line wrong =
+    if nat_lt s.rows MOST_ROWS then fault_text (s.lines + 1) line wrong s.streams s.live else
+    (if nat_eq s.rows MOST_ROWS then counted_text (s.lines + 1) else [])
+
+-- what is said of a line that is at fault
+abbrev pub told_text : State → List ℕ → Fault → List ℕ
+told_text s line wrong = if is_row_fault wrong then row_text s line wrong else fault_text (s.lines + 1) line wrong s.streams s.live
+
 -- what is said of a line that comes to this
 abbrev pub finding_text : State → List ℕ → Finding → List ℕ
 finding_text s line (fine asks) = []
-finding_text s line (fault wrong) = fault_text (s.lines + 1) (shown line) wrong s.streams s.live
+finding_text s line (fault wrong) = told_text s (shown line) wrong
 finding_text s line (query a) = query_text s.streams a

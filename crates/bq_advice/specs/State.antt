@@ -10,7 +10,7 @@ use Rattle.bq_mend.specs.declared.judging.Judgement.{Judgement}
 use Rattle.bq_mend.specs.declared.judging.Judgement.TheVariants as judgement
 
 -- The streams; the names of the live queries, in the order of their lines, and the pages of the pool that each has; how many lines were read,
--- how many queries were accepted and refused, and how many lines are at fault.
+-- how many queries were accepted and refused, how many lines are at fault, and how many of these are rows.
 pub record State : Type 0 where
   pub streams : List Shape
   pub live : List (List ℕ)
@@ -19,10 +19,11 @@ pub record State : Type 0 where
   pub accepted : ℕ
   pub refused : ℕ
   pub at_fault : ℕ
+  pub rows : ℕ
 
 -- before the first line
 abbrev pub empty : State
-empty = record { streams = []; live = []; pages = []; lines = 0; accepted = 0; refused = 0; at_fault = 0 }
+empty = record { streams = []; live = []; pages = []; lines = 0; accepted = 0; refused = 0; at_fault = 0; rows = 0 }
 
 -- the pages that are free beside those of the live queries
 abbrev pub free_pages : State → ℕ
@@ -48,9 +49,9 @@ is_accepted free judgement.ManyParts = false
 abbrev pub one_line_more : State → State
 one_line_more s = record s { lines = s.lines + 1 }
 
--- one line more, which is at fault
-abbrev pub one_fault_more : State → State
-one_fault_more s = record s { lines = s.lines + 1; at_fault = s.at_fault + 1 }
+-- one line more, which is at fault, and may be a row
+abbrev pub one_fault_more : State → Bool → State
+one_fault_more s row = record s { lines = s.lines + 1; at_fault = s.at_fault + 1; rows = if row then s.rows + 1 else s.rows }
 
 -- one stream more
 abbrev pub one_stream_more : State → Shape → State

@@ -1,17 +1,16 @@
 -- What taking a line does to the state and to the text that is held.
-use Rattle.std.specs.Prelude.{◌≡◌, ℕ, ◌+◌, Bool, true, false, List, [], ◌++◌}
+use Rattle.std.specs.Prelude.{◌≡◌, ℕ, Bool, true, false, List, [], ◌++◌}
 use Rattle.bq_model.specs.Query.{QueryValue}
 use Rattle.bq_diagnosis.specs.declared.fault.Asks.{Asks}
 use Rattle.bq_diagnosis.specs.declared.fault.Asks.TheVariants as asks
 use Rattle.bq_diagnosis.specs.declared.fault.Fault.{Fault}
 use Rattle.bq_diagnosis.specs.declared.fault.Fault.TheVariants.{LineTooLong}
-use Rattle.bq_sentences.specs.Texts.{fault_text}
 use Rattle.bq_mend.specs.declared.advising.QueryAdvice.{QueryAdvice}
 use Rattle.bq_mend.specs.Advised.{IsAdvice}
 use Rattle.bq_advice.specs.declared.advised.AdvisedQuery.{AdvisedQuery}
 use Rattle.bq_advice.specs.State.{State, one_line_more, one_fault_more, one_stream_more, one_query_less, one_query_more}
 use Rattle.bq_advice.specs.Queries.{query_text}
-use Rattle.bq_advice.specs.Finding.{Finding, IsFinding, advised, after, finding_text}
+use Rattle.bq_advice.specs.Finding.{Finding, IsFinding, advised, after, is_row_fault, told_text, finding_text}
 
 -- A line comes to a finding: the state is the one behind it, and what is said of it was put behind what was held.
 pub record TookLine (line : List ℕ) (s t : State) (held now : List ℕ) : Type 0 where
@@ -22,8 +21,8 @@ pub record TookLine (line : List ℕ) (s t : State) (held now : List ℕ) : Type
 
 -- a line that is at fault, of which so much is shown
 pub record TookFault (shown : List ℕ) (fault : Fault) (s t : State) (held now : List ℕ) : Type 0 where
-  pub state : t ≡ one_fault_more s
-  pub text : now ≡ held ++ fault_text (s.lines + 1) shown fault s.streams s.live
+  pub state : t ≡ one_fault_more s (is_row_fault fault)
+  pub text : now ≡ held ++ told_text s shown fault
 
 -- a query that was advised on
 pub record TookAdvised (a : AdvisedQuery) (s t : State) (held now : List ℕ) : Type 0 where

@@ -80,8 +80,24 @@ fn write_steps_line<O: Sink>(
     }
 }
 
-// A chain of a part.
+// A chain of several elements.
 #[tactic(auto, using(crate::proofs::Texts::writes_behind))]
+fn write_order<O: Sink>(
+    out: &mut O,
+    part: u32,
+    chain: &Chain,
+    from: &[u8],
+    catalog: &Catalog,
+) -> Result<(), WriteFault>
+    ensures { Writes result (O.seen out.old) (O.seen out.new) (order.order_line catalog.now from.now part chain.now) }
+{
+    match write_part(out, part) {
+        Ok(()) => write_steps_line(out, chain.steps.as_slice(), from, catalog),
+        Err(fault) => Err(fault),
+    }
+}
+
+// A chain of a part. One element alone is in no order, and nothing is said of it.
 fn write_chain<O: Sink>(
     out: &mut O,
     part: u32,
@@ -91,13 +107,14 @@ fn write_chain<O: Sink>(
 ) -> Result<(), WriteFault>
     ensures { Writes result (O.seen out.old) (O.seen out.new) (order.chain_line catalog.now from.now part chain.now) }
 {
-    match write_part(out, part) {
-        Ok(()) => write_steps_line(out, chain.steps.as_slice(), from, catalog),
-        Err(fault) => Err(fault),
+    if 1 < chain.steps.len() {
+        write_order(out, part, chain, from, catalog)
+    } else {
+        Ok(())
     }
 }
 
-/// Writes the chains of a part, each in a line: `  part 23 has 0 < Tank.id < Tank.level = 100`.
+/// Writes the chains of a part of more than one element, each in a line: `  part 23 has 0 < Tank.id < Tank.level = 100`.
 pub fn write_chains<O: Sink>(
     out: &mut O,
     part: u32,

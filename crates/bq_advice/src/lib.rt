@@ -10,6 +10,7 @@ mod advising;
 mod chains;
 mod changes;
 mod dearest;
+mod faults;
 mod limits;
 mod mends;
 mod queries;

@@ -16,7 +16,8 @@ const NARROW: &[u8] =
     b"  nothing that was tried lifts it: narrow the ranges named above, or ask for parts of them in several queries\n";
 
 /// That no change lifts the limit, where no range is named.
-const NOT_LIFTED: &[u8] = b"  nothing that was tried lifts it\n";
+const NOT_LIFTED: &[u8] =
+    b"  nothing that was tried lifts it: add COMPACT, if it is not there, and ask again what it lacks then\n";
 
 // Whether any change is told.
 fn has_change(advice: &QueryAdvice) -> bool

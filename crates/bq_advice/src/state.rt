@@ -26,6 +26,7 @@ pub struct Advising {
     accepted: u64,
     refused: u64,
     at_fault: u64,
+    rows: u64,
 }
 
 impl Model for Advising {
@@ -34,9 +35,9 @@ impl Model for Advising {
 
     ghost Value = { State };
 
-    ghost view = { λ a. record { streams = a.catalog; live = a.live.items; pages = a.pages.items; lines = a.lines; accepted = a.accepted; refused = a.refused; at_fault = a.at_fault } };
+    ghost view = { λ a. record { streams = a.catalog; live = a.live.items; pages = a.pages.items; lines = a.lines; accepted = a.accepted; refused = a.refused; at_fault = a.at_fault; rows = a.rows } };
 
-    ghost invariant = { λ a. (length a.live.items ≡ length a.pages.items) × (a.taken ≡ sum a.pages.items) × (a.taken ≤ 16384) × (a.accepted + a.refused + a.at_fault ≤ a.lines) };
+    ghost invariant = { λ a. (length a.live.items ≡ length a.pages.items) × (a.taken ≡ sum a.pages.items) × (a.taken ≤ 16384) × (a.accepted + a.refused + a.at_fault ≤ a.lines) × (a.rows ≤ a.at_fault) };
 }
 
 // The place of the first name that is this one.
@@ -60,6 +61,7 @@ impl Advising {
             accepted: 0,
             refused: 0,
             at_fault: 0,
+            rows: 0,
         })
     }
 
@@ -105,6 +107,13 @@ impl Advising {
         self.at_fault
     }
 
+    /// Returns how many rows are at fault.
+    pub fn rows(&self) -> u64
+        ensures { result ≡ self.now.rows }
+    {
+        self.rows
+    }
+
     /// Returns how many pages are free.
     pub fn free(&self) -> u32
         ensures value { result ≡ free_pages self.now }
@@ -133,13 +142,16 @@ impl Advising {
         self.lines += 1;
     }
 
-    /// Counts a line that is at fault.
-    pub fn count_fault(&mut self)
+    /// Counts a line that is at fault, and may be a row.
+    pub fn count_fault(&mut self, row: bool)
         requires { self.old.lines < 2 ^ 64 - 1 }
-        ensures { self.new ≡ one_fault_more self.old }
+        ensures { self.new ≡ one_fault_more self.old row }
     {
         self.lines += 1;
         self.at_fault += 1;
+        if row {
+            self.rows += 1;
+        }
     }
 
     /// Counts a line whose query is refused.

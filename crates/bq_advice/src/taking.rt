@@ -1,20 +1,18 @@
 //! One line of a script.
 ghost use Rattle.std.specs.Prelude.{◌≡◌, ◌+◌, ◌-◌, ◌^◌, ◌<◌, ◌≤◌, [], IfOk, OnOk, length};
-ghost use Rattle.bq_io.specs.Sink.{Writes};
 ghost use Rattle.bq_diagnosis.specs.declared.fault.Fault.TheVariants as faults;
 ghost use Rattle.bq_diagnosis.specs.Faults.{IsDiagnosis, IsReady};
-ghost use Rattle.bq_sentences.specs.Texts.{fault_text};
 ghost use Rattle.bq_advice.specs.State.{is_accepted, pages_for, one_query_more};
 ghost use Rattle.bq_advice.specs.Taking.{TookLine, TookAsks, TookQuery, TookAdvised, TookFault};
 
 use crate::advised::AdvisedQuery;
+use crate::faults::{is_row_fault, tell_fault};
 use crate::queries::{page_count, write_query};
 use crate::state::Advising;
 use bq_diagnosis::{Asks, Fault, Known, diagnose};
-use bq_io::{MemSink, Sink, WriteFault};
+use bq_io::MemSink;
 use bq_mend::{Judgement, advise};
 use bq_model::Query;
-use bq_sentences::write_fault;
 use bq_text::Name;
 use std::alloc::{AllocError, Global};
 
@@ -55,24 +53,7 @@ fn look_at(state: &Advising, line: &[u8]) -> Result<Asks, Fault>
     diagnose(line, &known)
 }
 
-// What is wrong with the next line.
-fn tell_fault<O: Sink>(
-    state: &Advising,
-    line: &[u8],
-    fault: &Fault,
-    out: &mut O,
-) -> Result<(), WriteFault>
-    requires { state.now.lines < 2 ^ 64 - 1 }
-    ensures { Writes result (O.seen out.old) (O.seen out.new) (fault_text (state.now.lines + 1) line.now fault.now state.now.streams state.now.live) }
-{
-    let known = Known {
-        catalog: state.catalog(),
-        live: state.live(),
-    };
-    write_fault(out, state.lines() + 1, line, fault, &known)
-}
-
-// Takes a line that is at fault: what is wrong is put behind what is held, and the line is counted.
+// Takes a line that is at fault: what is said of it is put behind what is held, and the line is counted.
 #[tactic(auto, using(crate::proofs::Taken::fault_told))]
 fn take_fault(
     state: &mut Advising,
@@ -85,7 +66,7 @@ fn take_fault(
 {
     match tell_fault(state, line, fault, held) {
         Ok(()) => {
-            state.count_fault();
+            state.count_fault(is_row_fault(fault));
             Ok(())
         }
         Err(_) => Err(AllocError),

@@ -1,5 +1,5 @@
 -- The lines and the pieces of lines that tell names and numbers, each by its pieces.
-use Rattle.std.specs.Prelude.{ℕ, nat_eq, Bool, true, false, if◌then◌else◌, List, [], ◌∷◌, ◌++◌, codes, decimal}
+use Rattle.std.specs.Prelude.{ℕ, ◌-◌, ◌^◌, nat_eq, Bool, true, false, if◌then◌else◌, List, [], ◌∷◌, ◌++◌, codes, decimal}
 use Rattle.bq_model.specs.declared.condition.Condition.{Condition}
 use Rattle.bq_model.specs.declared.condition.Condition.TheVariants.{C1, C2, C3}
 use Rattle.bq_model.specs.declared.atom.Op.{Op}
@@ -28,10 +28,18 @@ unfoldable pub pool_line : ℕ → List ℕ → ℕ → ℕ → List ℕ
 pool_line number name needed free =
     text_of (codes "line " ∷ decimal number ∷ codes ": query " ∷ name ∷ codes " is refused: pages " ∷ decimal needed ∷ codes " of " ∷ decimal free ∷ codes " that are free\n" ∷ [])
 
+-- whether a number of 64 bits is the greatest of them, which stands for all numbers from there on
+abbrev pub is_capped : ℕ → Bool
+is_capped value = nat_eq value (2 ^ 64 - 1)
+
+-- what stands before a number of 64 bits
+abbrev pub at_least : ℕ → List ℕ
+at_least value = if is_capped value then codes "at least " else []
+
 -- a query of which a number is above its limit
 unfoldable pub above_line : ℕ → List ℕ → Which → ℕ → List ℕ
 above_line number name which value =
-    text_of (codes "line " ∷ decimal number ∷ codes ": query " ∷ name ∷ codes " is refused: " ∷ which_text which ∷ codes " " ∷ decimal value ∷ codes " of " ∷ decimal (most which) ∷ codes "\n" ∷ [])
+    text_of (codes "line " ∷ decimal number ∷ codes ": query " ∷ name ∷ codes " is refused: " ∷ which_text which ∷ codes " " ∷ at_least value ∷ decimal value ∷ codes " of " ∷ decimal (most which) ∷ codes "\n" ∷ [])
 
 -- why a column breaks a condition, by whether an answer counts once
 abbrev pub reason_text : Bool → Condition → List ℕ
@@ -76,12 +84,16 @@ part_head part = text_of (codes "  part " ∷ decimal part ∷ codes " has" ∷ 
 abbrev pub cells_text : ℕ → List ℕ
 cells_text cells = if nat_eq cells 1 then codes " cell: " else codes " cells: "
 
+-- whether all cells of a part are of one stream: not where there are so many that 64 bits do not tell
+abbrev pub is_alone : ℕ → ℕ → Bool
+is_alone cells kept = if is_capped cells then false else nat_eq cells kept
+
 -- how many cells a part keeps, and of which stream so many of them are: all, as `  part 5 keeps 1369 cells: Temp`, or as `  part 5 keeps 2738 cells, 1369 of them of Temp`
 unfoldable pub kept_head : ℕ → ℕ → ℕ → List ℕ → List ℕ
 kept_head part cells kept stream =
-    if nat_eq cells kept
+    if is_alone cells kept
     then text_of (codes "  part " ∷ decimal part ∷ codes " keeps " ∷ decimal cells ∷ cells_text cells ∷ stream ∷ [])
-    else text_of (codes "  part " ∷ decimal part ∷ codes " keeps " ∷ decimal cells ∷ codes " cells, " ∷ decimal kept ∷ codes " of them of " ∷ stream ∷ [])
+    else text_of (codes "  part " ∷ decimal part ∷ codes " keeps " ∷ at_least cells ∷ decimal cells ∷ codes " cells, " ∷ at_least kept ∷ decimal kept ∷ codes " of them of " ∷ stream ∷ [])
 
 -- a column with its least and greatest value, by their texts, behind a text
 unfoldable pub range_text : List ℕ → ColumnAst → List ℕ → List ℕ → List ℕ

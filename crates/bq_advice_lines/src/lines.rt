@@ -152,19 +152,34 @@ fn most_of(which: Which) -> u32
     }
 }
 
-// A number above its limit, by the texts of both.
+// Whether a number is the greatest of 64 bits, which stands for all numbers from there on.
+fn is_capped(value: u64) -> bool
+    ensures { result ≡ line.is_capped value }
+{
+    value == u64::MAX
+}
+
+// What stands before a number.
+fn at_least(value: u64) -> &'static [u8]
+    ensures { result.now ≡ line.at_least value }
+{
+    if is_capped(value) { b"at least " } else { b"" }
+}
+
+// A number above its limit, by the texts of both, and what stands before it.
 fn write_above_text<'a, O: Sink>(
     out: &mut O,
     number: &'a [u8],
     name: &'a [u8],
     which: &'a [u8],
+    lead: &'a [u8],
     value: &'a [u8],
     most: &'a [u8],
 ) -> Result<(), WriteFault>
     ensures { Writes result (O.seen out.old) (O.seen out.new)
-        (line.text_of (codes "line " ∷ number.now ∷ codes ": query " ∷ name.now ∷ codes " is refused: " ∷ which.now ∷ codes " " ∷ value.now ∷ codes " of " ∷ most.now ∷ codes "\n" ∷ [])) }
+        (line.text_of (codes "line " ∷ number.now ∷ codes ": query " ∷ name.now ∷ codes " is refused: " ∷ which.now ∷ codes " " ∷ lead.now ∷ value.now ∷ codes " of " ∷ most.now ∷ codes "\n" ∷ [])) }
 {
-    let pieces: [&[u8]; 11] = [
+    let pieces: [&[u8]; 12] = [
         b"line ",
         number,
         b": query ",
@@ -172,6 +187,7 @@ fn write_above_text<'a, O: Sink>(
         b" is refused: ",
         which,
         b" ",
+        lead,
         value,
         b" of ",
         most,
@@ -180,7 +196,7 @@ fn write_above_text<'a, O: Sink>(
     write_pieces(out, &pieces)
 }
 
-/// Writes that a number of a query is above its limit.
+/// Writes that a number of a query is above its limit; the greatest of 64 bits stands for all from there on.
 #[tactic(auto, unfolding(crate::specs::Lines::above_line))]
 pub fn write_above<O: Sink>(
     out: &mut O,
@@ -199,6 +215,7 @@ pub fn write_above<O: Sink>(
         buffer.format(number).as_bytes(),
         name.bytes(),
         which_text(which),
+        at_least(value),
         digits.format(value).as_bytes(),
         limit.format(most_of(which)).as_bytes(),
     )
@@ -364,23 +381,27 @@ fn write_all_kept<'a, O: Sink>(
     write_pieces(out, &pieces)
 }
 
-// How many cells of a part are of one stream, by the texts of the numbers.
+// How many cells of a part are of one stream, by the texts of the numbers and what stands before them.
 fn write_most_kept<'a, O: Sink>(
     out: &mut O,
     part: &'a [u8],
+    lead: &'a [u8],
     cells: &'a [u8],
+    lead_kept: &'a [u8],
     kept: &'a [u8],
     stream: &'a [u8],
 ) -> Result<(), WriteFault>
     ensures { Writes result (O.seen out.old) (O.seen out.new)
-        (line.text_of (codes "  part " ∷ part.now ∷ codes " keeps " ∷ cells.now ∷ codes " cells, " ∷ kept.now ∷ codes " of them of " ∷ stream.now ∷ [])) }
+        (line.text_of (codes "  part " ∷ part.now ∷ codes " keeps " ∷ lead.now ∷ cells.now ∷ codes " cells, " ∷ lead_kept.now ∷ kept.now ∷ codes " of them of " ∷ stream.now ∷ [])) }
 {
-    let pieces: [&[u8]; 8] = [
+    let pieces: [&[u8]; 10] = [
         b"  part ",
         part,
         b" keeps ",
+        lead,
         cells,
         b" cells, ",
+        lead_kept,
         kept,
         b" of them of ",
         stream,
@@ -393,6 +414,17 @@ fn cells_text(cells: u64) -> &'static [u8]
     ensures { result.now ≡ line.cells_text cells }
 {
     if cells == 1 { b" cell: " } else { b" cells: " }
+}
+
+// Whether all cells of a part are of one stream: not where there are so many that 64 bits do not tell.
+fn is_alone(cells: u64, kept: u64) -> bool
+    ensures { result ≡ line.is_alone cells kept }
+{
+    if is_capped(cells) {
+        false
+    } else {
+        cells == kept
+    }
 }
 
 /// Writes how many cells a part keeps, and of which stream so many of them are: `  part 5 keeps 1369 cells: Temp`, or
@@ -412,10 +444,18 @@ pub fn write_kept<O: Sink>(
     let mut some = Buffer::new();
     let number = number.format(part).as_bytes();
     let all = all.format(cells).as_bytes();
-    if cells == kept {
+    if is_alone(cells, kept) {
         write_all_kept(out, number, all, cells_text(cells), stream)
     } else {
-        write_most_kept(out, number, all, some.format(kept).as_bytes(), stream)
+        write_most_kept(
+            out,
+            number,
+            at_least(cells),
+            all,
+            at_least(kept),
+            some.format(kept).as_bytes(),
+            stream,
+        )
     }
 }
 

@@ -22,7 +22,8 @@ use Rattle.bq_parser.specs.Syntax.{lexeme_as, lexemes}
 use Rattle.bq_parser.specs.Limits.{soft_in}
 use Rattle.bq_parser.proofs.Compact.{create_tokens}
 use Rattle.bq_parser.proofs.Said.{select_grouped}
-use Rattle.bq_diagnosis.specs.Counted.{count_of, is_comma, is_point, is_integer, is_soft_sign, is_comparison}
+use Rattle.bq_diagnosis.specs.Counted.{count_of, is_comma, is_integer, is_soft_sign, is_comparison}
+use Rattle.bq_diagnosis.specs.Marks.{is_point}
 
 -- tokens of a kind are no more than all
 pub few : (p : TokenKind → Bool) (ts : List Token) → length ts ≤ 1024 → length (filter (λ t. p t.kind) ts) ≤ 1024
@@ -37,7 +38,7 @@ abbrev pub count : (TokenKind → Bool) → List Lexeme → ℕ
 count p [] = 0
 count p (l ∷ ls) = one (p (kind_at l)) + count p ls
 
-kind_same : (k : TokenKind) (w : List ℕ) → kind_at (lexeme_as k w) ≡ k
+pub kind_same : (k : TokenKind) (w : List ℕ) → kind_at (lexeme_as k w) ≡ k
 kind_same kinds.Word w = refl
 kind_same (kinds.Reserved k) w = refl
 kind_same kinds.Integer w = refl

@@ -1,3 +1,4 @@
+pub mod ColumnsTold
 pub mod Counting
 pub mod Diagnoses
 pub mod Having

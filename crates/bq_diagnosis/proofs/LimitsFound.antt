@@ -27,8 +27,11 @@ use Rattle.bq_parser.proofs.Compact.{create_tokens, spelling_length}
 use Rattle.bq_parser.proofs.Said.{cut_at, without_semicolon, numbers_query}
 use Rattle.bq_parser.proofs.Taken.{or_left, or_right}
 use Rattle.bq_parser.proofs.Within.{integers_spelled, near_fits}
-use Rattle.bq_diagnosis.specs.Counted.{count_of, is_comma, is_point, is_integer, is_soft_sign, is_comparison, selected_number, from_number, integers_at, long_bytes, found_by}
+use Rattle.bq_diagnosis.specs.Counted.{count_of, is_comma, is_integer, is_soft_sign, is_comparison, selected_number, from_number, integers_at, long_bytes, found_by}
+use Rattle.bq_diagnosis.specs.Compared.{columns_compared}
+use Rattle.bq_diagnosis.specs.Marks.{is_point}
 use Rattle.bq_diagnosis.specs.Passed.{long_length, found_in}
+use Rattle.bq_diagnosis.proofs.ColumnsTold.{columns_of_query}
 use Rattle.bq_diagnosis.proofs.Counting.{count, counted, but_semicolon, IsSign, comma_sign, point_sign, integer_sign, soft_sign, comparison_sign, query_counts, stream_commas, tuple_integers}
 
 -- whether a statement passes a limit
@@ -226,6 +229,10 @@ soft_found : (s : Statement) (line : List ℕ) (ts : List Token) → passes limi
 soft_found (CreateQuery name select shared) line ts p h = (query_found line ts name select shared h).soft
 soft_found _ line ts p h = let f : false ≡ true = p in cc
 
+attrs_found : (s : Statement) (line : List ℕ) (ts : List Token) → passes limits.Attrs s ≡ true → Spells (lexemes line ts) s → number_of_different same_column (columns_compared line ts) ≡ number_of_different same_column (columns_in (atoms_of s))
+attrs_found (CreateQuery name select shared) line ts p h = ap (number_of_different same_column) (columns_of_query line ts name select shared h)
+attrs_found _ line ts p h = let f : false ≡ true = p in cc
+
 tuple_found : (s : Statement) (line : List ℕ) (ts : List Token) → passes limits.Tuple s ≡ true → Spells (lexemes line ts) s → count_of is_integer ts ≡ length (values_of s)
 tuple_found (ResumeTuple name values) line ts p h =
     let c = signs_spelled is_integer line ts (ResumeTuple name values) integer_sign h in
@@ -252,7 +259,7 @@ found_for limits.Select s line ts p e h stand = ap Some (select_found s line ts 
 found_for limits.From s line ts p e h stand = ap Some (from_found s line ts p h)
 found_for limits.Atoms s line ts p e h stand = ap Some (atoms_found s line ts p h)
 found_for limits.Soft s line ts p e h stand = ap Some (soft_found s line ts p h)
-found_for limits.Attrs s line ts p e h stand = refl
+found_for limits.Attrs s line ts p e h stand = ap Some (attrs_found s line ts p h)
 found_for limits.Value s line ts p e h stand = refl
 found_for limits.Consts s line ts p e h stand = ap Some (consts_found s line ts p (near_integers s e) h stand)
 found_for limits.Domain s line ts p e h stand = refl

@@ -4,22 +4,19 @@ use Rattle.std.specs.List.{flat_map}
 use Rattle.std.specs.Ordering.{int_eq}
 use Rattle.bq_text.specs.Value.{value_of}
 use Rattle.bq_lexer.specs.declared.token.TokenKind.{TokenKind}
-use Rattle.bq_lexer.specs.declared.token.TokenKind.TheVariants.{Integer, Comma, Point, Less, Equal, Greater, LessEqual, GreaterEqual, Unequal}
+use Rattle.bq_lexer.specs.declared.token.TokenKind.TheVariants.{Integer, Comma, Less, Equal, Greater, LessEqual, GreaterEqual, Unequal}
 use Rattle.bq_lexer.specs.declared.token.Token.{Token}
 use Rattle.bq_parser.specs.declared.parsing.What.{What}
 use Rattle.bq_parser.specs.declared.parsing.What.TheVariants as limits
 use Rattle.bq_parser.specs.DraftLimits.{is_long_token}
-use Rattle.bq_parser.specs.Limits.{number_of_different}
+use Rattle.bq_parser.specs.Limits.{same_column, number_of_different}
+use Rattle.bq_diagnosis.specs.Compared.{columns_compared}
+use Rattle.bq_diagnosis.specs.Marks.{is_point}
 
 -- a comma
 abbrev pub is_comma : TokenKind → Bool
 is_comma Comma = true
 is_comma _ = false
-
--- a point
-abbrev pub is_point : TokenKind → Bool
-is_point Point = true
-is_point _ = false
 
 -- an integer
 abbrev pub is_integer : TokenKind → Bool
@@ -79,7 +76,7 @@ found_by limits.Select line ts = Some (selected_number ts)
 found_by limits.From line ts = Some (from_number ts)
 found_by limits.Atoms line ts = Some (count_of is_comparison ts)
 found_by limits.Soft line ts = Some (count_of is_soft_sign ts)
-found_by limits.Attrs line ts = None
+found_by limits.Attrs line ts = Some (number_of_different same_column (columns_compared line ts))
 found_by limits.Value line ts = None
 found_by limits.Consts line ts = Some (number_of_different int_eq (integers_at line ts))
 found_by limits.Domain line ts = None

@@ -1,5 +1,6 @@
 pub mod Asked
 pub mod Candidates
+pub mod Compared
 pub mod Counted
 pub mod FaultWords
 pub mod Faults

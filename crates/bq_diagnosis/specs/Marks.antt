@@ -1,7 +1,8 @@
 -- The place of a fault in its text, below which a mark stands.
-use Rattle.std.specs.Prelude.{ℕ, zero, suc, ◌+◌, ◌-◌, ◌==◌, Bool, true, false, ◌&&◌, List, [], ◌∷◌, length, nat_lt, slice_range, if◌then◌else◌, Option, Some, None, Result, Ok, Err}
+use Rattle.std.specs.Prelude.{ℕ, zero, suc, ◌+◌, ◌-◌, ◌==◌, ℤ, Bool, true, false, not, ◌&&◌, List, [], ◌∷◌, length, nat_lt, slice_range, if◌then◌else◌, Option, Some, None, Result, Ok, Err}
 use Rattle.std.specs.Str.{bytes_eq}
 use Rattle.bq_text.specs.Blank.{without_blanks_before}
+use Rattle.bq_text.specs.Value.{value_of}
 use Rattle.bq_text.specs.declared.key.Key.TheVariants as keys
 use Rattle.bq_lexer.specs.declared.token.TokenKind.{TokenKind}
 use Rattle.bq_lexer.specs.declared.token.TokenKind.TheVariants as kinds
@@ -10,7 +11,8 @@ use Rattle.bq_lexer.specs.Tokens.{tokens}
 use Rattle.bq_parser.specs.declared.tree.ColumnAst.{ColumnAst}
 use Rattle.bq_parser.specs.declared.parsing.What.{What}
 use Rattle.bq_parser.specs.declared.parsing.What.TheVariants as limits
-use Rattle.bq_parser.specs.DraftLimits.{is_long_token}
+use Rattle.bq_parser.specs.DraftLimits.{is_long_token, is_integer_kind}
+use Rattle.bq_parser.specs.Limits.{is_far}
 use Rattle.bq_diagnosis.specs.declared.fault.Fault.{Fault}
 use Rattle.bq_diagnosis.specs.declared.fault.Fault.TheVariants as faults
 use Rattle.bq_diagnosis.specs.declared.marks.Anchor.{Anchor}
@@ -45,6 +47,11 @@ abbrev pub is_opening : TokenKind → Bool
 is_opening kinds.Open = true
 is_opening _ = false
 
+-- whether a token is WHERE
+abbrev pub is_where : TokenKind → Bool
+is_where (kinds.Reserved keys.WhereKey) = true
+is_where _ = false
+
 -- whether a token is a point
 abbrev pub is_point : TokenKind → Bool
 is_point kinds.Point = true
@@ -55,6 +62,7 @@ abbrev pub is_anchor : Anchor → TokenKind → Bool
 is_anchor anchors.From kind = is_from kind
 is_anchor anchors.Query kind = is_query kind
 is_anchor anchors.Opening kind = is_opening kind
+is_anchor anchors.Where kind = is_where kind
 
 -- the tokens behind the first one of a kind
 abbrev pub behind_anchor : Anchor → List Token → List Token
@@ -80,14 +88,39 @@ abbrev pub long_place : List Token → Option ℕ
 long_place [] = None
 long_place (t ∷ ts) = if is_long_token t then Some t.from else long_place ts
 
--- the place of a limit that is passed, where one name or more is too long
-abbrev pub limit_place : What → List Token → Option ℕ
-limit_place limits.Name ts = long_place ts
-limit_place _ ts = None
+-- whether an integer is one that a statement may not have: one of more than 64 bits, and where it may not have all of those one that is far
+abbrev pub is_beyond : Bool → Option ℤ → Bool
+is_beyond wide (Some z) = not wide && is_far z
+is_beyond wide None = true
+
+-- whether a token is such an integer
+abbrev pub is_beyond_at : List ℕ → Bool → Token → Bool
+is_beyond_at line wide t = is_integer_kind t.kind && is_beyond wide (value_of (slice_range line t.from t.to))
+
+-- where the first such integer begins
+abbrev pub beyond_place : List ℕ → Bool → List Token → Option ℕ
+beyond_place line wide [] = None
+beyond_place line wide (t ∷ ts) = if is_beyond_at line wide t then Some t.from else beyond_place line wide ts
+
+-- whether a token is RESUME
+abbrev pub is_resume : TokenKind → Bool
+is_resume (kinds.Reserved keys.ResumeKey) = true
+is_resume _ = false
+
+-- whether these are the tokens of a line of a checkpoint, whose integers may have all of 64 bits
+abbrev pub is_resumed : List Token → Bool
+is_resumed [] = false
+is_resumed (t ∷ ts) = is_resume t.kind
+
+-- the place of a limit that is passed, where one name or more is too long, or one integer or more too far
+abbrev pub limit_place : List ℕ → What → List Token → Option ℕ
+limit_place line limits.Name ts = long_place ts
+limit_place line limits.Value ts = beyond_place line (is_resumed ts) ts
+limit_place line _ ts = None
 
 -- the place of a fault of a statement among its tokens, where its sentence is of one name
 abbrev pub token_place : List ℕ → Fault → List Token → Option ℕ
-token_place line (faults.Limit what found) ts = limit_place what ts
+token_place line (faults.Limit what found) ts = limit_place line what ts
 token_place line (faults.DuplicateStream name) ts = named_place line name ts
 token_place line (faults.DuplicateColumn name) ts = again_place line name (behind_anchor anchors.Opening ts)
 token_place line (faults.DuplicateQuery name) ts = named_place line name (behind_anchor anchors.Query ts)

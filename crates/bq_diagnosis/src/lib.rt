@@ -6,6 +6,7 @@
 #![tactic(auto)]
 
 mod candidates;
+mod compared;
 mod diagnosis;
 mod fault;
 mod fields;

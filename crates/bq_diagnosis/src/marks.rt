@@ -1,18 +1,21 @@
 //! The place of a fault in its text, below which a mark stands.
-ghost use Rattle.std.specs.Prelude.{◌≡◌, ◌≤◌, ◌&&◌, length};
+ghost use Rattle.std.specs.Prelude.{◌≡◌, ◌≤◌, ◌&&◌, length, slice_range};
 ghost use Rattle.bq_text.specs.Blank.{without_blanks_before};
 ghost use Rattle.bq_lexer.specs.Tokens.{tokens};
 ghost use Rattle.bq_parser.specs.DraftLimits.{is_long_token};
 ghost use Rattle.bq_diagnosis.specs.Marks as marks;
 
 use crate::fault::Fault;
-use crate::passing::piece_of;
+use crate::following::{front_of, rest_of};
 use bq_lexer::{Token, TokenKind, lex};
 use bq_parser::{ColumnAst, What};
-use bq_text::{Key, Name, trim_start};
+use bq_text::{Key, Name, read_i64, trim_start};
 
 /// The most bytes of a text.
 const MOST_BYTES: usize = 1024;
+
+/// The greatest integer of a statement that is no line of a checkpoint; the least one is its negative.
+const FARTHEST: i64 = 999_999_999_999_999;
 
 /// Behind which token a name is looked for.
 #[derive(Clone, Copy, Debug, PartialEq, Eq)]
@@ -20,6 +23,17 @@ pub enum Anchor {
     From,
     Query,
     Opening,
+    Where,
+}
+
+/// Returns the bytes of a line that a token takes.
+pub fn piece_of<'a>(line: &'a [u8], token: &Token) -> &'a [u8]
+    ensures { result.now ≡ slice_range line.now token.now.from token.now.to }
+{
+    front_of(
+        rest_of(line, token.from),
+        token.to.saturating_sub(token.from),
+    )
 }
 
 // Whether a token is these bytes.
@@ -61,29 +75,8 @@ fn behind_named<'a>(line: &[u8], name: &Name, tokens: &'a [Token]) -> &'a [Token
     }
 }
 
-// Whether a token is FROM.
-fn is_from(kind: TokenKind) -> bool
-    ensures { result ≡ marks.is_from kind }
-{
-    matches!(kind, TokenKind::Reserved(Key::FromKey))
-}
-
-// Whether a token is QUERY.
-fn is_query(kind: TokenKind) -> bool
-    ensures { result ≡ marks.is_query kind }
-{
-    matches!(kind, TokenKind::Reserved(Key::QueryKey))
-}
-
-// Whether a token is an opening parenthesis.
-fn is_opening(kind: TokenKind) -> bool
-    ensures { result ≡ marks.is_opening kind }
-{
-    matches!(kind, TokenKind::Open)
-}
-
-// Whether a token is a point.
-fn is_point(kind: TokenKind) -> bool
+/// Returns whether a token is a point.
+pub fn is_point(kind: TokenKind) -> bool
     ensures { result ≡ marks.is_point kind }
 {
     matches!(kind, TokenKind::Point)
@@ -94,15 +87,17 @@ fn is_anchor(anchor: Anchor, kind: TokenKind) -> bool
     ensures { result ≡ marks.is_anchor anchor kind }
 {
     match anchor {
-        Anchor::From => is_from(kind),
-        Anchor::Query => is_query(kind),
-        Anchor::Opening => is_opening(kind),
+        Anchor::From => matches!(kind, TokenKind::Reserved(Key::FromKey)),
+        Anchor::Query => matches!(kind, TokenKind::Reserved(Key::QueryKey)),
+        Anchor::Opening => matches!(kind, TokenKind::Open),
+        Anchor::Where => matches!(kind, TokenKind::Reserved(Key::WhereKey)),
     }
 }
 
-// The tokens behind the first one of a kind.
-fn behind_anchor(anchor: Anchor, tokens: &[Token]) -> &[Token]
-    ensures { result.now ≡ marks.behind_anchor anchor tokens.now }
+/// Returns the tokens behind the first one of a kind, or none.
+pub fn behind_anchor(anchor: Anchor, tokens: &[Token]) -> &[Token]
+    ensures behind { result.now ≡ marks.behind_anchor anchor tokens.now }
+    ensures short { length result.now ≤ length tokens.now }
 {
     match tokens {
         [] => &[],
@@ -156,8 +151,8 @@ fn column_place(line: &[u8], column: &ColumnAst, tokens: &[Token]) -> Option<u16
     }
 }
 
-// Whether a token is a word that is too long for a name.
-fn is_long(token: &Token) -> bool
+/// Returns whether a token is a word that is too long for a name.
+pub fn is_long(token: &Token) -> bool
     ensures { result ≡ is_long_token token.now }
 {
     match token.kind {
@@ -182,12 +177,59 @@ fn long_place(tokens: &[Token]) -> Option<u16>
     }
 }
 
+// Whether an integer is one that a statement may not have, by whether it may have all of 64 bits.
+fn is_beyond(wide: bool, value: Option<i64>) -> bool
+    ensures { result ≡ marks.is_beyond wide value }
+{
+    match value {
+        Some(value) => !wide && (value < -FARTHEST || FARTHEST < value),
+        None => true,
+    }
+}
+
+// Whether a token is an integer that a statement may not have.
+fn is_beyond_at(line: &[u8], wide: bool, token: &Token) -> bool
+    ensures { result ≡ marks.is_beyond_at line.now wide token.now }
+{
+    match token.kind {
+        TokenKind::Integer => is_beyond(wide, read_i64(piece_of(line, token))),
+        _ => false,
+    }
+}
+
+// Where the first integer begins that a statement may not have.
+fn beyond_place(line: &[u8], wide: bool, tokens: &[Token]) -> Option<u16>
+    ensures { result ≡ marks.beyond_place line.now wide tokens.now }
+{
+    match tokens {
+        [] => None,
+        [first, others @ ..] => {
+            if is_beyond_at(line, wide, first) {
+                Some(first.from)
+            } else {
+                beyond_place(line, wide, others)
+            }
+        }
+    }
+}
+
+// Whether these are the tokens of a line of a checkpoint, which begins with RESUME.
+fn is_resumed(tokens: &[Token]) -> bool
+    ensures { result ≡ marks.is_resumed tokens.now }
+{
+    match tokens {
+        [] => false,
+        [first, ..] => matches!(first.kind, TokenKind::Reserved(Key::ResumeKey)),
+    }
+}
+
 // The place of a limit that is passed.
-fn limit_place(what: What, tokens: &[Token]) -> Option<u16>
-    ensures { result ≡ marks.limit_place what tokens.now }
+fn limit_place(line: &[u8], what: What, tokens: &[Token]) -> Option<u16>
+    ensures { result ≡ marks.limit_place line.now what tokens.now }
 {
     match what {
         What::Name => long_place(tokens),
+        What::Value => beyond_place(line, is_resumed(tokens), tokens),
         _ => None,
     }
 }
@@ -197,7 +239,7 @@ fn token_place(line: &[u8], fault: &Fault, tokens: &[Token]) -> Option<u16>
     ensures { result ≡ marks.token_place line.now fault.now tokens.now }
 {
     match fault {
-        Fault::Limit { what, .. } => limit_place(*what, tokens),
+        Fault::Limit { what, .. } => limit_place(line, *what, tokens),
         Fault::DuplicateStream { name } => named_place(line, name, tokens),
         Fault::DuplicateColumn { name } => {
             again_place(line, name, behind_anchor(Anchor::Opening, tokens))

@@ -2,45 +2,29 @@
 //!
 //! A comparison has one sign, each of its two sides is an integer or a column, and a column has one point. Commas stand between columns
 //! and between streams alone. So the numbers of these tokens tell how many columns, streams and comparisons there are.
-ghost use Rattle.std.specs.Prelude.{◌≡◌, ◌≤◌, ◌+◌, ◌++◌, Some, length, slice_range};
+ghost use Rattle.std.specs.Prelude.{◌≡◌, ◌≤◌, ◌+◌, ◌++◌, Some, length};
 ghost use Rattle.std.specs.Ordering.{int_eq};
 ghost use Rattle.std.specs.List.{list_any};
-ghost use Rattle.bq_parser.specs.DraftLimits.{is_long_token};
 ghost use Rattle.bq_parser.specs.Limits.{limit_of, number_of_different};
 ghost use Rattle.bq_parser.specs.declared.tree.Statement.{Statement};
 ghost use Rattle.bq_parser.specs.Syntax.{IsStatement};
 ghost use Rattle.bq_diagnosis.specs.Counted as counted;
 ghost use Rattle.bq_diagnosis.specs.Counted.{count_of, selected_number, from_number, integer_at, integer_with, integers_at, long_bytes, found_by};
+ghost use Rattle.bq_diagnosis.specs.Marks.{is_point};
 ghost use Rattle.bq_diagnosis.specs.Passed.{found_in};
 
-use crate::following::{front_of, rest_of};
+use crate::compared::different_columns;
+use crate::marks::{is_long, is_point, piece_of};
 use arrayvec::ArrayVec;
 use bq_lexer::{Token, TokenKind, lex};
 use bq_parser::What;
-use bq_text::{Name, read_i64};
-
-/// Returns the bytes of a line that a token takes.
-pub fn piece_of<'a>(line: &'a [u8], token: &Token) -> &'a [u8]
-    ensures { result.now ≡ slice_range line.now token.now.from token.now.to }
-{
-    front_of(
-        rest_of(line, token.from),
-        token.to.saturating_sub(token.from),
-    )
-}
+use bq_text::read_i64;
 
 // Whether a token is a comma.
 fn is_comma(kind: TokenKind) -> bool
     ensures { result ≡ counted.is_comma kind }
 {
     matches!(kind, TokenKind::Comma)
-}
-
-// Whether a token is a point.
-fn is_point(kind: TokenKind) -> bool
-    ensures { result ≡ counted.is_point kind }
-{
-    matches!(kind, TokenKind::Point)
 }
 
 // Whether a token is an integer.
@@ -89,7 +73,7 @@ fn commas(tokens: &[Token]) -> u16
 #[tactic(auto, using(crate::proofs::Counting::few))]
 fn points(tokens: &[Token]) -> u16
     requires { length tokens.now ≤ 1024 }
-    ensures number { result ≡ count_of counted.is_point tokens.now }
+    ensures number { result ≡ count_of is_point tokens.now }
     ensures few { result ≤ 1024 }
 {
     tokens.iter().filter(|token| is_point(token.kind)).count() as u16
@@ -209,16 +193,6 @@ fn different_values(line: &[u8], tokens: &[Token]) -> u16
     different(values.as_slice())
 }
 
-// Whether a token is a word that is too long for a name.
-fn is_long(token: &Token) -> bool
-    ensures { result ≡ is_long_token token.now }
-{
-    match token.kind {
-        TokenKind::Word => usize::from(token.from) + Name::MOST_BYTES < usize::from(token.to),
-        _ => false,
-    }
-}
-
 // How many bytes the first word has that is too long for a name.
 fn long_word(tokens: &[Token]) -> Option<u16>
     ensures { result ≡ long_bytes tokens.now }
@@ -247,9 +221,10 @@ fn number_found(what: What, line: &[u8], tokens: &[Token]) -> Option<u16>
         What::From => Some(from_streams(tokens)),
         What::Atoms => Some(comparisons(tokens)),
         What::Soft => Some(soft_signs(tokens)),
+        What::Attrs => Some(different_columns(line, tokens)),
         What::Consts => Some(different_values(line, tokens)),
         What::Tuple => Some(integers(tokens)),
-        What::Attrs | What::Value | What::Domain => None,
+        What::Value | What::Domain => None,
     }
 }
 

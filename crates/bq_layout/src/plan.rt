@@ -1,9 +1,10 @@
 //! The plan of a query.
-ghost use Rattle.std.specs.Prelude.{◌≡◌, ◌≤◌, ◌<◌, length, true, false, IsFalse, IfOk};
+ghost use Rattle.std.specs.Prelude.{◌≡◌, ◌≤◌, ◌<◌, length, true, false, IsFalse, IfOk, IfErr, None};
 ghost use Rattle.bq_model.specs.Query.{is_filter};
 ghost use Rattle.bq_model.specs.Parts.{AreParts};
+ghost use Rattle.bq_model.specs.Violation.{IsViolation};
 ghost use Rattle.bq_lto_split.specs.Split.{sign_lists};
-ghost use Rattle.bq_layout.specs.Unset.{AreUnset};
+ghost use Rattle.bq_layout.specs.Unset.{AreUnset, IsPartFault};
 ghost use Rattle.bq_layout.specs.Sums.{IsDrafted, violation_at};
 ghost use Rattle.bq_layout.specs.Shared.{IsSharedDraft};
 ghost use Rattle.bq_layout.specs.Layout.{IsLayout, IsNumbered};
@@ -106,13 +107,16 @@ fn planned(draft: Draft) -> Result<Plan, LayoutError>
 }
 
 /// Returns what is kept of each stream in each of the parts of a query that is no filter, in their order, whatever its numbers come to: the dims and the kinds of
-/// cells of a plan, whose boxes are still to be set. An error says that a part breaks a condition, or that memory was not found.
+/// cells of a plan, whose boxes are still to be set. `Violation` tells the first part that breaks a condition, in it the first condition, and for it the first
+/// column; `Memory` is answered where the list of the plans finds no room. `Limit` is never answered.
 pub fn part_plans(alloc: Global, q: &Query, parts: &[Part]) -> Result<Vec<PartPlan>, LayoutError>
     requires parts { AreParts q.now (sign_lists parts.now) }
     requires few { length parts.now ≤ 4096 }
     requires plain { IsFalse (is_filter q.now) }
     ensures plans { IfOk result (λ plans. AreUnset q.now plans.items) }
     ensures few { IfOk result (λ plans. length plans.items ≤ 4096) }
+    ensures meets { IfOk result (λ plans. IsViolation q.now None) }
+    ensures fault { IfErr result (IsPartFault q.now) }
 {
     match drafted(alloc, q, parts) {
         Ok(draft) => Ok(parts_of(draft)),

@@ -24,9 +24,13 @@ few_parts q parts n are few more =
 pub meets_by : (q : QueryValue) (parts : List Part) → AreParts q (sign_lists parts) → length parts ≤ 4096 → IsViolation q None → Meets q
 meets_by q parts are few v = record { few = λ f. few_parts q parts 4096 are few; violation = v }
 
--- a query that shows a violation does not
+-- a query that shows a violation shows not none
+pub no_fault : (q : QueryValue) (f : Failure) → IsViolation q (Some f) → IsViolation q None → ⊥
+no_fault q f v n = let e : None ≡ Some f = one_violation q None (Some f) n v in absurd cc
+
+-- so it does not meet all
 pub violated : (q : QueryValue) (f : Failure) → IsViolation q (Some f) → Meets q → ⊥
-violated q f v m = let e : None ≡ Some f = one_violation q None (Some f) m.violation v in absurd cc
+violated q f v m = no_fault q f v m.violation
 
 -- nor does one that is decided not to be bounded
 pub not_met : (q : QueryValue) (d : Decision) → IsDecision q d → (d ≡ decision.Bounded → ⊥) → Meets q → ⊥

@@ -22,9 +22,9 @@ there_some [] h = absurd (omega arith)
 there_some (x ∷ xs) h = refl
 
 -- there are some candidates
-pub next_some : (next : List Candidate) → 1 ≤ length next → next_text next ≡ texts.MAY_STAND.now ++ listed told_as next
-next_some [] h = absurd (omega arith)
-next_some (c ∷ next) h = refl
+pub next_some : (nothing : List ℕ) (next : List Candidate) → 1 ≤ length next → next_text nothing next ≡ texts.MAY_STAND.now ++ listed told_as next
+next_some nothing [] h = absurd (omega arith)
+next_some nothing (c ∷ next) h = refl
 
 -- names, by the first and the others
 pub names_first : (names : List (List ℕ)) (first : List ℕ) → 1 ≤ length names → first ≡ get_or names 0 first → listed name_text names ≡ first ++ flat_map (λ y. codes ", " ++ name_text y) (take (length names - 1) (drop 1 names))

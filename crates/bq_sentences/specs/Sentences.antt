@@ -87,6 +87,8 @@ hint_text hints.Choice = texts.HINT_CHOICE.now
 hint_text hints.BareQuery = texts.HINT_BARE_QUERY.now
 hint_text hints.Alias = texts.HINT_ALIAS.now
 hint_text hints.Typed = texts.HINT_TYPE.now
+hint_text hints.Chained = texts.HINT_CHAINED.now
+hint_text hints.Streamless = texts.HINT_STREAMLESS.now
 
 -- whether an example of a column stands behind it
 abbrev pub is_bare_column : Hint → Bool
@@ -150,15 +152,24 @@ there_are_like word names = there_are names ++ alike_text (alike word names)
 abbrev pub stream_names : List Shape → List (List ℕ)
 stream_names streams = map (λ s. s.name) streams
 
--- what may stand at a place
-abbrev pub next_text : List Candidate → List ℕ
-next_text [] = texts.NOTHING_MAY.now
-next_text (c ∷ next) = texts.MAY_STAND.now ++ listed told_as (c ∷ next)
+-- what is said where no candidate may stand: a byte that begins nothing may stand behind the place where the statement goes wrong
+abbrev pub nothing_text : Standing → List ℕ
+nothing_text standing.End = texts.NOTHING_MAY.now
+nothing_text standing.Word = texts.NOTHING_MAY.now
+nothing_text standing.Reserved = texts.NOTHING_MAY.now
+nothing_text standing.Integer = texts.NOTHING_MAY.now
+nothing_text standing.Sign = texts.NOTHING_MAY.now
+nothing_text standing.Strange = texts.NOTHING_FITS.now
+
+-- what may stand at a place, or else that nothing may
+abbrev pub next_text : List ℕ → List Candidate → List ℕ
+next_text nothing [] = nothing
+next_text nothing (c ∷ next) = texts.MAY_STAND.now ++ listed told_as (c ∷ next)
 
 -- what is meant, or else what stands at the place and what may stand there
 abbrev pub meant_or : Option Hint → List ℕ → List Candidate → List Shape → List ℕ
 meant_or (Some hint) rest next streams = hint_sentence hint streams
-meant_or None rest next streams = standing_text (standing_of rest) ++ next_text next
+meant_or None rest next streams = standing_text (standing_of rest) ++ next_text (nothing_text (standing_of rest)) next
 
 -- where the grammar is left
 abbrev pub syntax_text : List ℕ → ℕ → List Candidate → List Shape → List ℕ

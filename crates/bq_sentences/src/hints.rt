@@ -77,6 +77,10 @@ pub enum Hint {
     Alias,
     /// The type of a column.
     Typed,
+    /// A comparison with a third side.
+    Chained,
+    /// A row without the name of its stream.
+    Streamless,
 }
 
 /// What stands at a place of a statement.
@@ -139,11 +143,60 @@ fn wants_beside(next: &[Candidate]) -> bool
     wants_behind_operand(next) || wants_operand(next)
 }
 
-// Whether arithmetic stands there.
-fn is_arithmetic(first: u8, next: &[Candidate]) -> bool
-    ensures { result ≡ hints.is_arithmetic first next.now }
+// Whether a name or an integer ends with a byte, and the sign behind it can be no hyphen.
+fn ends_operand(before: u8, first: u8) -> bool
+    ensures { result ≡ hints.ends_operand before first }
 {
-    is_operator(first) && wants_beside(next)
+    first != b'-' && (is_letter(before) || is_digit(before))
+}
+
+// Whether arithmetic stands there. Where the statement goes wrong before it, no candidate tells.
+fn is_arithmetic(before: u8, first: u8, next: &[Candidate]) -> bool
+    ensures { result ≡ hints.is_arithmetic before first next.now }
+{
+    if next.is_empty() {
+        is_operator(first) && ends_operand(before, first)
+    } else {
+        is_operator(first) && wants_beside(next)
+    }
+}
+
+// Whether the sign of a comparison begins so.
+fn is_relation(byte: u8) -> bool
+    ensures { result ≡ hints.is_relation byte }
+{
+    byte == b'<' || byte == b'=' || byte == b'>'
+}
+
+// Whether a comparison has ended, and the next may follow.
+fn ends_comparison(next: &[Candidate]) -> bool
+    ensures { result ≡ hints.ends_comparison next.now }
+{
+    if wants_comparison(next) || wants_comma(next) {
+        false
+    } else {
+        wants_behind_operand(next)
+    }
+}
+
+// Whether a comparison goes on with a third side.
+fn is_chained(first: u8, next: &[Candidate]) -> bool
+    ensures { result ≡ hints.is_chained first next.now }
+{
+    is_relation(first) && ends_comparison(next)
+}
+
+// What is meant by `*`, the byte before it, and what may stand there.
+fn star_hint(before: u8, next: &[Candidate]) -> Hint
+    ensures { result ≡ hints.star_hint before next.now }
+{
+    if before == b'(' {
+        Hint::Function
+    } else if wants_column(next) {
+        Hint::BareColumn
+    } else {
+        Hint::Star
+    }
 }
 
 // What is meant by an opening parenthesis.
@@ -175,7 +228,7 @@ fn mark_hint(before: u8, first: u8, second: u8, next: &[Candidate]) -> Option<Hi
     ensures { result ≡ hints.mark_hint before first second next.now }
 {
     if first == b'*' {
-        return Some(Hint::Star);
+        return Some(star_hint(before, next));
     }
     if first == b'-' && !is_digit(second) {
         return Some(Hint::Hyphen);
@@ -215,8 +268,11 @@ fn sign_hint(before: u8, first: u8, second: u8, next: &[Candidate]) -> Option<Hi
     if wants_interval(next) {
         return Some(Hint::Interval);
     }
-    if is_arithmetic(first, next) {
+    if is_arithmetic(before, first, next) {
         return Some(Hint::Arithmetic);
+    }
+    if is_chained(first, next) {
+        return Some(Hint::Chained);
     }
     mark_hint(before, first, second, next)
 }
@@ -248,6 +304,7 @@ fn is_clause(word: &[u8]) -> bool
         || word.eq_ignore_ascii_case(b"GROUP")
         || word.eq_ignore_ascii_case(b"HAVING")
         || word.eq_ignore_ascii_case(b"LIMIT")
+        || word.eq_ignore_ascii_case(b"WINDOW")
 }
 
 // What is meant by a word alone.
@@ -263,9 +320,6 @@ fn spelled_hint(word: &[u8]) -> Option<Hint>
     }
     if word.eq_ignore_ascii_case(b"IS") {
         return Some(Hint::Null);
-    }
-    if word.eq_ignore_ascii_case(b"NOT") {
-        return Some(Hint::Negation);
     }
     if word.eq_ignore_ascii_case(b"SHARED") {
         return Some(Hint::Order);
@@ -354,6 +408,26 @@ fn is_negated(front: &[u8], next: &[Candidate]) -> bool
     wants_column(next) && ends_with_not(trim(front))
 }
 
+// Whether a word is NOT, in any case of letters.
+fn is_not(word: &[u8]) -> bool
+    ensures { result ≡ hints.is_not word.now }
+{
+    word.eq_ignore_ascii_case(b"NOT")
+}
+
+// What is meant by OR or NOT where comparisons stand.
+fn logical_hint(word: &[u8], next: &[Candidate]) -> Option<Hint>
+    ensures { result ≡ hints.logical_hint word.now next.now }
+{
+    if is_or(word) && wants_behind_operand(next) {
+        Some(Hint::Or)
+    } else if is_not(word) && wants_comparison(next) {
+        Some(Hint::Negation)
+    } else {
+        None
+    }
+}
+
 // What is meant by a word alone, or else by what may stand there.
 fn meant_by(word: &[u8], before: u8, next: &[Candidate]) -> Option<Hint>
     ensures { result ≡ option_or (hints.spelled_hint word.now) (hints.placed_hint word.now before next.now) }
@@ -368,8 +442,8 @@ fn meant_by(word: &[u8], before: u8, next: &[Candidate]) -> Option<Hint>
 fn word_hint(word: &[u8], before: u8, next: &[Candidate]) -> Option<Hint>
     ensures { result ≡ hints.word_hint word.now before next.now }
 {
-    if is_or(word) {
-        return Some(Hint::Or);
+    if let Some(hint) = logical_hint(word, next) {
+        return Some(hint);
     }
     if wants_column(next) {
         return Some(Hint::BareColumn);
@@ -377,12 +451,55 @@ fn word_hint(word: &[u8], before: u8, next: &[Candidate]) -> Option<Hint>
     meant_by(word, before, next)
 }
 
-// What is meant where a line begins with the name of a stream.
-fn row_hint(front: &[u8], word: &[u8], catalog: &Catalog) -> Option<Hint>
-    ensures { result ≡ hints.row_hint front.now word.now catalog.now }
+// Whether a word is INSERT, in any case of letters.
+fn is_insert(word: &[u8]) -> bool
+    ensures { result ≡ hints.is_insert word.now }
 {
-    if front.is_empty() && catalog.find_bytes(word).is_some() {
+    word.eq_ignore_ascii_case(b"INSERT")
+}
+
+// Whether a word is the name of a stream, or INSERT.
+fn begins_row(word: &[u8], catalog: &Catalog) -> bool
+    ensures { result ≡ hints.begins_row word.now catalog.now }
+{
+    if is_insert(word) {
+        true
+    } else {
+        catalog.find_bytes(word).is_some()
+    }
+}
+
+// Whether a row begins with its integers.
+fn begins_integers(first: u8, second: u8) -> bool
+    ensures { result ≡ hints.begins_integers first second }
+{
+    first == b',' || begins_integer(first, second)
+}
+
+// What is meant where a line begins so, by its first bytes and its word.
+fn begun_hint(first: u8, second: u8, word: &[u8], catalog: &Catalog) -> Option<Hint>
+    ensures { result ≡ hints.begun_hint first second word.now catalog.now }
+{
+    if begins_row(word, catalog) {
         Some(Hint::BareRow)
+    } else if begins_integers(first, second) {
+        Some(Hint::Streamless)
+    } else {
+        None
+    }
+}
+
+// What is meant where a line begins as a row does.
+fn row_hint(front: &[u8], rest: &[u8], catalog: &Catalog) -> Option<Hint>
+    ensures { result ≡ hints.row_hint front.now rest.now catalog.now }
+{
+    if front.is_empty() {
+        begun_hint(
+            byte_at(rest, 0),
+            byte_at(rest, 1),
+            split_word(rest).0,
+            catalog,
+        )
     } else {
         None
     }
@@ -397,7 +514,7 @@ fn placed_by(front: &[u8], rest: &[u8], next: &[Candidate], catalog: &Catalog) -
     if let Some(hint) = sign_hint(before, byte_at(rest, 0), byte_at(rest, 1), next) {
         return Some(hint);
     }
-    if let Some(hint) = row_hint(front, word, catalog) {
+    if let Some(hint) = row_hint(front, rest, catalog) {
         return Some(hint);
     }
     word_hint(word, before, next)

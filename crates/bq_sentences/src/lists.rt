@@ -8,7 +8,7 @@ ghost use Rattle.bq_diagnosis.specs.Candidates as told;
 ghost use Rattle.bq_sentences.specs.Sentences as sentences;
 ghost use Rattle.bq_sentences.specs.Sentences.{listed, name_text, there_are, stream_names, next_text};
 
-use crate::texts::{ALIKE, MAY_STAND, NOTHING_MAY, THERE_ARE, THERE_IS_NONE};
+use crate::texts::{ALIKE, MAY_STAND, THERE_ARE, THERE_IS_NONE};
 use arrayvec::ArrayVec;
 use bq_diagnosis::{Candidate, told_as};
 use bq_io::{Sink, WriteFault, write_all, write_pieces};
@@ -138,13 +138,17 @@ fn write_candidates<O: Sink>(out: &mut O, candidates: &[Candidate]) -> Result<()
     }
 }
 
-/// Writes what may stand at a place.
+/// Writes what may stand at a place, or else a text that says that nothing may.
 #[tactic(auto, using(crate::proofs::Writers::writes_after))]
-pub fn write_may_stand<O: Sink>(out: &mut O, next: &[Candidate]) -> Result<(), WriteFault>
-    ensures { Writes result (O.seen out.old) (O.seen out.new) (next_text next.now) }
+pub fn write_may_stand<O: Sink>(
+    out: &mut O,
+    nothing: &[u8],
+    next: &[Candidate],
+) -> Result<(), WriteFault>
+    ensures { Writes result (O.seen out.old) (O.seen out.new) (next_text nothing.now next.now) }
 {
     match next {
-        [] => write_all(out, NOTHING_MAY),
+        [] => write_all(out, nothing),
         [_, ..] => {
             write_all(out, MAY_STAND)?;
             write_candidates(out, next)

@@ -99,6 +99,8 @@ fn hint_text(hint: Hint) -> &'static [u8]
         Hint::BareQuery => texts::HINT_BARE_QUERY,
         Hint::Alias => texts::HINT_ALIAS,
         Hint::Typed => texts::HINT_TYPE,
+        Hint::Chained => texts::HINT_CHAINED,
+        Hint::Streamless => texts::HINT_STREAMLESS,
     }
 }
 
@@ -143,13 +145,28 @@ fn standing_text(standing: Standing) -> &'static [u8]
     }
 }
 
+// What is said where no candidate may stand. A byte that begins nothing may stand behind the place where the statement goes wrong.
+fn nothing_text(standing: Standing) -> &'static [u8]
+    ensures { result.now ≡ sentences.nothing_text standing }
+{
+    match standing {
+        Standing::Strange => texts::NOTHING_FITS,
+        Standing::End | Standing::Word | Standing::Reserved | Standing::Integer | Standing::Sign =>
+            texts::NOTHING_MAY,
+    }
+}
+
 // What stands at a place, and what may stand there.
 #[tactic(auto, using(crate::proofs::Writers::writes_after))]
-fn write_standing<O: Sink>(out: &mut O, rest: &[u8], next: &[Candidate]) -> Result<(), WriteFault>
-    ensures { Writes result (O.seen out.old) (O.seen out.new) (sentences.standing_text (hints.standing_of rest.now) ++ sentences.next_text next.now) }
+fn write_standing<O: Sink>(
+    out: &mut O,
+    standing: Standing,
+    next: &[Candidate],
+) -> Result<(), WriteFault>
+    ensures { Writes result (O.seen out.old) (O.seen out.new) (sentences.standing_text standing ++ sentences.next_text (sentences.nothing_text standing) next.now) }
 {
-    write_all(out, standing_text(standing_of(rest)))?;
-    write_may_stand(out, next)
+    write_all(out, standing_text(standing))?;
+    write_may_stand(out, nothing_text(standing), next)
 }
 
 // Where the grammar is left: what is meant, or else what stands there and what may.
@@ -165,7 +182,7 @@ fn write_syntax<O: Sink>(
     let rest = rest_of(text, at);
     match hint_of(front_of(text, at), rest, next, catalog) {
         Some(hint) => write_hint(out, hint, catalog),
-        None => write_standing(out, rest, next),
+        None => write_standing(out, standing_of(rest), next),
     }
 }
 

@@ -95,7 +95,7 @@ pub const LIMIT_SOFT: &[u8] = b"a query has at most 8 comparisons with <=, >= or
 pub const LIMIT_SOFT_TAIL: &[u8] = b": write a < 6 for a <= 5, and a > 4 for a >= 5";
 
 pub const LIMIT_ATTRS: &[u8] =
-    b"the comparisons name at most 12 different columns, and here they name more";
+    b"the comparisons name at most 12 different columns, and here they name ";
 
 pub const LIMIT_VALUE: &[u8] =
     b"an integer has at most 15 digits, and one of a line of a checkpoint at most 64 bits; one here has more";
@@ -178,7 +178,7 @@ pub const HINT_JOIN: &[u8] =
     b"streams are joined by FROM with a comma between them, and by comparisons behind WHERE";
 
 pub const HINT_CLAUSE: &[u8] =
-    b"a query ends with its comparisons: answers have no order, no groups and no bound on their number";
+    b"a query ends with its comparisons: answers have no order, no groups, no windows and no bound on their number";
 
 pub const HINT_CHOICE: &[u8] =
     b"IN gives a column of a stream its domain: create a query for each value";
@@ -190,6 +190,11 @@ pub const HINT_ALIAS: &[u8] = b"streams and columns have one name each: leave th
 
 pub const HINT_TYPE: &[u8] =
     b"a column has no type, since each value is an integer: write its name alone, or a domain as IN 1..39 behind it";
+
+pub const HINT_CHAINED: &[u8] =
+    b"a comparison has two sides: write 0 < S.a AND S.a < 9 for 0 < S.a < 9";
+
+pub const HINT_STREAMLESS: &[u8] = b"a row begins with the name of its stream, as Stream,1,2";
 
 pub const STANDS_END: &[u8] = b"the line ends here";
 
@@ -206,3 +211,6 @@ pub const STANDS_STRANGE: &[u8] = b"a byte stands here that begins no word, inte
 pub const MAY_STAND: &[u8] = b", here may stand: ";
 
 pub const NOTHING_MAY: &[u8] = b", where the statement has ended";
+
+pub const NOTHING_FITS: &[u8] =
+    b", where nothing may stand: the statement has ended, or goes wrong before";

@@ -1,5 +1,6 @@
 use Rattle.bq_layout.proofs.Planning.{few_drafts}
-use Rattle.bq_layout.proofs.UnsetPlans.{unset_plans}
+use Rattle.bq_lto_split.specs.Split.{sign_lists}
+use Rattle.bq_layout.proofs.UnsetPlans.{unset_plans, part_fault}
 use Rattle.bq_layout.proofs.plan.part_plans.Goals as goal
 
 pub returns-in-Ok-clause-plans : goal.returns-in-Ok-clause-plans
@@ -7,3 +8,9 @@ returns-in-Ok-clause-plans c = unset_plans c.args.q.now c.args.parts.now c.in-Ok
 
 pub returns-in-Ok-clause-few : goal.returns-in-Ok-clause-few
 returns-in-Ok-clause-few c = rw c.parts_of.ensures (few_drafts c.args.parts.now c.in-Ok.draft.parts.items c.requires.few c.in-Ok.ensures.1)
+
+pub returns-in-Ok-clause-meets : goal.returns-in-Ok-clause-meets
+returns-in-Ok-clause-meets c = c.in-Ok.ensures.2
+
+pub returns-in-Err-clause-fault : goal.returns-in-Err-clause-fault
+returns-in-Err-clause-fault c = part_fault c.args.q.now (sign_lists c.args.parts.now) c.in-Err.why c.in-Err.ensures

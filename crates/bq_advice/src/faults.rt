@@ -1,0 +1,100 @@
+//! What is said of a line that is at fault. Of rows that are wrong the first are told, and those behind them are counted alone: a stream that could not be created,
+//! or a column in another unit, makes all rows wrong.
+ghost use Rattle.std.specs.Prelude.{◌≡◌, ◌+◌, ◌-◌, ◌^◌, ◌<◌};
+ghost use Rattle.bq_io.specs.Sink.{Writes};
+ghost use Rattle.bq_sentences.specs.Texts.{fault_text};
+ghost use Rattle.bq_advice.specs.Finding as finding;
+
+use crate::state::Advising;
+use bq_diagnosis::{Fault, Known};
+use bq_io::{Sink, WriteFault, write_pieces};
+use bq_sentences::write_fault;
+use itoa::Buffer;
+
+/// Of how many rows it is told what is wrong.
+const MOST_ROWS: u64 = 20;
+
+/// What stands before the number of the first row that is counted alone.
+const COUNTED: &[u8] = b"line ";
+
+/// What stands behind it.
+const COUNTED_TAIL: &[u8] =
+    b": 20 wrong rows are told above; this one is wrong too, and from here on such rows are counted alone\n";
+
+/// Returns whether a fault is one of a row.
+pub fn is_row_fault(fault: &Fault) -> bool
+    ensures { result ≡ finding.is_row_fault fault.now }
+{
+    matches!(
+        fault,
+        Fault::RowKey
+            | Fault::RowName { .. }
+            | Fault::RowStream
+            | Fault::Arity { .. }
+            | Fault::Value { .. }
+            | Fault::Domain { .. }
+    )
+}
+
+// What is wrong with the next line.
+fn write_wrong<O: Sink>(
+    state: &Advising,
+    line: &[u8],
+    fault: &Fault,
+    out: &mut O,
+) -> Result<(), WriteFault>
+    requires { state.now.lines < 2 ^ 64 - 1 }
+    ensures { Writes result (O.seen out.old) (O.seen out.new) (fault_text (state.now.lines + 1) line.now fault.now state.now.streams state.now.live) }
+{
+    let known = Known {
+        catalog: state.catalog(),
+        live: state.live(),
+    };
+    write_fault(out, state.lines() + 1, line, fault, &known)
+}
+
+// That a row is wrong, by the number of its line, and that from here on such rows are counted alone.
+#[tactic(auto, unfolding(crate::specs::Finding::counted_text))]
+fn write_counted<O: Sink>(out: &mut O, number: u64) -> Result<(), WriteFault>
+    ensures { Writes result (O.seen out.old) (O.seen out.new) (finding.counted_text number) }
+{
+    let mut buffer = Buffer::new();
+    let pieces: [&[u8]; 3] = [COUNTED, buffer.format(number).as_bytes(), COUNTED_TAIL];
+    write_pieces(out, &pieces)
+}
+
+// What is said of the next line, which is a row that is wrong.
+fn write_row<O: Sink>(
+    state: &Advising,
+    line: &[u8],
+    fault: &Fault,
+    out: &mut O,
+) -> Result<(), WriteFault>
+    requires { state.now.lines < 2 ^ 64 - 1 }
+    ensures { Writes result (O.seen out.old) (O.seen out.new) (finding.row_text state.now line.now fault.now) }
+{
+    if state.rows() < MOST_ROWS {
+        write_wrong(state, line, fault, out)
+    } else if state.rows() == MOST_ROWS {
+        write_counted(out, state.lines() + 1)
+    } else {
+        Ok(())
+    }
+}
+
+/// Writes what is said of the next line, which is at fault.
+pub fn tell_fault<O: Sink>(
+    state: &Advising,
+    line: &[u8],
+    fault: &Fault,
+    out: &mut O,
+) -> Result<(), WriteFault>
+    requires { state.now.lines < 2 ^ 64 - 1 }
+    ensures { Writes result (O.seen out.old) (O.seen out.new) (finding.told_text state.now line.now fault.now) }
+{
+    if is_row_fault(fault) {
+        write_row(state, line, fault, out)
+    } else {
+        write_wrong(state, line, fault, out)
+    }
+}
