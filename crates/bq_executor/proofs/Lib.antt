@@ -36,4 +36,3 @@ pub mod OldAnswers
 pub mod Closing
 pub mod OwnCells
 pub mod PassingOn
-pub mod Alike
