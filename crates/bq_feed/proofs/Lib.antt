@@ -5,3 +5,4 @@ pub mod Pieces
 pub mod Places
 pub mod Steps
 pub mod TextLines
+mod LinesAhead

@@ -22,7 +22,7 @@ range-later bytes a f n lt =
     let whole : f - a ≡ n + 1 + m = omega (arith, below-range bytes a f n lt) in
     sym (ap (λ k. drop (n + 1) (take k (drop a bytes))) whole ∙ drop-take (n + 1) m (drop a bytes) ∙ ap (take m) (drop-drop (n + 1) a bytes))
 
-take-within : (xs : List ℕ) (n k : ℕ) → n ≤ k → take n (take k xs) ≡ take n xs
+pub take-within : (xs : List ℕ) (n k : ℕ) → n ≤ k → take n (take k xs) ≡ take n xs
 take-within xs zero k le = refl
 take-within [] (suc n) zero le = refl
 take-within [] (suc n) (suc k) le = refl

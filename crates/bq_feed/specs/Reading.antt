@@ -1,5 +1,5 @@
 -- What a reader of lines keeps, and what its calls do.
-use Rattle.std.specs.Prelude.{◌≡◌, ℕ, ◌+◌, ◌-◌, ◌^◌, ◌<◌, ◌≤◌, ◌≢◌, ◌⊎◌, ⊤, Bool, true, false, List, [], ◌∷◌, ◌++◌, length, take, slice_index, IfSome}
+use Rattle.std.specs.Prelude.{◌≡◌, ℕ, ◌+◌, ◌-◌, ◌^◌, ◌<◌, ◌≤◌, ◌≢◌, ◌⊎◌, ⊤, Bool, true, false, List, [], ◌∷◌, ◌++◌, length, take, drop, slice_index, slice_range, IfSome}
 use Rattle.std.specs.List.{All}
 use Rattle.std.specs.Io.KnownBytes.{Consumes}
 use Rattle.bq_io.specs.Counts.{Rose}
@@ -47,6 +47,23 @@ pub record IsBuffered (old new : Reading) : Type 0 where
   pub short : length new.line ≤ 1024
   pub taken : new.taken ≡ old.taken
   pub lines : new.lines ≡ old.lines + 1
+  pub counted : (new.lines ≤ new.taken) × (new.taken < 2 ^ 64)
+  pub ended : (old.ended ≡ false) × (new.ended ≡ false)
+  pub unfailed : (old.failed ≡ false) × (new.failed ≡ false)
+
+-- So many lines of at most 1,024 bytes, each with its LF, stand one after another at the front of bytes, the last from this place on, and
+-- end at that one.
+pub data AreLinesAhead (bytes : List ℕ) : ℕ → ℕ → ℕ → Type 0 where
+  none : {count begin end : ℕ} → count ≡ 0 → end ≡ 0 → AreLinesAhead bytes count begin end
+  more : {count begin end : ℕ} → (before start len : ℕ) → AreLinesAhead bytes before start begin → IsFirstFeed (drop begin bytes) len → len ≤ 1024 → count ≡ before + 1 → end ≡ begin + len + 1
+      → AreLinesAhead bytes count begin end
+
+-- So many lines are given up to a place of what is ahead, of which the last begins at that one; nothing is taken.
+pub record GivesAll (old new : Reading) (count begin end : ℕ) : Type 0 where
+  pub ahead : new.ahead ≡ drop end old.ahead
+  pub line : new.line ≡ slice_range old.ahead begin (end - 1)
+  pub taken : new.taken ≡ old.taken
+  pub lines : new.lines ≡ old.lines + count
   pub counted : (new.lines ≤ new.taken) × (new.taken < 2 ^ 64)
   pub ended : (old.ended ≡ false) × (new.ended ≡ false)
   pub unfailed : (old.failed ≡ false) × (new.failed ≡ false)

@@ -1,7 +1,7 @@
 //! The reader of lines.
 ghost use Rattle.std.specs.Prelude.{◌≡◌, ℕ, ◌≤◌, ◌-◌, ◌^◌, [], ◌∷◌, ◌++◌, ◌<◌, min, take, List, length, slice_index, set, false, IfOk};
 ghost use Rattle.bq_io.specs.Source.{ReadsSome};
-ghost use Rattle.bq_feed.specs.Reading.{fresh, GivesBuffered, IsBegun, IsBuffered, IsFirstFeed, IsNothing, NextLine, GivesLine, answer_to};
+ghost use Rattle.bq_feed.specs.Reading.{fresh, AreLinesAhead, GivesAll, GivesBuffered, IsBegun, IsBuffered, IsFirstFeed, IsNothing, NextLine, GivesLine, answer_to};
 ghost use Rattle.bq_feed.specs.Buffers.{read_len};
 
 use crate::place::feed_place;
@@ -203,6 +203,21 @@ impl LineReader {
         self.to = self.at + len;
         self.at += len + 1;
         self.lines += 1;
+    }
+
+    /// Gives the next lines, so many, which end at `end` of what is ahead and of which the last begins at `begin`: `line` gives that one
+    /// then. It takes nothing from the source.
+    #[inline(always)]
+    pub fn give_lines(&mut self, count: u64, begin: usize, end: usize)
+        requires some { 0 < count }
+        requires lines { AreLinesAhead self.old.ahead count begin end }
+        ensures { GivesAll self.old self.new count begin end }
+    {
+        self.begun.clear();
+        self.from = self.at + begin;
+        self.to = self.at + end - 1;
+        self.at += end;
+        self.lines += count;
     }
 
     /// Gives the next line exactly where it lies whole in what was read and is not too long. It takes nothing from the source.

@@ -14,7 +14,7 @@ use Rattle.bq_text.proofs.LeadingValue.{flag, integer_front, no_integer_no_value
 use Rattle.bq_text.proofs.Trimmed.{is_solid, leading_solid}
 use Rattle.bq_schema.specs.Rows.{is_comma, values_of}
 use Rattle.bq_session.specs.Plain.{AddsInteger, IsPlain, is_plain_byte}
-use Rattle.bq_session.specs.Ahead.{AddsAt, AreFields, IsEnded}
+use Rattle.bq_session.specs.Ahead.{AddsAt, AreFields, FieldsTo, IsEnded, ReadsFront}
 use Rattle.bq_session.proofs.PlainFields.{IsFieldBefore, amount_next, counted_more, field_last, field_then, short_integer, solid_plain, told_more, whole_values, within_18}
 use Rattle.bq_session.proofs.NamesAhead.{inside}
 
@@ -55,6 +55,20 @@ digits_end text start len kept h other =
     let room : len < length rest = omega (arith, h.within, length-drop start text) in
     omega (arith, h.digits, prefix_len-drop_no is_digit rest len 0 room (ap is_digit (get_or-drop start text len 0) ∙ other))
 
+-- only digits stand between two places
+pub record DigitsTo (text : List ℕ) (start place : ℕ) : Type 0 where
+  pub count : start + prefix_len is_digit (drop start text) ≡ place + prefix_len is_digit (drop place text)
+  pub within : place < length text
+
+pub digits_step : (text : List ℕ) (start place : ℕ) → IsEnded text → DigitsTo text start place → is_digit (get_or text place 0) ≡ true → DigitsTo text start (place + 1)
+digits_step text start place ended h digit = record {
+  count = omega (arith, h.count, prefix_len-drop_yes is_digit text place 0 h.within digit);
+  within = inside text place ended h.within (digit_no_feed (get_or text place 0) digit);
+}
+
+pub digits_stop : (text : List ℕ) (start place : ℕ) → DigitsTo text start place → is_digit (get_or text place 0) ≡ false → place ≡ start + prefix_len is_digit (drop start text)
+digits_stop text start place h other = omega (arith, h.count, prefix_len-drop_no is_digit text place 0 h.within other)
+
 -- An integer at a place.
 
 pub short_at : (text : List ℕ) (start len kept : ℕ) (old new : List ℤ) → len ≡ prefix_len is_digit (drop start text) → (0 < len) × (len ≤ 19) × (kept < 2 ^ 63) → start + len < length text
@@ -69,12 +83,6 @@ short_at text start len kept old new is few room all pushed = record {
 }
 
 -- Fields so far.
-
--- Of the integers and commas so far these are the values, whatever stands behind them.
-pub record ReadsFront (front : List ℕ) (row : List ℤ) : Type 0 where
-  pub told : (rest : List ℕ) → values_of (slice_split is_comma (front ++ rest)) ≡ option_map (λ vs. row ++ vs) (values_of (slice_split is_comma rest))
-  pub count : (rest : List ℕ) → length row + length (slice_split is_comma rest) ≡ length (slice_split is_comma (front ++ rest))
-  pub plain : IsPlain front
 
 same_values : (o : Option (List ℤ)) → o ≡ option_map (λ vs. [] ++ vs) o
 same_values None = refl
@@ -180,13 +188,6 @@ range_empty text start =
     let none : start - start ≡ 0 = omega arith in
     ap (λ n. take n (drop start text)) none
 
--- fields were read up to a place at which one begins
-pub record FieldsTo (text : List ℕ) (start place : ℕ) (row : List ℤ) : Type 0 where
-  pub front : ReadsFront (slice_range text start place) row
-  pub order : start ≤ place
-  pub within : place < length text
-  pub near : place ≤ start + 25 * length row
-
 pub fields_begin : (text : List ℕ) (start : ℕ) (row : List ℤ) → start < length text → row ≡ [] → FieldsTo text start start row
 fields_begin text start row room empty = record {
   front = subst (λ (r : List ℤ). ReadsFront (slice_range text start start) r) (sym empty) (subst (λ (f : List ℕ). ReadsFront f []) (sym (range_empty text start)) reads_none);
@@ -224,3 +225,6 @@ fields_last text start place end row new h a =
       near = omega (arith, h.near, a.size, a.near, ap length a.adds.pushed, length-append row (a.adds.value ∷ []));
       within = a.within;
     }
+
+pub behind_comma : (text : List ℕ) (place end : ℕ) (row new : List ℤ) → IsEnded text → AddsAt text place end row new → get_or text end 0 ≡ 44 → end + 1 < length text
+behind_comma text place end row new ended a comma = inside text end ended a.within (λ f. absurd (omega (arith, comma, f)))

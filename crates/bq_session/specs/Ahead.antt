@@ -1,5 +1,6 @@
 -- Rows that are read from a text with more behind them.
-use Rattle.std.specs.Prelude.{◌≡◌, ◌⊎◌, ℕ, ℤ, ◌+◌, ◌-◌, ◌*◌, ◌<◌, ◌≤◌, List, length, take, drop, slice_index, Some}
+use Rattle.std.specs.Prelude.{◌≡◌, ◌⊎◌, ℕ, ℤ, ◌+◌, ◌-◌, ◌*◌, ◌<◌, ◌≤◌, List, ◌++◌, length, take, drop, slice_index, Some}
+use Rattle.std.specs.Option.{option_map}
 use Rattle.std.specs.List.{slice_range, slice_split}
 use Rattle.bq_feed.specs.Reading.{IsFirstFeed}
 use Rattle.bq_schema.specs.Rows.{HasStream, is_comma, values_of}
@@ -34,6 +35,19 @@ pub record AreFields (text : List ℕ) (start end : ℕ) (row : List ℤ) : Type
   pub order : start ≤ end
   pub near : end ≤ start + 25 * length row
   pub within : end < length text
+
+-- of the integers and commas of a text these are the values, whatever stands behind them
+pub record ReadsFront (front : List ℕ) (row : List ℤ) : Type 0 where
+  pub told : (rest : List ℕ) → values_of (slice_split is_comma (front ++ rest)) ≡ option_map (λ vs. row ++ vs) (values_of (slice_split is_comma rest))
+  pub count : (rest : List ℕ) → length row + length (slice_split is_comma rest) ≡ length (slice_split is_comma (front ++ rest))
+  pub plain : IsPlain front
+
+-- integers of at most 24 bytes, each with a comma behind it, stand between two places of a text, and these are their values
+pub record FieldsTo (text : List ℕ) (start place : ℕ) (row : List ℤ) : Type 0 where
+  pub front : ReadsFront (slice_range text start place) row
+  pub order : start ≤ place
+  pub within : place < length text
+  pub near : place ≤ start + 25 * length row
 
 -- a line of this length ends at a place of a text, with an LF or with CR and LF
 pub record EndsLine (text : List ℕ) (place len : ℕ) : Type 0 where

@@ -7,10 +7,12 @@ ghost use Rattle.bq_feed.specs.Reading.{IsBegun, Reading};
 ghost use Rattle.bq_session.specs.State.{State};
 ghost use Rattle.bq_session.specs.Session.{StandsFor, Answered, SessionValue};
 ghost use Rattle.bq_session.specs.Run.{HasState};
+ghost use Rattle.bq_session.specs.Counted.{CountsRows};
 ghost use Rattle.bq_session.specs.Turned.{AnsweredLine, Turned};
 
 use crate::fetch::{Fetched, fetch};
 use crate::outcome::LineOutcome;
+use crate::pause::Pause;
 use crate::session::Session;
 use bq_feed::LineReader;
 use bq_io::{Gathered, Sink, Source};
@@ -132,4 +134,27 @@ pub fn take_turn<I: Source, O: Sink, L: Ledger>(
         }
         None => any_turn(reader, session, input, output, steps),
     }
+}
+
+/// Counts the rows at the front of what the reader has ahead, as long as no query is live and one more row may be taken: those of streams
+/// of which no column has a domain, written without blanks and signs. A row is then counted and nothing else, whatever its values are, so
+/// these are not formed. It takes nothing from a source and writes nothing. In a pause that an earlier try in vain began it does nothing.
+#[inline(always)]
+pub fn count_rows(reader: &mut LineReader, session: &mut Session, pause: &mut Pause)
+    requires { session.old.lines ≤ reader.old.lines }
+    ensures { CountsRows reader.old session.old reader.new session.new }
+{
+    if !session.has_no_query() {
+        return;
+    }
+    if pause.goes_on() {
+        return;
+    }
+    let rows = session.rows_ahead(reader.ahead_and_feed());
+    pause.follow(rows.count == 0);
+    if rows.count == 0 {
+        return;
+    }
+    reader.give_lines(rows.count, rows.begin, rows.end);
+    session.count(rows.count);
 }

@@ -1,13 +1,13 @@
 //! Rows as they mostly come, read straight from what a reader has ahead. The last byte of such a text is LF, so that names and digits end
 //! before it, and no place is compared with a length.
-ghost use Rattle.std.specs.Prelude.{◌≡◌, [], ◌+◌, ◌*◌, ◌≤◌, ◌<◌, ◌^◌, length, take, drop, false, IfSome, IsTrue, MatchOption};
+ghost use Rattle.std.specs.Prelude.{◌≡◌, ℕ, [], ◌+◌, ◌*◌, ◌≤◌, ◌<◌, ◌^◌, length, take, drop, false, IfSome, IsTrue, MatchOption};
 ghost use Rattle.std.specs.List.{prefix_len, slice_range, slice_split};
 ghost use Rattle.std.specs.declared.result.Result.TheVariants.{Ok};
 ghost use Rattle.bq_schema.specs.Rows.{IsNamed, entry, is_comma, is_named, row_with};
 ghost use Rattle.bq_schema.specs.Streams.{IsName, KeepsDomains, shape_at};
 ghost use Rattle.bq_text.specs.Value.{amount};
 ghost use Rattle.bq_text.specs.Word.{is_digit};
-ghost use Rattle.bq_session.specs.Ahead.{AddsAt, AreFields, BeginsStream, EndsLine, IsEnded, IsRowAhead};
+ghost use Rattle.bq_session.specs.Ahead.{AddsAt, AreFields, BeginsStream, EndsLine, FieldsTo, IsEnded, IsRowAhead};
 
 use crate::fast_row::{above_zero, add_amount, add_any};
 use bq_model::Row;
@@ -36,7 +36,7 @@ fn named_len(text: &[u8], name: &[u8]) -> Option<usize>
 }
 
 // The number of the stream with whose name and a comma a text begins, and where what stands behind that comma begins.
-fn stream_ahead(catalog: &Catalog, text: &[u8]) -> Option<(u8, usize)>
+pub(crate) fn stream_ahead(catalog: &Catalog, text: &[u8]) -> Option<(u8, usize)>
     requires { IsEnded text.now }
     ensures { IfSome result (λ found. BeginsStream catalog.now text.now found.0 found.1) }
 {
@@ -113,14 +113,15 @@ fn add_integer_at(row: &mut Row, text: &[u8], start: usize) -> Option<usize>
     Some(start + digits)
 }
 
-// Puts the integers between commas from a place of a text on into an empty row, where there are just so many, at most 8; and gives the
-// place behind the last one. Where there are not, the row is left with any values.
-fn read_fields_at(row: &mut Row, width: usize, text: &[u8], start: usize) -> Option<usize>
-    requires empty { row.old.items ≡ [] }
+// Puts the integers between commas from a place of a text on behind the values of a row, where there are just so many with these, at most
+// 8; and gives the place behind the last one. Where there are not, the row is left with any values.
+#[cold]
+#[inline(never)]
+fn read_other_fields_at(row: &mut Row, width: usize, text: &[u8], start: usize) -> Option<usize>
     requires width { width ≤ 8 }
     requires ended { IsEnded text.now }
     requires here { start < length text.now }
-    ensures fields { IfSome result (λ end. AreFields text.now start end row.new.items) }
+    ensures fields { IfSome result (λ end. (from : ℕ) → FieldsTo text.now from start row.old.items → AreFields text.now from end row.new.items) }
     ensures width { IfSome result (λ end. length row.new.items ≡ width) }
 {
     let mut place = start;
@@ -136,8 +137,35 @@ fn read_fields_at(row: &mut Row, width: usize, text: &[u8], start: usize) -> Opt
     None
 }
 
+// Puts the integers between commas from a place of a text on into an empty row, where there are just so many, at most 8; and gives the
+// place behind the last one. Where there are not, the row is left with any values. What follows an integer with a sign or of more than 19
+// digits is read apart, so that nothing of this loop lies in memory for it.
+fn read_fields_at(row: &mut Row, width: usize, text: &[u8], start: usize) -> Option<usize>
+    requires empty { row.old.items ≡ [] }
+    requires width { width ≤ 8 }
+    requires ended { IsEnded text.now }
+    requires here { start < length text.now }
+    ensures fields { IfSome result (λ end. AreFields text.now start end row.new.items) }
+    ensures width { IfSome result (λ end. length row.new.items ≡ width) }
+{
+    let mut place = start;
+    'fields: while row.len() < width {
+        let (amount, digits) = digits_at(text, place);
+        if !are_few(digits, amount) {
+            return read_other_fields_at(row, width, text, place);
+        }
+        add_amount(row, amount);
+        let end = place + digits;
+        if text[end] != b',' {
+            return if row.len() == width { Some(end) } else { None };
+        }
+        place = end + 1;
+    }
+    None
+}
+
 // The length of the line that ends at a place, with an LF or with CR and LF.
-fn line_len(text: &[u8], place: usize) -> Option<usize>
+pub(crate) fn line_len(text: &[u8], place: usize) -> Option<usize>
     requires ended { IsEnded text.now }
     requires here { place < length text.now }
     ensures { IfSome result (λ len. EndsLine text.now place len) }

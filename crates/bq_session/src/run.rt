@@ -5,7 +5,8 @@ ghost use Rattle.bq_session.specs.State.{State};
 ghost use Rattle.bq_session.specs.Session.{StandsFor};
 ghost use Rattle.bq_session.specs.Run.{HasState, Ran};
 
-use crate::one_turn::{Turn, take_turn};
+use crate::one_turn::{Turn, count_rows, take_turn};
+use crate::pause::Pause;
 use crate::session::Session;
 use bq_feed::LineReader;
 use bq_io::{Gathered, Sink, Source};
@@ -43,7 +44,9 @@ pub fn run_lines<I: Source, O: Sink, L: Ledger>(
         → Ran result s (I.seen input.old) (I.seen input.new) (O.seen output.old.sink.now) (O.seen output.new.sink.now) }
     ensures same_reference { output.new.sink.ghost_name ≡ output.old.sink.ghost_name }
 {
+    let mut pause = Pause::default();
     'answering: loop {
+        count_rows(reader, session, &mut pause);
         match take_turn(reader, session, input, output, steps) {
             Turn::Answered => {}
             Turn::Ended => return Ending::Done,

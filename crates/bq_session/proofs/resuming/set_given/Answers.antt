@@ -1,4 +1,4 @@
-use Rattle.std.proofs.Common.{subst, rules, w64, sym, ap, ◌∙◌, refl}
+use Rattle.std.proofs.Common.{rules, w64, sym, ap, ◌∙◌, refl}
 use Rattle.std.proofs.lemmas.Int.{to_z-of_z}
 use Rattle.bq_executor.specs.Loading.{loaded_given}
 use Rattle.bq_session.specs.Requests.{natural_upto}

@@ -1,4 +1,4 @@
-use Rattle.std.proofs.Common.{subst, length, rules, sym, ap, ◌∙◌, refl}
+use Rattle.std.proofs.Common.{length, rules, sym, ap, ◌∙◌, refl}
 use Rattle.bq_model.specs.Numbers.{parts_of}
 use Rattle.bq_executor.specs.Loading.{loaded_tuple}
 use Rattle.bq_executor.specs.Executor.{ExecutorValue}

@@ -1,5 +1,5 @@
 use Rattle.std.proofs.Common.{◌-◌, length}
-use Rattle.bq_session.proofs.FieldsAhead.{FieldsTo}
+use Rattle.bq_session.specs.Ahead.{FieldsTo}
 use Rattle.bq_session.proofs.row_ahead.read_fields_at.Given as goal
 
 abbrev pub invariant-fields : goal.invariant-fields

@@ -1,0 +1,27 @@
+use Rattle.std.proofs.Common.{List, ℕ, arith, refl, subst}
+use Rattle.bq_session.specs.Counted.{AreRowsAhead, none}
+use Rattle.bq_session.proofs.CountedLines.{counted_rows, lines_of}
+use Rattle.bq_session.proofs.one_turn.count_rows.Goals as goal
+
+pub returns-then-not-has_no_query : goal.returns-then-not-has_no_query
+returns-then-not-has_no_query c = none refl refl
+
+pub returns-then-goes_on : goal.returns-then-goes_on
+returns-then-goes_on c = none refl refl
+
+pub returns-then-rows-eq0 : goal.returns-then-rows-eq0
+returns-then-rows-eq0 c = none refl refl
+
+pub give_lines-requires-clause-lines : goal.give_lines-requires-clause-lines
+give_lines-requires-clause-lines c =
+    let rows = c.rows_ahead-rows.result in
+    let streams = c.args.session.now.streams in
+    lines_of streams c.args.reader.now.ahead rows.count rows.begin rows.end (subst (λ (t : List ℕ). AreRowsAhead streams t rows.count rows.begin rows.end) c.ahead_and_feed.ensures c.rows_ahead-rows.ensures.rows)
+
+pub returns : goal.returns
+returns c =
+    let rows = c.rows_ahead-rows.result in
+    let streams = c.args.session.now.streams in
+    counted_rows c.args.reader.now c.give_lines.new.self c.args.session.now c.count.new.self rows.count rows.begin rows.end (omega (arith, c.if-rows-eq0.false))
+    (subst (λ (t : List ℕ). AreRowsAhead streams t rows.count rows.begin rows.end) c.ahead_and_feed.ensures c.rows_ahead-rows.ensures.rows)
+    c.give_lines.ensures (c.if-not-has_no_query.ensures refl) c.rows_ahead-rows.ensures.few c.count.ensures

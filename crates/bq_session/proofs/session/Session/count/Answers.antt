@@ -1,0 +1,12 @@
+use Rattle.std.proofs.Common.{◌+◌, ◌≤◌, arith, subst, sym}
+use Rattle.bq_session.specs.Session.{SessionValue}
+use Rattle.bq_session.proofs.session.Session.count.Goals as goal
+
+pub invariant_of-self : goal.invariant_of-self
+invariant_of-self c = record {
+  within = subst (λ (k : SessionValue). k.taken + c.args.rows ≤ k.limit) (sym c.self.view_is) c.requires.few;
+  limit = c.self.invariant.limit;
+  given = λ i d within. (let few = c.self.invariant.given i d within in omega (arith, few));
+  named = c.self.invariant.named;
+  short = c.self.invariant.short;
+}
