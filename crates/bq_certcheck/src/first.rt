@@ -1,16 +1,8 @@
 //! The first of some columns.
 ghost use Rattle.std.specs.Prelude.{◌≡◌};
-ghost use Rattle.bq_model.specs.Query.{attr_lt};
 ghost use Rattle.bq_certcheck.specs.FirstBreak.{sooner, sooner_if};
 
-use bq_model::Attr;
-
-// Whether a column comes before another, in FROM order and then column order.
-fn is_before(a: Attr, b: Attr) -> bool
-    ensures { result ≡ attr_lt a b }
-{
-    a.stream < b.stream || (a.stream == b.stream && a.column < b.column)
-}
+use bq_model::{Attr, is_before};
 
 // The column found, or another that comes before it.
 fn sooner(found: Option<Attr>, attr: Attr) -> Option<Attr>

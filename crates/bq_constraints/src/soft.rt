@@ -1,40 +1,11 @@
 //! Soft comparisons under the sign of a pair.
 ghost use Rattle.std.specs.Prelude.{◌≡◌};
 ghost use Rattle.std.specs.List.{list_any};
-ghost use Rattle.bq_model.specs.Query.{attr_lt, attr_eq};
-ghost use Rattle.bq_model.specs.Parts.{pair_of, element_eq, pair_eq};
+ghost use Rattle.bq_model.specs.Parts.{pair_of, pair_eq};
 ghost use Rattle.bq_constraints.specs.Soft.{stands, sides_sign, fails_by, is_unequal, denies_itself};
 
 use crate::nodes::turn;
-use bq_model::{Atom, Attr, Element, Op, Pair, Sign};
-
-fn is_same(a: Attr, b: Attr) -> bool
-    ensures { result ≡ attr_eq a b }
-{
-    a.stream == b.stream && a.column == b.column
-}
-
-fn is_before(a: Attr, b: Attr) -> bool
-    ensures { result ≡ attr_lt a b }
-{
-    a.stream < b.stream || (a.stream == b.stream && a.column < b.column)
-}
-
-fn is_same_element(a: Element, b: Element) -> bool
-    ensures { result ≡ element_eq a b }
-{
-    match (a, b) {
-        (Element::Attr(a), Element::Attr(b)) => is_same(a, b),
-        (Element::Const(j), Element::Const(k)) => j == k,
-        (Element::Attr(_), Element::Const(_)) | (Element::Const(_), Element::Attr(_)) => false,
-    }
-}
-
-fn is_same_pair(p: Pair, r: Pair) -> bool
-    ensures { result ≡ pair_eq p r }
-{
-    is_same(p.left, r.left) && is_same_element(p.right, r.right)
-}
+use bq_model::{Atom, Attr, Element, Op, Pair, Sign, is_before, is_same_element, is_same_pair};
 
 // Whether two elements make the pair.
 fn make(left: Element, right: Element, pair: Pair) -> bool

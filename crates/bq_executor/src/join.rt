@@ -57,7 +57,7 @@ impl Takes {
     }
 }
 
-/// ProbeScratch to work in, of which nothing is asked.
+/// Room to work in, of which nothing is asked.
 #[derive(Drop)]
 pub struct Scratch {
     pub room: ProbeScratch,

@@ -1,4 +1,4 @@
--- PartIndex through parts of one bucket, and what they say of a row.
+-- Chains through parts of one bucket, and what they say of a row.
 use Rattle.std.proofs.Common.{◌≡◌, ◌≢◌, ℕ, zero, suc, ◌+◌, ◌-◌, ◌<◌, ◌≤◌, nat_eq, not, ◌||◌, true, false, ℤ, List, [], ◌∷◌, ◌++◌, take, drop, map, bit_and, length, append_assoc, replicate, set, get_or, slice_get, Option, Some, All, inl, inr, refl, sym, ap, ap₂, ◌∙◌, subst, arith, length-set}
 use Rattle.std.proofs.Math.Seq.{drop-cons}
 use Rattle.std.proofs.lemmas.Bool.Decides.{nat_tests}

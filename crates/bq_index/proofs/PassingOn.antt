@@ -19,7 +19,7 @@ set_holds (x ∷ xs) (suc c) (suc k) i d P own old = set_holds xs c k i d P (λ 
 same_number : (n : ℕ) → (n == n) ≡ true
 same_number n = grind (arith, nat_tests)
 
--- the box of the first entrance, where it is of the stream
+-- the box of the first filter, where it is of the stream
 pub box_first : (stream_filters : List StreamFilter) (e : StreamFilter) (stream : ℕ) (box : QueryBox) → 1 ≤ length stream_filters → e ≡ slice_index_or stream_filters 0 e → e.stream ≡ stream
     → ((v : ℕ → ℤ) → lets_in e v ≡ true → AreHeld box v) → IsBoxAmong stream_filters stream (Some box)
 box_first [] e stream box some at is held = absurd (omega (arith, some))

@@ -41,11 +41,11 @@ abbrev pub is_within_some : (ℕ → ℤ) → Option ColumnInterval → Bool
 is_within_some v None = true
 is_within_some v (Some r) = is_within v r
 
--- an entrance lets a row in that lies within all its ranges
+-- a stream's filter lets a row in that lies within all its ranges
 abbrev pub lets_in : StreamFilter → (ℕ → ℤ) → Bool
 lets_in e v = is_within v e.first && list_all (is_within v) e.others.items
 
--- a row comes in where the entrance of its stream lets it in, which is the first of its number
+-- a row comes in where the filter of its stream lets it in, which is the first of its number
 abbrev pub comes_in : Arrival → List StreamFilter → Bool
 comes_in r [] = false
 comes_in r (e ∷ es) = if e.stream == r.stream then lets_in e (by_column r.values) else comes_in r es

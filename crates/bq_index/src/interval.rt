@@ -24,7 +24,7 @@ impl Interval {
     }
 }
 
-/// Returns the bounds of all integers.
+/// Returns the interval of all integers.
 pub fn unbounded() -> Interval
     ensures { (x : ℤ) → lies_in result x ≡ true }
 {
@@ -34,7 +34,7 @@ pub fn unbounded() -> Interval
     }
 }
 
-// The bounds of the integers below one.
+// The interval of the integers below one.
 fn interval_below(k: i64) -> Interval
     ensures { (x : ℤ) → int_lt x k ≡ true → lies_in result x ≡ true }
 {
@@ -44,7 +44,7 @@ fn interval_below(k: i64) -> Interval
     }
 }
 
-// The bounds of the integers above one.
+// The interval of the integers above one.
 fn interval_above(k: i64) -> Interval
     ensures { (x : ℤ) → int_lt k x ≡ true → lies_in result x ≡ true }
 {
@@ -54,7 +54,7 @@ fn interval_above(k: i64) -> Interval
     }
 }
 
-// The bounds of the integers that stand so to one.
+// The interval of the integers that stand so to one.
 fn interval_left(op: Op, k: i64) -> Interval
     ensures { (x : ℤ) → compares op x k ≡ true → lies_in result x ≡ true }
 {
@@ -77,7 +77,7 @@ fn interval_left(op: Op, k: i64) -> Interval
     }
 }
 
-// The bounds of the integers to which one stands so.
+// The interval of the integers to which one stands so.
 fn interval_right(op: Op, k: i64) -> Interval
     ensures { (x : ℤ) → compares op k x ≡ true → lies_in result x ≡ true }
 {
@@ -107,7 +107,7 @@ fn is_here(attr: Attr, column: u8) -> bool
     attr.stream == 0 && attr.column == column
 }
 
-// The bounds of a column of a row that meets a comparison by itself.
+// The interval of a column of a row that meets a comparison by itself.
 fn interval_of(atom: &Atom, column: u8) -> Interval
     ensures { (values : List ℤ) → meets (assignment_of (values ∷ [])) atom.now ≡ true → lies_in result (by_column values column) ≡ true }
 {
@@ -122,14 +122,14 @@ fn interval_of(atom: &Atom, column: u8) -> Interval
     }
 }
 
-// The greater least integer of two bounds.
+// The greater least integer of two intervals.
 fn least_of_both(a: Interval, b: Interval) -> i64
     ensures { (x : ℤ) → lies_in a x ≡ true → lies_in b x ≡ true → is_above result x ≡ true }
 {
     if a.least < b.least { b.least } else { a.least }
 }
 
-// The less greatest integer of two bounds.
+// The less greatest integer of two intervals.
 fn greatest_of_both(a: Interval, b: Interval) -> i64
     ensures { (x : ℤ) → lies_in a x ≡ true → lies_in b x ≡ true → is_below result x ≡ true }
 {
@@ -140,7 +140,7 @@ fn greatest_of_both(a: Interval, b: Interval) -> i64
     }
 }
 
-// The bounds of the integers that lie within both.
+// The interval of the integers that lie within both.
 fn narrowed(a: Interval, b: Interval) -> Interval
     ensures { (x : ℤ) → lies_in a x ≡ true → lies_in b x ≡ true → lies_in result x ≡ true }
 {
@@ -150,7 +150,7 @@ fn narrowed(a: Interval, b: Interval) -> Interval
     }
 }
 
-/// Returns the bounds of a column of a row that meets some comparisons by itself.
+/// Returns the interval of a column of a row that meets some comparisons by itself.
 pub fn interval_alone(atoms: &[Atom], column: u8) -> Interval
     ensures { (values : List ℤ) → list_all (meets (assignment_of (values ∷ []))) atoms.now ≡ true → lies_in result (by_column values column) ≡ true }
 {
@@ -161,7 +161,7 @@ pub fn interval_alone(atoms: &[Atom], column: u8) -> Interval
     interval
 }
 
-// The bounds of a column over all rows in the ranges of the dims, where a dim tells them.
+// The interval of a column over all rows in the ranges of the dims, where a dim tells them.
 fn interval_among(dims: &[Dim], column: u8) -> Option<Interval>
     ensures { MatchOption result ⊤ (λ b. (v : ℕ → ℤ) → list_all (in_range v) dims.now ≡ true → Encloses b (v column)) }
 {
@@ -186,7 +186,7 @@ fn interval_in(part: &PartPlan, place: u8, column: u8) -> Option<Interval>
     }
 }
 
-// The bounds of the integers that lie within one of both.
+// The interval of the integers that lie within one of both.
 fn widened(a: Interval, b: Interval) -> Interval
     ensures first { (x : ℤ) → Encloses a x → Encloses result x }
     ensures second { (x : ℤ) → Encloses b x → Encloses result x }
@@ -201,7 +201,7 @@ fn widened(a: Interval, b: Interval) -> Interval
     }
 }
 
-/// Returns the bounds of a column over the rows of a stream in the ranges of all parts, where each part tells some.
+/// Returns the interval of a column over the rows of a stream in the ranges of all parts, where each part tells some.
 pub fn interval_over(parts: &PartPlans, place: u8, column: u8) -> Option<Interval>
     ensures { MatchOption result ⊤ (λ b. (n : ℕ) (d : PartPlan) → n < length parts.now → (v : ℕ → ℤ) → list_all (in_range v) (dims_at (slice_index_or parts.now n d) place) ≡ true → Encloses b (v column)) }
 {

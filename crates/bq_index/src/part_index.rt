@@ -23,22 +23,28 @@ use bq_model::{Element, Pair, PartPlan, PartPlans, Query, Row, Sign};
 use bq_synopsis::{CellAt, Placement, Prepared, Shift, placement_of};
 use std::alloc::{AllocError, Global};
 
-/// The numbers of the pairs whose signs make a code, these pairs in the same order, whether a code tells all signs of a row in the
-/// ranges of a part, the code of each part, and whether it takes rows into a box of its own, whether each part does, the number of the
-/// greatest bucket, the first part of each bucket, and for each part the next one of its bucket. Where there is no such part, the
-/// number of all parts stands. And for each part how many cells later the box of the next one begins, where a row that stands in one of both
-/// stands at the same place in the other.
+/// An index of the parts of a plan at a place of FROM: parts whose codes fall into one bucket stand in a chain.
 #[derive(Drop)]
 pub struct PartIndex {
+    /// The numbers of the pairs whose signs make a code.
     tests: ArrayVec<u8, 114>,
+    /// These pairs, in the same order.
     tested: Vec<Pair>,
+    /// Whether a code tells all signs of a row in the ranges of a part.
     exact: bool,
+    /// The code of each part.
     codes: Vec<u32>,
+    /// Whether each part takes rows into a box of its own.
     owns: Vec<bool>,
+    /// Whether all do.
     each: bool,
+    /// The number of the greatest bucket.
     greatest: u32,
+    /// The first part of each bucket; the number of all parts where there is none.
     firsts: Vec<u32>,
+    /// The next part of the bucket of each part; the number of all parts where there is none.
     nexts: Vec<u32>,
+    /// How many cells later the box of the next part begins, where a row stands in both at the same place or in neither.
     shifts: Vec<Option<Shift>>,
 }
 

@@ -28,7 +28,7 @@ fn put(own: &mut QueryBox, range: &ColumnInterval)
     }
 }
 
-// The box of the ranges of an entrance.
+// The box of the ranges of a stream's filter.
 fn box_of(stream_filter: &StreamFilter) -> QueryBox
     ensures { (v : ℕ → ℤ) → lets_in stream_filter.now v ≡ true → AreHeld result v }
 {
@@ -40,7 +40,7 @@ fn box_of(stream_filter: &StreamFilter) -> QueryBox
     own
 }
 
-// The box of the entrance of a stream.
+// The box of a stream's filter.
 fn box_among(stream_filters: &[StreamFilter], stream: u8) -> Option<QueryBox>
     ensures { IsBoxAmong stream_filters.now stream result }
 {

@@ -70,7 +70,7 @@ fn is_within_all(row: &[i64], ranges: &[ColumnInterval]) -> bool
     ranges.iter().all(|range| is_within(row, range))
 }
 
-// Whether an entrance lets a row in.
+// Whether a stream's filter lets a row in.
 fn lets_in(stream_filter: &StreamFilter, row: &[i64]) -> bool
     ensures { result ≡ lets_in stream_filter.now (by_column row.now) }
 {
@@ -136,7 +136,7 @@ fn put(ranges: &mut ArrayVec<ColumnInterval, 8>, range: Option<ColumnInterval>)
     }
 }
 
-// Interval that bound nothing are left out.
+// An interval that bounds nothing is left out.
 fn if_bounded(column: u8, interval: Interval) -> Option<ColumnInterval>
     ensures { (v : ℕ → ℤ) → lies_in interval (v column) ≡ true → is_within_some v result ≡ true }
 {
@@ -190,7 +190,7 @@ pub fn stream_of(from: &[u8], place: usize) -> u8
     from[place]
 }
 
-// The entrance of a stream with its ranges, of which the first is asked first.
+// The filter of a stream with its ranges, of which the first is asked first.
 fn stream_filter_of(stream: u8, ranges: ArrayVec<ColumnInterval, 8>) -> StreamFilter
     ensures stream { result.stream ≡ stream }
     ensures ranges { (v : ℕ → ℤ) → lets_in result v ≡ list_all (is_within v) ranges.items }
@@ -214,7 +214,7 @@ fn stream_filter_of(stream: u8, ranges: ArrayVec<ColumnInterval, 8>) -> StreamFi
     }
 }
 
-// The entrance of the stream at a place of FROM over all parts.
+// The filter of the stream at a place of FROM over all parts.
 fn stream_filter_at(from: &[u8], parts: &PartPlans, place: usize) -> StreamFilter
     requires there { place < length from.now }
     requires few { length from.now ≤ 4 }

@@ -5,9 +5,8 @@ ghost use Rattle.bq_model.specs.Plan.{stream_at};
 ghost use Rattle.bq_model.specs.Admission.{sign_eq};
 ghost use Rattle.bq_model.specs.Sharing.{box_at, same_signs, same_dim, same_dims, same_kind, same_box};
 
-use crate::lookup::is_same;
 use crate::shares::dims_at;
-use bq_model::{Dim, Element, Kind, Pair, PartPlan, Query, Sign};
+use bq_model::{Dim, Element, Kind, Pair, PartPlan, Query, Sign, is_same};
 
 /// Returns whether all columns of a pair are of the stream at a place of FROM.
 pub fn is_within(place: usize, pair: Pair) -> bool

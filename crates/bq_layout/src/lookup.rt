@@ -4,7 +4,7 @@ ghost use Rattle.std.specs.List.{list_any};
 ghost use Rattle.bq_model.specs.Query.{attr_eq, attrs_of, IsWithinLimits};
 ghost use Rattle.bq_layout.specs.Looking.{attr_at, IsPlace, is_side};
 
-use bq_model::{Attr, Link, Query};
+use bq_model::{Attr, Link, Query, is_same};
 
 /// Returns how many attributes the query has.
 pub fn attr_count(q: &Query) -> usize
@@ -21,13 +21,6 @@ pub fn attr_at(q: &Query, i: usize) -> Attr
     ensures { result ≡ attr_at q.now i }
 {
     q.attrs()[i]
-}
-
-/// Returns whether two columns are the same.
-pub fn is_same(a: Attr, b: Attr) -> bool
-    ensures { result ≡ attr_eq a b }
-{
-    a.stream == b.stream && a.column == b.column
 }
 
 /// Returns whether a column is among some.

@@ -7,9 +7,8 @@ ghost use Rattle.bq_model.specs.Plan.{dims_at};
 ghost use Rattle.bq_model.specs.Numbers.{is_earlier_dim, is_fixed, free_dims, share_of, share};
 ghost use Rattle.bq_layout.specs.Capped.{capped};
 
-use crate::lookup::is_same;
 use crate::sizes::dim_size;
-use bq_model::{Attr, Dim, PartPlan};
+use bq_model::{Attr, Dim, PartPlan, is_same};
 
 /// Returns the dims of the stream at a place of FROM, or none where there is no stream.
 pub fn dims_at(part: &PartPlan, place: usize) -> &[Dim]

@@ -7,10 +7,9 @@ ghost use Rattle.bq_mend.specs.Narrowed.{turned, from_on, up_to, cut, cut_by, do
 
 use crate::comparing::{Cheaper, put, tried};
 use crate::judging::Judgement;
-use crate::sets::is_same;
 use crate::writing::{GREATEST, compared, widest};
 use arrayvec::ArrayVec;
-use bq_model::{Atom, Attr, Domain, Element, Op, Query};
+use bq_model::{Atom, Attr, Domain, Element, Op, Query, is_same};
 use std::alloc::{AllocError, Global};
 
 /// How often a range is halved.

@@ -7,9 +7,9 @@ ghost use Rattle.bq_mend.specs.Looking.{behind, Looks};
 
 use crate::columns::ColumnSet;
 use crate::mend::{Kind, Mend};
-use crate::sets::{is_same, open_columns, sets_of};
+use crate::sets::{open_columns, sets_of};
 use crate::writing::mends;
-use bq_model::{Attr, Query};
+use bq_model::{Attr, Query, is_same};
 use std::alloc::{AllocError, Global};
 
 /// Least sets of columns, and whether sets were left out of the search that found them.

@@ -6,14 +6,8 @@ ghost use Rattle.bq_mend.specs.Sets.{has_domain, with_column, columns_with, open
 
 use crate::columns::ColumnSet;
 use arrayvec::ArrayVec;
-use bq_model::{Attr, Domain, Query};
+use bq_model::{Attr, Domain, Query, is_same};
 use std::alloc::{AllocError, Global};
-
-pub(crate) fn is_same(a: Attr, b: Attr) -> bool
-    ensures { result ≡ attr_eq a b }
-{
-    a.stream == b.stream && a.column == b.column
-}
 
 fn is_among(columns: &[Attr], column: Attr) -> bool
     ensures { result ≡ list_any (λ b. attr_eq b column) columns.now }

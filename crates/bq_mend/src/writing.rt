@@ -11,7 +11,7 @@ use crate::meeting::stands;
 use crate::mend::Mend;
 use crate::naming::fit;
 use arrayvec::ArrayVec;
-use bq_model::{Atom, Attr, Domain, Element, Op, Query};
+use bq_model::{Atom, Attr, Domain, Element, Op, Query, is_before};
 use std::alloc::{AllocError, Global};
 
 /// The greatest integer of 15 digits.
@@ -19,12 +19,6 @@ pub(crate) const GREATEST: i64 = 999_999_999_999_999;
 
 /// The most domains that a query may have.
 const MOST_DOMAINS: usize = 20;
-
-fn is_before(a: Attr, b: Attr) -> bool
-    ensures { result ≡ attr_lt a b }
-{
-    a.stream < b.stream || (a.stream == b.stream && a.column < b.column)
-}
 
 // All integers of at most 15 digits, as the domain of a column.
 pub(crate) fn widest(column: Attr) -> Domain

@@ -12,9 +12,9 @@ use crate::combination::dim_size;
 use crate::lines::{line_of, offset_of};
 use crate::lists::Dims;
 use crate::narrow::{above, below};
-use bq_model::{Dim, Link, PartPlan, StreamPlan, size_of};
+use bq_model::{Dim, Link, PartPlan, StreamPlan, is_same, size_of};
 use bq_pool::{Extent, Pool};
-use bq_synopsis::{column_of, dims_at, is_known, is_same, stream_at};
+use bq_synopsis::{column_of, dims_at, is_known, stream_at};
 
 // The dim with the values that an inequality with a column of the row leaves.
 fn clip_by(arriving: u8, row: &[i64], link: Link, dim: Dim) -> Dim

@@ -10,8 +10,8 @@ use crate::binding::Binding;
 use crate::lists::Dims;
 use crate::part::RowAt;
 use crate::values::value_in;
-use bq_model::{Dim, Link};
-use bq_synopsis::{binding_column, is_known, is_same};
+use bq_model::{Dim, Link, is_same};
+use bq_synopsis::{binding_column, is_known};
 
 // The dim with one value alone, or with none where the value is outside its range.
 fn narrowed_to(dim: Dim, value: i64) -> Dim

@@ -1,4 +1,4 @@
-//! ProbeScratch for a walk, and the values that there are to try at the next place.
+//! Room for a walk, and the values that there are to try at the next place.
 ghost use Rattle.std.specs.Prelude.{◌≡◌, ◌≢◌, ◌*◌, ◌<◌, ◌^◌, length, [], ◌∷◌, ◌++◌, IfSome, map, true, false, Option, Some};
 ghost use Rattle.bq_model.specs.Boxes.{box_size, values_at, AreInside, AreNumbered};
 ghost use Rattle.bq_model.specs.Combinations.{read_from};
@@ -23,7 +23,7 @@ use bq_model::{Cell, Dim, PartPlan, size_of};
 use bq_pool::{Extent, Pool, StridedCells};
 use bq_synopsis::{is_whole, may_fix, stream_at};
 
-/// ProbeScratch for a walk. What it holds between two walks means nothing.
+/// Room for a walk. What it holds between two walks means nothing.
 #[derive(Drop, Default)]
 pub struct ProbeScratch {
     pub(crate) chosen: Bindings,

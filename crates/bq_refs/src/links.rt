@@ -1,6 +1,6 @@
 //! The links of a part, which are its equalities and nonredundant inequalities between streams.
 ghost use Rattle.std.specs.Prelude.{◌≡◌, ◌↔◌, ◌+◌, ◌≤◌, ◌++◌, IsTrue, Contains, length, map};
-ghost use Rattle.bq_model.specs.Query.{attrs_of, attr_lt, IsWithinLimits};
+ghost use Rattle.bq_model.specs.Query.{attrs_of, IsWithinLimits};
 ghost use Rattle.bq_model.specs.Links.{IsInequality};
 ghost use Rattle.bq_model.specs.Plan.{link};
 ghost use Rattle.bq_refs.specs.Known.{AreKnown};
@@ -11,14 +11,7 @@ use crate::placed::with_node;
 use crate::redundant::is_redundant;
 use arrayvec::ArrayVec;
 use bq_closure::Distances;
-use bq_model::{Attr, Element, Link, Part, Query};
-
-// Whether a column stands before another.
-fn is_before(a: Attr, b: Attr) -> bool
-    ensures { result ≡ attr_lt a b }
-{
-    a.stream < b.stream || (a.stream == b.stream && a.column < b.column)
-}
+use bq_model::{Attr, Element, Link, Part, Query, is_before};
 
 // Adds a column with each of some.
 fn push_row(list: &mut ArrayVec<Link, 144>, left: Attr, attrs: &[Attr])

@@ -7,6 +7,7 @@ ghost use Rattle.bq_session.specs.Requests as requests;
 ghost use Rattle.bq_session.specs.Requests.{query_of};
 ghost use Rattle.bq_session.specs.Session.{names_in};
 
+use arrayvec::ArrayVec;
 use bq_model::Query;
 use bq_parser::{SelectAst, resolve};
 use bq_registry::Registry;
@@ -54,4 +55,14 @@ pub fn find_query(
         Err(error) => Err(resolve_refusal(error)),
         Ok(query) => Ok(query),
     }
+}
+
+/// Returns the streams of a query, by their numbers.
+pub(crate) fn streams_of(query: &Query) -> ArrayVec<u8, 4>
+    ensures { result.items ≡ query.now.from }
+{
+    let mut from = ArrayVec::new();
+    // There is room, so this is done.
+    let _whole = from.try_extend_from_slice(query.from()).is_ok();
+    from
 }

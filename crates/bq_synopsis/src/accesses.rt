@@ -7,10 +7,10 @@ ghost use Rattle.bq_synopsis.specs.Pinning.{touches, is_free, IsWhole};
 ghost use Rattle.bq_synopsis.specs.declared.accesses.Access.{Access};
 ghost use Rattle.bq_synopsis.specs.declared.accesses.Access.TheVariants as accesses;
 
-use crate::classes::{dims_at, is_same};
+use crate::classes::dims_at;
 use crate::known::{binding_column, is_known};
 use arrayvec::ArrayVec;
-use bq_model::{Attr, Dim, Link, PartPlan};
+use bq_model::{Attr, Dim, Link, PartPlan, is_same};
 
 /// What the links with known columns leave of the dims of a place.
 #[derive(Clone, Copy, Debug, Default, PartialEq, Eq)]

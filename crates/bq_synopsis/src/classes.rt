@@ -1,20 +1,12 @@
 //! Columns of one class: those that the signs of a part say are equal.
 ghost use Rattle.std.specs.Prelude.{◌≡◌, ◌&&◌, ◌||◌, length, position, ◌<◌, ◌≤◌, IfSome};
-ghost use Rattle.bq_model.specs.Query.{attr_eq};
 ghost use Rattle.bq_model.specs.Plan.{dims_at};
 ghost use Rattle.bq_model.specs.Combinations.{compares_both, ties, any_ties};
 ghost use Rattle.bq_synopsis.specs.Classes.{are_tied};
 ghost use Rattle.std.specs.declared.option.Option.TheVariants.{Some};
 
 use crate::admission::is_sign;
-use bq_model::{Attr, Dim, Element, Pair, PartPlan, Sign};
-
-/// Returns whether two columns are the same.
-pub fn is_same(a: Attr, b: Attr) -> bool
-    ensures { result ≡ attr_eq a b }
-{
-    a.stream == b.stream && a.column == b.column
-}
+use bq_model::{Attr, Dim, Element, Pair, PartPlan, Sign, is_same};
 
 // Whether a pair compares two columns.
 fn compares_both(a: Attr, b: Attr, pair: Pair) -> bool

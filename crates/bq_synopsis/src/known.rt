@@ -3,8 +3,7 @@ ghost use Rattle.std.specs.Prelude.{◌≡◌, ◌<◌};
 ghost use Rattle.bq_model.specs.Probing.{is_known};
 ghost use Rattle.bq_synopsis.specs.Narrowing.{binding_column};
 
-use crate::classes::is_same;
-use bq_model::{Attr, Link};
+use bq_model::{Attr, Link, is_same};
 
 /// Returns whether a walk that has chosen at so many places knows the column.
 pub fn is_known(arriving: u8, place: usize, a: Attr) -> bool

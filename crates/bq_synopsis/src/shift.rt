@@ -8,9 +8,9 @@ ghost use Rattle.bq_synopsis.specs.Axes.{IsBoxLayout};
 ghost use Rattle.bq_synopsis.specs.Shift.{IsShifted, placed};
 
 use crate::axes::{BoxLayout, Placement};
-use crate::classes::{dims_at, is_same};
+use crate::classes::dims_at;
 use crate::prepared::Prepared;
-use bq_model::{Dim, Kind, PartPlan, Query};
+use bq_model::{Dim, Kind, PartPlan, Query, is_same};
 
 /// The cell that a row falls into, and what it keeps of rows.
 #[derive(Clone, Copy, Debug, PartialEq, Eq, Drop)]
