@@ -36,3 +36,5 @@ pub mod OldAnswers
 pub mod Closing
 pub mod OwnCells
 pub mod PassingOn
+pub mod OnlyPart
+pub mod Putting

@@ -9,3 +9,4 @@ pub mod Bases
 pub mod Loading
 pub mod Row
 pub mod Passing
+pub mod Signed

@@ -1,16 +1,18 @@
 //! What a row does in one part: what the cells answer to it waits in the table, and its own cell takes it.
-ghost use Rattle.std.specs.Prelude.{◌≡◌, ◌<◌, ◌≤◌, ◌+◌, ◌*◌, ◌||◌, length, true, false};
+ghost use Rattle.std.specs.Prelude.{◌≡◌, ◌<◌, ◌≤◌, ◌+◌, ◌*◌, ◌||◌, length, true, false, if◌then◌else◌, Some, None, IfSome, MatchOption};
 ghost use Rattle.bq_model.specs.Admission.{admits};
 ghost use Rattle.bq_model.specs.Meaning.{by_column};
 ghost use Rattle.bq_model.specs.Combinations.{read_from, found_in};
 ghost use Rattle.bq_model.specs.Probing.{found_beside};
 ghost use Rattle.bq_model.specs.Numbers.{share};
-ghost use Rattle.bq_pool.specs.Extents.{cells_of};
+ghost use Rattle.bq_pool.specs.Extents.{cells_of, with_cells};
 ghost use Rattle.bq_model.specs.Parts.{pairs};
-ghost use Rattle.bq_synopsis.specs.Premises.{IsReady};
+ghost use Rattle.bq_synopsis.specs.Premises.{IsReady, HasRoom};
+ghost use Rattle.bq_synopsis.specs.Inserting.{cells_with_row};
 ghost use Rattle.bq_synopsis.specs.Preparing.{IsPrepared};
 ghost use Rattle.bq_synopsis.specs.Axes.{IsCell};
 ghost use Rattle.bq_synopsis.specs.Own as own_cells;
+ghost use Rattle.bq_synopsis.specs.Own.{IsOwnCell};
 ghost use Rattle.bq_probe.specs.Remaining.{as_found};
 ghost use Rattle.bq_answers.specs.Entries.{with_entries, Fits};
 ghost use Rattle.bq_executor.specs.Taking.{with_found, with_all, HaveRoom, AreOld};
@@ -50,11 +52,21 @@ impl Takes {
         ensures stays { result ≡ true → own_cells.with_row own.now row.now.items ≡ own.now.held }
         ensures sure { self.known ≡ true → own_cells.with_row own.now row.now.items ≡ own.now.held → result ≡ true }
     {
-        if !self.known {
-            return false;
-        }
-        own.stays(row)
+        spares(self.known, own, row)
     }
+}
+
+/// Returns whether a row is known to be answered nothing new: that is known of each row which leaves its own cell as it is, and the row
+/// leaves it so.
+pub fn spares(known: bool, own: &OwnCell, row: &Row) -> bool
+    ensures known { result ≡ true → known ≡ true }
+    ensures stays { result ≡ true → own_cells.with_row own.now row.now.items ≡ own.now.held }
+    ensures sure { known ≡ true → own_cells.with_row own.now row.now.items ≡ own.now.held → result ≡ true }
+{
+    if !known {
+        return false;
+    }
+    own.stays(row)
 }
 
 /// Room to work in, of which nothing is asked.
@@ -176,10 +188,9 @@ fn walk<L: Ledger>(
     }
 }
 
-// Takes up what one look-up tells of the answers of a part to a row, or what a walk finds where it tells nothing. It is not inlined, as the
-// walk is not.
-#[inline(never)]
-fn look<L: Ledger>(
+/// Takes up what one look-up tells of the answers of a part to a row, or what a walk finds where it tells nothing.
+#[inline(always)]
+pub fn look<L: Ledger>(
     pool: &Pool,
     part: &PartAt<'_>,
     at: &Admitted<'_>,
@@ -201,7 +212,11 @@ fn look<L: Ledger>(
         FirstLook::One(count) => {
             record_found(part.q.distinct(), tuple, u128::from(count), table)
         }
-        FirstLook::Unknown => walk(pool, part, at, room, tuple, table, steps),
+        FirstLook::Unknown => {
+            // Copies of its own for the call that is not inlined, so that the others stay in registers.
+            let (met, row) = (*part, *at);
+            walk(pool, &met, &row, room, tuple, table, steps);
+        }
     }
 }
 
@@ -224,14 +239,48 @@ fn answer<L: Ledger>(
     ensures reads { steps.new.reads ≤ steps.old.reads + 3 * share part.now.plan.now }
     ensures writes { steps.new.writes ≡ steps.old.writes }
 {
-    // Copies of its own for the calls that are not inlined, so that the others stay in registers.
-    let (met, row) = (*part, *at);
     let (room, tuple) = (&mut scratch.room, &mut scratch.tuple);
     if part.prepared.join_lookup(at.pos).is_some() {
-        look(pool, &met, &row, room, tuple, table, steps);
+        look(pool, part, at, room, tuple, table, steps);
     } else {
-        walk(pool, &met, &row, room, tuple, table, steps);
+        walk(pool, part, at, room, tuple, table, steps);
     }
+}
+
+// Takes up all that the cells of a part answer to a row, and then takes the row into its own cell, where that was read for it. It is not
+// inlined: with DISTINCT most rows leave their own cells as they are.
+#[inline(never)]
+fn answer_and_put<L: Ledger>(
+    pool: &mut Pool,
+    part: &PartAt<'_>,
+    at: &Admitted<'_>,
+    own: &Option<OwnCell>,
+    scratch: &mut Scratch,
+    table: &mut Answers,
+    steps: &mut Steps<L>,
+)
+    requires here { at.now.pos < length part.now.q.now.from }
+    requires ready { IsReady part.now.q.now part.now.plan.now pool.old part.now.extent.now }
+    requires prepared { IsPrepared (pairs part.now.q.now) part.now.plan.now part.now.prepared.now }
+    requires own { IfSome own.now (λ cell. IsOwnCell part.now.plan.now at.now.pos at.now.row.now.items (cells_of pool.old part.now.extent.now) cell × (cell.number < 64 * part.now.extent.now.pages) × HasRoom cell.held) }
+    requires room { HaveRoom part.now.q.now.distinct (found_beside part.now.q.now part.now.plan.now (read_from (cells_of pool.old part.now.extent.now)) at.now.pos (by_column at.now.row.now.items)) table.old }
+    ensures table { table.new ≡ with_entries table.old (with_all part.now.q.now.distinct (found_beside part.now.q.now part.now.plan.now (read_from (cells_of pool.old part.now.extent.now)) at.now.pos (by_column at.now.row.now.items)) table.old.entries) }
+    ensures pool { MatchOption own.now (pool.new ≡ pool.old) (λ cell. pool.new ≡ with_cells pool.old part.now.extent.now (cells_with_row part.now.plan.now at.now.pos at.now.row.now.items (cells_of pool.old part.now.extent.now))) }
+    ensures reads { steps.new.reads ≤ steps.old.reads + 3 * share part.now.plan.now }
+    ensures writes { steps.new.writes ≤ steps.old.writes + 1 }
+{
+    answer(pool, part, at, scratch, table, steps);
+    match own {
+        Some(own) => put_own(pool, part.extent, part.plan, at, own, steps),
+        None => {}
+    }
+}
+
+// The own cell of a row, where a part takes rows into a box of its own.
+fn cell_to_put(owns: bool, own: OwnCell) -> Option<OwnCell>
+    ensures { result ≡ (if owns then Some own else None) }
+{
+    if owns { Some(own) } else { None }
 }
 
 /// Takes a row into a part that admits it: all that the cells answer to it is taken up, and where the part takes rows into a box of its
@@ -263,17 +312,18 @@ pub fn apply_to_part<L: Ledger>(
 {
     // Read for the proof alone: the call tells how many streams there are.
     let _from = part.q.from();
+    // Copies of their own for the calls that are not inlined, so that the others stay in registers.
     if !takes.looks() {
-        answer(pool, part, at, scratch, table, steps);
+        let (met, row) = (*part, *at);
+        answer_and_put(pool, &met, &row, &None, scratch, table, steps);
         return false;
     }
     let own = own_cell(pool, part.extent, part.q, part.plan, at, steps);
     if takes.spares(&own, at.row) {
         return false;
     }
-    answer(pool, part, at, scratch, table, steps);
-    if takes.owns {
-        put_own(pool, part.extent, part.plan, at, &own, steps);
-    }
+    let put = cell_to_put(takes.owns, own);
+    let (met, row) = (*part, *at);
+    answer_and_put(pool, &met, &row, &put, scratch, table, steps);
     takes.owns
 }

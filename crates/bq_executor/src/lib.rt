@@ -20,6 +20,7 @@ mod join;
 mod known;
 pub mod laws;
 mod loading;
+mod lookup;
 mod output;
 mod ranges;
 mod route;

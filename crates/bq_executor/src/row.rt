@@ -14,6 +14,7 @@ ghost use Rattle.bq_index.specs.Prefilter.{IsRefused};
 
 use crate::alone::answer_alone;
 use crate::join::Scratch;
+use crate::lookup::{apply_to_only_part, has_lookup};
 use crate::route::{PartsAt, apply_to_parts};
 use bq_answers::Answers;
 use bq_index::PreparedPlan;
@@ -89,7 +90,11 @@ fn apply_by_plan<L: Ledger>(
                     extent: query.extent,
                     known: query.known,
                 };
-                apply_to_parts(pool, &all, pos, arrived.row, scratch, table, steps)
+                if has_lookup(&all, pos) {
+                    apply_to_only_part(pool, &all, pos, arrived.row, scratch, table, steps)
+                } else {
+                    apply_to_parts(pool, &all, pos, arrived.row, scratch, table, steps)
+                }
             }
             None => {}
         },

@@ -60,7 +60,7 @@ fn prepare_parts(alloc: Global, q: &Query, parts: &PartPlans) -> Result<Vec<Prep
 {
     let mut prepared: Vec<Prepared> = Vec::with_capacity(alloc, parts.len() as usize)?;
     'parts: for i in 0..parts.len() {
-        prepared.push(prepare(q, parts.get(i)))?;
+        prepared.push(prepare(alloc, q, parts.get(i))?)?;
     }
     Ok(prepared)
 }

@@ -8,7 +8,7 @@ ghost use Rattle.bq_model.specs.Probing.{found_beside};
 ghost use Rattle.bq_pool.specs.Extents.{cells_of};
 ghost use Rattle.bq_synopsis.specs.Premises.{IsReady};
 ghost use Rattle.bq_synopsis.specs.Preparing.{IsPrepared};
-ghost use Rattle.bq_probe.specs.Joining.{are_told, told_values, Tells};
+ghost use Rattle.bq_probe.specs.Joining.{is_some, value_of, are_told, told_values, Tells};
 ghost use Rattle.bq_probe.specs.declared.join.FirstLook.TheVariants as look;
 
 use crate::lines::is_empty;
@@ -34,30 +34,48 @@ fn value_at(row: &[i64], column: u8) -> i64
     row.get(usize::from(column)).copied().unwrap_or(0)
 }
 
-// Puts the values of the selected columns into a tuple, where columns of the row are listed that have them.
-fn put_values(
-    listed: &JoinLookup,
-    arriving: u8,
-    row: &[i64],
-    select: &[Attr],
-    tuple: &mut Tuple,
-) -> bool
+// The value of a column in a row, where one is told.
+fn value_of(row: &[i64], column: Option<u8>) -> i64
+    ensures { result ≡ value_of row.now column }
+{
+    match column {
+        Some(column) => value_at(row, column),
+        None => 0,
+    }
+}
+
+// Whether a column is told.
+fn is_some(column: Option<u8>) -> bool
+    ensures { result ≡ is_some column }
+{
+    match column {
+        Some(_) => true,
+        None => false,
+    }
+}
+
+// Whether a column of the row is told for each of these columns.
+fn are_told(listed: &JoinLookup, arriving: u8, select: &[Attr]) -> bool
+    ensures { result ≡ are_told listed.now arriving select.now }
+{
+    select
+        .iter()
+        .all(|a| is_some(listed.column_of(arriving, *a)))
+}
+
+// Puts the values of the selected columns into a tuple, by the columns of the row that are told for them.
+fn put_values(listed: &JoinLookup, arriving: u8, row: &[i64], select: &[Attr], tuple: &mut Tuple)
     requires { length select.now ≤ 8 }
-    ensures told { result ≡ true → are_told listed.now arriving select.now ≡ true }
-    ensures values { result ≡ true → tuple.new.items ≡ told_values listed.now arriving row.now select.now }
+    ensures { tuple.new.items ≡ told_values listed.now arriving row.now select.now }
 {
     tuple.clear();
     'selected: for a in select {
-        match listed.column_of(arriving, *a) {
-            Some(column) => tuple.push(value_at(row, column)),
-            None => return false,
-        }
+        tuple.push(value_of(row, listed.column_of(arriving, *a)));
     }
-    true
 }
 
-/// Returns what one look-up tells of the answers to a row, and puts the tuple. Where nothing is told no cell is read, else this is at
-/// most one read.
+/// Returns what one look-up tells of the answers to a row, and puts the tuple where there is one. Where nothing is told no cell is read, else
+/// this is at most one read. Most cells are empty, and then no tuple is put.
 #[inline(always)]
 pub fn first_look<L: Ledger>(
     pool: &Pool,
@@ -77,10 +95,11 @@ pub fn first_look<L: Ledger>(
     let Some(listed) = part.prepared.join_lookup(at.pos) else {
         return FirstLook::Unknown;
     };
-    let row = at.row.as_slice();
-    if !put_values(listed, at.pos, row, part.q.select(), tuple) {
+    let select = part.q.select();
+    if !are_told(listed, at.pos, select) {
         return FirstLook::Unknown;
     }
+    let row = at.row.as_slice();
     let Some(number) = listed.cell_of(row) else {
         return FirstLook::Nothing;
     };
@@ -88,6 +107,7 @@ pub fn first_look<L: Ledger>(
     if is_empty(cell) {
         FirstLook::Nothing
     } else {
+        put_values(listed, at.pos, row, select, tuple);
         FirstLook::One(rows_in(cell))
     }
 }

@@ -13,8 +13,8 @@ use Rattle.bq_schema.specs.declared.column.ColumnDef.{ColumnDef}
 use Rattle.bq_schema.specs.Rows.{is_comma}
 use Rattle.bq_schema.specs.Streams.{HasEnds, Shape, lies_within, lie_within, shape_at}
 use Rattle.bq_session.specs.Ahead.{AddsAt, BeginsStream, EndsLine, FieldsTo, IsEnded}
-use Rattle.bq_session.specs.Counted.{AreRowsAhead, HasFields, IsSomeRowAhead, none, more}
-use Rattle.bq_session.proofs.FieldsAhead.{fields_begin, fields_last, fields_more, short_at}
+use Rattle.bq_session.specs.Counted.{AreRowsAhead, HasFields, IsSomeInteger, IsSomeRowAhead, none, more}
+use Rattle.bq_session.proofs.FieldsAhead.{fields_begin, fields_last, fields_more, negative_at, short_at}
 use Rattle.bq_session.proofs.NamesAhead.{some_ended}
 use Rattle.bq_session.proofs.RowsAhead.{row_found}
 use Rattle.bq_session.proofs.PlainFields.{amount_next, clash, domains_kept, whole_row, within_18}
@@ -31,11 +31,6 @@ small_front text (suc i) few =
     let more : i + 1 ≡ suc i = omega arith in
     subst (λ n. amount (take n text) < 10 ^ n) more (subst (λ n. n < 10 ^ (i + 1)) (amount_next text i (amount (take i text)) (get_or text i 0 - 48) room refl refl) (small_more (amount (take i text)) (get_or text i 0 - 48) i before (digit_few (get_or text i 0) digit)))
 
--- an integer stands between two places, whatever row its value is added to
-pub record IsSomeInteger (text : List ℕ) (start end : ℕ) : Type 0 where
-  pub value : ℤ
-  pub adds : (row : List ℤ) → AddsAt text start end row (row ++ value ∷ [])
-
 pub some_integer : (text : List ℕ) (start end : ℕ) → end ≡ start + prefix_len is_digit (drop start text) → end < length text → (0 < end - start) × (end - start ≤ 18) → IsSomeInteger text start end
 some_integer text start end is room few =
     let rest = drop start text in
@@ -46,6 +41,19 @@ some_integer text start end is room few =
       value = pos kept;
       adds = λ row. subst (λ e. AddsAt text start e row (row ++ pos kept ∷ [])) (sym is)
           (short_at text start len kept row (row ++ pos kept ∷ []) refl (omega (arith, is, few.0), omega (arith, is, few.1), omega (arith, small)) (omega (arith, is, room)) (λ _. refl) refl);
+    }
+
+pub some_negative : (text : List ℕ) (start end : ℕ) → end ≡ start + 1 + prefix_len is_digit (drop (start + 1) text) → end < length text → get_or text start 0 ≡ 45 → (0 < end - start - 1) × (end - start - 1 ≤ 18)
+    → IsSomeInteger text start end
+some_negative text start end is room minus few =
+    let rest = drop (start + 1) text in
+    let len = prefix_len is_digit rest in
+    let kept = amount (take len rest) in
+    let small : kept < 10 ^ 18 = within_18 kept len (small_front rest len (omega arith)) (omega (arith, is, few.1)) in
+    record {
+      value = neg_ℤ (pos kept);
+      adds = λ row. subst (λ e. AddsAt text start e row (row ++ neg_ℤ (pos kept) ∷ [])) (sym is)
+          (negative_at text start len kept row (row ++ neg_ℤ (pos kept) ∷ []) (omega (arith, is, room)) minus refl (omega (arith, is, few.0), omega (arith, is, few.1), omega (arith, small)) (omega (arith, is, room)) (λ _. refl) refl);
     }
 
 -- Fields so far.

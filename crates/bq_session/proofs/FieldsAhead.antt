@@ -1,5 +1,6 @@
 -- Fields at a place of a text whose last byte is LF.
 use Rattle.std.proofs.Common.{◌≡◌, ℕ, zero, suc, ℤ, pos, Option, ◌+◌, ◌-◌, ◌*◌, ◌^◌, ◌<◌, ◌≤◌, true, false, List, [], ◌∷◌, ◌++◌, length, take, drop, get_or, append-nil, append_assoc, length-append, length-drop, Some, None, refl, ap, sym, ◌∙◌, subst, inl, inr, arith}
+use Rattle.std.specs.Prelude.{neg_ℤ}
 use Rattle.std.specs.List.{list_all, prefix_len, slice_range, slice_split}
 use Rattle.std.specs.Option.{option_map}
 use Rattle.std.proofs.Math.Seq.{take-append_seam, drop-append_seam}
@@ -15,7 +16,7 @@ use Rattle.bq_text.proofs.Trimmed.{is_solid, leading_solid}
 use Rattle.bq_schema.specs.Rows.{is_comma, values_of}
 use Rattle.bq_session.specs.Plain.{AddsInteger, IsPlain, is_plain_byte}
 use Rattle.bq_session.specs.Ahead.{AddsAt, AreFields, FieldsTo, IsEnded, ReadsFront}
-use Rattle.bq_session.proofs.PlainFields.{IsFieldBefore, amount_next, counted_more, field_last, field_then, short_integer, solid_plain, told_more, whole_values, within_18}
+use Rattle.bq_session.proofs.PlainFields.{IsFieldBefore, amount_next, begins_with, counted_more, field_last, field_then, negative_integer, short_integer, solid_plain, told_more, whole_values, within_18}
 use Rattle.bq_session.proofs.NamesAhead.{inside}
 
 -- Digits from a place on.
@@ -80,6 +81,17 @@ short_at text start len kept old new is few room all pushed = record {
   near = omega (arith, few.1);
   within = room;
   adds = short_integer (drop start text) len kept old new is few.0 (all few.1) few.2 pushed;
+}
+
+pub negative_at : (text : List ℕ) (start len kept : ℕ) (old new : List ℤ) → start < length text → get_or text start 0 ≡ 45 → len ≡ prefix_len is_digit (drop (start + 1) text) → (0 < len) × (len ≤ 19) × (kept < 2 ^ 63)
+    → start + 1 + len < length text → (len ≤ 19 → kept ≡ amount (take len (drop (start + 1) text))) → new ≡ old ++ neg_ℤ (pos kept) ∷ [] → AddsAt text start (start + 1 + len) old new
+negative_at text start len kept old new here minus is few room all pushed = record {
+  len = 1 + len;
+  size = omega arith;
+  some = omega arith;
+  near = omega (arith, few.1);
+  within = room;
+  adds = negative_integer (drop start text) (drop (start + 1) text) len kept old new (begins_with start 45 text here minus) is few.0 (all few.1) few.2 pushed;
 }
 
 -- Fields so far.

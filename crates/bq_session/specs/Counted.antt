@@ -1,10 +1,15 @@
 -- Rows that are only counted.
-use Rattle.std.specs.Prelude.{◌≡◌, ℕ, ℤ, ◌+◌, ◌<◌, true, List, length, drop}
+use Rattle.std.specs.Prelude.{◌≡◌, ℕ, ℤ, ◌+◌, ◌<◌, true, List, [], ◌∷◌, ◌++◌, length, drop}
 use Rattle.bq_feed.specs.Reading.{Reading, IsBuffered}
 use Rattle.bq_schema.specs.Streams.{Shape}
-use Rattle.bq_session.specs.Ahead.{AreFields, IsRowAhead}
+use Rattle.bq_session.specs.Ahead.{AddsAt, AreFields, IsRowAhead}
 use Rattle.bq_session.specs.Plain.{IsPlainRow}
 use Rattle.bq_session.specs.Session.{SessionValue}
+
+-- an integer stands between two places of a text, whatever row its value is added to
+pub record IsSomeInteger (text : List ℕ) (start end : ℕ) : Type 0 where
+  pub value : ℤ
+  pub adds : (row : List ℤ) → AddsAt text start end row (row ++ value ∷ [])
 
 -- so many integers with a comma between each and the next stand between two places of a text
 pub record HasFields (text : List ℕ) (start end width : ℕ) : Type 0 where

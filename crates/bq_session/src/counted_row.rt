@@ -4,10 +4,11 @@ ghost use Rattle.std.specs.List.{All, prefix_len};
 ghost use Rattle.bq_schema.specs.Streams.{HasEnds, lie_within};
 ghost use Rattle.bq_text.specs.Word.{is_digit};
 ghost use Rattle.bq_session.specs.Ahead.{IsEnded};
-ghost use Rattle.bq_session.specs.Counted.{AreRowsAhead, HasFields, IsSomeRowAhead};
+ghost use Rattle.bq_session.specs.Counted.{AreRowsAhead, HasFields, IsSomeInteger, IsSomeRowAhead};
 
 use crate::fast_row::above_zero;
-use crate::row_ahead::{line_len, stream_ahead};
+use crate::row_ahead::{are_short, line_len, stream_ahead};
+use crate::starts::Starts;
 use bq_schema::{Catalog, Columns};
 
 // Where the digits from a place of a text on end. Two are looked at in a turn, which is one step of the place for both.
@@ -29,15 +30,42 @@ fn digits_end(text: &[u8], start: usize) -> usize
     }
 }
 
-// Whether so many digits are some and at most 18, so that their amount is an integer of 64 bits whatever they are.
-fn are_few(digits: usize) -> bool
-    ensures { IsTrue result → (0 < digits) × (digits ≤ 18) }
+// The place behind the integer at a place of a text, where it is a minus and at most 18 digits. It is not inlined, so that a value
+// without a minus pays nothing for it.
+#[cold]
+#[inline(never)]
+#[tactic(auto, using(crate::proofs::NamesAhead::behind_minus))]
+fn negative_end(text: &[u8], start: usize) -> Option<usize>
+    requires ended { IsEnded text.now }
+    requires here { start < length text.now }
+    ensures { IfSome result (λ end. IsSomeInteger text.now start end) }
 {
-    digits.wrapping_sub(1) < 18
+    if text[start] != b'-' {
+        return None;
+    }
+    let end = digits_end(text, start + 1);
+    if !are_short(end - start - 1) {
+        return None;
+    }
+    Some(end)
 }
 
-// The place behind the last of so many integers between commas from a place of a text on, where there are just so many, without signs and
-// of at most 18 digits each.
+// The place behind the integer at a place of a text, where it is at most 18 digits, with a minus or no sign before them.
+#[inline(always)]
+fn integer_end(text: &[u8], start: usize) -> Option<usize>
+    requires ended { IsEnded text.now }
+    requires here { start < length text.now }
+    ensures { IfSome result (λ end. IsSomeInteger text.now start end) }
+{
+    let end = digits_end(text, start);
+    if !are_short(end - start) {
+        return negative_end(text, start);
+    }
+    Some(end)
+}
+
+// The place behind the last of so many integers between commas from a place of a text on, where there are just so many, each a minus or
+// no sign and at most 18 digits.
 fn fields_end(width: usize, text: &[u8], start: usize) -> Option<usize>
     requires ended { IsEnded text.now }
     requires here { start < length text.now }
@@ -46,10 +74,9 @@ fn fields_end(width: usize, text: &[u8], start: usize) -> Option<usize>
     let mut place = start;
     let mut read = 0;
     'fields: while read < width {
-        let end = digits_end(text, place);
-        if !are_few(end - place) {
+        let Some(end) = integer_end(text, place) else {
             return None;
-        }
+        };
         read += 1;
         if text[end] != b',' {
             return if read == width { Some(end) } else { None };
@@ -72,14 +99,14 @@ fn have_no_domain(columns: &Columns) -> bool
 }
 
 // The length of the first line of a text, where that line is a row of a stream of which no column has a domain, written
-// without blanks and signs, with at most 18 digits a value. One CR may stand at its end. The last byte of the text is LF, and is not the
+// without blanks and plus signs, with at most 18 digits a value. One CR may stand at its end. The last byte of the text is LF, and is not the
 // one that ends the line.
 #[inline(always)]
-fn counted_row_ahead(catalog: &Catalog, text: &[u8]) -> Option<usize>
+fn counted_row_ahead(catalog: &Catalog, starts: &Starts, text: &[u8]) -> Option<usize>
     requires ended { IsEnded text.now }
     ensures { IfSome result (λ len. IsSomeRowAhead catalog.now text.now len) }
 {
-    let Some(found) = stream_ahead(catalog, text) else {
+    let Some(found) = stream_ahead(catalog, starts, text) else {
         return None;
     };
     let (stream, start) = found;
@@ -108,9 +135,14 @@ pub struct CountedRows {
 }
 
 /// Returns the rows at the front of a text, so many at most, of streams of which no column has a domain, each written without blanks
-/// and signs. The last byte of the text is LF, and is not the one that ends a row.
+/// and plus signs. The last byte of the text is LF, and is not the one that ends a row.
 #[inline(never)] // called once for many rows, and its loop then has all registers
-pub fn counted_rows_ahead(catalog: &Catalog, text: &[u8], most: u64) -> CountedRows
+pub fn counted_rows_ahead(
+    catalog: &Catalog,
+    starts: &Starts,
+    text: &[u8],
+    most: u64,
+) -> CountedRows
     requires ended { IsEnded text.now }
     ensures rows { AreRowsAhead catalog.now text.now result.count result.begin result.end }
     ensures few { result.count ≤ most }
@@ -121,7 +153,7 @@ pub fn counted_rows_ahead(catalog: &Catalog, text: &[u8], most: u64) -> CountedR
         end: 0,
     };
     'counting: while rows.count < most {
-        match counted_row_ahead(catalog, text.split_at(rows.end).1) {
+        match counted_row_ahead(catalog, starts, text.split_at(rows.end).1) {
             Some(len) => {
                 rows = CountedRows {
                     count: rows.count + 1,

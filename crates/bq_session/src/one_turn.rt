@@ -137,7 +137,7 @@ pub fn take_turn<I: Source, O: Sink, L: Ledger>(
 }
 
 /// Counts the rows at the front of what the reader has ahead, as long as no query is live and one more row may be taken: those of streams
-/// of which no column has a domain, written without blanks and signs. A row is then counted and nothing else, whatever its values are, so
+/// of which no column has a domain, written without blanks and plus signs. A row is then counted and nothing else, whatever its values are, so
 /// these are not formed. It takes nothing from a source and writes nothing. In a pause that an earlier try in vain began it does nothing.
 #[inline(always)]
 pub fn count_rows(reader: &mut LineReader, session: &mut Session, pause: &mut Pause)

@@ -1,6 +1,6 @@
 //! Rows as they mostly come, read straight from what a reader has ahead. The last byte of such a text is LF, so that names and digits end
 //! before it, and no place is compared with a length.
-ghost use Rattle.std.specs.Prelude.{◌≡◌, ℕ, [], ◌+◌, ◌*◌, ◌≤◌, ◌<◌, ◌^◌, length, take, drop, false, IfSome, IsTrue, MatchOption};
+ghost use Rattle.std.specs.Prelude.{◌≡◌, ℕ, slice_index, [], ◌+◌, ◌*◌, ◌≤◌, ◌<◌, ◌^◌, length, take, drop, false, IfSome, IsTrue, MatchOption};
 ghost use Rattle.std.specs.List.{prefix_len, slice_range, slice_split};
 ghost use Rattle.std.specs.declared.result.Result.TheVariants.{Ok};
 ghost use Rattle.bq_schema.specs.Rows.{IsNamed, entry, is_comma, is_named, row_with};
@@ -9,7 +9,8 @@ ghost use Rattle.bq_text.specs.Value.{amount};
 ghost use Rattle.bq_text.specs.Word.{is_digit};
 ghost use Rattle.bq_session.specs.Ahead.{AddsAt, AreFields, BeginsStream, EndsLine, FieldsTo, IsEnded, IsRowAhead};
 
-use crate::fast_row::{above_zero, add_amount, add_any};
+use crate::fast_row::{above_zero, add_amount, add_any, add_opposite, begins_integer};
+use crate::starts::Starts;
 use bq_model::Row;
 use bq_schema::Catalog;
 
@@ -35,18 +36,42 @@ fn named_len(text: &[u8], name: &[u8]) -> Option<usize>
     Some(place + 1)
 }
 
-// The number of the stream with whose name and a comma a text begins, and where what stands behind that comma begins.
-pub(crate) fn stream_ahead(catalog: &Catalog, text: &[u8]) -> Option<(u8, usize)>
+// The number of the stream with whose name and a comma a text begins, where that is this number or above. It is not inlined, so that a
+// row of the first stream whose name begins so pays nothing for it.
+#[cold]
+#[inline(never)]
+fn later_stream_ahead(catalog: &Catalog, first: u8, text: &[u8]) -> Option<u8>
     requires { IsEnded text.now }
-    ensures { IfSome result (λ found. BeginsStream catalog.now text.now found.0 found.1) }
+    ensures begins { IfSome result (λ stream. BeginsStream catalog.now text.now stream (length (shape_at catalog.now stream).name + 1)) }
+    ensures inside { IfSome result (λ stream. stream < length catalog.now) }
 {
-    for stream in 0..catalog.len() {
+    for stream in first..catalog.len() {
         let name = catalog.stream_name(stream).bytes();
-        if let Some(len) = named_len(text, name) {
-            return Some((stream, len));
+        if let Some(_len) = named_len(text, name) {
+            return Some(stream);
         }
     }
     None
+}
+
+// The number of the stream with whose name and a comma a text begins, and where what stands behind that comma begins. It looks first at
+// the first stream whose name begins with the same byte, and at none where there is no such name.
+pub(crate) fn stream_ahead(catalog: &Catalog, starts: &Starts, text: &[u8]) -> Option<(u8, usize)>
+    requires { IsEnded text.now }
+    ensures { IfSome result (λ found. BeginsStream catalog.now text.now found.0 found.1) }
+{
+    let stream = starts.of(text[0]);
+    if catalog.len() <= stream {
+        return None;
+    }
+    let name = catalog.stream_name(stream).bytes();
+    match named_len(text, name) {
+        Some(len) => Some((stream, len)),
+        None => match later_stream_ahead(catalog, stream, text) {
+            Some(later) => Some((later, catalog.stream_name(later).bytes().len() + 1)),
+            None => None,
+        },
+    }
 }
 
 // The amount with one digit more behind it, where the amount has at most 18 digits.
@@ -63,6 +88,7 @@ fn digits_at(text: &[u8], start: usize) -> (u64, usize)
     ensures len { result.1 ≡ prefix_len is_digit (drop start text.now) }
     ensures within { start + result.1 < length text.now }
     ensures amount { result.1 ≤ 19 → result.0 ≡ amount (take result.1 (drop start text.now)) }
+    ensures small { result.1 ≤ 18 → result.0 < 10 ^ 18 }
 {
     let mut amount: u64 = 0;
     let mut len = 0;
@@ -74,6 +100,13 @@ fn digits_at(text: &[u8], start: usize) -> (u64, usize)
         amount = with_digit(amount, digit);
         len += 1;
     }
+}
+
+// Whether so many digits are some and at most 18, so that their amount is an integer of 64 bits whatever they are.
+pub(crate) fn are_short(digits: usize) -> bool
+    ensures { IsTrue result → (0 < digits) × (digits ≤ 18) }
+{
+    digits.wrapping_sub(1) < 18
 }
 
 // Whether so many digits are some and at most 19, and their amount is an integer of 64 bits.
@@ -98,13 +131,33 @@ fn add_any_at(row: &mut Row, text: &[u8], start: usize) -> Option<usize>
     Some(start + len)
 }
 
-// The same, at once where the integer has no sign and at most 19 digits.
+// The same, at once where at most 19 digits stand behind the minus that is at the place.
+#[tactic(auto, using(crate::proofs::NamesAhead::behind_minus))]
+fn add_negative_at(row: &mut Row, text: &[u8], start: usize) -> Option<usize>
+    requires room { length row.old.items < 8 }
+    requires ended { IsEnded text.now }
+    requires here { start < length text.now }
+    requires minus { slice_index text.now start ≡ 45 }
+    ensures { IfSome result (λ end. AddsAt text.now start end row.old.items row.new.items) }
+{
+    let (amount, digits) = digits_at(text, start + 1);
+    if !are_few(digits, amount) {
+        return add_any_at(row, text, start);
+    }
+    add_opposite(row, amount);
+    Some(start + 1 + digits)
+}
+
+// The same, at once where the integer has no plus and at most 19 digits.
 fn add_integer_at(row: &mut Row, text: &[u8], start: usize) -> Option<usize>
     requires room { length row.old.items < 8 }
     requires ended { IsEnded text.now }
     requires here { start < length text.now }
     ensures { IfSome result (λ end. AddsAt text.now start end row.old.items row.new.items) }
 {
+    if text[start] == b'-' {
+        return add_negative_at(row, text, start);
+    }
     let (amount, digits) = digits_at(text, start);
     if !are_few(digits, amount) {
         return add_any_at(row, text, start);
@@ -138,7 +191,7 @@ fn read_other_fields_at(row: &mut Row, width: usize, text: &[u8], start: usize) 
 }
 
 // Puts the integers between commas from a place of a text on into an empty row, where there are just so many, at most 8; and gives the
-// place behind the last one. Where there are not, the row is left with any values. What follows an integer with a sign or of more than 19
+// place behind the last one. Where there are not, the row is left with any values. What follows an integer with a sign or of more than 18
 // digits is read apart, so that nothing of this loop lies in memory for it.
 fn read_fields_at(row: &mut Row, width: usize, text: &[u8], start: usize) -> Option<usize>
     requires empty { row.old.items ≡ [] }
@@ -151,7 +204,10 @@ fn read_fields_at(row: &mut Row, width: usize, text: &[u8], start: usize) -> Opt
     let mut place = start;
     'fields: while row.len() < width {
         let (amount, digits) = digits_at(text, place);
-        if !are_few(digits, amount) {
+        if !are_short(digits) {
+            if !begins_integer(text[place]) {
+                return None;
+            }
             return read_other_fields_at(row, width, text, place);
         }
         add_amount(row, amount);
@@ -213,12 +269,17 @@ fn read_row_at(
 /// where the line is a row of a stream, each value in the domain of its column, written without blanks. One CR may stand at its end. The
 /// last byte of the text is LF, and is not the one that ends the line. Where it gives nothing, `row` is left with any values.
 #[inline(always)] // into the loops over lines, with what it calls
-pub fn read_row_ahead(catalog: &Catalog, text: &[u8], row: &mut Row) -> Option<(u8, usize)>
+pub fn read_row_ahead(
+    catalog: &Catalog,
+    starts: &Starts,
+    text: &[u8],
+    row: &mut Row,
+) -> Option<(u8, usize)>
     requires empty { row.old.items ≡ [] }
     requires ended { IsEnded text.now }
     ensures { IfSome result (λ found. IsRowAhead catalog.now text.now found.0 found.1 row.new.items) }
 {
-    let Some(found) = stream_ahead(catalog, text) else {
+    let Some(found) = stream_ahead(catalog, starts, text) else {
         return None;
     };
     let (stream, start) = found;

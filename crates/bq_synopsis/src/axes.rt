@@ -1,5 +1,5 @@
 //! The dims of a place of FROM as every row is asked of them: one pass tells whether a row lies in their ranges, and the number of its cell.
-ghost use Rattle.std.specs.Prelude.{◌≡◌, ◌+◌, ◌<◌, ◌^◌, ◌≤ℤ◌, length, [], MatchOption, IfSome, true, false};
+ghost use Rattle.std.specs.Prelude.{◌≡◌, ◌+◌, ◌<◌, ◌^◌, ◌≤ℤ◌, length, [], MatchOption, IfSome, IfOk, true, false};
 ghost use Rattle.std.specs.List.{list_all};
 ghost use Rattle.bq_model.specs.Boxes.{dim_size, box_size};
 ghost use Rattle.bq_model.specs.Meaning.{by_column};
@@ -11,6 +11,7 @@ ghost use Rattle.bq_synopsis.specs.Axes.{axis_of, IsShort, IsAbove, AreAxes, IsB
 use crate::admission::stream_at;
 use arrayvec::ArrayVec;
 use bq_model::{Dim, Kind, PartPlan};
+use std::alloc::{AllocError, Global};
 
 /// A dim as a row is asked of it: the least value, how many values there are, and the column.
 #[derive(Clone, Copy, Debug, Default, PartialEq, Eq)]
@@ -97,6 +98,7 @@ fn offset_in(axis: Axis, row: &[i64]) -> Option<u32>
 }
 
 // The place of a row in the box of these dims, where it lies in their ranges.
+#[inline(always)]
 pub(crate) fn place_among(dims: &[Dim], axes: &[Axis], row: &[i64]) -> Option<u32>
     requires axes { AreAxes dims.now axes.now }
     requires few { box_size dims.now < 2 ^ 32 }
@@ -166,25 +168,26 @@ fn place_at(part: &PartPlan, place: usize) -> Option<BoxLayout>
 }
 
 /// Returns what a row is asked at each place of FROM, up to the first place where it cannot be listed. A query over one stream has no cells, and
-/// nothing is listed.
-pub fn places_of(part: &PartPlan) -> ArrayVec<BoxLayout, 4>
-    ensures { AreBoxLayouts part.now result.items }
+/// nothing is listed, and no memory taken. An error says that memory was not found.
+pub fn places_of(alloc: Global, part: &PartPlan) -> Result<Vec<BoxLayout>, AllocError>
+    ensures { IfOk result (λ places. AreBoxLayouts part.now places.items) }
 {
-    let mut places: ArrayVec<BoxLayout, 4> = ArrayVec::new();
     let streams = part.streams.as_slice().len();
     if streams == 1 {
-        return places;
+        return Ok(Vec::new(alloc));
     }
+    let mut places: Vec<BoxLayout> = Vec::with_capacity(alloc, streams)?;
     'places: for place in 0..streams {
         match place_at(part, place) {
-            Some(listed) => places.push(listed),
-            None => return places,
+            Some(listed) => places.push(listed)?,
+            None => return Ok(places),
         }
     }
-    places
+    Ok(places)
 }
 
 /// Returns where a row stands, by what it is asked at its place.
+#[inline(always)]
 pub fn placement_at(part: &PartPlan, pos: u8, listed: &BoxLayout, row: &[i64]) -> Placement
     requires here { pos < length part.now.streams.items }
     requires listed { IsBoxLayout part.now pos listed.now }

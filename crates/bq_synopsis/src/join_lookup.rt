@@ -1,23 +1,26 @@
 //! Parts over two streams in which columns of a row tell the one cell of the other stream that can answer with it, listed when a part is
 //! prepared: such a row is answered by one look-up, and no walk is made.
-ghost use Rattle.std.specs.Prelude.{◌≡◌, ◌+◌, ◌-◌, ◌<◌, ◌≤◌, ◌^◌, ℕ, length, map, Option, Some, slice_get, IfSome, MatchOption, true, false};
+ghost use Rattle.std.specs.Prelude.{◌≡◌, ◌+◌, ◌-◌, ◌<◌, ◌≤◌, ◌^◌, ℕ, ℤ, length, map, Option, Some, slice_get, IfSome, MatchOption, true, false};
 ghost use Rattle.std.specs.List.{list_all};
 ghost use Rattle.bq_model.specs.Boxes.{box_size};
-ghost use Rattle.bq_model.specs.Admission.{in_range};
+ghost use Rattle.bq_model.specs.Admission.{alone, in_range, keeps_signs};
 ghost use Rattle.bq_model.specs.Cells.{row_place};
 ghost use Rattle.bq_model.specs.Meaning.{by_column};
+ghost use Rattle.bq_model.specs.Plan.{dims_at};
 ghost use Rattle.bq_synopsis.specs.Axes.{AreAxes};
 ghost use Rattle.bq_synopsis.specs.Joining.{key_dim, column_at, or_none, told_column, same_column, is_told, class_at, IsJoinLookup};
+ghost use Rattle.bq_synopsis.specs.Preparing.{AreTests, asks_nothing, ask_nothing};
 
-use crate::admission::stream_at;
+use crate::admission::{is_within, stream_at};
 use crate::axes::{Axis, are_numbered, place_among, put_axes};
 use crate::key_columns::{KeyColumn, key_columns_at};
 use arrayvec::ArrayVec;
-use bq_model::{Attr, Dim, Link, Pair, PartPlan};
+use bq_model::{Attr, Dim, Link, Pair, PartPlan, Sign};
 
 /// How a row finds the one cell of the other stream that can answer with it: the ranges of the dims there, each of the column of the row that
 /// fixes the dim, also as a row is asked of them; for the first eight columns there the column of the row that has the same value in
-/// all answers, where there is one; the first cell of the box; and its place of FROM.
+/// all answers, where there is one; the first cell of the box; its place of FROM; and whether a row that lies in the ranges of the dims of its own
+/// place has all signs of the part.
 #[derive(Drop, Default)]
 pub struct JoinLookup {
     dims: ArrayVec<Dim, 2>,
@@ -25,9 +28,17 @@ pub struct JoinLookup {
     told: ArrayVec<Option<u8>, 8>,
     base: u32,
     place: u8,
+    signed: bool,
 }
 
 impl JoinLookup {
+    /// Returns whether a row that lies in the ranges of the dims of its own place has all signs of the part.
+    pub fn is_signed(&self) -> bool
+        ensures { result ≡ self.now.signed }
+    {
+        self.signed
+    }
+
     /// Returns the number of the cell that can answer with a row, where the row's columns lie in the ranges of the dims.
     pub fn cell_of(&self, row: &[i64]) -> Option<u32>
         requires axes { AreAxes self.now.dims.items self.now.axes.items }
@@ -160,16 +171,57 @@ fn key_dims(keys: &[KeyColumn]) -> ArrayVec<Dim, 2>
     dims
 }
 
+// Whether nothing is asked of a row at a place by the pair and the sign of a number: both are there, and the pair is of no such row.
+fn asks_nothing(place: u8, pair: Option<Pair>, sign: Option<Sign>) -> bool
+    ensures { result ≡ asks_nothing place pair sign }
+{
+    match pair {
+        Some(pair) => match sign {
+            Some(_) => !is_within(place, pair),
+            None => false,
+        },
+        None => false,
+    }
+}
+
+// Whether that is so for the pair of a number.
+fn test_asks_nothing(place: u8, pairs: &[Pair], signs: &[Sign], i: u8) -> bool
+    ensures { result ≡ asks_nothing place (slice_get pairs.now i) (slice_get signs.now i) }
+{
+    let i = usize::from(i);
+    asks_nothing(place, pairs.get(i).copied(), signs.get(i).copied())
+}
+
+// Whether that is so for all pairs of these numbers.
+fn ask_nothing(place: u8, pairs: &[Pair], signs: &[Sign], tests: &[u8]) -> bool
+    ensures { result ≡ ask_nothing place pairs.now signs.now tests.now }
+{
+    tests
+        .iter()
+        .all(|i| test_asks_nothing(place, pairs, signs, *i))
+}
+
+// Whether a row that lies in the ranges of the dims of a place has all signs of the part.
+fn is_signed(pairs: &[Pair], part: &PartPlan, place: u8, tests: &[u8]) -> bool
+    requires { AreTests pairs.now part.now tests.now }
+    ensures { result ≡ true → (v : ℕ → ℤ) → list_all (in_range v) (dims_at part.now place) ≡ true → keeps_signs place (alone v) pairs.now part.now.signs.items ≡ true }
+{
+    ask_nothing(place, pairs, part.signs.as_slice(), tests)
+}
+
 /// Returns how a row that arrives at a place of FROM finds the one cell that can answer with it, where its columns tell it: columns of the row
-/// fix all dims of the other place, which has these classes, and no link stands in the part but equalities that then hold.
+/// fix all dims of the other place, which has these classes, and no link stands in the part but equalities that then hold. The tests are the
+/// numbers of the pairs whose signs do not follow from the ranges of the dims.
 pub fn join_lookup_at(
     pairs: &[Pair],
     part: &PartPlan,
+    tests: &[u8],
     classes: &[Option<u8>],
     arriving: u8,
 ) -> Option<JoinLookup>
     requires two { length part.now.streams.items ≡ 2 }
     requires here { arriving < 2 }
+    requires tests { AreTests pairs.now part.now tests.now }
     requires few { length classes.now ≤ 8 }
     requires classes { (column : ℕ) (class : Option ℕ) → slice_get classes.now column ≡ Some class → class ≡ class_at pairs.now part.now (1 - arriving) column }
     ensures { IfSome result (λ listed. IsJoinLookup pairs.now part.now arriving listed) }
@@ -199,5 +251,6 @@ pub fn join_lookup_at(
         told,
         base,
         place,
+        signed: is_signed(pairs, part, arriving, tests),
     })
 }

@@ -1,6 +1,6 @@
 //! Places of which columns of the arriving row alone fix all dims, listed when a part is prepared: a walk then reads the
 //! values from the row, and searches no link.
-ghost use Rattle.std.specs.Prelude.{◌≡◌, ◌<◌, ◌≤◌, ℕ, length, Option, Some, slice_get, IfSome};
+ghost use Rattle.std.specs.Prelude.{◌≡◌, ◌<◌, ◌≤◌, ℕ, length, Option, Some, slice_get, IfSome, IfOk};
 ghost use Rattle.bq_model.specs.Plan.{dims_at};
 ghost use Rattle.bq_synopsis.specs.Pinning.{IsKeyColumn, AreKeyColumns, IsPinned};
 
@@ -9,6 +9,7 @@ use crate::classes::dims_at;
 use crate::known::binding_column;
 use arrayvec::ArrayVec;
 use bq_model::{Attr, Dim, PartPlan};
+use std::alloc::{AllocError, Global};
 
 /// A dim, and the column of the arriving row that fixes it.
 #[derive(Clone, Copy, Debug, Default, PartialEq, Eq)]
@@ -98,17 +99,18 @@ fn first_pinned(part: &PartPlan, arriving: u8) -> Option<LookupKey>
     None
 }
 
-/// Returns the same for each arriving stream. Of one stream alone none is asked: there is nothing to walk.
-pub fn all_pinned(part: &PartPlan) -> ArrayVec<Option<LookupKey>, 4>
-    ensures { (arriving : ℕ) (pinned : Option LookupKey) → slice_get result.items arriving ≡ Some pinned → IfSome pinned (λ p. IsPinned part.now arriving p) }
+/// Returns the same for each arriving stream. Of one stream alone none is asked: there is nothing to walk, and no memory is taken. An error
+/// says that memory was not found.
+pub fn all_pinned(alloc: Global, part: &PartPlan) -> Result<Vec<Option<LookupKey>>, AllocError>
+    ensures { IfOk result (λ all. (arriving : ℕ) (pinned : Option LookupKey) → slice_get all.items arriving ≡ Some pinned → IfSome pinned (λ p. IsPinned part.now arriving p)) }
 {
-    let mut all: ArrayVec<Option<LookupKey>, 4> = ArrayVec::new();
     let streams = part.streams.as_slice().len() as u8;
     if streams == 1 {
-        return all;
+        return Ok(Vec::new(alloc));
     }
+    let mut all: Vec<Option<LookupKey>> = Vec::with_capacity(alloc, usize::from(streams))?;
     'streams: for arriving in 0..streams {
-        all.push(first_pinned(part, arriving));
+        all.push(first_pinned(part, arriving))?;
     }
-    all
+    Ok(all)
 }

@@ -49,6 +49,7 @@ impl OwnCell {
 }
 
 /// Returns the cell that a row falls into in a part that admits it. This is one read.
+#[inline(always)]
 pub fn own_cell<L: Ledger>(
     pool: &Pool,
     e: &Extent,
@@ -78,6 +79,7 @@ pub fn own_cell<L: Ledger>(
 }
 
 /// Takes a row into its cell, and changes no other cell of any extent. A cell that stays as it is is not written; else this is one write.
+#[inline(always)]
 pub fn put_own<L: Ledger>(
     pool: &mut Pool,
     e: &Extent,

@@ -2,19 +2,21 @@
 ghost use Rattle.std.specs.Prelude.{◌≡◌, ℕ, ◌+◌, ◌*◌, ◌<◌, ◌≤◌, ◌^◌, false, length, replicate, slice_index_or};
 ghost use Rattle.bq_model.specs.Cells.{FitsKind};
 ghost use Rattle.bq_model.specs.Numbers.{share};
+ghost use Rattle.bq_model.specs.Parts.{pairs};
 ghost use Rattle.bq_model.specs.declared.atom.Element.TheVariants as element;
 ghost use Rattle.bq_model.specs.declared.cell.Cell.TheVariants.{Empty};
 ghost use Rattle.bq_model.specs.declared.plan.Kind.TheVariants as kinds;
 ghost use Rattle.bq_pool.specs.Extents.{cells_of};
 ghost use Rattle.bq_synopsis.specs.Premises.{IsHeld, IsReady, IsWalked};
+ghost use Rattle.bq_synopsis.specs.Preparing.{IsPrepared};
 ghost use Rattle.bq_probe.specs.Values.{rows_in};
 
 use arrayvec::ArrayVec;
 use bq_model::{
     Atom, Attr, Dim, Element, Kind, Link, Op, PartPlan, Query, Row, Sign, StreamPlan, Tuple,
 };
-use bq_pool::{Extent, Pool, Steps};
-use bq_probe::{Probe, ProbeScratch};
+use bq_pool::{Pool, Steps};
+use bq_probe::{PartAt, Probe, ProbeScratch};
 use bq_synopsis::{Admitted, Placement, admits, own_cell, prepare, put_own};
 use std::alloc::{AllocError, Global};
 use std::marker::Brand;
@@ -32,31 +34,24 @@ fn row_of(values: &[i64]) -> Row {
 }
 
 // Takes a row into its cell, where the part admits it.
-fn take_row<L: Ledger>(
-    pool: &mut Pool,
-    e: &Extent,
-    q: &Query,
-    part: &PartPlan,
-    pos: u8,
-    row: &Row,
-    steps: &mut Steps<L>,
-)
-    requires several { 1 < length q.now.from }
-    requires plain { q.now.distinct ≡ false }
-    requires held { IsHeld q.now part.now pool.old e.now }
-    requires counts { (i : ℕ) → FitsKind kinds.Count (slice_index_or (cells_of pool.old e.now) i Empty) }
-    requires few { (i : ℕ) → rows_in (slice_index_or (cells_of pool.old e.now) i Empty) < 2 ^ 40 }
-    ensures held { IsHeld q.now part.now pool.new e.now }
-    ensures counts { (i : ℕ) → FitsKind kinds.Count (slice_index_or (cells_of pool.new e.now) i Empty) }
+fn take_row<L: Ledger>(pool: &mut Pool, part: &PartAt<'_>, pos: u8, row: &Row, steps: &mut Steps<L>)
+    requires prepared { IsPrepared (pairs part.now.q.now) part.now.plan.now part.now.prepared.now }
+    requires several { 1 < length part.now.q.now.from }
+    requires plain { part.now.q.now.distinct ≡ false }
+    requires held { IsHeld part.now.q.now part.now.plan.now pool.old part.now.extent.now }
+    requires counts { (i : ℕ) → FitsKind kinds.Count (slice_index_or (cells_of pool.old part.now.extent.now) i Empty) }
+    requires few { (i : ℕ) → rows_in (slice_index_or (cells_of pool.old part.now.extent.now) i Empty) < 2 ^ 40 }
+    ensures held { IsHeld part.now.q.now part.now.plan.now pool.new part.now.extent.now }
+    ensures counts { (i : ℕ) → FitsKind kinds.Count (slice_index_or (cells_of pool.new part.now.extent.now) i Empty) }
     ensures reads { steps.new.reads ≤ steps.old.reads + 1 }
     ensures writes { steps.new.writes ≤ steps.old.writes + 1 }
-    ensures upto { (n : ℕ) → ((i : ℕ) → rows_in (slice_index_or (cells_of pool.old e.now) i Empty) ≤ n) → (i : ℕ) → rows_in (slice_index_or (cells_of pool.new e.now) i Empty) ≤ n + 1 }
+    ensures upto { (n : ℕ) → ((i : ℕ) → rows_in (slice_index_or (cells_of pool.old part.now.extent.now) i Empty) ≤ n) → (i : ℕ) → rows_in (slice_index_or (cells_of pool.new part.now.extent.now) i Empty) ≤ n + 1 }
 {
+    let (q, plan) = (part.q, part.plan);
     if usize::from(pos) >= q.from().len() {
         return;
     }
-    let prepared = prepare(q, part);
-    if !admits(q, part, &prepared, pos, row) {
+    if !admits(q, plan, part.prepared, pos, row) {
         return;
     }
     let at = Admitted {
@@ -64,30 +59,29 @@ fn take_row<L: Ledger>(
         pos,
         placement: Placement::Inside,
     };
-    let own = own_cell(pool, e, q, part, &at, steps);
-    put_own(pool, e, part, &at, &own, steps);
+    let own = own_cell(pool, part.extent, q, plan, &at, steps);
+    put_own(pool, part.extent, plan, &at, &own, steps);
 }
 
 // Takes rows into empty cells: each costs at most one read and one write.
 fn take_rows<L: Ledger>(
     pool: &mut Pool,
-    e: &Extent,
-    q: &Query,
-    part: &PartPlan,
+    part: &PartAt<'_>,
     rows: &[(u8, &[i64])],
     steps: &mut Steps<L>,
 )
-    requires several { 1 < length q.now.from }
-    requires plain { q.now.distinct ≡ false }
-    requires held { IsHeld q.now part.now pool.old e.now }
-    requires fresh { cells_of pool.old e.now ≡ replicate (64 * e.now.pages) Empty }
+    requires prepared { IsPrepared (pairs part.now.q.now) part.now.plan.now part.now.prepared.now }
+    requires several { 1 < length part.now.q.now.from }
+    requires plain { part.now.q.now.distinct ≡ false }
+    requires held { IsHeld part.now.q.now part.now.plan.now pool.old part.now.extent.now }
+    requires fresh { cells_of pool.old part.now.extent.now ≡ replicate (64 * part.now.extent.now.pages) Empty }
     requires few { length rows.now < 1000 }
-    ensures ready { IsReady q.now part.now pool.new e.now }
+    ensures ready { IsReady part.now.q.now part.now.plan.now pool.new part.now.extent.now }
     ensures reads { steps.new.reads ≤ steps.old.reads + length rows.now }
     ensures writes { steps.new.writes ≤ steps.old.writes + length rows.now }
 {
     'rows: for given in rows {
-        take_row(pool, e, q, part, given.0, &row_of(given.1), steps);
+        take_row(pool, part, given.0, &row_of(given.1), steps);
     }
 }
 
@@ -95,24 +89,23 @@ fn take_rows<L: Ledger>(
 fn walk<L: Ledger>(
     alloc: Global,
     pool: &Pool,
-    e: &Extent,
-    q: &Query,
-    part: &PartPlan,
+    part: &PartAt<'_>,
     pos: u8,
     row: &Row,
     steps: &mut Steps<L>,
 ) -> Result<Vec<i64>, AllocError>
-    requires here { pos < length q.now.from }
-    requires ready { IsReady q.now part.now pool.now e.now }
-    ensures reads { steps.new.reads ≤ steps.old.reads + 3 * share part.now }
+    requires prepared { IsPrepared (pairs part.now.q.now) part.now.plan.now part.now.prepared.now }
+    requires here { pos < length part.now.q.now.from }
+    requires ready { IsReady part.now.q.now part.now.plan.now pool.now part.now.extent.now }
+    ensures reads { steps.new.reads ≤ steps.old.reads + 3 * share part.now.plan.now }
     ensures writes { steps.new.writes ≡ steps.old.writes }
 {
     let mut told = Vec::new(alloc);
-    let prepared = prepare(q, part);
+    let (q, plan, prepared) = (part.q, part.plan, part.prepared);
     let mut room = ProbeScratch::default();
     let mut tuple = Tuple::new();
-    let mut probe = Probe::new(q, part, &prepared, pos, row, &mut room);
-    'walk: while let Some(count) = probe.next(pool, e, q, part, &mut tuple, steps) {
+    let mut probe = Probe::new(q, plan, prepared, pos, row, &mut room);
+    'walk: while let Some(count) = probe.next(pool, part.extent, q, plan, &mut tuple, steps) {
         told.extend_from_slice(tuple.as_slice())?;
         told.push(count.min(99) as i64)?;
     }
@@ -141,11 +134,18 @@ fn answers<L: Ledger>(
     if usize::from(pos) >= q.from().len() {
         return Vec::from_slice(alloc, &[i64::MIN]);
     }
+    let prepared = prepare(alloc, q, part)?;
     let Ok(e) = pool.take(5) else {
         return Vec::from_slice(alloc, &[i64::MIN]);
     };
-    take_rows(&mut pool, &e, q, part, rows, steps);
-    let told = walk(alloc, &pool, &e, q, part, pos, &row_of(values), steps);
+    let met = PartAt {
+        q,
+        plan: part,
+        prepared: &prepared,
+        extent: &e,
+    };
+    take_rows(&mut pool, &met, rows, steps);
+    let told = walk(alloc, &pool, &met, pos, &row_of(values), steps);
     pool.give_back(e);
     told
 }

@@ -50,12 +50,12 @@ returns-else-is_empty-clause-found g c =
     let listed = c.in-Some.listed.now in
     let is : IsJoinLookup (pairs q) part c.args.at.now.pos listed = c.requires.prepared.joins c.args.at.now.pos (Some listed) c.in-Some.ensures in
     let same = ap (λ n. slice_index_or contents n Empty) (sym c.in-Some-cell_of.ensures.1) ∙ sym (c.read-cell.ensures.cell Empty) in
-    let told : are_told listed c.args.at.now.pos q.select ≡ true = ap (are_told listed c.args.at.now.pos) (sym c.select.ensures.value) ∙ c.put_values.ensures.told c.if-not-put_values.false in
-    let values = c.put_values.ensures.values c.if-not-put_values.false in
+    let told : are_told listed c.args.at.now.pos q.select ≡ true = ap (are_told listed c.args.at.now.pos) (sym c.select-select.ensures.value) ∙ sym c.are_told.ensures ∙ c.if-not-are_told.false in
+    let values = c.put_values.ensures in
     subst (λ (row : List ℤ). found_beside q part (read_from contents) c.args.at.now.pos (by_column row) ≡ as_found c.put_values.new.tuple.items c.rows_in.result ∷ []) c.as_slice-row.ensures.value
     (one-there q part c.requires.ready.held.walked c.args.at.now.pos listed is c.as_slice-row.result.now contents c.in-Some-cell_of.ensures.0
     (λ e. c.is_empty.ensures.no c.if-is_empty.false (sym same ∙ e)) told
-    ∙ (λ i. as_found ((ap (told_values listed c.args.at.now.pos c.as_slice-row.result.now) (sym c.select.ensures.value) ∙ sym values) i) ((ap rows_in same ∙ sym c.rows_in.ensures) i) ∷ []))
+    ∙ (λ i. as_found ((ap (told_values listed c.args.at.now.pos c.as_slice-row.result.now) (sym c.select-select.ensures.value) ∙ sym values) i) ((ap rows_in same ∙ sym c.rows_in.ensures) i) ∷ []))
 
 pub returns-then-is_empty-clause-reads : goal.returns-then-is_empty-clause-reads
 returns-then-is_empty-clause-reads g c =

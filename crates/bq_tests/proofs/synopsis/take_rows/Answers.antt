@@ -6,8 +6,8 @@ use Rattle.bq_tests.proofs.synopsis.take_rows.Goals as goal
 pub rows-init : goal.rows-init
 rows-init g c = record {
   held = c.requires.held;
-  counts = counts_fresh (64 * c.args.e.now.pages) _ c.requires.fresh;
-  upto = upto_fresh (64 * c.args.e.now.pages) _ c.requires.fresh;
+  counts = counts_fresh (64 * c.args.part.now.extent.now.pages) _ c.requires.fresh;
+  upto = upto_fresh (64 * c.args.part.now.extent.now.pages) _ c.requires.fresh;
   reads = omega arith;
   writes = omega arith;
 }
@@ -27,5 +27,5 @@ rows-preserved g c = record {
 pub returns-clause-ready : goal.returns-clause-ready
 returns-clause-ready g c = record {
   held = c.rows.invariant.held;
-  fitting = are_fitting c.args.q.now c.args.part.now c.requires.held.walked c.requires.plain (cells_of c.rows.pool c.args.e.now) c.rows.invariant.counts;
+  fitting = are_fitting c.args.part.now.q.now c.args.part.now.plan.now c.requires.held.walked c.requires.plain (cells_of c.rows.pool c.args.part.now.extent.now) c.rows.invariant.counts;
 }

@@ -6,9 +6,9 @@ use Rattle.bq_tests.proofs.synopsis.take_rows.Given as goal
 
 abbrev pub invariant-rows : goal.invariant-rows
 invariant-rows g l = record {
-  held : IsHeld l.q l.part l.pool l.e;
-  counts : AreCounts (cells_of l.pool l.e);
-  upto : AreUpto l.given-index (cells_of l.pool l.e);
+  held : IsHeld l.part.q.now l.part.plan.now l.pool l.part.extent.now;
+  counts : AreCounts (cells_of l.pool l.part.extent.now);
+  upto : AreUpto l.given-index (cells_of l.pool l.part.extent.now);
   reads : l.steps.reads ≤ l.fn.steps.reads + l.given-index;
   writes : l.steps.writes ≤ l.fn.steps.writes + l.given-index;
 }

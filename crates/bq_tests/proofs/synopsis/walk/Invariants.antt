@@ -7,10 +7,10 @@ use Rattle.bq_tests.proofs.synopsis.walk.Given as goal
 
 abbrev pub invariant-walk : goal.invariant-walk
 invariant-walk g l = record {
-  underway : IsUnderway l.part l.probe;
-  reads : l.steps.reads + reads_left l.part l.probe ≤ l.fn.steps.reads + 3 * share l.part;
+  underway : IsUnderway l.part.plan.now l.probe;
+  reads : l.steps.reads + reads_left l.part.plan.now l.probe ≤ l.fn.steps.reads + 3 * share l.part.plan.now;
   writes : l.steps.writes ≡ l.fn.steps.writes;
 }
 
 abbrev pub decreases-walk : goal.decreases-walk
-decreases-walk g l = length (left_of l.q.select l.part (read_from (cells_of l.pool l.e)) l.probe)
+decreases-walk g l = length (left_of l.part.q.now.select l.part.plan.now (read_from (cells_of l.pool l.part.extent.now)) l.probe)

@@ -1,0 +1,97 @@
+-- A query of one part: what that part does is all that is done.
+use Rattle.std.proofs.Common.{◌≡◌, ℕ, zero, suc, ◌+◌, ◌*◌, ◌<◌, ◌≤◌, ◌&&◌, not, nat_lt, ℤ, Bool, true, false, List, [], ◌∷◌, ◌++◌, length, append-nil, refl, sym, ap, ◌∙◌, subst, arith, slice_get, Some}
+use Rattle.std.proofs.lemmas.Bool.Decides.{nat_tests}
+use Rattle.std.proofs.lemmas.List.{take_all}
+use Rattle.bq_model.specs.declared.plan.PartPlan.{PartPlan}
+use Rattle.bq_model.specs.Query.{QueryValue}
+use Rattle.bq_model.specs.Meaning.{by_column}
+use Rattle.bq_model.specs.Numbers.{work, share}
+use Rattle.bq_model.specs.Admission.{admits, alone, in_range, keeps_signs}
+use Rattle.bq_model.specs.Parts.{pairs}
+use Rattle.bq_model.specs.Plan.{dims_at}
+use Rattle.std.specs.List.{list_all}
+use Rattle.bq_model.specs.Combinations.{Reading, read_from, found_in}
+use Rattle.bq_pool.specs.declared.pool.Extent.{Extent}
+use Rattle.bq_pool.specs.Extents.{PoolValue, cells_of}
+use Rattle.bq_synopsis.specs.Premises.{IsReady}
+use Rattle.bq_answers.specs.Entries.{TableValue, with_entries}
+use Rattle.bq_index.specs.Owners.{takes_rows}
+use Rattle.bq_executor.specs.Taking.{with_all, HaveRoom, AreOld}
+use Rattle.bq_executor.specs.Arriving.{arrives, all_found, with_row, CanCount, LeavesCell, HasTaken, AreReady, AnswersNothingNew}
+use Rattle.bq_executor.specs.Signed.{IsSigned}
+use Rattle.bq_executor.proofs.Inserting.{part_plan}
+use Rattle.bq_executor.proofs.InPart.{none_added, found_refused, row_refused}
+use Rattle.bq_executor.proofs.OwnCells.{old-now}
+use Rattle.bq_executor.proofs.Taken.{taken_start, taken_step, ready_part, room_part, work_more}
+
+one-is : (plan : List PartPlan) (part : PartPlan) → length plan ≡ 1 → slice_get plan 0 ≡ Some part → plan ≡ part ∷ []
+one-is [] part n e = absurd (omega (arith, n))
+one-is (p ∷ []) part n e = let s : p ≡ part = cc in ap (λ (x : PartPlan). x ∷ []) s
+one-is (p ∷ o ∷ plan) part n e = absurd (omega (arith, n))
+
+-- where the ranges of the dims tell all signs, a part admits just the rows that lie in them
+pub only-signed : (q : QueryValue) (plan : List PartPlan) (pos : ℕ) (part : PartPlan) → slice_get plan 0 ≡ Some part → IsSigned q plan pos → (v : ℕ → ℤ)
+    → admits q part pos v ≡ list_all (in_range v) (dims_at part pos)
+only-signed q plan pos part at_0 signed v = by (list_all (in_range v) (dims_at part pos)) refl
+  where
+    none : (b : Bool) → (b && false) ≡ false
+    none true = refl
+    none false = refl
+
+    by : (b : Bool) → list_all (in_range v) (dims_at part pos) ≡ b → (keeps_signs pos (alone v) (pairs q) part.signs.items && list_all (in_range v) (dims_at part pos)) ≡ list_all (in_range v) (dims_at part pos)
+    by true e = ap (λ b. b && list_all (in_range v) (dims_at part pos)) (signed part at_0 v e)
+    by false e = ap (λ b. keeps_signs pos (alone v) (pairs q) part.signs.items && b) e ∙ none (keeps_signs pos (alone v) (pairs q) part.signs.items) ∙ sym e
+
+module _ (q : QueryValue) (plan : List PartPlan) (e : Extent) (pos : ℕ) (here : pos < length q.from) (values : List ℤ) (before : PoolValue) (ready : AreReady q plan before e) (one : length plan ≡ 1) (part : PartPlan) (at_0 : slice_get plan 0 ≡ Some part) where
+  taken : HasTaken q plan e (arrives q pos values) 0 before before
+  taken = taken_start q plan e (arrives q pos values) before ready.live
+
+  -- the part is ready, and its cells can count one row more
+  pub only-ready : IsReady q part before e
+  only-ready = ready_part q plan e pos here values before ready 0 part at_0 before taken
+
+  pub only-counts : CanCount part (read_from (cells_of before e))
+  only-counts = room_part q plan e pos here values before ready 0 part at_0 before taken refl
+
+  -- what it finds is all that is found, and its work is all work
+  pub only-found : (read : Reading) → all_found q plan read (arrives q pos values) ≡ found_in q part read (arrives q pos values)
+  only-found read = ap (λ ps. all_found q ps read (arrives q pos values)) (one-is plan part one at_0) ∙ append-nil (found_in q part read (arrives q pos values))
+
+  pub only-work : work plan ≡ share part
+  only-work =
+      let more = work_more q plan e pos here values before ready 0 part at_0 before taken in
+      let none : work [] ≡ 0 = refl in
+      ap work (sym (take_all (0 + 1) plan (omega (arith, one)))) ∙ more ∙ omega (arith, none)
+
+  pub only-table : (d : Bool) (read : Reading) (start table : TableValue) → table ≡ with_entries start (with_all d (found_in q part read (arrives q pos values)) start.entries)
+      → table ≡ with_entries start (with_all d (all_found q plan read (arrives q pos values)) start.entries)
+  only-table d read start table is = is ∙ ap (λ fs. with_entries start (with_all d fs start.entries)) (sym (only-found read))
+
+  -- with DISTINCT, what it answers to a row that leaves its cell as it is has an entry
+  pub only-old : (known : Bool) (start : TableValue) → (known ≡ true → AnswersNothingNew q plan (read_from (cells_of before e)) start.entries) → 1 < length q.from
+      → admits q part pos (by_column values) ≡ true → known ≡ true → LeavesCell part (read_from (cells_of before e)) pos values
+      → AreOld q.distinct (found_in q part (read_from (cells_of before e)) (arrives q pos values)) start.entries
+  only-old known start nothing several admitted k leaves =
+      old-now q plan e pos here values before ready 0 part at_0 before taken true true owner (λ h. refl) known start start nothing (none_added q.distinct _ start refl) admitted (ap (λ b. b && true) k) leaves
+    where
+      owner : true ≡ takes_rows q plan pos 0 part
+      owner = let t : nat_lt 1 (length q.from) ≡ true = grind (arith, nat_tests) in ap (λ b. b && true) (sym t)
+
+  module _ (several : 1 < length q.from) where
+    owns : true ≡ takes_rows q plan pos 0 part
+    owns = let t : nat_lt 1 (length q.from) ≡ true = grind (arith, nat_tests) in ap (λ b. b && true) (sym t)
+
+    -- the row is taken
+    pub only-taken : (after : PoolValue) → after ≡ with_row true q part pos values e before → HasTaken q plan e (arrives q pos values) (length plan) before after
+    only-taken after is =
+        let n : 0 + 1 ≡ length plan = omega (arith, one) in
+        subst (λ m. HasTaken q plan e (arrives q pos values) m before after) n
+        (taken_step q plan e pos here values before ready 0 part at_0 before taken true owns after is)
+
+    -- or it is not admitted
+    pub only-refused : admits q part pos (by_column values) ≡ false → HasTaken q plan e (arrives q pos values) (length plan) before before
+    only-refused refused = only-taken before (row_refused true q part pos values e before refused)
+
+  pub only-none : (d : Bool) (read : Reading) (table : TableValue) → admits q part pos (by_column values) ≡ false → table ≡ with_entries table (with_all d (all_found q plan read (arrives q pos values)) table.entries)
+  only-none d read table refused =
+      only-table d read table table (none_added d _ table (found_refused q part ready.limits (part_plan q plan ready.limits ready.plan 0 part at_0) pos here values read refused))
