@@ -10,7 +10,7 @@ ghost use Rattle.bq_certify.specs.Checking.{decision_text};
 use bq_certcheck::Reason;
 use bq_io::{Sink, WriteFault, write_pieces};
 use bq_model::Decision;
-use bq_parser::column_named;
+use bq_print::column_named;
 use bq_reply::write_broken;
 use bq_script::{Script, name_of};
 use itoa::Buffer;

@@ -3,7 +3,6 @@ pub mod Counting
 pub mod Diagnoses
 pub mod Having
 pub mod LimitsFound
-pub mod MoreNext
 pub mod NamesThere
 pub mod RowTests
 pub mod StreamTests

@@ -16,14 +16,14 @@ use Rattle.bq_parser.specs.Resolution.{place_in, place_under, resolved, query_fo
 use Rattle.bq_parser.specs.declared.tree.SelectAst.{SelectAst}
 use Rattle.bq_parser.specs.declared.resolution.ResolveError.{ResolveError}
 use Rattle.bq_reply.specs.Words.{resolve_refusal}
-use Rattle.bq_diagnosis.specs.declared.candidates.TheConstants.{ALL}
+use Rattle.bq_hints.specs.declared.candidates.TheConstants.{ALL}
 use Rattle.bq_diagnosis.specs.declared.fault.Asks.{Asks}
 use Rattle.bq_diagnosis.specs.declared.fault.Asks.TheVariants as asks
 use Rattle.bq_diagnosis.specs.declared.fault.Fault.{Fault}
 use Rattle.bq_diagnosis.specs.declared.fault.Fault.TheVariants.{LineTooLong, Syntax, Limit, DuplicateStream, DuplicateColumn, DuplicateQuery, TooManyStreams, TooManyQueries, NoStream, NotInFrom, NoColumn, SelfJoin, NoQuery, RowKey, RowName, RowStream, Arity, Value, Domain}
 use Rattle.bq_diagnosis.specs.FaultWords.{word_of}
 use Rattle.bq_diagnosis.specs.Asked.{IsAsked, IsStatementAsked, statement_asked, is_live}
-use Rattle.bq_diagnosis.specs.Candidates.{AreNext}
+use Rattle.bq_hints.specs.Candidates.{AreNext}
 use Rattle.bq_diagnosis.specs.Passed.{found_in}
 use Rattle.bq_diagnosis.specs.RowFaults.{IsOfRow}
 

@@ -1,10 +1,8 @@
 pub mod Asked
-pub mod Candidates
 pub mod Compared
 pub mod Counted
 pub mod FaultWords
 pub mod Faults
-pub mod Groups
 pub mod Marks
 pub mod Passed
 pub mod RowFaults

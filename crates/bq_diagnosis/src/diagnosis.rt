@@ -4,10 +4,10 @@ ghost use Rattle.bq_parser.specs.LineKind.{stripped};
 ghost use Rattle.bq_diagnosis.specs.Faults.{IsDiagnosis, IsTextDiagnosis, IsReady};
 
 use crate::fault::{Asks, Fault, Known};
-use crate::following::next_at;
 use crate::passing::found_of;
 use crate::rows::row_fault;
 use crate::statements::diagnose_statement;
+use bq_hints::next_at;
 use bq_parser::{LineKind, ParseError, classify, parse};
 
 /// The most bytes of a line.

@@ -2,8 +2,8 @@
 ghost use Rattle.std.specs.Prelude.{◌≡◌};
 ghost use Rattle.bq_diagnosis.specs.FaultWords as words;
 
-use crate::candidates::Candidate;
 use arrayvec::ArrayVec;
+use bq_hints::Candidate;
 use bq_model::Query;
 use bq_parser::{ColumnAst, What};
 use bq_reply::Refusal;

@@ -6,7 +6,7 @@ ghost use Rattle.bq_parser.specs.DraftLimits.{is_long_token};
 ghost use Rattle.bq_diagnosis.specs.Marks as marks;
 
 use crate::fault::Fault;
-use crate::following::{front_of, rest_of};
+use bq_hints::{front_of, rest_of};
 use bq_lexer::{Token, TokenKind, lex};
 use bq_parser::{ColumnAst, What};
 use bq_text::{Key, Name, read_i64, trim_start};

@@ -22,8 +22,9 @@ ghost use Rattle.bq_executor.specs.Known.{AnswersOne};
 use crate::known::answers_one;
 use bq_answers::Answers;
 use bq_model::{Row, Tuple};
+use bq_narrow::PartAt;
 use bq_pool::{Pool, Steps};
-use bq_probe::{FirstLook, PartAt, Probe, ProbeScratch, first_look, sees_nothing};
+use bq_probe::{FirstLook, Probe, ProbeScratch, first_look, sees_nothing};
 use bq_synopsis::{Admitted, OwnCell, own_cell, put_own};
 use std::sync::ledger::Ledger;
 

@@ -19,8 +19,8 @@ use crate::join::{Scratch, look, spares};
 use crate::route::PartsAt;
 use bq_answers::Answers;
 use bq_model::Row;
+use bq_narrow::PartAt;
 use bq_pool::{Pool, Steps};
-use bq_probe::PartAt;
 use bq_synopsis::{Admitted, own_cell, placement_of, put_own};
 use std::sync::ledger::Ledger;
 

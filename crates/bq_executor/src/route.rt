@@ -17,11 +17,11 @@ ghost use Rattle.bq_index.specs.Shifts.{StandsAt};
 
 use crate::join::{Scratch, Takes, apply_to_part};
 use bq_answers::Answers;
-use bq_index::{CodedRow, PartIndex, PreparedPlan};
+use bq_index::{CellAt, CodedRow, PartIndex, PreparedPlan};
 use bq_model::{PartPlan, PartPlans, Query, Row};
+use bq_narrow::PartAt;
 use bq_pool::{Extent, Pool, Steps};
-use bq_probe::PartAt;
-use bq_synopsis::{Admitted, CellAt, Placement, Prepared};
+use bq_synopsis::{Admitted, Placement, Prepared};
 use std::sync::ledger::Ledger;
 
 /// The parts of a query, what they are asked of every row, the extent of the cells, and whether it is known that a row which leaves its

@@ -6,3 +6,4 @@ pub mod PreparedParts
 pub mod Telling
 pub mod PassingOn
 pub mod Shifting
+pub mod ShiftLaws

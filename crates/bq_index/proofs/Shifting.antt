@@ -13,11 +13,11 @@ use Rattle.bq_model.specs.Meaning.{by_column}
 use Rattle.bq_model.specs.Admission.{alone, keeps_signs, in_range, admits}
 use Rattle.bq_laws.proofs.Tests.{and-right, true_or_false}
 use Rattle.bq_synopsis.specs.declared.axes.Placement.TheVariants.{Cell}
-use Rattle.bq_synopsis.specs.declared.shift.Shift.{Shift}
+use Rattle.bq_index.specs.declared.shift.Shift.{Shift}
 use Rattle.bq_synopsis.specs.Axes.{IsPlacement}
-use Rattle.bq_synopsis.specs.Shift.{IsShifted}
+use Rattle.bq_index.specs.Shift.{IsShifted}
 use Rattle.bq_synopsis.proofs.PrepareLaws.{pushed-get}
-use Rattle.bq_synopsis.proofs.ShiftLaws.{in-bounds, stands-shifted}
+use Rattle.bq_index.proofs.ShiftLaws.{in-bounds, stands-shifted}
 use Rattle.bq_index.specs.declared.part_index.PartIndex.{PartIndex}
 use Rattle.bq_index.specs.PartIndex.{row_code, signs_of_part, code_after, IsPartIndex}
 use Rattle.bq_index.specs.Shifts.{IsNextShifted, AreShifts, StandsAt}

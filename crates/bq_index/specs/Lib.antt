@@ -4,3 +4,4 @@ pub mod Prefilter
 pub mod Prepared
 pub mod Passing
 pub mod Shifts
+pub mod Shift

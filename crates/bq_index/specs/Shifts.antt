@@ -4,10 +4,10 @@ use Rattle.bq_model.specs.declared.plan.PartPlan.{PartPlan}
 use Rattle.bq_model.specs.Query.{QueryValue}
 use Rattle.bq_model.specs.Meaning.{by_column}
 use Rattle.bq_model.specs.Admission.{admits}
-use Rattle.bq_synopsis.specs.declared.shift.CellAt.{CellAt}
-use Rattle.bq_synopsis.specs.declared.shift.Shift.{Shift}
+use Rattle.bq_index.specs.declared.shift.CellAt.{CellAt}
+use Rattle.bq_index.specs.declared.shift.Shift.{Shift}
 use Rattle.bq_synopsis.specs.Axes.{IsPlacement}
-use Rattle.bq_synopsis.specs.Shift.{IsShifted, placed}
+use Rattle.bq_index.specs.Shift.{IsShifted, placed}
 
 -- codes are exact, the next part of the bucket has the code of the part of this number, and its box is shifted so
 pub record IsNextShifted (parts : List PartPlan) (place : ℕ) (tells : Bool) (codes nexts : List ℕ) (i : ℕ) (shift : Shift) : Type 0 where

@@ -13,8 +13,10 @@ mod part_index;
 mod passing;
 mod prefilter;
 mod prepared;
+mod shift;
 mod shifts;
 
 pub use part_index::{CodedRow, IndexHit, PartIndex};
 pub use prefilter::{Prefilter, column_of, prefilter_of, stream_of};
 pub use prepared::{PreparedPlan, prepare_all};
+pub use shift::CellAt;

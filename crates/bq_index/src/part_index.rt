@@ -17,10 +17,11 @@ ghost use Rattle.bq_index.specs.PartIndex.{IsLocal, signs_at, signs_of_part, num
 use crate::key_pairs::KeyPairs;
 use crate::owners::{each_takes, owners_at};
 use crate::prefilter::column_of;
+use crate::shift::{CellAt, Shift};
 use crate::shifts::{Chained, shifts_of};
 use arrayvec::ArrayVec;
 use bq_model::{Element, Pair, PartPlan, PartPlans, Query, Row, Sign};
-use bq_synopsis::{CellAt, Placement, Prepared, Shift, placement_of};
+use bq_synopsis::{Placement, Prepared, placement_of};
 use std::alloc::{AllocError, Global};
 
 /// An index of the parts of a plan at a place of FROM: parts whose codes fall into one bucket stand in a chain.

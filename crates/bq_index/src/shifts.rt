@@ -7,8 +7,9 @@ ghost use Rattle.bq_synopsis.specs.Preparing.{IsPrepared};
 ghost use Rattle.bq_index.specs.Prepared.{ArePrepared};
 ghost use Rattle.bq_index.specs.Shifts.{IsNextShifted, AreShifts};
 
+use crate::shift::{Shift, shift_between};
 use bq_model::{PartPlans, Query};
-use bq_synopsis::{Prepared, Shift, shift_between};
+use bq_synopsis::Prepared;
 use std::alloc::{AllocError, Global};
 
 /// Whether the codes of parts are exact, these codes, and the next part of each part's bucket.

@@ -10,7 +10,6 @@ mod draft;
 pub mod laws;
 mod limits;
 mod line;
-mod naming;
 mod parsing;
 mod places;
 mod reading;
@@ -18,7 +17,6 @@ mod resolution;
 mod tree;
 
 pub use line::{LineKind, classify};
-pub use naming::{column_named, named_select};
 pub use parsing::{ParseError, What, parse};
 pub use resolution::{ResolveError, resolve};
 pub use tree::{AtomAst, ColumnAst, OperandAst, SelectAst, Statement};

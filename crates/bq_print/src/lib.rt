@@ -5,10 +5,12 @@
 #![tactic(auto)]
 
 pub mod laws;
+mod names;
 mod naming;
 mod pieces;
 mod printing;
 mod shortening;
 
+pub use names::column_named;
 pub use naming::{print_query, put_create_line};
 pub use printing::print;

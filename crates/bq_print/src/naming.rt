@@ -6,11 +6,11 @@ ghost use Rattle.bq_parser.specs.declared.tree.Statement.TheVariants.{CreateQuer
 ghost use Rattle.bq_parser.specs.Resolution as names;
 ghost use Rattle.bq_parser.specs.Resolution.{HasNamed};
 
+use crate::names::named_select;
 use crate::printing::put_select;
 use crate::shortening::put_create;
 use bq_io::{Sink, WriteFault};
 use bq_model::Query;
-use bq_parser::named_select;
 use bq_schema::Catalog;
 use bq_text::Name;
 

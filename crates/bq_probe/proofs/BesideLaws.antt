@@ -25,19 +25,20 @@ use Rattle.bq_model.specs.Query.{QueryValue}
 use Rattle.bq_pool.specs.declared.scan.StridedCells.{StridedCells}
 use Rattle.bq_pool.specs.Strides.{NoneOccupied}
 use Rattle.bq_probe.specs.Beside.{last_beside, beside_dims, IsEmptyBeside, IsInnerBox, IsEmptyIn}
-use Rattle.bq_probe.specs.declared.binding.Binding.{Binding}
-use Rattle.bq_probe.specs.Choosing.{Setting, setting, chosen, value, cell_at, cell_in, dims_in, dims_beside, meets, meets_links, found}
-use Rattle.bq_probe.specs.Lined.{IsLine}
-use Rattle.bq_probe.proofs.LineLaws.{line-more}
+use Rattle.bq_narrow.specs.declared.binding.Binding.{Binding}
+use Rattle.bq_probe.specs.Choosing.{Setting, setting, chosen, value, cell_at, cell_in, dims_beside, meets, meets_links, found}
+use Rattle.bq_narrow.specs.Narrowed.{dims_in}
+use Rattle.bq_narrow.specs.Lined.{IsLine}
+use Rattle.bq_narrow.proofs.LineLaws.{line-more}
 use Rattle.bq_synopsis.specs.Premises.{IsWalked, IsLaidOut}
-use Rattle.bq_probe.specs.Values.{value_in, chosen_value, extreme_of}
+use Rattle.bq_narrow.specs.Values.{value_in, chosen_value, extreme_of}
 use Rattle.bq_probe.specs.Walk.{walk}
 use Rattle.bq_synopsis.specs.Narrowing.{clip}
 use Rattle.bq_probe.proofs.BreakLaws.{breaks, breaks-inequality, value-chosen, valued-own, get-here}
 use Rattle.bq_probe.proofs.CutLaws.{is_allowed, breaks-less}
 use Rattle.bq_probe.proofs.ExactLaws.{kept, choices, combinations_from, flat_map-same, flat_map-flat_map, narrow-box, walk-all, walk-is}
 use Rattle.bq_probe.proofs.ModelLaws.{combinations-are}
-use Rattle.bq_probe.proofs.NarrowLaws.{clip-narrower, map-sound, map-inside, map-low}
+use Rattle.bq_narrow.proofs.NarrowLaws.{clip-narrower, map-sound, map-inside, map-low}
 use Rattle.bq_synopsis.proofs.PlanLaws.{IsNamed, named}
 
 none-of : {X Y : Type 0} (f : X → List Y) (xs : List X) → ((x : X) → f x ≡ []) → flat_map f xs ≡ []

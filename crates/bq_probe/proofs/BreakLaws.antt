@@ -16,10 +16,11 @@ use Rattle.bq_model.specs.Meaning.{by_column}
 use Rattle.bq_model.specs.Plan.{dims_at}
 use Rattle.bq_model.specs.Combinations.{any_ties}
 use Rattle.bq_model.specs.Probing.{is_known}
-use Rattle.bq_probe.specs.declared.binding.Binding.{Binding}
+use Rattle.bq_narrow.specs.declared.binding.Binding.{Binding}
 use Rattle.bq_synopsis.specs.Classes.{are_tied}
-use Rattle.bq_probe.specs.Values.{valued, extreme_of, chosen_value, value_in}
-use Rattle.bq_probe.specs.Choosing.{Setting, chosen, value, dims_in, meets, meets_links}
+use Rattle.bq_narrow.specs.Values.{valued, extreme_of, chosen_value, value_in}
+use Rattle.bq_probe.specs.Choosing.{Setting, chosen, value, meets, meets_links}
+use Rattle.bq_narrow.specs.Narrowed.{dims_in}
 use Rattle.bq_synopsis.specs.Narrowing.{binding_column}
 use Rattle.bq_probe.proofs.ExactLaws.{Breaks, BreaksLess}
 use Rattle.bq_probe.proofs.CutLaws.{is_allowed, breaks-less}

@@ -12,10 +12,11 @@ use Rattle.bq_model.specs.declared.cell.Cell.TheVariants.{Empty, Count, Present,
 use Rattle.bq_model.specs.Combinations.{Found}
 use Rattle.bq_model.specs.declared.plan.Link.{Link}
 use Rattle.bq_probe.proofs.CutLaws.{is_allowed, clip-same}
-use Rattle.bq_probe.specs.declared.binding.Binding.{Binding}
+use Rattle.bq_narrow.specs.declared.binding.Binding.{Binding}
 use Rattle.bq_probe.specs.Choosing.{Setting, value, chosen, cell_at, dims_beside, meets, found}
 use Rattle.bq_synopsis.specs.Narrowing.{clip, narrowed_to, narrowed_by, narrow, binding_column}
-use Rattle.bq_probe.specs.Walk.{narrowed_dims, entered, opened, walk}
+use Rattle.bq_narrow.specs.Narrowed.{narrowed_dims}
+use Rattle.bq_probe.specs.Walk.{entered, opened, walk}
 
 -- a cell with these values, where it is not empty
 abbrev pub kept : List ℤ → Cell → List Binding

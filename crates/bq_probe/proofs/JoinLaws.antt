@@ -30,21 +30,22 @@ use Rattle.bq_synopsis.specs.Pinning.{IsKeyColumn, AreKeyColumns}
 use Rattle.bq_synopsis.specs.Premises.{IsWalked}
 use Rattle.bq_synopsis.proofs.Lookups.{some-is, none-is}
 use Rattle.bq_synopsis.proofs.PlanLaws.{named, laid-beside}
-use Rattle.bq_probe.specs.declared.binding.Binding.{Binding}
-use Rattle.bq_probe.specs.Choosing.{Setting, setting, start, chosen, cell_in, dims_in, meets, meets_links, tuple_of, found, product_of}
+use Rattle.bq_narrow.specs.declared.binding.Binding.{Binding}
+use Rattle.bq_probe.specs.Choosing.{Setting, setting, start, chosen, cell_in, meets, meets_links, tuple_of, found, product_of}
+use Rattle.bq_narrow.specs.Narrowed.{dims_in, narrowed_dims}
 use Rattle.bq_probe.specs.Joining.{is_some, value_of, are_told, told_values}
 use Rattle.bq_probe.specs.Remaining.{as_found}
-use Rattle.bq_probe.specs.Values.{value_in, chosen_value, value_or, extreme_of, rows_in}
-use Rattle.bq_probe.specs.Walk.{walk, opened, entered, candidates, narrowed_dims}
+use Rattle.bq_narrow.specs.Values.{value_in, chosen_value, value_or, extreme_of, rows_in}
+use Rattle.bq_probe.specs.Walk.{walk, opened, entered, candidates}
 use Rattle.bq_probe.proofs.BreakLaws.{breaks, breaks-inequality}
 use Rattle.bq_probe.proofs.ExactLaws.{walk-is}
-use Rattle.bq_probe.proofs.KeyColumnLaws.{own-value}
+use Rattle.bq_narrow.proofs.KeyColumnLaws.{own-value}
 use Rattle.bq_probe.proofs.ModelLaws.{combinations-are}
-use Rattle.bq_probe.proofs.NarrowLaws.{one-value}
+use Rattle.bq_narrow.proofs.NarrowLaws.{one-value}
 use Rattle.bq_probe.proofs.NothingLaws.{box-one}
 use Rattle.bq_probe.proofs.StepLaws.{own-cell}
 use Rattle.bq_probe.proofs.UnderwayLaws.{own-dims}
-use Rattle.bq_probe.proofs.ValueLaws.{valued_at}
+use Rattle.bq_narrow.proofs.ValueLaws.{valued_at}
 use Rattle.bq_probe.proofs.WalkLaws.{entered-some}
 
 -- the values that the row has at the columns

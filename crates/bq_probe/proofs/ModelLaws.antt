@@ -19,9 +19,10 @@ use Rattle.bq_model.specs.Plan.{dims_at}
 use Rattle.bq_model.specs.Combinations.{Choice, choice, choice_of, looked_up, tied, row_of_values, Reading, Found, chosen_values, linked, times_of}
 use Rattle.bq_model.specs.Combinations as model
 use Rattle.bq_model.specs.Probing.{choices_beside, found_beside}
-use Rattle.bq_probe.specs.declared.binding.Binding.{Binding}
-use Rattle.bq_probe.specs.Values.{valued, extreme_of, rows_in, chosen_value, value_in}
-use Rattle.bq_probe.specs.Choosing.{Setting, setting, dims_in, cell_in, meets, meets_links, tuple_of, product_of, found}
+use Rattle.bq_narrow.specs.declared.binding.Binding.{Binding}
+use Rattle.bq_narrow.specs.Values.{valued, extreme_of, rows_in, chosen_value, value_in}
+use Rattle.bq_probe.specs.Choosing.{Setting, setting, cell_in, meets, meets_links, tuple_of, product_of, found}
+use Rattle.bq_narrow.specs.Narrowed.{dims_in}
 use Rattle.bq_probe.proofs.ExactLaws.{kept, choices, combinations_from, flat_map-same}
 
 valued-is : (q : QueryValue) (ss : List Sign) (dims : List Dim) (xs : List ℤ) (z : ℤ) (a : Attr) → valued (pairs q) ss dims xs z a ≡ looked_up q ss dims xs z a

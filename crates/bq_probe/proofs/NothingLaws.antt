@@ -17,16 +17,18 @@ use Rattle.bq_model.specs.Probing.{found_beside}
 use Rattle.bq_model.specs.Query.{QueryValue}
 use Rattle.bq_model.specs.declared.atom.Attr.{Attr}
 use Rattle.bq_model.specs.declared.part.Pair.{Pair}
-use Rattle.bq_probe.specs.declared.binding.Binding.{Binding}
+use Rattle.bq_narrow.specs.declared.binding.Binding.{Binding}
 use Rattle.bq_probe.specs.Choosing.{Setting, setting, start, chosen, cell_at, cell_in}
-use Rattle.bq_probe.specs.Lined.{AreFixed}
+use Rattle.bq_narrow.specs.Lined.{AreFixed}
 use Rattle.bq_synopsis.specs.Premises.{IsWalked, IsLaidOut}
-use Rattle.bq_probe.specs.Walk.{walk, opened, entered, candidates, narrowed_dims}
+use Rattle.bq_probe.specs.Walk.{walk, opened, entered, candidates}
+use Rattle.bq_narrow.specs.Narrowed.{narrowed_dims}
 use Rattle.bq_probe.proofs.BreakLaws.{breaks, breaks-inequality}
 use Rattle.bq_probe.proofs.ExactLaws.{walk-is}
 use Rattle.bq_probe.proofs.ModelLaws.{combinations-are}
 use Rattle.bq_synopsis.proofs.PlanLaws.{named, laid-beside}
-use Rattle.bq_probe.proofs.StepLaws.{own-cell, low-narrowed}
+use Rattle.bq_probe.proofs.StepLaws.{own-cell}
+use Rattle.bq_narrow.proofs.DimLaws.{low-narrowed}
 use Rattle.bq_probe.proofs.UnderwayLaws.{own-dims}
 
 -- dims of one value each have one combination

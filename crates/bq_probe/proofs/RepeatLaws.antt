@@ -12,9 +12,9 @@ use Rattle.bq_model.specs.declared.plan.PartPlan.{PartPlan}
 use Rattle.bq_model.specs.Combinations.{Found, Reading}
 use Rattle.bq_model.specs.Probing.{is_known}
 use Rattle.bq_laws.proofs.Tests.{and-left, and-right}
-use Rattle.bq_probe.specs.declared.binding.Binding.{Binding}
+use Rattle.bq_narrow.specs.declared.binding.Binding.{Binding}
 use Rattle.bq_probe.specs.declared.probe.Probe.{Probe}
-use Rattle.bq_probe.specs.Values.{value_in}
+use Rattle.bq_narrow.specs.Values.{value_in}
 use Rattle.bq_probe.specs.Choosing.{Setting, setting, cell_at, chosen, value, tuple, tuple_of, meets, found}
 use Rattle.bq_probe.specs.Walk.{candidates, entered, opened, walk, walk_from, left}
 use Rattle.bq_probe.specs.Remaining.{left_of, outer_of}

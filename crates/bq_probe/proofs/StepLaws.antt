@@ -5,7 +5,7 @@ use Rattle.std.specs.List.{list_any}
 use Rattle.std.proofs.lemmas.Bool.Decides.{nat_tests}
 use Rattle.std.proofs.Math.Nat.{mul-le-mul}
 use Rattle.std.proofs.lemmas.List.{length-take, take_more}
-use Rattle.bq_model.specs.Boxes.{box, place_of, dim_size, box_size, values_at, AreNumbered, AreFull, AreInside}
+use Rattle.bq_model.specs.Boxes.{box, place_of, dim_size, box_size, values_at, AreInside}
 use Rattle.bq_model.specs.declared.atom.Attr.{Attr}
 use Rattle.bq_model.specs.declared.part.Pair.{Pair}
 use Rattle.bq_model.specs.declared.plan.Dim.{Dim}
@@ -18,63 +18,26 @@ use Rattle.bq_model.specs.Cells.{FitsKind}
 use Rattle.bq_model.specs.Combinations.{Reading, read_from}
 use Rattle.bq_model.specs.Numbers.{equals_some}
 use Rattle.bq_model.specs.Probing.{is_known}
-use Rattle.bq_model.proofs.BoxLaws.{values-inside, sound-full, length-box, box-from, place-below}
+use Rattle.bq_model.proofs.BoxLaws.{values-inside, length-box, box-from, place-below}
 use Rattle.bq_model.specs.declared.cell.Cell.{Cell}
 use Rattle.bq_model.specs.declared.cell.Cell.TheVariants.{Empty, Count, Present, Extreme}
-use Rattle.bq_probe.specs.declared.binding.Binding.{Binding}
+use Rattle.bq_narrow.specs.declared.binding.Binding.{Binding}
 use Rattle.bq_probe.specs.declared.probe.Probe.{Probe}
-use Rattle.bq_probe.specs.Values.{value_in, rows_in}
-use Rattle.bq_probe.specs.Choosing.{setting, product_of, meets_links, tuple_of, found, dims_in, cell_in}
-use Rattle.bq_probe.specs.Walk.{left, walk, outer, narrowed_dims}
+use Rattle.bq_narrow.specs.Values.{value_in, rows_in}
+use Rattle.bq_probe.specs.Choosing.{setting, product_of, meets_links, tuple_of, found, cell_in}
+use Rattle.bq_narrow.specs.Narrowed.{dims_in, narrowed_dims}
+use Rattle.bq_probe.specs.Walk.{left, walk, outer}
 use Rattle.bq_synopsis.specs.Narrowing.{narrow, narrowed_by, binding_column, clip}
 use Rattle.bq_probe.specs.Costs.{Rates, cost_left, tried_size, read_at}
 use Rattle.bq_pool.specs.declared.scan.StridedCells.{StridedCells}
 use Rattle.bq_pool.specs.Strides.{at_stride}
-use Rattle.bq_probe.specs.Lined.{IsLine}
+use Rattle.bq_narrow.specs.Lined.{IsLine}
 use Rattle.bq_synopsis.specs.Premises.{IsLaidOut, AreFitting}
 use Rattle.bq_probe.specs.Remaining.{left_of, outer_of, IsPlaced, WentBack, HasEntered, ended, popped, AreLight, limit, as_found}
 use Rattle.bq_probe.proofs.WalkLaws.{left-skip, left-back, left-past, left-whole, left-enter, outer-none}
 use Rattle.bq_probe.proofs.CostLaws.{cost-skip, cost-back, cost-end, cost-next, cost-enter}
-use Rattle.bq_probe.proofs.NarrowLaws.{narrower, clip-narrower, map-low, map-sound, map-inside, one-value}
-
-pub record AreWhole (ds : List Dim) : Type 0 where
-  pub full : AreFull ds
-  pub sound : AreNumbered ds
-
-pub dims-whole : (part : PartPlan) (arriving cells place : ℕ) → (place ≢ arriving → IsLaidOut (stream_at part place) cells) → AreWhole (dims_in part arriving place)
-unfolding dims_in
-dims-whole part arriving cells place r = by (place == arriving) refl
-  where
-    by : (t : Bool) → (place == arriving) ≡ t → AreWhole (if t then [] else (dims_at part place))
-    by true e = record { full = tt; sound = tt }
-    by false e =
-        let other : place ≢ arriving = grind (arith, nat_tests) in
-        let out = r other in
-        record { full = out.full; sound = sound-full _ out.full (omega (arith, out.size, out.few)) }
-
-module _ (ps : List Pair) (part : PartPlan) (arriving : ℕ) (row : List ℤ) (cells : ℕ) (known : List Binding) (r : length known ≢ arriving → IsLaidOut (stream_at part (length known)) cells) where
-  pub sound-narrowed : AreNumbered (narrowed_dims ps part arriving row known)
-  unfolding narrowed_dims
-  sound-narrowed = let d = dims-whole part arriving cells (length known) r in map-sound _ (narrower arriving (length known) part.equal.items part.less.items (value_in ps part arriving row known)) _ d.full d.sound
-
-  pub inside-narrowed : (vs : List ℤ) → AreInside (narrowed_dims ps part arriving row known) vs → AreInside (dims_in part arriving (length known)) vs
-  unfolding narrowed_dims
-  inside-narrowed vs i = let d = dims-whole part arriving cells (length known) r in map-inside _ (narrower arriving (length known) part.equal.items part.less.items (value_in ps part arriving row known)) _ vs d.full i
-
-  pub dims-beside : length known ≢ arriving → dims_in part arriving (length known) ≡ dims_at part (length known)
-  unfolding dims_in
-  dims-beside n = by (length known == arriving) refl
-    where
-      by : (t : Bool) → (length known == arriving) ≡ t → (if t then [] else dims_at part (length known)) ≡ dims_at part (length known)
-      by true e = absurd (n (grind (arith, nat_tests)))
-      by false e = refl
-
-  pub low-narrowed : length known ≢ arriving → 0 < box_size (narrowed_dims ps part arriving row known) → AreInside (dims_at part (length known)) (map (λ d. d.lo) (narrowed_dims ps part arriving row known))
-  unfolding narrowed_dims
-  low-narrowed n some =
-      let d = dims-whole part arriving cells (length known) r in
-      subst (λ ds. AreInside ds (map (λ e. e.lo) (map (narrow arriving (length known) part.equal.items part.less.items (value_in ps part arriving row known)) (dims_in part arriving (length known))))) (dims-beside n)
-      (map-low _ (narrower arriving (length known) part.equal.items part.less.items (value_in ps part arriving row known)) _ d.full some)
+use Rattle.bq_narrow.proofs.NarrowLaws.{narrower, clip-narrower, one-value}
+use Rattle.bq_narrow.proofs.DimLaws.{dims-beside, inside-narrowed}
 
 -- a dim counts with all its values where no known column fixes it, and else with one
 abbrev free_dim : Dim → Option Attr → ℕ

@@ -7,21 +7,23 @@ use Rattle.bq_model.specs.declared.plan.PartPlan.{PartPlan}
 use Rattle.bq_model.specs.Plan.{dims_at, stream_at}
 use Rattle.bq_model.specs.Query.{QueryValue}
 use Rattle.bq_model.specs.Parts.{pairs}
-use Rattle.bq_probe.specs.declared.binding.Binding.{Binding}
+use Rattle.bq_narrow.specs.declared.binding.Binding.{Binding}
 use Rattle.bq_probe.specs.declared.probe.Probe.{Probe}
 use Rattle.bq_synopsis.specs.Preparing.{IsPrepared}
 use Rattle.bq_model.specs.declared.atom.Attr.{Attr}
 use Rattle.bq_model.specs.Combinations.{Reading}
-use Rattle.bq_probe.specs.Values.{rows_in, value_in}
-use Rattle.bq_probe.specs.Choosing.{setting, dims_in}
+use Rattle.bq_narrow.specs.Values.{rows_in, value_in}
+use Rattle.bq_probe.specs.Choosing.{setting}
+use Rattle.bq_narrow.specs.Narrowed.{dims_in, narrowed_dims}
 use Rattle.bq_probe.specs.Costs.{Rates, cost_left}
-use Rattle.bq_probe.specs.Walk.{left, narrowed_dims}
+use Rattle.bq_probe.specs.Walk.{left}
 use Rattle.bq_synopsis.specs.Narrowing.{narrow}
 use Rattle.bq_synopsis.specs.Premises.{IsWalked, IsLaidOut}
-use Rattle.bq_probe.specs.Lined.{StandOn}
+use Rattle.bq_narrow.specs.Lined.{StandOn}
 use Rattle.bq_probe.specs.Remaining.{IsPlaced, IsUnderway, IsSameWalk, IsSameSight, TellsOf, WentBack, ended, popped, AreLight, AreSizes, limit, dims_now, HasOpened, left_of}
 use Rattle.bq_synopsis.proofs.PlanLaws.{laid-beside}
-use Rattle.bq_probe.proofs.StepLaws.{sound-narrowed, light-front, light-more}
+use Rattle.bq_narrow.proofs.DimLaws.{sound-narrowed}
+use Rattle.bq_probe.proofs.StepLaws.{light-front, light-more}
 
 -- the dims at a level have sizes that fit
 pub numbered : (q : QueryValue) (part : PartPlan) → IsWalked q part → (ps : List Pair) (a : ℕ) (row : List ℤ) (known : List Binding) → a < length part.streams.items → length known < length part.streams.items → AreNumbered (narrowed_dims ps part a row known)

@@ -4,12 +4,13 @@ use Rattle.std.specs.Prelude.{flat_map, ℤ}
 use Rattle.std.proofs.lemmas.List.{drop_all}
 use Rattle.bq_model.specs.declared.cell.Cell.{Cell}
 use Rattle.bq_model.specs.declared.cell.Cell.TheVariants.{Empty, Count, Present, Extreme}
-use Rattle.bq_probe.specs.declared.binding.Binding.{Binding}
+use Rattle.bq_narrow.specs.declared.binding.Binding.{Binding}
 use Rattle.bq_model.specs.Combinations.{Found}
 use Rattle.bq_probe.specs.Choosing.{Setting, cell_at, chosen}
 use Rattle.bq_model.specs.Boxes.{box_size, values_at}
 use Rattle.bq_model.proofs.BoxLaws.{box-from}
-use Rattle.bq_probe.specs.Walk.{narrowed_dims, candidates, entered, opened, walk, walk_from, outer, left}
+use Rattle.bq_narrow.specs.Narrowed.{narrowed_dims}
+use Rattle.bq_probe.specs.Walk.{candidates, entered, opened, walk, walk_from, outer, left}
 
 -- one level more
 pub outer-push : (w : Setting) (m : ℕ) (known cs : List Binding) (ns : List ℕ) (c : Binding) (n : ℕ) → length cs ≡ length ns → length cs < m →

@@ -11,8 +11,9 @@ use Rattle.bq_model.specs.declared.plan.Dim.{Dim}
 use Rattle.bq_model.specs.declared.plan.PartPlan.{PartPlan}
 use Rattle.bq_model.specs.Plan.{dims_at}
 use Rattle.bq_model.specs.Combinations.{Reading, Found}
-use Rattle.bq_probe.specs.declared.binding.Binding.{Binding}
-use Rattle.bq_probe.specs.Values.{value_in, rows_in}
+use Rattle.bq_narrow.specs.declared.binding.Binding.{Binding}
+use Rattle.bq_narrow.specs.Values.{value_in, rows_in}
+use Rattle.bq_narrow.specs.Narrowed.{dims_in}
 
 -- a row that arrives at a place of FROM, and the cells that it meets
 pub record Setting : Type 0 where
@@ -30,10 +31,6 @@ setting ps select part arriving row read = record { pairs = ps; select = select;
 -- a cell with the values of its dims
 abbrev pub chosen : List ℤ → Cell → Binding
 chosen values cell = record { values = record { items = values }; cell = cell }
-
--- the dims to choose values of; the arriving row has none
-unfoldable pub dims_in : PartPlan → ℕ → ℕ → List Dim
-dims_in part arriving place = if place == arriving then [] else dims_at part place
 
 -- the dims of a place in a setting
 abbrev pub dims_beside : Setting → ℕ → List Dim

@@ -7,13 +7,14 @@ use Rattle.bq_model.specs.declared.plan.Dim.{Dim}
 use Rattle.bq_model.specs.declared.plan.PartPlan.{PartPlan}
 use Rattle.bq_model.specs.Boxes.{box_size}
 use Rattle.bq_model.specs.Combinations.{Reading, Found}
-use Rattle.bq_probe.specs.declared.binding.Binding.{Binding}
+use Rattle.bq_narrow.specs.declared.binding.Binding.{Binding}
 use Rattle.bq_probe.specs.declared.probe.Probe.{Probe}
 use Rattle.bq_synopsis.specs.Preparing.{IsPrepared}
-use Rattle.bq_probe.specs.Values.{rows_in}
+use Rattle.bq_narrow.specs.Values.{rows_in}
 use Rattle.bq_probe.specs.Choosing.{setting, chosen}
-use Rattle.bq_probe.specs.Walk.{left, outer, narrowed_dims}
-use Rattle.bq_probe.specs.Lined.{StandOn}
+use Rattle.bq_probe.specs.Walk.{left, outer}
+use Rattle.bq_narrow.specs.Narrowed.{narrowed_dims}
+use Rattle.bq_narrow.specs.Lined.{StandOn}
 use Rattle.bq_probe.specs.Costs.{cost_left, reads, turns}
 
 -- what the probe has still to give

@@ -6,7 +6,7 @@ use Rattle.bq_model.specs.declared.part.Pair.{Pair}
 use Rattle.bq_model.specs.declared.plan.PartPlan.{PartPlan}
 use Rattle.bq_model.specs.Combinations.{Found}
 use Rattle.bq_model.specs.Probing.{is_known}
-use Rattle.bq_probe.specs.declared.binding.Binding.{Binding}
+use Rattle.bq_narrow.specs.declared.binding.Binding.{Binding}
 use Rattle.bq_probe.specs.Choosing.{tuple_of}
 
 -- the row and the cells chosen at the first places tell the values of all these columns

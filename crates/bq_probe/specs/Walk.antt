@@ -1,20 +1,12 @@
 -- The walk over the combinations: the places of FROM in order, at each only the values that the links leave.
-use Rattle.std.specs.Prelude.{ℕ, zero, suc, ◌-◌, Bool, true, false, List, [], ◌∷◌, ◌++◌, map, flat_map, ℤ, if◌then◌else◌, length, drop}
+use Rattle.std.specs.Prelude.{ℕ, zero, suc, ◌-◌, Bool, true, false, List, [], ◌∷◌, ◌++◌, flat_map, ℤ, if◌then◌else◌, length, drop}
 use Rattle.bq_model.specs.Boxes.{box}
-use Rattle.bq_model.specs.declared.part.Pair.{Pair}
-use Rattle.bq_model.specs.declared.plan.Dim.{Dim}
-use Rattle.bq_model.specs.declared.plan.PartPlan.{PartPlan}
 use Rattle.bq_model.specs.declared.cell.Cell.{Cell}
 use Rattle.bq_model.specs.declared.cell.Cell.TheVariants.{Empty, Count, Present, Extreme}
 use Rattle.bq_model.specs.Combinations.{Found}
-use Rattle.bq_probe.specs.declared.binding.Binding.{Binding}
-use Rattle.bq_probe.specs.Values.{value_in}
-use Rattle.bq_probe.specs.Choosing.{Setting, dims_in, cell_at, chosen, meets, found}
-use Rattle.bq_synopsis.specs.Narrowing.{narrow}
-
--- the values to try for the next stream
-unfoldable pub narrowed_dims : List Pair → PartPlan → ℕ → List ℤ → List Binding → List Dim
-narrowed_dims ps part arriving row known = map (narrow arriving (length known) part.equal.items part.less.items (value_in ps part arriving row known)) (dims_in part arriving (length known))
+use Rattle.bq_narrow.specs.declared.binding.Binding.{Binding}
+use Rattle.bq_probe.specs.Choosing.{Setting, cell_at, chosen, meets, found}
+use Rattle.bq_narrow.specs.Narrowed.{narrowed_dims}
 
 -- the combinations of values to try for the next stream
 abbrev pub candidates : Setting → List Binding → List (List ℤ)

@@ -8,11 +8,8 @@ ghost use Rattle.bq_probe.specs.Beside.{last_beside, beside_dims, IsEmptyBeside,
 ghost use Rattle.bq_synopsis.specs.Premises.{IsLaidOut};
 ghost use Rattle.bq_synopsis.specs.Narrowing.{clip_by, clip};
 
-use crate::combination::dim_size;
-use crate::lines::{line_of, offset_of};
-use crate::lists::Dims;
-use crate::narrow::{above, below};
 use bq_model::{Dim, Link, PartPlan, StreamPlan, is_same, size_of};
+use bq_narrow::{Dims, above, below, dim_size, line_of, offset_of};
 use bq_pool::{Extent, Pool};
 use bq_synopsis::{column_of, dims_at, is_known, stream_at};
 

@@ -11,10 +11,8 @@ ghost use Rattle.bq_synopsis.specs.Preparing.{IsPrepared};
 ghost use Rattle.bq_probe.specs.Joining.{is_some, value_of, are_told, told_values, Tells};
 ghost use Rattle.bq_probe.specs.declared.join.FirstLook.TheVariants as look;
 
-use crate::lines::is_empty;
-use crate::part::PartAt;
-use crate::values::rows_in;
 use bq_model::{Attr, Tuple};
+use bq_narrow::{PartAt, is_empty, rows_in};
 use bq_pool::{Pool, Steps};
 use bq_synopsis::{Admitted, JoinLookup};
 use std::sync::ledger::Ledger;

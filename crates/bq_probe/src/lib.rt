@@ -11,24 +11,15 @@
 #![tactic(auto)]
 
 mod beside;
-mod binding;
-mod combination;
-mod fixed;
 mod join;
-mod lines;
 mod links;
-mod lists;
-mod narrow;
 mod nothing;
-mod part;
 mod probe;
 mod repeats;
 mod scratch;
 mod stack;
-mod values;
 
 pub use join::{FirstLook, first_look};
 pub use nothing::sees_nothing;
-pub use part::PartAt;
 pub use probe::Probe;
 pub use scratch::ProbeScratch;

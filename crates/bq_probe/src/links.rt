@@ -3,13 +3,11 @@ ghost use Rattle.std.specs.Prelude.{◌≡◌, ◌≤◌, length, int_lt, map};
 ghost use Rattle.std.specs.List.{list_all};
 ghost use Rattle.std.specs.Ordering.{int_eq};
 ghost use Rattle.bq_synopsis.specs.Preparing.{IsPrepared};
-ghost use Rattle.bq_probe.specs.Values.{value_in};
+ghost use Rattle.bq_narrow.specs.Values.{value_in};
 ghost use Rattle.bq_probe.specs.Choosing.{meets_links, tuple_of};
 
-use crate::binding::Binding;
-use crate::part::RowAt;
-use crate::values::value_in;
 use bq_model::{Attr, Link, Tuple};
+use bq_narrow::{Binding, RowAt, value_in};
 
 // Whether the two sides of each link are equal.
 fn all_equal(at: &RowAt<'_>, known: &[Binding], links: &[Link]) -> bool

@@ -9,9 +9,8 @@ ghost use Rattle.bq_pool.specs.Extents.{cells_of};
 ghost use Rattle.bq_synopsis.specs.Premises.{IsReady};
 ghost use Rattle.bq_synopsis.specs.Preparing.{IsPrepared};
 
-use crate::lines::is_empty;
-use crate::part::{PartAt, RowAt};
 use crate::scratch::ProbeScratch;
+use bq_narrow::{PartAt, RowAt, is_empty};
 use bq_pool::{Pool, Steps};
 use bq_synopsis::Admitted;
 use std::sync::ledger::Ledger;

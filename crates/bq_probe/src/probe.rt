@@ -10,25 +10,22 @@ ghost use Rattle.bq_model.specs.Probing.{found_beside};
 ghost use Rattle.bq_model.specs.declared.atom.Attr.{Attr};
 ghost use Rattle.bq_model.specs.declared.cell.Cell.TheVariants.{Present};
 ghost use Rattle.bq_pool.specs.Extents.{cells_of, IsLive};
-ghost use Rattle.bq_probe.specs.Choosing.{start, chosen, dims_in, cell_in, meets_links, tuple_of, product_of};
+ghost use Rattle.bq_probe.specs.Choosing.{start, chosen, cell_in, meets_links, tuple_of, product_of};
+ghost use Rattle.bq_narrow.specs.Narrowed.{dims_in};
 ghost use Rattle.bq_probe.specs.Costs.{read_at};
-ghost use Rattle.bq_probe.specs.Lined.{StandOn};
+ghost use Rattle.bq_narrow.specs.Lined.{StandOn};
 ghost use Rattle.bq_probe.specs.Repeats.{IsTold, ArePassed};
 ghost use Rattle.bq_synopsis.specs.Preparing.{IsPrepared};
-ghost use Rattle.bq_probe.specs.Values.{rows_in};
+ghost use Rattle.bq_narrow.specs.Values.{rows_in};
 ghost use Rattle.bq_synopsis.specs.Premises.{IsWalked, IsReady, IsLaidOut, AreFitting};
 ghost use Rattle.bq_probe.specs.Remaining.{left_of, outer_of, reads_left, turns_left, limit, IsPlaced, IsUnderway, IsSameWalk, WentBack, HasOpened, HasEntered, dims_now, as_found};
 
-use crate::binding::Binding;
-use crate::combination::values_of;
-use crate::lines::is_empty;
 use crate::links::{meets_links, tuple_of};
-use crate::part::RowAt;
 use crate::repeats::is_told;
 use crate::scratch::ProbeScratch;
-use crate::values::rows_in;
 use arrayvec::ArrayVec;
 use bq_model::{Cell, Pair, PartPlan, Query, Row, Tuple, cell_index};
+use bq_narrow::{Binding, RowAt, is_empty, rows_in, values_of};
 use bq_pool::{Extent, Pool, Steps, StridedCells};
 use bq_synopsis::{Prepared, stream_at};
 use std::sync::ledger::Ledger;
@@ -51,7 +48,7 @@ pub struct Probe<'a> {
 }
 
 // What stands at a place of FROM for these values: the arriving row, or a cell.
-#[tactic(auto, unfolding(crate::specs::Choosing::cell_in, crate::specs::Choosing::dims_in))]
+#[tactic(auto, unfolding(crate::specs::Choosing::cell_in, bq_narrow::specs::Narrowed::dims_in))]
 fn content<L: Ledger>(
     pool: &Pool,
     e: &Extent,

@@ -7,10 +7,8 @@ ghost use Rattle.bq_probe.specs.Choosing.{tuple_of};
 ghost use Rattle.bq_probe.specs.Repeats.{IsTold};
 ghost use Rattle.bq_synopsis.specs.Preparing.{IsPrepared};
 
-use crate::binding::Binding;
-use crate::part::RowAt;
-use crate::values::value_in;
 use bq_model::Attr;
+use bq_narrow::{Binding, RowAt, value_in};
 use bq_synopsis::is_known;
 
 // Whether the values of these columns are known before a place.

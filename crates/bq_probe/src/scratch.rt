@@ -7,19 +7,17 @@ ghost use Rattle.bq_model.specs.Plan.{stream_at, dims_at};
 ghost use Rattle.bq_pool.specs.Extents.{cells_of, IsLive};
 ghost use Rattle.bq_probe.specs.Beside.{last_beside, IsEmptyBeside};
 ghost use Rattle.bq_probe.specs.Choosing.{start, chosen};
-ghost use Rattle.bq_probe.specs.Lined.{StandOn, AreFixed};
+ghost use Rattle.bq_narrow.specs.Lined.{StandOn, AreFixed};
 ghost use Rattle.bq_synopsis.specs.Preparing.{IsPrepared};
-ghost use Rattle.bq_probe.specs.Walk.{narrowed_dims};
+ghost use Rattle.bq_narrow.specs.Narrowed.{narrowed_dims};
 ghost use Rattle.bq_synopsis.specs.Premises.{IsLaidOut};
 
 use crate::beside::leaves_nothing;
-use crate::fixed::{fixed_dims, pinned_dims, single_dims};
-use crate::lines::{is_empty, line_of};
-use crate::lists::{Dims, Numbers};
-use crate::narrow::narrowed_dims;
-use crate::part::RowAt;
 use crate::stack::Bindings;
 use bq_model::{Cell, Dim, PartPlan, size_of};
+use bq_narrow::{
+    Dims, Numbers, RowAt, fixed_dims, is_empty, line_of, narrowed_dims, pinned_dims, single_dims,
+};
 use bq_pool::{Extent, Pool, StridedCells};
 use bq_synopsis::{is_whole, may_fix, stream_at};
 

@@ -4,9 +4,8 @@ ghost use Rattle.bq_model.specs.Boxes.{box_size, values_at, AreNumbered};
 ghost use Rattle.bq_model.specs.declared.cell.Cell.TheVariants.{Present};
 ghost use Rattle.bq_probe.specs.Choosing.{chosen};
 
-use crate::binding::Binding;
-use crate::combination::values_into;
 use bq_model::{Cell, Dim};
+use bq_narrow::{Binding, values_into};
 use std::marker::Model;
 
 /// The cells that a walk has chosen at the first places of FROM. A clause sees their list.
@@ -19,7 +18,7 @@ pub struct Bindings {
 impl Model for Bindings {
     ghost use Rattle.std.specs.Prelude.{take, ◌≤◌};
     ghost use Rattle.arrayvec.specs.ArrayVec.{ArrayVec};
-    ghost use Rattle.bq_probe.specs.declared.binding.Binding.{Binding};
+    ghost use Rattle.bq_narrow.specs.declared.binding.Binding.{Binding};
 
     ghost Value = { ArrayVec Binding };
 

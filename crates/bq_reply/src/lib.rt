@@ -8,6 +8,6 @@ mod reply;
 
 pub use refusal::{Refusal, parse_refusal, resolve_refusal, row_refusal, stream_refusal};
 pub use reply::{
-    condition_text, write_broken, write_created, write_dropped, write_filter, write_limit,
-    write_no_pages, write_numbers, write_refused, write_violation,
+    condition_text, word_text, write_broken, write_created, write_dropped, write_filter,
+    write_limit, write_no_pages, write_numbers, write_refused, write_violation,
 };

@@ -190,7 +190,8 @@ pub fn write_violation<O: Sink>(
     write_broken(out, b"refused ", name.bytes(), part, condition, column)
 }
 
-fn word_text(word: Refusal) -> &'static [u8]
+/// Returns the text of a word of refusal.
+pub fn word_text(word: Refusal) -> &'static [u8]
     ensures { result.now ≡ word_text word }
 {
     match word {

@@ -3,9 +3,9 @@ use Rattle.std.proofs.Common.{◌≡◌, ℕ, ◌-◌, ◌≤◌, List, [], ◌�
 use Rattle.std.specs.List.{flat_map}
 use Rattle.std.proofs.lemmas.List.{take_rest}
 use Rattle.bq_io.specs.Sink.{SinkState, Writes}
-use Rattle.bq_diagnosis.specs.declared.candidates.Candidate.{Candidate}
+use Rattle.bq_hints.specs.declared.candidates.Candidate.{Candidate}
 use Rattle.bq_sentences.specs.declared.texts.TheConstants as texts
-use Rattle.bq_diagnosis.specs.Candidates.{told_as}
+use Rattle.bq_hints.specs.Candidates.{told_as}
 use Rattle.bq_sentences.specs.Sentences.{listed, name_text, there_are, next_text}
 
 listed_cons : {X : Type 0} (f : X → List ℕ) (xs : List X) (d : X) → 1 ≤ length xs → listed f xs ≡ f (get_or xs 0 d) ++ flat_map (λ y. codes ", " ++ f y) (drop 1 xs)

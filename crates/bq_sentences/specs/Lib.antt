@@ -1,4 +1,2 @@
-pub mod Bytes
-pub mod Hints
 pub mod Sentences
 pub mod Texts

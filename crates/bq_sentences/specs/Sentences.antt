@@ -12,16 +12,16 @@ use Rattle.bq_parser.specs.declared.parsing.What.TheVariants as limits
 use Rattle.bq_parser.specs.declared.tree.ColumnAst.{ColumnAst}
 use Rattle.bq_parser.specs.Naming.{column_text}
 use Rattle.bq_sentences.specs.declared.texts.TheConstants as texts
-use Rattle.bq_diagnosis.specs.declared.candidates.Candidate.{Candidate}
-use Rattle.bq_sentences.specs.declared.hints.Hint.{Hint}
-use Rattle.bq_sentences.specs.declared.hints.Hint.TheVariants as hints
-use Rattle.bq_sentences.specs.declared.hints.Standing.{Standing}
-use Rattle.bq_sentences.specs.declared.hints.Standing.TheVariants as standing
+use Rattle.bq_hints.specs.declared.candidates.Candidate.{Candidate}
+use Rattle.bq_hints.specs.declared.hints.Hint.{Hint}
+use Rattle.bq_hints.specs.declared.hints.Hint.TheVariants as hints
+use Rattle.bq_hints.specs.declared.hints.Standing.{Standing}
+use Rattle.bq_hints.specs.declared.hints.Standing.TheVariants as standing
 use Rattle.bq_diagnosis.specs.declared.fault.Fault.{Fault}
 use Rattle.bq_diagnosis.specs.declared.fault.Fault.TheVariants as faults
-use Rattle.bq_sentences.specs.Bytes.{is_quote}
-use Rattle.bq_diagnosis.specs.Candidates.{told_as}
-use Rattle.bq_sentences.specs.Hints.{is_empty, hint_of, standing_of}
+use Rattle.bq_hints.specs.Bytes.{is_quote}
+use Rattle.bq_hints.specs.Candidates.{told_as}
+use Rattle.bq_hints.specs.Hints.{is_empty, hint_of, standing_of}
 
 -- a limit that is passed, before the number that is found
 abbrev pub limit_lead : What → List ℕ

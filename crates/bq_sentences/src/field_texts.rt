@@ -4,9 +4,9 @@ ghost use Rattle.std.specs.List.{list_any, slice_index_or};
 ghost use Rattle.bq_text.specs.Lines.{parts_behind};
 ghost use Rattle.bq_sentences.specs.Sentences as sentences;
 
-use crate::hints::is_quote;
 use crate::texts;
 use bq_diagnosis::fields_text;
+use bq_hints::is_quote;
 use bq_text::{cut, is_letter, trim};
 
 // The field at a place, nothing where there is none.

@@ -4,13 +4,13 @@ ghost use Rattle.std.specs.List.{flat_map};
 ghost use Rattle.std.specs.Str.{str_eq_ignore_ascii_case};
 ghost use Rattle.bq_io.specs.Sink.{Writes};
 ghost use Rattle.bq_schema.specs.Streams.{column_names};
-ghost use Rattle.bq_diagnosis.specs.Candidates as told;
+ghost use Rattle.bq_hints.specs.Candidates as told;
 ghost use Rattle.bq_sentences.specs.Sentences as sentences;
 ghost use Rattle.bq_sentences.specs.Sentences.{listed, name_text, there_are, stream_names, next_text};
 
 use crate::texts::{ALIKE, MAY_STAND, THERE_ARE, THERE_IS_NONE};
 use arrayvec::ArrayVec;
-use bq_diagnosis::{Candidate, told_as};
+use bq_hints::{Candidate, told_as};
 use bq_io::{Sink, WriteFault, write_all, write_pieces};
 use bq_schema::{Catalog, ColumnDef};
 use bq_text::Name;

@@ -1,17 +1,17 @@
 //! The sentence of each fault.
 ghost use Rattle.std.specs.Prelude.{◌≡◌, ◌++◌, take, drop};
 ghost use Rattle.bq_io.specs.Sink.{Writes};
-ghost use Rattle.bq_sentences.specs.Hints as hints;
+ghost use Rattle.bq_hints.specs.Hints as hints;
 ghost use Rattle.bq_sentences.specs.Sentences as sentences;
 
-use crate::hints::{Hint, Standing, hint_of, standing_of};
 use crate::lists::write_may_stand;
 use crate::sayings::{
     write_arity, write_around, write_around_names, write_column, write_domain, write_example,
     write_long_name, write_no_column, write_no_stream, write_row_stream, write_value,
 };
 use crate::texts;
-use bq_diagnosis::{Candidate, Fault, Known, front_of, rest_of};
+use bq_diagnosis::{Fault, Known};
+use bq_hints::{Candidate, Hint, Standing, front_of, hint_of, rest_of, standing_of};
 use bq_io::{Sink, WriteFault, write_all};
 use bq_parser::What;
 use bq_schema::Catalog;

@@ -4,7 +4,7 @@ ghost use Rattle.bq_io.specs.Sink.{Writes};
 ghost use Rattle.bq_sentences.specs.Texts as specs;
 
 use arrayvec::ArrayVec;
-use bq_diagnosis::front_of;
+use bq_hints::front_of;
 use bq_io::{Sink, WriteFault, write_pieces};
 
 /// The most bytes of a line that are shown.

@@ -1,43 +1,21 @@
 //! The text of a fault.
-ghost use Rattle.std.specs.Prelude.{◌≡◌, ◌++◌, ◌∷◌, [], codes, decimal};
+ghost use Rattle.std.specs.Prelude.{◌++◌, ◌∷◌, []};
 ghost use Rattle.bq_io.specs.Sink.{Writes};
-ghost use Rattle.bq_reply.specs.Texts as replies;
 ghost use Rattle.bq_sentences.specs.Sentences.{sentence_text};
 ghost use Rattle.bq_sentences.specs.Texts as specs;
 ghost use Rattle.bq_sentences.specs.Texts.{fault_text};
 
 use crate::sentences::write_sentence;
 use crate::shown::{write_mark, write_quoted};
-use bq_diagnosis::{Fault, Known, front_of, place_of, word_of};
+use bq_diagnosis::{Fault, Known, place_of, word_of};
+use bq_hints::front_of;
 use bq_io::{Sink, WriteFault, write_all, write_pieces};
 use bq_parser::classify;
-use bq_reply::Refusal;
+use bq_reply::{Refusal, word_text};
 use itoa::Buffer;
 
 /// The last place that is shown.
 const LAST_SHOWN: u16 = 200;
-
-// The text of a word of refusal.
-fn word_text(word: Refusal) -> &'static [u8]
-    ensures { result.now ≡ replies.word_text word }
-{
-    match word {
-        Refusal::LineTooLong => b"LineTooLong",
-        Refusal::Syntax => b"Syntax",
-        Refusal::Limit => b"Limit",
-        Refusal::Duplicate => b"Duplicate",
-        Refusal::TooMany => b"TooMany",
-        Refusal::UnknownStream => b"UnknownStream",
-        Refusal::UnknownColumn => b"UnknownColumn",
-        Refusal::SelfJoin => b"SelfJoin",
-        Refusal::UnknownQuery => b"UnknownQuery",
-        Refusal::Late => b"Late",
-        Refusal::Arity => b"Arity",
-        Refusal::Value => b"Value",
-        Refusal::Domain => b"Domain",
-        Refusal::RowLimit => b"RowLimit",
-    }
-}
 
 // `line 8: Syntax`
 #[tactic(auto, unfolding(crate::specs::Texts::head_text))]

@@ -1,43 +1,16 @@
 -- Rows that are only counted, one after another.
-use Rattle.std.proofs.Common.{◌≡◌, ℕ, ◌+◌, ◌-◌, ◌^◌, ◌<◌, ◌≤◌, Bool, true, false, List, [], ◌∷◌, ◌++◌, length, take, drop, length-append, length-drop, refl, ap, sym, ◌∙◌, subst, arith}
-use Rattle.std.proofs.lemmas.List.{drop-append-le, drop-drop, length-take}
-use Rattle.bq_feed.specs.Reading.{AreLinesAhead, GivesAll, IsBuffered, IsFirstFeed, Reading}
+use Rattle.std.proofs.Common.{◌≡◌, ℕ, ◌+◌, ◌-◌, ◌^◌, ◌<◌, ◌≤◌, Bool, true, false, List, [], ◌∷◌, ◌++◌, length, take, drop, refl, ap, sym, ◌∙◌, subst, arith}
+use Rattle.std.proofs.lemmas.List.{drop-drop, length-take}
+use Rattle.bq_feed.specs.Reading.{GivesAll, Reading}
 use Rattle.bq_feed.specs.Reading as feed
 use Rattle.bq_feed.proofs.Pieces.{cut-at}
-use Rattle.bq_schema.specs.Streams.{Shape}
-use Rattle.bq_session.specs.Counted.{AreRowsAhead, CountsRows, IsSomeRowAhead, none, more}
-use Rattle.bq_session.specs.Plain.{IsPlainRow}
+use Rattle.bq_rows.specs.Counted as ahead
+use Rattle.bq_rows.specs.Counted.{AreRowsAhead, IsSomeRowAhead}
+use Rattle.bq_session.specs.Counted.{CountsRows, none, more}
+use Rattle.bq_rows.specs.Plain.{IsPlainRow}
 use Rattle.bq_session.specs.Session.{SessionValue}
-use Rattle.bq_session.proofs.RowsAhead.{lies_ahead}
-
--- rows end before the last LF of a text
-rows_within : (streams : List Shape) (text : List ℕ) (count begin end : ℕ) → 0 < length text → AreRowsAhead streams text count begin end → end < length text
-rows_within streams text count begin end some (none c e) = omega (arith, e, some)
-rows_within streams text count begin end some (more before start len h row c e) = omega (arith, e, row.row.before, length-drop begin text)
-
--- rows end in what is ahead, where one LF more stands behind that
-within_ahead : (streams : List Shape) (ahead : List ℕ) (count begin end : ℕ) → AreRowsAhead streams (ahead ++ 10 ∷ []) count begin end → end ≤ length ahead
-within_ahead streams ahead count begin end h =
-    let room : 0 < length (ahead ++ 10 ∷ []) = omega (arith, length-append ahead (10 ∷ [])) in
-    omega (arith, rows_within streams (ahead ++ 10 ∷ []) count begin end room h, length-append ahead (10 ∷ []))
-
--- a row that stands in what is ahead, where one LF more stands behind that
-record Stands (streams : List Shape) (ahead : List ℕ) (place len : ℕ) : Type 0 where
-  feed : IsFirstFeed (drop place ahead) len
-  short : len ≤ 1024
-  row : IsSomeRowAhead streams (drop place ahead ++ 10 ∷ []) len
-
-stands : (streams : List Shape) (ahead : List ℕ) (place len : ℕ) → place ≤ length ahead → IsSomeRowAhead streams (drop place (ahead ++ 10 ∷ [])) len → Stands streams ahead place len
-stands streams ahead place len room h =
-    let is = subst (λ (t : List ℕ). IsSomeRowAhead streams t len) (drop-append-le place ahead (10 ∷ []) room) h in
-    record { feed = (lies_ahead (drop place ahead) len is.row.feed is.row.before).feed; short = is.row.short; row = is }
-
--- rows that are ahead are lines
-pub lines_of : (streams : List Shape) (ahead : List ℕ) (count begin end : ℕ) → AreRowsAhead streams (ahead ++ 10 ∷ []) count begin end → AreLinesAhead ahead count begin end
-lines_of streams ahead count begin end (none c e) = feed.none c e
-lines_of streams ahead count begin end (more before start len h row c e) =
-    let is = stands streams ahead begin len (within_ahead streams ahead before start begin h) row in
-    feed.more before start len (lines_of streams ahead before start begin h) is.feed is.short c e
+use Rattle.bq_rows.proofs.RowsAhead.{lies_ahead}
+use Rattle.bq_rows.proofs.LinesCounted.{stands, within_ahead}
 
 -- what a reader keeps when so many lines were given up to a place, and what a session keeps when so many rows were counted
 abbrev reader_at : Reading → ℕ → ℕ → List ℕ → Reading
@@ -98,12 +71,12 @@ nothing_more : (n : ℕ) → n + 0 ≡ n
 nothing_more n = omega arith
 
 reached : (old : Reading) (k : SessionValue) (count begin end : ℕ) → HaveRoom old k count → AreRowsAhead k.streams (old.ahead ++ 10 ∷ []) count begin end → Reached old k count end
-reached old k count begin end room (none c e) =
+reached old k count begin end room (ahead.none c e) =
     let reader : reader_at old 0 0 old.line ≡ old = ap (λ (n : ℕ). record old { lines = n }) (nothing_more old.lines) in
     let session : session_at k 0 k.began ≡ k = ap (λ (n : ℕ). record k { taken = n; lines = k.lines + 0 }) (nothing_more k.taken) ∙ ap (λ (n : ℕ). record k { lines = n }) (nothing_more k.lines) in
     let at_start : Reached old k 0 0 = record { line = old.line; began = k.began; rows = none reader session } in
     subst (λ n. Reached old k n end) (sym c) (subst (λ n. Reached old k 0 n) (sym e) at_start)
-reached old k count begin end room (more before start len h row c e) =
+reached old k count begin end room (ahead.more before start len h row c e) =
     let inside = within_ahead k.streams old.ahead before start begin h in
     let last : Reached old k (before + 1) (begin + len + 1) = record {
       line = take len (drop begin old.ahead);
@@ -125,8 +98,8 @@ reading_is r s ahead line taken lines ended failed =
 -- the rows at the front of what was ahead were counted
 pub counted_rows : (old new : Reading) (k kept : SessionValue) (count begin end : ℕ) → 0 < count → AreRowsAhead k.streams (old.ahead ++ 10 ∷ []) count begin end → GivesAll old new count begin end
     → length k.registry.live ≡ 0 → k.taken + count ≤ k.limit → kept ≡ record k { taken = k.taken + count; lines = k.lines + count; began = true } → CountsRows old k new kept
-counted_rows old new k kept count begin end some (none c e) gives live room is = absurd (omega (arith, some, c))
-counted_rows old new k kept count begin end some (more before start len h row c e) gives live room is =
+counted_rows old new k kept count begin end some (ahead.none c e) gives live room is = absurd (omega (arith, some, c))
+counted_rows old new k kept count begin end some (ahead.more before start len h row c e) gives live room is =
     let have : HaveRoom old k count = record {
       counted = (omega (arith, gives.counted.0, gives.lines, gives.taken), omega (arith, gives.counted.1, gives.taken));
       ended = gives.ended.0;

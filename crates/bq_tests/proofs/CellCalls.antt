@@ -15,7 +15,7 @@ use Rattle.bq_pool.specs.Extents.{PoolValue, cells_of, with_cells, IsLive}
 use Rattle.bq_pool.proofs.CallerLemmas.{cells_of_with, live_with}
 use Rattle.bq_synopsis.specs.Premises.{IsWalked, IsHeld, AreFitting, HasRoom, row_cell}
 use Rattle.bq_synopsis.specs.Inserting.{cells_with_row}
-use Rattle.bq_probe.specs.Values.{rows_in}
+use Rattle.bq_narrow.specs.Values.{rows_in}
 use Rattle.bq_synopsis.proofs.CallerLemmas.{fits-merged}
 
 -- each cell is empty or a count

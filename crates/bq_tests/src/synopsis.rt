@@ -9,14 +9,15 @@ ghost use Rattle.bq_model.specs.declared.plan.Kind.TheVariants as kinds;
 ghost use Rattle.bq_pool.specs.Extents.{cells_of};
 ghost use Rattle.bq_synopsis.specs.Premises.{IsHeld, IsReady, IsWalked};
 ghost use Rattle.bq_synopsis.specs.Preparing.{IsPrepared};
-ghost use Rattle.bq_probe.specs.Values.{rows_in};
+ghost use Rattle.bq_narrow.specs.Values.{rows_in};
 
 use arrayvec::ArrayVec;
 use bq_model::{
     Atom, Attr, Dim, Element, Kind, Link, Op, PartPlan, Query, Row, Sign, StreamPlan, Tuple,
 };
+use bq_narrow::PartAt;
 use bq_pool::{Pool, Steps};
-use bq_probe::{PartAt, Probe, ProbeScratch};
+use bq_probe::{Probe, ProbeScratch};
 use bq_synopsis::{Admitted, Placement, admits, own_cell, prepare, put_own};
 use std::alloc::{AllocError, Global};
 use std::marker::Brand;

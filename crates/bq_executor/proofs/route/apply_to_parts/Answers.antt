@@ -4,7 +4,7 @@ use Rattle.std.proofs.lemmas.Option.{slice_get-get_or}
 use Rattle.bq_model.specs.declared.plan.PartPlan.{PartPlan}
 use Rattle.bq_model.specs.Meaning.{by_column}
 use Rattle.bq_model.specs.Parts.{pairs}
-use Rattle.bq_synopsis.specs.declared.shift.CellAt.{CellAt}
+use Rattle.bq_index.specs.declared.shift.CellAt.{CellAt}
 use Rattle.bq_index.specs.PartIndex.{buckets_of, row_bucket, IsNext}
 use Rattle.bq_index.specs.Shifts.{StandsAt}
 use Rattle.bq_executor.proofs.Inserting.{part_plan}

@@ -2,7 +2,7 @@ use Rattle.std.proofs.Common.{◌≡◌, ◌-◌, ◌<◌, ◌≤◌, length, ge
 use Rattle.std.specs.Option.{IfSome}
 use Rattle.bq_model.specs.Meaning.{by_column}
 use Rattle.bq_model.specs.Parts.{pairs}
-use Rattle.bq_synopsis.specs.declared.shift.CellAt.{CellAt}
+use Rattle.bq_index.specs.declared.shift.CellAt.{CellAt}
 use Rattle.bq_index.specs.PartIndex.{buckets_of, row_bucket}
 use Rattle.bq_index.specs.Shifts.{StandsAt}
 use Rattle.bq_executor.proofs.PassedOver.{HaveDone}

@@ -1,6 +1,6 @@
 use Rattle.std.proofs.Common.{◌≡◌, ℕ, List, Option, slice_get, Some, sym, subst}
 use Rattle.std.specs.Option.{IfSome}
-use Rattle.bq_synopsis.specs.declared.shift.Shift.{Shift}
+use Rattle.bq_index.specs.declared.shift.Shift.{Shift}
 use Rattle.bq_synopsis.proofs.PrepareLaws.{pushed-length}
 use Rattle.bq_index.specs.Shifts.{IsNextShifted}
 use Rattle.bq_index.proofs.Shifting.{shifts_more}

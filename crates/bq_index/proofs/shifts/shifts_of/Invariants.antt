@@ -1,5 +1,5 @@
 use Rattle.std.proofs.Common.{◌≡◌, ℕ, length, slice_get, Some}
-use Rattle.bq_synopsis.specs.declared.shift.Shift.{Shift}
+use Rattle.bq_index.specs.declared.shift.Shift.{Shift}
 use Rattle.bq_index.specs.Shifts.{IsNextShifted}
 use Rattle.bq_index.proofs.shifts.shifts_of.Given as goal
 

@@ -7,8 +7,5 @@ named-attrs-requires t c =
     let some = c.in-len1-up.len_at_least in
     (omega (arith, length-others c.args.atoms.now some), (omega (arith, attrs_of_others c.args.atoms.now some), omega (arith, consts_of_others c.args.atoms.now some)))
 
-pub put-requires-clause-few_attrs : goal.put-requires-clause-few_attrs
-put-requires-clause-few_attrs t c = rw c.named-attrs.ensures.attrs (attrs_with_right _ _ _ c.in-len1-up.len_at_least c.requires.few_attrs)
-
-pub put-requires-clause-few_consts : goal.put-requires-clause-few_consts
-put-requires-clause-few_consts t c = rw c.named-attrs.ensures.consts (consts_with_right _ _ _ c.in-len1-up.len_at_least c.requires.few_consts)
+pub put_element-requires : goal.put_element-requires
+put_element-requires t c = (omega arith, (omega arith, (rw c.named-attrs.ensures.attrs (attrs_with_right _ _ _ c.in-len1-up.len_at_least c.requires.few_attrs), rw c.named-attrs.ensures.consts (consts_with_right _ _ _ c.in-len1-up.len_at_least c.requires.few_consts))))

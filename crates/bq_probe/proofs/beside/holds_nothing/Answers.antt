@@ -2,7 +2,7 @@ use Rattle.std.proofs.Common.{sym, subst, arith}
 use Rattle.bq_model.specs.Boxes.{AreNumbered}
 use Rattle.bq_model.proofs.BoxLaws.{sound-full}
 use Rattle.bq_pool.specs.Extents.{cells_of}
-use Rattle.bq_probe.specs.Lined.{IsLine}
+use Rattle.bq_narrow.specs.Lined.{IsLine}
 use Rattle.bq_probe.proofs.BesideLaws.{axis-within, axis-empty}
 use Rattle.bq_probe.proofs.beside.holds_nothing.Goals as goal
 

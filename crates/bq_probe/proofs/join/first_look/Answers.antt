@@ -9,7 +9,7 @@ use Rattle.bq_pool.specs.Extents.{cells_of}
 use Rattle.bq_synopsis.specs.Joining.{IsJoinLookup}
 use Rattle.bq_probe.specs.Joining.{are_told, told_values}
 use Rattle.bq_probe.specs.Remaining.{as_found}
-use Rattle.bq_probe.specs.Values.{rows_in}
+use Rattle.bq_narrow.specs.Values.{rows_in}
 use Rattle.bq_probe.proofs.JoinLaws.{nothing-outside, nothing-there, one-there, there-below}
 use Rattle.bq_probe.proofs.StartLaws.{share-some}
 use Rattle.bq_probe.proofs.join.first_look.Goals as goal

@@ -1,7 +1,7 @@
 use Rattle.std.proofs.Common.{◌≡◌, drop}
 use Rattle.std.specs.List.{list_all}
 use Rattle.std.specs.Prelude.{int_lt}
-use Rattle.bq_probe.specs.Values.{value_in}
+use Rattle.bq_narrow.specs.Values.{value_in}
 use Rattle.bq_probe.proofs.links.all_less.Given as goal
 
 abbrev pub invariant-links : goal.invariant-links

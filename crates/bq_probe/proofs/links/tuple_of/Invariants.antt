@@ -1,5 +1,5 @@
 use Rattle.std.proofs.Common.{◌≡◌, take, map}
-use Rattle.bq_probe.specs.Values.{value_in}
+use Rattle.bq_narrow.specs.Values.{value_in}
 use Rattle.bq_probe.proofs.links.tuple_of.Given as goal
 
 abbrev pub invariant-selected : goal.invariant-selected

@@ -13,9 +13,9 @@ use Rattle.bq_pool.specs.declared.pool.Extent.{Extent}
 use Rattle.bq_pool.specs.Extents.{PoolValue, cells_of}
 use Rattle.bq_probe.specs.Beside.{last_beside, IsEmptyBeside}
 use Rattle.bq_probe.specs.Choosing.{start}
-use Rattle.bq_probe.specs.Lined.{AreFixed}
+use Rattle.bq_narrow.specs.Lined.{AreFixed}
 use Rattle.bq_synopsis.specs.Premises.{IsReady, IsLaidOut}
-use Rattle.bq_probe.specs.Walk.{narrowed_dims}
+use Rattle.bq_narrow.specs.Narrowed.{narrowed_dims}
 use Rattle.bq_probe.proofs.BesideLaws.{last-there, nothing-beside}
 use Rattle.bq_probe.proofs.NothingLaws.{first-within, first-empty}
 use Rattle.bq_synopsis.proofs.PlanLaws.{laid-beside}

@@ -1,5 +1,5 @@
 use Rattle.std.proofs.Common.{◌≡◌, map, take}
-use Rattle.bq_probe.specs.Values.{value_in}
+use Rattle.bq_narrow.specs.Values.{value_in}
 use Rattle.bq_probe.proofs.repeats.have_values.Given as goal
 
 abbrev pub invariant-columns : goal.invariant-columns

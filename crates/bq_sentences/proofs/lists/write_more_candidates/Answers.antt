@@ -1,6 +1,6 @@
 use Rattle.std.proofs.Common.{◌++◌, codes}
 use Rattle.bq_explain.proofs.Writers.{item_broke, item_wrote}
-use Rattle.bq_diagnosis.specs.Candidates.{told_as}
+use Rattle.bq_hints.specs.Candidates.{told_as}
 use Rattle.bq_sentences.proofs.lists.write_more_candidates.Goals as goal
 
 pub returns-in_err-write_next : goal.returns-in_err-write_next

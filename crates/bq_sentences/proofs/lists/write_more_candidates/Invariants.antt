@@ -1,7 +1,7 @@
 use Rattle.std.proofs.Common.{take, ◌++◌, codes}
 use Rattle.std.specs.List.{flat_map}
 use Rattle.bq_io.specs.Sink.{Wrote}
-use Rattle.bq_diagnosis.specs.Candidates.{told_as}
+use Rattle.bq_hints.specs.Candidates.{told_as}
 use Rattle.bq_sentences.proofs.lists.write_more_candidates.Given as goal
 
 abbrev pub invariant-loop-candidate : goal.invariant-loop-candidate

@@ -1,6 +1,6 @@
 use Rattle.std.proofs.Common.{◌∙◌}
 use Rattle.bq_session.proofs.Progress.{came-begun}
-use Rattle.bq_session.proofs.RowsAhead.{same_name}
+use Rattle.bq_session.proofs.SameSink.{same_name}
 use Rattle.bq_session.proofs.one_turn.any_turn.Goals as goal
 
 pub returns-in-Given-clause-turned : goal.returns-in-Given-clause-turned

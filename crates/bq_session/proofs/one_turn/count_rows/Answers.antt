@@ -1,6 +1,8 @@
 use Rattle.std.proofs.Common.{List, ℕ, arith, refl, subst}
-use Rattle.bq_session.specs.Counted.{AreRowsAhead, none}
-use Rattle.bq_session.proofs.CountedLines.{counted_rows, lines_of}
+use Rattle.bq_rows.specs.Counted.{AreRowsAhead}
+use Rattle.bq_session.specs.Counted.{none}
+use Rattle.bq_session.proofs.CountedLines.{counted_rows}
+use Rattle.bq_rows.proofs.LinesCounted.{lines_of}
 use Rattle.bq_session.proofs.one_turn.count_rows.Goals as goal
 
 pub returns-then-not-has_no_query : goal.returns-then-not-has_no_query

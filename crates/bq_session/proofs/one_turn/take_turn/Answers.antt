@@ -1,6 +1,7 @@
 use Rattle.std.proofs.Common.{false, refl, ◌∙◌}
 use Rattle.bq_session.specs.Fetched.{buffered}
-use Rattle.bq_session.proofs.RowsAhead.{first_ahead, row_line, same_name}
+use Rattle.bq_rows.proofs.RowsAhead.{first_ahead, row_line}
+use Rattle.bq_session.proofs.SameSink.{same_name}
 use Rattle.bq_session.proofs.one_turn.take_turn.Goals as goal
 
 pub give_line-requires-clause-feed : goal.give_line-requires-clause-feed

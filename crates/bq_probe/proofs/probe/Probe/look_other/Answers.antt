@@ -1,7 +1,7 @@
 use Rattle.std.proofs.Common.{◌≡◌, ◌∙◌, ap, refl, subst, length}
 use Rattle.bq_model.specs.Boxes.{box_size}
-use Rattle.bq_probe.specs.Lined.{StandOn}
-use Rattle.bq_probe.specs.Walk.{narrowed_dims}
+use Rattle.bq_narrow.specs.Lined.{StandOn}
+use Rattle.bq_narrow.specs.Narrowed.{narrowed_dims}
 use Rattle.bq_probe.proofs.probe.Probe.look_other.Goals as goal
 
 pub returns : goal.returns

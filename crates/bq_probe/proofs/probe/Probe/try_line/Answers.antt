@@ -6,13 +6,14 @@ use Rattle.bq_model.specs.Combinations.{read_from}
 use Rattle.bq_model.proofs.BoxLaws.{values-inside}
 use Rattle.bq_pool.specs.Extents.{cells_of}
 use Rattle.bq_probe.specs.declared.probe.Probe.{Probe}
-use Rattle.bq_probe.specs.Values.{rows_in}
+use Rattle.bq_narrow.specs.Values.{rows_in}
 use Rattle.bq_probe.specs.Choosing.{cell_in}
 use Rattle.bq_probe.specs.Costs.{reads, turns, tried_size, read_at}
 use Rattle.bq_synopsis.specs.Premises.{IsLaidOut}
 use Rattle.bq_probe.specs.Remaining.{limit, dims_now}
 use Rattle.bq_synopsis.proofs.PlanLaws.{laid-beside}
-use Rattle.bq_probe.proofs.StepLaws.{inside-narrowed, light-cell, line-within, line-cell, passed-left, passed-cost, past-outer, entered-left, entered-long, entered-cost, few-candidates, read-beside}
+use Rattle.bq_narrow.proofs.DimLaws.{inside-narrowed}
+use Rattle.bq_probe.proofs.StepLaws.{light-cell, line-within, line-cell, passed-left, passed-cost, past-outer, entered-left, entered-long, entered-cost, few-candidates, read-beside}
 use Rattle.bq_probe.proofs.UnderwayLaws.{numbered}
 use Rattle.bq_probe.proofs.probe.Probe.try_line.Goals as goal
 

@@ -4,14 +4,16 @@ use Rattle.bq_model.specs.declared.plan.Dim.{Dim}
 use Rattle.bq_model.proofs.BoxLaws.{values-inside}
 use Rattle.bq_model.specs.Combinations.{read_from}
 use Rattle.bq_pool.specs.Extents.{cells_of}
-use Rattle.bq_probe.specs.Values.{rows_in}
-use Rattle.bq_probe.specs.Choosing.{setting, dims_in, cell_in}
+use Rattle.bq_narrow.specs.Values.{rows_in}
+use Rattle.bq_probe.specs.Choosing.{setting, cell_in}
+use Rattle.bq_narrow.specs.Narrowed.{dims_in}
 use Rattle.bq_probe.specs.Walk.{left}
 use Rattle.bq_probe.specs.Remaining.{limit, dims_now}
 use Rattle.bq_probe.specs.Costs.{reads, turns, tried_size, read_at}
 use Rattle.bq_synopsis.proofs.PlanLaws.{laid-beside}
 use Rattle.bq_probe.proofs.WalkLaws.{left-empty}
-use Rattle.bq_probe.proofs.StepLaws.{inside-narrowed, few-candidates, candidate, paid-exactly, paid-enough, entered-left, entered-long, entered-cost, cost-of-next, light-cell}
+use Rattle.bq_narrow.proofs.DimLaws.{inside-narrowed}
+use Rattle.bq_probe.proofs.StepLaws.{few-candidates, candidate, paid-exactly, paid-enough, entered-left, entered-long, entered-cost, cost-of-next, light-cell}
 use Rattle.bq_probe.proofs.UnderwayLaws.{numbered}
 use Rattle.bq_probe.proofs.probe.Probe.try_one.Goals as goal
 

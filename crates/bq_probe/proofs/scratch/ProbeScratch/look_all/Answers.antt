@@ -1,9 +1,9 @@
 use Rattle.std.proofs.Common.{◌≡◌, ◌<◌, List, length, sym, ap, ◌∙◌, subst, map}
 use Rattle.bq_model.specs.Boxes.{box_size, AreNumbered, AreInside}
 use Rattle.bq_model.specs.Plan.{dims_at}
-use Rattle.bq_probe.specs.declared.binding.Binding.{Binding}
-use Rattle.bq_probe.specs.Walk.{narrowed_dims}
-use Rattle.bq_probe.proofs.StepLaws.{sound-narrowed, low-narrowed}
+use Rattle.bq_narrow.specs.declared.binding.Binding.{Binding}
+use Rattle.bq_narrow.specs.Narrowed.{narrowed_dims}
+use Rattle.bq_narrow.proofs.DimLaws.{sound-narrowed, low-narrowed}
 use Rattle.bq_probe.proofs.scratch.ProbeScratch.look_all.Goals as goal
 
 pub size_of-size-requires : goal.size_of-size-requires

@@ -2,11 +2,11 @@ use Rattle.std.proofs.Common.{◌≡◌, ◌∙◌, ℕ, List, length, sym, ap, 
 use Rattle.bq_model.specs.Boxes.{box_size}
 use Rattle.bq_model.specs.Plan.{stream_at, dims_at}
 use Rattle.bq_model.specs.declared.plan.Dim.{Dim}
-use Rattle.bq_probe.specs.declared.binding.Binding.{Binding}
+use Rattle.bq_narrow.specs.declared.binding.Binding.{Binding}
 use Rattle.bq_pool.specs.declared.scan.StridedCells.{StridedCells}
-use Rattle.bq_probe.specs.Lined.{IsLine}
-use Rattle.bq_probe.specs.Walk.{narrowed_dims}
-use Rattle.bq_probe.proofs.FixedLaws.{line-one}
+use Rattle.bq_narrow.specs.Lined.{IsLine}
+use Rattle.bq_narrow.specs.Narrowed.{narrowed_dims}
+use Rattle.bq_narrow.proofs.FixedLaws.{line-one}
 use Rattle.bq_probe.proofs.scratch.ProbeScratch.look_fixed.Goals as goal
 
 pub returns-clause-fixed : goal.returns-clause-fixed

@@ -2,10 +2,10 @@ use Rattle.std.proofs.Common.{◌≡◌, ◌≢◌, ◌∙◌, length, sym, ap, 
 use Rattle.bq_model.specs.Plan.{stream_at}
 use Rattle.bq_model.specs.declared.plan.StreamPlan.{StreamPlan}
 use Rattle.std.specs.Prelude.{Some}
-use Rattle.bq_probe.specs.Lined.{StandOn}
+use Rattle.bq_narrow.specs.Lined.{StandOn}
 use Rattle.bq_synopsis.specs.Pinning.{IsWhole}
-use Rattle.bq_probe.specs.Walk.{narrowed_dims}
-use Rattle.bq_probe.proofs.AccessLaws.{whole-dims, whole-size, whole-line}
+use Rattle.bq_narrow.specs.Narrowed.{narrowed_dims}
+use Rattle.bq_narrow.proofs.AccessLaws.{whole-dims, whole-size, whole-line}
 use Rattle.bq_probe.proofs.scratch.ProbeScratch.look_whole.Goals as goal
 
 pub returns-clause-whole : goal.returns-clause-whole

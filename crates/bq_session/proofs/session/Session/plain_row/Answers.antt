@@ -1,5 +1,5 @@
 use Rattle.std.proofs.Common.{sym, ap, subst, ◌+◌}
-use Rattle.bq_session.specs.Plain.{IsPlainRow}
+use Rattle.bq_rows.specs.Plain.{IsPlainRow}
 use Rattle.bq_session.specs.Session.{SessionValue, StandsFor}
 use Rattle.bq_session.proofs.Standing.{plain_asks}
 use Rattle.bq_session.proofs.session.Session.plain_row.Goals as goal

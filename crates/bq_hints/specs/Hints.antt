@@ -1,0 +1,197 @@
+-- What a statement most likely meant where it leaves the grammar, and what stands there.
+use Rattle.std.specs.Prelude.{ℕ, ◌-◌, Bool, true, false, not, ◌&&◌, ◌||◌, ◌==◌, List, [], ◌∷◌, length, drop, if◌then◌else◌, is_some, codes, Option, Some, None}
+use Rattle.std.specs.List.{list_any}
+use Rattle.std.specs.Option.{option_or}
+use Rattle.std.specs.Str.{str_eq_ignore_ascii_case}
+use Rattle.bq_text.specs.Blank.{trimmed}
+use Rattle.bq_text.specs.Word.{is_letter, word_of}
+use Rattle.bq_text.specs.Key.{key_of}
+use Rattle.bq_schema.specs.Streams.{Shape, stream_number}
+use Rattle.bq_hints.specs.declared.candidates.Candidate.{Candidate}
+use Rattle.bq_hints.specs.Groups.{is_name, is_column, is_comparison, is_operand, is_behind_operand, is_interval, is_domain, is_where, is_comma, is_create}
+use Rattle.bq_hints.specs.declared.hints.Hint.{Hint}
+use Rattle.bq_hints.specs.declared.hints.Hint.TheVariants.{ByteOrderMark, Quoted, Unequal, Star, AtMost, AtLeast, Equal, Decimal, Or, BareColumn, ReservedName, BareRow, Comment, Interval, Arithmetic, Hyphen, CommaAtEnd, Function, Parenthesis, Negation, Between, Pattern, Null, Order, Join, Clause, Choice, BareQuery, Alias, Typed, Chained, Streamless}
+use Rattle.bq_hints.specs.declared.hints.Standing.{Standing}
+use Rattle.bq_hints.specs.declared.hints.Standing.TheVariants as standing
+use Rattle.bq_hints.specs.Bytes.{byte_at, last_byte, is_digit, is_quote, is_sign, begins_integer}
+
+-- whether nothing stands there
+abbrev pub is_empty : {X : Type 0} → List X → Bool
+is_empty [] = true
+is_empty (x ∷ xs) = false
+
+-- the sign of two bytes that is written in the other order or once, by its second byte
+abbrev pub sign_behind_equal : ℕ → Option Hint
+sign_behind_equal b = if b == 60 then Some AtMost else (if b == 62 then Some AtLeast else (if b == 61 then Some Equal else None))
+
+-- a comment by its first two bytes: `#`, `//`, `/*` or `--`
+abbrev pub begins_comment : ℕ → ℕ → Bool
+begins_comment first second = first == 35 || ((first == 47 && (second == 47 || second == 42)) || (first == 45 && second == 45))
+
+-- the sign of a sum, difference, product, quotient or remainder
+abbrev pub is_operator : ℕ → Bool
+is_operator b = b == 43 || b == 45 || b == 42 || b == 47 || b == 37
+
+-- whether a name or an integer ends with a byte, and the sign behind it can be no hyphen
+abbrev pub ends_operand : ℕ → ℕ → Bool
+ends_operand before first = not (first == 45) && (is_letter before || is_digit before)
+
+-- whether arithmetic stands there: such a sign behind or before a side of a comparison, and where the statement goes wrong before it, behind a name or an integer
+abbrev pub is_arithmetic : ℕ → ℕ → List Candidate → Bool
+is_arithmetic before first next =
+    if is_empty next then is_operator first && ends_operand before first else is_operator first && (list_any is_behind_operand next || list_any is_operand next)
+
+-- whether the sign of a comparison begins so
+abbrev pub is_relation : ℕ → Bool
+is_relation b = b == 60 || b == 61 || b == 62
+
+-- whether a comparison has ended: what follows may stand there, and neither a sign nor a comma
+abbrev pub ends_comparison : List Candidate → Bool
+ends_comparison next = if list_any is_comparison next || list_any is_comma next then false else list_any is_behind_operand next
+
+-- whether a comparison goes on with a third side
+abbrev pub is_chained : ℕ → List Candidate → Bool
+is_chained first next = is_relation first && ends_comparison next
+
+-- what is meant by `*`: a function where it stands behind a parenthesis, a column without its stream where it stands behind one, and else all columns
+abbrev pub star_hint : ℕ → List Candidate → Hint
+star_hint before next = if before == 40 then Function else (if list_any is_column next then BareColumn else Star)
+
+-- what is meant by an opening parenthesis
+abbrev pub opening_hint : List Candidate → Option Hint
+opening_hint next =
+    if list_any is_column next then Some Function else
+    (if list_any is_operand next then (if list_any is_name next then Some Parenthesis else Some Interval) else None)
+
+-- what is meant by a sign that a name or an integer may have around it
+abbrev pub mark_hint : ℕ → ℕ → ℕ → List Candidate → Option Hint
+mark_hint before first second next =
+    if first == 42 then Some (star_hint before next) else
+    (if (first == 45) && not (is_digit second) then Some Hyphen else
+    (if ((first == 46) && is_digit before) && is_digit second then Some Decimal else
+    (if (before == 44) && (first == 41) then Some CommaAtEnd else
+    (if first == 40 then opening_hint next else
+    (if before == 61 then sign_behind_equal first else None)))))
+
+-- what is meant by the byte before the place, the first and second there, and what may stand there
+abbrev pub sign_hint : ℕ → ℕ → ℕ → List Candidate → Option Hint
+sign_hint before first second next =
+    if (first == 239) && (second == 187) then Some ByteOrderMark else
+    (if is_quote first then Some Quoted else
+    (if first == 33 then Some Unequal else
+    (if begins_comment first second then Some Comment else
+    (if list_any is_interval next then Some Interval else
+    (if is_arithmetic before first next then Some Arithmetic else
+    (if is_chained first next then Some Chained else mark_hint before first second next))))))
+
+-- whether a word is this one, in any case of letters
+abbrev pub is_word : List ℕ → List ℕ → Bool
+is_word w text = str_eq_ignore_ascii_case w text
+
+-- the word OR, in any case of letters
+abbrev pub is_or : List ℕ → Bool
+is_or w = is_word w (codes "OR")
+
+-- a word by which streams are joined elsewhere
+unfoldable pub is_join : List ℕ → Bool
+is_join w = is_word w (codes "JOIN") || is_word w (codes "INNER") || is_word w (codes "LEFT") || is_word w (codes "ON")
+
+-- a word that begins a clause of queries elsewhere
+unfoldable pub is_clause : List ℕ → Bool
+is_clause w = is_word w (codes "ORDER") || is_word w (codes "GROUP") || is_word w (codes "HAVING") || is_word w (codes "LIMIT") || is_word w (codes "WINDOW")
+
+-- what is meant by a word alone
+unfoldable pub spelled_hint : List ℕ → Option Hint
+spelled_hint w =
+    if is_word w (codes "BETWEEN") then Some Between else
+    (if is_word w (codes "LIKE") then Some Pattern else
+    (if is_word w (codes "IS") then Some Null else
+    (if is_word w (codes "SHARED") then Some Order else
+    (if is_join w then Some Join else
+    (if is_clause w then Some Clause else None)))))
+
+-- whether a list ends there: FROM or WHERE
+unfoldable pub ends_list : List ℕ → Bool
+ends_list w = is_word w (codes "FROM") || is_word w (codes "WHERE")
+
+-- what is meant by a reserved word, the byte before it, and what may stand there
+unfoldable pub reserved_hint : List ℕ → ℕ → List Candidate → Option Hint
+reserved_hint w before next =
+    if is_word w (codes "IN") && list_any is_comparison next then Some Choice else
+    (if is_word w (codes "SELECT") && list_any is_create next then Some BareQuery else
+    (if is_word w (codes "AS") && list_any is_comma next then Some Alias else
+    (if (before == 44) && ends_list w then Some CommaAtEnd else
+    (if list_any is_name next then Some ReservedName else None))))
+
+-- what is meant by a word that is not reserved, and what may stand there
+abbrev pub other_hint : List Candidate → Option Hint
+other_hint next = if list_any is_domain next then Some Typed else (if list_any is_where next then Some Alias else None)
+
+-- what is meant by a word that stands there, and what may stand there; nothing where no word does
+abbrev pub placed_hint : List ℕ → ℕ → List Candidate → Option Hint
+placed_hint w before next = if is_empty w then None else (if is_some (key_of w) then reserved_hint w before next else other_hint next)
+
+-- whether a text ends with the word NOT behind a space
+unfoldable pub ends_with_not : List ℕ → Bool
+ends_with_not text = is_word (drop (length text - 4) text) (codes " NOT")
+
+-- whether a column is missed behind NOT
+abbrev pub is_negated : List ℕ → List Candidate → Bool
+is_negated front next = list_any is_column next && ends_with_not (trimmed front)
+
+-- the word NOT, in any case of letters
+abbrev pub is_not : List ℕ → Bool
+is_not w = is_word w (codes "NOT")
+
+-- what is meant by OR behind a comparison, and by NOT behind a side of one
+abbrev pub logical_hint : List ℕ → List Candidate → Option Hint
+logical_hint word next =
+    if is_or word && list_any is_behind_operand next then Some Or else (if is_not word && list_any is_comparison next then Some Negation else None)
+
+-- what is meant by the word at the place, the byte before it, and what may stand there
+abbrev pub word_hint : List ℕ → ℕ → List Candidate → Option Hint
+word_hint word before next =
+    option_or (logical_hint word next)
+    (if list_any is_column next then Some BareColumn else
+    (option_or (spelled_hint word) (placed_hint word before next)))
+
+-- the word INSERT, in any case of letters
+abbrev pub is_insert : List ℕ → Bool
+is_insert w = is_word w (codes "INSERT")
+
+-- whether a word is the name of a stream, or INSERT
+abbrev pub begins_row : List ℕ → List Shape → Bool
+begins_row word streams = if is_insert word then true else is_some (stream_number streams word)
+
+-- whether a row begins with its integers
+abbrev pub begins_integers : ℕ → ℕ → Bool
+begins_integers first second = first == 44 || begins_integer first second
+
+-- what is meant where a line begins so, by its first two bytes and its word
+abbrev pub begun_hint : ℕ → ℕ → List ℕ → List Shape → Option Hint
+begun_hint first second word streams = if begins_row word streams then Some BareRow else (if begins_integers first second then Some Streamless else None)
+
+-- what is meant where a line begins as a row does
+abbrev pub row_hint : List ℕ → List ℕ → List Shape → Option Hint
+row_hint front rest streams = if is_empty front then begun_hint (byte_at rest 0) (byte_at rest 1) (word_of rest) streams else None
+
+-- what is meant: by signs, by the streams, and by words
+abbrev pub placed_by : List ℕ → List ℕ → List Candidate → List Shape → Option Hint
+placed_by front rest next streams =
+    option_or (sign_hint (last_byte (trimmed front)) (byte_at rest 0) (byte_at rest 1) next)
+    (option_or (row_hint front rest streams) (word_hint (word_of rest) (last_byte (trimmed front)) next))
+
+-- what is meant, by what stands before the place and from there on, and by what may stand there
+abbrev pub hint_of : List ℕ → List ℕ → List Candidate → List Shape → Option Hint
+hint_of front rest next streams = if is_negated front next then Some Negation else placed_by front rest next streams
+
+-- what stands at the front of a text that is not empty, by its first two bytes and its word
+abbrev pub standing_by : ℕ → ℕ → List ℕ → Standing
+standing_by first second word =
+    if is_letter first then (if is_some (key_of word) then standing.Reserved else standing.Word) else
+    (if begins_integer first second then standing.Integer else
+    (if is_sign first then standing.Sign else standing.Strange))
+
+-- what stands at the front of a text
+abbrev pub standing_of : List ℕ → Standing
+standing_of rest = if is_empty rest then standing.End else standing_by (byte_at rest 0) (byte_at rest 1) (word_of rest)

@@ -1,0 +1,4 @@
+pub mod Bytes
+pub mod Candidates
+pub mod Groups
+pub mod Hints

@@ -1,0 +1,7 @@
+use Rattle.std.proofs.Common.{refl}
+use Rattle.bq_rows.proofs.RowsCounted.{some_negative}
+use Rattle.bq_rows.proofs.counted_row.negative_end.Goals as goal
+
+pub returns : goal.returns
+returns c =
+    some_negative c.args.text.now c.args.start c.digits_end-end.result c.digits_end-end.ensures.end c.digits_end-end.ensures.within c.if-text-start-ne45.false (c.if-not-are_short.ensures refl)

@@ -1,0 +1,163 @@
+//! Rows that are only counted, since no query is live and no column of their stream has a domain. Their values are not formed.
+ghost use Rattle.std.specs.Prelude.{◌≡◌, ℤ, List, ◌+◌, ◌≤◌, ◌<◌, length, drop, true, IfSome, IsTrue};
+ghost use Rattle.std.specs.List.{All, prefix_len};
+ghost use Rattle.bq_schema.specs.Streams.{HasEnds, lie_within};
+ghost use Rattle.bq_text.specs.Word.{is_digit};
+ghost use Rattle.bq_rows.specs.Ahead.{IsEnded};
+ghost use Rattle.bq_rows.specs.Counted.{AreRowsAhead, HasFields, IsSomeInteger, IsSomeRowAhead};
+
+use crate::fast_row::above_zero;
+use crate::row_ahead::{are_short, line_len, stream_ahead};
+use crate::starts::Starts;
+use bq_schema::{Catalog, Columns};
+
+// Where the digits from a place of a text on end. Two are looked at in a turn, which is one step of the place for both.
+fn digits_end(text: &[u8], start: usize) -> usize
+    requires ended { IsEnded text.now }
+    requires here { start < length text.now }
+    ensures end { result ≡ start + prefix_len is_digit (drop start text.now) }
+    ensures within { result < length text.now }
+{
+    let mut place = start;
+    'digits: loop {
+        if 9 < above_zero(text[place]) {
+            return place;
+        }
+        if 9 < above_zero(text[place + 1]) {
+            return place + 1;
+        }
+        place += 2;
+    }
+}
+
+// The place behind the integer at a place of a text, where it is a minus and at most 18 digits. It is not inlined, so that a value
+// without a minus pays nothing for it.
+#[cold]
+#[inline(never)]
+#[tactic(auto, using(crate::proofs::NamesAhead::behind_minus))]
+fn negative_end(text: &[u8], start: usize) -> Option<usize>
+    requires ended { IsEnded text.now }
+    requires here { start < length text.now }
+    ensures { IfSome result (λ end. IsSomeInteger text.now start end) }
+{
+    if text[start] != b'-' {
+        return None;
+    }
+    let end = digits_end(text, start + 1);
+    if !are_short(end - start - 1) {
+        return None;
+    }
+    Some(end)
+}
+
+// The place behind the integer at a place of a text, where it is at most 18 digits, with a minus or no sign before them.
+#[inline(always)]
+fn integer_end(text: &[u8], start: usize) -> Option<usize>
+    requires ended { IsEnded text.now }
+    requires here { start < length text.now }
+    ensures { IfSome result (λ end. IsSomeInteger text.now start end) }
+{
+    let end = digits_end(text, start);
+    if !are_short(end - start) {
+        return negative_end(text, start);
+    }
+    Some(end)
+}
+
+// The place behind the last of so many integers between commas from a place of a text on, where there are just so many, each a minus or
+// no sign and at most 18 digits.
+fn fields_end(width: usize, text: &[u8], start: usize) -> Option<usize>
+    requires ended { IsEnded text.now }
+    requires here { start < length text.now }
+    ensures { IfSome result (λ end. HasFields text.now start end width) }
+{
+    let mut place = start;
+    let mut read = 0;
+    'fields: while read < width {
+        let Some(end) = integer_end(text, place) else {
+            return None;
+        };
+        read += 1;
+        if text[end] != b',' {
+            return if read == width { Some(end) } else { None };
+        }
+        place = end + 1;
+    }
+    None
+}
+
+// The least integer of 64 bits, for each column.
+const LEAST: [i64; 8] = [i64::MIN; 8];
+
+// Whether no column has a domain. The least integer of 64 bits lies in none, since the ends of a domain have at most 15 digits.
+fn have_no_domain(columns: &Columns) -> bool
+    requires few { length columns.now ≤ 8 }
+    requires domains { All (λ c. HasEnds c.domain) columns.now }
+    ensures { IsTrue result → (values : List ℤ) → length values ≡ length columns.now → lie_within columns.now values ≡ true }
+{
+    columns.keep(&LEAST[..columns.as_slice().len()])
+}
+
+// The length of the first line of a text, where that line is a row of a stream of which no column has a domain, written
+// without blanks and plus signs, with at most 18 digits a value. One CR may stand at its end. The last byte of the text is LF, and is not the
+// one that ends the line.
+#[inline(always)]
+fn counted_row_ahead(catalog: &Catalog, starts: &Starts, text: &[u8]) -> Option<usize>
+    requires ended { IsEnded text.now }
+    ensures { IfSome result (λ len. IsSomeRowAhead catalog.now text.now len) }
+{
+    let Some(found) = stream_ahead(catalog, starts, text) else {
+        return None;
+    };
+    let (stream, start) = found;
+    let columns = catalog.columns(stream);
+    if !have_no_domain(columns) {
+        return None;
+    }
+    let Some(end) = fields_end(columns.as_slice().len(), text, start) else {
+        return None;
+    };
+    let Some(len) = line_len(text, end) else {
+        return None;
+    };
+    if text.len() <= len + 1 {
+        return None;
+    }
+    Some(len)
+}
+
+/// Rows that stand one after another at the front of a text: how many they are, where the last one begins, and where its line ends.
+#[derive(Clone, Copy, Debug, PartialEq, Eq)]
+pub struct CountedRows {
+    pub count: u64,
+    pub begin: usize,
+    pub end: usize,
+}
+
+/// Returns the rows at the front of a text, so many at most, of streams of which no column has a domain, each written without blanks
+/// and plus signs. The last byte of the text is LF, and is not the one that ends a row.
+#[inline(never)] // called once for many rows, and its loop then has all registers
+pub fn counted_rows_ahead(catalog: &Catalog, starts: &Starts, text: &[u8], most: u64) -> CountedRows
+    requires ended { IsEnded text.now }
+    ensures rows { AreRowsAhead catalog.now text.now result.count result.begin result.end }
+    ensures few { result.count ≤ most }
+{
+    let mut rows = CountedRows {
+        count: 0,
+        begin: 0,
+        end: 0,
+    };
+    'counting: while rows.count < most {
+        match counted_row_ahead(catalog, starts, text.split_at(rows.end).1) {
+            Some(len) => {
+                rows = CountedRows {
+                    count: rows.count + 1,
+                    begin: rows.end,
+                    end: rows.end + len + 1,
+                };
+            }
+            None => return rows,
+        }
+    }
+    rows
+}

@@ -1,0 +1,16 @@
+//! Rows as they mostly come, read straight from text: the name of a stream, and integers behind commas, without a blank, each in the domain
+//! of its column.
+//!
+//! `read_plain` reads such a line, `read_row_ahead` the first line of a longer text, before its LF is looked for, and `counted_rows_ahead`
+//! counts rows whose values nobody wants, many in a call. What they do not take is no error, but left to be read as a line in general.
+#![tactic(auto)]
+
+mod counted_row;
+mod fast_row;
+mod row_ahead;
+mod starts;
+
+pub use counted_row::{CountedRows, counted_rows_ahead};
+pub use fast_row::read_plain;
+pub use row_ahead::read_row_ahead;
+pub use starts::Starts;

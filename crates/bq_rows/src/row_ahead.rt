@@ -1,0 +1,296 @@
+//! Rows as they mostly come, read straight from what a reader has ahead. The last byte of such a text is LF, so that names and digits end
+//! before it, and no place is compared with a length.
+ghost use Rattle.std.specs.Prelude.{◌≡◌, ℕ, slice_index, [], ◌+◌, ◌*◌, ◌≤◌, ◌<◌, ◌^◌, length, take, drop, false, IfSome, IsTrue, MatchOption};
+ghost use Rattle.std.specs.List.{prefix_len, slice_range, slice_split};
+ghost use Rattle.std.specs.declared.result.Result.TheVariants.{Ok};
+ghost use Rattle.bq_schema.specs.Rows.{IsNamed, entry, is_comma, is_named, row_with};
+ghost use Rattle.bq_schema.specs.Streams.{IsName, KeepsDomains, shape_at};
+ghost use Rattle.bq_text.specs.Value.{amount};
+ghost use Rattle.bq_text.specs.Word.{is_digit};
+ghost use Rattle.bq_rows.specs.Ahead.{AddsAt, AreFields, BeginsStream, EndsLine, FieldsTo, IsEnded, IsRowAhead};
+
+use crate::fast_row::{above_zero, add_amount, add_any, add_opposite, begins_integer};
+use crate::starts::Starts;
+use bq_model::Row;
+use bq_schema::Catalog;
+
+// How many bytes a name and the comma behind it have, where a text begins with them.
+fn named_len(text: &[u8], name: &[u8]) -> Option<usize>
+    requires ended { IsEnded text.now }
+    requires name { IsName name.now }
+    ensures { MatchOption result (is_named name.now text.now ≡ false) (λ len. (len ≡ length name.now + 1) × (len < length text.now) × IsNamed name.now text.now (drop len text.now)) }
+{
+    if text[0] != name[0] {
+        return None;
+    }
+    let mut place = 1;
+    'comparing: while place < name.len() {
+        if text[place] != name[place] {
+            return None;
+        }
+        place += 1;
+    }
+    if text[place] != b',' {
+        return None;
+    }
+    Some(place + 1)
+}
+
+// The number of the stream with whose name and a comma a text begins, where that is this number or above. It is not inlined, so that a
+// row of the first stream whose name begins so pays nothing for it.
+#[cold]
+#[inline(never)]
+fn later_stream_ahead(catalog: &Catalog, first: u8, text: &[u8]) -> Option<u8>
+    requires { IsEnded text.now }
+    ensures begins { IfSome result (λ stream. BeginsStream catalog.now text.now stream (length (shape_at catalog.now stream).name + 1)) }
+    ensures inside { IfSome result (λ stream. stream < length catalog.now) }
+{
+    for stream in first..catalog.len() {
+        let name = catalog.stream_name(stream).bytes();
+        if let Some(_len) = named_len(text, name) {
+            return Some(stream);
+        }
+    }
+    None
+}
+
+// The number of the stream with whose name and a comma a text begins, and where what stands behind that comma begins. It looks first at
+// the first stream whose name begins with the same byte, and at none where there is no such name.
+pub(crate) fn stream_ahead(catalog: &Catalog, starts: &Starts, text: &[u8]) -> Option<(u8, usize)>
+    requires { IsEnded text.now }
+    ensures { IfSome result (λ found. BeginsStream catalog.now text.now found.0 found.1) }
+{
+    let stream = starts.of(text[0]);
+    if catalog.len() <= stream {
+        return None;
+    }
+    let name = catalog.stream_name(stream).bytes();
+    match named_len(text, name) {
+        Some(len) => Some((stream, len)),
+        None => match later_stream_ahead(catalog, stream, text) {
+            Some(later) => Some((later, catalog.stream_name(later).bytes().len() + 1)),
+            None => None,
+        },
+    }
+}
+
+// The amount with one digit more behind it, where the amount has at most 18 digits.
+fn with_digit(amount: u64, digit: u64) -> u64
+    ensures { amount < 10 ^ 18 → digit ≤ 9 → result ≡ amount * 10 + digit }
+{
+    amount.wrapping_mul(10).wrapping_add(digit)
+}
+
+// The amount that the digits from a place of a text on write, where these are at most 19, and how many they are.
+fn digits_at(text: &[u8], start: usize) -> (u64, usize)
+    requires ended { IsEnded text.now }
+    requires here { start < length text.now }
+    ensures len { result.1 ≡ prefix_len is_digit (drop start text.now) }
+    ensures within { start + result.1 < length text.now }
+    ensures amount { result.1 ≤ 19 → result.0 ≡ amount (take result.1 (drop start text.now)) }
+    ensures small { result.1 ≤ 18 → result.0 < 10 ^ 18 }
+{
+    let mut amount: u64 = 0;
+    let mut len = 0;
+    'digits: loop {
+        let digit = above_zero(text[start + len]);
+        if 9 < digit {
+            return (amount, len);
+        }
+        amount = with_digit(amount, digit);
+        len += 1;
+    }
+}
+
+// Whether so many digits are some and at most 18, so that their amount is an integer of 64 bits whatever they are.
+pub(crate) fn are_short(digits: usize) -> bool
+    ensures { IsTrue result → (0 < digits) × (digits ≤ 18) }
+{
+    digits.wrapping_sub(1) < 18
+}
+
+// Whether so many digits are some and at most 19, and their amount is an integer of 64 bits.
+fn are_few(digits: usize, amount: u64) -> bool
+    ensures { IsTrue result → (0 < digits) × (digits ≤ 19) × (amount < 2 ^ 63) }
+{
+    0 < digits && digits <= 19 && amount < 1 << 63
+}
+
+// Adds the integer at a place of a text to a row, and gives the place behind it, where one of 64 bits and of at most 24 bytes is there.
+#[cold]
+#[inline(never)]
+fn add_any_at(row: &mut Row, text: &[u8], start: usize) -> Option<usize>
+    requires room { length row.old.items < 8 }
+    requires here { start < length text.now }
+    ensures { IfSome result (λ end. AddsAt text.now start end row.old.items row.new.items) }
+{
+    let len = add_any(row, text.split_at(start).1);
+    if len == 0 || 24 < len || text.len() - start <= len {
+        return None;
+    }
+    Some(start + len)
+}
+
+// The same, at once where at most 19 digits stand behind the minus that is at the place.
+#[tactic(auto, using(crate::proofs::NamesAhead::behind_minus))]
+fn add_negative_at(row: &mut Row, text: &[u8], start: usize) -> Option<usize>
+    requires room { length row.old.items < 8 }
+    requires ended { IsEnded text.now }
+    requires here { start < length text.now }
+    requires minus { slice_index text.now start ≡ 45 }
+    ensures { IfSome result (λ end. AddsAt text.now start end row.old.items row.new.items) }
+{
+    let (amount, digits) = digits_at(text, start + 1);
+    if !are_few(digits, amount) {
+        return add_any_at(row, text, start);
+    }
+    add_opposite(row, amount);
+    Some(start + 1 + digits)
+}
+
+// The same, at once where the integer has no plus and at most 19 digits.
+fn add_integer_at(row: &mut Row, text: &[u8], start: usize) -> Option<usize>
+    requires room { length row.old.items < 8 }
+    requires ended { IsEnded text.now }
+    requires here { start < length text.now }
+    ensures { IfSome result (λ end. AddsAt text.now start end row.old.items row.new.items) }
+{
+    if text[start] == b'-' {
+        return add_negative_at(row, text, start);
+    }
+    let (amount, digits) = digits_at(text, start);
+    if !are_few(digits, amount) {
+        return add_any_at(row, text, start);
+    }
+    add_amount(row, amount);
+    Some(start + digits)
+}
+
+// Puts the integers between commas from a place of a text on behind the values of a row, where there are just so many with these, at most
+// 8; and gives the place behind the last one. Where there are not, the row is left with any values.
+#[cold]
+#[inline(never)]
+fn read_other_fields_at(row: &mut Row, width: usize, text: &[u8], start: usize) -> Option<usize>
+    requires width { width ≤ 8 }
+    requires ended { IsEnded text.now }
+    requires here { start < length text.now }
+    ensures fields { IfSome result (λ end. (from : ℕ) → FieldsTo text.now from start row.old.items → AreFields text.now from end row.new.items) }
+    ensures width { IfSome result (λ end. length row.new.items ≡ width) }
+{
+    let mut place = start;
+    'fields: while row.len() < width {
+        let Some(end) = add_integer_at(row, text, place) else {
+            return None;
+        };
+        if text[end] != b',' {
+            return if row.len() == width { Some(end) } else { None };
+        }
+        place = end + 1;
+    }
+    None
+}
+
+// Puts the integers between commas from a place of a text on into an empty row, where there are just so many, at most 8; and gives the
+// place behind the last one. Where there are not, the row is left with any values. What follows an integer with a sign or of more than 18
+// digits is read apart, so that nothing of this loop lies in memory for it.
+fn read_fields_at(row: &mut Row, width: usize, text: &[u8], start: usize) -> Option<usize>
+    requires empty { row.old.items ≡ [] }
+    requires width { width ≤ 8 }
+    requires ended { IsEnded text.now }
+    requires here { start < length text.now }
+    ensures fields { IfSome result (λ end. AreFields text.now start end row.new.items) }
+    ensures width { IfSome result (λ end. length row.new.items ≡ width) }
+{
+    let mut place = start;
+    'fields: while row.len() < width {
+        let (amount, digits) = digits_at(text, place);
+        if !are_short(digits) {
+            if !begins_integer(text[place]) {
+                return None;
+            }
+            return read_other_fields_at(row, width, text, place);
+        }
+        add_amount(row, amount);
+        let end = place + digits;
+        if text[end] != b',' {
+            return if row.len() == width { Some(end) } else { None };
+        }
+        place = end + 1;
+    }
+    None
+}
+
+// The length of the line that ends at a place, with an LF or with CR and LF.
+pub(crate) fn line_len(text: &[u8], place: usize) -> Option<usize>
+    requires ended { IsEnded text.now }
+    requires here { place < length text.now }
+    ensures { IfSome result (λ len. EndsLine text.now place len) }
+{
+    if text[place] == b'\n' {
+        return Some(place);
+    }
+    if text[place] == b'\r' && text[place + 1] == b'\n' {
+        return Some(place + 1);
+    }
+    None
+}
+
+// Puts the row of a stream that the fields from a place of a text on are into an empty row, where each value lies in its domain; and gives
+// the place behind the last field. Where they are no such row, the row is left with any values.
+#[inline(always)]
+#[tactic(auto, using(crate::proofs::PlainFields::whole_row, crate::proofs::PlainFields::domains_kept))]
+fn read_row_at(
+    catalog: &Catalog,
+    stream: u8,
+    text: &[u8],
+    start: usize,
+    row: &mut Row,
+) -> Option<usize>
+    requires empty { row.old.items ≡ [] }
+    requires known { stream < length catalog.now }
+    requires ended { IsEnded text.now }
+    requires here { start < length text.now }
+    ensures fields { IfSome result (λ end. AreFields text.now start end row.new.items) }
+    ensures row { IfSome result (λ end. row_with stream (shape_at catalog.now stream).columns (slice_split is_comma (slice_range text.now start end)) ≡ Ok (entry stream row.new.items)) }
+    ensures domains { IfSome result (λ end. KeepsDomains catalog.now stream row.new.items) }
+    ensures few { IfSome result (λ end. length row.new.items ≤ 8) }
+{
+    let columns = catalog.columns(stream);
+    let Some(end) = read_fields_at(row, columns.as_slice().len(), text, start) else {
+        return None;
+    };
+    if !columns.keep(row.as_slice()) {
+        return None;
+    }
+    Some(end)
+}
+
+/// Puts the row that the first line of a text is into an empty `row`, and gives the number of its stream and the length of the line,
+/// where the line is a row of a stream, each value in the domain of its column, written without blanks. One CR may stand at its end. The
+/// last byte of the text is LF, and is not the one that ends the line. Where it gives nothing, `row` is left with any values.
+#[inline(always)] // into the loops over lines, with what it calls
+pub fn read_row_ahead(
+    catalog: &Catalog,
+    starts: &Starts,
+    text: &[u8],
+    row: &mut Row,
+) -> Option<(u8, usize)>
+    requires empty { row.old.items ≡ [] }
+    requires ended { IsEnded text.now }
+    ensures { IfSome result (λ found. IsRowAhead catalog.now text.now found.0 found.1 row.new.items) }
+{
+    let Some(found) = stream_ahead(catalog, starts, text) else {
+        return None;
+    };
+    let (stream, start) = found;
+    let Some(end) = read_row_at(catalog, stream, text, start, row) else {
+        return None;
+    };
+    let Some(len) = line_len(text, end) else {
+        return None;
+    };
+    if text.len() <= len + 1 {
+        return None;
+    }
+    Some((stream, len))
+}
