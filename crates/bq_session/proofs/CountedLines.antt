@@ -4,7 +4,7 @@ use Rattle.std.proofs.lemmas.List.{drop-drop, length-take}
 use Rattle.bq_feed.specs.Reading.{GivesAll, Reading}
 use Rattle.bq_feed.specs.Reading as feed
 use Rattle.bq_feed.proofs.Pieces.{cut-at}
-use Rattle.bq_rows.specs.Counted as ahead
+use Rattle.bq_rows.specs.Counted as front
 use Rattle.bq_rows.specs.Counted.{AreRowsAhead, IsSomeRowAhead}
 use Rattle.bq_session.specs.Counted.{CountsRows, none, more}
 use Rattle.bq_rows.specs.Plain.{IsPlainRow}
@@ -71,12 +71,12 @@ nothing_more : (n : ℕ) → n + 0 ≡ n
 nothing_more n = omega arith
 
 reached : (old : Reading) (k : SessionValue) (count begin end : ℕ) → HaveRoom old k count → AreRowsAhead k.streams (old.ahead ++ 10 ∷ []) count begin end → Reached old k count end
-reached old k count begin end room (ahead.none c e) =
+reached old k count begin end room (front.none c e) =
     let reader : reader_at old 0 0 old.line ≡ old = ap (λ (n : ℕ). record old { lines = n }) (nothing_more old.lines) in
     let session : session_at k 0 k.began ≡ k = ap (λ (n : ℕ). record k { taken = n; lines = k.lines + 0 }) (nothing_more k.taken) ∙ ap (λ (n : ℕ). record k { lines = n }) (nothing_more k.lines) in
     let at_start : Reached old k 0 0 = record { line = old.line; began = k.began; rows = none reader session } in
     subst (λ n. Reached old k n end) (sym c) (subst (λ n. Reached old k 0 n) (sym e) at_start)
-reached old k count begin end room (ahead.more before start len h row c e) =
+reached old k count begin end room (front.more before start len h row c e) =
     let inside = within_ahead k.streams old.ahead before start begin h in
     let last : Reached old k (before + 1) (begin + len + 1) = record {
       line = take len (drop begin old.ahead);
@@ -98,8 +98,8 @@ reading_is r s ahead line taken lines ended failed =
 -- the rows at the front of what was ahead were counted
 pub counted_rows : (old new : Reading) (k kept : SessionValue) (count begin end : ℕ) → 0 < count → AreRowsAhead k.streams (old.ahead ++ 10 ∷ []) count begin end → GivesAll old new count begin end
     → length k.registry.live ≡ 0 → k.taken + count ≤ k.limit → kept ≡ record k { taken = k.taken + count; lines = k.lines + count; began = true } → CountsRows old k new kept
-counted_rows old new k kept count begin end some (ahead.none c e) gives live room is = absurd (omega (arith, some, c))
-counted_rows old new k kept count begin end some (ahead.more before start len h row c e) gives live room is =
+counted_rows old new k kept count begin end some (front.none c e) gives live room is = absurd (omega (arith, some, c))
+counted_rows old new k kept count begin end some (front.more before start len h row c e) gives live room is =
     let have : HaveRoom old k count = record {
       counted = (omega (arith, gives.counted.0, gives.lines, gives.taken), omega (arith, gives.counted.1, gives.taken));
       ended = gives.ended.0;
