@@ -4,5 +4,6 @@ pub mod Numbers
 pub mod Changed
 pub mod Places
 pub mod Waiting
+pub mod FirstEntry
 pub mod CallerLemmas
 pub mod Tuples

@@ -2,3 +2,4 @@ pub mod Order
 pub mod Entries
 pub mod Rows
 pub mod Fields
+pub mod Lone

@@ -14,6 +14,7 @@ pub mod PlanFacts
 pub mod Keeping
 pub mod Rows
 pub mod Lines
+pub mod LoneLines
 pub mod Settled
 pub mod Running
 pub mod Standings

@@ -1,3 +1,4 @@
+pub mod DigitLanes
 pub mod FieldsAhead
 pub mod LinesCounted
 pub mod NamesAhead

@@ -22,7 +22,7 @@ use Rattle.bq_rows.proofs.PlainFields.{amount_next, clash, domains_kept, whole_r
 -- An integer at a place.
 
 -- digits in front are a small amount
-small_front : (text : List ℕ) (i : ℕ) → i ≤ prefix_len is_digit text → amount (take i text) < 10 ^ i
+pub small_front : (text : List ℕ) (i : ℕ) → i ≤ prefix_len is_digit text → amount (take i text) < 10 ^ i
 small_front text zero few = omega arith
 small_front text (suc i) few =
     let digit : is_digit (get_or text i 0) ≡ true = prefix_len_passes is_digit text i 0 (omega (arith, few)) in

@@ -7,6 +7,7 @@ ghost use Rattle.bq_rows.specs.Ahead.{IsEnded};
 ghost use Rattle.bq_rows.specs.Counted.{AreRowsAhead, HasFields, IsSomeInteger, IsSomeRowAhead};
 
 use crate::fast_row::above_zero;
+use crate::lanes::digits_ahead;
 use crate::row_ahead::{are_short, line_len, stream_ahead};
 use crate::starts::Starts;
 use bq_schema::{Catalog, Columns};
@@ -30,10 +31,7 @@ fn digits_end(text: &[u8], start: usize) -> usize
     }
 }
 
-// The place behind the integer at a place of a text, where it is a minus and at most 18 digits. It is not inlined, so that a value
-// without a minus pays nothing for it.
-#[cold]
-#[inline(never)]
+// The place behind the integer at a place of a text, where it is a minus and at most 18 digits.
 #[tactic(auto, using(crate::proofs::NamesAhead::behind_minus))]
 fn negative_end(text: &[u8], start: usize) -> Option<usize>
     requires ended { IsEnded text.now }
@@ -43,9 +41,27 @@ fn negative_end(text: &[u8], start: usize) -> Option<usize>
     if text[start] != b'-' {
         return None;
     }
+    if let Some(digits) = digits_ahead(text, start + 1) {
+        return Some(start + 1 + digits);
+    }
     let end = digits_end(text, start + 1);
     if !are_short(end - start - 1) {
         return None;
+    }
+    Some(end)
+}
+
+// What `integer_end` gives, whatever stands at the place. It is not inlined, so that few digits pay nothing for it.
+#[cold]
+#[inline(never)]
+fn any_integer_end(text: &[u8], start: usize) -> Option<usize>
+    requires ended { IsEnded text.now }
+    requires here { start < length text.now }
+    ensures { IfSome result (λ end. IsSomeInteger text.now start end) }
+{
+    let end = digits_end(text, start);
+    if !are_short(end - start) {
+        return negative_end(text, start);
     }
     Some(end)
 }
@@ -57,11 +73,10 @@ fn integer_end(text: &[u8], start: usize) -> Option<usize>
     requires here { start < length text.now }
     ensures { IfSome result (λ end. IsSomeInteger text.now start end) }
 {
-    let end = digits_end(text, start);
-    if !are_short(end - start) {
-        return negative_end(text, start);
+    if let Some(digits) = digits_ahead(text, start) {
+        return Some(start + digits);
     }
-    Some(end)
+    any_integer_end(text, start)
 }
 
 // The place behind the last of so many integers between commas from a place of a text on, where there are just so many, each a minus or

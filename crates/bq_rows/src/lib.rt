@@ -7,6 +7,7 @@
 
 mod counted_row;
 mod fast_row;
+mod lanes;
 mod row_ahead;
 mod starts;
 

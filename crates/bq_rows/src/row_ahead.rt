@@ -10,6 +10,7 @@ ghost use Rattle.bq_text.specs.Word.{is_digit};
 ghost use Rattle.bq_rows.specs.Ahead.{AddsAt, AreFields, BeginsStream, EndsLine, FieldsTo, IsEnded, IsRowAhead};
 
 use crate::fast_row::{above_zero, add_amount, add_any, add_opposite, begins_integer};
+use crate::lanes::{first_digits, short_amount_ahead};
 use crate::starts::Starts;
 use bq_model::Row;
 use bq_schema::Catalog;
@@ -81,7 +82,28 @@ fn with_digit(amount: u64, digit: u64) -> u64
     amount.wrapping_mul(10).wrapping_add(digit)
 }
 
+// What `digits_at` gives, digit by digit behind the first eight.
+fn all_digits_at(text: &[u8], start: usize) -> (u64, usize)
+    requires ended { IsEnded text.now }
+    requires here { start < length text.now }
+    ensures len { result.1 ≡ prefix_len is_digit (drop start text.now) }
+    ensures within { start + result.1 < length text.now }
+    ensures amount { result.1 ≤ 19 → result.0 ≡ amount (take result.1 (drop start text.now)) }
+    ensures small { result.1 ≤ 18 → result.0 < 10 ^ 18 }
+{
+    let (mut amount, mut len) = first_digits(text, start);
+    'digits: loop {
+        let digit = above_zero(text[start + len]);
+        if 9 < digit {
+            return (amount, len);
+        }
+        amount = with_digit(amount, digit);
+        len += 1;
+    }
+}
+
 // The amount that the digits from a place of a text on write, where these are at most 19, and how many they are.
+#[inline(always)]
 fn digits_at(text: &[u8], start: usize) -> (u64, usize)
     requires ended { IsEnded text.now }
     requires here { start < length text.now }
@@ -90,15 +112,9 @@ fn digits_at(text: &[u8], start: usize) -> (u64, usize)
     ensures amount { result.1 ≤ 19 → result.0 ≡ amount (take result.1 (drop start text.now)) }
     ensures small { result.1 ≤ 18 → result.0 < 10 ^ 18 }
 {
-    let mut amount: u64 = 0;
-    let mut len = 0;
-    'digits: loop {
-        let digit = above_zero(text[start + len]);
-        if 9 < digit {
-            return (amount, len);
-        }
-        amount = with_digit(amount, digit);
-        len += 1;
+    match short_amount_ahead(text, start) {
+        Some(found) => found,
+        None => all_digits_at(text, start),
     }
 }
 
@@ -158,6 +174,9 @@ fn add_integer_at(row: &mut Row, text: &[u8], start: usize) -> Option<usize>
     if text[start] == b'-' {
         return add_negative_at(row, text, start);
     }
+    if text[start] == b'+' {
+        return add_any_at(row, text, start);
+    }
     let (amount, digits) = digits_at(text, start);
     if !are_few(digits, amount) {
         return add_any_at(row, text, start);
@@ -191,8 +210,9 @@ fn read_other_fields_at(row: &mut Row, width: usize, text: &[u8], start: usize) 
 }
 
 // Puts the integers between commas from a place of a text on into an empty row, where there are just so many, at most 8; and gives the
-// place behind the last one. Where there are not, the row is left with any values. What follows an integer with a sign or of more than 18
-// digits is read apart, so that nothing of this loop lies in memory for it.
+// place behind the last one. Where there are not, the row is left with any values. What follows an integer with a sign or of more than 8
+// digits, or near the end of the text, is read apart, so that nothing of this loop lies in memory for it.
+#[inline(always)]
 fn read_fields_at(row: &mut Row, width: usize, text: &[u8], start: usize) -> Option<usize>
     requires empty { row.old.items ≡ [] }
     requires width { width ≤ 8 }
@@ -203,13 +223,13 @@ fn read_fields_at(row: &mut Row, width: usize, text: &[u8], start: usize) -> Opt
 {
     let mut place = start;
     'fields: while row.len() < width {
-        let (amount, digits) = digits_at(text, place);
-        if !are_short(digits) {
+        let Some(found) = short_amount_ahead(text, place) else {
             if !begins_integer(text[place]) {
                 return None;
             }
             return read_other_fields_at(row, width, text, place);
-        }
+        };
+        let (amount, digits) = found;
         add_amount(row, amount);
         let end = place + digits;
         if text[end] != b',' {

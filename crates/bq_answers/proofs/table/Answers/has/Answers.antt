@@ -1,20 +1,12 @@
-use Rattle.std.proofs.Common.{◌≡◌, ◌&&◌, Bool, true, false, arith, length, nat_eq, sym, ap, ap₂, ◌∙◌}
-use Rattle.std.proofs.lemmas.Bool.Decides.{nat_tests}
-use Rattle.std.proofs.Math.Bool.{and-false}
-use Rattle.bq_answers.specs.Entries.{has}
-use Rattle.bq_answers.proofs.Changed.{waiting_found, not_found}
+use Rattle.std.proofs.Common.{◌&&◌, ℕ, length, nat_eq, ap, ◌∙◌, [], ◌∷◌}
+use Rattle.bq_answers.specs.Entries.{entry_of, has}
 use Rattle.bq_answers.proofs.table.Answers.has.Goals as goal
 
-pub returns-in-Ok : goal.returns-in-Ok
-returns-in-Ok c =
-    let found = rw c.as_slice-2.ensures.value at c.in-Ok.ensures in
-    let one : has c.args.t.now.items c.args.self.now.entries ≡ true = (waiting_found c.args.t.now.items c.args.self.now.entries _ found).1 in
-    let same : length c.args.t.now.items ≡ c.args.self.now.width = search in
-    let wide : nat_eq (length c.args.t.now.items) c.args.self.now.width ≡ true = grind (arith, nat_tests) in
-    sym (ap₂ (λ (a b : Bool). a && b) wide one)
-
-pub returns-in-Err : goal.returns-in-Err
-returns-in-Err c =
-    let found = rw c.as_slice-2.ensures.value at c.in-Err.ensures in
-    let none : has c.args.t.now.items c.args.self.now.entries ≡ false = not_found c.args.t.now.items c.args.self.now.entries _ found in
-    sym (ap (λ (b : Bool). nat_eq (length c.args.t.now.items) c.args.self.now.width && b) none ∙ and-false (nat_eq (length c.args.t.now.items) c.args.self.now.width))
+pub returns-then-self : goal.returns-then-self
+unfolding has
+returns-then-self c =
+    let alone = c.self.invariant c.if-self.true in
+    let is = rw (c.as_slice.ensures.value, c.as_slice-then-self.ensures.value) at c.is_only.ensures in
+    rw (← c.self.view_is)
+    (rw c.if-self.true
+    (is ∙ ap (λ (n : ℕ). nat_eq (length c.args.t.now.items) n && has c.args.t.now.items (entry_of c.self.inside.lone.tuple.items 0 ∷ [])) alone.1))
