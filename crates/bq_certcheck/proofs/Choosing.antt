@@ -7,61 +7,23 @@ use Rattle.bq_model.specs.declared.condition.Condition.TheVariants.{C1, C2, C3}
 use Rattle.bq_model.specs.declared.decision.Decision.{Decision}
 use Rattle.bq_model.specs.declared.decision.Decision.TheVariants as decision
 use Rattle.bq_model.specs.Query.{QueryValue, attrs_of, is_filter, IsWithinLimits}
-use Rattle.bq_model.specs.Violation.{Breaks, condition_lt, IsFirstFailure}
+use Rattle.bq_model.specs.Violation.{Breaks, IsFirstFailure}
 use Rattle.bq_model.specs.Verdict.{IsDecision}
-use Rattle.bq_certcheck.specs.declared.breaking.Break.{Break}
+use Rattle.bq_model.specs.declared.first_break.Break.{Break}
 use Rattle.bq_certcheck.specs.declared.decision.DecisionSoFar.{DecisionSoFar}
 use Rattle.bq_certificate.specs.Nodes.{Node}
 use Rattle.bq_certcheck.specs.Reading.{IsGood}
 use Rattle.bq_certcheck.specs.Leaves.{leaves_of}
-use Rattle.bq_certcheck.specs.FirstBreak.{IsFirst, IsFirstAmong, chosen, IsFirstBreak}
+use Rattle.bq_model.specs.FirstBreak.{IsFirstAmong, first_of_three, IsFirstBreak}
 use Rattle.bq_certcheck.specs.SoFar.{failure_of, decision_at, TakesLeaf}
-use Rattle.bq_certcheck.proofs.Firsts.{first_of_all}
+use Rattle.bq_model.proofs.FirstColumns.{first_of_all}
+use Rattle.bq_model.proofs.FirstBreaks.{selected, named_in_equality, named_as_reference, first_of_firsts}
 use Rattle.bq_certcheck.proofs.FailuresSoFar.{none_fails_more, first_fails_now, first_fails_still, violation_by_leaves}
 
 module _ (q : QueryValue) (s : List Sign) where
-  -- ---- the columns that may break a condition
-
-  selected : (a : Attr) → Breaks q s C1 a → Contains q.select a
-  selected a w = w.0
-
-  pub named_in_equality : (a : Attr) → Breaks q s C2 a → Contains (attrs_of q.atoms) a
-  named_in_equality a w = elim w.2 [ inl e ↦ e.across.left | inr e ↦ e.across.right ]
-
-  pub named_as_reference : (a : Attr) → Breaks q s C3 a → Contains (attrs_of q.atoms) a
-  named_as_reference a w = elim w.0 [ inl m ↦ m.inequality.across.left | inr m ↦ m.inequality.across.right ]
-
-  -- ---- the three conditions of one part
-
-  chosen_of_firsts : (x y z : Option Attr) → IsFirst (Breaks q s C1) x → IsFirst (Breaks q s C2) y → IsFirst (Breaks q s C3) z → IsFirstBreak q s (chosen x y z)
-  chosen_of_firsts (Some a) y z f g h = (f.0, none_under, f.1)
-    where
-      none_under : (c : Condition) (b : Attr) → condition_lt c C1 ≡ true → ¬ Breaks q s c b
-      none_under C1 b l = absurd cc
-      none_under C2 b l = absurd cc
-      none_under C3 b l = absurd cc
-  chosen_of_firsts None (Some a) z f g h = (g.0, none_under, g.1)
-    where
-      none_under : (c : Condition) (b : Attr) → condition_lt c C2 ≡ true → ¬ Breaks q s c b
-      none_under C1 b l = f b
-      none_under C2 b l = absurd cc
-      none_under C3 b l = absurd cc
-  chosen_of_firsts None None (Some a) f g h = (h.0, none_under, h.1)
-    where
-      none_under : (c : Condition) (b : Attr) → condition_lt c C3 ≡ true → ¬ Breaks q s c b
-      none_under C1 b l = f b
-      none_under C2 b l = g b
-      none_under C3 b l = absurd cc
-  chosen_of_firsts None None None f g h = none_at
-    where
-      none_at : (c : Condition) (b : Attr) → ¬ Breaks q s c b
-      none_at C1 b = f b
-      none_at C2 b = g b
-      none_at C3 b = h b
-
   -- the first of the selected columns and of the attributes are the first of all
-  pub chosen_is_first : (x y z : Option Attr) (r : Option Break) → IsFirstAmong (Breaks q s C1) q.select x → IsFirstAmong (Breaks q s C2) (attrs_of q.atoms) y → IsFirstAmong (Breaks q s C3) (attrs_of q.atoms) z → r ≡ chosen x y z → IsFirstBreak q s r
-  chosen_is_first x y z r f g h e = subst (IsFirstBreak q s) (sym e) (chosen_of_firsts x y z (first_of_all (Breaks q s C1) q.select x selected f) (first_of_all (Breaks q s C2) (attrs_of q.atoms) y named_in_equality g) (first_of_all (Breaks q s C3) (attrs_of q.atoms) z named_as_reference h))
+  pub chosen_is_first : (x y z : Option Attr) (r : Option Break) → IsFirstAmong (Breaks q s C1) q.select x → IsFirstAmong (Breaks q s C2) (attrs_of q.atoms) y → IsFirstAmong (Breaks q s C3) (attrs_of q.atoms) z → r ≡ first_of_three x y z → IsFirstBreak q s r
+  chosen_is_first x y z r f g h e = subst (IsFirstBreak q s) (sym e) (first_of_firsts q s x y z (first_of_all (Breaks q s C1) q.select x (selected q s) f) (first_of_all (Breaks q s C2) (attrs_of q.atoms) y (named_in_equality q s) g) (first_of_all (Breaks q s C3) (attrs_of q.atoms) z (named_as_reference q s) h))
 
   -- ---- one leaf more
 

@@ -23,7 +23,6 @@ pub mod WorkedDomains
 pub mod FailuresSoFar
 pub mod Searching
 pub mod Unnamed
-pub mod Firsts
 pub mod LeafOrder
 pub mod LeafRefs
 pub mod Choosing

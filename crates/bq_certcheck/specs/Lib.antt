@@ -10,5 +10,4 @@ pub mod Bounds
 pub mod Standing
 pub mod Walking
 pub mod OnLeaf
-pub mod FirstBreak
 pub mod SoFar

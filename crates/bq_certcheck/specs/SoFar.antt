@@ -7,7 +7,7 @@ use Rattle.bq_model.specs.declared.decision.Decision.{Decision}
 use Rattle.bq_model.specs.declared.decision.Decision.TheVariants as decision
 use Rattle.bq_model.specs.Query.{QueryValue}
 use Rattle.bq_model.specs.Violation.{Failure, IsFirstFailure}
-use Rattle.bq_certcheck.specs.declared.breaking.Break.{Break}
+use Rattle.bq_model.specs.declared.first_break.Break.{Break}
 use Rattle.bq_certcheck.specs.declared.decision.DecisionSoFar.{DecisionSoFar}
 
 -- the failure that a decision names

@@ -1,24 +1,16 @@
 //! The first condition that the part of a good leaf breaks, and the first column that shows it.
-ghost use Rattle.std.specs.Prelude.{◌≡◌, ◌↔◌, IsTrue, Contains};
+ghost use Rattle.std.specs.Prelude.{◌↔◌, IsTrue, Contains};
 ghost use Rattle.bq_model.specs.Query.{attrs_of};
 ghost use Rattle.bq_model.specs.Links.{HasTwoRefs};
 ghost use Rattle.bq_model.specs.declared.condition.Condition.TheVariants.{C1, C2, C3};
 ghost use Rattle.bq_model.specs.Violation.{Breaks};
+ghost use Rattle.bq_model.specs.FirstBreak.{IsFirstAmong, IsFirstBreak};
 ghost use Rattle.bq_certcheck.specs.OnLeaf.{IsLeaf, IsRef};
-ghost use Rattle.bq_certcheck.specs.FirstBreak.{IsFirstAmong, chosen, IsFirstBreak};
 
-use crate::first::sooner_if;
 use crate::leaf::Leaf;
 use crate::links::{Side, has_equality, has_two_refs, is_ref};
 use crate::order::{is_among, is_bounded};
-use bq_model::{Attr, Condition};
-
-/// A condition that a part breaks, and the column that shows it.
-#[derive(Clone, Copy)]
-pub struct Break {
-    pub condition: Condition,
-    pub attr: Attr,
-}
+use bq_model::{Attr, Break, Condition, first_of_three, sooner_if};
 
 // Whether a column is selected and not bounded.
 fn breaks_first(leaf: &Leaf, attr: Attr) -> bool
@@ -114,31 +106,6 @@ fn first_attr(leaf: &Leaf, condition: Condition) -> Option<Attr>
     found
 }
 
-// The first of the three that is there, with its condition.
-fn chosen(first: Option<Attr>, second: Option<Attr>, third: Option<Attr>) -> Option<Break>
-    ensures { result ≡ chosen first second third }
-{
-    match first {
-        Some(attr) => Some(Break {
-            condition: Condition::C1,
-            attr,
-        }),
-        None => match second {
-            Some(attr) => Some(Break {
-                condition: Condition::C2,
-                attr,
-            }),
-            None => match third {
-                Some(attr) => Some(Break {
-                    condition: Condition::C3,
-                    attr,
-                }),
-                None => None,
-            },
-        },
-    }
-}
-
 /// Returns the first condition that the part of the leaf breaks, with the first column that shows it, or none where it meets all.
 pub fn first_break(leaf: &Leaf) -> Option<Break>
     requires { IsLeaf leaf.now }
@@ -147,5 +114,5 @@ pub fn first_break(leaf: &Leaf) -> Option<Break>
     let first = first_selected(leaf);
     let second = first_attr(leaf, Condition::C2);
     let third = first_attr(leaf, Condition::C3);
-    chosen(first, second, third)
+    first_of_three(first, second, third)
 }

@@ -8,9 +8,9 @@ ghost use Rattle.bq_certcheck.specs.Leaves.{leaves_of};
 ghost use Rattle.bq_certcheck.specs.OnLeaf.{IsLeaf};
 ghost use Rattle.bq_certcheck.specs.SoFar.{decision_at, IsSoFar, TakesLeaf};
 
-use crate::breaking::{Break, first_break};
+use crate::breaking::first_break;
 use crate::leaf::Leaf;
-use bq_model::{Decision, Query};
+use bq_model::{Break, Decision, Query};
 
 /// The decision on the leaves that were read so far: each meets all conditions, or the first that breaks one.
 #[derive(Clone, Copy)]

@@ -7,7 +7,6 @@ mod breaking;
 mod chain;
 mod checking;
 mod decision;
-mod first;
 pub mod laws;
 mod leaf;
 mod links;

@@ -1,7 +1,5 @@
-pub mod Firsts
 pub mod Unnamed
 pub mod Numbered
 pub mod Told
 pub mod Two
-pub mod Named
 pub mod ByDomains

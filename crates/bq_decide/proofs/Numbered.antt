@@ -11,9 +11,9 @@ use Rattle.bq_model.specs.Query.{QueryValue, attr_lt, is_filter}
 use Rattle.bq_model.specs.Parts.{IsPart, AreParts}
 use Rattle.bq_model.specs.Violation.{Failure, failure_lt, condition_lt, condition_index, Breaks, IsViolation, first}
 use Rattle.bq_lto_split.specs.Split.{sign_lists}
-use Rattle.bq_decide.specs.declared.breaking.Break.{Break}
-use Rattle.bq_decide.specs.Chosen.{NoneBefore, chosen, IsFirstBreak}
-use Rattle.bq_decide.specs.Deciding.{IsFirst}
+use Rattle.bq_model.specs.declared.first_break.Break.{Break}
+use Rattle.bq_model.specs.FirstBreak.{IsFirstBreak}
+use Rattle.bq_decide.specs.Deciding.{NoneBefore}
 
 pub signs_at : (ps : List Part) (i : ℕ) (d : Part) → i < length ps → slice_get (sign_lists ps) i ≡ Some (slice_index_or ps i d).signs.items
 signs_at [] i d l = absurd (omega arith)
@@ -100,32 +100,3 @@ one_fails q ps i n d b f a l e m h =
             ])
       ],
     )
-
--- ---- the three conditions of one part
-
-module _ (q : QueryValue) (s : List Sign) where
-  pub chosen_is_first : (x y z : Option Attr) → IsFirst (Breaks q s C1) x → IsFirst (Breaks q s C2) y → IsFirst (Breaks q s C3) z → IsFirstBreak q s (chosen x y z)
-  chosen_is_first (Some a) y z f g h = (f.0, none_under, f.1)
-    where
-      none_under : (c : Condition) (b : Attr) → condition_lt c C1 ≡ true → ¬ Breaks q s c b
-      none_under C1 b l = absurd cc
-      none_under C2 b l = absurd cc
-      none_under C3 b l = absurd cc
-  chosen_is_first None (Some a) z f g h = (g.0, none_under, g.1)
-    where
-      none_under : (c : Condition) (b : Attr) → condition_lt c C2 ≡ true → ¬ Breaks q s c b
-      none_under C1 b l = f b
-      none_under C2 b l = absurd cc
-      none_under C3 b l = absurd cc
-  chosen_is_first None None (Some a) f g h = (h.0, none_under, h.1)
-    where
-      none_under : (c : Condition) (b : Attr) → condition_lt c C3 ≡ true → ¬ Breaks q s c b
-      none_under C1 b l = f b
-      none_under C2 b l = g b
-      none_under C3 b l = absurd cc
-  chosen_is_first None None None f g h = none_at
-    where
-      none_at : (c : Condition) (b : Attr) → ¬ Breaks q s c b
-      none_at C1 b = f b
-      none_at C2 b = g b
-      none_at C3 b = h b

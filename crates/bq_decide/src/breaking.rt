@@ -1,25 +1,17 @@
 //! The first condition that a part breaks, and the first column that shows it.
-ghost use Rattle.std.specs.Prelude.{◌≡◌, ◌↔◌, IsTrue};
+ghost use Rattle.std.specs.Prelude.{◌↔◌, IsTrue};
 ghost use Rattle.bq_model.specs.declared.condition.Condition.TheVariants.{C1, C2, C3};
 ghost use Rattle.bq_model.specs.Parts.{IsPart};
 ghost use Rattle.bq_model.specs.Violation.{Breaks};
+ghost use Rattle.bq_model.specs.FirstBreak.{IsFirst, IsFirstAmong, IsFirstBreak};
 ghost use Rattle.bq_refs.specs.Refs.{AreRefs};
-ghost use Rattle.bq_decide.specs.Deciding.{IsFirst, IsFirstAmong, IsInEquality};
-ghost use Rattle.bq_decide.specs.Chosen.{IsFirstBreak, chosen};
+ghost use Rattle.bq_decide.specs.Deciding.{IsInEquality};
 
 use crate::bounded::is_bounded;
-use crate::first::sooner_if;
-use crate::lookup::{has_left, has_right, is_among};
+use crate::lookup::is_among;
 use crate::references::breaks_third;
-use bq_model::{Attr, Condition, Part, Query};
-use bq_refs::Refs;
-
-/// A condition that a part breaks, and the column that shows it.
-#[derive(Clone, Copy, Debug, PartialEq, Eq)]
-pub struct Break {
-    pub condition: Condition,
-    pub attr: Attr,
-}
+use bq_model::{Attr, Break, Condition, Part, Query, first_of_three, sooner_if};
+use bq_refs::{Refs, has_left, has_right};
 
 // Whether a column is selected and not bounded.
 fn breaks_first(q: &Query, p: &Part, refs: &Refs, attr: Attr) -> bool
@@ -118,30 +110,5 @@ pub fn violation_of(q: &Query, p: &Part, refs: &Refs) -> Option<Break>
     let first = first_unbounded_selected(q, p, refs);
     let second = first_unbounded_equal(q, p, refs);
     let third = first_reference(q, p, refs);
-    chosen(first, second, third)
-}
-
-// The first of the three that is there, with its condition.
-fn chosen(first: Option<Attr>, second: Option<Attr>, third: Option<Attr>) -> Option<Break>
-    ensures { result ≡ chosen first second third }
-{
-    match first {
-        Some(attr) => Some(Break {
-            condition: Condition::C1,
-            attr,
-        }),
-        None => match second {
-            Some(attr) => Some(Break {
-                condition: Condition::C2,
-                attr,
-            }),
-            None => match third {
-                Some(attr) => Some(Break {
-                    condition: Condition::C3,
-                    attr,
-                }),
-                None => None,
-            },
-        },
-    }
+    first_of_three(first, second, third)
 }

@@ -2,13 +2,13 @@
 ghost use Rattle.std.specs.Prelude.{◌≡◌, ◌<◌, ◌^◌, length};
 ghost use Rattle.bq_model.specs.Parts.{IsPart, AreParts};
 ghost use Rattle.bq_model.specs.Verdict.{IsDecision};
+ghost use Rattle.bq_model.specs.FirstBreak.{IsFirstBreak};
 ghost use Rattle.bq_lto_split.specs.Split.{sign_lists};
 ghost use Rattle.bq_refs.specs.Known.{IsBasis};
-ghost use Rattle.bq_decide.specs.Chosen.{IsFirstBreak};
 
-use crate::breaking::{Break, violation_of};
+use crate::breaking::violation_of;
 use bq_closure::Distances;
-use bq_model::{Decision, Part, Query};
+use bq_model::{Break, Decision, Part, Query};
 use bq_refs::{Basis, refs};
 
 // The first condition that a part breaks.

@@ -13,7 +13,7 @@ use Rattle.bq_refs.specs.declared.range.Range.{Range}
 use Rattle.bq_refs.specs.declared.types.Refs.{Refs}
 use Rattle.bq_refs.specs.Refs.{IsRange, AreRefs}
 use Rattle.bq_closure.proofs.Zips.{zip_at, zip_length}
-use Rattle.bq_layout.specs.Looking.{attr_at}
+use Rattle.bq_layout.specs.ColumnPlaces.{attr_at}
 use Rattle.bq_layout.specs.Capped.{capped}
 use Rattle.bq_layout.specs.Sums.{IsSizeOf, IsRangeOf, AreSizesOf}
 use Rattle.bq_layout.proofs.Products.{size-push, one_more}

@@ -1,5 +1,5 @@
 pub mod Capped
-pub mod Looking
+pub mod ColumnPlaces
 pub mod Classes
 pub mod Boxed
 pub mod Drafts

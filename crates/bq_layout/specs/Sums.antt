@@ -9,7 +9,7 @@ use Rattle.bq_model.specs.Order.{IsLeast, IsGreatest}
 use Rattle.bq_model.specs.Boxes.{range_size, box_size}
 use Rattle.bq_model.specs.Numbers.{answer_bound, work}
 use Rattle.bq_model.specs.Violation.{IsViolation}
-use Rattle.bq_decide.specs.declared.breaking.Break.{Break}
+use Rattle.bq_model.specs.declared.first_break.Break.{Break}
 use Rattle.bq_layout.specs.declared.error.LayoutError.{LayoutError}
 use Rattle.bq_layout.specs.declared.error.LayoutError.TheVariants as why
 use Rattle.bq_layout.specs.declared.draft.Draft.{Draft}

@@ -1,31 +1,9 @@
 //! Boxes that are the same: they keep the same cells of all rows.
 ghost use Rattle.std.specs.Prelude.{◌≡◌};
-ghost use Rattle.bq_model.specs.Parts.{is_within};
 ghost use Rattle.bq_model.specs.Plan.{stream_at};
-ghost use Rattle.bq_model.specs.Admission.{sign_eq};
 ghost use Rattle.bq_model.specs.Sharing.{box_at, same_signs, same_dim, same_dims, same_kind, same_box};
 
-use crate::shares::dims_at;
-use bq_model::{Dim, Element, Kind, Pair, PartPlan, Query, Sign, is_same};
-
-/// Returns whether all columns of a pair are of the stream at a place of FROM.
-pub fn is_within(place: usize, pair: Pair) -> bool
-    ensures { result ≡ is_within place pair.left pair.right }
-{
-    match pair.right {
-        Element::Attr(right) => {
-            usize::from(pair.left.stream) == place && usize::from(right.stream) == place
-        }
-        Element::Const(_) => usize::from(pair.left.stream) == place,
-    }
-}
-
-// Whether two signs are the same.
-fn is_sign(sign: Sign, other: Sign) -> bool
-    ensures { result ≡ sign_eq sign other }
-{
-    sign == other
-}
+use bq_model::{Dim, Kind, Pair, PartPlan, Query, Sign, dims_at, is_same, is_same_sign, is_within};
 
 // Whether the pairs of the stream at a place have the same signs.
 fn has_signs(place: usize, pairs: &[Pair], signs: &[Sign], others: &[Sign]) -> bool
@@ -40,7 +18,8 @@ fn has_signs(place: usize, pairs: &[Pair], signs: &[Sign], others: &[Sign]) -> b
     let [other, others @ ..] = others else {
         return false;
     };
-    (!is_within(place, *pair) || is_sign(*sign, *other)) && has_signs(place, pairs, signs, others)
+    (!is_within(place, *pair) || is_same_sign(*sign, *other))
+        && has_signs(place, pairs, signs, others)
 }
 
 // Whether two dims are the same.

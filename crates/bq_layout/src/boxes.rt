@@ -9,8 +9,7 @@ ghost use Rattle.bq_layout.specs.Listed.{no_part, box_in, box_of, listed, with_b
 use crate::alike::is_box;
 use crate::codes::code_of;
 use crate::draft::{cells_over, narrowed};
-use crate::shares::dims_at;
-use bq_model::{PartPlan, Query};
+use bq_model::{PartPlan, Query, dims_at};
 use std::alloc::{AllocError, Global};
 
 /// Where a box stands: the number of its first cell, and how many cells it has.

@@ -3,7 +3,7 @@ ghost use Rattle.std.specs.Prelude.{◌↔◌, ◌<◌, IsTrue, length};
 ghost use Rattle.bq_model.specs.Query.{attrs_of};
 ghost use Rattle.bq_model.specs.Plan.{AreOneClass, NamesClass};
 ghost use Rattle.bq_refs.specs.Refs.{AreRefs};
-ghost use Rattle.bq_layout.specs.Looking.{attr_at};
+ghost use Rattle.bq_layout.specs.ColumnPlaces.{attr_at};
 ghost use Rattle.bq_layout.specs.Classes.{NamesOf};
 
 use crate::lookup::attr_at;

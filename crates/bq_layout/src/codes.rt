@@ -4,9 +4,8 @@ ghost use Rattle.std.specs.List.{flat_map};
 ghost use Rattle.bq_model.specs.Sharing.{box_at};
 ghost use Rattle.bq_layout.specs.Codes.{code_after, number_of, sign_number, sign_numbers, dim_numbers, kind_numbers, code_of};
 
-use crate::alike::{is_within, kind_at};
-use crate::shares::dims_at;
-use bq_model::{Dim, Kind, Pair, PartPlan, Query, Sign};
+use crate::alike::kind_at;
+use bq_model::{Dim, Kind, Pair, PartPlan, Query, Sign, dims_at, is_within};
 
 // The code with one number more.
 fn with_number(code: u64, number: u64) -> u64

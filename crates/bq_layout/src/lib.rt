@@ -31,4 +31,3 @@ mod tests;
 pub use draft::cells_over;
 pub use error::LayoutError;
 pub use plan::{lay_out, layout, layout_shared, part_plans};
-pub use shares::dims_at;

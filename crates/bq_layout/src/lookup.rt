@@ -2,7 +2,7 @@
 ghost use Rattle.std.specs.Prelude.{◌≡◌, ◌<◌, ◌≤◌, length};
 ghost use Rattle.std.specs.List.{list_any};
 ghost use Rattle.bq_model.specs.Query.{attr_eq, attrs_of, IsWithinLimits};
-ghost use Rattle.bq_layout.specs.Looking.{attr_at, IsPlace, is_side};
+ghost use Rattle.bq_layout.specs.ColumnPlaces.{attr_at, IsPlace, is_side};
 
 use bq_model::{Attr, Link, Query, is_same};
 

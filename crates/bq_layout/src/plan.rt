@@ -14,8 +14,8 @@ use crate::error::LayoutError;
 use crate::limits::limited;
 use crate::placing::share;
 use crate::selecting::different;
-use bq_decide::{Break, violation_of};
-use bq_model::{Part, PartPlan, PartPlans, Plan, Query};
+use bq_decide::violation_of;
+use bq_model::{Break, Part, PartPlan, PartPlans, Plan, Query};
 use bq_refs::{Basis, refs};
 use std::alloc::{AllocError, Global};
 

@@ -3,22 +3,11 @@ ghost use Rattle.std.specs.Prelude.{◌≡◌, ◌||◌, ◌==◌, if◌then◌e
 ghost use Rattle.std.specs.List.{list_any};
 ghost use Rattle.bq_model.specs.Query.{attr_eq};
 ghost use Rattle.bq_model.specs.Boxes.{dim_size, box_size};
-ghost use Rattle.bq_model.specs.Plan.{dims_at};
 ghost use Rattle.bq_model.specs.Numbers.{is_earlier_dim, is_fixed, free_dims, share_of, share};
 ghost use Rattle.bq_layout.specs.Capped.{capped};
 
 use crate::sizes::dim_size;
-use bq_model::{Attr, Dim, PartPlan, is_same};
-
-/// Returns the dims of the stream at a place of FROM, or none where there is no stream.
-pub fn dims_at(part: &PartPlan, place: usize) -> &[Dim]
-    ensures { result.now ≡ dims_at part.now place }
-{
-    match part.streams.as_slice().get(place) {
-        Some(stream) => stream.dims.as_slice(),
-        None => &[],
-    }
-}
+use bq_model::{Attr, Dim, PartPlan, dims_at, is_same};
 
 // Whether the column names one of some dims.
 fn names_dim(dims: &[Dim], attr: Attr) -> bool

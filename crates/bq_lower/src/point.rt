@@ -1,5 +1,5 @@
 //! The rows of one number.
-ghost use Rattle.std.specs.Prelude.{◌≡◌, ◌<◌, ◌≤◌, ◌↔◌, IsTrue, length, slice_index_or, nat_eq, cond, ◌∷◌, ◌++◌, ◌+◌, []};
+ghost use Rattle.std.specs.Prelude.{◌≡◌, ◌<◌, ◌≤◌, length, slice_index_or, nat_eq, cond, ◌∷◌, ◌++◌, ◌+◌, []};
 ghost use Rattle.bq_model.specs.Meaning.{by_column};
 ghost use Rattle.bq_lower.specs.Members.{cell_for, row_for, blank_at, others_for, asked_for, IsFarWithin, IsGround, IsPoint, HasMember};
 ghost use Rattle.bq_lower.specs.Shown.{arrivals};
@@ -24,13 +24,6 @@ pub struct Member {
     pub asked: Asked,
 }
 
-// Whether two columns are the same.
-fn is_same(a: Attr, b: Attr) -> bool
-    ensures { IsTrue result ↔ a ≡ b }
-{
-    a.stream == b.stream && a.column == b.column
-}
-
 // The same integer in 64 bits.
 fn narrow(value: i128) -> i64
     requires { IsFarWithin value }
@@ -44,7 +37,7 @@ fn cell(point: &Point, attr: Attr, blank: i64) -> i64
     requires { IsPoint point.now }
     ensures { result ≡ cell_for point.now.ground.now.attrs.now point.now.values.now point.now.ground.now.named point.now.value attr blank }
 {
-    if is_same(attr, point.ground.named) {
+    if attr == point.ground.named {
         return narrow(point.value);
     }
     let place = place_of(point.ground.attrs, attr);

@@ -2,7 +2,7 @@ pub mod Sublists
 pub mod Listing
 pub mod FewParts
 pub mod Limits
-pub mod Looking
+pub mod SetSearchLaws
 pub mod FewNames
 pub mod MoreAtoms
 pub mod Placing

@@ -8,7 +8,7 @@ use Rattle.bq_model.proofs.Has.{Has, first, later}
 use Rattle.bq_model.proofs.Once.{attr_same}
 use Rattle.bq_model.proofs.OneGroup.{attr_eq-itself}
 use Rattle.bq_mend.specs.Sublists.{IsSublist, none, kept, left}
-use Rattle.bq_mend.specs.Looking.{behind}
+use Rattle.bq_mend.specs.SetSearch.{behind}
 
 -- nothing is a sublist of every list
 pub sublist-nil : {A : Type 0} (ys : List A) → IsSublist [] ys

@@ -2,7 +2,7 @@ pub mod Meeting
 pub mod Mended
 pub mod Sublists
 pub mod Sets
-pub mod Looking
+pub mod SetSearch
 pub mod Numbered
 pub mod Comparisons
 pub mod Violating

@@ -3,7 +3,7 @@ ghost use Rattle.std.specs.Prelude.{◌≡◌, ◌↔◌, ◌<◌, ◌≤◌, le
 ghost use Rattle.bq_mend.specs.Mended.{on, Mends};
 ghost use Rattle.bq_mend.specs.Sublists.{IsSublist};
 ghost use Rattle.bq_mend.specs.Sets.{HasWithin, AreLeastAmong, AreLeastSets, open_columns, sets_of};
-ghost use Rattle.bq_mend.specs.Looking.{behind, Looks};
+ghost use Rattle.bq_mend.specs.SetSearch.{behind, Looks};
 
 use crate::columns::ColumnSet;
 use crate::mend::{Kind, Mend};

@@ -27,3 +27,4 @@ pub mod Laws
 pub mod Cases
 pub mod Sharing
 pub mod Bases
+pub mod FirstBreak

@@ -2,9 +2,9 @@
 use Rattle.std.proofs.Common.{◌≡◌, ℕ, ◌<◌, ◌⊎◌, Bool, true, false, cond, codes, List, [], ◌∷◌, ◌++◌, length, map, Option, Some, None, ℤ, refl, ap, sym, ◌∙◌, append_assoc, append-nil, arith, inl, inr, Ok}
 use Rattle.std.specs.List.{AllByRecursion}
 use Rattle.bq_text.specs.declared.key.Key.TheVariants.{CreateKey, QueryKey, AsKey, SelectKey, FromKey, AndKey}
-use Rattle.bq_parser.specs.declared.places.State.{State}
-use Rattle.bq_parser.specs.declared.places.State.TheVariants.{Start, AfterCompact, ColumnName, QuerySelect, FirstSelected, SelectedStream, AfterSelected, FromName, AfterFrom, AtomLeft, AfterAtom, AfterValue, Complete, Ended}
-use Rattle.bq_parser.specs.declared.places.Action.TheVariants.{BeginCompact, BeginSharedCompact}
+use Rattle.bq_parser.specs.declared.transitions.State.{State}
+use Rattle.bq_parser.specs.declared.transitions.State.TheVariants.{Start, AfterCompact, ColumnName, QuerySelect, FirstSelected, SelectedStream, AfterSelected, FromName, AfterFrom, AtomLeft, AfterAtom, AfterValue, Complete, Ended}
+use Rattle.bq_parser.specs.declared.transitions.Action.TheVariants.{BeginCompact, BeginSharedCompact}
 use Rattle.bq_schema.specs.declared.column.ColumnDef.{ColumnDef}
 use Rattle.bq_parser.specs.declared.tree.ColumnAst.{ColumnAst}
 use Rattle.bq_parser.specs.declared.tree.OperandAst.{OperandAst}

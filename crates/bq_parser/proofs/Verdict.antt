@@ -3,16 +3,16 @@ use Rattle.std.proofs.Common.{◌≡◌, ℕ, true, false, List, [], ◌∷◌, 
 use Rattle.bq_lexer.specs.declared.token.TokenKind.{TokenKind}
 use Rattle.bq_lexer.specs.declared.token.TokenKind.TheVariants.{Word, Reserved, Integer, Comma, Point, Open, Close, Less, Equal, Greater, LessEqual, GreaterEqual, Unequal, Semi}
 use Rattle.bq_lexer.specs.declared.token.Token.{Token}
-use Rattle.bq_parser.specs.declared.places.State.{State}
-use Rattle.bq_parser.specs.declared.places.State.TheVariants.{Start, AfterFrom, AfterAtom, AfterValue, Complete, Ended}
-use Rattle.bq_parser.specs.declared.places.Action.{Action}
+use Rattle.bq_parser.specs.declared.transitions.State.{State}
+use Rattle.bq_parser.specs.declared.transitions.State.TheVariants.{Start, AfterFrom, AfterAtom, AfterValue, Complete, Ended}
+use Rattle.bq_parser.specs.declared.transitions.Action.{Action}
 use Rattle.bq_parser.specs.declared.tree.Statement.{Statement}
 use Rattle.std.specs.Prelude.{slice_range}
 use Rattle.bq_parser.specs.Steps.{step_of}
 use Rattle.bq_parser.specs.Grammar.{Lexeme, Spells, Begins}
 use Rattle.bq_parser.specs.declared.draft.Form.TheVariants as forms
 use Rattle.bq_parser.specs.Reading.{Parts, no_parts, act, text_of, kind_at, built, finished, walk, walk_on, may_end}
-use Rattle.bq_parser.specs.Syntax.{lexeme_as, lexeme_of, lexemes, StopsAt, EndsEarly, after_step, place_after}
+use Rattle.bq_parser.specs.Syntax.{lexeme_as, lexeme_of, lexemes, StopsAt, EndsEarly, after_step, state_after}
 use Rattle.bq_parser.proofs.Compact.{capitals, spelt_walk}
 use Rattle.bq_parser.proofs.WalkLaws.{walk_told, stopped_always}
 use Rattle.bq_parser.proofs.Begun.{begun}
@@ -47,7 +47,7 @@ pub record StopsIn (line : List ℕ) (place : State) (p : Parts) (ts : List Toke
   pub read : walk place p (lexemes line front) ≡ Ok (to, parts)
   pub none : step_of to (kind_at (lexeme_of line stop)) (text_of (lexeme_of line stop)) ≡ None
 
-stops_on : (line : List ℕ) (place : State) (p : Parts) (t : Token) (ts : List Token) (at : ℕ) (o : Option (State × Action)) → step_of place t.kind (slice_range line t.from t.to) ≡ o → ((pl : State) (r : Parts) → place_after line pl ts ≡ Err at → StopsIn line pl r ts at) → after_step o t (λ pl. place_after line pl ts) ≡ Err at → StopsIn line place p (t ∷ ts) at
+stops_on : (line : List ℕ) (place : State) (p : Parts) (t : Token) (ts : List Token) (at : ℕ) (o : Option (State × Action)) → step_of place t.kind (slice_range line t.from t.to) ≡ o → ((pl : State) (r : Parts) → state_after line pl ts ≡ Err at → StopsIn line pl r ts at) → after_step o t (λ pl. state_after line pl ts) ≡ Err at → StopsIn line place p (t ∷ ts) at
 stops_on line place p t ts at None is ih e = record { front = []; stop = t; after = ts; to = place; parts = p; whole = refl; place_is = cc; read = refl; none = step_same place t.kind (slice_range line t.from t.to) ∙ is }
 stops_on line place p t ts at (Some m) is ih e =
     let l = lexeme_of line t in
@@ -64,7 +64,7 @@ stops_on line place p t ts at (Some m) is ih e =
       none = s.none;
     }
 
-stops : (line : List ℕ) (place : State) (p : Parts) (ts : List Token) (at : ℕ) → place_after line place ts ≡ Err at → StopsIn line place p ts at
+stops : (line : List ℕ) (place : State) (p : Parts) (ts : List Token) (at : ℕ) → state_after line place ts ≡ Err at → StopsIn line place p ts at
 stops line place p [] at e = cc
 stops line place p (t ∷ ts) at e = stops_on line place p t ts at (step_of place t.kind (slice_range line t.from t.to)) refl (λ pl r. stops line pl r ts at) e
 
@@ -78,7 +78,7 @@ stopped_begins front stop to q read none (more, s, spells) =
     let stuck = ap (walk Start no_parts) (append_assoc front (stop ∷ []) more) ∙ stopped_always Start no_parts front stop more to q read none in
     cc (r.read, stuck)
 
-pub stops_at : (line : List ℕ) (ts : List Token) (at : ℕ) → place_after line Start ts ≡ Err at → StopsAt line ts at
+pub stops_at : (line : List ℕ) (ts : List Token) (at : ℕ) → state_after line Start ts ≡ Err at → StopsAt line ts at
 stops_at line ts at e =
     let s = stops line Start no_parts ts at e in
     record {

@@ -1,13 +1,13 @@
 -- What reading tells of the grammar.
 use Rattle.std.proofs.Common.{◌≡◌, List, [], ◌∷◌, ◌++◌, Option, Some, None, IfSome, refl, ap, sym, ◌∙◌, append_assoc, inl, inr, append-nil, subst, Ok, Err}
-use Rattle.bq_parser.specs.declared.places.State.{State}
-use Rattle.bq_parser.specs.declared.places.State.TheVariants.{AfterFrom, AfterAtom, AfterValue, Complete, Ended}
+use Rattle.bq_parser.specs.declared.transitions.State.{State}
+use Rattle.bq_parser.specs.declared.transitions.State.TheVariants.{AfterFrom, AfterAtom, AfterValue, Complete, Ended}
 use Rattle.bq_parser.specs.declared.tree.Statement.{Statement}
 use Rattle.bq_parser.specs.Steps.{step_of}
 use Rattle.bq_parser.specs.Grammar.{Lexeme, Spells}
 use Rattle.bq_parser.specs.declared.draft.Form.TheVariants as forms
 use Rattle.bq_parser.specs.Reading.{Parts, act, text_of, kind_at, built, finished, walk, walk_on}
-use Rattle.bq_parser.specs.declared.places.Action.{Action}
+use Rattle.bq_parser.specs.declared.transitions.Action.{Action}
 use Rattle.bq_parser.proofs.Compact.{IsSpelt}
 use Rattle.bq_parser.proofs.Told.{told, Fine, told_step, none_told, query_spelled, no_atoms}
 

@@ -3,8 +3,8 @@ use Rattle.std.specs.Prelude.{ℕ, ℤ, pos, true, false, nat_lt, List, [], ◌�
 use Rattle.bq_text.specs.Name.{is_name}
 use Rattle.bq_text.specs.Value.{value_of}
 use Rattle.bq_model.specs.declared.atom.Op.TheVariants.{Lt, Eq, Gt, Le, Ge, Ne}
-use Rattle.bq_parser.specs.declared.places.Action.{Action}
-use Rattle.bq_parser.specs.declared.places.Action.TheVariants as actions
+use Rattle.bq_parser.specs.declared.transitions.Action.{Action}
+use Rattle.bq_parser.specs.declared.transitions.Action.TheVariants as actions
 use Rattle.bq_parser.specs.declared.tree.ColumnAst.{ColumnAst}
 use Rattle.bq_parser.specs.declared.tree.OperandAst.{OperandAst}
 use Rattle.bq_parser.specs.declared.tree.OperandAst.TheVariants.{Column, Integer}

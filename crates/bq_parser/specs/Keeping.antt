@@ -1,13 +1,13 @@
 -- What is kept of the parts of a statement.
 use Rattle.std.specs.Prelude.{◌≡◌, ◌≤◌, ℕ, ℤ, pos, nat_lt, if◌then◌else◌, List, length, map, take, slice_range, Option, Some, None, Ok}
 use Rattle.bq_text.specs.Value.{value_of, fits_i64}
-use Rattle.bq_parser.specs.declared.places.State.{State}
-use Rattle.bq_parser.specs.declared.places.State.TheVariants.{Start}
+use Rattle.bq_parser.specs.declared.transitions.State.{State}
+use Rattle.bq_parser.specs.declared.transitions.State.TheVariants.{Start}
 use Rattle.bq_parser.specs.Syntax.{lexemes}
 use Rattle.bq_lexer.specs.declared.token.Token.{Token}
 use Rattle.bq_lexer.specs.Tokens.{kind_of}
-use Rattle.bq_parser.specs.declared.places.Action.{Action}
-use Rattle.bq_parser.specs.declared.places.Action.TheVariants as actions
+use Rattle.bq_parser.specs.declared.transitions.Action.{Action}
+use Rattle.bq_parser.specs.declared.transitions.Action.TheVariants as actions
 use Rattle.bq_schema.specs.declared.column.ColumnDef.{ColumnDef}
 use Rattle.bq_parser.specs.declared.tree.ColumnAst.{ColumnAst}
 use Rattle.bq_parser.specs.declared.tree.OperandAst.{OperandAst}
@@ -96,7 +96,7 @@ pub record IsCut (line : List ℕ) (t : Token) : Type 0 where
   pub inside : t.to ≤ length line
   pub kind : kind_of (slice_range line t.from t.to) ≡ Some t.kind
 
--- the tokens lead to the place, and the draft keeps the parts that they make
+-- the tokens lead to the state, and the draft keeps the parts that they make
 pub record IsRead (line : List ℕ) (ts : List Token) (place : State) (d : Draft) : Type 0 where
   pub parts : Parts
   pub read : walk Start no_parts (lexemes line ts) ≡ Ok (place, parts)

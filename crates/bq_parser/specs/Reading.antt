@@ -1,11 +1,11 @@
--- Reading from left to right: the place, and the parts of the statement so far.
+-- Reading from left to right: the state, and the parts of the statement so far.
 use Rattle.std.specs.Prelude.{ℕ, Bool, true, false, ℤ, pos, List, [], ◌∷◌, ◌++◌, codes, Option, Some, None, Result, Ok, Err}
 use Rattle.bq_lexer.specs.declared.token.TokenKind.{TokenKind}
 use Rattle.bq_lexer.specs.declared.token.TokenKind.TheVariants as kinds
-use Rattle.bq_parser.specs.declared.places.State.{State}
-use Rattle.bq_parser.specs.declared.places.State.TheVariants as places
-use Rattle.bq_parser.specs.declared.places.Action.{Action}
-use Rattle.bq_parser.specs.declared.places.Action.TheVariants as actions
+use Rattle.bq_parser.specs.declared.transitions.State.{State}
+use Rattle.bq_parser.specs.declared.transitions.State.TheVariants as states
+use Rattle.bq_parser.specs.declared.transitions.Action.{Action}
+use Rattle.bq_parser.specs.declared.transitions.Action.TheVariants as actions
 use Rattle.bq_model.specs.declared.atom.Op.{Op}
 use Rattle.bq_model.specs.declared.atom.Op.TheVariants.{Lt, Eq, Gt, Le, Ge, Ne}
 use Rattle.bq_schema.specs.declared.column.ColumnDef.{ColumnDef}
@@ -131,11 +131,11 @@ built forms.Tuple p = ResumeTuple p.name (record { items = p.values })
 
 -- the statement, where one may end there
 abbrev pub finished : State → Parts → Option Statement
-finished places.AfterFrom p = Some (built forms.Query p)
-finished places.AfterAtom p = Some (built forms.Query p)
-finished places.AfterValue p = Some (built forms.Tuple p)
-finished places.Complete p = Some (built p.form p)
-finished places.Ended p = Some (built p.form p)
+finished states.AfterFrom p = Some (built forms.Query p)
+finished states.AfterAtom p = Some (built forms.Query p)
+finished states.AfterValue p = Some (built forms.Tuple p)
+finished states.Complete p = Some (built p.form p)
+finished states.Ended p = Some (built p.form p)
 finished _ p = None
 
 -- one step, and on from there
@@ -143,16 +143,16 @@ abbrev pub walk_on : Option (State × Action) → Parts → Lexeme → List Lexe
 walk_on None p l ts on = Err (l ∷ ts)
 walk_on (Some m) p l ts on = on m.0 (act m.1 l p)
 
--- The place and the parts after the tokens; or what is left from the first token on that begins no statement.
+-- The state and the parts after the tokens; or what is left from the first token on that begins no statement.
 abbrev pub walk : State → Parts → List Lexeme → Result (State × Parts) (List Lexeme)
 walk place p [] = Ok (place, p)
 walk place p (l ∷ ts) = walk_on (step_of place (kind_at l) (text_of l)) p l ts (λ to q. walk to q ts)
 
--- whether a statement may end at a place
+-- whether a statement may end in a state
 abbrev pub may_end : State → Bool
-may_end places.AfterFrom = true
-may_end places.AfterAtom = true
-may_end places.AfterValue = true
-may_end places.Complete = true
-may_end places.Ended = true
+may_end states.AfterFrom = true
+may_end states.AfterAtom = true
+may_end states.AfterValue = true
+may_end states.Complete = true
+may_end states.Ended = true
 may_end _ = false

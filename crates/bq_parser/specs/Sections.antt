@@ -1,7 +1,7 @@
--- The sections of a statement: which places belong together.
+-- The sections of a statement: which states belong together.
 use Rattle.std.specs.Prelude.{Bool, true, false}
-use Rattle.bq_parser.specs.declared.places.State.{State}
-use Rattle.bq_parser.specs.declared.places.State.TheVariants.{Start, AfterCreate, AfterShared, AfterCompact, StreamName, OpenColumns, ColumnName, AfterColumn, DomainLow, FirstPoint, SecondPoint, DomainHigh, AfterDomain, QueryName, QueryAs, QuerySelect, FirstSelected, SelectedStream, SelectedPoint, SelectedColumn, AfterSelected, FromName, AfterFrom, AtomLeft, LeftPoint, LeftColumn, ColumnOp, IntegerOp, RightAny, RightStream, RightPoint, RightColumn, AfterAtom, AfterResume, ResumeWhat, GivenRows, CellIndex, CellContent, TupleValue, AfterValue, ExplainName, AfterDrop, DropName, Complete, Ended}
+use Rattle.bq_parser.specs.declared.transitions.State.{State}
+use Rattle.bq_parser.specs.declared.transitions.State.TheVariants.{Start, AfterCreate, AfterShared, AfterCompact, StreamName, OpenColumns, ColumnName, AfterColumn, DomainLow, FirstPoint, SecondPoint, DomainHigh, AfterDomain, QueryName, QueryAs, QuerySelect, FirstSelected, SelectedStream, SelectedPoint, SelectedColumn, AfterSelected, FromName, AfterFrom, AtomLeft, LeftPoint, LeftColumn, ColumnOp, IntegerOp, RightAny, RightStream, RightPoint, RightColumn, AfterAtom, AfterResume, ResumeWhat, GivenRows, CellIndex, CellContent, TupleValue, AfterValue, ExplainName, AfterDrop, DropName, Complete, Ended}
 
 -- at the beginning of a statement
 abbrev pub is_begun : State → Bool

@@ -3,13 +3,13 @@ use Rattle.std.specs.Prelude.{ℕ, if◌then◌else◌, List, Option, Some, None
 use Rattle.bq_text.specs.declared.key.Key.TheVariants.{CreateKey, StreamKey, QueryKey, AsKey, SelectKey, DistinctKey, FromKey, WhereKey, AndKey, ExplainKey, DropKey, InKey, SharedKey, CheckpointKey, ResumeKey}
 use Rattle.bq_lexer.specs.declared.token.TokenKind.{TokenKind}
 use Rattle.bq_lexer.specs.declared.token.TokenKind.TheVariants.{Word, Reserved, Integer, Comma, Point, Open, Close, Less, Equal, Greater, LessEqual, GreaterEqual, Unequal, Semi}
-use Rattle.bq_parser.specs.declared.places.State.{State}
-use Rattle.bq_parser.specs.declared.places.State.TheVariants.{Start, AfterCreate, AfterShared, AfterCompact, StreamName, OpenColumns, ColumnName, AfterColumn, DomainLow, FirstPoint, SecondPoint, DomainHigh, AfterDomain, QueryName, QueryAs, QuerySelect, FirstSelected, SelectedStream, SelectedPoint, SelectedColumn, AfterSelected, FromName, AfterFrom, AtomLeft, LeftPoint, LeftColumn, ColumnOp, RightAny, IntegerOp, RightStream, RightPoint, RightColumn, AfterAtom, ExplainName, AfterDrop, DropName, AfterResume, ResumeWhat, GivenRows, CellIndex, CellContent, TupleValue, AfterValue, Complete, Ended}
-use Rattle.bq_parser.specs.declared.places.Action.{Action}
-use Rattle.bq_parser.specs.declared.places.Action.TheVariants.{Nothing, BeginExplain, BeginDrop, BeginStream, BeginQuery, BeginShared, BeginCompact, BeginSharedCompact, Named, BeginColumns, ColumnIs, AddColumn, LowIs, AddBounded, BeginSelect, SetDistinct, StreamIs, AddSelected, BeginFrom, AddFrom, LeftInteger, LeftColumnIs, OpLess, OpEqual, OpGreater, OpLessEqual, OpGreaterEqual, OpUnequal, AddIntegerAtom, AddColumnAtom, BeginCheckpoint, RowsAre, BeginGiven, BeginCell, IndexIs, CountIs, BeginTuple, AddValue}
+use Rattle.bq_parser.specs.declared.transitions.State.{State}
+use Rattle.bq_parser.specs.declared.transitions.State.TheVariants.{Start, AfterCreate, AfterShared, AfterCompact, StreamName, OpenColumns, ColumnName, AfterColumn, DomainLow, FirstPoint, SecondPoint, DomainHigh, AfterDomain, QueryName, QueryAs, QuerySelect, FirstSelected, SelectedStream, SelectedPoint, SelectedColumn, AfterSelected, FromName, AfterFrom, AtomLeft, LeftPoint, LeftColumn, ColumnOp, RightAny, IntegerOp, RightStream, RightPoint, RightColumn, AfterAtom, ExplainName, AfterDrop, DropName, AfterResume, ResumeWhat, GivenRows, CellIndex, CellContent, TupleValue, AfterValue, Complete, Ended}
+use Rattle.bq_parser.specs.declared.transitions.Action.{Action}
+use Rattle.bq_parser.specs.declared.transitions.Action.TheVariants.{Nothing, BeginExplain, BeginDrop, BeginStream, BeginQuery, BeginShared, BeginCompact, BeginSharedCompact, Named, BeginColumns, ColumnIs, AddColumn, LowIs, AddBounded, BeginSelect, SetDistinct, StreamIs, AddSelected, BeginFrom, AddFrom, LeftInteger, LeftColumnIs, OpLess, OpEqual, OpGreater, OpLessEqual, OpGreaterEqual, OpUnequal, AddIntegerAtom, AddColumnAtom, BeginCheckpoint, RowsAre, BeginGiven, BeginCell, IndexIs, CountIs, BeginTuple, AddValue}
 use Rattle.bq_parser.specs.Grammar.{is_compact}
 
--- the place behind a token of this kind, and what the token adds; nothing, where no statement goes on so
+-- the state behind a token of this kind, and what the token adds; nothing, where no statement goes on so
 abbrev pub step : State → TokenKind → Option (State × Action)
 step Start (Reserved CreateKey) = Some (AfterCreate, Nothing)
 step Start (Reserved ExplainKey) = Some (ExplainName, BeginExplain)

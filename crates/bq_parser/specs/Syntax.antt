@@ -6,8 +6,8 @@ use Rattle.bq_lexer.specs.declared.token.TokenKind.TheVariants.{Word, Reserved, 
 use Rattle.bq_lexer.specs.declared.token.Token.{Token}
 use Rattle.bq_lexer.specs.Tokens.{tokens}
 use Rattle.bq_parser.specs.declared.tree.Statement.{Statement}
-use Rattle.bq_parser.specs.declared.places.State.{State}
-use Rattle.bq_parser.specs.declared.places.Action.{Action}
+use Rattle.bq_parser.specs.declared.transitions.State.{State}
+use Rattle.bq_parser.specs.declared.transitions.Action.{Action}
 use Rattle.bq_parser.specs.Grammar.{Lexeme, word, number, key, comma, point, opening, closing, less, equal, greater, less_equal, greater_equal, unequal, semicolon, Spells, Begins}
 use Rattle.bq_parser.specs.Steps.{step_of}
 
@@ -72,7 +72,7 @@ abbrev pub after_step : Option (State × Action) → Token → (State → Result
 after_step None t on = Err t.from
 after_step (Some m) t on = on m.0
 
--- the place after the tokens of a line, or the place in the line of the first one that goes on nowhere
-abbrev pub place_after : List ℕ → State → List Token → Result State ℕ
-place_after line place [] = Ok place
-place_after line place (t ∷ ts) = after_step (step_of place t.kind (slice_range line t.from t.to)) t (λ to. place_after line to ts)
+-- the state after the tokens of a line, or the place in the line of the first one that goes on nowhere
+abbrev pub state_after : List ℕ → State → List Token → Result State ℕ
+state_after line place [] = Ok place
+state_after line place (t ∷ ts) = after_step (step_of place t.kind (slice_range line t.from t.to)) t (λ to. state_after line to ts)

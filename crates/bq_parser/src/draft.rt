@@ -10,7 +10,7 @@ ghost use Rattle.bq_parser.specs.Keeping.{kept_parts};
 ghost use Rattle.bq_parser.specs.declared.draft.Form.TheVariants as forms;
 ghost use Rattle.bq_parser.specs.DraftSteps.{drafted, no_items, put, kept, or_far, statement_of, column_with, atom_with};
 
-use crate::places::Action;
+use crate::transitions::Action;
 use crate::tree::{AtomAst, ColumnAst, OperandAst, SelectAst, Statement};
 use arrayvec::ArrayVec;
 use bq_model::Op;

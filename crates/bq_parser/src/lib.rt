@@ -1,6 +1,6 @@
 //! Statements: their grammar, and how they are read.
 //!
-//! A line is first classified. What is left of a statement line is cut into tokens, and one pass over them walks a table of places
+//! A line is first classified. What is left of a statement line is cut into tokens, and one pass over them walks a table of states
 //! and fills a draft. The grammar itself is a definition from statements to tokens (`specs/Grammar.antt`); the table is a means of
 //! the code, and the proofs show that both say the same.
 #![tactic(auto)]
@@ -11,12 +11,12 @@ pub mod laws;
 mod limits;
 mod line;
 mod parsing;
-mod places;
 mod reading;
 mod resolution;
+mod transitions;
 mod tree;
 
-pub use line::{LineKind, classify};
+pub use line::{LineKind, classify, stripped};
 pub use parsing::{ParseError, What, parse};
 pub use resolution::{ResolveError, resolve};
 pub use tree::{AtomAst, ColumnAst, OperandAst, SelectAst, Statement};

@@ -58,6 +58,13 @@ fn kind_of(bytes: &[u8]) -> LineKind
     }
 }
 
+/// Returns what is left of a line without one CR at its end and then without blanks at both ends.
+pub fn stripped(line: &[u8]) -> &[u8]
+    ensures { result.now ≡ lines.stripped line.now }
+{
+    trim(without_return(line))
+}
+
 /// Returns the kind of a line, and what is left of it without one CR at its end and then without blanks at both ends. What is left of
 /// a row line is one as `Catalog::read_row` reads it.
 pub fn classify(line: &[u8]) -> (LineKind, &[u8])
@@ -65,6 +72,6 @@ pub fn classify(line: &[u8]) -> (LineKind, &[u8])
     ensures kind { result.0 ≡ lines.kind_of_line (lines.stripped line.now) }
     ensures row { result.0 ≡ kinds.RowLine → IsTrue (lines.is_row result.1.now) }
 {
-    let text = trim(without_return(line));
+    let text = stripped(line);
     (kind_of(text), text)
 }

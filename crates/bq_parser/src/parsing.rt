@@ -6,8 +6,8 @@ ghost use Rattle.bq_parser.specs.Limits.{limit_of};
 ghost use Rattle.bq_parser.specs.Refusal.{IsRefusal};
 
 use crate::limits::limit_passed;
-use crate::places::State;
 use crate::reading::read_parts;
+use crate::transitions::State;
 use crate::tree::Statement;
 use bq_lexer::lex;
 use thiserror::Error;
@@ -39,12 +39,12 @@ pub enum ParseError {
     Limit { what: What },
 }
 
-// Whether a statement may end at a place.
-fn is_end(place: State) -> bool
-    ensures { result ≡ may_end place }
+// Whether a statement may end in a state.
+fn is_end(state: State) -> bool
+    ensures { result ≡ may_end state }
 {
     matches!(
-        place,
+        state,
         State::AfterFrom | State::AfterAtom | State::AfterValue | State::Complete | State::Ended
     )
 }
@@ -58,11 +58,11 @@ pub fn parse(line: &[u8]) -> Result<Statement, ParseError>
         Ok(tokens) => tokens,
         Err(fault) => return Err(ParseError::Syntax { at: fault.at }),
     };
-    let (place, draft) = match read_parts(line, tokens.as_slice()) {
+    let (state, draft) = match read_parts(line, tokens.as_slice()) {
         Ok(found) => found,
         Err(at) => return Err(ParseError::Syntax { at }),
     };
-    if !is_end(place) {
+    if !is_end(state) {
         return Err(ParseError::Syntax {
             at: line.len() as u16,
         });

@@ -1,15 +1,15 @@
 //! The parts of a statement, read from its tokens.
 //!
-//! One pass over the tokens keeps the place that they lead to, and a draft of the statement. Whether a statement may end at that
-//! place, and whether it is within its limits, is asked behind the last token.
+//! One pass over the tokens keeps the state that they lead to, and a draft of the statement. Whether a statement may end in that
+//! state, and whether it is within its limits, is asked behind the last token.
 ghost use Rattle.std.specs.Prelude.{◌≡◌, ◌≤◌, Ok, Err, length, slice_range, MatchResult, All};
-ghost use Rattle.bq_parser.specs.Syntax.{place_after};
+ghost use Rattle.bq_parser.specs.Syntax.{state_after};
 ghost use Rattle.bq_parser.specs.Reading.{no_parts};
 ghost use Rattle.bq_parser.specs.Keeping.{kept_parts, IsCut, IsRead};
-ghost use Rattle.bq_parser.specs.declared.places.State.TheVariants.{Start};
+ghost use Rattle.bq_parser.specs.declared.transitions.State.TheVariants.{Start};
 
 use crate::draft::{Draft, start};
-use crate::places::{State, next_of};
+use crate::transitions::{State, transition_of};
 use bq_lexer::Token;
 
 // The bytes of a token.
@@ -20,22 +20,22 @@ fn text_at<'a>(line: &'a [u8], token: &Token) -> &'a [u8]
     &line[token.from as usize..token.to as usize]
 }
 
-/// Returns the place behind the tokens and what is kept of them, or where the first token stands that begins no statement.
+/// Returns the state behind the tokens and what is kept of them, or where the first token stands that begins no statement.
 pub fn read_parts(line: &[u8], tokens: &[Token]) -> Result<(State, Draft), u16>
     requires { All (IsCut line.now) tokens.now }
-    ensures { MatchResult result (λ found. IsRead line.now tokens.now found.0 found.1) (λ at. place_after line.now Start tokens.now ≡ Err at) }
+    ensures { MatchResult result (λ found. IsRead line.now tokens.now found.0 found.1) (λ at. state_after line.now Start tokens.now ≡ Err at) }
 {
-    let mut place = State::Start;
+    let mut state = State::Start;
     let mut draft = start();
     for token in tokens {
         let text = text_at(line, token);
-        match next_of(place, token.kind, text) {
+        match transition_of(state, token.kind, text) {
             Some((to, action)) => {
                 draft.take(action, text);
-                place = to;
+                state = to;
             }
             None => return Err(token.from),
         }
     }
-    Ok((place, draft))
+    Ok((state, draft))
 }

@@ -14,8 +14,8 @@ use Rattle.bq_print.specs.Printed.{text_for, joins_last, gap_by, spaced_by, join
 use Rattle.bq_parser.proofs.Compact.{capitals}
 use Rattle.bq_print.proofs.Spaced.{IsSound, MayFollow, StopsFor, stops_digits, front, number_again}
 use Rattle.bq_parser.specs.declared.tree.Statement.{Statement}
-use Rattle.bq_parser.specs.declared.places.State.{State}
-use Rattle.bq_parser.specs.declared.places.State.TheVariants.{Start}
+use Rattle.bq_parser.specs.declared.transitions.State.{State}
+use Rattle.bq_parser.specs.declared.transitions.State.TheVariants.{Start}
 use Rattle.bq_parser.specs.Grammar.{IsWhole, statement_tokens}
 use Rattle.bq_parser.specs.Reading.{Parts, no_parts, walk, finished}
 use Rattle.bq_parser.specs.Syntax.{IsStatement}

@@ -17,5 +17,5 @@ mod types;
 
 pub use known::{Basis, bounds_of};
 pub use range::Range;
-pub use reading::refs;
+pub use reading::{has_left, has_right, refs};
 pub use types::Refs;

@@ -30,31 +30,24 @@ fn ranges(q: &Query, p: &Part, bounds: &Distances) -> ArrayVec<Option<Range>, 12
     list
 }
 
-// Whether two columns are the same.
-fn is_same(a: Attr, b: Attr) -> bool
-    ensures { IsTrue result ↔ a ≡ b }
-{
-    a.stream == b.stream && a.column == b.column
-}
-
-// Whether an attribute stands on the left of a link.
-fn has_left(links: &[Link], attr: Attr) -> bool
+/// Returns whether a column stands on the left of a link.
+pub fn has_left(links: &[Link], attr: Attr) -> bool
     ensures { IsTrue result ↔ Any (λ l. l.left ≡ attr) links.now }
 {
     for l in links {
-        if is_same(l.left, attr) {
+        if l.left == attr {
             return true;
         }
     }
     false
 }
 
-// Whether an attribute stands on the right of a link.
-fn has_right(links: &[Link], attr: Attr) -> bool
+/// Returns whether a column stands on the right of a link.
+pub fn has_right(links: &[Link], attr: Attr) -> bool
     ensures { IsTrue result ↔ Any (λ l. l.right ≡ attr) links.now }
 {
     for l in links {
-        if is_same(l.right, attr) {
+        if l.right == attr {
             return true;
         }
     }

@@ -10,7 +10,7 @@ ghost use Rattle.bq_script.specs.Ends.{GivesText, IsText, ReadsBlank};
 use crate::end::ScriptEnd;
 use bq_feed::{LineAnswer, LineReader};
 use bq_io::Source;
-use bq_parser::{LineKind, classify};
+use bq_parser::{LineKind, classify, stripped};
 use bq_reply::Refusal;
 
 /// What comes next in a script, behind blank lines and comments.
@@ -63,7 +63,7 @@ pub fn next_text<I: Source>(reader: &mut LineReader, input: &mut I) -> TextAnswe
 pub fn text(reader: &LineReader) -> &[u8]
     ensures { result.now ≡ stripped reader.now.line }
 {
-    classify(reader.line()).1
+    stripped(reader.line())
 }
 
 /// Returns the end of a script at the line that was given last, which this word refuses.

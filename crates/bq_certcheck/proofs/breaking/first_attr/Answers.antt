@@ -1,6 +1,6 @@
 use Rattle.bq_model.specs.Query.{attrs_of}
 use Rattle.bq_model.specs.Violation.{Breaks}
-use Rattle.bq_certcheck.proofs.Firsts.{first_more_at, first_end_at}
+use Rattle.bq_model.proofs.FirstColumns.{first_more_at, first_end_at}
 use Rattle.bq_certcheck.proofs.breaking.first_attr.Goals as goal
 
 pub loop-i-preserved : goal.loop-i-preserved

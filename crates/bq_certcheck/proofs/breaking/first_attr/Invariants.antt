@@ -1,7 +1,7 @@
 use Rattle.std.proofs.Common.{take}
 use Rattle.bq_model.specs.Query.{attrs_of}
 use Rattle.bq_model.specs.Violation.{Breaks}
-use Rattle.bq_certcheck.specs.FirstBreak.{IsFirstAmong}
+use Rattle.bq_model.specs.FirstBreak.{IsFirstAmong}
 use Rattle.bq_certcheck.proofs.breaking.first_attr.Given as goal
 
 abbrev pub invariant-loop-i : goal.invariant-loop-i

@@ -1,6 +1,6 @@
 use Rattle.bq_model.specs.declared.condition.Condition.TheVariants.{C1}
 use Rattle.bq_model.specs.Violation.{Breaks}
-use Rattle.bq_certcheck.proofs.Firsts.{first_more_at, first_end_at}
+use Rattle.bq_model.proofs.FirstColumns.{first_more_at, first_end_at}
 use Rattle.bq_certcheck.proofs.breaking.first_selected.Goals as goal
 
 pub loop-i-preserved : goal.loop-i-preserved

@@ -1,5 +1,5 @@
 use Rattle.bq_model.specs.Violation.{Breaks}
-use Rattle.bq_decide.proofs.Firsts.{first_more, first_end}
+use Rattle.bq_model.proofs.FirstColumns.{first_more, first_end}
 use Rattle.bq_decide.proofs.breaking.first_among.Goals as goal
 
 pub loop-i-preserved : goal.loop-i-preserved

@@ -1,6 +1,6 @@
 use Rattle.std.proofs.Common.{take}
 use Rattle.bq_model.specs.Violation.{Breaks}
-use Rattle.bq_decide.specs.Deciding.{IsFirstAmong}
+use Rattle.bq_model.specs.FirstBreak.{IsFirstAmong}
 use Rattle.bq_decide.proofs.breaking.first_among.Given as goal
 
 abbrev pub invariant-loop-i : goal.invariant-loop-i

@@ -3,9 +3,9 @@ use Rattle.bq_model.specs.declared.atom.Attr.{Attr}
 use Rattle.bq_model.specs.declared.condition.Condition.TheVariants.{C2}
 use Rattle.bq_model.specs.Query.{attrs_of}
 use Rattle.bq_model.specs.Violation.{Breaks}
-use Rattle.bq_decide.specs.Deciding.{IsFirstAmong}
-use Rattle.bq_decide.proofs.Firsts.{first_of_all}
-use Rattle.bq_decide.proofs.Named.{named_in_equality}
+use Rattle.bq_model.specs.FirstBreak.{IsFirstAmong}
+use Rattle.bq_model.proofs.FirstColumns.{first_of_all}
+use Rattle.bq_model.proofs.FirstBreaks.{named_in_equality}
 use Rattle.bq_decide.proofs.breaking.first_unbounded_equal.Goals as goal
 
 pub returns : goal.returns

@@ -2,9 +2,9 @@ use Rattle.std.proofs.Common.{List, subst}
 use Rattle.bq_model.specs.declared.atom.Attr.{Attr}
 use Rattle.bq_model.specs.declared.condition.Condition.TheVariants.{C1}
 use Rattle.bq_model.specs.Violation.{Breaks}
-use Rattle.bq_decide.specs.Deciding.{IsFirstAmong}
-use Rattle.bq_decide.proofs.Firsts.{first_of_all}
-use Rattle.bq_decide.proofs.Named.{selected}
+use Rattle.bq_model.specs.FirstBreak.{IsFirstAmong}
+use Rattle.bq_model.proofs.FirstColumns.{first_of_all}
+use Rattle.bq_model.proofs.FirstBreaks.{selected}
 use Rattle.bq_decide.proofs.breaking.first_unbounded_selected.Goals as goal
 
 pub returns : goal.returns

@@ -1,5 +1,5 @@
 use Rattle.bq_lto_split.specs.Split.{sign_lists}
-use Rattle.bq_decide.specs.Chosen.{NoneBefore}
+use Rattle.bq_decide.specs.Deciding.{NoneBefore}
 use Rattle.bq_decide.proofs.decision.decide.Given as goal
 
 abbrev pub invariant-loop-i : goal.invariant-loop-i

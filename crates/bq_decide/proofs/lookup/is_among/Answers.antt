@@ -1,15 +1,18 @@
-use Rattle.std.proofs.Common.{◌≡◌, refl}
+use Rattle.std.proofs.Common.{◌≡◌, ◌∙◌, true, refl, sym, subst}
 use Rattle.bq_model.specs.declared.atom.Attr.{Attr}
+use Rattle.bq_model.specs.Query.{attr_eq}
+use Rattle.bq_model.proofs.Once.{attr_same}
+use Rattle.bq_model.proofs.OneGroup.{attr_eq-itself}
 use Rattle.bq_refs.proofs.Searching.{no_more, not_any, any_at}
 use Rattle.bq_refs.proofs.Gathered.{not_from}
 use Rattle.bq_decide.proofs.lookup.is_among.Goals as goal
 
 pub loop-i-preserved : goal.loop-i-preserved
-loop-i-preserved c = no_more (λ (a : Attr). a ≡ c.args.attr) c.args.columns.now c.loop-i.i _ c.loop-i-test.true c.loop-i.invariant (not_from _ c.is_same.ensures.1 c.if-is_same.false)
+loop-i-preserved c = no_more (λ (a : Attr). a ≡ c.args.attr) c.args.columns.now c.loop-i.i _ c.loop-i-test.true c.loop-i.invariant (not_from _ (λ e. c.eq.ensures ∙ subst (λ (z : Attr). attr_eq z c.args.attr ≡ true) (sym e) (attr_eq-itself c.args.attr)) c.if-eq.false)
 
-pub returns-then-is_same : goal.returns-then-is_same
-returns-then-is_same c = (
-  (λ h. any_at (λ (a : Attr). a ≡ c.args.attr) c.args.columns.now c.loop-i.i _ c.loop-i-test.true (c.is_same.ensures.0 c.if-is_same.true)),
+pub returns-then-eq : goal.returns-then-eq
+returns-then-eq c = (
+  (λ h. any_at (λ (a : Attr). a ≡ c.args.attr) c.args.columns.now c.loop-i.i _ c.loop-i-test.true (attr_same _ c.args.attr (sym c.eq.ensures ∙ c.if-eq.true))),
   (λ a. refl),
 )
 

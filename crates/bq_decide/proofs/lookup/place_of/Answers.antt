@@ -1,11 +1,13 @@
-use Rattle.std.proofs.Common.{◌≡◌, refl}
+use Rattle.std.proofs.Common.{◌≡◌, ◌∙◌, true, refl, sym, subst}
 use Rattle.bq_model.specs.declared.atom.Attr.{Attr}
+use Rattle.bq_model.specs.Query.{attr_eq}
+use Rattle.bq_model.proofs.OneGroup.{attr_eq-itself}
 use Rattle.bq_refs.proofs.Searching.{no_more, not_any}
 use Rattle.bq_refs.proofs.Gathered.{not_from}
 use Rattle.bq_decide.proofs.lookup.place_of.Goals as goal
 
 pub loop-i-preserved : goal.loop-i-preserved
-loop-i-preserved c = no_more (λ (a : Attr). a ≡ c.args.attr) c.args.columns.now c.loop-i.i _ c.loop-i-test.true c.loop-i.invariant (not_from _ c.is_same.ensures.1 c.if-is_same.false)
+loop-i-preserved c = no_more (λ (a : Attr). a ≡ c.args.attr) c.args.columns.now c.loop-i.i _ c.loop-i-test.true c.loop-i.invariant (not_from _ (λ e. c.eq.ensures ∙ subst (λ (z : Attr). attr_eq z c.args.attr ≡ true) (sym e) (attr_eq-itself c.args.attr)) c.if-eq.false)
 
 pub returns : goal.returns
 returns c = λ w. not_any (λ (a : Attr). a ≡ c.args.attr) c.args.columns.now c.loop-i.i c.loop-i-test.false c.loop-i.invariant (w.0, c.args.attr, w.1, w.2, refl)

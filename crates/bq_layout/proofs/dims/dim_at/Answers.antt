@@ -1,4 +1,4 @@
-use Rattle.bq_layout.specs.Looking.{attr_at}
+use Rattle.bq_layout.specs.ColumnPlaces.{attr_at}
 use Rattle.bq_layout.proofs.Wanting.{no_range}
 use Rattle.bq_layout.proofs.dims.dim_at.Goals as goal
 

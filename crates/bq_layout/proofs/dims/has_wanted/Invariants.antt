@@ -1,6 +1,6 @@
 use Rattle.std.proofs.Common.{All, take}
 use Rattle.bq_model.specs.Query.{attrs_of}
-use Rattle.bq_layout.specs.Looking.{attr_at}
+use Rattle.bq_layout.specs.ColumnPlaces.{attr_at}
 use Rattle.bq_layout.specs.Classes.{IsWantedMember}
 use Rattle.bq_layout.proofs.dims.has_wanted.Given as goal
 

@@ -1,6 +1,6 @@
 use Rattle.std.proofs.Common.{IsTrue, ◌↔◌, subst}
 use Rattle.bq_model.specs.Plan.{IsWanted}
-use Rattle.bq_layout.specs.Looking.{attr_at}
+use Rattle.bq_layout.specs.ColumnPlaces.{attr_at}
 use Rattle.bq_layout.proofs.Tested.{and_told}
 use Rattle.bq_layout.proofs.dims.is_wanted_member.Goals as goal
 

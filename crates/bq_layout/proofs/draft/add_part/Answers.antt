@@ -1,7 +1,7 @@
 use Rattle.std.proofs.Common.{sym, subst, List, None}
 use Rattle.bq_model.specs.declared.part.Sign.{Sign}
 use Rattle.bq_model.specs.Parts.{IsPart}
-use Rattle.bq_decide.specs.Chosen.{IsFirstBreak}
+use Rattle.bq_model.specs.FirstBreak.{IsFirstBreak}
 use Rattle.bq_layout.specs.Sums.{AreSizesOf}
 use Rattle.bq_layout.proofs.Adding.{added}
 use Rattle.bq_layout.proofs.draft.add_part.Goals as goal

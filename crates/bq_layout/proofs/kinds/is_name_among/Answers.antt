@@ -2,7 +2,7 @@ use Rattle.std.proofs.Common.{◌∙◌, ap}
 use Rattle.std.specs.List.{list_any}
 use Rattle.bq_model.specs.declared.atom.Attr.{Attr}
 use Rattle.bq_model.specs.Query.{attr_eq}
-use Rattle.bq_layout.specs.Looking.{attr_at}
+use Rattle.bq_layout.specs.ColumnPlaces.{attr_at}
 use Rattle.bq_layout.proofs.Tested.{and_told}
 use Rattle.bq_layout.proofs.Referring.{among_told}
 use Rattle.bq_layout.proofs.kinds.is_name_among.Goals as goal

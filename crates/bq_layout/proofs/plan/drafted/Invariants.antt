@@ -1,6 +1,6 @@
 use Rattle.std.proofs.Common.{◌≡◌, take}
 use Rattle.bq_lto_split.specs.Split.{sign_lists}
-use Rattle.bq_decide.specs.Chosen.{NoneBefore}
+use Rattle.bq_decide.specs.Deciding.{NoneBefore}
 use Rattle.bq_layout.specs.Drafts.{signs_of}
 use Rattle.bq_layout.specs.Sums.{AreDrafted}
 use Rattle.bq_layout.proofs.plan.drafted.Given as goal

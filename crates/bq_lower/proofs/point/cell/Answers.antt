@@ -1,6 +1,8 @@
-use Rattle.std.proofs.Common.{rules, ◌≡◌, ◌∙◌, arith, pos, slice_index_or, to_z, of_z, w64}
+use Rattle.std.proofs.Common.{rules, ◌≡◌, ◌∙◌, true, subst, arith, pos, slice_index_or, to_z, of_z, w64}
 use Rattle.std.proofs.lemmas.Int.{to_z-of_z}
-use Rattle.bq_laws.proofs.Tests.{not_both}
+use Rattle.bq_model.specs.declared.atom.Attr.{Attr}
+use Rattle.bq_model.specs.Query.{attr_eq}
+use Rattle.bq_laws.proofs.Tests.{not_both, attr_eq-itself}
 use Rattle.bq_lower.proofs.Cells.{cell-there, cell-past}
 use Rattle.bq_lower.proofs.point.cell.Goals as goal
 
@@ -9,9 +11,9 @@ returns-then-place-point c =
     let w : to_z w64 (of_z w64 c.narrow-then-place-point.result) ≡ c.narrow-then-place-point.result = to_z-of_z w64 c.narrow-then-place-point.result (search rules) in
     let r : c.narrow-then-place-point.result ≡ slice_index_or c.args.point.now.values.now c.place_of-place.result (pos 0) = search rules in
     w ∙ r
-    ∙ cell-there _ _ _ _ _ _ c.place_of-place.result (λ e. not_both _ (c.is_same.ensures.1 e) c.if-is_same.false) c.place_of-place.ensures.value c.if-place-point.true c.requires.many
+    ∙ cell-there _ _ _ _ _ _ c.place_of-place.result (λ e. not_both _ (c.eq.ensures ∙ subst (λ (z : Attr). attr_eq c.args.attr z ≡ true) e (attr_eq-itself c.args.attr)) c.if-eq.false) c.place_of-place.ensures.value c.if-place-point.true c.requires.many
 
 pub returns-else-place-point : goal.returns-else-place-point
 returns-else-place-point c =
     let w : to_z w64 (of_z w64 c.args.blank) ≡ c.args.blank = to_z-of_z w64 c.args.blank (search rules) in
-    w ∙ cell-past _ _ _ _ _ _ c.place_of-place.result (λ e. not_both _ (c.is_same.ensures.1 e) c.if-is_same.false) c.place_of-place.ensures.value (let l = c.if-place-point.false in omega (arith, l)) c.requires.many
+    w ∙ cell-past _ _ _ _ _ _ c.place_of-place.result (λ e. not_both _ (c.eq.ensures ∙ subst (λ (z : Attr). attr_eq c.args.attr z ≡ true) e (attr_eq-itself c.args.attr)) c.if-eq.false) c.place_of-place.ensures.value (let l = c.if-place-point.false in omega (arith, l)) c.requires.many

@@ -1,5 +1,5 @@
 use Rattle.std.proofs.Common.{◌∙◌, refl}
-use Rattle.bq_mend.proofs.Looking.{more_none, within_one, none_within}
+use Rattle.bq_mend.proofs.SetSearchLaws.{more_none, within_one, none_within}
 use Rattle.bq_mend.proofs.searching.has_within.Goals as goal
 
 pub loop-i-preserved : goal.loop-i-preserved

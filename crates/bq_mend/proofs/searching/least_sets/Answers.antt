@@ -1,7 +1,7 @@
 use Rattle.std.proofs.Common.{◌≡◌, List, length, min, ap, sym, ◌∙◌}
 use Rattle.bq_model.specs.declared.atom.Attr.{Attr}
 use Rattle.bq_mend.specs.Sets.{open_columns, sets_of}
-use Rattle.bq_mend.proofs.Looking.{least_all, cut-by}
+use Rattle.bq_mend.proofs.SetSearchLaws.{least_all, cut-by}
 use Rattle.bq_mend.proofs.searching.least_sets.Goals as goal
 
 pub returns : goal.returns

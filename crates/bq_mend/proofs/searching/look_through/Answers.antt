@@ -1,5 +1,5 @@
 use Rattle.std.proofs.Common.{arith}
-use Rattle.bq_mend.proofs.Looking.{least_step, within_there}
+use Rattle.bq_mend.proofs.SetSearchLaws.{least_step, within_there}
 use Rattle.bq_mend.proofs.searching.look_through.Goals as goal
 
 pub look_at-requires : goal.look_at-requires

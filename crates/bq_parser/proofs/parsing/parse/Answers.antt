@@ -1,11 +1,11 @@
 use Rattle.std.proofs.Common.{◌≡◌, ◌∙◌, ap, sym, subst, None, List, ℕ, inl, inr, length, Result, All}
 use Rattle.bq_lexer.specs.declared.token.Token.{Token}
-use Rattle.bq_parser.specs.declared.places.State.TheVariants.{Start}
+use Rattle.bq_parser.specs.declared.transitions.State.TheVariants.{Start}
 use Rattle.bq_parser.specs.declared.tree.Statement.{Statement}
 use Rattle.bq_parser.specs.DraftLimits.{limit_in}
 use Rattle.bq_parser.specs.Keeping.{IsCut, IsRead}
 use Rattle.bq_parser.specs.Limits.{limit_of}
-use Rattle.bq_parser.specs.Syntax.{place_after, IsFaultOf, IsStatement}
+use Rattle.bq_parser.specs.Syntax.{state_after, IsFaultOf, IsStatement}
 use Rattle.bq_parser.proofs.Said.{cut_at, all_at}
 use Rattle.bq_parser.proofs.Verdict.{ends_early, stops_at}
 use Rattle.bq_parser.proofs.Within.{judged}
@@ -23,7 +23,7 @@ returns-in-Err-read_parts c =
     let P : Result (List Token) ℕ → Type 0 = λ r. IsFaultOf c.args.line.now r c.in-Err-read_parts.at in
     subst P (sym c.in-Ok.ensures.tokens)
     (inl (stops_at c.args.line.now c.in-Ok.tokens.items c.in-Err-read_parts.at
-    (ap (place_after c.args.line.now Start) (sym c.as_slice.ensures.value) ∙ c.in-Err-read_parts.ensures)))
+    (ap (state_after c.args.line.now Start) (sym c.as_slice.ensures.value) ∙ c.in-Err-read_parts.ensures)))
 
 pub limit_passed-requires : goal.limit_passed-requires
 limit_passed-requires c =

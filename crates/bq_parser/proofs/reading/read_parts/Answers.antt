@@ -5,7 +5,7 @@ use Rattle.bq_lexer.specs.declared.token.TokenKind.TheVariants.{Word}
 use Rattle.bq_lexer.specs.declared.token.Token.{Token}
 use Rattle.bq_parser.specs.declared.draft.Draft.{Draft}
 use Rattle.bq_parser.specs.Steps.{step_of}
-use Rattle.bq_parser.specs.Syntax.{place_after, after_step}
+use Rattle.bq_parser.specs.Syntax.{state_after, after_step}
 use Rattle.bq_parser.specs.Keeping.{IsRead, IsCut}
 use Rattle.bq_parser.specs.DraftSteps.{drafted}
 use Rattle.bq_parser.proofs.KeptLaw.{read_more}
@@ -20,11 +20,11 @@ loop-token-preserved c =
     let t = get_or ts i d in
     let to = c.in-Some.to in
     let cut : IsCut line t = c.requires i d c.loop-token-test.true in
-    let next_is : step_of c.loop-token.place t.kind (slice_range line t.from t.to) ≡ Some (to, c.in-Some.action) = ap (step_of c.loop-token.place t.kind) (sym c.text_at-text.ensures) ∙ sym c.in-Some.ensures in
+    let next_is : step_of c.loop-token.state t.kind (slice_range line t.from t.to) ≡ Some (to, c.in-Some.action) = ap (step_of c.loop-token.state t.kind) (sym c.text_at-text.ensures) ∙ sym c.in-Some.ensures in
     let P : Draft → Type 0 = λ x. IsRead line (take (i + 1) ts) to x in
     let Q : List Token → Type 0 = λ us. IsRead line us to (drafted c.in-Some.action c.text_at-text.result.now c.loop-token.draft) in
     let rest = drop (i + 1) ts in
     record {
-      so_far = subst P (sym c.take.ensures) (subst Q (sym (take_more ts i d c.loop-token-test.true)) (read_more line (take i ts) t c.loop-token.place to c.in-Some.action c.loop-token.draft c.text_at-text.result.now c.loop-token.invariant.so_far next_is c.text_at-text.ensures cut));
-      left = c.loop-token.invariant.left ∙ ap (place_after line c.loop-token.place) (drop_more ts i d c.loop-token-test.true) ∙ ap (λ o. after_step o t (λ pl. place_after line pl rest)) next_is;
+      so_far = subst P (sym c.take.ensures) (subst Q (sym (take_more ts i d c.loop-token-test.true)) (read_more line (take i ts) t c.loop-token.state to c.in-Some.action c.loop-token.draft c.text_at-text.result.now c.loop-token.invariant.so_far next_is c.text_at-text.ensures cut));
+      left = c.loop-token.invariant.left ∙ ap (state_after line c.loop-token.state) (drop_more ts i d c.loop-token-test.true) ∙ ap (λ o. after_step o t (λ pl. state_after line pl rest)) next_is;
     }

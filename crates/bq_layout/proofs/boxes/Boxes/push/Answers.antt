@@ -21,7 +21,7 @@ returns-clause-listed c =
     (is_entry_of c.args.q.now c.args.parts.now o c.requires.known c.requires.here c.requires.code)
     c.requires.new c.in_ok-push.ensures.items
     (size_told c.args.q.now c.args.parts.now c.args.part c.requires.known c.args.place c.index-parts-part.result c.index-parts-part.is c.dims_at.result.now c.cells_over-size.result
-    c.requires.here c.dims_at.ensures c.cells_over-size.ensures)
+    c.requires.here c.dims_at.ensures.value c.cells_over-size.ensures)
     c.saturating_add-self.ensures c.narrowed.ensures c.narrowed-2.ensures
     (ap (λ (n : ℕ). set c.args.self.now.lasts.items c.bucket_of-bucket.result n) (c.len-2.ensures ∙ c.push.new.self.ok.0))
     (c.bucket_of-bucket.ensures.bucket ∙ ap (λ (n : ℕ). c.args.code % n) e) l (c.index.ensures ∙ get_or_default c.args.self.now.lasts.items c.bucket_of-bucket.result c.index.result.now 0 l)
@@ -35,5 +35,5 @@ returns-clause-slot c =
     (is_entry_of c.args.q.now c.args.parts.now o c.requires.known c.requires.here c.requires.code)
     c.requires.new c.in_ok-push.ensures.items
     (size_told c.args.q.now c.args.parts.now c.args.part c.requires.known c.args.place c.index-parts-part.result c.index-parts-part.is c.dims_at.result.now c.cells_over-size.result
-    c.requires.here c.dims_at.ensures c.cells_over-size.ensures)
+    c.requires.here c.dims_at.ensures.value c.cells_over-size.ensures)
     c.saturating_add-self.ensures c.narrowed.ensures c.narrowed-2.ensures

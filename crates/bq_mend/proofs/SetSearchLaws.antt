@@ -11,7 +11,7 @@ use Rattle.bq_mend.specs.declared.mend.Kind.{Kind}
 use Rattle.bq_mend.specs.Mended.{on, Mends}
 use Rattle.bq_mend.specs.Sublists.{IsSublist}
 use Rattle.bq_mend.specs.Sets.{open_columns, sets_of, IsLeastSet, HasWithin, AreLeastAmong, AreLeastSets}
-use Rattle.bq_mend.specs.Looking.{Looks, passed, failed, found}
+use Rattle.bq_mend.specs.SetSearch.{Looks, passed, failed, found}
 use Rattle.bq_mend.proofs.Sublists.{sublist-refl, sublist-trans, sublist-shorter, le_or_lt, at_place}
 use Rattle.bq_mend.proofs.Listing.{IsOfSize, sized, listed-is, listed, listed-by_size, smaller-before}
 

@@ -8,7 +8,7 @@ use Rattle.bq_model.specs.declared.condition.Condition.{Condition}
 use Rattle.bq_model.specs.declared.condition.Condition.TheVariants.{C1, C2, C3}
 use Rattle.bq_model.specs.Query.{QueryValue, attr_lt}
 use Rattle.bq_model.specs.Violation.{Breaks, condition_lt}
-use Rattle.bq_certcheck.specs.declared.breaking.Break.{Break}
+use Rattle.bq_model.specs.declared.first_break.Break.{Break}
 
 -- the column found, or another that comes before it
 abbrev pub sooner : Option Attr → Attr → Option Attr
@@ -29,11 +29,11 @@ abbrev pub IsFirstAmong : (Attr → Type 0) → List Attr → Option Attr → Ty
 IsFirstAmong P xs r = IsFirst (λ a. Contains xs a × P a) r
 
 -- the first of the three columns that is there, with its condition
-abbrev pub chosen : Option Attr → Option Attr → Option Attr → Option Break
-chosen (Some a) second third = Some record { condition = C1; attr = a }
-chosen None (Some a) third = Some record { condition = C2; attr = a }
-chosen None None (Some a) = Some record { condition = C3; attr = a }
-chosen None None None = None
+abbrev pub first_of_three : Option Attr → Option Attr → Option Attr → Option Break
+first_of_three (Some a) second third = Some record { condition = C1; attr = a }
+first_of_three None (Some a) third = Some record { condition = C2; attr = a }
+first_of_three None None (Some a) = Some record { condition = C3; attr = a }
+first_of_three None None None = None
 
 -- the first condition that the part breaks and the first column that shows it, or none where it breaks no condition
 abbrev pub IsFirstBreak : QueryValue → List Sign → Option Break → Type 0

@@ -1,6 +1,6 @@
-//! Where in a statement its next token stands, and what each token there does.
+//! The states in which a statement is read, and the transition that each token makes.
 ghost use Rattle.std.specs.Prelude.{◌≡◌, Some, None, IsTrue, if◌then◌else◌};
-ghost use Rattle.bq_parser.specs.declared.places.State.TheVariants as places;
+ghost use Rattle.bq_parser.specs.declared.transitions.State.TheVariants as states;
 ghost use Rattle.bq_parser.specs.Grammar as grammar;
 ghost use Rattle.bq_parser.specs.Steps.{step, word_step, step_of};
 ghost use Rattle.bq_parser.specs.Sections.{is_of_query, is_begun, is_in_columns, is_in_domain, is_in_query, is_in_select, is_on_left, is_on_right, is_in_resume, is_at_end};
@@ -8,7 +8,7 @@ ghost use Rattle.bq_parser.specs.Sections.{is_of_query, is_begun, is_in_columns,
 use bq_lexer::TokenKind;
 use bq_text::Key;
 
-/// What stands before the next token.
+/// How far a statement is read: what stands before the next token.
 #[derive(Clone, Copy, Debug, PartialEq, Eq)]
 pub enum State {
     Start,
@@ -101,11 +101,11 @@ pub enum Action {
     AddValue,
 }
 
-// What a token does by its kind at the beginning of a statement; nothing at any other place.
-fn next_begun(place: State, kind: TokenKind) -> Option<(State, Action)>
-    ensures { IsTrue (is_begun place) → result ≡ step place kind }
+// What a token does by its kind at the beginning of a statement; nothing in any other state.
+fn transition_begun(state: State, kind: TokenKind) -> Option<(State, Action)>
+    ensures { IsTrue (is_begun state) → result ≡ step state kind }
 {
-    match place {
+    match state {
         State::Start => match kind {
             TokenKind::Reserved(Key::CreateKey) => Some((State::AfterCreate, Action::Nothing)),
             TokenKind::Reserved(Key::ExplainKey) => Some((
@@ -138,11 +138,11 @@ fn next_begun(place: State, kind: TokenKind) -> Option<(State, Action)>
     }
 }
 
-// What a token does by its kind among the columns of a stream; nothing at any other place.
-fn next_in_columns(place: State, kind: TokenKind) -> Option<(State, Action)>
-    ensures { IsTrue (is_in_columns place) → result ≡ step place kind }
+// What a token does by its kind among the columns of a stream; nothing in any other state.
+fn transition_in_columns(state: State, kind: TokenKind) -> Option<(State, Action)>
+    ensures { IsTrue (is_in_columns state) → result ≡ step state kind }
 {
-    match place {
+    match state {
         State::StreamName => match kind {
             TokenKind::Word => Some((State::OpenColumns, Action::Named)),
             _ => None,
@@ -165,11 +165,11 @@ fn next_in_columns(place: State, kind: TokenKind) -> Option<(State, Action)>
     }
 }
 
-// What a token does by its kind in the domain of a column; nothing at any other place.
-fn next_in_domain(place: State, kind: TokenKind) -> Option<(State, Action)>
-    ensures { IsTrue (is_in_domain place) → result ≡ step place kind }
+// What a token does by its kind in the domain of a column; nothing in any other state.
+fn transition_in_domain(state: State, kind: TokenKind) -> Option<(State, Action)>
+    ensures { IsTrue (is_in_domain state) → result ≡ step state kind }
 {
-    match place {
+    match state {
         State::DomainLow => match kind {
             TokenKind::Integer => Some((State::FirstPoint, Action::LowIs)),
             _ => None,
@@ -195,11 +195,11 @@ fn next_in_domain(place: State, kind: TokenKind) -> Option<(State, Action)>
     }
 }
 
-// What a token does by its kind between the name of a query and what it selects; nothing at any other place.
-fn next_in_query(place: State, kind: TokenKind) -> Option<(State, Action)>
-    ensures { IsTrue (is_in_query place) → result ≡ step place kind }
+// What a token does by its kind between the name of a query and what it selects; nothing in any other state.
+fn transition_in_query(state: State, kind: TokenKind) -> Option<(State, Action)>
+    ensures { IsTrue (is_in_query state) → result ≡ step state kind }
 {
-    match place {
+    match state {
         State::QueryName => match kind {
             TokenKind::Word => Some((State::QueryAs, Action::Named)),
             _ => None,
@@ -227,11 +227,11 @@ fn next_in_query(place: State, kind: TokenKind) -> Option<(State, Action)>
     }
 }
 
-// What a token does by its kind among the selected columns and the streams of a query; nothing at any other place.
-fn next_in_select(place: State, kind: TokenKind) -> Option<(State, Action)>
-    ensures { IsTrue (is_in_select place) → result ≡ step place kind }
+// What a token does by its kind among the selected columns and the streams of a query; nothing in any other state.
+fn transition_in_select(state: State, kind: TokenKind) -> Option<(State, Action)>
+    ensures { IsTrue (is_in_select state) → result ≡ step state kind }
 {
-    match place {
+    match state {
         State::SelectedStream => match kind {
             TokenKind::Word => Some((State::SelectedPoint, Action::StreamIs)),
             _ => None,
@@ -263,11 +263,11 @@ fn next_in_select(place: State, kind: TokenKind) -> Option<(State, Action)>
     }
 }
 
-// What a token does by its kind on the left of a comparison, or at its operator; nothing at any other place.
-fn next_on_left(place: State, kind: TokenKind) -> Option<(State, Action)>
-    ensures { IsTrue (is_on_left place) → result ≡ step place kind }
+// What a token does by its kind on the left of a comparison, or at its operator; nothing in any other state.
+fn transition_on_left(state: State, kind: TokenKind) -> Option<(State, Action)>
+    ensures { IsTrue (is_on_left state) → result ≡ step state kind }
 {
-    match place {
+    match state {
         State::AtomLeft => match kind {
             TokenKind::Word => Some((State::LeftPoint, Action::StreamIs)),
             TokenKind::Integer => Some((State::IntegerOp, Action::LeftInteger)),
@@ -303,11 +303,11 @@ fn next_on_left(place: State, kind: TokenKind) -> Option<(State, Action)>
     }
 }
 
-// What a token does by its kind on the right of a comparison, or behind it; nothing at any other place.
-fn next_on_right(place: State, kind: TokenKind) -> Option<(State, Action)>
-    ensures { IsTrue (is_on_right place) → result ≡ step place kind }
+// What a token does by its kind on the right of a comparison, or behind it; nothing in any other state.
+fn transition_on_right(state: State, kind: TokenKind) -> Option<(State, Action)>
+    ensures { IsTrue (is_on_right state) → result ≡ step state kind }
 {
-    match place {
+    match state {
         State::RightAny => match kind {
             TokenKind::Word => Some((State::RightPoint, Action::StreamIs)),
             TokenKind::Integer => Some((State::AfterAtom, Action::AddIntegerAtom)),
@@ -334,11 +334,11 @@ fn next_on_right(place: State, kind: TokenKind) -> Option<(State, Action)>
     }
 }
 
-// What a token does by its kind in a line that sets what is gone on from; nothing at any other place.
-fn next_in_resume(place: State, kind: TokenKind) -> Option<(State, Action)>
-    ensures { IsTrue (is_in_resume place) → result ≡ step place kind }
+// What a token does by its kind in a line that sets what is gone on from; nothing in any other state.
+fn transition_in_resume(state: State, kind: TokenKind) -> Option<(State, Action)>
+    ensures { IsTrue (is_in_resume state) → result ≡ step state kind }
 {
-    match place {
+    match state {
         State::AfterResume => match kind {
             TokenKind::Integer => Some((State::Complete, Action::RowsAre)),
             TokenKind::Word => Some((State::ResumeWhat, Action::Named)),
@@ -375,11 +375,11 @@ fn next_in_resume(place: State, kind: TokenKind) -> Option<(State, Action)>
     }
 }
 
-// What a token does by its kind in EXPLAIN and DROP, or at the end of a statement; nothing at any other place.
-fn next_at_end(place: State, kind: TokenKind) -> Option<(State, Action)>
-    ensures { IsTrue (is_at_end place) → result ≡ step place kind }
+// What a token does by its kind in EXPLAIN and DROP, or at the end of a statement; nothing in any other state.
+fn transition_at_end(state: State, kind: TokenKind) -> Option<(State, Action)>
+    ensures { IsTrue (is_at_end state) → result ≡ step state kind }
 {
-    match place {
+    match state {
         State::ExplainName => match kind {
             TokenKind::Word => Some((State::Complete, Action::Named)),
             _ => None,
@@ -400,58 +400,57 @@ fn next_at_end(place: State, kind: TokenKind) -> Option<(State, Action)>
     }
 }
 
-// What a token does by its kind in a query; nothing at any other place.
-fn next_of_query(place: State, kind: TokenKind) -> Option<(State, Action)>
-    ensures { IsTrue (is_of_query place) → result ≡ step place kind }
+// What a token does by its kind in a query; nothing in any other state.
+fn transition_of_query(state: State, kind: TokenKind) -> Option<(State, Action)>
+    ensures { IsTrue (is_of_query state) → result ≡ step state kind }
 {
-    match place {
+    match state {
         State::QueryName | State::QueryAs | State::QuerySelect | State::FirstSelected =>
-            next_in_query(place, kind),
+            transition_in_query(state, kind),
         State::SelectedStream
         | State::SelectedPoint
         | State::SelectedColumn
         | State::AfterSelected
         | State::FromName
-        | State::AfterFrom => next_in_select(place, kind),
+        | State::AfterFrom => transition_in_select(state, kind),
         State::AtomLeft
         | State::LeftPoint
         | State::LeftColumn
         | State::ColumnOp
-        | State::IntegerOp => next_on_left(place, kind),
+        | State::IntegerOp => transition_on_left(state, kind),
         State::RightAny
         | State::RightStream
         | State::RightPoint
         | State::RightColumn
-        | State::AfterAtom => next_on_right(place, kind),
+        | State::AfterAtom => transition_on_right(state, kind),
         _ => None,
     }
 }
 
-// What a token does at a place by its kind, or `None` where it begins no statement.
-fn next(place: State, kind: TokenKind) -> Option<(State, Action)>
-    ensures { result ≡ step place kind }
+// What a token does in a state by its kind, or `None` where it begins no statement.
+fn transition(state: State, kind: TokenKind) -> Option<(State, Action)>
+    ensures { result ≡ step state kind }
 {
-    match place {
-        State::Start | State::AfterCreate | State::AfterShared | State::AfterCompact => next_begun(
-            place, kind,
-        ),
+    match state {
+        State::Start | State::AfterCreate | State::AfterShared | State::AfterCompact =>
+            transition_begun(state, kind),
         State::StreamName | State::OpenColumns | State::ColumnName | State::AfterColumn =>
-            next_in_columns(place, kind),
+            transition_in_columns(state, kind),
         State::DomainLow
         | State::FirstPoint
         | State::SecondPoint
         | State::DomainHigh
-        | State::AfterDomain => next_in_domain(place, kind),
+        | State::AfterDomain => transition_in_domain(state, kind),
         State::AfterResume
         | State::ResumeWhat
         | State::GivenRows
         | State::CellIndex
         | State::CellContent
         | State::TupleValue
-        | State::AfterValue => next_in_resume(place, kind),
+        | State::AfterValue => transition_in_resume(state, kind),
         State::ExplainName | State::AfterDrop | State::DropName | State::Complete | State::Ended =>
-            next_at_end(place, kind),
-        _ => next_of_query(place, kind),
+            transition_at_end(state, kind),
+        _ => transition_of_query(state, kind),
     }
 }
 
@@ -464,8 +463,8 @@ fn is_compact(word: &[u8]) -> bool
 }
 
 // What a word does where it may be COMPACT and nothing else.
-fn next_compact(word: &[u8], action: Action) -> Option<(State, Action)>
-    ensures { result ≡ (if grammar.is_compact word.now then Some (places.AfterCompact, action) else None) }
+fn transition_by_compact(word: &[u8], action: Action) -> Option<(State, Action)>
+    ensures { result ≡ (if grammar.is_compact word.now then Some (states.AfterCompact, action) else None) }
 {
     if is_compact(word) {
         Some((State::AfterCompact, action))
@@ -474,23 +473,23 @@ fn next_compact(word: &[u8], action: Action) -> Option<(State, Action)>
     }
 }
 
-// What a word does at a place.
-fn next_word(place: State, word: &[u8]) -> Option<(State, Action)>
-    ensures { result ≡ word_step place word.now }
+// What a word does in a state.
+fn transition_by_word(state: State, word: &[u8]) -> Option<(State, Action)>
+    ensures { result ≡ word_step state word.now }
 {
-    match place {
-        State::AfterCreate => next_compact(word, Action::BeginCompact),
-        State::AfterShared => next_compact(word, Action::BeginSharedCompact),
-        _ => next(place, TokenKind::Word),
+    match state {
+        State::AfterCreate => transition_by_compact(word, Action::BeginCompact),
+        State::AfterShared => transition_by_compact(word, Action::BeginSharedCompact),
+        _ => transition(state, TokenKind::Word),
     }
 }
 
-/// Returns what a token of a kind and text does at a place, or `None` where it begins no statement.
-pub fn next_of(place: State, kind: TokenKind, text: &[u8]) -> Option<(State, Action)>
-    ensures { result ≡ step_of place kind text.now }
+/// Returns what a token of a kind and text does in a state, or `None` where it begins no statement.
+pub fn transition_of(state: State, kind: TokenKind, text: &[u8]) -> Option<(State, Action)>
+    ensures { result ≡ step_of state kind text.now }
 {
     match kind {
-        TokenKind::Word => next_word(place, text),
-        _ => next(place, kind),
+        TokenKind::Word => transition_by_word(state, text),
+        _ => transition(state, kind),
     }
 }

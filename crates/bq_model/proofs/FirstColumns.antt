@@ -5,9 +5,9 @@ use Rattle.std.proofs.lemmas.Bool.Decides.{nat_tests}
 use Rattle.bq_model.proofs.Has.{Has, first, later, Has-append_left, Has-append_right, Has-append_cases, Has-from_contains, Contains-from_has}
 use Rattle.bq_model.specs.declared.atom.Attr.{Attr}
 use Rattle.bq_model.specs.Query.{attr_lt}
-use Rattle.bq_certcheck.specs.FirstBreak.{sooner_if, IsFirst, IsFirstAmong}
+use Rattle.bq_model.specs.FirstBreak.{sooner_if, IsFirst, IsFirstAmong}
 
-attr_lt-irreflexive : (a : Attr) → attr_lt a a ≡ false
+pub attr_lt-irreflexive : (a : Attr) → attr_lt a a ≡ false
 attr_lt-irreflexive a = grind (arith, nat_tests)
 
 attr_lt-trans : (a b c : Attr) → attr_lt a b ≡ true → attr_lt b c ≡ true → attr_lt a c ≡ true
@@ -45,13 +45,13 @@ module _ (P : Attr → Type 0) where
   less_new : (ys : List Attr) (x c : Attr) → ((a : Attr) → attr_lt a c ≡ true → ¬ (Contains ys a × P a)) → attr_lt x c ≡ true → (a : Attr) → attr_lt a x ≡ true → ¬ (Contains (ys ++ x ∷ []) a × P a)
   less_new ys x c n m a l w = elim (cases ys x a w.0) [ inl k ↦ n a (attr_lt-trans a x c l m) (k, w.1) | inr e ↦ not_self x (subst (λ (z : Attr). attr_lt z x ≡ true) (sym e) l) ]
 
-  chosen_of : (t : Bool) (ys : List Attr) (x c : Attr) → attr_lt x c ≡ t → (Contains ys c × P c) → ((a : Attr) → attr_lt a c ≡ true → ¬ (Contains ys a × P a)) → P x → IsFirstAmong P (ys ++ x ∷ []) (cond t (Some x) (Some c))
-  chosen_of true ys x c e h n p = ((at_end ys x, p), less_new ys x c n e)
-  chosen_of false ys x c e h n p = ((in_more ys x c h.0, h.1), less_keep ys x c n e)
+  picked : (t : Bool) (ys : List Attr) (x c : Attr) → attr_lt x c ≡ t → (Contains ys c × P c) → ((a : Attr) → attr_lt a c ≡ true → ¬ (Contains ys a × P a)) → P x → IsFirstAmong P (ys ++ x ∷ []) (cond t (Some x) (Some c))
+  picked true ys x c e h n p = ((at_end ys x, p), less_new ys x c n e)
+  picked false ys x c e h n p = ((in_more ys x c h.0, h.1), less_keep ys x c n e)
 
   pushed : (b : Bool) (ys : List Attr) (x : Attr) (r : Option Attr) → IsFirstAmong P ys r → (b ≡ true → P x) → (P x → b ≡ true) → IsFirstAmong P (ys ++ x ∷ []) (sooner_if b r x)
   pushed true ys x None n f g = ((at_end ys x, f refl), less_none ys x n)
-  pushed true ys x (Some c) h f g = chosen_of (attr_lt x c) ys x c refl h.0 h.1 (f refl)
+  pushed true ys x (Some c) h f g = picked (attr_lt x c) ys x c refl h.0 h.1 (f refl)
   pushed false ys x None n f g = none_more ys x n (λ p. let e : false ≡ true = g p in absurd cc)
   pushed false ys x (Some c) h f g = ((in_more ys x c h.0.0, h.0.1), less_skip ys x c h.1 (λ p. let e : false ≡ true = g p in absurd cc))
 
