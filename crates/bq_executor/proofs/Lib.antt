@@ -35,6 +35,7 @@ pub mod Loadings
 pub mod LoadedTuples
 pub mod OldAnswers
 pub mod Closing
+pub mod DirectLaws
 pub mod OwnCells
 pub mod PassingOn
 pub mod OnlyPart

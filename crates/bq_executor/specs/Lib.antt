@@ -6,6 +6,7 @@ pub mod Taking
 pub mod Arriving
 pub mod Known
 pub mod Bases
+pub mod Direct
 pub mod Loading
 pub mod Row
 pub mod Passing

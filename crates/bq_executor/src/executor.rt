@@ -19,6 +19,7 @@ ghost use Rattle.bq_index.specs.Prefilter.{IsRefused};
 ghost use Rattle.bq_executor.specs.Passing.{IsBoxFor};
 ghost use Rattle.bq_executor.specs.Written.{answer_lines};
 
+use crate::direct::{DirectLookups, direct_lookups};
 use crate::join::Scratch;
 use crate::loading::{cell_to_load, fill, put_printed};
 use crate::output::put_waiting;
@@ -44,6 +45,7 @@ pub struct Executor {
     shared: bool,
     plan: Plan,
     prepared: PreparedPlan,
+    direct: DirectLookups,
     saturation: Saturation,
     extent: Extent,
     scratch: Scratch,
@@ -51,6 +53,7 @@ pub struct Executor {
 
 impl Model for Executor {
     ghost use Rattle.bq_model.specs.Numbers.{parts_of};
+    ghost use Rattle.bq_executor.specs.Direct.{AreDirect};
     ghost use Rattle.bq_executor.specs.Executor.{ExecutorValue, IsSound};
     ghost use Rattle.bq_index.specs.Prepared.{IsPreparedPlan};
     ghost use Rattle.bq_index.specs.Prefilter.{IsPrefilter};
@@ -59,7 +62,7 @@ impl Model for Executor {
 
     ghost view = { λ e. record { query = e.query; shared = e.shared; plan = e.plan; extent = e.extent; given = e.given; table = e.table; saturation = e.saturation } };
 
-    ghost invariant = { λ e. IsSound (record { query = e.query; shared = e.shared; plan = e.plan; extent = e.extent; given = e.given; table = e.table; saturation = e.saturation }) × IsPreparedPlan e.query (parts_of e.plan) e.prepared × IsPrefilter e.query e.plan e.prefilter };
+    ghost invariant = { λ e. IsSound (record { query = e.query; shared = e.shared; plan = e.plan; extent = e.extent; given = e.given; table = e.table; saturation = e.saturation }) × IsPreparedPlan e.query (parts_of e.plan) e.prepared × IsPrefilter e.query e.plan e.prefilter × AreDirect e.query (parts_of e.plan) e.direct };
 }
 
 // For how many answers a query with this plan has room.
@@ -115,6 +118,7 @@ impl Executor {
             Err(error) => return Err((extent, error)),
         };
         let prefilter = prefilter_of(&query, &plan);
+        let direct = direct_lookups(&query, &plan, &prepared);
         let capacity = most_answers(&plan);
         let width = query.select().len() as u8;
         match Answers::new(alloc, capacity, width) {
@@ -126,6 +130,7 @@ impl Executor {
                 shared,
                 plan,
                 prepared,
+                direct,
                 saturation: Saturation::All,
                 extent,
                 scratch: Scratch::new(),
@@ -218,6 +223,7 @@ impl Executor {
             q: &self.query,
             plan: &self.plan,
             prepared: &self.prepared,
+            direct: &self.direct,
             extent: &self.extent,
             known,
         };
@@ -423,6 +429,7 @@ impl Executor {
             shared: _,
             plan: _plan,
             prepared: _prepared,
+            direct: _direct,
             saturation: _,
             extent,
             scratch: _scratch,

@@ -15,6 +15,7 @@
 #![tactic(auto)]
 
 mod alone;
+mod direct;
 mod executor;
 mod join;
 mod known;

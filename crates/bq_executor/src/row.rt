@@ -9,10 +9,12 @@ ghost use Rattle.bq_answers.specs.Entries.{with_entries};
 ghost use Rattle.bq_executor.specs.Executor.{arrival};
 ghost use Rattle.bq_executor.specs.Taking.{with_all, HaveRoom};
 ghost use Rattle.bq_executor.specs.Arriving.{answered_by, HasTaken, IsPlanReady, AnswersNothingNew};
+ghost use Rattle.bq_executor.specs.Direct.{IsDirect, AreDirect};
 ghost use Rattle.bq_index.specs.Prepared.{IsPreparedPlan};
 ghost use Rattle.bq_index.specs.Prefilter.{IsRefused};
 
 use crate::alone::answer_alone;
+use crate::direct::{DirectLookup, DirectLookups, apply_direct};
 use crate::join::Scratch;
 use crate::lookup::{apply_to_only_part, has_lookup};
 use crate::route::{PartsAt, apply_to_parts};
@@ -22,13 +24,14 @@ use bq_model::{Plan, Query, Row};
 use bq_pool::{Extent, Pool, Steps};
 use std::sync::ledger::Ledger;
 
-/// A query: its plan, what its parts are asked of every row, the extent of the cells, and whether it is known that a row which leaves its
-/// cell as it is is answered nothing new.
+/// A query: its plan, what its parts are asked of every row, how its rows are taken by two cells, the extent of the cells, and whether it is
+/// known that a row which leaves its cell as it is is answered nothing new.
 #[derive(Clone, Copy)]
 pub struct QueryAt<'a> {
     pub q: &'a Query,
     pub plan: &'a Plan,
     pub prepared: &'a PreparedPlan,
+    pub direct: &'a DirectLookups,
     pub extent: &'a Extent,
     pub known: bool,
 }
@@ -101,6 +104,51 @@ fn apply_by_plan<L: Ledger>(
     }
 }
 
+// Takes a row of which one column tells the cells that it meets.
+#[inline(always)]
+fn apply_by_cells<L: Ledger>(
+    pool: &mut Pool,
+    query: &QueryAt<'_>,
+    direct: &DirectLookup,
+    arrived: &Arrived<'_>,
+    scratch: &mut Scratch,
+    table: &mut Answers,
+    steps: &mut Steps<L>,
+)
+    requires direct { IsDirect query.now.q.now (parts_of query.now.plan.now) direct.now }
+    requires stream { direct.now.stream ≡ arrived.now.stream }
+    requires ready { IsPlanReady query.now.q.now query.now.plan.now pool.old query.now.extent.now }
+    requires room { HaveRoom query.now.q.now.distinct (answered_by query.now.q.now query.now.plan.now (read_from (cells_of pool.old query.now.extent.now)) (arrival arrived.now.stream arrived.now.row.now.items)) table.old }
+    ensures table { table.new ≡ with_entries table.old (with_all query.now.q.now.distinct (answered_by query.now.q.now query.now.plan.now (read_from (cells_of pool.old query.now.extent.now)) (arrival arrived.now.stream arrived.now.row.now.items)) table.old.entries) }
+    ensures pool { HasTaken query.now.q.now (parts_of query.now.plan.now) query.now.extent.now (arrival arrived.now.stream arrived.now.row.now.items) (length (parts_of query.now.plan.now)) pool.old pool.new }
+    ensures reads { steps.new.reads ≤ steps.old.reads + 3 * work (parts_of query.now.plan.now) + length (parts_of query.now.plan.now) }
+    ensures writes { steps.new.writes ≤ steps.old.writes + length (parts_of query.now.plan.now) }
+    ensures alone { query.now.plan.now ≡ plans.Filter → steps.new ≡ steps.old }
+    ensures outside { list_any (λ s. arrived.now.stream == s) query.now.q.now.from ≡ false → steps.new ≡ steps.old }
+{
+    match query.plan {
+        Plan::Filter => {}
+        Plan::Parts { parts, .. } => {
+            let all = PartsAt {
+                q: query.q,
+                parts,
+                prepared: query.prepared,
+                extent: query.extent,
+                known: query.known,
+            };
+            apply_direct(
+                pool,
+                &all,
+                direct,
+                arrived.row,
+                &mut scratch.tuple,
+                table,
+                steps,
+            );
+        }
+    }
+}
+
 /// Takes a row by the plan of a query: what it answers comes to wait in the table, and the cells take the row. A filter has
 /// no cells, and a row of a stream outside FROM, or one that did not pass the prefilter, does nothing. Where it says no, nothing was
 /// answered.
@@ -116,6 +164,7 @@ pub fn apply_row<L: Ledger>(
     requires prefilter { passes ≡ false → IsRefused query.now.q.now query.now.plan.now (arrival arrived.now.stream arrived.now.row.now.items) }
     requires ready { IsPlanReady query.now.q.now query.now.plan.now pool.old query.now.extent.now }
     requires prepared { IsPreparedPlan query.now.q.now (parts_of query.now.plan.now) query.now.prepared.now }
+    requires direct { AreDirect query.now.q.now (parts_of query.now.plan.now) query.now.direct.now }
     requires known { query.now.known ≡ true → AnswersNothingNew query.now.q.now (parts_of query.now.plan.now) (read_from (cells_of pool.old query.now.extent.now)) table.old.entries }
     requires room { HaveRoom query.now.q.now.distinct (answered_by query.now.q.now query.now.plan.now (read_from (cells_of pool.old query.now.extent.now)) (arrival arrived.now.stream arrived.now.row.now.items)) table.old }
     ensures table { table.new ≡ with_entries table.old (with_all query.now.q.now.distinct (answered_by query.now.q.now query.now.plan.now (read_from (cells_of pool.old query.now.extent.now)) (arrival arrived.now.stream arrived.now.row.now.items)) table.old.entries) }
@@ -129,6 +178,9 @@ pub fn apply_row<L: Ledger>(
     if !passes {
         return false;
     }
-    apply_by_plan(pool, query, arrived, scratch, table, steps);
+    match query.direct.of_stream(arrived.stream) {
+        Some(direct) => apply_by_cells(pool, query, direct, arrived, scratch, table, steps),
+        None => apply_by_plan(pool, query, arrived, scratch, table, steps),
+    }
     true
 }

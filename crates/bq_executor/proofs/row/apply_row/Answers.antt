@@ -20,3 +20,6 @@ pub returns-then-not-passes-clause-none : goal.returns-then-not-passes-clause-no
 returns-then-not-passes-clause-none g c = λ refused.
     let r = arrival c.args.arrived.now.stream c.args.arrived.now.row.now.items in
     refused_answers c.args.query.now.q.now c.args.query.now.plan.now c.args.pool.now c.args.query.now.extent.now c.requires.ready _ r (c.requires.prefilter c.if-not-passes.true)
+
+pub apply_by_cells-requires-clause-direct : goal.apply_by_cells-requires-clause-direct
+apply_by_cells-requires-clause-direct g c = c.requires.direct c.in-Some.direct.now c.in-Some.ensures.0

@@ -28,6 +28,7 @@ invariant_of-result c =
       },
       c.in-Ok.ensures,
       c.prefilter_of-prefilter.ensures,
+      c.direct_lookups-direct.ensures,
     )
 
 pub returns-in-Ok-new-clause-history : goal.returns-in-Ok-new-clause-history
