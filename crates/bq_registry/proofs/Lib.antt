@@ -19,3 +19,4 @@ pub mod BitsLeft
 pub mod Sparing
 pub mod Spared
 pub mod Fresh
+pub mod Ended

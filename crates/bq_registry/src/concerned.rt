@@ -112,6 +112,7 @@ impl Concerned {
     }
 
     /// Returns the candidates for a row of a stream, which are listed first where live queries came or went.
+    #[inline(always)]
     pub fn of(&mut self, stream: u8, row: &Row, live: &Queries) -> Concerns
         requires few { length live.now ≤ 64 }
         requires told { IsTold self.old live.now }

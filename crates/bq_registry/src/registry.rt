@@ -204,6 +204,7 @@ impl Registry {
     /// Takes a row of a stream, whose values lie in the domains of each live query that names the stream: of each live query the
     /// answers by its own base and history wait then, and what waited before is given up. Each live query keeps within the numbers
     /// that its plan announces, whatever its history. This takes no memory.
+    #[inline(always)] // each instance of the session calls it once
     pub fn row<L: Ledger>(&mut self, stream: u8, row: &Row, steps: &mut Steps<L>)
         requires few { All (λ l. l.executor.given < 2 ^ 40) self.old.live }
         requires keeps { KeepsToEach self.old.live (arrival stream row.now.items) }
@@ -226,6 +227,22 @@ impl Registry {
     /// Writes what waits, query by query in order of creation. Afterwards nothing waits, on a fault too, and the registry stands
     /// for what it stood for.
     pub fn emit<O: Sink>(&mut self, out: &mut O) -> Result<(), WriteFault>
+        ensures written { Writes result (O.seen out.old) (O.seen out.new) (flat_map waiting_text self.old.live) }
+        ensures quiet { IsQuiet self.new }
+        ensures stands { (queries : List LiveQuery) → StandsFor self.old queries → StandsFor self.new queries }
+        ensures given { (n : ℕ) → GivenUpto n self.old → GivenUpto n self.new }
+        ensures queries { KeepQueries self.old.live self.new.live }
+    {
+        if self.waiting == 0 {
+            return Ok(());
+        }
+        self.write_waiting(out)
+    }
+
+    // The same, whether something waits or not. It is not inlined, so that a row of which nothing waits pays nothing for it.
+    #[cold]
+    #[inline(never)]
+    fn write_waiting<O: Sink>(&mut self, out: &mut O) -> Result<(), WriteFault>
         ensures written { Writes result (O.seen out.old) (O.seen out.new) (flat_map waiting_text self.old.live) }
         ensures quiet { IsQuiet self.new }
         ensures stands { (queries : List LiveQuery) → StandsFor self.old queries → StandsFor self.new queries }

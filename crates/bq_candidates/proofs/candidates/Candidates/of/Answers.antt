@@ -5,12 +5,12 @@ use Rattle.bq_candidates.specs.Buckets.{AreMarked, candidates_of, narrowed}
 use Rattle.bq_candidates.proofs.Marked.{marked, listed}
 use Rattle.bq_candidates.proofs.candidates.Candidates.of.Goals as goal
 
-told : (c : goal.After-narrowed) → c.narrowed.result.word ≡ candidates_of c.args.self.now c.args.row.now
-told c = c.narrowed.ensures.value ∙ ap (narrowed c.args.self.now.named c.args.row.now) c.as_slice.ensures.value
+told : (c : goal.After-left_by) → c.left_by.result.word ≡ candidates_of c.args.self.now c.args.row.now
+told c = c.left_by.ensures.value ∙ ap (narrowed c.args.self.now.named c.args.row.now) c.as_slice.ensures.value
 
 pub returns-clause-held : goal.returns-clause-held
 returns-clause-held c = λ boxes are k box there inside.
-    c.narrowed.ensures.held k
+    c.left_by.ensures.held k
     (subst (λ (columns : List Column). AreMarked k c.args.row.now columns) (sym c.as_slice.ensures.value)
     (λ i column here machine. marked boxes column (are.columns i column here) k box there c.args.row.now machine inside))
     (are.named.all k box there)

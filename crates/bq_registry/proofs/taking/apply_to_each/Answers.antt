@@ -17,7 +17,7 @@ use Rattle.bq_registry.proofs.Shown.{sized, size_run}
 use Rattle.bq_registry.proofs.InTurn.{took_none, sum_more}
 use Rattle.bq_registry.proofs.BitsLeft.{left_all, left_next, left_between, left_more, none_after}
 use Rattle.bq_registry.proofs.Spared.{step_ready, step_keeps, step_plan, step_took, ahead_waits, all_took, all_counted, wrapped, few_rows, shown_waits, wrapped_counted, sum_front}
-use Rattle.bq_registry.proofs.taking.apply_to_all.Goals as goal
+use Rattle.bq_registry.proofs.taking.apply_to_each.Goals as goal
 
 pub bits-init : goal.bits-init
 bits-init g c =

@@ -8,7 +8,7 @@ use Rattle.bq_registry.specs.Taken.{TookFirst}
 use Rattle.bq_registry.proofs.SideBySide.{under}
 use Rattle.bq_registry.proofs.Spared.{mixed}
 use Rattle.bq_registry.proofs.BitsLeft.{AreLeft}
-use Rattle.bq_registry.proofs.taking.apply_to_all.Given as goal
+use Rattle.bq_registry.proofs.taking.apply_to_each.Given as goal
 
 abbrev pub invariant-bits : goal.invariant-bits
 invariant-bits g l = record {
