@@ -40,3 +40,4 @@ pub mod OwnCells
 pub mod PassingOn
 pub mod OnlyPart
 pub mod Putting
+pub mod LeftCells

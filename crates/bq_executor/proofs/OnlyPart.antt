@@ -1,5 +1,5 @@
 -- A query of one part: what that part does is all that is done.
-use Rattle.std.proofs.Common.{◌≡◌, ℕ, zero, suc, ◌+◌, ◌*◌, ◌<◌, ◌≤◌, ◌&&◌, not, nat_lt, ℤ, Bool, true, false, List, [], ◌∷◌, ◌++◌, length, append-nil, refl, sym, ap, ◌∙◌, subst, arith, slice_get, Some}
+use Rattle.std.proofs.Common.{◌≡◌, ℕ, ◌+◌, ◌<◌, ◌&&◌, nat_lt, ℤ, Bool, true, false, List, [], ◌∷◌, length, append-nil, refl, sym, ap, ◌∙◌, subst, arith, slice_get, Some}
 use Rattle.std.proofs.lemmas.Bool.Decides.{nat_tests}
 use Rattle.std.proofs.lemmas.List.{take_all}
 use Rattle.bq_model.specs.declared.plan.PartPlan.{PartPlan}
@@ -16,7 +16,7 @@ use Rattle.bq_pool.specs.Extents.{PoolValue, cells_of}
 use Rattle.bq_synopsis.specs.Premises.{IsReady}
 use Rattle.bq_answers.specs.Entries.{TableValue, with_entries}
 use Rattle.bq_index.specs.Owners.{takes_rows}
-use Rattle.bq_executor.specs.Taking.{with_all, HaveRoom, AreOld}
+use Rattle.bq_executor.specs.Taking.{with_all, AreOld}
 use Rattle.bq_executor.specs.Arriving.{arrives, all_found, with_row, CanCount, LeavesCell, HasTaken, AreReady, AnswersNothingNew}
 use Rattle.bq_executor.specs.Signed.{IsSigned}
 use Rattle.bq_executor.proofs.Inserting.{part_plan}

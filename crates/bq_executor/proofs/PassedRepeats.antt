@@ -1,5 +1,5 @@
 -- With DISTINCT what gives the tuple that was taken up last may be passed: it adds nothing.
-use Rattle.std.proofs.Common.{◌≡◌, ℕ, zero, suc, ◌≤◌, ◌+◌, Bool, true, false, cond, List, [], ◌∷◌, ◌++◌, All, length, length-append, refl, sym, ap, ◌∙◌, subst, arith, ℤ}
+use Rattle.std.proofs.Common.{◌≡◌, suc, ◌≤◌, Bool, true, false, cond, List, [], ◌∷◌, All, length, length-append, refl, sym, ap, ◌∙◌, subst, arith, ℤ}
 use Rattle.bq_model.specs.Combinations.{Found}
 use Rattle.bq_answers.specs.Entries.{Entry, TableValue, with_entries, added, has}
 use Rattle.bq_probe.specs.Repeats.{ArePassed}

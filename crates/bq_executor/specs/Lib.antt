@@ -11,3 +11,4 @@ pub mod Loading
 pub mod Row
 pub mod Passing
 pub mod Signed
+pub mod Leaving

@@ -1,5 +1,6 @@
 //! What a row does in one part: what the cells answer to it waits in the table, and its own cell takes it.
-ghost use Rattle.std.specs.Prelude.{◌≡◌, ◌<◌, ◌≤◌, ◌+◌, ◌*◌, ◌||◌, length, true, false, if◌then◌else◌, Some, None, IfSome, MatchOption};
+ghost use Rattle.std.specs.Prelude.{◌≡◌, ◌<◌, ◌≤◌, ◌+◌, ◌*◌, ◌||◌, length, slice_index_or, true, false, IsTrue, if◌then◌else◌, Some, None, IfSome, MatchOption};
+ghost use Rattle.bq_model.specs.declared.cell.Cell.TheVariants as cells;
 ghost use Rattle.bq_model.specs.Admission.{admits};
 ghost use Rattle.bq_model.specs.Meaning.{by_column};
 ghost use Rattle.bq_model.specs.Combinations.{read_from, found_in};
@@ -7,7 +8,7 @@ ghost use Rattle.bq_model.specs.Probing.{found_beside};
 ghost use Rattle.bq_model.specs.Numbers.{share};
 ghost use Rattle.bq_pool.specs.Extents.{cells_of, with_cells};
 ghost use Rattle.bq_model.specs.Parts.{pairs};
-ghost use Rattle.bq_synopsis.specs.Premises.{IsReady, HasRoom};
+ghost use Rattle.bq_synopsis.specs.Premises.{IsHeld, IsReady, HasRoom, row_cell};
 ghost use Rattle.bq_synopsis.specs.Inserting.{cells_with_row};
 ghost use Rattle.bq_synopsis.specs.Preparing.{IsPrepared};
 ghost use Rattle.bq_synopsis.specs.Axes.{IsCell};
@@ -18,6 +19,7 @@ ghost use Rattle.bq_answers.specs.Entries.{with_entries, Fits};
 ghost use Rattle.bq_executor.specs.Taking.{with_found, with_all, HaveRoom, AreOld};
 ghost use Rattle.bq_executor.specs.Arriving.{arrives, with_row, CanCount, LeavesCell};
 ghost use Rattle.bq_executor.specs.Known.{AnswersOne};
+ghost use Rattle.bq_executor.specs.Leaving.{reads_of};
 
 use crate::known::answers_one;
 use bq_answers::Answers;
@@ -32,11 +34,12 @@ use std::sync::ledger::Ledger;
 const MOST_TIMES: u128 = 1 << 127;
 
 /// How a part takes a row: whether it takes it into a box of its own, and whether it is known that a row which leaves its cell as it is
-/// is answered nothing new.
+/// is answered nothing new; and the row's own cell, where it was read.
 #[derive(Clone, Copy, Debug, PartialEq, Eq, Drop)]
 pub struct Takes {
     pub owns: bool,
     pub known: bool,
+    pub own: Option<OwnCell>,
 }
 
 impl Takes {
@@ -284,9 +287,36 @@ fn cell_to_put(owns: bool, own: OwnCell) -> Option<OwnCell>
     if owns { Some(own) } else { None }
 }
 
+// The cell that a row falls into in a part that admits it. This is one read, where it was not read before.
+fn read_once<L: Ledger>(
+    pool: &Pool,
+    part: &PartAt<'_>,
+    at: &Admitted<'_>,
+    own: Option<OwnCell>,
+    steps: &mut Steps<L>,
+) -> OwnCell
+    requires here { at.now.pos < length part.now.q.now.from }
+    requires several { 1 < length part.now.q.now.from }
+    requires held { IsHeld part.now.q.now part.now.plan.now pool.now part.now.extent.now }
+    requires admitted { IsTrue (admits part.now.q.now part.now.plan.now at.now.pos (by_column at.now.row.now.items)) }
+    requires placement { IsCell part.now.plan.now at.now.pos at.now.row.now.items at.now.placement }
+    requires room { HasRoom (slice_index_or (cells_of pool.now part.now.extent.now) (row_cell part.now.plan.now at.now.pos at.now.row.now.items) cells.Empty) }
+    requires own { IfSome own (λ cell. IsOwnCell part.now.plan.now at.now.pos at.now.row.now.items (cells_of pool.now part.now.extent.now) cell × (cell.number < 64 * part.now.extent.now.pages)) }
+    ensures own { IsOwnCell part.now.plan.now at.now.pos at.now.row.now.items (cells_of pool.now part.now.extent.now) result }
+    ensures inside { result.number < 64 * part.now.extent.now.pages }
+    ensures room { HasRoom result.held }
+    ensures reads { steps.new.reads + reads_of own ≡ steps.old.reads + 1 }
+    ensures writes { steps.new.writes ≡ steps.old.writes }
+{
+    match own {
+        Some(own) => own,
+        None => own_cell(pool, part.extent, part.q, part.plan, at, steps),
+    }
+}
+
 /// Takes a row into a part that admits it: all that the cells answer to it is taken up, and where the part takes rows into a box of its
 /// own, the row's own cell takes it. Where it is known that a row which leaves its cell as it is is answered nothing new, such a row
-/// walks over no cell. Returns false where no cell changed.
+/// walks over no cell. A cell that was read is not read again. Returns false where no cell changed.
 pub fn apply_to_part<L: Ledger>(
     pool: &mut Pool,
     part: &PartAt<'_>,
@@ -301,6 +331,7 @@ pub fn apply_to_part<L: Ledger>(
     requires prepared { IsPrepared (pairs part.now.q.now) part.now.plan.now part.now.prepared.now }
     requires admitted { admits part.now.q.now part.now.plan.now at.now.pos (by_column at.now.row.now.items) ≡ true }
     requires placement { IsCell part.now.plan.now at.now.pos at.now.row.now.items at.now.placement }
+    requires own { IfSome takes.own (λ cell. IsOwnCell part.now.plan.now at.now.pos at.now.row.now.items (cells_of pool.old part.now.extent.now) cell × (cell.number < 64 * part.now.extent.now.pages)) }
     requires several { (takes.owns || takes.known) ≡ true → 1 < length part.now.q.now.from }
     requires counts { (takes.owns || takes.known) ≡ true → CanCount part.now.plan.now (read_from (cells_of pool.old part.now.extent.now)) }
     requires old { takes.known ≡ true → LeavesCell part.now.plan.now (read_from (cells_of pool.old part.now.extent.now)) at.now.pos at.now.row.now.items → AreOld part.now.q.now.distinct (found_in part.now.q.now part.now.plan.now (read_from (cells_of pool.old part.now.extent.now)) (arrives part.now.q.now at.now.pos at.now.row.now.items)) table.old.entries }
@@ -308,7 +339,7 @@ pub fn apply_to_part<L: Ledger>(
     ensures table { table.new ≡ with_entries table.old (with_all part.now.q.now.distinct (found_in part.now.q.now part.now.plan.now (read_from (cells_of pool.old part.now.extent.now)) (arrives part.now.q.now at.now.pos at.now.row.now.items)) table.old.entries) }
     ensures pool { pool.new ≡ with_row takes.owns part.now.q.now part.now.plan.now at.now.pos at.now.row.now.items part.now.extent.now pool.old }
     ensures same { result ≡ false → pool.new ≡ pool.old }
-    ensures reads { steps.new.reads ≤ steps.old.reads + 3 * share part.now.plan.now + 1 }
+    ensures reads { steps.new.reads + reads_of takes.own ≤ steps.old.reads + 3 * share part.now.plan.now + 1 }
     ensures writes { steps.new.writes ≤ steps.old.writes + 1 }
 {
     // Read for the proof alone: the call tells how many streams there are.
@@ -319,7 +350,7 @@ pub fn apply_to_part<L: Ledger>(
         answer_and_put(pool, &met, &row, &None, scratch, table, steps);
         return false;
     }
-    let own = own_cell(pool, part.extent, part.q, part.plan, at, steps);
+    let own = read_once(pool, part, at, takes.own, steps);
     if takes.spares(&own, at.row) {
         return false;
     }

@@ -20,6 +20,7 @@ mod executor;
 mod join;
 mod known;
 pub mod laws;
+mod left;
 mod loading;
 mod lookup;
 mod output;

@@ -1,27 +1,28 @@
 //! What a row of a stream of FROM does in all parts.
 ghost use Rattle.std.specs.Prelude.{◌≡◌, ◌<◌, ◌≤◌, ◌+◌, ◌*◌, ◌&&◌, ◌||◌, not, length, slice_get, Some, IfSome, true};
-ghost use Rattle.bq_model.specs.Admission.{admits};
 ghost use Rattle.bq_model.specs.Meaning.{by_column};
 ghost use Rattle.bq_model.specs.Combinations.{read_from};
 ghost use Rattle.bq_model.specs.Numbers.{work};
+ghost use Rattle.bq_model.specs.Plan.{ArePartPlans};
 ghost use Rattle.bq_model.specs.Parts.{pairs};
 ghost use Rattle.bq_pool.specs.Extents.{cells_of};
-ghost use Rattle.bq_synopsis.specs.Axes.{IsPlacement};
-ghost use Rattle.bq_synopsis.specs.Preparing.{IsPrepared};
 ghost use Rattle.bq_answers.specs.Entries.{with_entries};
 ghost use Rattle.bq_executor.specs.Taking.{with_all, HaveRoom};
 ghost use Rattle.bq_executor.specs.Arriving.{arrives, all_found, HasTaken, AreReady, AnswersNothingNew};
-ghost use Rattle.bq_index.specs.PartIndex.{IsPartIndex, row_code};
+ghost use Rattle.bq_executor.specs.Leaving.{IsPlaced};
+ghost use Rattle.bq_index.specs.Owners.{EachTakes};
+ghost use Rattle.bq_index.specs.PartIndex.{IsPartIndex, IsNext, buckets_of, row_bucket, row_code};
 ghost use Rattle.bq_index.specs.Prepared.{IsPreparedPlan};
 ghost use Rattle.bq_index.specs.Shifts.{StandsAt};
 
 use crate::join::{Scratch, Takes, apply_to_part};
+use crate::left::{Led, Reached, reach};
 use bq_answers::Answers;
 use bq_index::{CellAt, CodedRow, PartIndex, PreparedPlan};
-use bq_model::{PartPlan, PartPlans, Query, Row};
+use bq_model::{PartPlans, Query, Row};
 use bq_narrow::PartAt;
 use bq_pool::{Extent, Pool, Steps};
-use bq_synopsis::{Admitted, Placement, Prepared};
+use bq_synopsis::{Admitted, OwnCell, Placement};
 use std::sync::ledger::Ledger;
 
 /// The parts of a query, what they are asked of every row, the extent of the cells, and whether it is known that a row which leaves its
@@ -43,6 +44,16 @@ fn is_known(known: bool, owns: bool, same: bool) -> bool
     known && (owns || same)
 }
 
+// Whether a row may leave its own cell as it is where that is known to be answered nothing new: a cell that was read is turned.
+fn may_stay(known: bool, own: &Option<OwnCell>) -> bool
+    ensures { result ≡ true → known ≡ true }
+{
+    match own {
+        Some(_) => false,
+        None => known,
+    }
+}
+
 // Whether the cells are the same as before the row, also after a part took it.
 fn stays_same(same: bool, changed: bool) -> bool
     ensures { result ≡ (same && not changed) }
@@ -55,27 +66,92 @@ fn placement_in(
     part_index: &PartIndex,
     told: Option<CellAt>,
     coded: &CodedRow<'_>,
-    part: &PartPlan,
-    prepared: &Prepared,
+    prepared: &PreparedPlan,
     i: u32,
 ) -> Placement
-    requires here { coded.now.pos < length part.now.streams.items }
+    requires here { coded.now.pos < length coded.now.q.now.from }
+    requires plan { ArePartPlans coded.now.q.now coded.now.parts.now }
+    requires inside { i < length coded.now.parts.now }
     requires part_index { IsPartIndex coded.now.q.now coded.now.parts.now coded.now.pos part_index.now }
-    requires prepared { IsPrepared (pairs coded.now.q.now) part.now prepared.now }
-    requires part { slice_get coded.now.parts.now i ≡ Some part.now }
+    requires prepared { IsPreparedPlan coded.now.q.now coded.now.parts.now prepared.now }
     requires code { coded.now.code ≡ row_code (pairs coded.now.q.now) part_index.now (by_column coded.now.row.now.items) }
     requires told { IfSome told (λ cell. StandsAt coded.now.q.now coded.now.parts.now coded.now.pos coded.now.row.now.items i cell) }
-    ensures { IsPlacement part.now coded.now.pos coded.now.row.now.items (admits coded.now.q.now part.now coded.now.pos (by_column coded.now.row.now.items)) result }
+    ensures { IsPlaced coded.now.q.now coded.now.parts.now coded.now.pos coded.now.row.now.items i result }
 {
+    let (q, parts) = (coded.q, coded.parts);
     match told {
         Some(cell) => cell.placement(),
-        None => part_index.placement_of(coded, part, prepared, i),
+        None => part_index.placement_of(coded, parts.get(i), prepared.part(q, parts, i), i),
+    }
+}
+
+// Takes a row into all parts that admit it, from the first one of its bucket on.
+fn apply_along<L: Ledger>(
+    pool: &mut Pool,
+    led: &Led<'_>,
+    first: u32,
+    scratch: &mut Scratch,
+    table: &mut Answers,
+    steps: &mut Steps<L>,
+)
+    requires here { led.now.coded.pos < length led.now.coded.q.now.from }
+    requires part_index { IsPartIndex led.now.coded.q.now led.now.coded.parts.now led.now.coded.pos led.now.part_index.now }
+    requires each { led.now.each ≡ true → EachTakes led.now.coded.q.now led.now.coded.parts.now led.now.coded.pos }
+    requires code { led.now.coded.code ≡ row_code (pairs led.now.coded.q.now) led.now.part_index.now (by_column led.now.coded.row.now.items) }
+    requires first { IsNext (buckets_of led.now.coded.parts.now led.now.part_index.now.tests.items led.now.part_index.now.greatest) (row_bucket (pairs led.now.coded.q.now) led.now.part_index.now (by_column led.now.coded.row.now.items)) 0 first }
+    requires ready { AreReady led.now.coded.q.now led.now.coded.parts.now pool.old led.now.extent.now }
+    requires prepared { IsPreparedPlan led.now.coded.q.now led.now.coded.parts.now led.now.prepared.now }
+    requires known { led.now.known ≡ true → AnswersNothingNew led.now.coded.q.now led.now.coded.parts.now (read_from (cells_of pool.old led.now.extent.now)) table.old.entries }
+    requires room { HaveRoom led.now.coded.q.now.distinct (all_found led.now.coded.q.now led.now.coded.parts.now (read_from (cells_of pool.old led.now.extent.now)) (arrives led.now.coded.q.now led.now.coded.pos led.now.coded.row.now.items)) table.old }
+    ensures table { table.new ≡ with_entries table.old (with_all led.now.coded.q.now.distinct (all_found led.now.coded.q.now led.now.coded.parts.now (read_from (cells_of pool.old led.now.extent.now)) (arrives led.now.coded.q.now led.now.coded.pos led.now.coded.row.now.items)) table.old.entries) }
+    ensures pool { HasTaken led.now.coded.q.now led.now.coded.parts.now led.now.extent.now (arrives led.now.coded.q.now led.now.coded.pos led.now.coded.row.now.items) (length led.now.coded.parts.now) pool.old pool.new }
+    ensures reads { steps.new.reads ≤ steps.old.reads + 3 * work led.now.coded.parts.now + length led.now.coded.parts.now }
+    ensures writes { steps.new.writes ≤ steps.old.writes + length led.now.coded.parts.now }
+{
+    let (coded, part_index) = (&led.coded, led.part_index);
+    let (q, parts) = (coded.q, coded.parts);
+    let mut i = first;
+    let mut same = true;
+    let mut told: Option<CellAt> = None;
+    'parts: while i < parts.len() {
+        let placement = placement_in(part_index, told, coded, led.prepared, i);
+        let passes = is_known(led.known, led.each, same);
+        match reach(pool, led, passes, i, placement, steps) {
+            Reached::Unasked(next) => {
+                told = None;
+                i = next;
+            }
+            Reached::Part(met) => {
+                let plan = parts.get(met.i);
+                if met.placement.is_inside() {
+                    let owns = part_index.owns(led.each, q, parts, plan, coded.pos, met.i);
+                    let known = may_stay(is_known(led.known, owns, same), &met.own);
+                    let part = PartAt {
+                        q,
+                        plan,
+                        prepared: led.prepared.part(q, parts, met.i),
+                        extent: led.extent,
+                    };
+                    let at = Admitted {
+                        row: coded.row,
+                        pos: coded.pos,
+                        placement: met.placement,
+                    };
+                    let own = met.own;
+                    let takes = Takes { owns, known, own };
+                    let changed = apply_to_part(pool, &part, &at, takes, scratch, table, steps);
+                    same = stays_same(same, changed);
+                }
+                told = part_index.cell_after(coded, plan, met.placement, met.i);
+                i = part_index.after(q, parts, coded.pos, met.i);
+            }
+        }
     }
 }
 
 /// Takes a row of the stream at a place of FROM into all parts that admit it, of which only those of the row's bucket are asked, and
 /// into each box once: where parts share a box, the first of them takes the row. A row that stands at the same place of the box of the next
-/// part is not placed again. No part reads a cell of the row's own stream, so the
+/// part is not placed again, and passes over parts whose cells it leaves as they are where it is known that they answer nothing new. No part reads a cell of the row's own stream, so the
 /// answers are those of the cells before the row. What is known of the cells before the row is known of a shared box as long as no cell
 /// changed.
 pub fn apply_to_parts<L: Ledger>(
@@ -97,43 +173,23 @@ pub fn apply_to_parts<L: Ledger>(
     ensures reads { steps.new.reads ≤ steps.old.reads + 3 * work all.now.parts.now + length all.now.parts.now }
     ensures writes { steps.new.writes ≤ steps.old.writes + length all.now.parts.now }
 {
-    let (q, parts) = (all.q, all.parts);
-    let part_index = all.prepared.part_index(q, parts, pos);
-    let each = part_index.each_owns(q, parts, pos);
-    let hit = part_index.first(q, parts, pos, row);
+    let part_index = all.prepared.part_index(all.q, all.parts, pos);
+    let each = part_index.each_owns(all.q, all.parts, pos);
+    let hit = part_index.first(all.q, all.parts, pos, row);
     let coded = CodedRow {
-        q,
-        parts,
+        q: all.q,
+        parts: all.parts,
         pos,
         row,
         code: hit.code,
     };
-    let mut i = hit.first;
-    let mut same = true;
-    let mut told: Option<CellAt> = None;
-    'parts: while i < parts.len() {
-        let plan = parts.get(i);
-        let prepared = all.prepared.part(q, parts, i);
-        let placement = placement_in(part_index, told, &coded, plan, prepared, i);
-        if placement.is_inside() {
-            let owns = part_index.owns(each, q, parts, plan, pos, i);
-            let known = is_known(all.known, owns, same);
-            let part = PartAt {
-                q,
-                plan,
-                prepared,
-                extent: all.extent,
-            };
-            let at = Admitted {
-                row,
-                pos,
-                placement,
-            };
-            let takes = Takes { owns, known };
-            let changed = apply_to_part(pool, &part, &at, takes, scratch, table, steps);
-            same = stays_same(same, changed);
-        }
-        told = part_index.cell_after(&coded, plan, placement, i);
-        i = part_index.after(q, parts, pos, i);
-    }
+    let led = Led {
+        coded,
+        part_index,
+        each,
+        prepared: all.prepared,
+        extent: all.extent,
+        known: all.known,
+    };
+    apply_along(pool, &led, hit.first, scratch, table, steps)
 }

@@ -22,8 +22,8 @@ answer_and_put-requires-2-clause-room g c =
     (found_admitted c.args.part.now.q.now c.args.part.now.plan.now c.from-from.ensures.limits c.requires.ready.held.walked.plan c.args.at.now.pos c.requires.here c.args.at.now.row.now.items (read_from (cells_of c.args.pool.now c.args.part.now.extent.now)) c.requires.admitted)
     c.requires.room
 
-pub own_cell-own-requires-clause-room : goal.own_cell-own-requires-clause-room
-own_cell-own-requires-clause-room g c =
+pub read_once-own-requires-clause-room : goal.read_once-own-requires-clause-room
+read_once-own-requires-clause-room g c =
     let asked = c.if-not-looks.false in
     own_room c.args.part.now.q.now c.args.part.now.plan.now c.from-from.ensures.limits c.requires.ready.held.walked.plan c.args.at.now.pos c.requires.here c.args.at.now.row.now.items
     (cells_of c.args.pool.now c.args.part.now.extent.now) (c.requires.counts (sym c.looks.ensures ∙ asked)) (c.requires.several (sym c.looks.ensures ∙ asked)) c.requires.admitted
@@ -44,19 +44,19 @@ pub returns-then-spares-clause-table : goal.returns-then-spares-clause-table
 returns-then-spares-clause-table g c =
     old-adds-none c.args.part.now.q.now.distinct _ c.args.table.now
     (c.requires.old (c.spares.ensures.known c.if-spares.true)
-    (leaves-cell c.args.part.now.plan.now c.args.at.now.pos c.args.at.now.row.now.items (cells_of c.args.pool.now c.args.part.now.extent.now) c.own_cell-own.result c.own_cell-own.ensures.own (c.spares.ensures.stays c.if-spares.true)))
+    (leaves-cell c.args.part.now.plan.now c.args.at.now.pos c.args.at.now.row.now.items (cells_of c.args.pool.now c.args.part.now.extent.now) c.read_once-own.result c.read_once-own.ensures.own (c.spares.ensures.stays c.if-spares.true)))
 
 pub answer_and_put-requires-2-clause-own : goal.answer_and_put-requires-2-clause-own
 answer_and_put-requires-2-clause-own g c =
     put-is (λ cell. IsOwnCell c.args.part.now.plan.now c.args.at.now.pos c.args.at.now.row.now.items (cells_of c.args.pool.now c.args.part.now.extent.now) cell × (cell.number < 64 * c.args.part.now.extent.now.pages) × HasRoom cell.held)
-    c.args.takes.owns c.own_cell-own.result c.cell_to_put-put.result c.cell_to_put-put.ensures (c.own_cell-own.ensures.own, c.own_cell-own.ensures.inside, c.own_cell-own.ensures.room)
+    c.args.takes.owns c.read_once-own.result c.cell_to_put-put.result c.cell_to_put-put.ensures (c.read_once-own.ensures.own, c.read_once-own.ensures.inside, c.read_once-own.ensures.room)
 
 pub returns-clause-pool : goal.returns-clause-pool
 returns-clause-pool g c =
     put-with c.args.part.now.q.now c.args.part.now.plan.now c.args.at.now.pos c.args.at.now.row.now.items c.args.part.now.extent.now c.args.pool.now c.answer_and_put-2.new.pool
-    c.args.takes.owns c.own_cell-own.result c.cell_to_put-put.result c.cell_to_put-put.ensures c.requires.admitted c.answer_and_put-2.ensures.pool
+    c.args.takes.owns c.read_once-own.result c.cell_to_put-put.result c.cell_to_put-put.ensures c.requires.admitted c.answer_and_put-2.ensures.pool
 
 pub returns-clause-same : goal.returns-clause-same
 returns-clause-same g c =
     put-none c.args.part.now.q.now c.args.part.now.plan.now c.args.at.now.pos c.args.at.now.row.now.items c.args.part.now.extent.now c.args.pool.now c.answer_and_put-2.new.pool
-    c.args.takes.owns c.own_cell-own.result c.cell_to_put-put.result c.cell_to_put-put.ensures c.answer_and_put-2.ensures.pool
+    c.args.takes.owns c.read_once-own.result c.cell_to_put-put.result c.cell_to_put-put.ensures c.answer_and_put-2.ensures.pool

@@ -1,4 +1,4 @@
-use Rattle.std.proofs.Common.{◌≡◌, ◌∙◌, List, [], ◌∷◌, ap, sym}
+use Rattle.std.proofs.Common.{◌∙◌, List, [], ◌∷◌, ap, sym}
 use Rattle.bq_model.specs.Combinations.{read_from, Found}
 use Rattle.bq_model.specs.Meaning.{by_column}
 use Rattle.bq_model.specs.Probing.{found_beside}

@@ -1,4 +1,4 @@
-use Rattle.std.proofs.Common.{sym, ◌∙◌, subst}
+use Rattle.std.proofs.Common.{subst}
 use Rattle.bq_model.specs.Combinations.{read_from}
 use Rattle.bq_pool.specs.Extents.{cells_of}
 use Rattle.bq_executor.specs.Taking.{HaveRoom}

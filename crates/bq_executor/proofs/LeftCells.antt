@@ -1,0 +1,258 @@
+-- The parts that a row passes over: it leaves their cells as they are, and it is known that such a row is answered nothing new.
+use Rattle.std.proofs.Common.{◌≡◌, ℕ, zero, suc, ◌+◌, ◌-◌, ◌*◌, ◌<◌, ◌≤◌, ◌&&◌, ◌||◌, ◌⊎◌, inl, inr, Bool, true, false, ℤ, List, length, take, get_or, refl, sym, ap, ◌∙◌, subst, arith, slice_get, Some, Option, None}
+use Rattle.std.specs.Option.{IfSome}
+use Rattle.std.proofs.lemmas.Bool.{cases_lt}
+use Rattle.bq_model.specs.declared.cell.Cell.TheVariants.{Empty}
+use Rattle.bq_model.specs.declared.plan.Kind.{Kind}
+use Rattle.bq_model.specs.declared.plan.PartPlan.{PartPlan}
+use Rattle.bq_model.specs.Query.{QueryValue}
+use Rattle.bq_model.specs.Meaning.{by_column}
+use Rattle.bq_model.specs.Numbers.{work}
+use Rattle.bq_model.specs.Plan.{stream_at, dims_at}
+use Rattle.bq_model.specs.Admission.{admits}
+use Rattle.bq_model.specs.Combinations.{read_from}
+use Rattle.bq_model.proofs.Has.{Contains-from_has}
+use Rattle.bq_laws.proofs.Tests.{and-right, true_or_false, not_both}
+use Rattle.bq_laws.proofs.Places.{place-below}
+use Rattle.bq_laws.proofs.Walking.{plans-are-walkable}
+use Rattle.bq_pool.specs.declared.pool.Extent.{Extent}
+use Rattle.bq_pool.specs.Extents.{PoolValue, cells_of, IsLive}
+use Rattle.bq_pool.specs.Counted.{StepsValue}
+use Rattle.bq_synopsis.specs.declared.axes.Placement.TheVariants.{Cell}
+use Rattle.bq_synopsis.specs.declared.own.OwnCell.{OwnCell}
+use Rattle.bq_synopsis.specs.Axes.{IsPlacement}
+use Rattle.bq_synopsis.specs.Own as own_cells
+use Rattle.bq_synopsis.specs.Own.{IsOwnCell}
+use Rattle.bq_synopsis.specs.Premises.{IsHeld, row_cell}
+use Rattle.bq_synopsis.proofs.PlanLaws.{laid-from}
+use Rattle.bq_answers.specs.Entries.{TableValue, with_entries}
+use Rattle.bq_index.specs.Owners.{takes_rows, EachTakes}
+use Rattle.bq_index.proofs.PreparedParts.{part_at}
+use Rattle.bq_index.proofs.Linked.{NoneAdmits, passed_by, hit_within, hit_there}
+use Rattle.bq_index.specs.declared.part_index.PartIndex.{PartIndex}
+use Rattle.bq_index.specs.PartIndex.{IsPartIndex, IsNext, buckets_of, row_bucket}
+use Rattle.bq_model.specs.Parts.{pairs}
+use Rattle.bq_executor.specs.Arriving.{arrives, all_found, HasTaken, AreReady, LeavesCell, AnswersNothingNew}
+use Rattle.bq_executor.specs.Taking.{with_all}
+use Rattle.bq_index.specs.declared.shift.CellAt.{CellAt}
+use Rattle.bq_index.specs.Shifts.{StandsAt}
+use Rattle.bq_executor.specs.Leaving.{AreHeld, LeavesCells, IsCellOf, IsOnChain, HasPassed, told_of, reads_of}
+use Rattle.bq_executor.proofs.Inserting.{part_plan, get_has}
+use Rattle.bq_executor.proofs.Taken.{taken_step, table_more, work_more}
+use Rattle.bq_executor.proofs.OldAnswers.{old-adds-none}
+use Rattle.bq_executor.proofs.OwnCells.{left-alone, leaves-cell, old-now, known-of}
+use Rattle.bq_executor.proofs.PassedOver.{HaveDone, passed_one}
+
+or_true : (b : Bool) → (b || true) ≡ true
+or_true true = refl
+or_true false = refl
+
+-- the cell that is told of a row is one of the extent
+pub cell-inside : (q : QueryValue) (part : PartPlan) (pos : ℕ) → pos < length q.from → 1 < length q.from → (row : List ℤ) (pool : PoolValue) (e : Extent) → IsHeld q part pool e
+    → (number : ℕ) (kind : Kind) → IsPlacement part pos row (admits q part pos (by_column row)) (Cell number kind) → number < 64 * e.pages
+cell-inside q part pos here several row pool e held number kind stands =
+    let laid = laid-from q part held.walked (64 * e.pages) held.within several pos here in
+    let below = place-below (dims_at part pos) (by_column row) (and-right _ _ (sym stands.inside)) in
+    let own = stands.cell.1 in
+    let size = laid.size in
+    let room = laid.room in
+    omega (arith, below, own, size, room)
+
+-- no part of no parts has a cell that is turned
+pub none-left : (q : QueryValue) (parts : List PartPlan) (pool : PoolValue) (e : Extent) (pos : ℕ) (values : List ℤ) (n m : ℕ) → n ≡ m → LeavesCells q parts (read_from (cells_of pool e)) pos values n m
+none-left q parts pool e pos values n m same k part low high at_k admitted = absurd (omega (arith, low, high, same))
+
+-- one part more, behind which the chain leads over parts that do not admit the row
+pub left-more : (q : QueryValue) (parts : List PartPlan) (pool : PoolValue) (e : Extent) (pos : ℕ) (values : List ℤ) (n i m : ℕ)
+    → LeavesCells q parts (read_from (cells_of pool e)) pos values n i → ((part : PartPlan) → slice_get parts i ≡ Some part → LeavesCell part (read_from (cells_of pool e)) pos values)
+    → NoneAdmits q parts pos (by_column values) (i + 1) m → LeavesCells q parts (read_from (cells_of pool e)) pos values n m
+left-more q parts pool e pos values n i m before own none k part low high at_k admitted = elim (cases_lt k i) [
+  | inl less ↦ before k part low less at_k admitted
+  | inr above ↦ elim (cases_lt i k) [
+    | inl more ↦ absurd (not_both (admits q part pos (by_column values)) admitted (none k part (omega (arith, more)) high at_k))
+    | inr below ↦ (
+        let same : k ≡ i = omega (arith, above, below) in
+        own part (subst (λ x. slice_get parts x ≡ Some part) same at_k))
+  ]
+]
+
+-- all parts have their cells in the extent, while the parts take a row
+pub held-parts : (q : QueryValue) (plan : List PartPlan) (e : Extent) (pos : ℕ) (here : pos < length q.from) (values : List ℤ) (before : PoolValue) (ready : AreReady q plan before e) (now : PoolValue)
+    → IsLive now e → AreHeld q plan now e
+held-parts q plan e pos here values before ready now live k part at_k =
+    let law = plans-are-walkable q plan ready.plan ready.cells ready.inside part (Contains-from_has plan part (get_has plan k part at_k)) in
+    record {
+      live = live;
+      walked = record { cells = ready.cells; few = ready.few; plan = part_plan q plan ready.limits ready.plan k part at_k; places = law.0; tried = law.1 };
+      within = ready.within;
+    }
+
+module _ (q : QueryValue) (plan : List PartPlan) (e : Extent) (pos : ℕ) (here : pos < length q.from) (values : List ℤ) (before : PoolValue) (ready : AreReady q plan before e) (start : TableValue) (paid : StepsValue)
+    (tells : AnswersNothingNew q plan (read_from (cells_of before e)) start.entries) (now : PoolValue) (table : TableValue) (each same : Bool) (all : each ≡ true → EachTakes q plan pos) (unchanged : same ≡ true → now ≡ before) where
+  -- a part whose cell stays as it is did nothing
+  left_alone : (either : (each ≡ true) ⊎ (same ≡ true)) → (n : ℕ) (part : PartPlan) → slice_get plan n ≡ Some part → (steps : StepsValue)
+      → admits q part pos (by_column values) ≡ true → LeavesCell part (read_from (cells_of now e)) pos values
+      → HaveDone q plan e pos values before start paid n now table steps → HaveDone q plan e pos values before start paid (n + 1) now table steps
+  left_alone either n part at_n steps admitted leaves done =
+      let owns : Bool = takes_rows q plan pos n part in
+      let own : OwnCell = record { number = row_cell part pos values; kind = (stream_at part pos).kind; held = get_or (cells_of now e) (row_cell part pos values) Empty } in
+      let is : IsOwnCell part pos values (cells_of now e) own = record { number = refl; kind = refl; held = refl } in
+      let more = work_more q plan e pos here values before ready n part at_n now done.taken in
+      record {
+        taken = taken_step q plan e pos here values before ready n part at_n now done.taken owns refl now (left-alone q part pos values e now owns own done.taken.live is leaves);
+        found =
+            table_more q plan e pos here values before ready n part at_n now done.taken q.distinct start table table done.found
+            (old-adds-none q.distinct _ table
+            (old-now q plan e pos here values before ready n part at_n now done.taken owns same refl unchanged true start table (λ h. tells) done.found admitted (is_known either n part at_n) leaves));
+        reads = (let c = done.reads in omega (arith, more, c));
+        writes = (let c = done.writes in omega (arith, c));
+      }
+    where
+      is_known : (each ≡ true) ⊎ (same ≡ true) → (n : ℕ) (part : PartPlan) → slice_get plan n ≡ Some part → (takes_rows q plan pos n part || same) ≡ true
+      is_known (inl o) n part at_n = ap (λ b. b || same) (all o n part at_n)
+      is_known (inr s) n part at_n = ap (λ b. takes_rows q plan pos n part || b) s ∙ or_true (takes_rows q plan pos n part)
+
+  -- what was read for one part more is paid by it
+  one_paid : (n : ℕ) (steps others : StepsValue) → others.reads ≤ steps.reads + 1 → others.writes ≤ steps.writes → (part : PartPlan) → slice_get plan n ≡ Some part
+      → HaveDone q plan e pos values before start paid n now table steps → HaveDone q plan e pos values before start paid (n + 1) now table steps → HaveDone q plan e pos values before start paid (n + 1) now table others
+  one_paid n steps others reads writes part at_n done next =
+      let more = work_more q plan e pos here values before ready n part at_n now done.taken in
+      record {
+        taken = next.taken;
+        found = next.found;
+        reads = (let c = done.reads in omega (arith, more, c, reads));
+        writes = (let c = done.writes in omega (arith, c, writes));
+      }
+
+  -- one part more that does not admit the row, or leaves its cell as it is
+  left_one : (either : (each ≡ true) ⊎ (same ≡ true)) → (n : ℕ) (part : PartPlan) → slice_get plan n ≡ Some part → (steps others : StepsValue) → others.reads ≤ steps.reads + 1 → others.writes ≤ steps.writes
+      → (admits q part pos (by_column values) ≡ true → LeavesCell part (read_from (cells_of now e)) pos values)
+      → HaveDone q plan e pos values before start paid n now table steps → HaveDone q plan e pos values before start paid (n + 1) now table others
+  left_one either n part at_n steps others reads writes leaves done =
+      one_paid n steps others reads writes part at_n done
+      (elim (true_or_false (admits q part pos (by_column values))) [
+        | inl admitted ↦ left_alone either n part at_n steps admitted (leaves admitted) done
+        | inr refused ↦ passed_one q plan e pos here values before ready start paid now table steps n part at_n refused done
+      ])
+
+  left_many : (either : (each ≡ true) ⊎ (same ≡ true)) → (k n : ℕ) (steps others : StepsValue) → n + k ≤ length plan → others.reads ≤ steps.reads + k → others.writes ≤ steps.writes
+      → LeavesCells q plan (read_from (cells_of now e)) pos values n (n + k)
+      → HaveDone q plan e pos values before start paid n now table steps → HaveDone q plan e pos values before start paid (n + k) now table others
+  left_many either zero n steps others inside reads writes leaves done = record {
+    taken = subst (λ m. HasTaken q plan e (arrives q pos values) m before now) none done.taken;
+    found = subst (λ m. table ≡ with_entries start (with_all q.distinct (all_found q (take m plan) (read_from (cells_of before e)) (arrives q pos values)) start.entries)) none done.found;
+    reads = (let w : work (take n plan) ≡ work (take (n + 0) plan) = ap (λ m. work (take m plan)) none in let c = done.reads in omega (arith, c, w, reads));
+    writes = (let c = done.writes in omega (arith, c, writes));
+  }
+    where
+      none : n ≡ n + 0
+      none = omega arith
+  left_many either (suc k) n steps others inside reads writes leaves done =
+      let there = part_at plan n (omega (arith, inside)) in
+      let same_end : n + 1 + k ≡ n + suc k = omega arith in
+      let mid : StepsValue = record { reads = steps.reads + 1; writes = steps.writes } in
+      subst (λ m. HaveDone q plan e pos values before start paid m now table others) same_end
+      (left_many either k (n + 1) mid others (omega (arith, inside)) (omega (arith, reads)) writes
+      (λ i part low high. leaves i part (omega (arith, low)) (omega (arith, high)))
+      (left_one either n there.0 there.1 steps mid (omega arith) (omega arith) (λ a. leaves n there.0 (omega arith) (omega arith) there.1 a) done))
+
+  -- so did several, each of which was read at most once
+  pub left_over : (either : (each ≡ true) ⊎ (same ≡ true)) → (n m : ℕ) (steps others : StepsValue) → n ≤ m → m ≤ length plan → others.reads + n ≤ steps.reads + m → others.writes ≤ steps.writes
+      → LeavesCells q plan (read_from (cells_of now e)) pos values n m
+      → HaveDone q plan e pos values before start paid n now table steps → HaveDone q plan e pos values before start paid m now table others
+  left_over either n m steps others low high reads writes leaves done =
+      let same_end : n + (m - n) ≡ m = omega (arith, low) in
+      subst (λ x. HaveDone q plan e pos values before start paid x now table others) same_end
+      (left_many either (m - n) n steps others (omega (arith, low, high)) (omega (arith, low, reads)) writes
+      (λ i part l h. leaves i part l (omega (arith, h, low))) done)
+
+-- where nothing is passed over, the state is the same, and no more was paid
+module _ (q : QueryValue) (plan : List PartPlan) (e : Extent) (pos : ℕ) (here : pos < length q.from) (values : List ℤ) (before : PoolValue) (ready : AreReady q plan before e) (start : TableValue) (paid : StepsValue) where
+  pub paid_less : (n m : ℕ) (now : PoolValue) (table : TableValue) (steps others : StepsValue) → n ≡ m → others.reads ≤ steps.reads → others.writes ≤ steps.writes
+      → HaveDone q plan e pos values before start paid n now table steps → HaveDone q plan e pos values before start paid m now table others
+  paid_less n m now table steps others same reads writes done =
+      subst (λ x. HaveDone q plan e pos values before start paid x now table others) same record {
+        taken = done.taken;
+        found = done.found;
+        reads = (let c = done.reads in omega (arith, c, reads));
+        writes = (let c = done.writes in omega (arith, c, writes));
+      }
+
+  -- a row that came to a part did what it does in all parts before that
+  pub reached_done : (known each same passes : Bool) → (known ≡ true → AnswersNothingNew q plan (read_from (cells_of before e)) start.entries) → (each ≡ true → EachTakes q plan pos)
+      → passes ≡ (known && (each || same)) → (n m : ℕ) (now : PoolValue) (table : TableValue) (steps others : StepsValue) → (same ≡ true → now ≡ before) → (passes ≡ false → n ≡ m) → n ≤ m → m ≤ length plan
+      → others.reads + n ≤ steps.reads + m → others.writes ≤ steps.writes → LeavesCells q plan (read_from (cells_of now e)) pos values n m
+      → HaveDone q plan e pos values before start paid n now table steps → HaveDone q plan e pos values before start paid m now table others
+  reached_done known each same passes tells all is n m now table steps others unchanged none low high reads writes leaves done = elim (true_or_false passes) [
+    | inl t ↦ (
+        let k = known-of known each same (sym is ∙ t) in
+        left_over q plan e pos here values before ready start paid (tells k.0) now table each same all unchanged k.1 n m steps others low high reads writes leaves done)
+    | inr f ↦ (
+        let equal : n ≡ m = none f in
+        paid_less n m now table steps others equal (omega (arith, equal, reads)) writes done)
+  ]
+
+-- the own cell that is read where it is told
+pub cell-of : (parts : List PartPlan) (q : QueryValue) (pos : ℕ) (row : List ℤ) (pool : PoolValue) (e : Extent) (i : ℕ) (cell : CellAt) (own : OwnCell) → StandsAt q parts pos row i cell
+    → told_of own ≡ cell → own.held ≡ get_or (cells_of pool e) cell.number Empty → cell.number < 64 * e.pages → IsCellOf parts pos row pool e i own
+cell-of parts q pos row pool e i cell own stands told held inside = record {
+  own = λ part at_i.
+      let c = (stands.stands part at_i).cell in
+      record {
+        number = ap (λ (x : CellAt). x.number) told ∙ c.1;
+        kind = ap (λ (x : CellAt). x.kind) told ∙ c.2;
+        held = held ∙ ap (λ n. get_or (cells_of pool e) n Empty) c.1;
+      };
+  inside = (let t = ap (λ (x : CellAt). x.number) told in omega (arith, t, inside));
+}
+
+module _ (q : QueryValue) (parts : List PartPlan) (pos : ℕ) (c : PartIndex) (are : IsPartIndex q parts pos c) (row : List ℤ) where
+  -- the next part of the row's bucket is on the chain
+  pub on-chain : (n i : ℕ) → IsNext (buckets_of parts c.tests.items c.greatest) (row_bucket (pairs q) c (by_column row)) n i → IsOnChain q parts c row i
+  on-chain n i next = record {
+    within = hit_within q parts pos c are (by_column row) n i next;
+    there = hit_there q parts pos c are (by_column row) n i next;
+  }
+
+  pub next-of : (i m : ℕ) → i < length parts → IsOnChain q parts c row i
+      → IsNext (buckets_of parts c.tests.items c.greatest) (get_or (buckets_of parts c.tests.items c.greatest) i 0) (i + 1) m
+      → IsNext (buckets_of parts c.tests.items c.greatest) (row_bucket (pairs q) c (by_column row)) (i + 1) m
+  next-of i m inside chain next = subst (λ b. IsNext (buckets_of parts c.tests.items c.greatest) b (i + 1) m) (chain.there inside) next
+
+  -- one part more is passed over, whose cell the row leaves as it is
+  pub passed-step : (pool : PoolValue) (e : Extent) (start i m : ℕ) (own : OwnCell) → i < length parts → HasPassed q parts c pos row pool e start i → IsCellOf parts pos row pool e i own
+      → own_cells.with_row own row ≡ own.held → IsNext (buckets_of parts c.tests.items c.greatest) (get_or (buckets_of parts c.tests.items c.greatest) i 0) (i + 1) m
+      → HasPassed q parts c pos row pool e start m
+  passed-step pool e start i m own inside passed cell stays next =
+      let more = next-of i m inside passed.there next in
+      record {
+        behind = (let b = passed.behind in let n = next.behind in omega (arith, b, n));
+        left =
+            left-more q parts pool e pos row start i m passed.left (λ part at_i. leaves-cell part pos row (cells_of pool e) own (cell.own part at_i) stays)
+            (passed_by q parts pos c are (by_column row) (i + 1) m more);
+        there = on-chain (i + 1) m more;
+      }
+
+-- what was paid until a row came from the part of number n to that of number m, of each of which it read one cell at most
+abbrev pub paid_to : StepsValue → ℕ → ℕ → StepsValue
+paid_to steps n m = record { reads = steps.reads + (m - n); writes = steps.writes }
+
+module _ (q : QueryValue) (plan : List PartPlan) (e : Extent) (pos : ℕ) (here : pos < length q.from) (values : List ℤ) (before : PoolValue) (ready : AreReady q plan before e) (start : TableValue) (paid : StepsValue) where
+  -- the state where a row came to
+  pub met_done : (known each same passes : Bool) → (known ≡ true → AnswersNothingNew q plan (read_from (cells_of before e)) start.entries) → (each ≡ true → EachTakes q plan pos)
+      → passes ≡ (known && (each || same)) → (c : PartIndex) (n m : ℕ) (now : PoolValue) (table : TableValue) (steps : StepsValue) → (same ≡ true → now ≡ before) → (passes ≡ false → n ≡ m)
+      → HasPassed q plan c pos values now e n m → HaveDone q plan e pos values before start paid n now table steps → HaveDone q plan e pos values before start paid m now table (paid_to steps n m)
+  met_done known each same passes tells all is c n m now table steps unchanged none passed done =
+      let low = passed.behind in
+      reached_done q plan e pos here values before ready start paid known each same passes tells all is n m now table steps (paid_to steps n m) unchanged none low passed.there.within
+      (omega (arith, low)) (omega arith) passed.left done
+
+-- the own cell that was read is that of the part
+pub own-there : (parts : List PartPlan) (pos : ℕ) (row : List ℤ) (pool : PoolValue) (e : Extent) (i : ℕ) (part : PartPlan) → slice_get parts i ≡ Some part → (own : Option OwnCell)
+    → IfSome own (λ cell. IsCellOf parts pos row pool e i cell) → IfSome own (λ cell. IsOwnCell part pos row (cells_of pool e) cell × (cell.number < 64 * e.pages))
+own-there parts pos row pool e i part at_i None is = tt
+own-there parts pos row pool e i part at_i (Some cell) is = (is.own part at_i, is.inside)
+
+pub few-read : (own : Option OwnCell) → reads_of own ≤ 1
+few-read None = omega arith
+few-read (Some own) = omega arith
