@@ -1,4 +1,4 @@
 pub mod Texts
-pub mod Taken
+pub mod LineLaws
 pub mod Progress
 pub mod Ended

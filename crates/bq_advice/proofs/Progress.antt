@@ -18,8 +18,8 @@ use Rattle.bq_advice.specs.State.{State, empty, free_pages, is_accepted, one_que
 use Rattle.bq_advice.specs.Finding.{Finding, fine, fault, query, after, after_asks, finding_text}
 use Rattle.bq_advice.specs.Advising.{ComeTo, none, one_more, Advises}
 use Rattle.bq_advice.specs.Reading.{ReadAll}
-use Rattle.bq_advice.specs.Taking.{TookLine, TookGiven}
-use Rattle.bq_advice.proofs.Taken.{took_long}
+use Rattle.bq_advice.specs.LineSteps.{TookLine, TookGiven}
+use Rattle.bq_advice.proofs.LineLaws.{took_long}
 
 -- these lines were given, and they come to this text and this state
 pub record Progress (source now : SourceState) (reader : Reading) (text : List ℕ) (s : State) : Type 0 where

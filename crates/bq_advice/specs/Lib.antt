@@ -7,6 +7,6 @@ pub mod Mends
 pub mod Queries
 pub mod Summary
 pub mod Finding
-pub mod Taking
+pub mod LineSteps
 pub mod Advising
 pub mod Reading

@@ -2,7 +2,7 @@
 ghost use Rattle.std.specs.Prelude.{◌≡◌, ◌-◌, ◌^◌, ◌<◌, ◌≤◌, false, [], OnOk, length};
 ghost use Rattle.bq_feed.specs.Reading.{fresh};
 ghost use Rattle.bq_advice.specs.State.{empty};
-ghost use Rattle.bq_advice.specs.Taking.{TookGiven};
+ghost use Rattle.bq_advice.specs.LineSteps.{TookGiven};
 ghost use Rattle.bq_advice.specs.Reading.{GivesNext, ReadsAll};
 
 use crate::state::Advising;

@@ -3,7 +3,7 @@ ghost use Rattle.std.specs.Prelude.{◌≡◌, ◌+◌, ◌-◌, ◌^◌, ◌<�
 ghost use Rattle.bq_diagnosis.specs.declared.fault.Fault.TheVariants as faults;
 ghost use Rattle.bq_diagnosis.specs.Faults.{IsDiagnosis, IsReady};
 ghost use Rattle.bq_advice.specs.State.{is_accepted, pages_for, one_query_more};
-ghost use Rattle.bq_advice.specs.Taking.{TookLine, TookAsks, TookQuery, TookAdvised, TookFault};
+ghost use Rattle.bq_advice.specs.LineSteps.{TookLine, TookAsks, TookQuery, TookAdvised, TookFault};
 
 use crate::advised::AdvisedQuery;
 use crate::faults::{is_row_fault, tell_fault};
@@ -54,7 +54,7 @@ fn look_at(state: &Advising, line: &[u8]) -> Result<Asks, Fault>
 }
 
 // Takes a line that is at fault: what is said of it is put behind what is held, and the line is counted.
-#[tactic(auto, using(crate::proofs::Taken::fault_told))]
+#[tactic(auto, using(crate::proofs::LineLaws::fault_told))]
 fn take_fault(
     state: &mut Advising,
     line: &[u8],
@@ -87,7 +87,7 @@ fn take_judged(state: &mut Advising, name: Name, judgement: Judgement) -> Result
 }
 
 // Takes a query that was advised on: what is said of it is put behind what is held.
-#[tactic(auto, using(crate::proofs::Taken::advised_taken))]
+#[tactic(auto, using(crate::proofs::LineLaws::advised_taken))]
 fn take_advised(
     state: &mut Advising,
     advised: &AdvisedQuery,
@@ -103,7 +103,7 @@ fn take_advised(
 }
 
 // Takes a line that asks for a query.
-#[tactic(auto, using(crate::proofs::Taken::query_taken))]
+#[tactic(auto, using(crate::proofs::LineLaws::query_taken))]
 fn take_query(
     alloc: Global,
     state: &mut Advising,
@@ -160,7 +160,7 @@ fn take_asks(
 
 /// Takes the next line of a script: the streams and the live queries are those behind it, and what is said of it is put behind what is held. `AllocError`
 /// where no memory is found.
-#[tactic(auto, using(crate::proofs::Taken::asks_taken, crate::proofs::Taken::fault_taken))]
+#[tactic(auto, using(crate::proofs::LineLaws::asks_taken, crate::proofs::LineLaws::fault_taken))]
 pub fn take_line(
     alloc: Global,
     state: &mut Advising,

@@ -10,7 +10,7 @@ use Rattle.bq_constraints.specs.Solutions.{IsNegativeCycle, IsWithin}
 use Rattle.bq_certificate.specs.declared.line.Path.{Path}
 use Rattle.bq_certcheck.specs.declared.answer.Reason.{Reason}
 use Rattle.bq_certcheck.specs.declared.answer.Reason.TheVariants as reason
-use Rattle.bq_certcheck.specs.declared.place.TreeCursor.{TreeCursor}
+use Rattle.bq_certcheck.specs.declared.cursor.TreeCursor.{TreeCursor}
 use Rattle.bq_certificate.specs.Nodes.{split, infeasible, against, leaf}
 use Rattle.bq_certcheck.specs.Rules.{ArePaths, AreClosed, IsNextPair, IsRefuted, MayBePart, IsGoodLeaf, Breaks, no_split, no_cycle, no_refuted, no_part, no_paths, not_closed}
 use Rattle.bq_certcheck.specs.Bounds.{KeepsEach, Tells, ReadsBounds}

@@ -15,7 +15,7 @@ use Rattle.bq_constraints.specs.Nodes.{constraints_of, between}
 use Rattle.bq_constraints.specs.PartConstraints.{of_base, of_prefix, AddsSign}
 use Rattle.bq_constraints.specs.Solutions.{IsWithin}
 use Rattle.bq_constraints.proofs.Prefix.{prefix_more, of_no_prefix, length-of_prefix}
-use Rattle.bq_certcheck.specs.declared.place.TreeCursor.{TreeCursor}
+use Rattle.bq_certcheck.specs.declared.cursor.TreeCursor.{TreeCursor}
 use Rattle.bq_certcheck.specs.Reading.{advanced, following}
 use Rattle.bq_certcheck.specs.Standing.{width, Stands, Drops, next_sign, at}
 

@@ -5,7 +5,7 @@ use Rattle.bq_model.specs.Query.{QueryValue, IsWithinLimits}
 use Rattle.bq_model.specs.Parts.{pairs}
 use Rattle.bq_constraints.specs.PartConstraints.{of_prefix}
 use Rattle.bq_constraints.specs.Solutions.{IsWithin}
-use Rattle.bq_certcheck.specs.declared.place.TreeCursor.{TreeCursor}
+use Rattle.bq_certcheck.specs.declared.cursor.TreeCursor.{TreeCursor}
 
 -- how many constraints a sign stands for
 abbrev pub width : Sign → ℕ

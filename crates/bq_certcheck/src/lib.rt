@@ -11,7 +11,7 @@ pub mod laws;
 mod leaf;
 mod links;
 mod order;
-mod place;
+mod cursor;
 mod refuting;
 mod rules;
 mod walk;

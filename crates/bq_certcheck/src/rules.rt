@@ -10,7 +10,7 @@ ghost use Rattle.bq_certcheck.specs.Walking.{IsUnless, JudgesLeaf};
 use crate::answer::Reason;
 use crate::bounds::{bounds_of, is_closed};
 use crate::chain::is_negative_cycle;
-use crate::place::TreeCursor;
+use crate::cursor::TreeCursor;
 use crate::refuting::{any_refuted, refutes};
 use bq_certificate::Line;
 use bq_constraints::Constraint;

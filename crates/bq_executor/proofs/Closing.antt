@@ -15,7 +15,7 @@ use Rattle.bq_executor.specs.Bases.{StandsFrom}
 use Rattle.bq_pool.specs.Extents.{PoolValue}
 use Rattle.bq_model.specs.Bases.{Base}
 use Rattle.bq_model.specs.Meaning.{Arrival}
-use Rattle.bq_executor.specs.Arriving.{HasParts}
+use Rattle.bq_executor.specs.CellSteps.{HasParts}
 use Rattle.bq_executor.proofs.Answered.{filter_plain}
 use Rattle.bq_executor.proofs.PlanFacts.{has_parts}
 

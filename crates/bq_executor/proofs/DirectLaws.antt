@@ -43,7 +43,7 @@ use Rattle.bq_synopsis.proofs.Lookups.{some-is, none-is}
 use Rattle.bq_executor.specs.declared.direct.DirectLookup.{DirectLookup}
 use Rattle.bq_executor.specs.Direct.{own_axis, other_axis, told_by, IsListedFrom, IsDirectIn, IsDirect}
 use Rattle.bq_executor.specs.Executor.{arrival}
-use Rattle.bq_executor.specs.Arriving.{arrives, all_found, answered_by}
+use Rattle.bq_executor.specs.CellSteps.{arrives, all_found, answered_by}
 use Rattle.bq_executor.proofs.InPart.{found_admitted}
 use Rattle.bq_executor.proofs.OnlyPart.{only-signed}
 use Rattle.bq_executor.specs.Signed.{IsSigned}

@@ -19,8 +19,8 @@ use Rattle.bq_pool.specs.declared.pool.Extent.{Extent}
 use Rattle.bq_pool.specs.Extents.{PoolValue, cells_of, with_cells}
 use Rattle.bq_answers.specs.Entries.{TableValue, with_entries}
 use Rattle.bq_synopsis.specs.Premises.{HasRoom, row_cell}
-use Rattle.bq_executor.specs.Taking.{with_found, with_all}
-use Rattle.bq_executor.specs.Arriving.{arrives, with_row, CanCount}
+use Rattle.bq_executor.specs.FoundTable.{with_found, with_all}
+use Rattle.bq_executor.specs.CellSteps.{arrives, with_row, CanCount}
 
 module _ (q : QueryValue) (part : PartPlan) (within : IsWithinLimits q) (plan : IsPartPlan q part) (pos : ℕ) (here : pos < length q.from) (values : List ℤ) where
   abbrev v : ℕ → ℤ

@@ -25,7 +25,7 @@ use Rattle.bq_laws.proofs.SameBoxes.{AreSame, are-same, same-admits}
 use Rattle.bq_laws.proofs.Walking.{full-at}
 use Rattle.bq_model.proofs.BoxLaws.{full-dim-size}
 use Rattle.bq_synopsis.specs.Premises.{row_cell}
-use Rattle.bq_executor.specs.Arriving.{arrives, lies, IsInserted, MeetWhole}
+use Rattle.bq_executor.specs.CellSteps.{arrives, lies, IsInserted, MeetWhole}
 use Rattle.bq_index.specs.Owners.{has_base}
 use Rattle.bq_executor.proofs.InPart.{place_inside}
 

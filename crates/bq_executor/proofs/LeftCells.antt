@@ -32,13 +32,13 @@ use Rattle.bq_index.proofs.Linked.{NoneAdmits, passed_by, hit_within, hit_there}
 use Rattle.bq_index.specs.declared.part_index.PartIndex.{PartIndex}
 use Rattle.bq_index.specs.PartIndex.{IsPartIndex, IsNext, buckets_of, row_bucket}
 use Rattle.bq_model.specs.Parts.{pairs}
-use Rattle.bq_executor.specs.Arriving.{arrives, all_found, HasTaken, AreReady, LeavesCell, AnswersNothingNew}
-use Rattle.bq_executor.specs.Taking.{with_all}
+use Rattle.bq_executor.specs.CellSteps.{arrives, all_found, HasTaken, AreReady, LeavesCell, AnswersNothingNew}
+use Rattle.bq_executor.specs.FoundTable.{with_all}
 use Rattle.bq_index.specs.declared.shift.CellAt.{CellAt}
 use Rattle.bq_index.specs.Shifts.{StandsAt}
 use Rattle.bq_executor.specs.Leaving.{AreHeld, LeavesCells, IsCellOf, IsOnChain, HasPassed, told_of, reads_of}
 use Rattle.bq_executor.proofs.Inserting.{part_plan, get_has}
-use Rattle.bq_executor.proofs.Taken.{taken_step, table_more, work_more}
+use Rattle.bq_executor.proofs.PartCells.{taken_step, table_more, work_more}
 use Rattle.bq_executor.proofs.OldAnswers.{old-adds-none}
 use Rattle.bq_executor.proofs.OwnCells.{left-alone, leaves-cell, old-now, known-of}
 use Rattle.bq_executor.proofs.PassedOver.{HaveDone, passed_one}

@@ -1,11 +1,11 @@
-pub mod Taking
+pub mod TableLaws
 pub mod TakingNew
 pub mod Room
 pub mod Spelled
 pub mod InPart
 pub mod Founds
 pub mod Inserting
-pub mod Taken
+pub mod PartCells
 pub mod Named
 pub mod Answered
 pub mod RowAnswers

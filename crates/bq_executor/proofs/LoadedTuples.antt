@@ -20,8 +20,8 @@ use Rattle.bq_answers.proofs.Changed.{ascends_changed, ascends_settled}
 use Rattle.bq_answers.proofs.Tuples.{has_tuple}
 use Rattle.bq_executor.specs.Executor.{ExecutorValue, parts_in, list_in, cells_in, tuples_in, waiting_in, most_answers, IsSound}
 use Rattle.bq_executor.specs.Standing.{AreKept, KeepsWithin}
-use Rattle.bq_executor.specs.Arriving.{HasParts}
-use Rattle.bq_executor.specs.Taking.{with_all}
+use Rattle.bq_executor.specs.CellSteps.{HasParts}
+use Rattle.bq_executor.specs.FoundTable.{with_all}
 use Rattle.bq_executor.specs.Bases.{kept_in, StandsFrom}
 use Rattle.bq_executor.specs.Loading.{loaded_tuple, Loads}
 use Rattle.bq_executor.proofs.Answered.{settled-tuples, settled-has, filter_plain}

@@ -11,8 +11,8 @@ use Rattle.bq_answers.proofs.Order.{order_equal, order_self}
 use Rattle.bq_answers.proofs.Tuples.{same_is, has_tuple}
 use Rattle.bq_executor.specs.Executor.{cleared}
 use Rattle.bq_executor.proofs.Answered.{settled-has}
-use Rattle.bq_executor.specs.Taking.{with_found, with_all, AreOld}
-use Rattle.bq_executor.proofs.Taking.{has_changed_same, has_changed_other, order_of_same, order_of_other}
+use Rattle.bq_executor.specs.FoundTable.{with_found, with_all, AreOld}
+use Rattle.bq_executor.proofs.TableLaws.{has_changed_same, has_changed_other, order_of_same, order_of_other}
 
 -- a tuple has an entry where it is among the tuples
 pub has-from-tuples : (t : List ℤ) (es : List Entry) → Contains (tuples_of es) t → has t es ≡ true

@@ -16,13 +16,13 @@ use Rattle.bq_pool.specs.Extents.{PoolValue, cells_of}
 use Rattle.bq_synopsis.specs.Premises.{IsReady}
 use Rattle.bq_answers.specs.Entries.{TableValue, with_entries}
 use Rattle.bq_index.specs.Owners.{takes_rows}
-use Rattle.bq_executor.specs.Taking.{with_all, AreOld}
-use Rattle.bq_executor.specs.Arriving.{arrives, all_found, with_row, CanCount, LeavesCell, HasTaken, AreReady, AnswersNothingNew}
+use Rattle.bq_executor.specs.FoundTable.{with_all, AreOld}
+use Rattle.bq_executor.specs.CellSteps.{arrives, all_found, with_row, CanCount, LeavesCell, HasTaken, AreReady, AnswersNothingNew}
 use Rattle.bq_executor.specs.Signed.{IsSigned}
 use Rattle.bq_executor.proofs.Inserting.{part_plan}
 use Rattle.bq_executor.proofs.InPart.{none_added, found_refused, row_refused}
 use Rattle.bq_executor.proofs.OwnCells.{old-now}
-use Rattle.bq_executor.proofs.Taken.{taken_start, taken_step, ready_part, room_part, work_more}
+use Rattle.bq_executor.proofs.PartCells.{taken_start, taken_step, ready_part, room_part, work_more}
 
 one-is : (plan : List PartPlan) (part : PartPlan) → length plan ≡ 1 → slice_get plan 0 ≡ Some part → plan ≡ part ∷ []
 one-is [] part n e = absurd (omega (arith, n))

@@ -20,13 +20,13 @@ use Rattle.bq_synopsis.specs.Own as own_cells
 use Rattle.bq_synopsis.specs.Own.{IsOwnCell}
 use Rattle.bq_synopsis.proofs.OwnLaws.{stays-put}
 use Rattle.bq_answers.specs.Entries.{TableValue, with_entries}
-use Rattle.bq_executor.specs.Taking.{with_all, AreOld}
-use Rattle.bq_executor.specs.Arriving.{arrives, all_found, with_row, HasTaken, CanCount, AreReady, LeavesCell, AnswersNothingNew}
+use Rattle.bq_executor.specs.FoundTable.{with_all, AreOld}
+use Rattle.bq_executor.specs.CellSteps.{arrives, all_found, with_row, HasTaken, CanCount, AreReady, LeavesCell, AnswersNothingNew}
 use Rattle.bq_index.specs.Owners.{takes_rows}
 use Rattle.bq_index.proofs.Owning.{first-has, has-several}
 use Rattle.bq_executor.proofs.InPart.{place_inside}
 use Rattle.bq_executor.proofs.Inserting.{part_plan, get_has}
-use Rattle.bq_executor.proofs.Taken.{same_owned, found_now}
+use Rattle.bq_executor.proofs.PartCells.{same_owned, found_now}
 use Rattle.bq_executor.proofs.OldAnswers.{has-later}
 
 -- a test that failed

@@ -10,12 +10,12 @@ use Rattle.bq_pool.specs.declared.pool.Extent.{Extent}
 use Rattle.bq_pool.specs.Extents.{PoolValue, cells_of}
 use Rattle.bq_pool.specs.Counted.{StepsValue}
 use Rattle.bq_answers.specs.Entries.{TableValue, with_entries}
-use Rattle.bq_executor.specs.Taking.{with_all}
-use Rattle.bq_executor.specs.Arriving.{arrives, all_found, HasTaken, AreReady}
+use Rattle.bq_executor.specs.FoundTable.{with_all}
+use Rattle.bq_executor.specs.CellSteps.{arrives, all_found, HasTaken, AreReady}
 use Rattle.bq_index.specs.Owners.{takes_rows}
 use Rattle.bq_executor.proofs.Inserting.{part_plan}
 use Rattle.bq_executor.proofs.InPart.{none_added, found_refused, row_refused}
-use Rattle.bq_executor.proofs.Taken.{taken_start, taken_step, table_more, work_more}
+use Rattle.bq_executor.proofs.PartCells.{taken_start, taken_step, table_more, work_more}
 use Rattle.bq_index.proofs.PreparedParts.{part_at}
 use Rattle.bq_index.proofs.Linked.{NoneAdmits}
 

@@ -3,8 +3,8 @@ use Rattle.std.proofs.Common.{◌≡◌, suc, ◌≤◌, Bool, true, false, cond
 use Rattle.bq_model.specs.Combinations.{Found}
 use Rattle.bq_answers.specs.Entries.{Entry, TableValue, with_entries, added, has}
 use Rattle.bq_probe.specs.Repeats.{ArePassed}
-use Rattle.bq_executor.specs.Taking.{with_found, with_all, HaveRoom}
-use Rattle.bq_executor.proofs.Taking.{with_all-append, room_then}
+use Rattle.bq_executor.specs.FoundTable.{with_found, with_all, HaveRoom}
+use Rattle.bq_executor.proofs.TableLaws.{with_all-append, room_then}
 use Rattle.bq_executor.proofs.OneTuple.{found_has}
 
 -- finds of a tuple that has an entry

@@ -27,7 +27,7 @@ use Rattle.bq_pool.specs.declared.pool.Extent.{Extent}
 use Rattle.bq_pool.specs.Extents.{PoolValue, cells_of, IsLive}
 use Rattle.bq_synopsis.specs.Premises.{AreFitting}
 use Rattle.bq_executor.specs.Executor.{IsWithin}
-use Rattle.bq_executor.specs.Arriving.{answered_by, HasParts, MeetWhole, IsPlanReady, CanCount}
+use Rattle.bq_executor.specs.CellSteps.{answered_by, HasParts, MeetWhole, IsPlanReady, CanCount}
 use Rattle.bq_executor.proofs.Inserting.{get_has}
 use Rattle.bq_executor.proofs.Founds.{Agree, all_found-same}
 

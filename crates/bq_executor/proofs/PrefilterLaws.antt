@@ -21,10 +21,10 @@ use Rattle.bq_pool.specs.declared.pool.Extent.{Extent}
 use Rattle.bq_pool.specs.Extents.{PoolValue, cells_of}
 use Rattle.bq_index.specs.Prefilter.{IsRefused}
 use Rattle.bq_index.specs.Owners.{has_base}
-use Rattle.bq_executor.specs.Arriving.{lies, IsInserted, HasTaken, IsPlanReady, answered_by}
+use Rattle.bq_executor.specs.CellSteps.{lies, IsInserted, HasTaken, IsPlanReady, answered_by}
 use Rattle.bq_executor.proofs.InPart.{found_refused}
 use Rattle.bq_executor.proofs.Inserting.{part_plan}
-use Rattle.bq_executor.proofs.Taken.{taken_start, with_own}
+use Rattle.bq_executor.proofs.PartCells.{taken_start, with_own}
 
 none_there : (a b : Bool) → b ≡ false → false ≡ (a && b)
 none_there true b e = sym e

@@ -9,7 +9,7 @@ use Rattle.bq_pool.specs.declared.pool.Extent.{Extent}
 use Rattle.bq_pool.specs.Extents.{PoolValue, cells_of, with_cells}
 use Rattle.bq_synopsis.specs.declared.own.OwnCell.{OwnCell}
 use Rattle.bq_synopsis.specs.Inserting.{cells_with_row}
-use Rattle.bq_executor.specs.Arriving.{with_row}
+use Rattle.bq_executor.specs.CellSteps.{with_row}
 use Rattle.bq_executor.proofs.OwnCells.{not-owned, put-there}
 
 -- what is known of the cell is known of the one that is put

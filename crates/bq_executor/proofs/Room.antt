@@ -21,8 +21,8 @@ use Rattle.bq_laws.proofs.TableRoom.{table-has-room}
 use Rattle.bq_answers.specs.Entries.{Entry, entry_of, TableValue, with_entries, changed, has, Ascends, Fits, tuples_of}
 use Rattle.bq_answers.proofs.Changed.{ascends_changed, ascends_get}
 use Rattle.bq_answers.proofs.Tuples.{before_less, tuples_new, tuples_old}
-use Rattle.bq_executor.specs.Taking.{with_found, with_all, HaveRoom}
-use Rattle.bq_executor.proofs.Taking.{ascends_found}
+use Rattle.bq_executor.specs.FoundTable.{with_found, with_all, HaveRoom}
+use Rattle.bq_executor.proofs.TableLaws.{ascends_found}
 
 -- what holds of each member
 pub all_from : {X : Type 0} (P : X → Type 0) (xs : List X) → ((x : X) → Has xs x → P x) → All P xs

@@ -38,11 +38,11 @@ use Rattle.bq_answers.specs.Entries.{Entry, TableValue, with_entries, Ascends, h
 use Rattle.bq_answers.proofs.Changed.{ascends_settled}
 use Rattle.bq_answers.proofs.Tuples.{has_tuple}
 use Rattle.bq_executor.specs.Executor.{most_answers, cleared}
-use Rattle.bq_executor.specs.Taking.{with_all, HaveRoom}
-use Rattle.bq_executor.specs.Arriving.{all_found, own_found, answered_by, HasParts}
+use Rattle.bq_executor.specs.FoundTable.{with_all, HaveRoom}
+use Rattle.bq_executor.specs.CellSteps.{all_found, own_found, answered_by, HasParts}
 use Rattle.bq_laws.specs.Probing.{AreWithin}
 use Rattle.bq_executor.proofs.Founds.{found_lies}
-use Rattle.bq_executor.proofs.Taking.{waits_plain, ascends_all}
+use Rattle.bq_executor.proofs.TableLaws.{waits_plain, ascends_all}
 use Rattle.bq_executor.proofs.TakingNew.{waits_new, tuples_new_all}
 use Rattle.bq_executor.proofs.Room.{Lie, have_room, lie_with_all, lie_from, lie_all}
 use Rattle.bq_executor.proofs.Answered.{cleared-ascends, settled-waits, settled-tuples, settled-has, filter_plain, plain_future, new_future}

@@ -23,7 +23,7 @@ use Rattle.bq_pool.specs.declared.pool.Extent.{Extent}
 use Rattle.bq_pool.specs.Extents.{PoolValue, cells_of, with_cells}
 use Rattle.bq_synopsis.specs.Premises.{HasRoom}
 use Rattle.bq_synopsis.proofs.CallerLemmas.{fits-merged}
-use Rattle.bq_executor.specs.Arriving.{lies, IsInserted, HasTaken}
+use Rattle.bq_executor.specs.CellSteps.{lies, IsInserted, HasTaken}
 use Rattle.bq_index.specs.Owners.{has_base}
 use Rattle.bq_executor.proofs.Inserting.{get_has}
 use Rattle.bq_executor.specs.Standing.{CountsUpto}

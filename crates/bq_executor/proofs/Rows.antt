@@ -43,8 +43,8 @@ use Rattle.bq_answers.specs.Entries.{Entry, TableValue, entry_of, with_entries, 
 use Rattle.bq_executor.specs.declared.saturation.Saturation.TheVariants as saturation
 use Rattle.bq_executor.specs.Executor.{ExecutorValue, list_in, cells_in, tuples_in, waiting_in, IsSound, with_given, cleared}
 use Rattle.bq_executor.specs.Standing.{StandsFor, CountsUpto, AreKept, KeepsWithin, IsReady, future_in, pool_with, TookRow}
-use Rattle.bq_executor.specs.Taking.{with_all, HaveRoom}
-use Rattle.bq_executor.specs.Arriving.{arrives, answered_by, HasParts, HasTaken, IsPlanReady, CanCount, LeavesCell, AnswersNothingNew}
+use Rattle.bq_executor.specs.FoundTable.{with_all, HaveRoom}
+use Rattle.bq_executor.specs.CellSteps.{arrives, answered_by, HasParts, HasTaken, IsPlanReady, CanCount, LeavesCell, AnswersNothingNew}
 use Rattle.bq_executor.proofs.InPart.{place_inside}
 use Rattle.bq_executor.proofs.OldAnswers.{has-cleared}
 use Rattle.bq_executor.proofs.Closing.{distinct-plan}

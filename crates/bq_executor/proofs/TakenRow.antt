@@ -11,8 +11,8 @@ use Rattle.bq_laws.proofs.Tests.{not_both}
 use Rattle.bq_pool.specs.Extents.{PoolValue, cells_of}
 use Rattle.bq_executor.specs.Executor.{ExecutorValue, IsSound, parts_in, with_given, cleared}
 use Rattle.bq_executor.specs.Standing.{KeepsWithin, IsReady, Took}
-use Rattle.bq_executor.specs.Taking.{with_all}
-use Rattle.bq_executor.specs.Arriving.{answered_by, HasTaken}
+use Rattle.bq_executor.specs.FoundTable.{with_all}
+use Rattle.bq_executor.specs.CellSteps.{answered_by, HasTaken}
 use Rattle.bq_executor.specs.Row.{TakesRow}
 use Rattle.bq_executor.proofs.Bases.{taking-keeps-on}
 use Rattle.bq_executor.proofs.Keeping.{counted-within}

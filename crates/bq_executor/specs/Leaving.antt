@@ -20,7 +20,7 @@ use Rattle.bq_index.specs.PartIndex.{buckets_of, row_bucket}
 use Rattle.bq_index.specs.Shift.{placed}
 use Rattle.bq_executor.specs.declared.left.Met.{Met}
 use Rattle.bq_executor.specs.declared.left.Reached.{Reached}
-use Rattle.bq_executor.specs.Arriving.{LeavesCell}
+use Rattle.bq_executor.specs.CellSteps.{LeavesCell}
 
 -- the extent is live and has the cells of all parts
 abbrev pub AreHeld : QueryValue → List PartPlan → PoolValue → Extent → Type 0

@@ -2,8 +2,8 @@ pub mod Executor
 pub mod Standing
 pub mod Runs
 pub mod Written
-pub mod Taking
-pub mod Arriving
+pub mod FoundTable
+pub mod CellSteps
 pub mod Known
 pub mod Bases
 pub mod Direct

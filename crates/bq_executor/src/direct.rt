@@ -11,8 +11,8 @@ ghost use Rattle.bq_probe.specs.Remaining.{as_found};
 ghost use Rattle.bq_synopsis.specs.Axes.{IsAbove, IsShort};
 ghost use Rattle.bq_synopsis.specs.Joining.{told_column};
 ghost use Rattle.bq_answers.specs.Entries.{with_entries, Fits};
-ghost use Rattle.bq_executor.specs.Taking.{with_found, with_all, HaveRoom};
-ghost use Rattle.bq_executor.specs.Arriving.{arrives, all_found, HasTaken, AreReady};
+ghost use Rattle.bq_executor.specs.FoundTable.{with_found, with_all, HaveRoom};
+ghost use Rattle.bq_executor.specs.CellSteps.{arrives, all_found, HasTaken, AreReady};
 ghost use Rattle.bq_executor.specs.Direct.{axis_of, told_by, IsListedIn, IsListedFrom, IsDirect, AreDirect};
 ghost use Rattle.bq_index.specs.Prepared.{IsPreparedPlan};
 

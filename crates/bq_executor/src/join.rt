@@ -16,12 +16,12 @@ ghost use Rattle.bq_synopsis.specs.Own as own_cells;
 ghost use Rattle.bq_synopsis.specs.Own.{IsOwnCell};
 ghost use Rattle.bq_probe.specs.Remaining.{as_found};
 ghost use Rattle.bq_answers.specs.Entries.{with_entries, Fits};
-ghost use Rattle.bq_executor.specs.Taking.{with_found, with_all, HaveRoom, AreOld};
-ghost use Rattle.bq_executor.specs.Arriving.{arrives, with_row, CanCount, LeavesCell};
-ghost use Rattle.bq_executor.specs.Known.{AnswersOne};
+ghost use Rattle.bq_executor.specs.FoundTable.{with_found, with_all, HaveRoom, AreOld};
+ghost use Rattle.bq_executor.specs.CellSteps.{arrives, with_row, CanCount, LeavesCell};
+ghost use Rattle.bq_executor.specs.Known.{IsDetermined};
 ghost use Rattle.bq_executor.specs.Leaving.{reads_of};
 
-use crate::known::answers_one;
+use crate::determined::determined_tuple;
 use bq_answers::Answers;
 use bq_model::{Row, Tuple};
 use bq_narrow::PartAt;
@@ -147,7 +147,7 @@ fn answer_once<L: Ledger>(
     requires ready { IsReady part.now.q.now part.now.plan.now pool.now part.now.extent.now }
     requires prepared { IsPrepared (pairs part.now.q.now) part.now.plan.now part.now.prepared.now }
     requires room { HaveRoom part.now.q.now.distinct (found_beside part.now.q.now part.now.plan.now (read_from (cells_of pool.now part.now.extent.now)) at.now.pos (by_column at.now.row.now.items)) table.old }
-    requires one { AnswersOne part.now.q.now part.now.plan.now at.now.pos at.now.row.now.items tuple.old.items }
+    requires one { IsDetermined part.now.q.now part.now.plan.now at.now.pos at.now.row.now.items tuple.old.items }
     ensures table { table.new ≡ with_entries table.old (with_all part.now.q.now.distinct (found_beside part.now.q.now part.now.plan.now (read_from (cells_of pool.now part.now.extent.now)) at.now.pos (by_column at.now.row.now.items)) table.old.entries) }
     ensures reads { steps.new.reads ≤ steps.old.reads + 3 * share part.now.plan.now }
     ensures writes { steps.new.writes ≡ steps.old.writes }
@@ -185,7 +185,7 @@ fn walk<L: Ledger>(
     ensures reads { steps.new.reads ≤ steps.old.reads + 3 * share part.now.plan.now }
     ensures writes { steps.new.writes ≡ steps.old.writes }
 {
-    if answers_one(part.q, part.plan, at.pos, at.row, tuple) {
+    if determined_tuple(part.q, part.plan, at.pos, at.row, tuple) {
         answer_once(pool, part, at, room, tuple, table, steps);
     } else {
         walk_all(pool, part, at, room, tuple, table, steps);

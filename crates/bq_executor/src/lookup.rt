@@ -10,8 +10,8 @@ ghost use Rattle.bq_synopsis.specs.Premises.{IsReady};
 ghost use Rattle.bq_synopsis.specs.Preparing.{IsPrepared};
 ghost use Rattle.bq_synopsis.specs.Axes.{IsCell};
 ghost use Rattle.bq_answers.specs.Entries.{with_entries};
-ghost use Rattle.bq_executor.specs.Taking.{with_all, HaveRoom, AreOld};
-ghost use Rattle.bq_executor.specs.Arriving.{arrives, all_found, with_row, CanCount, LeavesCell, HasTaken, AreReady, AnswersNothingNew};
+ghost use Rattle.bq_executor.specs.FoundTable.{with_all, HaveRoom, AreOld};
+ghost use Rattle.bq_executor.specs.CellSteps.{arrives, all_found, with_row, CanCount, LeavesCell, HasTaken, AreReady, AnswersNothingNew};
 ghost use Rattle.bq_executor.specs.Signed.{IsSigned};
 ghost use Rattle.bq_index.specs.Prepared.{IsPreparedPlan};
 

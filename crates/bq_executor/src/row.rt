@@ -7,13 +7,13 @@ ghost use Rattle.bq_model.specs.Numbers.{work, parts_of};
 ghost use Rattle.bq_pool.specs.Extents.{cells_of};
 ghost use Rattle.bq_answers.specs.Entries.{with_entries};
 ghost use Rattle.bq_executor.specs.Executor.{arrival};
-ghost use Rattle.bq_executor.specs.Taking.{with_all, HaveRoom};
-ghost use Rattle.bq_executor.specs.Arriving.{answered_by, HasTaken, IsPlanReady, AnswersNothingNew};
+ghost use Rattle.bq_executor.specs.FoundTable.{with_all, HaveRoom};
+ghost use Rattle.bq_executor.specs.CellSteps.{answered_by, HasTaken, IsPlanReady, AnswersNothingNew};
 ghost use Rattle.bq_executor.specs.Direct.{IsDirect, AreDirect};
 ghost use Rattle.bq_index.specs.Prepared.{IsPreparedPlan};
 ghost use Rattle.bq_index.specs.Prefilter.{IsRefused};
 
-use crate::alone::answer_alone;
+use crate::filter::filter_row;
 use crate::direct::{DirectLookup, DirectLookups, apply_direct};
 use crate::join::Scratch;
 use crate::lookup::{apply_to_only_part, has_lookup};
@@ -83,7 +83,7 @@ fn apply_by_plan<L: Ledger>(
 {
     let q = query.q;
     match query.plan {
-        Plan::Filter => answer_alone(q, arrived.stream, arrived.row, &mut scratch.tuple, table),
+        Plan::Filter => filter_row(q, arrived.stream, arrived.row, &mut scratch.tuple, table),
         Plan::Parts { parts, .. } => match place_of(q.from(), arrived.stream) {
             Some(pos) => {
                 let all = PartsAt {

@@ -1,2 +1,2 @@
-pub mod Taken
+pub mod BlankRows
 pub mod Texts

@@ -14,7 +14,7 @@ use Rattle.bq_lower.specs.Family.{FamilyValue, row_at, asking_at}
 use Rattle.bq_lower.specs.Shown.{rows_in, arrivals, asking_in}
 use Rattle.bq_families.specs.Answer.{AreTakenRows}
 use Rattle.bq_families.specs.Text.{own_text, asking_text, asked_text, member_text}
-use Rattle.bq_families.proofs.Taken.{get-map}
+use Rattle.bq_families.proofs.BlankRows.{get-map}
 
 -- the family that rows and the rows that ask for them are
 abbrev pub family_in : ℕ → List (Items ℤ) → List (Items (ℕ × Items ℤ)) → FamilyValue

@@ -23,7 +23,7 @@ use Rattle.bq_feeds.specs.declared.stage.Stage.TheVariants as stage
 use Rattle.bq_feeds.specs.Lanes.{is_open, FaultMet}
 use Rattle.bq_feeds.specs.Turns.{Feed}
 use Rattle.bq_feeds.specs.Turns as turns
-use Rattle.bq_feeds.specs.Taken.{told_in, line_count}
+use Rattle.bq_feeds.specs.FeedsRead.{told_in, line_count}
 use Rattle.bq_feeds.specs.Visited.{new_lane, no_source, slot}
 use Rattle.bq_feeds.proofs.Rounds.{event-past, event-ended, event-fault, event-grown, event-here, told-set, told-round}
 use Rattle.bq_feeds.proofs.Rows.{Row, each-at, each-set, each-round, feeds_of, map-set, map-at, map-kept, set-same}

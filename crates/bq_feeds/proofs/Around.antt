@@ -13,7 +13,7 @@ use Rattle.bq_session.proofs.Held.{Held, Moves, stay, sink}
 use Rattle.bq_session.proofs.GivenAmong.{Given, given-sunk, given-other}
 use Rattle.bq_feeds.specs.declared.stage.Lane.{Lane}
 use Rattle.bq_feeds.specs.declared.stage.Stage.TheVariants as stage
-use Rattle.bq_feeds.specs.Taken.{told_in, line_count}
+use Rattle.bq_feeds.specs.FeedsRead.{told_in, line_count}
 use Rattle.bq_feeds.specs.Visited.{new_lane, no_source}
 use Rattle.bq_feeds.proofs.Rows.{Row, Each, feeds_of, lanes_of, nows_of, sources_of}
 

@@ -15,7 +15,7 @@ use Rattle.bq_feeds.specs.declared.stage.Stage.{Stage}
 use Rattle.bq_feeds.specs.declared.stage.Stage.TheVariants as stage
 use Rattle.std.proofs.lemmas.Bool.{false≢true}
 use Rattle.bq_feeds.specs.Lanes.{is_open}
-use Rattle.bq_feeds.specs.Taken.{line_count}
+use Rattle.bq_feeds.specs.FeedsRead.{line_count}
 use Rattle.bq_feeds.specs.Visited.{new_lane}
 use Rattle.bq_feeds.proofs.Rows.{Row, Each, lanes_of, nows_of, sources_of}
 use Rattle.bq_feeds.proofs.Around.{Stands, gives, done, broken, Around}

@@ -23,7 +23,7 @@ use Rattle.bq_feeds.specs.declared.stage.Stage.{Stage}
 use Rattle.bq_feeds.specs.declared.stage.Stage.TheVariants as stage
 use Rattle.bq_feeds.specs.Lanes.{is_open, is_failed}
 use Rattle.bq_feeds.specs.Turns.{turns}
-use Rattle.bq_feeds.specs.Taken.{TakenFeed, feed_of, OfEach, FeedsTaken, WroteEvents, IsEventText, StopsAtEvent, told_in, line_count}
+use Rattle.bq_feeds.specs.FeedsRead.{TakenFeed, feed_of, OfEach, FeedsTaken, WroteEvents, IsEventText, StopsAtEvent, told_in, line_count}
 use Rattle.bq_feeds.specs.FeedsText.{AreEvents, event_replies}
 use Rattle.bq_feeds.specs.FeedsEnd.{SomeFailed, HasRoom, RanLater}
 use Rattle.bq_feeds.specs.Visited.{Finished, well, faulty, unwritten}

@@ -10,7 +10,7 @@ use Rattle.bq_session.specs.Events.{Event, lines_of, IsClose}
 use Rattle.bq_session.proofs.GivenAmong.{Given, given-close}
 use Rattle.bq_feeds.specs.declared.stage.Stage.TheVariants as stage
 use Rattle.bq_feeds.specs.Turns.{event_of}
-use Rattle.bq_feeds.specs.Taken.{TakenFeed, feed_of, IsTaken, OfEach}
+use Rattle.bq_feeds.specs.FeedsRead.{TakenFeed, feed_of, IsTaken, OfEach}
 use Rattle.bq_feeds.proofs.Rounds.{event-grown, AgreeBelow}
 use Rattle.bq_feeds.proofs.Rows.{Row, Each, feeds_of, sources_of, nows_of}
 use Rattle.bq_feeds.proofs.Around.{Stands, gives, done, broken}

@@ -10,7 +10,7 @@ use Rattle.bq_io.specs.Counts.{Rose}
 use Rattle.bq_session.specs.State.{State, empty}
 use Rattle.bq_session.specs.Run.{IsNoFault}
 use Rattle.bq_feeds.specs.declared.stage.Stage.{Stage}
-use Rattle.bq_feeds.specs.Taken.{TakenFeed, AreLinesOf, IsTaken, OfEach, FeedsTaken}
+use Rattle.bq_feeds.specs.FeedsRead.{TakenFeed, AreLinesOf, IsTaken, OfEach, FeedsTaken}
 use Rattle.bq_feeds.specs.declared.words.FeedWords.{FeedWords}
 use Rattle.bq_feeds.specs.FeedsEnd.{SomeFailed, Ran, SomeRose, NoneFell, SessionRan, FeedsEnd, Asked}
 use Rattle.bq_feeds.specs.Words.{AreFeeds, AreFeedNames, AreFeedsTexts, plain, limited}

@@ -6,7 +6,7 @@ use Rattle.std.proofs.lemmas.Bool.Decides.{nat_tests}
 use Rattle.std.proofs.lemmas.List.Concat.{flat_map-append}
 use Rattle.bq_session.specs.Events.{Event, line, fault}
 use Rattle.bq_feeds.specs.Turns.{Feed, event_of, round_of, rounds, turns}
-use Rattle.bq_feeds.specs.Taken.{told_in}
+use Rattle.bq_feeds.specs.FeedsRead.{told_in}
 
 -- a feed has no event in rounds behind its last
 pub event-past : (number round : ℕ) (feed : Feed) → length feed.lines < round → event_of number round feed ≡ []

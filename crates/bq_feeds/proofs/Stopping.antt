@@ -31,7 +31,7 @@ use Rattle.bq_feeds.specs.declared.stage.Stage.TheVariants as stage
 use Rattle.bq_feeds.specs.Lanes.{FaultMet}
 use Rattle.bq_feeds.specs.Turns.{Feed}
 use Rattle.bq_feeds.specs.Turns as turns
-use Rattle.bq_feeds.specs.Taken.{TakenFeed, feed_of, OfEach, StopsAtEvent, told_in, line_count}
+use Rattle.bq_feeds.specs.FeedsRead.{TakenFeed, feed_of, OfEach, StopsAtEvent, told_in, line_count}
 use Rattle.bq_feeds.specs.FeedsEnd.{IsFullAt, RanLater}
 use Rattle.bq_feeds.specs.Visited.{no_source, slot}
 use Rattle.bq_feeds.proofs.Rounds.{told-put}

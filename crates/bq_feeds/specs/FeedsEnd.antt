@@ -12,7 +12,7 @@ use Rattle.bq_feeds.specs.declared.stage.Stage.TheVariants.{Open, Ended, Failed}
 use Rattle.bq_feeds.specs.Turns.{turns}
 use Rattle.bq_session.specs.Events.{Event, line}
 use Rattle.bq_feeds.specs.FeedsText.{event_replies}
-use Rattle.bq_feeds.specs.Taken.{TakenFeed, OfEach, FeedsTaken, feeds_of, WroteEvents, AtEvent, StopsAtEvent, StopsAtCreate, told_in, line_count}
+use Rattle.bq_feeds.specs.FeedsRead.{TakenFeed, OfEach, FeedsTaken, feeds_of, WroteEvents, AtEvent, StopsAtEvent, StopsAtCreate, told_in, line_count}
 use Rattle.bq_feeds.specs.Words.{AreFeeds}
 
 -- some feed has ended by a fault

@@ -2,7 +2,7 @@ pub mod FeedsEnd
 pub mod FeedsText
 pub mod Lanes
 pub mod Laws
-pub mod Taken
+pub mod FeedsRead
 pub mod Turns
 pub mod Visited
 pub mod Words

@@ -73,33 +73,33 @@ kept_signs place v ps part kept (i ∷ tests) local =
     (kept_signs place v ps part kept tests (λ k d l. local (suc k) d (omega (arith, l))))
 
 -- each part has a bucket
-pub many_buckets : (parts : List PartPlan) (tests : List ℕ) (greatest : ℕ) → length (buckets_of parts tests greatest) ≡ length parts
-many_buckets [] tests greatest = refl
-many_buckets (part ∷ parts) tests greatest = ap suc (many_buckets parts tests greatest)
+pub many_buckets : (parts : List PartPlan) (tests : List ℕ) (mask : ℕ) → length (buckets_of parts tests mask) ≡ length parts
+many_buckets [] tests mask = refl
+many_buckets (part ∷ parts) tests mask = ap suc (many_buckets parts tests mask)
 
 module _ (q : QueryValue) (parts : List PartPlan) (pos : ℕ) (c : PartIndex) (are : IsPartIndex q parts pos c) (v : ℕ → ℤ) where
   -- a row that a part admits is of the part's bucket
   own_bucket : (k : ℕ) (part : PartPlan) → slice_get parts k ≡ Some part → admits q part pos v ≡ true
-      → get_or (buckets_of parts c.tests.items c.greatest) k 0 ≡ row_bucket (pairs q) c v
+      → get_or (buckets_of parts c.tests.items c.mask) k 0 ≡ row_bucket (pairs q) c v
   own_bucket k part at_k h =
       let kept : keeps_signs pos (alone v) (pairs q) part.signs.items ≡ true = and-left _ (list_all (in_range v) (dims_at part pos)) h in
-      let f : PartPlan → ℕ = λ x. bucket_of c.greatest (signs_of_part x c.tests.items) in
+      let f : PartPlan → ℕ = λ x. bucket_of c.mask (signs_of_part x c.tests.items) in
       get_or-map f parts k part 0 (slice_get_within parts k part at_k)
       ∙ ap f (get_or_from_slice_get parts k part part at_k)
-      ∙ ap (bucket_of c.greatest) (sym (kept_signs pos v (pairs q) part kept c.tests.items are.local))
+      ∙ ap (bucket_of c.mask) (sym (kept_signs pos v (pairs q) part kept c.tests.items are.local))
 
   -- no part that the chain passes admits it
-  pub passed_by : (n i : ℕ) → IsNext (buckets_of parts c.tests.items c.greatest) (row_bucket (pairs q) c v) n i → NoneAdmits q parts pos v n i
+  pub passed_by : (n i : ℕ) → IsNext (buckets_of parts c.tests.items c.mask) (row_bucket (pairs q) c v) n i → NoneAdmits q parts pos v n i
   passed_by n i next k part behind before at_k =
       false_if (admits q part pos v) (λ h. next.passed k behind before (own_bucket k part at_k h))
 
   -- and the part that it leads to is of the row's bucket, or there is none
-  pub hit_within : (n i : ℕ) → IsNext (buckets_of parts c.tests.items c.greatest) (row_bucket (pairs q) c v) n i → i ≤ length parts
-  hit_within n i next = let m = many_buckets parts c.tests.items c.greatest in let w = next.within in omega (arith, m, w)
+  pub hit_within : (n i : ℕ) → IsNext (buckets_of parts c.tests.items c.mask) (row_bucket (pairs q) c v) n i → i ≤ length parts
+  hit_within n i next = let m = many_buckets parts c.tests.items c.mask in let w = next.within in omega (arith, m, w)
 
-  pub hit_there : (n i : ℕ) → IsNext (buckets_of parts c.tests.items c.greatest) (row_bucket (pairs q) c v) n i
-      → i < length parts → get_or (buckets_of parts c.tests.items c.greatest) i 0 ≡ row_bucket (pairs q) c v
-  hit_there n i next l = next.there (let m = many_buckets parts c.tests.items c.greatest in omega (arith, m, l))
+  pub hit_there : (n i : ℕ) → IsNext (buckets_of parts c.tests.items c.mask) (row_bucket (pairs q) c v) n i
+      → i < length parts → get_or (buckets_of parts c.tests.items c.mask) i 0 ≡ row_bucket (pairs q) c v
+  hit_there n i next l = next.there (let m = many_buckets parts c.tests.items c.mask in omega (arith, m, l))
 
 -- the next part of a bucket, where one part more stands before
 next_behind : (buckets : List ℕ) (b n i : ℕ) → get_or buckets n 0 ≢ b → IsNext buckets b (n + 1) i → IsNext buckets b n i
@@ -123,14 +123,14 @@ next_here buckets b n within is = record {
 }
 
 -- no part is chained at first
-pub joined_none : (buckets : List ℕ) (greatest n : ℕ) (firsts nexts : List ℕ) → n ≡ length buckets → firsts ≡ replicate (greatest + 1) n → length firsts ≡ greatest + 1
-    → length nexts ≡ n → AreLinked buckets greatest n firsts nexts
-joined_none buckets greatest n firsts nexts many is long all = record {
+pub joined_none : (buckets : List ℕ) (mask n : ℕ) (heads links : List ℕ) → n ≡ length buckets → heads ≡ replicate (mask + 1) n → length heads ≡ mask + 1
+    → length links ≡ n → AreLinked buckets mask n heads links
+joined_none buckets mask n heads links many is long all = record {
   many = long;
   all = all ∙ many;
   first =
       λ b low.
-      let at : get_or firsts b 0 ≡ n = ap (λ (xs : List ℕ). get_or xs b 0) is ∙ get_or-replicate (greatest + 1) b n 0 (omega (arith, low)) in
+      let at : get_or heads b 0 ≡ n = ap (λ (xs : List ℕ). get_or xs b 0) is ∙ get_or-replicate (mask + 1) b n 0 (omega (arith, low)) in
       subst (λ i. IsNext buckets b n i) (sym at) (record {
         behind = omega arith;
         within = omega (arith, many);
@@ -141,26 +141,26 @@ joined_none buckets greatest n firsts nexts many is long all = record {
 }
 
 -- one part more
-pub joined_more : (buckets : List ℕ) (greatest n b : ℕ) (firsts nexts : List ℕ) → n < length buckets → get_or buckets n 0 ≡ b → b ≤ greatest
-    → AreLinked buckets greatest (n + 1) firsts nexts → AreLinked buckets greatest n (set firsts b n) (set nexts n (get_or firsts b 0))
-joined_more buckets greatest n b firsts nexts within is low are = record {
-  many = length-set firsts b n ∙ are.many;
-  all = length-set nexts n (get_or firsts b 0) ∙ are.all;
+pub joined_more : (buckets : List ℕ) (mask n b : ℕ) (heads links : List ℕ) → n < length buckets → get_or buckets n 0 ≡ b → b ≤ mask
+    → AreLinked buckets mask (n + 1) heads links → AreLinked buckets mask n (set heads b n) (set links n (get_or heads b 0))
+joined_more buckets mask n b heads links within is low are = record {
+  many = length-set heads b n ∙ are.many;
+  all = length-set links n (get_or heads b 0) ∙ are.all;
   first = λ o l. elim (true_or_false (nat_eq o b)) [
-    | inl same ↦ subst (λ x. IsNext buckets x n (get_or (set firsts b n) x 0)) (sym (nat_true o b same))
-        (subst (λ i. IsNext buckets b n i) (sym (get_or-set_same firsts b n 0 (let m = are.many in omega (arith, m, low)))) (next_here buckets b n within is))
+    | inl same ↦ subst (λ x. IsNext buckets x n (get_or (set heads b n) x 0)) (sym (nat_true o b same))
+        (subst (λ i. IsNext buckets b n i) (sym (get_or-set_same heads b n 0 (let m = are.many in omega (arith, m, low)))) (next_here buckets b n within is))
     | inr apart ↦ (
         let other : o ≢ b = λ e. not_both (nat_eq o b) (grind (arith, nat_tests, e)) apart in
-        subst (λ i. IsNext buckets o n i) (sym (get_or-set_other firsts b o n 0 other))
-        (next_behind buckets o n (get_or firsts o 0) (λ e. other (sym e ∙ is)) (are.first o l)))
+        subst (λ i. IsNext buckets o n i) (sym (get_or-set_other heads b o n 0 other))
+        (next_behind buckets o n (get_or heads o 0) (λ e. other (sym e ∙ is)) (are.first o l)))
   ];
   next = λ k behind inside. elim (true_or_false (nat_eq k n)) [
-    | inl same ↦ subst (λ x. IsNext buckets (get_or buckets x 0) (x + 1) (get_or (set nexts n (get_or firsts b 0)) x 0)) (sym (nat_true k n same))
-        (subst (λ i. IsNext buckets (get_or buckets n 0) (n + 1) i) (sym (get_or-set_same nexts n (get_or firsts b 0) 0 (let a = are.all in omega (arith, a, within))))
-        (subst (λ x. IsNext buckets x (n + 1) (get_or firsts b 0)) (sym is) (are.first b low)))
+    | inl same ↦ subst (λ x. IsNext buckets (get_or buckets x 0) (x + 1) (get_or (set links n (get_or heads b 0)) x 0)) (sym (nat_true k n same))
+        (subst (λ i. IsNext buckets (get_or buckets n 0) (n + 1) i) (sym (get_or-set_same links n (get_or heads b 0) 0 (let a = are.all in omega (arith, a, within))))
+        (subst (λ x. IsNext buckets x (n + 1) (get_or heads b 0)) (sym is) (are.first b low)))
     | inr apart ↦ (
         let other : k ≢ n = λ e. not_both (nat_eq k n) (grind (arith, nat_tests, e)) apart in
-        subst (λ i. IsNext buckets (get_or buckets k 0) (k + 1) i) (sym (get_or-set_other nexts n k (get_or firsts b 0) 0 other))
+        subst (λ i. IsNext buckets (get_or buckets k 0) (k + 1) i) (sym (get_or-set_other links n k (get_or heads b 0) 0 other))
         (are.next k (grind (arith, nat_tests, behind, apart)) inside))
   ];
 }
@@ -176,29 +176,29 @@ code_at parts tests codes i o part at_i are is =
     ∙ ap f (get_or_from_slice_get parts i part part at_i)
 
 -- the bucket of a part among those of all
-bucket_at : (parts : List PartPlan) (tests codes : List ℕ) (greatest i o b : ℕ) → i < length parts → codes ≡ codes_of parts tests → o ≡ get_or codes i o → b ≡ bit_and o greatest
-    → get_or (buckets_of parts tests greatest) i 0 ≡ b
-bucket_at parts tests codes greatest i o b within are is bucket =
+bucket_at : (parts : List PartPlan) (tests codes : List ℕ) (mask i o b : ℕ) → i < length parts → codes ≡ codes_of parts tests → o ≡ get_or codes i o → b ≡ bit_and o mask
+    → get_or (buckets_of parts tests mask) i 0 ≡ b
+bucket_at parts tests codes mask i o b within are is bucket =
     let there = part_at parts i within in
-    let g : PartPlan → ℕ = λ x. bucket_of greatest (signs_of_part x tests) in
+    let g : PartPlan → ℕ = λ x. bucket_of mask (signs_of_part x tests) in
     get_or-map g parts i there.0 0 within
     ∙ ap g (get_or_from_slice_get parts i there.0 there.0 there.1)
-    ∙ ap (λ (k : ℕ). bit_and k greatest) (sym (code_at parts tests codes i o there.0 there.1 are is))
+    ∙ ap (λ (k : ℕ). bit_and k mask) (sym (code_at parts tests codes i o there.0 there.1 are is))
     ∙ sym bucket
 
 -- the same, as the code takes the part
-pub joined_part : (parts : List PartPlan) (tests others codes : List ℕ) (greatest i k b o : ℕ) (firsts nexts : List ℕ) → 0 < i → i ≤ length parts → others ≡ tests
-    → codes ≡ codes_of parts others → k ≡ get_or codes (i - 1) k → b ≡ bit_and k greatest → b ≤ greatest → o ≡ get_or firsts b o
-    → AreLinked (buckets_of parts tests greatest) greatest i firsts nexts
-    → AreLinked (buckets_of parts tests greatest) greatest (i - 1) (set firsts b (i - 1)) (set nexts (i - 1) o)
-joined_part parts tests others codes greatest i k b o firsts nexts some within same coded at is low first are =
-    let inside : i - 1 < length (buckets_of parts tests greatest) = (let l = many_buckets parts tests greatest in omega (arith, l, some, within)) in
+pub joined_part : (parts : List PartPlan) (tests others codes : List ℕ) (mask i k b o : ℕ) (heads links : List ℕ) → 0 < i → i ≤ length parts → others ≡ tests
+    → codes ≡ codes_of parts others → k ≡ get_or codes (i - 1) k → b ≡ bit_and k mask → b ≤ mask → o ≡ get_or heads b o
+    → AreLinked (buckets_of parts tests mask) mask i heads links
+    → AreLinked (buckets_of parts tests mask) mask (i - 1) (set heads b (i - 1)) (set links (i - 1) o)
+joined_part parts tests others codes mask i k b o heads links some within same coded at is low first are =
+    let inside : i - 1 < length (buckets_of parts tests mask) = (let l = many_buckets parts tests mask in omega (arith, l, some, within)) in
     let next : i ≡ i - 1 + 1 = omega (arith, some) in
-    let own : get_or firsts b 0 ≡ o = get_or_default firsts b 0 o (let m = are.many in omega (arith, m, low)) ∙ sym first in
-    subst (λ x. AreLinked (buckets_of parts tests greatest) greatest (i - 1) (set firsts b (i - 1)) (set nexts (i - 1) x)) own
-    (joined_more (buckets_of parts tests greatest) greatest (i - 1) b firsts nexts inside
-    (bucket_at parts tests codes greatest (i - 1) k b (omega (arith, some, within)) (coded ∙ ap (λ xs. codes_of parts xs) same) at is) low
-    (subst (λ x. AreLinked (buckets_of parts tests greatest) greatest x firsts nexts) next are))
+    let own : get_or heads b 0 ≡ o = get_or_default heads b 0 o (let m = are.many in omega (arith, m, low)) ∙ sym first in
+    subst (λ x. AreLinked (buckets_of parts tests mask) mask (i - 1) (set heads b (i - 1)) (set links (i - 1) x)) own
+    (joined_more (buckets_of parts tests mask) mask (i - 1) b heads links inside
+    (bucket_at parts tests codes mask (i - 1) k b (omega (arith, some, within)) (coded ∙ ap (λ xs. codes_of parts xs) same) at is) low
+    (subst (λ x. AreLinked (buckets_of parts tests mask) mask x heads links) next are))
 
 -- one code more
 pub codes_more : (parts : List PartPlan) (tests codes more : List ℕ) (i o : ℕ) (part : PartPlan) → i < length parts → part ≡ get_or parts i part → o ≡ code_after 0 (signs_of_part part tests)

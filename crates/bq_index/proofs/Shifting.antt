@@ -29,35 +29,35 @@ none true b e = e
 none false b e = refl
 
 -- how the box of a part is shifted in the next one, where both have the same code
-pub next_shifted : (parts : List PartPlan) (place : ℕ) (tells : Bool) (codes nexts : List ℕ) (i : ℕ) (part next : PartPlan) (shift : Option Shift) → tells ≡ true → get_or nexts i 0 < length parts
-    → get_or codes i 0 ≡ get_or codes (get_or nexts i 0) 0 → part ≡ get_or parts i part → next ≡ get_or parts (get_or nexts i 0) next
-    → IfSome shift (λ s. IsShifted part next place s) → IfSome shift (λ s. IsNextShifted parts place tells codes nexts i s)
-next_shifted parts place tells codes nexts i part next None exact within same at_i at_next is = tt
-next_shifted parts place tells codes nexts i part next (Some s) exact within same at_i at_next is = record {
-  exact = exact;
+pub next_shifted : (parts : List PartPlan) (place : ℕ) (tells : Bool) (codes links : List ℕ) (i : ℕ) (part next : PartPlan) (shift : Option Shift) → tells ≡ true → get_or links i 0 < length parts
+    → get_or codes i 0 ≡ get_or codes (get_or links i 0) 0 → part ≡ get_or parts i part → next ≡ get_or parts (get_or links i 0) next
+    → IfSome shift (λ s. IsShifted part next place s) → IfSome shift (λ s. IsNextShifted parts place tells codes links i s)
+next_shifted parts place tells codes links i part next None is_injective within same at_i at_next is = tt
+next_shifted parts place tells codes links i part next (Some s) is_injective within same at_i at_next is = record {
+  is_injective = is_injective;
   within = within;
   code = same;
   box = λ p n at_p at_n.
       subst (λ x. IsShifted x n place s) (at_i ∙ get_or_from_slice_get parts i p part at_p)
-      (subst (λ x. IsShifted part x place s) (at_next ∙ get_or_from_slice_get parts (get_or nexts i 0) n next at_n) is);
+      (subst (λ x. IsShifted part x place s) (at_next ∙ get_or_from_slice_get parts (get_or links i 0) n next at_n) is);
 }
 
 -- what is told of a part by its place in the list
-pub shift_at : (parts : List PartPlan) (place : ℕ) (exact : Bool) (codes nexts : List ℕ) (shifts : List (Option Shift)) (i : ℕ) (shift : Option Shift) → AreShifts parts place exact codes nexts shifts
-    → i < length parts → shift ≡ get_or shifts i shift → IfSome shift (λ s. IsNextShifted parts place exact codes nexts i s)
-shift_at parts place exact codes nexts shifts i None are inside at = tt
-shift_at parts place exact codes nexts shifts i (Some s) are inside at =
+pub shift_at : (parts : List PartPlan) (place : ℕ) (is_injective : Bool) (codes links : List ℕ) (shifts : List (Option Shift)) (i : ℕ) (shift : Option Shift) → AreShifts parts place is_injective codes links shifts
+    → i < length parts → shift ≡ get_or shifts i shift → IfSome shift (λ s. IsNextShifted parts place is_injective codes links i s)
+shift_at parts place is_injective codes links shifts i None are inside at = tt
+shift_at parts place is_injective codes links shifts i (Some s) are inside at =
     are.each i s (slice_get-get_or shifts i (Some s) (let m = are.many in omega (arith, m, inside)) ∙ ap (λ (x : Option Shift). Some x) (sym at))
 
 -- one more
-pub shifts_more : (parts : List PartPlan) (place : ℕ) (exact : Bool) (codes nexts : List ℕ) (shifts : List (Option Shift)) (shift : Option Shift)
-    → ((i : ℕ) (s : Shift) → slice_get shifts i ≡ Some (Some s) → IsNextShifted parts place exact codes nexts i s)
-    → IfSome shift (λ s. IsNextShifted parts place exact codes nexts (length shifts) s)
-    → (i : ℕ) (s : Shift) → slice_get (shifts ++ shift ∷ []) i ≡ Some (Some s) → IsNextShifted parts place exact codes nexts i s
-shifts_more parts place exact codes nexts shifts shift each own =
-    λ i s at. pushed-get (λ k (x : Option Shift). IfSome x (λ t. IsNextShifted parts place exact codes nexts k t)) shifts shift (λ k x at_k. told_of each k x at_k) own i (Some s) at
+pub shifts_more : (parts : List PartPlan) (place : ℕ) (is_injective : Bool) (codes links : List ℕ) (shifts : List (Option Shift)) (shift : Option Shift)
+    → ((i : ℕ) (s : Shift) → slice_get shifts i ≡ Some (Some s) → IsNextShifted parts place is_injective codes links i s)
+    → IfSome shift (λ s. IsNextShifted parts place is_injective codes links (length shifts) s)
+    → (i : ℕ) (s : Shift) → slice_get (shifts ++ shift ∷ []) i ≡ Some (Some s) → IsNextShifted parts place is_injective codes links i s
+shifts_more parts place is_injective codes links shifts shift each own =
+    λ i s at. pushed-get (λ k (x : Option Shift). IfSome x (λ t. IsNextShifted parts place is_injective codes links k t)) shifts shift (λ k x at_k. told_of each k x at_k) own i (Some s) at
   where
-    told_of : ((i : ℕ) (s : Shift) → slice_get shifts i ≡ Some (Some s) → IsNextShifted parts place exact codes nexts i s) → (k : ℕ) (x : Option Shift) → slice_get shifts k ≡ Some x → IfSome x (λ t. IsNextShifted parts place exact codes nexts k t)
+    told_of : ((i : ℕ) (s : Shift) → slice_get shifts i ≡ Some (Some s) → IsNextShifted parts place is_injective codes links i s) → (k : ℕ) (x : Option Shift) → slice_get shifts k ≡ Some x → IfSome x (λ t. IsNextShifted parts place is_injective codes links k t)
     told_of each k None at_k = tt
     told_of each k (Some t) at_k = each k t at_k
 
@@ -69,13 +69,13 @@ module _ (q : QueryValue) (parts : List PartPlan) (place : ℕ) (c : PartIndex) 
   many_codes = ap length are.codes ∙ length-map parts (λ part. code_after 0 (signs_of_part part c.tests.items))
 
   -- where codes are exact, the code of a part tells whether a row in its ranges has its signs
-  told_at : (i : ℕ) (part : PartPlan) → slice_get parts i ≡ Some part → c.exact ≡ true → list_all (in_range (by_column row)) (dims_at part place) ≡ true
+  told_at : (i : ℕ) (part : PartPlan) → slice_get parts i ≡ Some part → c.is_injective ≡ true → list_all (in_range (by_column row)) (dims_at part place) ≡ true
       → nat_eq (get_or c.codes.items i 0) own ≡ keeps_signs place (alone (by_column row)) (pairs q) part.signs.items
-  told_at i part at_i exact inside =
-      told q parts place c are exact (by_column row) i (get_or c.codes.items i 0) own part at_i
+  told_at i part at_i is_injective inside =
+      told q parts place c are is_injective (by_column row) i (get_or c.codes.items i 0) own part at_i
       (get_or_default c.codes.items i 0 (get_or c.codes.items i 0) (let l = slice_get_within parts i part at_i in let m = many_codes in omega (arith, l, m))) refl inside
 
-  module _ (i : ℕ) (shift : Shift) (part next : PartPlan) (at_i : slice_get parts i ≡ Some part) (at_next : slice_get parts (get_or c.nexts.items i 0) ≡ Some next) (is : IsNextShifted parts place c.exact c.codes.items c.nexts.items i shift) where
+  module _ (i : ℕ) (shift : Shift) (part next : PartPlan) (at_i : slice_get parts i ≡ Some part) (at_next : slice_get parts (get_or c.links.items i 0) ≡ Some next) (is : IsNextShifted parts place c.is_injective c.codes.items c.links.items i shift) where
     -- the next part admits the row where the part does
     same_admits : admits q part place (by_column row) ≡ admits q next place (by_column row)
     same_admits =
@@ -83,7 +83,7 @@ module _ (q : QueryValue) (parts : List PartPlan) (place : ℕ) (c : PartIndex) 
         let ranges : list_all (in_range (by_column row)) (dims_at part place) ≡ list_all (in_range (by_column row)) (dims_at next place) = ap (list_all (in_range (by_column row))) dims in
         elim (true_or_false (list_all (in_range (by_column row)) (dims_at part place))) [
           | inl inside ↦ ap₂ (λ a b. a && b)
-              (sym (told_at i part at_i is.exact inside) ∙ ap (λ k. nat_eq k own) is.code ∙ told_at (get_or c.nexts.items i 0) next at_next is.exact (sym ranges ∙ inside)) ranges
+              (sym (told_at i part at_i is.is_injective inside) ∙ ap (λ k. nat_eq k own) is.code ∙ told_at (get_or c.links.items i 0) next at_next is.is_injective (sym ranges ∙ inside)) ranges
           | inr outside ↦ none _ _ outside ∙ sym (none _ _ (sym ranges ∙ outside))
         ]
 
@@ -93,14 +93,14 @@ module _ (q : QueryValue) (parts : List PartPlan) (place : ℕ) (c : PartIndex) 
         subst (λ b. IsPlacement next place row b (Cell (number + shift.cells) shift.kind)) same_admits
         (stands-shifted part next place shift (is.box part next at_i at_next) row number kind (admits q part place (by_column row)) stands)
 
-  module _ (i : ℕ) (shift : Shift) (part : PartPlan) (at_i : slice_get parts i ≡ Some part) (is : IsNextShifted parts place c.exact c.codes.items c.nexts.items i shift) (number : ℕ) (kind : Kind)
+  module _ (i : ℕ) (shift : Shift) (part : PartPlan) (at_i : slice_get parts i ≡ Some part) (is : IsNextShifted parts place c.is_injective c.codes.items c.links.items i shift) (number : ℕ) (kind : Kind)
       (stands : IsPlacement part place row (admits q part place (by_column row)) (Cell number kind)) where
     -- the cell in the next part has a number of 32 bits
     pub cell_fits : number + shift.cells < 2 ^ 32
     cell_fits =
-        let next = part_at parts (get_or c.nexts.items i 0) is.within in
+        let next = part_at parts (get_or c.links.items i 0) is.within in
         in-bounds part next.0 place shift (is.box part next.0 at_i next.1) row number kind (admits q part place (by_column row)) stands (λ h. and-right _ _ h)
 
     -- and is the row's
-    pub cell_next : StandsAt q parts place row (get_or c.nexts.items i 0) (record { number = number + shift.cells; kind = shift.kind })
+    pub cell_next : StandsAt q parts place row (get_or c.links.items i 0) (record { number = number + shift.cells; kind = shift.kind })
     cell_next = record { within = is.within; stands = λ next at_next. stands_next i shift part next at_i at_next is number kind stands }

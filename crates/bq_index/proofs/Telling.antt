@@ -76,12 +76,12 @@ kept_if_same ps parts place tests v i part tell at_i inside same =
     tell.all i part at_i v inside lists.1
 
 -- the code of a part, compared with that of a row in its ranges
-pub told : (q : QueryValue) (parts : List PartPlan) (place : ℕ) (c : PartIndex) → IsPartIndex q parts place c → c.exact ≡ true → (v : ℕ → ℤ) (i o code : ℕ) (part : PartPlan) → slice_get parts i ≡ Some part
+pub told : (q : QueryValue) (parts : List PartPlan) (place : ℕ) (c : PartIndex) → IsPartIndex q parts place c → c.is_injective ≡ true → (v : ℕ → ℤ) (i o code : ℕ) (part : PartPlan) → slice_get parts i ≡ Some part
     → o ≡ get_or c.codes.items i o → code ≡ row_code (pairs q) c v → list_all (in_range v) (dims_at part place) ≡ true → nat_eq o code ≡ keeps_signs place (alone v) (pairs q) part.signs.items
-told q parts place c are exact v i o code part at_i at is inside =
+told q parts place c are is_injective v i o code part at_i at is inside =
     let own = code_at parts c.tests.items c.codes.items i o part at_i are.codes at in
     same_bool (nat_eq o code) (keeps_signs place (alone v) (pairs q) part.signs.items)
-    (λ h. kept_if_same (pairs q) parts place c.tests.items v i part (are.exact exact) at_i inside (sym is ∙ sym (nat_true o code h) ∙ own))
+    (λ h. kept_if_same (pairs q) parts place c.tests.items v i part (are.is_injective is_injective) at_i inside (sym is ∙ sym (nat_true o code h) ∙ own))
     (λ k.
     let same : o ≡ code = own ∙ ap (λ (ss : List Sign). code_after 0 ss) (sym (kept_signs place v (pairs q) part k c.tests.items are.local)) ∙ sym is in
     grind (arith, nat_tests, same))

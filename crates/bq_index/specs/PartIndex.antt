@@ -61,15 +61,15 @@ row_code ps c v = code_after 0 (signs_of_row ps v c.tests.items)
 
 -- the bucket of signs is told by the last bits of their code; this is the number of the greatest bucket
 abbrev pub bucket_of : ℕ → List Sign → ℕ
-bucket_of greatest ss = bit_and (code_after 0 ss) greatest
+bucket_of mask ss = bit_and (code_after 0 ss) mask
 
 -- the buckets of the parts, by the signs that they ask for at these pairs
 abbrev pub buckets_of : List PartPlan → List ℕ → ℕ → List ℕ
-buckets_of parts tests greatest = map (λ part. bucket_of greatest (signs_of_part part tests)) parts
+buckets_of parts tests mask = map (λ part. bucket_of mask (signs_of_part part tests)) parts
 
 -- the bucket of a row
 abbrev pub row_bucket : List Pair → PartIndex → (ℕ → ℤ) → ℕ
-row_bucket ps c v = bucket_of c.greatest (signs_of_row ps v c.tests.items)
+row_bucket ps c v = bucket_of c.mask (signs_of_row ps v c.tests.items)
 
 -- the first number from n on that is of the bucket, or how many numbers there are where none is
 pub record IsNext (buckets : List ℕ) (bucket n i : ℕ) : Type 0 where
@@ -79,11 +79,11 @@ pub record IsNext (buckets : List ℕ) (bucket n i : ℕ) : Type 0 where
   pub there : i < length buckets → slice_index_or buckets i 0 ≡ bucket
 
 -- of the numbers from n on, each bucket has its first, and each of them has the next one of its bucket
-pub record AreLinked (buckets : List ℕ) (greatest n : ℕ) (firsts nexts : List ℕ) : Type 0 where
-  pub many : length firsts ≡ greatest + 1
-  pub all : length nexts ≡ length buckets
-  pub first : (b : ℕ) → b ≤ greatest → IsNext buckets b n (slice_index_or firsts b 0)
-  pub next : (k : ℕ) → n ≤ k → k < length buckets → IsNext buckets (slice_index_or buckets k 0) (k + 1) (slice_index_or nexts k 0)
+pub record AreLinked (buckets : List ℕ) (mask n : ℕ) (heads links : List ℕ) : Type 0 where
+  pub many : length heads ≡ mask + 1
+  pub all : length links ≡ length buckets
+  pub first : (b : ℕ) → b ≤ mask → IsNext buckets b n (slice_index_or heads b 0)
+  pub next : (k : ℕ) → n ≤ k → k < length buckets → IsNext buckets (slice_index_or buckets k 0) (k + 1) (slice_index_or links k 0)
 
 -- there is a mark at this number
 abbrev pub IsMarked : List Bool → ℕ → Type 0
@@ -126,8 +126,8 @@ pub record IsPartIndex (q : QueryValue) (parts : List PartPlan) (place : ℕ) (c
   pub local : All (IsLocal (pairs q) place) c.tests.items
   pub tested : AreOf (pairs q) c.tests.items c.tested.items
   pub codes : c.codes.items ≡ codes_of parts c.tests.items
-  pub exact : c.exact ≡ true → TellAll (pairs q) parts place c.tests.items
-  pub joined : AreLinked (buckets_of parts c.tests.items c.greatest) c.greatest 0 c.firsts.items c.nexts.items
+  pub is_injective : c.is_injective ≡ true → TellAll (pairs q) parts place c.tests.items
+  pub joined : AreLinked (buckets_of parts c.tests.items c.mask) c.mask 0 c.heads.items c.links.items
   pub owners : AreOwners q parts place c.owns.items
   pub each : c.each ≡ true → EachTakes q parts place
-  pub shifts : AreShifts parts place c.exact c.codes.items c.nexts.items c.shifts.items
+  pub shifts : AreShifts parts place c.is_injective c.codes.items c.links.items c.shifts.items

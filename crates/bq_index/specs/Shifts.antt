@@ -10,16 +10,16 @@ use Rattle.bq_synopsis.specs.Axes.{IsPlacement}
 use Rattle.bq_index.specs.Shift.{IsShifted, placed}
 
 -- codes are exact, the next part of the bucket has the code of the part of this number, and its box is shifted so
-pub record IsNextShifted (parts : List PartPlan) (place : ℕ) (tells : Bool) (codes nexts : List ℕ) (i : ℕ) (shift : Shift) : Type 0 where
-  pub exact : tells ≡ true
-  pub within : slice_index_or nexts i 0 < length parts
-  pub code : slice_index_or codes i 0 ≡ slice_index_or codes (slice_index_or nexts i 0) 0
-  pub box : (part next : PartPlan) → slice_get parts i ≡ Some part → slice_get parts (slice_index_or nexts i 0) ≡ Some next → IsShifted part next place shift
+pub record IsNextShifted (parts : List PartPlan) (place : ℕ) (tells : Bool) (codes links : List ℕ) (i : ℕ) (shift : Shift) : Type 0 where
+  pub is_injective : tells ≡ true
+  pub within : slice_index_or links i 0 < length parts
+  pub code : slice_index_or codes i 0 ≡ slice_index_or codes (slice_index_or links i 0) 0
+  pub box : (part next : PartPlan) → slice_get parts i ≡ Some part → slice_get parts (slice_index_or links i 0) ≡ Some next → IsShifted part next place shift
 
 -- for each part how its box is shifted in the next one, where that is told
-pub record AreShifts (parts : List PartPlan) (place : ℕ) (tells : Bool) (codes nexts : List ℕ) (shifts : List (Option Shift)) : Type 0 where
+pub record AreShifts (parts : List PartPlan) (place : ℕ) (tells : Bool) (codes links : List ℕ) (shifts : List (Option Shift)) : Type 0 where
   pub many : length shifts ≡ length parts
-  pub each : (i : ℕ) (shift : Shift) → slice_get shifts i ≡ Some (Some shift) → IsNextShifted parts place tells codes nexts i shift
+  pub each : (i : ℕ) (shift : Shift) → slice_get shifts i ≡ Some (Some shift) → IsNextShifted parts place tells codes links i shift
 
 -- there is a part of this number, it admits a row, and this is the row's cell there
 pub record StandsAt (q : QueryValue) (parts : List PartPlan) (pos : ℕ) (row : List ℤ) (i : ℕ) (cell : CellAt) : Type 0 where

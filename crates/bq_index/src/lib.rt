@@ -17,6 +17,6 @@ mod shift;
 mod shifts;
 
 pub use part_index::{CodedRow, IndexHit, PartIndex};
-pub use prefilter::{Prefilter, column_of, prefilter_of, stream_of};
+pub use prefilter::{Prefilter, prefilter_of, stream_of};
 pub use prepared::{PreparedPlan, prepare_all};
 pub use shift::CellAt;

@@ -3,7 +3,6 @@
 ghost use Rattle.std.specs.Prelude.{◌≡◌, ◌+◌, ◌*◌, ◌%◌, ◌^◌, ◌<◌, ◌≤◌, length, map, slice_get, slice_index_or, bit_and, true, false, Some, All, IfOk, IfSome};
 ghost use Rattle.std.specs.List.{list_all};
 ghost use Rattle.bq_model.specs.Parts.{pairs, is_within, sign, sign_at};
-ghost use Rattle.bq_model.specs.Assignment.{value};
 ghost use Rattle.bq_model.specs.Meaning.{by_column};
 ghost use Rattle.bq_model.specs.Admission.{alone, keeps_signs, in_range, admits};
 ghost use Rattle.bq_model.specs.Plan.{dims_at};
@@ -16,11 +15,10 @@ ghost use Rattle.bq_index.specs.PartIndex.{IsLocal, signs_at, signs_of_part, num
 
 use crate::key_pairs::KeyPairs;
 use crate::owners::{each_takes, owners_at};
-use crate::prefilter::column_of;
 use crate::shift::{CellAt, Shift};
 use crate::shifts::{Chained, shifts_of};
 use arrayvec::ArrayVec;
-use bq_model::{Element, Pair, PartPlan, PartPlans, Query, Row, Sign};
+use bq_model::{Pair, PartPlan, PartPlans, Query, Row, Sign, is_within, value_alone, value_at};
 use bq_synopsis::{Placement, Prepared, placement_of};
 use std::alloc::{AllocError, Global};
 
@@ -31,20 +29,20 @@ pub struct PartIndex {
     tests: ArrayVec<u8, 114>,
     /// These pairs, in the same order.
     tested: Vec<Pair>,
-    /// Whether a code tells all signs of a row in the ranges of a part.
-    exact: bool,
+    /// Whether codes are injective: whether a code tells all signs of a row in the ranges of a part.
+    is_injective: bool,
     /// The code of each part.
     codes: Vec<u32>,
     /// Whether each part takes rows into a box of its own.
     owns: Vec<bool>,
     /// Whether all do.
     each: bool,
-    /// The number of the greatest bucket.
-    greatest: u32,
+    /// The mask that leaves of a code its bucket: the number of the greatest one.
+    mask: u32,
     /// The first part of each bucket; the number of all parts where there is none.
-    firsts: Vec<u32>,
+    heads: Vec<u32>,
     /// The next part of the bucket of each part; the number of all parts where there is none.
-    nexts: Vec<u32>,
+    links: Vec<u32>,
     /// How many cells later the box of the next part begins, where a row stands in both at the same place or in neither.
     shifts: Vec<Option<Shift>>,
 }
@@ -69,17 +67,7 @@ pub struct CodedRow<'a> {
 // The numbers of the pairs whose signs make a code, and whether the code tells all signs of a row in the ranges of a part.
 struct Tests {
     numbers: ArrayVec<u8, 114>,
-    exact: bool,
-}
-
-// The value of an element in a row.
-fn value_of(row: &[i64], element: Element) -> i64
-    ensures { result ≡ value element (alone (by_column row.now)) }
-{
-    match element {
-        Element::Attr(attr) => column_of(row, attr.column),
-        Element::Const(integer) => integer,
-    }
+    is_injective: bool,
 }
 
 // The number of the sign by which two integers stand to each other, without a branch.
@@ -93,7 +81,7 @@ fn number_between(x: i64, y: i64) -> u32
 fn number_at(row: &[i64], pair: &Pair) -> u32
     ensures { result ≡ number_of (sign_at (alone (by_column row.now)) pair.now) }
 {
-    number_between(column_of(row, pair.left.column), value_of(row, pair.right))
+    number_between(value_at(row, pair.left.column), value_alone(row, pair.right))
 }
 
 // The number of a sign.
@@ -116,11 +104,11 @@ fn with_number(code: u32, number: u32) -> u32
 }
 
 // The bucket of a code.
-fn bucket_of_code(code: u32, greatest: u32) -> u32
-    ensures bucket { result ≡ bit_and code greatest }
-    ensures within { result ≤ greatest }
+fn bucket_of_code(code: u32, mask: u32) -> u32
+    ensures bucket { result ≡ bit_and code mask }
+    ensures within { result ≤ mask }
 {
-    code & greatest
+    code & mask
 }
 
 // The code of a row, by the pairs that are tested.
@@ -169,15 +157,15 @@ impl PartIndex {
     pub fn first(&self, q: &Query, parts: &PartPlans, pos: u8, row: &Row) -> IndexHit
         requires { IsPartIndex q.now parts.now pos self.now }
         ensures code { result.code ≡ row_code (pairs q.now) self.now (by_column row.now.items) }
-        ensures first { IsNext (buckets_of parts.now self.now.tests.items self.now.greatest) (row_bucket (pairs q.now) self.now (by_column row.now.items)) 0 result.first }
+        ensures first { IsNext (buckets_of parts.now self.now.tests.items self.now.mask) (row_bucket (pairs q.now) self.now (by_column row.now.items)) 0 result.first }
     {
         // Named for the proof alone: the contract speaks of it.
         let _parts = parts.len();
         let code = self.code(q, parts, pos, row);
-        let bucket = bucket_of_code(code, self.greatest);
+        let bucket = bucket_of_code(code, self.mask);
         IndexHit {
             code,
-            first: self.firsts[bucket as usize],
+            first: self.heads[bucket as usize],
         }
     }
 
@@ -185,19 +173,19 @@ impl PartIndex {
     pub fn after(&self, q: &Query, parts: &PartPlans, pos: u8, i: u32) -> u32
         requires inside { i < length parts.now }
         requires part_index { IsPartIndex q.now parts.now pos self.now }
-        ensures next { IsNext (buckets_of parts.now self.now.tests.items self.now.greatest) (slice_index_or (buckets_of parts.now self.now.tests.items self.now.greatest) i 0) (i + 1) result }
-        ensures number { result ≡ slice_index_or self.now.nexts.items i 0 }
+        ensures next { IsNext (buckets_of parts.now self.now.tests.items self.now.mask) (slice_index_or (buckets_of parts.now self.now.tests.items self.now.mask) i 0) (i + 1) result }
+        ensures number { result ≡ slice_index_or self.now.links.items i 0 }
     {
         // Named for the proof alone: the contract speaks of it.
         let _parts = parts.len();
-        self.nexts[i as usize]
+        self.links[i as usize]
     }
 
     // How many cells later the box of the next part of a part's bucket begins, where a row stands at the same place of both.
     fn shift(&self, q: &Query, parts: &PartPlans, pos: u8, i: u32) -> Option<Shift>
         requires inside { i < length parts.now }
         requires part_index { IsPartIndex q.now parts.now pos self.now }
-        ensures { IfSome result (λ shift. IsNextShifted parts.now pos self.now.exact self.now.codes.items self.now.nexts.items i shift) }
+        ensures { IfSome result (λ shift. IsNextShifted parts.now pos self.now.is_injective self.now.codes.items self.now.links.items i shift) }
     {
         // Named for the proof alone: the contract speaks of it.
         let _parts = parts.len();
@@ -216,7 +204,7 @@ impl PartIndex {
         requires inside { i < length coded.now.parts.now }
         requires part { slice_get coded.now.parts.now i ≡ Some part.now }
         requires placement { IsPlacement part.now coded.now.pos coded.now.row.now.items (admits coded.now.q.now part.now coded.now.pos (by_column coded.now.row.now.items)) placement }
-        ensures { IfSome result (λ cell. StandsAt coded.now.q.now coded.now.parts.now coded.now.pos coded.now.row.now.items (slice_index_or self.now.nexts.items i 0) cell) }
+        ensures { IfSome result (λ cell. StandsAt coded.now.q.now coded.now.parts.now coded.now.pos coded.now.row.now.items (slice_index_or self.now.links.items i 0) cell) }
     {
         match placement {
             Placement::Cell { number, .. } => {
@@ -262,7 +250,7 @@ impl PartIndex {
     // Whether a row has the signs of a part, if it lies in the ranges of the part's dims, where codes are exact.
     fn has_signs(&self, coded: &CodedRow<'_>, part: &PartPlan, i: u32) -> bool
         requires part_index { IsPartIndex coded.now.q.now coded.now.parts.now coded.now.pos self.now }
-        requires exact { self.now.exact ≡ true }
+        requires is_injective { self.now.is_injective ≡ true }
         requires part { slice_get coded.now.parts.now i ≡ Some part.now }
         requires code { coded.now.code ≡ row_code (pairs coded.now.q.now) self.now (by_column coded.now.row.now.items) }
         ensures { list_all (in_range (by_column coded.now.row.now.items)) (dims_at part.now coded.now.pos) ≡ true → result ≡ keeps_signs coded.now.pos (alone (by_column coded.now.row.now.items)) (pairs coded.now.q.now) part.now.signs.items }
@@ -278,9 +266,9 @@ impl PartIndex {
         requires part { slice_get coded.now.parts.now i ≡ Some part.now }
         requires code { coded.now.code ≡ row_code (pairs coded.now.q.now) self.now (by_column coded.now.row.now.items) }
         ensures refused { result ≡ false → admits coded.now.q.now part.now coded.now.pos (by_column coded.now.row.now.items) ≡ false }
-        ensures signed { result ≡ true → self.now.exact ≡ true → admits coded.now.q.now part.now coded.now.pos (by_column coded.now.row.now.items) ≡ list_all (in_range (by_column coded.now.row.now.items)) (dims_at part.now coded.now.pos) }
+        ensures signed { result ≡ true → self.now.is_injective ≡ true → admits coded.now.q.now part.now coded.now.pos (by_column coded.now.row.now.items) ≡ list_all (in_range (by_column coded.now.row.now.items)) (dims_at part.now coded.now.pos) }
     {
-        if self.exact {
+        if self.is_injective {
             self.has_signs(coded, part, i)
         } else {
             true
@@ -303,7 +291,7 @@ impl PartIndex {
         ensures { IsPlacement part.now coded.now.pos coded.now.row.now.items (admits coded.now.q.now part.now coded.now.pos (by_column coded.now.row.now.items)) result }
     {
         if self.may_admit(coded, part, i) {
-            placement_of(coded.q, part, prepared, self.exact, coded.pos, coded.row)
+            placement_of(coded.q, part, prepared, self.is_injective, coded.pos, coded.row)
         } else {
             Placement::Outside
         }
@@ -319,7 +307,7 @@ fn mark_of(all: &Vec<bool>, i: u32) -> bool
 }
 
 // The number of the greatest bucket: there are at least twice as many buckets as parts, up to 4,096, and one where there are few parts.
-fn greatest_bucket(parts: u32) -> u32
+fn mask_for(parts: u32) -> u32
     ensures { result < 4096 }
 {
     match parts {
@@ -349,22 +337,12 @@ fn is_marked(marks: &[bool], i: u8) -> bool
     marks.get(usize::from(i)).copied().unwrap_or(false)
 }
 
-// Whether all columns of a pair are of the stream at a place.
-fn is_within(place: u8, pair: Pair) -> bool
-    ensures { result ≡ is_within place pair.left pair.right }
-{
-    match pair.right {
-        Element::Attr(right) => pair.left.stream == place && right.stream == place,
-        Element::Const(_) => pair.left.stream == place,
-    }
-}
-
 // Whether a pair is of the stream at a place, and is needed or tells parts from each other.
 fn is_test(parts: &PartPlans, marks: &[bool], place: u8, pair: Pair, i: u8) -> bool
     ensures local { result ≡ true → is_within place pair.left pair.right ≡ true }
     ensures key_pairs { is_within place pair.left pair.right ≡ true → IsMarked marks.now i → result ≡ true }
 {
-    is_within(place, pair) && (is_marked(marks, i) || is_telling(parts, i))
+    is_within(usize::from(place), pair) && (is_marked(marks, i) || is_telling(parts, i))
 }
 
 // The numbers of the pairs of the stream at a place that are needed, or by which the parts are told from each other.
@@ -401,17 +379,17 @@ fn is_exact(key_pairs: &KeyPairs, tests: &[u8]) -> bool
 fn tests_for(q: &Query, parts: &PartPlans, key_pairs: &KeyPairs, place: u8) -> Tests
     requires { key_pairs.now.is_complete ≡ true → AreKeyPairs (pairs q.now) parts.now key_pairs.now.marks }
     ensures local { All (IsLocal (pairs q.now) place) result.numbers.items }
-    ensures exact { result.exact ≡ true → TellAll (pairs q.now) parts.now place result.numbers.items }
+    ensures is_injective { result.is_injective ≡ true → TellAll (pairs q.now) parts.now place result.numbers.items }
 {
-    if greatest_bucket(parts.len()) == 0 {
+    if mask_for(parts.len()) == 0 {
         return Tests {
             numbers: ArrayVec::new(),
-            exact: false,
+            is_injective: false,
         };
     }
     let numbers = tests_at(q, parts, &key_pairs.marks, place);
-    let exact = is_exact(key_pairs, numbers.as_slice());
-    Tests { numbers, exact }
+    let is_injective = is_exact(key_pairs, numbers.as_slice());
+    Tests { numbers, is_injective }
 }
 
 // The codes of the parts.
@@ -461,37 +439,37 @@ pub fn part_index_at(
     ensures { IfOk result (λ part_index. IsPartIndex q.now parts.now place part_index) }
 {
     let count = parts.len();
-    let Tests { numbers, exact } = tests_for(q, parts, key_pairs, place);
+    let Tests { numbers, is_injective } = tests_for(q, parts, key_pairs, place);
     let tested = pairs_of(alloc, q.pairs().as_slice(), numbers.as_slice())?;
     let codes = codes_of(alloc, parts, numbers.as_slice())?;
     let owns = owners_at(alloc, q, parts, place)?;
     let each = each_takes(q, parts, place, owns.as_slice());
-    let greatest = greatest_bucket(count);
-    let mut firsts: Vec<u32> = vec![in alloc; count; greatest as usize + 1]?;
-    let mut nexts: Vec<u32> = vec![in alloc; count; count as usize]?;
+    let mask = mask_for(count);
+    let mut heads: Vec<u32> = vec![in alloc; count; mask as usize + 1]?;
+    let mut links: Vec<u32> = vec![in alloc; count; count as usize]?;
     let mut i = count;
     'parts: while i > 0 {
         i -= 1;
-        let bucket = bucket_of_code(codes[i as usize], greatest) as usize;
-        nexts[i as usize] = firsts[bucket];
-        firsts[bucket] = i;
+        let bucket = bucket_of_code(codes[i as usize], mask) as usize;
+        links[i as usize] = heads[bucket];
+        heads[bucket] = i;
     }
     let chained = Chained {
-        exact,
+        is_injective,
         codes: codes.as_slice(),
-        nexts: nexts.as_slice(),
+        links: links.as_slice(),
     };
     let shifts = shifts_of(alloc, q, parts, prepared, place, &chained)?;
     Ok(PartIndex {
         tests: numbers,
         tested,
-        exact,
+        is_injective,
         codes,
         owns,
         each,
-        greatest,
-        firsts,
-        nexts,
+        mask,
+        heads,
+        links,
         shifts,
     })
 }

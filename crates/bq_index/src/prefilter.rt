@@ -8,7 +8,7 @@ ghost use Rattle.bq_index.specs.Prefilter.{is_above, is_below, lies_in, is_withi
 
 use crate::interval::{Interval, interval_alone, interval_over, unbounded};
 use arrayvec::ArrayVec;
-use bq_model::{Atom, PartPlans, Plan, Query, Row};
+use bq_model::{Atom, PartPlans, Plan, Query, Row, value_at};
 
 /// Between which integers a column lies.
 #[derive(Clone, Copy, Debug, Default, PartialEq, Eq)]
@@ -47,18 +47,11 @@ fn is_below(greatest: i64, x: i64) -> bool
     x <= greatest
 }
 
-/// Returns the value of a column in a row, 0 where the row has none.
-pub fn column_of(row: &[i64], column: u8) -> i64
-    ensures { result ≡ by_column row.now column }
-{
-    row.get(usize::from(column)).copied().unwrap_or(0)
-}
-
 // Whether a row lies within a range.
 fn is_within(row: &[i64], range: &ColumnInterval) -> bool
     ensures { result ≡ is_within (by_column row.now) range.now }
 {
-    let x = column_of(row, range.column);
+    let x = value_at(row, range.column);
     is_above(range.interval.least, x) && is_below(range.interval.greatest, x)
 }
 

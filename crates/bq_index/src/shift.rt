@@ -7,8 +7,8 @@ ghost use Rattle.bq_synopsis.specs.Preparing.{IsPrepared};
 ghost use Rattle.bq_synopsis.specs.Axes.{IsBoxLayout};
 ghost use Rattle.bq_index.specs.Shift.{IsShifted, placed};
 
-use bq_model::{Dim, Kind, PartPlan, Query, is_same};
-use bq_synopsis::{BoxLayout, Placement, Prepared, dims_at};
+use bq_model::{Dim, Kind, PartPlan, Query, dims_at, is_same};
+use bq_synopsis::{BoxLayout, Placement, Prepared};
 
 /// The cell that a row falls into, and what it keeps of rows.
 #[derive(Clone, Copy, Debug, PartialEq, Eq, Drop)]

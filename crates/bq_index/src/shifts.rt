@@ -15,9 +15,9 @@ use std::alloc::{AllocError, Global};
 /// Whether the codes of parts are exact, these codes, and the next part of each part's bucket.
 #[derive(Clone, Copy)]
 pub struct Chained<'a> {
-    pub exact: bool,
+    pub is_injective: bool,
     pub codes: &'a [u32],
-    pub nexts: &'a [u32],
+    pub links: &'a [u32],
 }
 
 // What a part is asked of every row.
@@ -52,11 +52,11 @@ fn shift_at(
     requires inside { i < length parts.now }
     requires prepared { ArePrepared (pairs q.now) parts.now prepared.now }
     requires codes { length chained.now.codes.now ≡ length parts.now }
-    requires nexts { length chained.now.nexts.now ≡ length parts.now }
-    ensures { IfSome result (λ shift. IsNextShifted parts.now place chained.now.exact chained.now.codes.now chained.now.nexts.now i shift) }
+    requires links { length chained.now.links.now ≡ length parts.now }
+    ensures { IfSome result (λ shift. IsNextShifted parts.now place chained.now.is_injective chained.now.codes.now chained.now.links.now i shift) }
 {
-    let next = chained.nexts[i as usize];
-    if !chained.exact {
+    let next = chained.links[i as usize];
+    if !chained.is_injective {
         return None;
     }
     if next >= parts.len() {
@@ -81,8 +81,8 @@ pub fn shifts_of(
 ) -> Result<Vec<Option<Shift>>, AllocError>
     requires prepared { ArePrepared (pairs q.now) parts.now prepared.now }
     requires codes { length chained.now.codes.now ≡ length parts.now }
-    requires nexts { length chained.now.nexts.now ≡ length parts.now }
-    ensures { IfOk result (λ shifts. AreShifts parts.now place chained.now.exact chained.now.codes.now chained.now.nexts.now shifts.items) }
+    requires links { length chained.now.links.now ≡ length parts.now }
+    ensures { IfOk result (λ shifts. AreShifts parts.now place chained.now.is_injective chained.now.codes.now chained.now.links.now shifts.items) }
 {
     let mut shifts: Vec<Option<Shift>> = Vec::with_capacity(alloc, parts.len() as usize)?;
     'parts: for i in 0..parts.len() {

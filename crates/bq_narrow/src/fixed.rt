@@ -2,7 +2,7 @@
 //! Where the columns are the arriving row's own, they are listed with the part; else they are searched for among the links.
 ghost use Rattle.std.specs.Prelude.{◌≡◌, ◌≢◌, ◌+◌, ◌<◌, ◌^◌, ◌≤ℤ◌, length, map, IfSome};
 ghost use Rattle.bq_model.specs.Boxes.{box_size, place_of};
-ghost use Rattle.bq_model.specs.Plan.{stream_at, dims_at};
+ghost use Rattle.bq_model.specs.Plan.{stream_at};
 ghost use Rattle.bq_narrow.specs.Lined.{IsFixed, AreFixed};
 ghost use Rattle.bq_synopsis.specs.Pinning.{IsKeyColumn, IsPinned};
 ghost use Rattle.bq_synopsis.specs.Preparing.{IsPrepared};
@@ -17,8 +17,8 @@ use crate::lines::offset_of;
 use crate::lists::Dims;
 use crate::part::RowAt;
 use crate::values::value_in;
-use bq_model::Dim;
-use bq_synopsis::{KeyColumn, LookupKey, binding_column, column_of, is_whole, stream_at};
+use bq_model::{Dim, value_at};
+use bq_synopsis::{KeyColumn, LookupKey, binding_column, is_scan, stream_at};
 
 // The dim with one value alone, if that is in its range.
 fn pinned(dim: Dim, value: i64) -> Option<Dim>
@@ -82,7 +82,7 @@ fn pinned_dim(at: &RowAt<'_>, known: &[Binding], key_column: KeyColumn) -> Optio
 {
     // Named for the proof alone: the contract speaks of it.
     let _known = known;
-    let Some(fixed) = pinned(key_column.dim, column_of(at.row, key_column.column)) else {
+    let Some(fixed) = pinned(key_column.dim, value_at(at.row, key_column.column.column)) else {
         return None;
     };
     Some(fixed)
@@ -136,7 +136,7 @@ pub fn single_dims(at: &RowAt<'_>, known: &[Binding], dims: &mut Dims) -> Option
     requires laid { IsLaidOut (stream_at at.now.part.now (length known.now)) (2 ^ 32) }
     ensures { IfSome result (λ first. AreFixed at.now.part.now (length known.now) (narrowed_dims at.now.pairs.now at.now.part.now at.now.arriving at.now.row.now known.now) dims.new.items first) }
 {
-    if !is_whole(at.prepared.access(at.arriving, known.len())) {
+    if !is_scan(at.prepared.access(at.arriving, known.len())) {
         return None;
     }
     let plan = stream_at(at.part, known.len());

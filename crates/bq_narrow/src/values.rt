@@ -7,8 +7,8 @@ ghost use Rattle.std.specs.declared.option.Option.TheVariants.{Some};
 
 use crate::binding::Binding;
 use crate::part::RowAt;
-use bq_model::{Attr, Cell, Pair, PartPlan};
-use bq_synopsis::{Prepared, class_of, column_of};
+use bq_model::{Attr, Cell, Pair, PartPlan, value_at};
+use bq_synopsis::{Prepared, class_of};
 
 // The extreme that a cell keeps, and 0 where it keeps none.
 fn extreme_of(cell: Cell) -> i64
@@ -64,7 +64,7 @@ pub fn value_in(at: &RowAt<'_>, known: &[Binding], a: Attr) -> i64
     ensures { result ≡ value_in at.now.pairs.now at.now.part.now at.now.arriving at.now.row.now known.now a }
 {
     if a.stream == at.arriving {
-        return column_of(at.row, a);
+        return value_at(at.row, a.column);
     }
     match known.get(usize::from(a.stream)) {
         Some(chosen) => chosen_value(at.pairs, at.part, at.prepared, a, chosen),

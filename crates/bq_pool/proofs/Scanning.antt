@@ -64,28 +64,28 @@ scanned_same at at' from to before (Some occupied) after same s = (
 )
 
 -- what a scan asks of a cell of a live extent, and what it sees there
-pub record IsSeen (cells : List Cell) (places : List ℕ) (slots : List (Option ℕ)) (free pages : ℕ) (e : Extent) (i : ℕ) : Type 0 where
+pub record IsSeen (cells : List Cell) (page_table : List ℕ) (slots : List (Option ℕ)) (free pages : ℕ) (e : Extent) (i : ℕ) : Type 0 where
   pub slot : e.slot < 64
   pub small : i < 2 ^ 32
-  pub page : HasPage cells places e.slot i
-  pub cell : cell_at cells places e.slot i ≡ get_or (cells_of (record { pages = pages; free = free; lent = lent places slots; extents = extents cells places slots }) e) i Empty
+  pub page : HasPage cells page_table e.slot i
+  pub cell : cell_at cells page_table e.slot i ≡ get_or (cells_of (record { pages = pages; free = free; lent = lent page_table slots; extents = extents cells page_table slots }) e) i Empty
 
-pub is_seen : (cells : List Cell) (places : List ℕ) (slots : List (Option ℕ)) (free pages : ℕ) (e : Extent) (i : ℕ)
-    → IsSound cells places slots free pages
-    → IsLive (record { pages = pages; free = free; lent = lent places slots; extents = extents cells places slots }) e
+pub is_seen : (cells : List Cell) (page_table : List ℕ) (slots : List (Option ℕ)) (free pages : ℕ) (e : Extent) (i : ℕ)
+    → IsSound cells page_table slots free pages
+    → IsLive (record { pages = pages; free = free; lent = lent page_table slots; extents = extents cells page_table slots }) e
     → i < 64 * e.pages
-    → IsSeen cells places slots free pages e i
-is_seen cells places slots free pages e i sound live hi =
-    let has = has_slot cells places slots free pages e live in
-    let room = has_room cells places slots free pages e.slot e.pages sound has.slot in
-    let within = place_within cells places slots free pages e.slot e.pages i sound has.slot hi in
+    → IsSeen cells page_table slots free pages e i
+is_seen cells page_table slots free pages e i sound live hi =
+    let has = has_slot cells page_table slots free pages e live in
+    let room = has_room cells page_table slots free pages e.slot e.pages sound has.slot in
+    let within = place_within cells page_table slots free pages e.slot e.pages i sound has.slot hi in
     let all = sound.all_cells in
     let small = room.small in
     record {
       slot = room.few;
       small = omega arith;
       page = record { table = within.0; page = omega arith };
-      cell = sym (get_or-slot_cells cells places e.slot (64 * e.pages) i Empty hi) ∙ ap (λ (xs : List Cell). get_or xs i Empty) (sym has.content);
+      cell = sym (get_or-slot_cells cells page_table e.slot (64 * e.pages) i Empty hi) ∙ ap (λ (xs : List Cell). get_or xs i Empty) (sym has.content);
     }
 
 -- side by side is one apart

@@ -29,6 +29,6 @@ Scanned at from to before found after =
     (λ occupied. IsFirst at from to occupied × (after + from ≡ before + occupied.next + 1))
 
 -- the table has a page of the cells for that cell of a slot
-pub record HasPage (cells : List Cell) (places : List ℕ) (slot i : ℕ) : Type 0 where
-  pub table : slot * 4096 + i / 64 < length places
-  pub page : slice_index places (slot * 4096 + i / 64) * 64 + 64 ≤ length cells
+pub record HasPage (cells : List Cell) (page_table : List ℕ) (slot i : ℕ) : Type 0 where
+  pub table : slot * 4096 + i / 64 < length page_table
+  pub page : slice_index page_table (slot * 4096 + i / 64) * 64 + 64 ≤ length cells

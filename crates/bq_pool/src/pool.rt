@@ -18,7 +18,7 @@ use thiserror::Error;
 /// The cells of a page.
 const CELLS_PER_PAGE: usize = 64;
 
-/// The places of the page table that a slot has: the most pages of an extent.
+/// The entries of the page table that a slot has: the most pages of an extent.
 const PAGES_PER_SLOT: usize = 4096;
 
 /// The place of the page table where the free pages begin, after those of 64 slots.
@@ -38,12 +38,12 @@ pub struct Extent {
     pages: u16,
 }
 
-/// All pages, free and lent out. The numbers of the pages of slot s stand in `places` from 4096 * s on, the numbers of
+/// All pages, free and lent out. The numbers of the pages of slot s stand in `page_table` from 4096 * s on, the numbers of
 /// the free pages from 262144 on.
 #[derive(Drop)]
 pub struct Pool {
     cells: MarkedCells,
-    places: Vec<u16>,
+    page_table: Vec<u16>,
     slots: Vec<Option<u16>>,
     free: u32,
     pages: u32,
@@ -56,9 +56,9 @@ impl Model for Pool {
 
     ghost use Rattle.bq_pool.specs.Places.{lent, extents, IsSound};
 
-    ghost view = { λ pool. record { pages = pool.pages; free = pool.free; lent = lent pool.places.items pool.slots.items; extents = extents pool.cells pool.places.items pool.slots.items } };
+    ghost view = { λ pool. record { pages = pool.pages; free = pool.free; lent = lent pool.page_table.items pool.slots.items; extents = extents pool.cells pool.page_table.items pool.slots.items } };
 
-    ghost invariant = { λ pool. IsSound pool.cells pool.places.items pool.slots.items pool.free pool.pages };
+    ghost invariant = { λ pool. IsSound pool.cells pool.page_table.items pool.slots.items pool.free pool.pages };
 }
 
 impl Pool {
@@ -69,11 +69,11 @@ impl Pool {
         ensures { IfOk result (λ pool. IsFresh pages pool) }
     {
         let cells = MarkedCells::new(alloc, usize::from(pages))?;
-        let places = free_places(alloc, pages)?;
+        let page_table = free_page_table(alloc, pages)?;
         let slots = no_slots(alloc)?;
         Ok(Pool {
             cells,
-            places,
+            page_table,
             slots,
             free: u32::from(pages),
             pages: u32::from(pages),
@@ -107,8 +107,8 @@ impl Pool {
         let slot = vacant(&self.slots);
         let count = usize::from(pages);
         let first = slot * PAGES_PER_SLOT;
-        copy_pages(&mut self.places, FIRST_FREE + rest as usize, first, count);
-        clear_pages(&mut self.cells, &self.places, first, count);
+        copy_pages(&mut self.page_table, FIRST_FREE + rest as usize, first, count);
+        clear_pages(&mut self.cells, &self.page_table, first, count);
         self.slots[slot] = Some(pages);
         self.free = rest;
         Ok(Extent {
@@ -127,7 +127,7 @@ impl Pool {
     {
         steps.count_read();
         let i = index as usize;
-        let page = self.places[usize::from(extent.slot) * PAGES_PER_SLOT + i / CELLS_PER_PAGE];
+        let page = self.page_table[usize::from(extent.slot) * PAGES_PER_SLOT + i / CELLS_PER_PAGE];
         *self
             .cells
             .cell(usize::from(page) * CELLS_PER_PAGE + i % CELLS_PER_PAGE)
@@ -153,7 +153,7 @@ impl Pool {
         if strided.stride == 1 && to - from > 1 {
             return first_beside(
                 &self.cells,
-                &self.places,
+                &self.page_table,
                 slot,
                 strided.first,
                 from,
@@ -161,7 +161,7 @@ impl Pool {
                 steps,
             );
         }
-        first_along(&self.cells, &self.places, slot, strided, from, to, steps)
+        first_along(&self.cells, &self.page_table, slot, strided, from, to, steps)
     }
 
     /// Returns whether all of so many cells of an extent, side by side from one on, are empty. The words of marks tell it, one for each
@@ -174,7 +174,7 @@ impl Pool {
     {
         is_clear(
             &self.cells,
-            &self.places,
+            &self.page_table,
             usize::from(extent.slot),
             first,
             count,
@@ -197,7 +197,7 @@ impl Pool {
     {
         steps.count_write();
         let i = index as usize;
-        let page = self.places[usize::from(extent.slot) * PAGES_PER_SLOT + i / CELLS_PER_PAGE];
+        let page = self.page_table[usize::from(extent.slot) * PAGES_PER_SLOT + i / CELLS_PER_PAGE];
         self.cells.set(
             usize::from(page) * CELLS_PER_PAGE + i % CELLS_PER_PAGE,
             cell,
@@ -212,7 +212,7 @@ impl Pool {
         let Extent { slot, pages } = extent;
         let slot = usize::from(slot);
         copy_pages(
-            &mut self.places,
+            &mut self.page_table,
             slot * PAGES_PER_SLOT,
             FIRST_FREE + self.free as usize,
             usize::from(pages),
@@ -235,13 +235,13 @@ fn no_slots(alloc: Global) -> Result<Vec<Option<u16>>, AllocError>
 }
 
 /// The page table of a pool in which no extent is live: each free page at the place of its number.
-fn free_places(alloc: Global, pages: u16) -> Result<Vec<u16>, AllocError>
-    ensures length { IfOk result (λ places. length places.items ≡ 262144 + pages) }
-    ensures pages { IfOk result (λ places. (k : ℕ) → k < pages → slice_index places.items (262144 + k) ≡ k) }
+fn free_page_table(alloc: Global, pages: u16) -> Result<Vec<u16>, AllocError>
+    ensures length { IfOk result (λ page_table. length page_table.items ≡ 262144 + pages) }
+    ensures pages { IfOk result (λ page_table. (k : ℕ) → k < pages → slice_index page_table.items (262144 + k) ≡ k) }
 {
-    let mut places = vec![in alloc; 0u16; FIRST_FREE + usize::from(pages)]?;
+    let mut page_table = vec![in alloc; 0u16; FIRST_FREE + usize::from(pages)]?;
     for k in 0..pages {
-        places[FIRST_FREE + usize::from(k)] = k;
+        page_table[FIRST_FREE + usize::from(k)] = k;
     }
-    Ok(places)
+    Ok(page_table)
 }

@@ -33,17 +33,17 @@ struct Run {
 
 // The cells of a slot side by side from one on, as far as they stand on its page and no more than so many.
 #[inline(always)]
-fn run_from(places: &[u16], slot: usize, number: usize, most: usize) -> Run
+fn run_from(page_table: &[u16], slot: usize, number: usize, most: usize) -> Run
     requires more { 0 < most }
     requires slot { slot < 64 }
     requires small { number < 2 ^ 32 }
-    requires table { slot * 4096 + number / 64 < length places.now }
+    requires table { slot * 4096 + number / 64 < length page_table.now }
     ensures some { 0 < result.count }
     ensures few { result.count ≤ most }
-    ensures start { result.start ≡ cell_place places.now slot number }
+    ensures start { result.start ≡ cell_place page_table.now slot number }
     ensures page { number % 64 + result.count ≤ 64 }
 {
-    let page = usize::from(places[slot * 4096 + number / 64]);
+    let page = usize::from(page_table[slot * 4096 + number / 64]);
     let within = number % 64;
     let rest = 64 - within;
     let count = if most < rest { most } else { rest };
@@ -54,20 +54,20 @@ fn run_from(places: &[u16], slot: usize, number: usize, most: usize) -> Run
 }
 
 // The cell of a slot with that number.
-fn cell_of<'a>(cells: &'a MarkedCells, places: &[u16], slot: usize, number: usize) -> &'a Cell
+fn cell_of<'a>(cells: &'a MarkedCells, page_table: &[u16], slot: usize, number: usize) -> &'a Cell
     requires slot { slot < 64 }
     requires small { number < 2 ^ 32 }
-    requires page { HasPage cells.now places.now slot number }
-    ensures { result.now ≡ cell_at cells.now places.now slot number }
+    requires page { HasPage cells.now page_table.now slot number }
+    ensures { result.now ≡ cell_at cells.now page_table.now slot number }
 {
-    let page = usize::from(places[slot * 4096 + number / 64]);
+    let page = usize::from(page_table[slot * 4096 + number / 64]);
     cells.cell(page * 64 + number % 64)
 }
 
 /// Returns the first cell of a slot that is not empty, among those from one place up to another, counted from its cell `first` on.
 pub fn first_beside<L: Ledger>(
     cells: &MarkedCells,
-    places: &[u16],
+    page_table: &[u16],
     slot: usize,
     first: u32,
     from: u32,
@@ -77,13 +77,13 @@ pub fn first_beside<L: Ledger>(
     requires slot { slot < 64 }
     requires below { from ≤ to }
     requires fits { (i : ℕ) → i < to → first + i < 2 ^ 32 }
-    requires pages { (i : ℕ) → i < to → HasPage cells.now places.now slot (first + i) }
-    ensures reads { Scanned (λ i. cell_at cells.now places.now slot (first + i)) from to steps.old.reads result steps.new.reads }
+    requires pages { (i : ℕ) → i < to → HasPage cells.now page_table.now slot (first + i) }
+    ensures reads { Scanned (λ i. cell_at cells.now page_table.now slot (first + i)) from to steps.old.reads result steps.new.reads }
     ensures writes { steps.new.writes ≡ steps.old.writes }
 {
     let mut i = from;
     'pages: while i < to {
-        let run = run_from(places, slot, (first + i) as usize, (to - i) as usize);
+        let run = run_from(page_table, slot, (first + i) as usize, (to - i) as usize);
         match cells.first_from(run.start, run.count) {
             Some(k) => {
                 steps.count_reads(k + 1);
@@ -104,7 +104,7 @@ pub fn first_beside<L: Ledger>(
 /// Returns the first cell of a line of a slot that is not empty, from one place up to another.
 pub fn first_along<L: Ledger>(
     cells: &MarkedCells,
-    places: &[u16],
+    page_table: &[u16],
     slot: usize,
     strided: StridedCells,
     from: u32,
@@ -114,8 +114,8 @@ pub fn first_along<L: Ledger>(
     requires slot { slot < 64 }
     requires below { from ≤ to }
     requires fits { (i : ℕ) → i < to → strided.first + i * strided.stride < 2 ^ 32 }
-    requires pages { (i : ℕ) → i < to → HasPage cells.now places.now slot (strided.first + i * strided.stride) }
-    ensures reads { Scanned (λ i. cell_at cells.now places.now slot (strided.first + i * strided.stride)) from to steps.old.reads result steps.new.reads }
+    requires pages { (i : ℕ) → i < to → HasPage cells.now page_table.now slot (strided.first + i * strided.stride) }
+    ensures reads { Scanned (λ i. cell_at cells.now page_table.now slot (strided.first + i * strided.stride)) from to steps.old.reads result steps.new.reads }
     ensures writes { steps.new.writes ≡ steps.old.writes }
 {
     let mut i = from;
@@ -123,7 +123,7 @@ pub fn first_along<L: Ledger>(
         steps.count_read();
         let seen = cell_of(
             cells,
-            places,
+            page_table,
             slot,
             (strided.first + i * strided.stride) as usize,
         );
@@ -140,16 +140,16 @@ pub fn first_along<L: Ledger>(
 
 /// Returns whether all of so many cells of a slot, side by side from its cell `first` on, are empty. The words of marks tell it: no cell
 /// is read.
-pub fn is_clear(cells: &MarkedCells, places: &[u16], slot: usize, first: u32, count: u32) -> bool
+pub fn is_clear(cells: &MarkedCells, page_table: &[u16], slot: usize, first: u32, count: u32) -> bool
     requires slot { slot < 64 }
     requires fits { (i : ℕ) → i < count → first + i < 2 ^ 32 }
-    requires pages { (i : ℕ) → i < count → HasPage cells.now places.now slot (first + i) }
-    ensures yes { result ≡ true → NoneOccupied (λ i. cell_at cells.now places.now slot (first + i)) 0 count }
-    ensures no { result ≡ false → NoneOccupied (λ i. cell_at cells.now places.now slot (first + i)) 0 count → ⊥ }
+    requires pages { (i : ℕ) → i < count → HasPage cells.now page_table.now slot (first + i) }
+    ensures yes { result ≡ true → NoneOccupied (λ i. cell_at cells.now page_table.now slot (first + i)) 0 count }
+    ensures no { result ≡ false → NoneOccupied (λ i. cell_at cells.now page_table.now slot (first + i)) 0 count → ⊥ }
 {
     let mut i = 0;
     'pages: while i < count {
-        let run = run_from(places, slot, (first + i) as usize, (count - i) as usize);
+        let run = run_from(page_table, slot, (first + i) as usize, (count - i) as usize);
         match cells.first_from(run.start, run.count) {
             Some(_k) => return false,
             None => i += run.count as u32,

@@ -8,20 +8,20 @@ ghost use Rattle.bq_probe.specs.Beside.{last_beside, beside_dims, IsEmptyBeside,
 ghost use Rattle.bq_synopsis.specs.Premises.{IsLaidOut};
 ghost use Rattle.bq_synopsis.specs.Narrowing.{clip_by, clip};
 
-use bq_model::{Dim, Link, PartPlan, StreamPlan, is_same, size_of};
+use bq_model::{Dim, Link, PartPlan, StreamPlan, dims_at, is_same, size_of, value_at};
 use bq_narrow::{Dims, above, below, dim_size, line_of, offset_of};
 use bq_pool::{Extent, Pool};
-use bq_synopsis::{column_of, dims_at, is_known, stream_at};
+use bq_synopsis::{is_known, stream_at};
 
 // The dim with the values that an inequality with a column of the row leaves.
 fn clip_by(arriving: u8, row: &[i64], link: Link, dim: Dim) -> Dim
     ensures { result ≡ clip_by arriving 0 link (λ a. by_column row.now a.column) dim }
 {
     if is_same(link.left, dim.attr) && is_known(arriving, 0, link.right) {
-        return below(dim, column_of(row, link.right));
+        return below(dim, value_at(row, link.right.column));
     }
     if is_same(link.right, dim.attr) && is_known(arriving, 0, link.left) {
-        return above(dim, column_of(row, link.left));
+        return above(dim, value_at(row, link.left.column));
     }
     dim
 }

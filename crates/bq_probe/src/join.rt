@@ -11,7 +11,7 @@ ghost use Rattle.bq_synopsis.specs.Preparing.{IsPrepared};
 ghost use Rattle.bq_probe.specs.Joining.{is_some, value_of, are_told, told_values, Tells};
 ghost use Rattle.bq_probe.specs.declared.join.FirstLook.TheVariants as look;
 
-use bq_model::{Attr, Tuple};
+use bq_model::{Attr, Tuple, value_at};
 use bq_narrow::{PartAt, is_empty, rows_in};
 use bq_pool::{Pool, Steps};
 use bq_synopsis::{Admitted, JoinLookup};
@@ -23,13 +23,6 @@ pub enum FirstLook {
     Nothing,
     One(u64),
     Unknown,
-}
-
-// The value of a column in a row, 0 where the row has none.
-fn value_at(row: &[i64], column: u8) -> i64
-    ensures { result ≡ by_column row.now column }
-{
-    row.get(usize::from(column)).copied().unwrap_or(0)
 }
 
 // The value of a column in a row, where one is told.

@@ -19,7 +19,7 @@ use bq_narrow::{
     Dims, Numbers, RowAt, fixed_dims, is_empty, line_of, narrowed_dims, pinned_dims, single_dims,
 };
 use bq_pool::{Extent, Pool, StridedCells};
-use bq_synopsis::{is_whole, may_fix, stream_at};
+use bq_synopsis::{is_scan, may_look_up, stream_at};
 
 /// Room for a walk. What it holds between two walks means nothing.
 #[derive(Drop, Default)]
@@ -93,7 +93,7 @@ impl ProbeScratch {
         if at.arriving as usize == place {
             return false;
         }
-        if !may_fix(at.prepared.access(at.arriving, place)) {
+        if !may_look_up(at.prepared.access(at.arriving, place)) {
             return false;
         }
         let Some(first) = fixed_dims(at, self.chosen.as_slice(), &mut self.dims) else {
@@ -118,7 +118,7 @@ impl ProbeScratch {
         if at.arriving as usize == place {
             return None;
         }
-        if !is_whole(at.prepared.access(at.arriving, place)) {
+        if !is_scan(at.prepared.access(at.arriving, place)) {
             return None;
         }
         let plan = stream_at(at.part, place);

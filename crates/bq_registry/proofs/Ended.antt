@@ -16,7 +16,7 @@ use Rattle.bq_registry.specs.declared.queries.Runner.{Runner}
 use Rattle.bq_registry.specs.Live.{Live, live_of, named}
 use Rattle.bq_registry.specs.Counted.{shown, run_to, IsCounted}
 use Rattle.bq_registry.specs.Registry.{IsSound, KeepsToEach}
-use Rattle.bq_registry.specs.Taken.{AreSpared, IsOnlyBit, TookFirst, TookOne}
+use Rattle.bq_registry.specs.RowByQuery.{AreSpared, IsOnlyBit, TookFirst, TookOne}
 use Rattle.bq_registry.specs.Waiting.{AreQuiet}
 use Rattle.bq_registry.proofs.SideBySide.{under, under_same, under_names}
 use Rattle.bq_registry.proofs.Shown.{sized, size_run}

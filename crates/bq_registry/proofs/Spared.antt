@@ -9,13 +9,13 @@ use Rattle.bq_executor.specs.Executor.{ExecutorValue, waiting_in, with_given}
 use Rattle.bq_index.specs.Prefilter.{IsRefused}
 use Rattle.bq_executor.specs.Standing.{IsReady}
 use Rattle.bq_model.specs.Domains.{RowKeeps}
-use Rattle.bq_executor.proofs.Taken.{with_own}
+use Rattle.bq_executor.proofs.PartCells.{with_own}
 use Rattle.bq_executor.proofs.PassingOn.{refused-rows-pass}
 use Rattle.bq_registry.specs.declared.queries.Runner.{Runner}
 use Rattle.bq_registry.specs.Live.{Live, named}
 use Rattle.bq_registry.specs.Counted.{run_to, shown, IsCounted}
 use Rattle.bq_registry.specs.Registry.{KeepsToEach}
-use Rattle.bq_registry.specs.Taken.{TookOne, TookFirst}
+use Rattle.bq_registry.specs.RowByQuery.{TookOne, TookFirst}
 use Rattle.bq_registry.proofs.SideBySide.{under, under_at, under_set}
 use Rattle.bq_registry.proofs.InTurn.{took_more, next_ready, next_keeps, sum_more}
 

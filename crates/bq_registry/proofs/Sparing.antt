@@ -20,7 +20,7 @@ use Rattle.bq_registry.specs.declared.concerned.Concerned.{Concerned}
 use Rattle.bq_registry.specs.Live.{Live}
 use Rattle.bq_registry.specs.Concerned.{IsListed, IsTold, MayConcern}
 use Rattle.bq_registry.specs.Waiting.{AreQuiet}
-use Rattle.bq_registry.specs.Taken.{AreSpared}
+use Rattle.bq_registry.specs.RowByQuery.{AreSpared}
 
 left_off : (a b k : ℕ) → bit_at (bit_or a b) k ≡ 0 → bit_at a k ≡ 0
 left_off a b k h = (let m = bit_at_or a b k in omega (arith, m, h))

@@ -29,7 +29,7 @@ use Rattle.bq_laws.proofs.Tests.{not_both}
 use Rattle.bq_schema.specs.Streams.{Shape, IsName, KeepsDomains}
 use Rattle.bq_parser.specs.Resolution.{HasNamed}
 use Rattle.bq_parser.proofs.Placed.{stays_named}
-use Rattle.bq_executor.specs.Arriving.{HasParts}
+use Rattle.bq_executor.specs.CellSteps.{HasParts}
 use Rattle.bq_executor.specs.Executor.{IsAccepted, most_answers}
 use Rattle.bq_executor.proofs.Answered.{filter_plain}
 use Rattle.bq_executor.proofs.PlanFacts.{has_parts}

@@ -8,4 +8,4 @@ pub mod Printed
 pub mod Progress
 pub mod Refused
 pub mod Skipping
-pub mod Taking
+pub mod LineKinds

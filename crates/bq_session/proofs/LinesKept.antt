@@ -25,7 +25,7 @@ use Rattle.bq_io.specs.Sink.{SinkState, Wrote, BrokeOff}
 use Rattle.bq_session.specs.Checkpoint.{stream_line, create_again, query_line, kept_lines, checkpoint_lines}
 use Rattle.bq_session.specs.State.{State}
 use Rattle.bq_session.specs.Session.{SessionValue, StandsFor}
-use Rattle.bq_session.specs.Told.{kept_of, live_line, live_lines, lines_kept}
+use Rattle.bq_session.specs.CheckpointLines.{kept_of, live_line, live_lines, lines_kept}
 
 -- what is kept of a live query is what its base and the rows since come to
 pub kept_as : (e : ExecutorValue) (q : LiveQuery) → e.query ≡ q.query → e.shared ≡ q.shared → e.plan ≡ q.plan → kept_in e q.base q.history ≡ base_in q

@@ -15,7 +15,7 @@ use Rattle.bq_registry.specs.Live.{Live}
 use Rattle.bq_registry.specs.Registry.{RegistryValue, KeepQueries, AsksTheSame}
 use Rattle.bq_registry.proofs.Whole.{added_all}
 use Rattle.bq_session.specs.Checkpoint.{create_again}
-use Rattle.bq_session.specs.Told.{live_line}
+use Rattle.bq_session.specs.CheckpointLines.{live_line}
 
 -- the line that creates a live query again is short
 abbrev pub IsShortLive : List Shape → Live → Type 0

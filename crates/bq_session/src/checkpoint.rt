@@ -10,7 +10,7 @@ ghost use Rattle.bq_registry.specs.Live.{Live, plan_cells};
 ghost use Rattle.bq_registry.specs.Registry.{most_cells};
 ghost use Rattle.bq_checkpoint.specs.Lines.{text_of_lines};
 ghost use Rattle.bq_session.specs.Checkpoint.{stream_line};
-ghost use Rattle.bq_session.specs.Told.{live_line, live_lines, lines_kept};
+ghost use Rattle.bq_session.specs.CheckpointLines.{live_line, live_lines, lines_kept};
 
 use arrayvec::ArrayVec;
 use bq_checkpoint::{write_query_line, write_state};

@@ -7,44 +7,43 @@ ghost use Rattle.bq_synopsis.specs.Pinning.{touches, is_free, IsWhole};
 ghost use Rattle.bq_synopsis.specs.declared.accesses.Access.{Access};
 ghost use Rattle.bq_synopsis.specs.declared.accesses.Access.TheVariants as accesses;
 
-use crate::classes::dims_at;
 use crate::known::{binding_column, is_known};
 use arrayvec::ArrayVec;
-use bq_model::{Attr, Dim, Link, PartPlan, is_same};
+use bq_model::{Attr, Dim, Link, PartPlan, dims_at, is_same};
 
 /// What the links with known columns leave of the dims of a place.
 #[derive(Clone, Copy, Debug, Default, PartialEq, Eq)]
 pub enum Access {
     /// What they leave is to be worked out for each row.
     #[default]
-    Searched,
+    General,
     /// One value of each dim: this is a hint, on which no answer rests.
-    Fixed,
+    Lookup,
     /// All values of each dim.
-    Whole,
+    Scan,
 }
 
 /// Returns whether it is listed that one value of each dim is left. This is a hint, on which no answer rests.
-pub fn may_fix(listed: Option<Access>) -> bool {
+pub fn may_look_up(listed: Option<Access>) -> bool {
     match listed {
         Some(access) => match access {
-            Access::Fixed => true,
-            Access::Whole => false,
-            Access::Searched => false,
+            Access::Lookup => true,
+            Access::Scan => false,
+            Access::General => false,
         },
         None => false,
     }
 }
 
 /// Returns whether it is listed that all values are left.
-pub fn is_whole(listed: Option<Access>) -> bool
-    ensures { result ≡ true → listed ≡ Some accesses.Whole }
+pub fn is_scan(listed: Option<Access>) -> bool
+    ensures { result ≡ true → listed ≡ Some accesses.Scan }
 {
     match listed {
         Some(access) => match access {
-            Access::Whole => true,
-            Access::Fixed => false,
-            Access::Searched => false,
+            Access::Scan => true,
+            Access::Lookup => false,
+            Access::General => false,
         },
         None => false,
     }
@@ -92,24 +91,24 @@ fn are_fixed(part: &PartPlan, arriving: u8, place: usize, dims: &[Dim]) -> bool 
 
 // What the links leave at a place; of the arriving row's own none is asked.
 fn access_at(part: &PartPlan, arriving: u8, place: usize) -> Access
-    ensures { result ≡ accesses.Whole → IsWhole part.now arriving place }
+    ensures { result ≡ accesses.Scan → IsWhole part.now arriving place }
 {
     if place == usize::from(arriving) {
-        return Access::Searched;
+        return Access::General;
     }
     let dims = dims_at(part, place);
     if all_free(part, arriving, place, dims) {
-        return Access::Whole;
+        return Access::Scan;
     }
     if are_fixed(part, arriving, place, dims) {
-        return Access::Fixed;
+        return Access::Lookup;
     }
-    Access::Searched
+    Access::General
 }
 
 // The same of each place.
 fn accesses_at(part: &PartPlan, arriving: u8) -> ArrayVec<Access, 4>
-    ensures { (place : ℕ) (access : Access) → slice_get result.items place ≡ Some access → access ≡ accesses.Whole → IsWhole part.now arriving place }
+    ensures { (place : ℕ) (access : Access) → slice_get result.items place ≡ Some access → access ≡ accesses.Scan → IsWhole part.now arriving place }
 {
     let mut places: ArrayVec<Access, 4> = ArrayVec::new();
     let streams = part.streams.as_slice().len();
@@ -121,7 +120,7 @@ fn accesses_at(part: &PartPlan, arriving: u8) -> ArrayVec<Access, 4>
 
 /// Returns the same for each arriving stream. Of one stream alone none is asked: there is nothing to walk.
 pub fn all_accesses(part: &PartPlan) -> ArrayVec<ArrayVec<Access, 4>, 4>
-    ensures { (arriving place : ℕ) (access : Access) → slice_get (slice_index_or result.items arriving (record { items = [] })).items place ≡ Some access → access ≡ accesses.Whole → IsWhole part.now arriving place }
+    ensures { (arriving place : ℕ) (access : Access) → slice_get (slice_index_or result.items arriving (record { items = [] })).items place ≡ Some access → access ≡ accesses.Scan → IsWhole part.now arriving place }
 {
     let mut all: ArrayVec<ArrayVec<Access, 4>, 4> = ArrayVec::new();
     let streams = part.streams.as_slice().len() as u8;

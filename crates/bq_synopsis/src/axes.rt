@@ -10,7 +10,7 @@ ghost use Rattle.bq_synopsis.specs.Axes.{axis_of, IsShort, IsAbove, AreAxes, IsB
 
 use crate::admission::stream_at;
 use arrayvec::ArrayVec;
-use bq_model::{Dim, Kind, PartPlan};
+use bq_model::{Dim, Kind, PartPlan, value_at};
 use std::alloc::{AllocError, Global};
 
 /// A dim as a row is asked of it: the least value, how many values there are, and the column.
@@ -75,13 +75,6 @@ fn axis_of(dim: Dim) -> Option<Axis>
         }),
         None => None,
     }
-}
-
-// The value of a column in a row, 0 where the row has none.
-fn value_at(row: &[i64], column: u8) -> i64
-    ensures { result ≡ by_column row.now column }
-{
-    row.get(usize::from(column)).copied().unwrap_or(0)
 }
 
 // How far the value of a dim is above its least one, where it is in range.

@@ -1,12 +1,10 @@
 //! Columns of one class: those that the signs of a part say are equal.
 ghost use Rattle.std.specs.Prelude.{◌≡◌, ◌&&◌, ◌||◌, length, position, ◌<◌, ◌≤◌, IfSome};
-ghost use Rattle.bq_model.specs.Plan.{dims_at};
 ghost use Rattle.bq_model.specs.Combinations.{compares_both, ties, any_ties};
 ghost use Rattle.bq_synopsis.specs.Classes.{are_tied};
 ghost use Rattle.std.specs.declared.option.Option.TheVariants.{Some};
 
-use crate::admission::is_sign;
-use bq_model::{Attr, Dim, Element, Pair, PartPlan, Sign, is_same};
+use bq_model::{Attr, Dim, Element, Pair, Sign, is_same, is_same_sign};
 
 // Whether a pair compares two columns.
 fn compares_both(a: Attr, b: Attr, pair: Pair) -> bool
@@ -25,7 +23,7 @@ fn compares_both(a: Attr, b: Attr, pair: Pair) -> bool
 fn ties(a: Attr, b: Attr, pair: Pair, s: Sign) -> bool
     ensures { result ≡ ties a b pair s }
 {
-    is_sign(s, Sign::Eq) && compares_both(a, b, pair)
+    is_same_sign(s, Sign::Eq) && compares_both(a, b, pair)
 }
 
 // Whether some pair does.
@@ -60,13 +58,3 @@ pub fn dim_of(pairs: &[Pair], signs: &[Sign], dims: &[Dim], a: Attr) -> Option<u
         .position(|dim| are_tied(pairs, signs, dim.attr, a))
 }
 
-/// Returns the dims of the stream at a place of FROM, none where there is no such place.
-pub fn dims_at(part: &PartPlan, place: usize) -> &[Dim]
-    ensures value { result.now ≡ dims_at part.now place }
-    ensures few { length result.now ≤ 8 }
-{
-    match part.streams.as_slice().get(place) {
-        Some(plan) => plan.dims.as_slice(),
-        None => &[],
-    }
-}

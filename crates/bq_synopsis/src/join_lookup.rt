@@ -11,11 +11,11 @@ ghost use Rattle.bq_synopsis.specs.Axes.{AreAxes};
 ghost use Rattle.bq_synopsis.specs.Joining.{key_dim, column_at, or_none, told_column, same_column, is_told, class_at, IsJoinLookup};
 ghost use Rattle.bq_synopsis.specs.Preparing.{AreTests, asks_nothing, ask_nothing};
 
-use crate::admission::{is_within, stream_at};
+use crate::admission::stream_at;
 use crate::axes::{Axis, are_numbered, place_among, put_axes};
 use crate::key_columns::{KeyColumn, key_columns_at};
 use arrayvec::ArrayVec;
-use bq_model::{Attr, Dim, Link, Pair, PartPlan, Sign};
+use bq_model::{Attr, Dim, Link, Pair, PartPlan, Sign, is_within};
 
 /// How a row finds the one cell of the other stream that can answer with it: the ranges of the dims there, each of the column of the row that
 /// fixes the dim, also as a row is asked of them; for the first eight columns there the column of the row that has the same value in
@@ -177,7 +177,7 @@ fn asks_nothing(place: u8, pair: Option<Pair>, sign: Option<Sign>) -> bool
 {
     match pair {
         Some(pair) => match sign {
-            Some(_) => !is_within(place, pair),
+            Some(_) => !is_within(usize::from(place), pair),
             None => false,
         },
         None => false,

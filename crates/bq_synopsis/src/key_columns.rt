@@ -5,10 +5,9 @@ ghost use Rattle.bq_model.specs.Plan.{dims_at};
 ghost use Rattle.bq_synopsis.specs.Pinning.{IsKeyColumn, AreKeyColumns, IsPinned};
 
 use crate::admission::stream_at;
-use crate::classes::dims_at;
 use crate::known::binding_column;
 use arrayvec::ArrayVec;
-use bq_model::{Attr, Dim, PartPlan};
+use bq_model::{Attr, Dim, PartPlan, dims_at};
 use std::alloc::{AllocError, Global};
 
 /// A dim, and the column of the arriving row that fixes it.

@@ -1,5 +1,5 @@
 use Rattle.std.proofs.Common.{subst}
-use Rattle.bq_executor.specs.Taking.{HaveRoom}
+use Rattle.bq_executor.specs.FoundTable.{HaveRoom}
 use Rattle.bq_executor.proofs.InPart.{none_added, one_added}
 use Rattle.bq_executor.proofs.DirectLaws.{told-empty, told-some}
 use Rattle.bq_executor.proofs.direct.answer_by_cell.Goals as goal

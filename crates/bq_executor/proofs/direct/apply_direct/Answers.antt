@@ -5,8 +5,8 @@ use Rattle.bq_model.specs.declared.plan.PartPlan.{PartPlan}
 use Rattle.bq_model.specs.Combinations.{read_from, found_in}
 use Rattle.bq_pool.specs.Extents.{cells_of}
 use Rattle.bq_probe.proofs.StartLaws.{share-some}
-use Rattle.bq_executor.specs.Taking.{HaveRoom}
-use Rattle.bq_executor.specs.Arriving.{arrives}
+use Rattle.bq_executor.specs.FoundTable.{HaveRoom}
+use Rattle.bq_executor.specs.CellSteps.{arrives}
 use Rattle.bq_executor.specs.Direct.{told_by}
 use Rattle.bq_executor.proofs.DirectLaws.{direct-short, direct-refused, direct-above, direct-admitted, direct-own, direct-few, other-few, other-below, direct-found}
 use Rattle.bq_executor.proofs.InPart.{own_room, all_added}

@@ -1,7 +1,7 @@
 use Rattle.std.proofs.Common.{◌<◌, ◌*◌, sym, ◌∙◌, subst}
 use Rattle.bq_model.specs.Combinations.{read_from}
 use Rattle.bq_pool.specs.Extents.{cells_of}
-use Rattle.bq_executor.specs.Taking.{HaveRoom}
+use Rattle.bq_executor.specs.FoundTable.{HaveRoom}
 use Rattle.bq_executor.proofs.InPart.{found_admitted, all_added, own_room}
 use Rattle.bq_executor.proofs.OldAnswers.{old-adds-none}
 use Rattle.bq_executor.proofs.OwnCells.{leaves-cell}

@@ -4,7 +4,7 @@ use Rattle.bq_model.specs.Meaning.{by_column}
 use Rattle.bq_model.specs.Probing.{found_beside}
 use Rattle.bq_pool.specs.Extents.{cells_of}
 use Rattle.bq_probe.specs.Remaining.{as_found}
-use Rattle.bq_executor.proofs.Taking.{found_same}
+use Rattle.bq_executor.proofs.TableLaws.{found_same}
 use Rattle.bq_executor.proofs.InPart.{none_added, one_added}
 use Rattle.bq_executor.proofs.join.look.Goals as goal
 

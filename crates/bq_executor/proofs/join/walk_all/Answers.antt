@@ -5,8 +5,8 @@ use Rattle.bq_model.specs.Meaning.{by_column}
 use Rattle.bq_model.specs.Probing.{found_beside}
 use Rattle.bq_pool.specs.Extents.{cells_of}
 use Rattle.bq_probe.specs.Remaining.{as_found, left_of}
-use Rattle.bq_executor.specs.Taking.{with_found, with_all}
-use Rattle.bq_executor.proofs.Taking.{taken_room, taken_table, taken_none, found_same}
+use Rattle.bq_executor.specs.FoundTable.{with_found, with_all}
+use Rattle.bq_executor.proofs.TableLaws.{taken_room, taken_table, taken_none, found_same}
 use Rattle.bq_executor.proofs.PassedRepeats.{passed_room, passed_table, passed_less}
 use Rattle.bq_executor.proofs.InPart.{none_added}
 use Rattle.bq_executor.proofs.join.walk_all.Goals as goal

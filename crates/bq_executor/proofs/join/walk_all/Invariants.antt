@@ -6,7 +6,7 @@ use Rattle.bq_model.specs.Numbers.{share}
 use Rattle.bq_pool.specs.Extents.{cells_of}
 use Rattle.bq_probe.specs.Remaining.{IsUnderway, left_of, reads_left}
 use Rattle.bq_answers.specs.Entries.{with_entries}
-use Rattle.bq_executor.specs.Taking.{with_all, HaveRoom}
+use Rattle.bq_executor.specs.FoundTable.{with_all, HaveRoom}
 use Rattle.bq_executor.proofs.join.walk_all.Given as goal
 
 abbrev pub invariant-walk : goal.invariant-walk

@@ -3,7 +3,7 @@ use Rattle.std.proofs.lemmas.Option.{slice_get-get_or}
 use Rattle.bq_model.specs.declared.plan.PartPlan.{PartPlan}
 use Rattle.bq_model.specs.Combinations.{read_from}
 use Rattle.bq_pool.specs.Extents.{cells_of}
-use Rattle.bq_executor.specs.Taking.{HaveRoom}
+use Rattle.bq_executor.specs.FoundTable.{HaveRoom}
 use Rattle.bq_model.specs.Meaning.{by_column}
 use Rattle.bq_executor.proofs.Inserting.{part_plan}
 use Rattle.bq_executor.proofs.OnlyPart.{only-signed, only-ready, only-found, only-work, only-table, only-taken, only-refused, only-none}

@@ -5,7 +5,7 @@ use Rattle.bq_model.specs.declared.plan.PartPlan.{PartPlan}
 use Rattle.bq_model.specs.Meaning.{by_column}
 use Rattle.bq_index.specs.declared.shift.CellAt.{CellAt}
 use Rattle.bq_index.specs.Shifts.{StandsAt}
-use Rattle.bq_executor.proofs.Taken.{taken_step, ready_part, room_now, table_more, work_more}
+use Rattle.bq_executor.proofs.PartCells.{taken_step, ready_part, room_now, table_more, work_more}
 use Rattle.bq_index.proofs.Linked.{passed_by, hit_within}
 use Rattle.bq_executor.proofs.PassedOver.{HaveDone, nothing_done, same_state, passed_one, passed_over}
 use Rattle.bq_executor.proofs.LeftCells.{met_done, paid_to, held-parts, on-chain, next-of, reached_done, own-there, few-read}

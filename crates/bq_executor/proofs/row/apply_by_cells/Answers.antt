@@ -3,8 +3,8 @@ use Rattle.bq_model.specs.Combinations.{read_from}
 use Rattle.bq_model.specs.Numbers.{parts_of}
 use Rattle.bq_pool.specs.Extents.{cells_of}
 use Rattle.bq_executor.specs.Executor.{arrival}
-use Rattle.bq_executor.specs.Taking.{HaveRoom}
-use Rattle.bq_executor.specs.Arriving.{HasTaken, IsPlanReady}
+use Rattle.bq_executor.specs.FoundTable.{HaveRoom}
+use Rattle.bq_executor.specs.CellSteps.{HasTaken, IsPlanReady}
 use Rattle.bq_executor.specs.Direct.{IsDirect}
 use Rattle.bq_executor.proofs.DirectLaws.{direct-parts, direct-arrives, direct-named, direct-answers}
 use Rattle.bq_executor.proofs.InPart.{all_added}

@@ -2,7 +2,7 @@ use Rattle.std.proofs.Common.{sym, subst, length, ◌==◌, ◌≡◌, false}
 use Rattle.std.specs.List.{list_any}
 use Rattle.bq_model.specs.Numbers.{parts_of}
 use Rattle.bq_executor.specs.Executor.{arrival}
-use Rattle.bq_executor.specs.Arriving.{HasTaken, IsPlanReady, AreReady}
+use Rattle.bq_executor.specs.CellSteps.{HasTaken, IsPlanReady, AreReady}
 use Rattle.bq_executor.proofs.InPart.{none_added}
 use Rattle.bq_executor.proofs.Named.{taken_outside, answered_nothing}
 use Rattle.bq_executor.proofs.row.apply_by_plan.Goals as goal

@@ -3,7 +3,7 @@ use Rattle.bq_lower.specs.Blanks.{AreBlanks}
 use Rattle.bq_lower.specs.Lowered.{Lowers}
 use Rattle.bq_lower.specs.Shown.{rows_in}
 use Rattle.bq_families.specs.Blank.{blank_row}
-use Rattle.bq_families.proofs.Taken.{are-blanks, answered}
+use Rattle.bq_families.proofs.BlankRows.{are-blanks, answered}
 use Rattle.bq_families.proofs.making.family.Goals as goal
 
 pub family_over-requires-clause-blanks : goal.family_over-requires-clause-blanks

@@ -5,7 +5,7 @@ use Rattle.bq_index.proofs.part_index.part_index_at.Given as goal
 abbrev pub invariant-parts : goal.invariant-parts
 invariant-parts l = record {
   within : l.i ≤ length l.parts;
-  joined : AreLinked (buckets_of l.parts l.numbers.items l.greatest) l.greatest l.i l.firsts.items l.nexts.items;
+  joined : AreLinked (buckets_of l.parts l.numbers.items l.mask) l.mask l.i l.heads.items l.links.items;
 }
 
 abbrev pub decreases-parts : goal.decreases-parts

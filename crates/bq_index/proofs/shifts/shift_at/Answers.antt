@@ -6,11 +6,11 @@ use Rattle.bq_index.proofs.shifts.shift_at.Goals as goal
 
 pub shift_between-requires : goal.shift_between-requires
 shift_between-requires c =
-    let next = get_or c.args.chained.now.nexts.now c.args.i 0 in
+    let next = get_or c.args.chained.now.links.now c.args.i 0 in
     c.prepared_of-prepared.ensures c.get-2.result.now
     (slice_get-get_or c.args.parts.now next c.get-2.result.now (omega arith) ∙ ap (λ (p : PartPlan). Some p) (sym (c.get-2.ensures c.get-2.result.now)))
 
 pub returns : goal.returns
 returns c =
-    next_shifted c.args.parts.now c.args.place c.args.chained.now.exact c.args.chained.now.codes.now c.args.chained.now.nexts.now c.args.i c.get.result.now c.get-2.result.now c.shift_between.result
+    next_shifted c.args.parts.now c.args.place c.args.chained.now.is_injective c.args.chained.now.codes.now c.args.chained.now.links.now c.args.i c.get.result.now c.get-2.result.now c.shift_between.result
     c.if-not-chained.false (omega arith) (c.have_code.ensures c.if-not-have_code.false) (c.get.ensures c.get.result.now) (c.get-2.ensures c.get-2.result.now) c.shift_between.ensures

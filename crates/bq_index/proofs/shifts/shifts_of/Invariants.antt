@@ -6,5 +6,5 @@ use Rattle.bq_index.proofs.shifts.shifts_of.Given as goal
 abbrev pub invariant-parts : goal.invariant-parts
 invariant-parts l = record {
   many : length l.shifts.items ≡ l.i;
-  each : (k : ℕ) (shift : Shift) → slice_get l.shifts.items k ≡ Some (Some shift) → IsNextShifted l.parts l.place l.chained.exact l.chained.codes.now l.chained.nexts.now k shift;
+  each : (k : ℕ) (shift : Shift) → slice_get l.shifts.items k ≡ Some (Some shift) → IsNextShifted l.parts l.place l.chained.is_injective l.chained.codes.now l.chained.links.now k shift;
 }

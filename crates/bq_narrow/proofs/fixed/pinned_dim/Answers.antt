@@ -6,7 +6,7 @@ use Rattle.bq_narrow.proofs.fixed.pinned_dim.Goals as goal
 
 pub returns : goal.returns
 returns c =
-    let fits : SFits w64 c.column_of.result = search rules in
-    let same : to_z w64 (of_z w64 c.column_of.result) ≡ c.column_of.result = omega (arith, ints) in
+    let fits : SFits w64 c.value_at.result = search rules in
+    let same : to_z w64 (of_z w64 c.value_at.result) ≡ c.value_at.result = omega (arith, ints) in
     key_column-fixes c.args.at.now.pairs.now c.args.at.now.part.now c.args.at.now.arriving c.args.at.now.row.now c.args.known.now c.args.key_column c.in-Some.fixed c.requires
-    (c.in-Some.ensures.0 ∙ ap (narrowed_to c.args.key_column.dim) (same ∙ c.column_of.ensures)) c.in-Some.ensures.1
+    (c.in-Some.ensures.0 ∙ ap (narrowed_to c.args.key_column.dim) (same ∙ c.value_at.ensures)) c.in-Some.ensures.1

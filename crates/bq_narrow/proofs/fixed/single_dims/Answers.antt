@@ -12,7 +12,7 @@ pub returns : goal.returns
 returns c =
     let part = c.args.at.now.part.now in
     let known = c.args.known.now in
-    let whole : IsWhole part c.args.at.now.arriving (length known) = c.requires.prepared.whole c.args.at.now.arriving (length known) (sym c.access.ensures ∙ c.is_whole.ensures c.if-not-is_whole.false) in
+    let whole : IsWhole part c.args.at.now.arriving (length known) = c.requires.prepared.whole c.args.at.now.arriving (length known) (sym c.access.ensures ∙ c.is_scan.ensures c.if-not-is_scan.false) in
     let plan : c.stream_at-plan.result.now ≡ stream_at part (length known) = c.stream_at-plan.ensures in
     let one : (stream_at part (length known)).size ≡ 1 = ap (λ (s : StreamPlan). s.size) (sym plan) ∙ c.if-plan-ne1.false in
     let ds : c.copy_from.new.self.items ≡ dims_at part (length known) = c.copy_from.ensures ∙ c.as_slice.ensures.value ∙ ap (λ (s : StreamPlan). s.dims.items) plan in

@@ -6,7 +6,7 @@ use Rattle.bq_pool.proofs.scan.is_clear.Given as goal
 abbrev pub invariant-pages : goal.invariant-pages
 invariant-pages l = record {
   within : l.i ≤ l.count;
-  empty : NoneOccupied (λ i. cell_at l.cells l.places l.slot (l.first + i)) 0 l.i;
+  empty : NoneOccupied (λ i. cell_at l.cells l.page_table l.slot (l.first + i)) 0 l.i;
 }
 
 abbrev pub decreases-pages : goal.decreases-pages

@@ -10,7 +10,7 @@ use Rattle.bq_registry.specs.declared.queries.Runner.{Runner}
 use Rattle.bq_registry.specs.Live.{Live, live_of, named, plan_reads, plan_writes}
 use Rattle.bq_registry.specs.Counted.{shown, run_to, IsCounted}
 use Rattle.bq_registry.specs.Registry.{most_reads, most_writes}
-use Rattle.bq_registry.specs.Taken.{TookFirst, TookOne}
+use Rattle.bq_registry.specs.RowByQuery.{TookFirst, TookOne}
 use Rattle.bq_registry.specs.Waiting.{AreQuiet}
 use Rattle.bq_registry.proofs.SideBySide.{under, under_same, under_names}
 use Rattle.bq_registry.proofs.Shown.{sized, size_run}

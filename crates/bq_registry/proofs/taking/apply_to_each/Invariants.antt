@@ -4,7 +4,7 @@ use Rattle.bq_executor.specs.Executor.{arrival, waiting_in}
 use Rattle.bq_registry.specs.declared.queries.Runner.{Runner}
 use Rattle.bq_registry.specs.Counted.{IsCounted}
 use Rattle.bq_registry.specs.Registry.{most_reads, most_writes}
-use Rattle.bq_registry.specs.Taken.{TookFirst}
+use Rattle.bq_registry.specs.RowByQuery.{TookFirst}
 use Rattle.bq_registry.proofs.SideBySide.{under}
 use Rattle.bq_registry.proofs.Spared.{mixed}
 use Rattle.bq_registry.proofs.BitsLeft.{AreLeft}

@@ -7,7 +7,7 @@ use Rattle.bq_executor.specs.Executor.{arrival}
 use Rattle.bq_registry.specs.declared.queries.Runner.{Runner}
 use Rattle.bq_registry.specs.Live.{Live, live_of, named, plan_reads, plan_writes}
 use Rattle.bq_registry.specs.Counted.{shown, IsCounted}
-use Rattle.bq_registry.specs.Taken.{TookFirst}
+use Rattle.bq_registry.specs.RowByQuery.{TookFirst}
 use Rattle.bq_registry.specs.Waiting.{AreQuiet}
 use Rattle.bq_registry.proofs.Shown.{size_run}
 use Rattle.bq_registry.proofs.Ended.{only_counted, only_ready, only_keeps, only_plan, only_took, part_of_sum}

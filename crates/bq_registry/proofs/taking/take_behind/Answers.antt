@@ -1,7 +1,7 @@
 use Rattle.std.proofs.Common.{subst}
 use Rattle.bq_executor.specs.Executor.{ExecutorValue, arrival}
 use Rattle.bq_registry.specs.Live.{named}
-use Rattle.bq_registry.specs.Taken.{TookOne}
+use Rattle.bq_registry.specs.RowByQuery.{TookOne}
 use Rattle.bq_registry.proofs.taking.take_behind.Goals as goal
 
 pub returns-clause-taken : goal.returns-clause-taken

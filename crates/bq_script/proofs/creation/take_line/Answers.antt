@@ -1,6 +1,6 @@
 use Rattle.std.proofs.Common.{sym, ◌∙◌}
 use Rattle.bq_reply.proofs.Stripped.{stripped-short}
-use Rattle.bq_script.proofs.Taking.{of_kind}
+use Rattle.bq_script.proofs.LineKinds.{of_kind}
 use Rattle.bq_script.proofs.creation.take_line.Goals as goal
 
 pub take_text-requires : goal.take_text-requires

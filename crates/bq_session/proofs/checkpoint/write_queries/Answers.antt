@@ -1,6 +1,6 @@
 use Rattle.std.proofs.Common.{rules, [], ◌∷◌, ◌++◌}
 use Rattle.bq_registry.specs.Live.{Live}
-use Rattle.bq_session.specs.Told.{live_line}
+use Rattle.bq_session.specs.CheckpointLines.{live_line}
 use Rattle.bq_session.proofs.LinesKept.{wrote_place, broke_place}
 use Rattle.bq_session.proofs.checkpoint.write_queries.Goals as goal
 

@@ -1,7 +1,7 @@
 use Rattle.std.proofs.Common.{take, ◌++◌, ◌∷◌, [], flat_map}
 use Rattle.bq_io.specs.Sink.{Wrote}
 use Rattle.bq_registry.specs.Live.{Live}
-use Rattle.bq_session.specs.Told.{live_line}
+use Rattle.bq_session.specs.CheckpointLines.{live_line}
 use Rattle.bq_session.proofs.checkpoint.write_queries.Given as goal
 
 -- the lines of the live queries so far

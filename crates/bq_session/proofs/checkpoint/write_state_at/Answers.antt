@@ -4,7 +4,7 @@ use Rattle.bq_pool.specs.Extents.{PoolValue}
 use Rattle.bq_executor.specs.Executor.{ExecutorValue, list_in, with_given}
 use Rattle.bq_registry.specs.Live.{Live, named}
 use Rattle.bq_checkpoint.specs.Lines.{text_of_lines}
-use Rattle.bq_session.specs.Told.{live_lines}
+use Rattle.bq_session.specs.CheckpointLines.{live_lines}
 use Rattle.bq_session.proofs.LinesKept.{kept_announced}
 use Rattle.bq_session.proofs.checkpoint.write_state_at.Goals as goal
 

@@ -1,7 +1,7 @@
 use Rattle.std.proofs.Common.{◌<◌, length, rules, ◌∙◌}
 use Rattle.bq_checkpoint.specs.Lines.{text_of_lines}
 use Rattle.bq_registry.specs.Live.{Live}
-use Rattle.bq_session.specs.Told.{live_lines}
+use Rattle.bq_session.specs.CheckpointLines.{live_lines}
 use Rattle.bq_session.proofs.LinesKept.{wrote_place, broke_place, read_place, read_front}
 use Rattle.bq_session.proofs.checkpoint.write_states.Goals as goal
 

@@ -3,7 +3,7 @@ use Rattle.std.specs.List.{sum_by}
 use Rattle.bq_io.specs.Sink.{Wrote}
 use Rattle.bq_checkpoint.specs.Lines.{text_of_lines}
 use Rattle.bq_registry.specs.Live.{Live, plan_cells}
-use Rattle.bq_session.specs.Told.{live_lines}
+use Rattle.bq_session.specs.CheckpointLines.{live_lines}
 use Rattle.bq_session.proofs.checkpoint.write_states.Given as goal
 
 -- the lines of what the live queries so far keep

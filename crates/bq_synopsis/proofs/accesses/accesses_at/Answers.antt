@@ -7,7 +7,7 @@ use Rattle.bq_synopsis.proofs.accesses.accesses_at.Goals as goal
 
 pub places-preserved : goal.places-preserved
 places-preserved c =
-    let P : ℕ → Access → Type 0 = λ i y. y ≡ Access.Whole → IsWhole c.args.part.now c.args.arriving i in
+    let P : ℕ → Access → Type 0 = λ i y. y ≡ Access.Scan → IsWhole c.args.part.now c.args.arriving i in
     record {
       count = pushed-length c.places.places.items c.access_at.result c.push.new.self.items c.places.place c.push.ensures.items c.places.invariant.count;
       each = subst (λ (xs : List Access). (i : ℕ) (y : Access) → slice_get xs i ≡ Some y → P i y) (sym c.push.ensures.items)

@@ -7,5 +7,5 @@ use Rattle.bq_synopsis.proofs.accesses.accesses_at.Given as goal
 abbrev pub invariant-places : goal.invariant-places
 invariant-places l = record {
   count : length l.places.items ≡ l.place;
-  each : (place : ℕ) (access : Access) → slice_get l.places.items place ≡ Some access → access ≡ Access.Whole → IsWhole l.part l.arriving place;
+  each : (place : ℕ) (access : Access) → slice_get l.places.items place ≡ Some access → access ≡ Access.Scan → IsWhole l.part l.arriving place;
 }

@@ -9,7 +9,7 @@ use Rattle.bq_synopsis.proofs.accesses.all_accesses.Goals as goal
 
 pub streams-preserved : goal.streams-preserved
 streams-preserved c =
-    let P : ℕ → ArrayVec Access → Type 0 = λ i t. (place : ℕ) (access : Access) → slice_get t.items place ≡ Some access → access ≡ Access.Whole → IsWhole c.args.part.now i place in
+    let P : ℕ → ArrayVec Access → Type 0 = λ i t. (place : ℕ) (access : Access) → slice_get t.items place ≡ Some access → access ≡ Access.Scan → IsWhole c.args.part.now i place in
     let none : ArrayVec Access = record { items = [] } in
     record {
       count = pushed-length c.streams.all.items c.accesses_at.result c.push.new.self.items c.streams.arriving c.push.ensures.items c.streams.invariant.count;

@@ -7,5 +7,5 @@ use Rattle.bq_synopsis.proofs.accesses.all_accesses.Given as goal
 abbrev pub invariant-streams : goal.invariant-streams
 invariant-streams l = record {
   count : length l.all.items ≡ l.arriving;
-  each : (arriving place : ℕ) (access : Access) → slice_get (slice_index_or l.all.items arriving (record { items = [] })).items place ≡ Some access → access ≡ Access.Whole → IsWhole l.part arriving place;
+  each : (arriving place : ℕ) (access : Access) → slice_get (slice_index_or l.all.items arriving (record { items = [] })).items place ≡ Some access → access ≡ Access.Scan → IsWhole l.part arriving place;
 }

@@ -15,6 +15,6 @@ after-requires c =
 pub returns-in-Some : goal.returns-in-Some
 returns-in-Some c =
     let o = c.args.coded.now in
-    subst (StandsAt o.q.now o.parts.now o.pos o.row.now.items (get_or c.args.self.now.nexts.items c.args.i 0)) (sym c.after.ensures)
+    subst (StandsAt o.q.now o.parts.now o.pos o.row.now.items (get_or c.args.self.now.links.items c.args.i 0)) (sym c.after.ensures)
     (cell_next o.q.now o.parts.now o.pos c.args.self.now c.requires.part_index o.row.now.items c.args.i c.in-Some.shift c.args.part.now c.requires.part c.in-Some.ensures c.in-Cell.number c.in-Cell.kind
     (subst (IsPlacement c.args.part.now o.pos o.row.now.items (admits o.q.now c.args.part.now o.pos (by_column o.row.now.items))) c.in-Cell.is c.requires.placement))

@@ -14,7 +14,7 @@ returns-clause-whole c =
     let known = c.args.self.now.chosen.items in
     let here : c.len-place.result ≡ length known = c.len-place.ensures.value in
     let other : length known ≢ c.args.at.now.arriving = λ h. c.if-at-place.false (sym h ∙ sym here) in
-    let whole : IsWhole part c.args.at.now.arriving (length known) = subst (IsWhole part c.args.at.now.arriving) here (c.requires.prepared.whole c.args.at.now.arriving c.len-place.result (sym c.access.ensures ∙ c.is_whole.ensures c.if-not-is_whole.false)) in
+    let whole : IsWhole part c.args.at.now.arriving (length known) = subst (IsWhole part c.args.at.now.arriving) here (c.requires.prepared.whole c.args.at.now.arriving c.len-place.result (sym c.access.ensures ∙ c.is_scan.ensures c.if-not-is_scan.false)) in
     let plan : c.stream_at-plan.result.now ≡ stream_at part (length known) = c.stream_at-plan.ensures ∙ ap (stream_at part) here in
     let laid = c.requires.laid other in (
       c.copy_from.ensures ∙ c.as_slice.ensures.value ∙ ap (λ (s : StreamPlan). s.dims.items) plan ∙ sym (whole-dims c.args.at.now.pairs.now part c.args.at.now.arriving c.args.at.now.row.now known laid other whole),

@@ -3,7 +3,7 @@ use Rattle.bq_model.proofs.FewPairs.{few_with_soft}
 use Rattle.bq_model.specs.Parts.{pairs}
 use Rattle.bq_constraints.specs.PartConstraints.{AddsSign}
 use Rattle.bq_certcheck.proofs.Standing.{room_more, stands_deeper}
-use Rattle.bq_certcheck.proofs.place.TreeCursor.push.Goals as goal
+use Rattle.bq_certcheck.proofs.cursor.TreeCursor.push.Goals as goal
 
 pub add_each-requires : goal.add_each-requires
 add_each-requires c =

@@ -1,7 +1,7 @@
 use Rattle.std.proofs.Common.{length}
 use Rattle.bq_model.specs.Query.{attrs_of}
 use Rattle.bq_certcheck.proofs.Standing.{stands_root, within_12}
-use Rattle.bq_certcheck.proofs.place.TreeCursor.root.Goals as goal
+use Rattle.bq_certcheck.proofs.cursor.TreeCursor.root.Goals as goal
 
 pub returns-clause-stands : goal.returns-clause-stands
 returns-clause-stands c =

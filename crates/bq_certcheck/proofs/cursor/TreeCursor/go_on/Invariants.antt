@@ -1,7 +1,7 @@
 use Rattle.std.proofs.Common.{◌≡◌, length}
 use Rattle.bq_certcheck.specs.Reading.{following}
 use Rattle.bq_certcheck.specs.Standing.{Stands}
-use Rattle.bq_certcheck.proofs.place.TreeCursor.go_on.Given as goal
+use Rattle.bq_certcheck.proofs.cursor.TreeCursor.go_on.Given as goal
 
 abbrev pub invariant-loop-sign : goal.invariant-loop-sign
 invariant-loop-sign l = record {

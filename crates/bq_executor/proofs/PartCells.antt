@@ -22,15 +22,15 @@ use Rattle.bq_pool.specs.declared.pool.Extent.{Extent}
 use Rattle.bq_pool.specs.Extents.{PoolValue, cells_of, with_cells, IsLive}
 use Rattle.bq_pool.proofs.CallerLemmas.{cells_of_with, live_with, written_again}
 use Rattle.bq_synopsis.specs.Premises.{HasRoom, IsReady, row_cell}
-use Rattle.bq_executor.specs.Arriving.{arrives, all_found, with_row, lies, IsInserted, HasTaken, CanCount, AreReady}
+use Rattle.bq_executor.specs.CellSteps.{arrives, all_found, with_row, lies, IsInserted, HasTaken, CanCount, AreReady}
 use Rattle.bq_index.specs.Owners.{has_base, takes_rows}
 use Rattle.bq_index.proofs.Owning.{first-has, has-several}
 use Rattle.bq_executor.proofs.Founds.{AgreeBeside, found-beside, all_found-append}
 use Rattle.bq_executor.proofs.InPart.{place_inside}
 use Rattle.bq_synopsis.proofs.CallerLemmas.{fits-merged}
 use Rattle.bq_answers.specs.Entries.{TableValue, with_entries}
-use Rattle.bq_executor.specs.Taking.{with_all, HaveRoom}
-use Rattle.bq_executor.proofs.Taking.{with_all-append, room_first, room_then}
+use Rattle.bq_executor.specs.FoundTable.{with_all, HaveRoom}
+use Rattle.bq_executor.proofs.TableLaws.{with_all-append, room_first, room_then}
 use Rattle.bq_executor.proofs.Inserting.{inserted_start, inserted_nothing, inserted_row, part_plan, one_place, get_has}
 
 -- the pool with the cells that it has

@@ -18,7 +18,7 @@ use Rattle.bq_advice.specs.declared.advised.AdvisedQuery.{AdvisedQuery}
 use Rattle.bq_advice.specs.Queries.{query_text}
 use Rattle.bq_advice.specs.State.{State, free_pages, one_fault_more, one_query_more}
 use Rattle.bq_advice.specs.Finding.{fine, fault, query, too_long, fits, ComesOf, advised, after, after_asks, shown, is_row_fault, told_text}
-use Rattle.bq_advice.specs.Taking.{TookLine, TookFault, TookSilently, TookQuery, TookAsks, TookAdvised}
+use Rattle.bq_advice.specs.LineSteps.{TookLine, TookFault, TookSilently, TookQuery, TookAsks, TookAdvised}
 
 short-test : (n : ℕ) → n ≤ 1024 → nat_lt 1024 n ≡ false
 short-test n short = grind (arith, nat_tests)

@@ -1,6 +1,6 @@
 use Rattle.std.proofs.Common.{sym, ◌∙◌}
 use Rattle.bq_certcheck.proofs.Standing.{stands_above, goes_on, drops_on}
-use Rattle.bq_certcheck.proofs.place.TreeCursor.go_on.Goals as goal
+use Rattle.bq_certcheck.proofs.cursor.TreeCursor.go_on.Goals as goal
 
 pub push-requires-clause-stands : goal.push-requires-clause-stands
 push-requires-clause-stands c = stands_above c.args.q.now c.loop-sign.self c.pop.new.self c.in-Some.sign c.loop-sign.invariant.stands c.in-Some.ensures
