@@ -8,9 +8,9 @@ ghost use Rattle.bq_certcheck.specs.SoFar.{TakesLeaf};
 ghost use Rattle.bq_certcheck.specs.Walking.{node_at, PassesOr, StepsOr, Walked};
 
 use crate::answer::Reason;
+use crate::cursor::TreeCursor;
 use crate::decision::DecisionSoFar;
 use crate::leaf::Leaf;
-use crate::cursor::TreeCursor;
 use crate::rules::{judge_against, judge_cycle, judge_leaf, judge_split};
 use bq_certificate::Line;
 use bq_model::{Pair, Query, Sign};

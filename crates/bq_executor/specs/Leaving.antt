@@ -44,7 +44,7 @@ pub record IsCellOf (parts : List PartPlan) (pos : ℕ) (row : List ℤ) (pool :
 -- a part of the row's bucket has this number, or it is the number of all parts
 pub record IsOnChain (q : QueryValue) (parts : List PartPlan) (c : PartIndex) (row : List ℤ) (i : ℕ) : Type 0 where
   pub within : i ≤ length parts
-  pub there : i < length parts → slice_index_or (buckets_of parts c.tests.items c.greatest) i 0 ≡ row_bucket (pairs q) c (by_column row)
+  pub there : i < length parts → slice_index_or (buckets_of parts c.tests.items c.mask) i 0 ≡ row_bucket (pairs q) c (by_column row)
 
 -- a row that is at the part of number n passes over parts whose cells it leaves as they are, to the part of number m
 pub record HasPassed (q : QueryValue) (parts : List PartPlan) (c : PartIndex) (pos : ℕ) (row : List ℤ) (pool : PoolValue) (extent : Extent) (n m : ℕ) : Type 0 where

@@ -228,8 +228,7 @@ impl Executor {
             known,
         };
         let arrived = Arrived { stream, row };
-        // Most rows that pass meet nothing, which the table alone tells.
-        let _answers = apply_row(
+        apply_row(
             passes,
             pool,
             &query,

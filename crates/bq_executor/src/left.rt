@@ -101,7 +101,7 @@ fn cell_told<L: Ledger>(
 fn cell_behind(led: &Led<'_>, own: OwnCell, i: u32) -> Option<CellAt>
     requires part_index { IsPartIndex led.now.coded.q.now led.now.coded.parts.now led.now.coded.pos led.now.part_index.now }
     requires stands { StandsAt led.now.coded.q.now led.now.coded.parts.now led.now.coded.pos led.now.coded.row.now.items i (told_of own) }
-    ensures { IfSome result (λ cell. StandsAt led.now.coded.q.now led.now.coded.parts.now led.now.coded.pos led.now.coded.row.now.items (slice_index_or led.now.part_index.now.nexts.items i 0) cell) }
+    ensures { IfSome result (λ cell. StandsAt led.now.coded.q.now led.now.coded.parts.now led.now.coded.pos led.now.coded.row.now.items (slice_index_or led.now.part_index.now.links.items i 0) cell) }
 {
     let part = led.coded.parts.get(i);
     let placement = told_of(own).placement();

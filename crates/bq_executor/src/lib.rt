@@ -14,11 +14,11 @@
 //! at a time, each of which is taken or refused; then it goes on as the other would. This takes no memory either.
 #![tactic(auto)]
 
-mod filter;
+mod determined;
 mod direct;
 mod executor;
+mod filter;
 mod join;
-mod determined;
 pub mod laws;
 mod left;
 mod loading;

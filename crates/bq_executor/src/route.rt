@@ -98,7 +98,7 @@ fn apply_along<L: Ledger>(
     requires part_index { IsPartIndex led.now.coded.q.now led.now.coded.parts.now led.now.coded.pos led.now.part_index.now }
     requires each { led.now.each ≡ true → EachTakes led.now.coded.q.now led.now.coded.parts.now led.now.coded.pos }
     requires code { led.now.coded.code ≡ row_code (pairs led.now.coded.q.now) led.now.part_index.now (by_column led.now.coded.row.now.items) }
-    requires first { IsNext (buckets_of led.now.coded.parts.now led.now.part_index.now.tests.items led.now.part_index.now.greatest) (row_bucket (pairs led.now.coded.q.now) led.now.part_index.now (by_column led.now.coded.row.now.items)) 0 first }
+    requires first { IsNext (buckets_of led.now.coded.parts.now led.now.part_index.now.tests.items led.now.part_index.now.mask) (row_bucket (pairs led.now.coded.q.now) led.now.part_index.now (by_column led.now.coded.row.now.items)) 0 first }
     requires ready { AreReady led.now.coded.q.now led.now.coded.parts.now pool.old led.now.extent.now }
     requires prepared { IsPreparedPlan led.now.coded.q.now led.now.coded.parts.now led.now.prepared.now }
     requires known { led.now.known ≡ true → AnswersNothingNew led.now.coded.q.now led.now.coded.parts.now (read_from (cells_of pool.old led.now.extent.now)) table.old.entries }

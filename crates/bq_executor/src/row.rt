@@ -13,8 +13,8 @@ ghost use Rattle.bq_executor.specs.Direct.{IsDirect, AreDirect};
 ghost use Rattle.bq_index.specs.Prepared.{IsPreparedPlan};
 ghost use Rattle.bq_index.specs.Prefilter.{IsRefused};
 
-use crate::filter::filter_row;
 use crate::direct::{DirectLookup, DirectLookups, apply_direct};
+use crate::filter::filter_row;
 use crate::join::Scratch;
 use crate::lookup::{apply_to_only_part, has_lookup};
 use crate::route::{PartsAt, apply_to_parts};
@@ -150,8 +150,7 @@ fn apply_by_cells<L: Ledger>(
 }
 
 /// Takes a row by the plan of a query: what it answers comes to wait in the table, and the cells take the row. A filter has
-/// no cells, and a row of a stream outside FROM, or one that did not pass the prefilter, does nothing. Where it says no, nothing was
-/// answered.
+/// no cells, and a row of a stream outside FROM, or one that did not pass the prefilter, does nothing.
 pub fn apply_row<L: Ledger>(
     passes: bool,
     pool: &mut Pool,
@@ -160,7 +159,7 @@ pub fn apply_row<L: Ledger>(
     scratch: &mut Scratch,
     table: &mut Answers,
     steps: &mut Steps<L>,
-) -> bool
+)
     requires prefilter { passes ≡ false → IsRefused query.now.q.now query.now.plan.now (arrival arrived.now.stream arrived.now.row.now.items) }
     requires ready { IsPlanReady query.now.q.now query.now.plan.now pool.old query.now.extent.now }
     requires prepared { IsPreparedPlan query.now.q.now (parts_of query.now.plan.now) query.now.prepared.now }
@@ -168,7 +167,6 @@ pub fn apply_row<L: Ledger>(
     requires known { query.now.known ≡ true → AnswersNothingNew query.now.q.now (parts_of query.now.plan.now) (read_from (cells_of pool.old query.now.extent.now)) table.old.entries }
     requires room { HaveRoom query.now.q.now.distinct (answered_by query.now.q.now query.now.plan.now (read_from (cells_of pool.old query.now.extent.now)) (arrival arrived.now.stream arrived.now.row.now.items)) table.old }
     ensures table { table.new ≡ with_entries table.old (with_all query.now.q.now.distinct (answered_by query.now.q.now query.now.plan.now (read_from (cells_of pool.old query.now.extent.now)) (arrival arrived.now.stream arrived.now.row.now.items)) table.old.entries) }
-    ensures none { result ≡ false → answered_by query.now.q.now query.now.plan.now (read_from (cells_of pool.old query.now.extent.now)) (arrival arrived.now.stream arrived.now.row.now.items) ≡ [] }
     ensures pool { HasTaken query.now.q.now (parts_of query.now.plan.now) query.now.extent.now (arrival arrived.now.stream arrived.now.row.now.items) (length (parts_of query.now.plan.now)) pool.old pool.new }
     ensures reads { steps.new.reads ≤ steps.old.reads + 3 * work (parts_of query.now.plan.now) + length (parts_of query.now.plan.now) }
     ensures writes { steps.new.writes ≤ steps.old.writes + length (parts_of query.now.plan.now) }
@@ -176,11 +174,10 @@ pub fn apply_row<L: Ledger>(
     ensures outside { list_any (λ s. arrived.now.stream == s) query.now.q.now.from ≡ false → steps.new ≡ steps.old }
 {
     if !passes {
-        return false;
+        return;
     }
     match query.direct.of_stream(arrived.stream) {
         Some(direct) => apply_by_cells(pool, query, direct, arrived, scratch, table, steps),
         None => apply_by_plan(pool, query, arrived, scratch, table, steps),
     }
-    true
 }

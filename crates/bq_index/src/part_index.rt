@@ -81,7 +81,10 @@ fn number_between(x: i64, y: i64) -> u32
 fn number_at(row: &[i64], pair: &Pair) -> u32
     ensures { result ≡ number_of (sign_at (alone (by_column row.now)) pair.now) }
 {
-    number_between(value_at(row, pair.left.column), value_alone(row, pair.right))
+    number_between(
+        value_at(row, pair.left.column),
+        value_alone(row, pair.right),
+    )
 }
 
 // The number of a sign.
@@ -291,7 +294,14 @@ impl PartIndex {
         ensures { IsPlacement part.now coded.now.pos coded.now.row.now.items (admits coded.now.q.now part.now coded.now.pos (by_column coded.now.row.now.items)) result }
     {
         if self.may_admit(coded, part, i) {
-            placement_of(coded.q, part, prepared, self.is_injective, coded.pos, coded.row)
+            placement_of(
+                coded.q,
+                part,
+                prepared,
+                self.is_injective,
+                coded.pos,
+                coded.row,
+            )
         } else {
             Placement::Outside
         }
@@ -389,7 +399,10 @@ fn tests_for(q: &Query, parts: &PartPlans, key_pairs: &KeyPairs, place: u8) -> T
     }
     let numbers = tests_at(q, parts, &key_pairs.marks, place);
     let is_injective = is_exact(key_pairs, numbers.as_slice());
-    Tests { numbers, is_injective }
+    Tests {
+        numbers,
+        is_injective,
+    }
 }
 
 // The codes of the parts.
@@ -439,7 +452,10 @@ pub fn part_index_at(
     ensures { IfOk result (λ part_index. IsPartIndex q.now parts.now place part_index) }
 {
     let count = parts.len();
-    let Tests { numbers, is_injective } = tests_for(q, parts, key_pairs, place);
+    let Tests {
+        numbers,
+        is_injective,
+    } = tests_for(q, parts, key_pairs, place);
     let tested = pairs_of(alloc, q.pairs().as_slice(), numbers.as_slice())?;
     let codes = codes_of(alloc, parts, numbers.as_slice())?;
     let owns = owners_at(alloc, q, parts, place)?;

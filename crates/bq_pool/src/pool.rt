@@ -107,7 +107,12 @@ impl Pool {
         let slot = vacant(&self.slots);
         let count = usize::from(pages);
         let first = slot * PAGES_PER_SLOT;
-        copy_pages(&mut self.page_table, FIRST_FREE + rest as usize, first, count);
+        copy_pages(
+            &mut self.page_table,
+            FIRST_FREE + rest as usize,
+            first,
+            count,
+        );
         clear_pages(&mut self.cells, &self.page_table, first, count);
         self.slots[slot] = Some(pages);
         self.free = rest;
@@ -161,7 +166,15 @@ impl Pool {
                 steps,
             );
         }
-        first_along(&self.cells, &self.page_table, slot, strided, from, to, steps)
+        first_along(
+            &self.cells,
+            &self.page_table,
+            slot,
+            strided,
+            from,
+            to,
+            steps,
+        )
     }
 
     /// Returns whether all of so many cells of an extent, side by side from one on, are empty. The words of marks tell it, one for each

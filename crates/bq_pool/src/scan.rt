@@ -140,7 +140,13 @@ pub fn first_along<L: Ledger>(
 
 /// Returns whether all of so many cells of a slot, side by side from its cell `first` on, are empty. The words of marks tell it: no cell
 /// is read.
-pub fn is_clear(cells: &MarkedCells, page_table: &[u16], slot: usize, first: u32, count: u32) -> bool
+pub fn is_clear(
+    cells: &MarkedCells,
+    page_table: &[u16],
+    slot: usize,
+    first: u32,
+    count: u32,
+) -> bool
     requires slot { slot < 64 }
     requires fits { (i : ℕ) → i < count → first + i < 2 ^ 32 }
     requires pages { (i : ℕ) → i < count → HasPage cells.now page_table.now slot (first + i) }

@@ -57,4 +57,3 @@ pub fn dim_of(pairs: &[Pair], signs: &[Sign], dims: &[Dim], a: Attr) -> Option<u
     dims.iter()
         .position(|dim| are_tied(pairs, signs, dim.attr, a))
 }
-
