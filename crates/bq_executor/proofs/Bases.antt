@@ -28,7 +28,8 @@ use Rattle.bq_pool.proofs.CallerLemmas.{cells_of_with}
 use Rattle.bq_answers.specs.Entries.{Entry, Ascends, waiting_of, tuples_of}
 use Rattle.bq_executor.specs.Executor.{ExecutorValue, parts_in, list_in, cells_in, rest_in, tuples_in, waiting_in, IsSound, with_given}
 use Rattle.bq_executor.specs.Standing.{StandsFor, future_in}
-use Rattle.bq_executor.specs.Bases.{kept_in, is_empty, is_fresh, answers_by, StandsFrom, TakingKeepsOn, BasesAndHistories}
+use Rattle.bq_executor.specs.Bases.{kept_in, is_fresh, answers_by, StandsFrom, TakingKeepsOn, BasesAndHistories}
+use Rattle.bq_loading.specs.Loadable.{is_empty}
 use Rattle.bq_executor.proofs.Spelled.{spelled_is}
 use Rattle.bq_executor.proofs.Answered.{settled-tuples}
 use Rattle.bq_executor.proofs.Settled.{written}

@@ -22,7 +22,7 @@ use Rattle.bq_laws.proofs.PlanBoxes.{has-box, alone-of}
 use Rattle.bq_index.specs.Owners.{has_base, BeginBehind}
 use Rattle.bq_executor.proofs.Inserting.{get_has}
 use Rattle.bq_index.proofs.Owning.{begins-there}
-use Rattle.bq_executor.proofs.PlanFacts.{parts_plans}
+use Rattle.bq_loading.proofs.PlanBoxes.{parts_plans}
 
 -- boxes that follow from a number on begin there or behind
 in-from : (next : ℕ) (streams : List StreamPlan) (rest : ℕ → Type 0) → FollowIn next streams rest → (k : ℕ) → k < length streams

@@ -2,7 +2,7 @@
 use Rattle.std.proofs.Common.{◌⊎◌, inl, inr, All, get_or, cond, ◌^◌, ◌≡◌, ◌≢◌, ℕ, zero, suc, ◌+◌, ◌-◌, ◌*◌, ◌<◌, ◌≤◌, ◌==◌, ◌&&◌, Bool, true, false, List, [], ◌∷◌, length, map, refl, sym, ap, ◌∙◌, subst, arith, ℤ, pos, ◌+ℤ◌, if◌then◌else◌}
 use Rattle.std.proofs.lemmas.Bool.Decides.{nat_tests}
 use Rattle.std.proofs.lemmas.List.{length-map}
-use Rattle.std.specs.Prelude.{Option, Some, None, IfSome, slice_get, slice_index_or}
+use Rattle.std.specs.Prelude.{Option, Some, None, slice_get, slice_index_or}
 use Rattle.std.specs.List.{list_all, list_any}
 use Rattle.std.proofs.lemmas.List.Folds.{list_any_at}
 use Rattle.bq_model.specs.declared.atom.Attr.{Attr}
@@ -29,19 +29,16 @@ use Rattle.bq_probe.specs.Joining.{is_some, value_of}
 use Rattle.bq_probe.specs.Remaining.{as_found}
 use Rattle.bq_probe.proofs.JoinLaws.{nothing-there, one-there, there-below}
 use Rattle.bq_synopsis.specs.declared.axes.Axis.{Axis}
-use Rattle.bq_synopsis.specs.declared.axes.BoxLayout.{BoxLayout}
-use Rattle.bq_synopsis.specs.declared.prepared.Prepared.{Prepared}
-use Rattle.bq_synopsis.specs.declared.join_lookup.JoinLookup.{JoinLookup}
 use Rattle.bq_synopsis.specs.declared.key_columns.KeyColumn.{KeyColumn}
-use Rattle.bq_synopsis.specs.Axes.{axis_of, IsShort, IsAbove, IsCell, IsBoxLayout}
+use Rattle.bq_synopsis.specs.Axes.{axis_of, IsShort, IsAbove, IsCell}
 use Rattle.bq_synopsis.specs.declared.axes.Placement.TheVariants as placement
-use Rattle.bq_synopsis.specs.Joining.{key_dim, column_at, or_none, told_column, class_at, IsJoinLookup}
-use Rattle.bq_synopsis.specs.Preparing.{IsPrepared}
+use Rattle.bq_synopsis.specs.Joining.{key_dim, column_at, or_none, told_column, class_at}
 use Rattle.bq_synopsis.specs.Premises.{IsWalked}
 use Rattle.bq_synopsis.proofs.AxisLaws.{start, further, out, at-end}
 use Rattle.bq_synopsis.proofs.Lookups.{some-is, none-is}
-use Rattle.bq_executor.specs.declared.direct.DirectLookup.{DirectLookup}
-use Rattle.bq_executor.specs.Direct.{own_axis, other_axis, told_by, IsListedFrom, IsDirectIn, IsDirect}
+use Rattle.bq_direct.specs.declared.direct.DirectLookup.{DirectLookup}
+use Rattle.bq_direct.specs.Direct.{own_axis, other_axis, IsDirectIn, IsDirect}
+use Rattle.bq_executor.specs.TwoCells.{told_by}
 use Rattle.bq_executor.specs.Executor.{arrival}
 use Rattle.bq_executor.specs.CellSteps.{arrives, all_found, answered_by}
 use Rattle.bq_executor.proofs.InPart.{found_admitted}
@@ -238,12 +235,6 @@ module _ (q : QueryValue) (plan : List PartPlan) (d : DirectLookup) (is : IsDire
             | inr s ↦ direct-one q part d (is.only part at_0) row n direct-above walked contents s ∙ sym (told-some d row (slice_index_or contents (d.other + n) Empty) s)
           ]
 
--- a list of one range
-pub only-axis : (xs : List Axis) (a o : Axis) → length xs ≡ 1 → a ≡ get_or xs 0 o → xs ≡ a ∷ []
-only-axis [] a o n e = absurd (omega (arith, n))
-only-axis (x ∷ []) a o n e = ap (λ (t : Axis). t ∷ []) (sym e)
-only-axis (x ∷ y ∷ xs) a o n e = absurd (omega (arith, n))
-
 -- the plan of a query with a look-up is no filter
 pub direct-parts : (q : QueryValue) (p : Plan) (d : DirectLookup) → IsDirect q (parts_of p) d → p ≡ plans.Filter → ⊥
 direct-parts q p d is e = let n = is.one in let z : length (parts_of p) ≡ 0 = ap (λ o. length (parts_of o)) e in omega (arith, n, z)
@@ -262,37 +253,3 @@ direct-answers q p parts numbers d is stream e isp read row =
     ap (λ o. answered_by q o read (arrival stream row)) isp
     ∙ ap (λ b. cond b (all_found q parts read (arrival stream row)) []) (direct-named q (parts_of p) d is stream e)
     ∙ ap (all_found q parts read) (direct-arrives q (parts_of p) d is stream e row)
-
--- what is listed says how the only part takes a row
-module _ (q : QueryValue) (plan : List PartPlan) (p : Prepared) (place stream : ℕ) (listed : JoinLookup) (own other : BoxLayout) (selected : List ℕ)
-    (one : length plan ≡ 1) (here : place < length q.from) (stream_is : stream ≡ slice_index_or q.from place 0)
-    (prepared : (part : PartPlan) → slice_get plan 0 ≡ Some part → IsPrepared (pairs q) part p)
-    (joins_at : slice_get p.joins.items place ≡ Some (Some listed)) (own_at : slice_get p.places.items place ≡ Some own) (other_at : slice_get p.places.items (1 - place) ≡ Some other)
-    (told : map (told_column listed.told.items listed.place place) q.select ≡ map (λ (c : ℕ). Some c) selected) where
-  pub direct-is : (o : Option DirectLookup) → IfSome o (λ d. IsListedFrom listed own other d) → IfSome o (λ d. (d.stream ≡ stream) × (d.pos ≡ place) × (d.selected.items ≡ selected)) → IfSome o (λ d. IsDirect q plan d)
-  direct-is None from at = tt
-  direct-is (Some d) from at = record {
-    one = one;
-    here = subst (λ n. n < length q.from) (sym at.1) here;
-    stream = at.0 ∙ stream_is ∙ ap (λ n. slice_index_or q.from n 0) (sym at.1);
-    only = λ part at_0.
-        let is = prepared part at_0 in
-        record {
-          listed = listed;
-          joins = subst (λ n. IsJoinLookup (pairs q) part n listed) (sym at.1) (is.joins place (Some listed) joins_at);
-          own = own;
-          own_layout = subst (λ n. IsBoxLayout part n own) (sym at.1) (is.places place own own_at);
-          other = other;
-          other_layout = subst (λ n. IsBoxLayout part (1 - n) other) (sym at.1) (is.places (1 - place) other other_at);
-          is = from;
-          columns = subst (λ n. map (told_column listed.told.items listed.place n) q.select ≡ map (λ (c : ℕ). Some c) d.selected.items) (sym at.1) (told ∙ ap (map (λ (c : ℕ). Some c)) (sym at.2));
-        };
-  }
-
--- one that is listed is one that was made
-pub listed-direct : (q : QueryValue) (plan : List PartPlan) (o : Option DirectLookup) (d : DirectLookup) → IfSome o (λ x. IsDirect q plan x) → o ≡ Some d → IsDirect q plan d
-listed-direct q plan None d h e = absurd (none-is d e)
-listed-direct q plan (Some x) d h e = subst (λ (y : DirectLookup). IsDirect q plan y) (some-is x d e) h
-
-pub none-direct : (q : QueryValue) (plan : List PartPlan) (d : DirectLookup) → None ≡ Some d → IsDirect q plan d
-none-direct q plan d e = absurd (none-is d e)

@@ -25,12 +25,9 @@ pub mod OneTuple
 pub mod PassedRepeats
 pub mod PassedOver
 pub mod Refused
-pub mod RangeLaws
 pub mod Behind
 pub mod Bases
 pub mod TakenRow
-pub mod CellKinds
-pub mod ListedTuples
 pub mod Loadings
 pub mod LoadedTuples
 pub mod OldAnswers

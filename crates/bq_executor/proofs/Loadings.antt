@@ -23,10 +23,12 @@ use Rattle.bq_executor.specs.declared.saturation.Saturation.TheVariants as satur
 use Rattle.bq_executor.specs.Executor.{ExecutorValue, parts_in, list_in, cells_in, rest_in, IsSound, with_given, with_saturation}
 use Rattle.bq_executor.proofs.Closing.{stands-saturated, within-saturated}
 use Rattle.bq_executor.specs.Standing.{CountsUpto, AreKept, KeepsWithin}
-use Rattle.bq_executor.specs.Bases.{is_empty, kept_in, StandsFrom}
-use Rattle.bq_executor.specs.Loading.{kind_at, filled_cell, loaded_cell, Loads}
-use Rattle.bq_executor.proofs.CellKinds.{kind-past, kind-of-box}
-use Rattle.bq_executor.proofs.PlanFacts.{parts_plans, parts_boxes, no_boxes, no_parts, cells_of_plan}
+use Rattle.bq_loading.specs.Loadable.{is_empty, kind_at, filled_cell}
+use Rattle.bq_executor.specs.Bases.{kept_in, StandsFrom}
+use Rattle.bq_executor.specs.Loading.{loaded_cell, Loads}
+use Rattle.bq_loading.proofs.CellKinds.{kind-past, kind-of-box}
+use Rattle.bq_loading.proofs.PlanBoxes.{parts_plans, parts_boxes, no_boxes}
+use Rattle.bq_executor.proofs.PlanFacts.{no_parts, cells_of_plan}
 
 -- of none is not of all
 none-are : saturation.None ≡ saturation.All → ⊥

@@ -16,12 +16,11 @@ use Rattle.bq_pool.specs.Extents.{PoolValue, cells_of}
 use Rattle.bq_synopsis.specs.Premises.{IsReady}
 use Rattle.bq_answers.specs.Entries.{TableValue, with_entries}
 use Rattle.bq_index.specs.Owners.{takes_rows}
-use Rattle.bq_executor.specs.FoundTable.{with_all, AreOld}
-use Rattle.bq_executor.specs.CellSteps.{arrives, all_found, with_row, CanCount, LeavesCell, HasTaken, AreReady, AnswersNothingNew}
+use Rattle.bq_executor.specs.FoundTable.{with_all}
+use Rattle.bq_executor.specs.CellSteps.{arrives, all_found, with_row, CanCount, HasTaken, AreReady}
 use Rattle.bq_executor.specs.Signed.{IsSigned}
 use Rattle.bq_executor.proofs.Inserting.{part_plan}
 use Rattle.bq_executor.proofs.InPart.{none_added, found_refused, row_refused}
-use Rattle.bq_executor.proofs.OwnCells.{old-now}
 use Rattle.bq_executor.proofs.PartCells.{taken_start, taken_step, ready_part, room_part, work_more}
 
 one-is : (plan : List PartPlan) (part : PartPlan) → length plan ≡ 1 → slice_get plan 0 ≡ Some part → plan ≡ part ∷ []
@@ -66,16 +65,6 @@ module _ (q : QueryValue) (plan : List PartPlan) (e : Extent) (pos : ℕ) (here 
   pub only-table : (d : Bool) (read : Reading) (start table : TableValue) → table ≡ with_entries start (with_all d (found_in q part read (arrives q pos values)) start.entries)
       → table ≡ with_entries start (with_all d (all_found q plan read (arrives q pos values)) start.entries)
   only-table d read start table is = is ∙ ap (λ fs. with_entries start (with_all d fs start.entries)) (sym (only-found read))
-
-  -- with DISTINCT, what it answers to a row that leaves its cell as it is has an entry
-  pub only-old : (known : Bool) (start : TableValue) → (known ≡ true → AnswersNothingNew q plan (read_from (cells_of before e)) start.entries) → 1 < length q.from
-      → admits q part pos (by_column values) ≡ true → known ≡ true → LeavesCell part (read_from (cells_of before e)) pos values
-      → AreOld q.distinct (found_in q part (read_from (cells_of before e)) (arrives q pos values)) start.entries
-  only-old known start nothing several admitted k leaves =
-      old-now q plan e pos here values before ready 0 part at_0 before taken true true owner (λ h. refl) known start start nothing (none_added q.distinct _ start refl) admitted (ap (λ b. b && true) k) leaves
-    where
-      owner : true ≡ takes_rows q plan pos 0 part
-      owner = let t : nat_lt 1 (length q.from) ≡ true = grind (arith, nat_tests) in ap (λ b. b && true) (sym t)
 
   module _ (several : 1 < length q.from) where
     owns : true ≡ takes_rows q plan pos 0 part

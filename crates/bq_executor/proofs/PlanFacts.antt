@@ -11,14 +11,14 @@ use Rattle.bq_model.specs.declared.plan.Plan.{Plan}
 use Rattle.bq_model.specs.declared.plan.Plan.TheVariants as plan
 use Rattle.bq_model.specs.Query.{QueryValue, IsWithinLimits}
 use Rattle.bq_model.specs.Meaning.{Arrival}
-use Rattle.bq_model.specs.Plan.{ArePartPlans, IsPartPlan}
+use Rattle.bq_model.specs.Plan.{IsPartPlan}
 use Rattle.bq_model.specs.Verdict.{is_above, first_above}
 use Rattle.bq_model.specs.Numbers.{parts_of, pages_of, answer_bound}
 use Rattle.bq_model.specs.Sharing.{kept_boxes, sizes_in, IsPlanFor, IsPlanOf, numbers_for}
 use Rattle.bq_laws.specs.Probing.{AreWithin}
 use Rattle.bq_laws.specs.Sharing.{AreBoxesOf}
 use Rattle.bq_laws.specs.Bases.{IsKept, alone, boxed}
-use Rattle.bq_laws.proofs.PlanBoxes.{plans-have-boxes, count-of-boxes}
+use Rattle.bq_laws.proofs.PlanBoxes.{count-of-boxes}
 use Rattle.bq_laws.proofs.BoxReadings.{boxes-meet-whole}
 use Rattle.std.proofs.lemmas.List.Elements.{All-contains}
 use Rattle.bq_model.specs.Combinations.{Reading, read_from}
@@ -30,15 +30,7 @@ use Rattle.bq_executor.specs.Executor.{IsWithin}
 use Rattle.bq_executor.specs.CellSteps.{answered_by, HasParts, MeetWhole, IsPlanReady, CanCount}
 use Rattle.bq_executor.proofs.Inserting.{get_has}
 use Rattle.bq_executor.proofs.Founds.{Agree, all_found-same}
-
--- what a plan says of its parts, without shared cells or with them
-pub parts_plans : (shared : Bool) (q : QueryValue) (list : List PartPlan) → IsPlanFor shared q list → ArePartPlans q list
-parts_plans false q list is = record { parts = is.parts; plans = is.plans }
-parts_plans true q list is = record { parts = is.parts; plans = is.plans }
-
-pub parts_boxes : (shared : Bool) (q : QueryValue) (list : List PartPlan) → IsPlanFor shared q list → AreBoxesOf q list (kept_boxes shared q list)
-parts_boxes false q list is = (plans-have-boxes q list).0 is
-parts_boxes true q list is = (plans-have-boxes q list).1 is
+use Rattle.bq_loading.proofs.PlanBoxes.{no_boxes, parts_boxes, parts_plans}
 
 same_answers : (shared : Bool) (q : QueryValue) (list : List PartPlan) → (numbers_for shared q list).answers ≡ answer_bound q list
 same_answers false q list = refl
@@ -51,10 +43,6 @@ same_cells true q list = refl
 pub has_parts : (shared : Bool) (q : QueryValue) (p : Plan) → IsPlanOf shared q p → HasParts q p
 has_parts shared q plan.Filter is = is
 has_parts shared q (plan.Parts list numbers) is = (is.0, parts_plans shared q list is.1, ap (λ (m : Numbers). m.answers) is.2 ∙ same_answers shared q list)
-
-pub no_boxes : (shared : Bool) (q : QueryValue) → kept_boxes shared q [] ≡ []
-no_boxes false q = refl
-no_boxes true q = refl
 
 -- no boxes are those of no parts
 pub no_parts : {q : QueryValue} → AreBoxesOf q [] []

@@ -54,7 +54,8 @@ use Rattle.bq_executor.proofs.Answered.{future-rises, cleared-ascends}
 use Rattle.bq_executor.proofs.Room.{all_within}
 use Rattle.bq_executor.proofs.RowAnswers.{answered_ones, waits_row, tuples_row, ascends_row, room_row, lie_row}
 use Rattle.bq_executor.proofs.RowCells.{read_cut, read_after, merged_is, rest_is, pool_is, room_kept, kept_by}
-use Rattle.bq_executor.proofs.PlanFacts.{parts_boxes, no_boxes, no_parts, has_parts, kept_is, inside_of, cells_of_plan, plan_ready, answered-same}
+use Rattle.bq_loading.proofs.PlanBoxes.{parts_boxes, no_boxes}
+use Rattle.bq_executor.proofs.PlanFacts.{no_parts, has_parts, kept_is, inside_of, cells_of_plan, plan_ready, answered-same}
 use Rattle.bq_executor.proofs.Keeping.{keeps}
 
 -- without DISTINCT the future answers do not look at the table

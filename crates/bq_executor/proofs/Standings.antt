@@ -20,7 +20,8 @@ use Rattle.bq_model.specs.declared.cell.Cell.{Cell}
 use Rattle.bq_laws.specs.Sharing.{AreBoxesOf}
 use Rattle.bq_laws.specs.Closed.{IsClosed}
 use Rattle.bq_laws.proofs.ClosedTables.{tables-stay-closed}
-use Rattle.bq_executor.proofs.PlanFacts.{parts_plans, parts_boxes, no_boxes, no_parts}
+use Rattle.bq_loading.proofs.PlanBoxes.{parts_plans, parts_boxes, no_boxes}
+use Rattle.bq_executor.proofs.PlanFacts.{no_parts}
 use Rattle.bq_executor.proofs.Closing.{distinct-plan}
 use Rattle.bq_pool.specs.Extents.{PoolValue}
 use Rattle.bq_executor.specs.Executor.{ExecutorValue, parts_in, list_in, cells_in, tuples_in, IsSound}

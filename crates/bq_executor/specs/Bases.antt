@@ -1,5 +1,5 @@
 -- What an executor stands for that goes on from a base, as one does whose cells and tuples were read back.
-use Rattle.std.specs.Prelude.{◌≡◌, ◌-◌, ◌*◌, Bool, true, false, ◌&&◌, nat_eq, ℤ, List, [], ◌∷◌, ◌++◌, length, replicate, if◌then◌else◌}
+use Rattle.std.specs.Prelude.{◌≡◌, ◌-◌, ◌*◌, Bool, true, ◌&&◌, nat_eq, ℤ, List, [], ◌∷◌, ◌++◌, length, replicate, if◌then◌else◌}
 use Rattle.std.specs.List.{list_all}
 use Rattle.bq_answers.specs.Entries.{Ascends}
 use Rattle.bq_model.specs.declared.cell.Cell.{Cell}
@@ -12,16 +12,11 @@ use Rattle.bq_model.specs.Bases.{Base, first_base, base_of, answers_from, kept}
 use Rattle.bq_pool.specs.Extents.{PoolValue, IsLive}
 use Rattle.bq_executor.specs.Executor.{ExecutorValue, parts_in, list_in, cells_in, rest_in, tuples_in, waiting_in, IsSound}
 use Rattle.bq_executor.specs.Standing.{StandsFor, Took}
+use Rattle.bq_loading.specs.Loadable.{is_empty}
 
 -- what an executor keeps that goes on from a base, after the rows since
 abbrev pub kept_in : ExecutorValue → Base → List Arrival → Base
 kept_in e base history = kept e.query (parts_in e) (list_in e) base history
-
-abbrev pub is_empty : Cell → Bool
-is_empty Cell.Empty = true
-is_empty (Cell.Count n) = false
-is_empty Cell.Present = false
-is_empty (Cell.Extreme z) = false
 
 -- whether a base is as after creation
 abbrev pub is_fresh : Base → Bool

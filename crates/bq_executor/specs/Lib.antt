@@ -6,9 +6,9 @@ pub mod FoundTable
 pub mod CellSteps
 pub mod Known
 pub mod Bases
-pub mod Direct
 pub mod Loading
 pub mod Row
 pub mod Passing
 pub mod Signed
 pub mod Leaving
+pub mod TwoCells

@@ -19,16 +19,16 @@ ghost use Rattle.bq_index.specs.Prefilter.{IsRefused};
 ghost use Rattle.bq_executor.specs.Passing.{IsBoxFor};
 ghost use Rattle.bq_executor.specs.Written.{answer_lines};
 
-use crate::direct::{DirectLookups, direct_lookups};
 use crate::join::Scratch;
-use crate::loading::{cell_to_load, fill, put_printed};
 use crate::output::put_waiting;
 use crate::row::{Arrived, QueryAt, apply_row};
 use crate::saturation::Saturation;
 use bq_answers::Answers;
 use bq_candidates::QueryBox;
+use bq_direct::{DirectLookups, direct_lookups};
 use bq_index::{Prefilter, PreparedPlan, prefilter_of, prepare_all};
 use bq_io::{Sink, WriteFault};
+use bq_loading::{cell_to_load, fill, put_printed};
 use bq_model::{Cell, Plan, Query, Row, Tuple};
 use bq_pool::{Extent, Pool, Steps};
 use bq_text::Name;
@@ -53,7 +53,7 @@ pub struct Executor {
 
 impl Model for Executor {
     ghost use Rattle.bq_model.specs.Numbers.{parts_of};
-    ghost use Rattle.bq_executor.specs.Direct.{AreDirect};
+    ghost use Rattle.bq_direct.specs.Direct.{AreDirect};
     ghost use Rattle.bq_executor.specs.Executor.{ExecutorValue, IsSound};
     ghost use Rattle.bq_index.specs.Prepared.{IsPreparedPlan};
     ghost use Rattle.bq_index.specs.Prefilter.{IsPrefilter};

@@ -31,7 +31,7 @@ use bq_synopsis::{Admitted, OwnCell, own_cell, put_own};
 use std::sync::ledger::Ledger;
 
 /// The most times that one answer waits.
-const MOST_TIMES: u128 = 1 << 127;
+pub const MOST_TIMES: u128 = 1 << 127;
 
 /// How a part takes a row: whether it takes it into a box of its own, and whether it is known that a row which leaves its cell as it is
 /// is answered nothing new; and the row's own cell, where it was read.
@@ -56,21 +56,11 @@ impl Takes {
         ensures stays { result ≡ true → own_cells.with_row own.now row.now.items ≡ own.now.held }
         ensures sure { self.known ≡ true → own_cells.with_row own.now row.now.items ≡ own.now.held → result ≡ true }
     {
-        spares(self.known, own, row)
+        if !self.known {
+            return false;
+        }
+        own.stays(row)
     }
-}
-
-/// Returns whether a row is known to be answered nothing new: that is known of each row which leaves its own cell as it is, and the row
-/// leaves it so.
-pub fn spares(known: bool, own: &OwnCell, row: &Row) -> bool
-    ensures known { result ≡ true → known ≡ true }
-    ensures stays { result ≡ true → own_cells.with_row own.now row.now.items ≡ own.now.held }
-    ensures sure { known ≡ true → own_cells.with_row own.now row.now.items ≡ own.now.held → result ≡ true }
-{
-    if !known {
-        return false;
-    }
-    own.stays(row)
 }
 
 /// Room to work in, of which nothing is asked.

@@ -15,18 +15,15 @@
 #![tactic(auto)]
 
 mod determined;
-mod direct;
 mod executor;
 mod filter;
 mod join;
 pub mod laws;
 mod left;
-mod loading;
-mod lookup;
 mod output;
-mod ranges;
 mod route;
 mod row;
 mod saturation;
+mod two_cells;
 
 pub use executor::Executor;

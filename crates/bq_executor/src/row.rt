@@ -9,16 +9,16 @@ ghost use Rattle.bq_answers.specs.Entries.{with_entries};
 ghost use Rattle.bq_executor.specs.Executor.{arrival};
 ghost use Rattle.bq_executor.specs.FoundTable.{with_all, HaveRoom};
 ghost use Rattle.bq_executor.specs.CellSteps.{answered_by, HasTaken, IsPlanReady, AnswersNothingNew};
-ghost use Rattle.bq_executor.specs.Direct.{IsDirect, AreDirect};
+ghost use Rattle.bq_direct.specs.Direct.{IsDirect, AreDirect};
 ghost use Rattle.bq_index.specs.Prepared.{IsPreparedPlan};
 ghost use Rattle.bq_index.specs.Prefilter.{IsRefused};
 
-use crate::direct::{DirectLookup, DirectLookups, apply_direct};
 use crate::filter::filter_row;
 use crate::join::Scratch;
-use crate::lookup::{apply_to_only_part, has_lookup};
 use crate::route::{PartsAt, apply_to_parts};
+use crate::two_cells::apply_direct;
 use bq_answers::Answers;
+use bq_direct::{DirectLookup, DirectLookups};
 use bq_index::PreparedPlan;
 use bq_model::{Plan, Query, Row};
 use bq_pool::{Extent, Pool, Steps};
@@ -93,11 +93,7 @@ fn apply_by_plan<L: Ledger>(
                     extent: query.extent,
                     known: query.known,
                 };
-                if has_lookup(&all, pos) {
-                    apply_to_only_part(pool, &all, pos, arrived.row, scratch, table, steps)
-                } else {
-                    apply_to_parts(pool, &all, pos, arrived.row, scratch, table, steps)
-                }
+                apply_to_parts(pool, &all, pos, arrived.row, scratch, table, steps);
             }
             None => {}
         },

@@ -14,7 +14,7 @@ use Rattle.bq_model.proofs.Has.{Has, first, Has-append_right, Contains-from_has}
 use Rattle.bq_laws.specs.Sharing.{Begins, IsCovered, AreBoxesOf}
 use Rattle.bq_laws.proofs.PlanBoxes.{plans-have-boxes}
 use Rattle.bq_laws.proofs.SameBoxes.{are-same, same-size, sizes-cons}
-use Rattle.bq_executor.specs.Loading.{kind_at}
+use Rattle.bq_loading.specs.Loadable.{kind_at}
 
 less : (n m : ℕ) → n < m → nat_lt n m ≡ true
 less n m l = grind (arith, nat_tests)

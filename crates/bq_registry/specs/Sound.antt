@@ -11,7 +11,7 @@ use Rattle.bq_model.specs.Numbers.{parts_of}
 use Rattle.bq_model.specs.Sharing.{Box, sizes_in}
 use Rattle.bq_executor.specs.Executor.{IsAccepted, most_answers}
 use Rattle.bq_executor.specs.Standing.{CountsUpto}
-use Rattle.bq_executor.specs.Loading.{kind_at}
+use Rattle.bq_loading.specs.Loadable.{kind_at}
 use Rattle.bq_registry.specs.Live.{LiveQuery, boxes_of, base_in}
 use Rattle.bq_registry.specs.Registry.{RegistryValue, IsSound, StandsFor, GivenUpto}
 

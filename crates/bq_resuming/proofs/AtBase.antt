@@ -13,8 +13,8 @@ use Rattle.bq_model.specs.Tuples.{is_same}
 use Rattle.bq_model.specs.Sharing.{Box, sizes_in}
 use Rattle.bq_model.specs.Bases.{Base}
 use Rattle.bq_laws.proofs.SharedCells.{into-size}
-use Rattle.bq_executor.specs.Bases.{is_empty}
-use Rattle.bq_executor.specs.Loading.{kind_at, filled_cell, loaded_given, loaded_cell, loaded_tuple}
+use Rattle.bq_loading.specs.Loadable.{is_empty, kind_at, filled_cell}
+use Rattle.bq_executor.specs.Loading.{loaded_given, loaded_cell, loaded_tuple}
 use Rattle.bq_schema.specs.declared.column.ColumnDef.{ColumnDef}
 use Rattle.bq_schema.specs.declared.row_error.RowError.{RowError}
 use Rattle.bq_schema.specs.declared.stream_error.StreamError.{StreamError}

@@ -11,7 +11,8 @@ use Rattle.bq_model.specs.Bases.{Base, first_base, base_of, answers_from, kept, 
 use Rattle.bq_laws.specs.Bases.{StandsForHistories}
 use Rattle.bq_laws.proofs.Bases.{bases-keep-on, bases-stand-for-histories}
 use Rattle.bq_laws.proofs.Keeping.{rows-more-keep}
-use Rattle.bq_executor.specs.Bases.{is_empty, is_fresh}
+use Rattle.bq_loading.specs.Loadable.{is_empty}
+use Rattle.bq_executor.specs.Bases.{is_fresh}
 use Rattle.bq_executor.proofs.PlanFacts.{kept_is}
 use Rattle.bq_schema.specs.Streams.{Shape, KeepsDomains}
 use Rattle.bq_parser.proofs.DomainRows.{rows_keep_domains}

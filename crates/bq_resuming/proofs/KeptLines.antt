@@ -21,8 +21,8 @@ use Rattle.bq_model.proofs.Has.{Has-from_contains}
 use Rattle.bq_laws.proofs.Bases.{bases-keep-on}
 use Rattle.bq_laws.proofs.Order.{same-itself}
 use Rattle.bq_laws.proofs.Tests.{any_if, and-both}
-use Rattle.bq_executor.specs.Bases.{is_empty}
-use Rattle.bq_executor.specs.Loading.{kind_at, filled_cell, loaded_given, loaded_cell, loaded_tuple}
+use Rattle.bq_loading.specs.Loadable.{is_empty, kind_at, filled_cell}
+use Rattle.bq_executor.specs.Loading.{loaded_given, loaded_cell, loaded_tuple}
 use Rattle.bq_executor.specs.Standing.{CountsUpto}
 use Rattle.bq_executor.proofs.PlanFacts.{cells_of_plan}
 use Rattle.bq_parser.specs.declared.tree.Statement.{Statement}

@@ -26,8 +26,8 @@ use Rattle.bq_laws.proofs.Order.{same-is}
 use Rattle.bq_laws.proofs.SharedCells.{into-size}
 use Rattle.bq_laws.proofs.Tests.{and-left, and-right, any_from, not_both}
 use Rattle.bq_executor.specs.CellSteps.{HasParts}
-use Rattle.bq_executor.specs.Bases.{is_empty}
-use Rattle.bq_executor.specs.Loading.{kind_at, filled_cell, loaded_given, loaded_cell, loaded_tuple}
+use Rattle.bq_loading.specs.Loadable.{is_empty, kind_at, filled_cell}
+use Rattle.bq_executor.specs.Loading.{loaded_given, loaded_cell, loaded_tuple}
 use Rattle.bq_executor.proofs.Answered.{filter_plain}
 use Rattle.bq_executor.proofs.PlanFacts.{has_parts}
 use Rattle.bq_registry.specs.Live.{boxes_for}

@@ -20,7 +20,7 @@ use Rattle.bq_laws.proofs.RowMerge.{content-none, merged-empty}
 use Rattle.bq_laws.proofs.SameBoxes.{sizes-cons}
 use Rattle.bq_laws.proofs.SharedCells.{Lies, lies-in, into-size, into-at}
 use Rattle.bq_laws.proofs.Tests.{and-left, and-right}
-use Rattle.bq_executor.specs.Loading.{kind_at, filled_cell}
+use Rattle.bq_loading.specs.Loadable.{kind_at, filled_cell}
 use Rattle.bq_executor.specs.Standing.{CountsUpto}
 use Rattle.bq_executor.proofs.RowCells.{kept_by}
 use Rattle.bq_registry.specs.Sound.{IsCellOf}

@@ -17,9 +17,10 @@ use Rattle.bq_pool.specs.Extents.{PoolValue}
 use Rattle.bq_laws.proofs.SharedCells.{into-size}
 use Rattle.bq_executor.specs.Executor as executor
 use Rattle.bq_executor.specs.Executor.{list_in}
-use Rattle.bq_executor.specs.Bases.{is_empty, StandsFrom}
+use Rattle.bq_loading.specs.Loadable.{is_empty, kind_at, filled_cell}
+use Rattle.bq_executor.specs.Bases.{StandsFrom}
 use Rattle.bq_executor.proofs.Bases.{bases-and-histories}
-use Rattle.bq_executor.specs.Loading.{kind_at, filled_cell, loaded_given, loaded_cell, loaded_tuple}
+use Rattle.bq_executor.specs.Loading.{loaded_given, loaded_cell, loaded_tuple}
 use Rattle.bq_registry.specs.Live.{Live, LiveQuery, boxes_of, base_in, with_base, plan_cells}
 use Rattle.bq_registry.specs.Loaded.{LoadsThere, LoadsAt}
 use Rattle.bq_registry.specs.Registry.{RegistryValue, IsLiveFor, AreLiveFor}

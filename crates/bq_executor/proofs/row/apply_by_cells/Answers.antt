@@ -5,7 +5,7 @@ use Rattle.bq_pool.specs.Extents.{cells_of}
 use Rattle.bq_executor.specs.Executor.{arrival}
 use Rattle.bq_executor.specs.FoundTable.{HaveRoom}
 use Rattle.bq_executor.specs.CellSteps.{HasTaken, IsPlanReady}
-use Rattle.bq_executor.specs.Direct.{IsDirect}
+use Rattle.bq_direct.specs.Direct.{IsDirect}
 use Rattle.bq_executor.proofs.DirectLaws.{direct-parts, direct-arrives, direct-named, direct-answers}
 use Rattle.bq_executor.proofs.InPart.{all_added}
 use Rattle.bq_executor.proofs.row.apply_by_cells.Goals as goal

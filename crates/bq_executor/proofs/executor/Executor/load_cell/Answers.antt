@@ -9,7 +9,8 @@ use Rattle.bq_executor.specs.declared.saturation.Saturation.{Saturation}
 use Rattle.bq_executor.specs.Executor.{ExecutorValue, list_in, with_saturation}
 use Rattle.bq_executor.specs.Standing.{AreKept, KeepsWithin}
 use Rattle.bq_executor.specs.Bases.{StandsFrom}
-use Rattle.bq_executor.specs.Loading.{kind_at, filled_cell, loaded_cell, Loads}
+use Rattle.bq_loading.specs.Loadable.{kind_at, filled_cell}
+use Rattle.bq_executor.specs.Loading.{loaded_cell, Loads}
 use Rattle.bq_executor.proofs.Loadings.{Puts, within, cell-loads, cell-kept, cell-within, cell-some}
 use Rattle.bq_executor.proofs.executor.Executor.load_cell.Goals as goal
 use Rattle.bq_executor.proofs.executor.Executor.load_cell.Goals.{in-Some, in-None}

@@ -1,0 +1,56 @@
+-- What is listed says how the only part takes a row.
+use Rattle.std.proofs.Common.{get_or, ◌≡◌, ℕ, ◌-◌, ◌<◌, List, [], ◌∷◌, length, map, sym, ap, ◌∙◌, subst, arith, pos}
+use Rattle.std.specs.Prelude.{Option, Some, None, IfSome, slice_get, slice_index_or}
+use Rattle.bq_model.specs.declared.plan.PartPlan.{PartPlan}
+use Rattle.bq_model.specs.Parts.{pairs}
+use Rattle.bq_model.specs.Query.{QueryValue}
+use Rattle.bq_synopsis.specs.declared.axes.Axis.{Axis}
+use Rattle.bq_synopsis.specs.declared.axes.BoxLayout.{BoxLayout}
+use Rattle.bq_synopsis.specs.declared.prepared.Prepared.{Prepared}
+use Rattle.bq_synopsis.specs.declared.join_lookup.JoinLookup.{JoinLookup}
+use Rattle.bq_synopsis.specs.Axes.{IsBoxLayout}
+use Rattle.bq_synopsis.specs.Joining.{told_column, IsJoinLookup}
+use Rattle.bq_synopsis.specs.Preparing.{IsPrepared}
+use Rattle.bq_synopsis.proofs.Lookups.{some-is, none-is}
+use Rattle.bq_direct.specs.declared.direct.DirectLookup.{DirectLookup}
+use Rattle.bq_direct.specs.Direct.{IsListedFrom, IsDirect}
+
+-- a list of one range
+pub only-axis : (xs : List Axis) (a o : Axis) → length xs ≡ 1 → a ≡ get_or xs 0 o → xs ≡ a ∷ []
+only-axis [] a o n e = absurd (omega (arith, n))
+only-axis (x ∷ []) a o n e = ap (λ (t : Axis). t ∷ []) (sym e)
+only-axis (x ∷ y ∷ xs) a o n e = absurd (omega (arith, n))
+
+-- what is listed says how the only part takes a row
+module _ (q : QueryValue) (plan : List PartPlan) (p : Prepared) (place stream : ℕ) (listed : JoinLookup) (own other : BoxLayout) (selected : List ℕ)
+    (one : length plan ≡ 1) (here : place < length q.from) (stream_is : stream ≡ slice_index_or q.from place 0)
+    (prepared : (part : PartPlan) → slice_get plan 0 ≡ Some part → IsPrepared (pairs q) part p)
+    (joins_at : slice_get p.joins.items place ≡ Some (Some listed)) (own_at : slice_get p.places.items place ≡ Some own) (other_at : slice_get p.places.items (1 - place) ≡ Some other)
+    (told : map (told_column listed.told.items listed.place place) q.select ≡ map (λ (c : ℕ). Some c) selected) where
+  pub direct-is : (o : Option DirectLookup) → IfSome o (λ d. IsListedFrom listed own other d) → IfSome o (λ d. (d.stream ≡ stream) × (d.pos ≡ place) × (d.selected.items ≡ selected)) → IfSome o (λ d. IsDirect q plan d)
+  direct-is None from at = tt
+  direct-is (Some d) from at = record {
+    one = one;
+    here = subst (λ n. n < length q.from) (sym at.1) here;
+    stream = at.0 ∙ stream_is ∙ ap (λ n. slice_index_or q.from n 0) (sym at.1);
+    only = λ part at_0.
+        let is = prepared part at_0 in
+        record {
+          listed = listed;
+          joins = subst (λ n. IsJoinLookup (pairs q) part n listed) (sym at.1) (is.joins place (Some listed) joins_at);
+          own = own;
+          own_layout = subst (λ n. IsBoxLayout part n own) (sym at.1) (is.places place own own_at);
+          other = other;
+          other_layout = subst (λ n. IsBoxLayout part (1 - n) other) (sym at.1) (is.places (1 - place) other other_at);
+          is = from;
+          columns = subst (λ n. map (told_column listed.told.items listed.place n) q.select ≡ map (λ (c : ℕ). Some c) d.selected.items) (sym at.1) (told ∙ ap (map (λ (c : ℕ). Some c)) (sym at.2));
+        };
+  }
+
+-- one that is listed is one that was made
+pub listed-direct : (q : QueryValue) (plan : List PartPlan) (o : Option DirectLookup) (d : DirectLookup) → IfSome o (λ x. IsDirect q plan x) → o ≡ Some d → IsDirect q plan d
+listed-direct q plan None d h e = absurd (none-is d e)
+listed-direct q plan (Some x) d h e = subst (λ (y : DirectLookup). IsDirect q plan y) (some-is x d e) h
+
+pub none-direct : (q : QueryValue) (plan : List PartPlan) (d : DirectLookup) → None ≡ Some d → IsDirect q plan d
+none-direct q plan d e = absurd (none-is d e)

@@ -1,0 +1,252 @@
+//! The cells that a row of a query of one part meets, where one column tells both: listed when the query is created.
+ghost use Rattle.std.specs.Prelude.{◌≡◌, [], ◌∷◌, ◌<◌, ◌≤◌, ◌-◌, ◌*◌, length, map, slice_get, slice_index_or, Some, IfSome, true};
+ghost use Rattle.bq_model.specs.Meaning.{by_column};
+ghost use Rattle.bq_model.specs.Numbers.{parts_of};
+ghost use Rattle.bq_model.specs.declared.plan.Kind.TheVariants as kinds;
+ghost use Rattle.bq_synopsis.specs.Axes.{IsAbove, IsShort};
+ghost use Rattle.bq_synopsis.specs.Joining.{told_column};
+ghost use Rattle.bq_direct.specs.Direct.{axis_of, IsListedIn, IsListedFrom, IsDirect, AreDirect};
+ghost use Rattle.bq_index.specs.Prepared.{IsPreparedPlan};
+
+use arrayvec::ArrayVec;
+use bq_index::PreparedPlan;
+use bq_model::{Attr, Kind, PartPlans, Plan, Query, Tuple, value_at};
+use bq_synopsis::{BoxLayout, JoinLookup, Prepared};
+
+/// The values of a column that are asked for: the least one, how many there are, and the column.
+#[derive(Clone, Copy)]
+pub struct Range {
+    pub lo: i64,
+    pub size: u32,
+    pub column: u8,
+}
+
+/// How a row of a stream of FROM is taken into the only part of a query: the range of one column tells the cell that counts the row and the
+/// cell of the other stream that can answer with it, each by the first cell of its box. A column of the other stream has the same value, and
+/// each selected column has that of a column of the row.
+#[derive(Drop)]
+pub struct DirectLookup {
+    pub selected: ArrayVec<u8, 8>,
+    pub range: Range,
+    pub own: u32,
+    pub other: u32,
+    pub stream: u8,
+    pub pos: u8,
+    pub joined: u8,
+}
+
+/// How the rows of each of two streams are taken so.
+#[derive(Drop)]
+pub struct DirectLookups {
+    pub first: Option<DirectLookup>,
+    pub second: Option<DirectLookup>,
+}
+
+impl DirectLookups {
+    /// Returns how a row of a stream is taken into the only part of the query, where that is listed.
+    #[inline(always)]
+    pub fn of_stream(&self, stream: u8) -> Option<&DirectLookup>
+        ensures { IfSome result (λ d. IsListedIn self.now d.now × (d.now.stream ≡ stream)) }
+    {
+        match of_stream(&self.first, stream) {
+            Some(direct) => Some(direct),
+            None => of_stream(&self.second, stream),
+        }
+    }
+}
+
+/// Returns how far the value of a row is above the least one, where it is in range.
+pub fn offset_in(range: Range, row: &[i64]) -> Option<u32>
+    requires { IsShort (axis_of range) }
+    ensures { IsAbove (by_column row.now range.column) (axis_of range) result }
+{
+    let offset = value_at(row, range.column).wrapping_sub(range.lo);
+    if 0 <= offset && offset < i64::from(range.size) {
+        Some(offset as u32)
+    } else {
+        None
+    }
+}
+
+// What is listed, where it is of this stream.
+fn of_stream(listed: &Option<DirectLookup>, stream: u8) -> Option<&DirectLookup>
+    ensures { IfSome result (λ d. (listed.now ≡ Some d.now) × (d.now.stream ≡ stream)) }
+{
+    match listed {
+        Some(direct) => {
+            if direct.stream == stream {
+                Some(direct)
+            } else {
+                None
+            }
+        }
+        None => None,
+    }
+}
+
+// The columns of the row that are told for these columns, where one is told for each.
+fn told_columns(listed: &JoinLookup, pos: u8, select: &[Attr]) -> Option<ArrayVec<u8, 8>>
+    requires { length select.now ≤ 8 }
+    ensures { IfSome result (λ columns. map (told_column listed.now.told.items listed.now.place pos) select.now ≡ map Some columns.items) }
+{
+    let mut columns: ArrayVec<u8, 8> = ArrayVec::new();
+    'selected: for a in select {
+        match listed.column_of(pos, *a) {
+            Some(column) => columns.push(column),
+            None => return None,
+        }
+    }
+    Some(columns)
+}
+
+/// Puts the values of these columns of a row into a tuple.
+pub fn put_selected(columns: &[u8], row: &[i64], tuple: &mut Tuple)
+    requires { length columns.now ≤ 8 }
+    ensures { tuple.new.items ≡ map (by_column row.now) columns.now }
+{
+    tuple.clear();
+    'columns: for column in columns {
+        tuple.push(value_at(row, *column));
+    }
+}
+
+// Whether the cells of a box count rows.
+fn counts(layout: &BoxLayout) -> bool
+    ensures { result ≡ true → layout.now.kind ≡ kinds.Count }
+{
+    match layout.kind {
+        Kind::Count => true,
+        Kind::Present | Kind::Least(_) | Kind::Greatest(_) => false,
+    }
+}
+
+// The only range that a row is asked at a place.
+fn only_range(layout: &BoxLayout) -> Option<Range>
+    ensures { IfSome result (λ range. layout.now.axes.items ≡ axis_of range ∷ []) }
+{
+    let axes = layout.axes.as_slice();
+    if axes.len() != 1 {
+        return None;
+    }
+    let axis = axes[0];
+    Some(Range {
+        lo: axis.lo,
+        size: axis.size,
+        column: axis.column,
+    })
+}
+
+// How a row is taken by what it is asked at its own place and what stands at the other, where each is one range, of the same values, and
+// the row's column is told for that of the other stream.
+fn direct_from(
+    stream: u8,
+    pos: u8,
+    listed: &JoinLookup,
+    selected: ArrayVec<u8, 8>,
+    own: &BoxLayout,
+    other: &BoxLayout,
+) -> Option<DirectLookup>
+    requires { pos < 2 }
+    ensures from { IfSome result (λ d. IsListedFrom listed.now own.now other.now d) }
+    ensures place { IfSome result (λ d. (d.stream ≡ stream) × (d.pos ≡ pos) × (d.selected.items ≡ selected.items)) }
+{
+    let Some(range) = only_range(own) else {
+        return None;
+    };
+    let Some(across) = only_range(other) else {
+        return None;
+    };
+    let joined = Attr {
+        stream: 1 - pos,
+        column: across.column,
+    };
+    let told = listed.column_of(pos, joined);
+    if !listed.is_signed()
+        || !counts(own)
+        || range.lo != across.lo
+        || range.size != across.size
+        || !is_column(told, range.column)
+    {
+        return None;
+    }
+    Some(DirectLookup {
+        selected,
+        range,
+        own: own.base,
+        other: other.base,
+        stream,
+        pos,
+        joined: across.column,
+    })
+}
+
+// Whether this column is told.
+fn is_column(told: Option<u8>, column: u8) -> bool
+    ensures { result ≡ true → told ≡ Some column }
+{
+    match told {
+        Some(n) => n == column,
+        None => false,
+    }
+}
+
+// What a row is asked at a place, where it is listed.
+fn layout_at(part: &Prepared, place: u8) -> Option<&BoxLayout>
+    ensures { IfSome result (λ layout. slice_get part.now.places.items place ≡ Some layout.now) }
+{
+    match part.places().get(usize::from(place)) {
+        Some(layout) => Some(layout),
+        None => None,
+    }
+}
+
+// The stream at a place of FROM.
+fn stream_at(from: &[u8], pos: u8) -> u8
+    requires { pos < length from.now }
+    ensures { result ≡ slice_index_or from.now pos 0 }
+{
+    from[usize::from(pos)]
+}
+
+// How a row of the stream at a place of FROM is taken into the only part, where it can be listed.
+fn direct_at(q: &Query, parts: &PartPlans, prepared: &PreparedPlan, pos: u8) -> Option<DirectLookup>
+    requires here { pos < 2 }
+    requires prepared { IsPreparedPlan q.now parts.now prepared.now }
+    ensures { IfSome result (λ d. IsDirect q.now parts.now d) }
+{
+    let from = q.from();
+    if parts.len() != 1 || from.len() != 2 {
+        return None;
+    }
+    let part = prepared.part(q, parts, 0);
+    let Some(listed) = part.join_lookup(pos) else {
+        return None;
+    };
+    let Some(own) = layout_at(part, pos) else {
+        return None;
+    };
+    let Some(other) = layout_at(part, 1 - pos) else {
+        return None;
+    };
+    let Some(selected) = told_columns(listed, pos, q.select()) else {
+        return None;
+    };
+    direct_from(stream_at(from, pos), pos, listed, selected, own, other)
+}
+
+/// Returns how the rows of a query are taken into its only part, as far as one column of a row tells its cells.
+pub fn direct_lookups(q: &Query, plan: &Plan, prepared: &PreparedPlan) -> DirectLookups
+    requires { IsPreparedPlan q.now (parts_of plan.now) prepared.now }
+    ensures { AreDirect q.now (parts_of plan.now) result }
+{
+    match plan {
+        Plan::Filter => DirectLookups {
+            first: None,
+            second: None,
+        },
+        Plan::Parts { parts, .. } => DirectLookups {
+            first: direct_at(q, parts, prepared, 0),
+            second: direct_at(q, parts, prepared, 1),
+        },
+    }
+}

@@ -1,0 +1,4 @@
+pub mod CellKinds
+pub mod ListedTuples
+pub mod PlanBoxes
+pub mod RangeLaws
