@@ -1,10 +1,9 @@
 //! What is told of the parts of queries.
 ghost use Rattle.std.specs.Prelude.{◌≡◌, All, None};
-ghost use Rattle.bq_model.specs.Parts.{IsPart};
+ghost use Rattle.bq_model.specs.Parts.{IsPart, sign_lists};
 ghost use Rattle.bq_parser.specs.Grammar.{IsWhole};
 ghost use Rattle.bq_parser.specs.Limits.{limit_of};
 ghost use Rattle.bq_parser.specs.Resolution.{IsTaken};
-ghost use Rattle.bq_lto_split.specs.Split.{sign_lists};
 
 use crate::fault::Fault;
 use bq_io::{Sink, write_all};

@@ -1,10 +1,9 @@
 //! The numbers of the plans of queries.
 ghost use Rattle.std.specs.Prelude.{◌≡◌, ◌≤◌, length};
-ghost use Rattle.bq_model.specs.Parts.{AreParts};
+ghost use Rattle.bq_model.specs.Parts.{AreParts, sign_lists};
 ghost use Rattle.bq_parser.specs.Grammar.{IsWhole};
 ghost use Rattle.bq_parser.specs.Limits.{limit_of};
 ghost use Rattle.bq_parser.specs.Resolution.{IsTaken};
-ghost use Rattle.bq_lto_split.specs.Split.{sign_lists};
 
 use crate::fault::Fault;
 use bq_decide::decide;

@@ -10,7 +10,7 @@ use Rattle.std.proofs.lemmas.List.Quantifiers.{all_pairs_push}
 use Rattle.bq_model.proofs.Has.{Has, first, later, Has-from_contains, Contains-from_has, Has-append_left, Has-append_right, Has-append_cases}
 use Rattle.bq_constraints.specs.declared.constraint.Constraint.{Constraint}
 use Rattle.bq_constraints.specs.Solutions.{IsChain}
-use Rattle.bq_certcheck.specs.declared.chain.Chain.{Chain}
+use Rattle.bq_certcheck.specs.declared.chain.ChainSum.{ChainSum}
 use Rattle.bq_certificate.specs.declared.line.Path.{Path}
 use Rattle.bq_certcheck.specs.Rules.{IsPath, path_lt, ArePaths, IsBound, same, of_path}
 use Rattle.bq_certcheck.specs.Chained.{IsChainOf}
@@ -27,7 +27,7 @@ path_numbers : (cs : List Constraint) (es : List ℕ) (i j : ℕ) (s : ℤ) → 
 path_numbers cs [] i j s n h = absurd (n h.0)
 path_numbers cs (e ∷ es) i j s n h = omega arith
 
-pub not_along : (attrs : ℕ) (cs : List Constraint) (p : Path) (c : Chain) → IsChainOf cs p.numbers.items (Some c) → ¬ ((c.from ≡ p.from) × (c.to ≡ p.to)) → ¬ IsPath attrs cs p
+pub not_along : (attrs : ℕ) (cs : List Constraint) (p : Path) (c : ChainSum) → IsChainOf cs p.numbers.items (Some c) → ¬ ((c.from ≡ p.from) × (c.to ≡ p.to)) → ¬ IsPath attrs cs p
 not_along attrs cs p c h n g =
     let begin : c.from ≡ p.from = chain_start cs p.numbers.items c.from c.to p.from p.to c.sum g.sum h.0 h.1 g.chain in
     let there = chain_begin cs p.numbers.items c.from p.from c.to c.sum begin h.1 in

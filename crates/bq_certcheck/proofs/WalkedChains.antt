@@ -8,7 +8,7 @@ use Rattle.std.proofs.lemmas.List.Elements.{All-contains}
 use Rattle.bq_constraints.proofs.Numbers.{contains_at}
 use Rattle.bq_constraints.specs.declared.constraint.Constraint.{Constraint}
 use Rattle.bq_constraints.specs.Solutions.{IsWithin, IsChain, IsNegativeCycle}
-use Rattle.bq_certcheck.specs.declared.chain.Chain.{Chain}
+use Rattle.bq_certcheck.specs.declared.chain.ChainSum.{ChainSum}
 use Rattle.bq_certcheck.specs.Chained.{Closes, numbered, IsChainFrom, IsChainOf}
 
 same_some : {A : Type 0} {x y : A} → let O : Type 0 = Option A in ◌≡◌ {A = O} (Some x) (Some y) → x ≡ y
@@ -109,7 +109,7 @@ begins cs e es c i j s n h =
     let same : h.0 ≡ c = same_some (sym h.2 ∙ (numbered_some cs e c n).1) in
     sym h.3 ∙ ap (λ (d : Constraint). d.left) same
 
-pub from_first : (cs : List Constraint) (es : List ℕ) (e : ℕ) (c : Constraint) (r : Option Chain) → slice_get es 0 ≡ Some e → numbered cs e ≡ Some c → IsChainFrom cs es c.left r → IsChainOf cs es r
+pub from_first : (cs : List Constraint) (es : List ℕ) (e : ℕ) (c : Constraint) (r : Option ChainSum) → slice_get es 0 ≡ Some e → numbered cs e ≡ Some c → IsChainFrom cs es c.left r → IsChainOf cs es r
 from_first cs [] e c r f n h = absurd cc
 from_first cs (d ∷ es) e c (Some a) f n h = (omega arith, chain_begin cs (d ∷ es) c.left a.from a.to a.sum (sym h.0) h.1)
 from_first cs (d ∷ es) e c None f n h = λ i j s l g.
@@ -127,10 +127,10 @@ some_numbers cs (e ∷ es) h = omega arith
 pub no_cycle : (cs : List Constraint) (es : List ℕ) → IsChainOf cs es None → ¬ IsNegativeCycle cs es
 no_cycle cs es n h = n h.node h.node h.sum (some_numbers cs es h) h.chain
 
-pub is_cycle : (cs : List Constraint) (es : List ℕ) (c : Chain) → IsChainOf cs es (Some c) → c.from ≡ c.to → c.sum <ℤ pos 0 → IsNegativeCycle cs es
+pub is_cycle : (cs : List Constraint) (es : List ℕ) (c : ChainSum) → IsChainOf cs es (Some c) → c.from ≡ c.to → c.sum <ℤ pos 0 → IsNegativeCycle cs es
 is_cycle cs es c h e n = record { node = c.from; sum = c.sum; chain = subst (λ z. IsChain cs es c.from z c.sum) (sym e) h.1; negative = n }
 
-pub closes : (cs : List Constraint) (es : List ℕ) (c : Chain) → IsChainOf cs es (Some c) → IsNegativeCycle cs es → (c.from ≡ c.to) × (c.sum <ℤ pos 0)
+pub closes : (cs : List Constraint) (es : List ℕ) (c : ChainSum) → IsChainOf cs es (Some c) → IsNegativeCycle cs es → (c.from ≡ c.to) × (c.sum <ℤ pos 0)
 closes cs es c h g =
     let start : c.from ≡ g.node = chain_start cs es c.from c.to g.node g.node c.sum g.sum h.0 h.1 g.chain in
     let there : IsChain cs es c.from g.node g.sum = chain_begin cs es g.node c.from g.node g.sum (sym start) g.chain in
@@ -159,5 +159,5 @@ leads_next cs es i k j r s c l h n here e =
 pub leads_all : (cs : List Constraint) (es : List ℕ) (i k j : ℕ) (r : ℤ) → length es ≤ k → Leads cs es i (drop k es) j r → IsChain cs es i j r
 leads_all cs es i k j r l h = leads_end cs es i j r (subst (λ (z : List ℕ). Leads cs es i z j r) (drop_of_length-le es l) h)
 
-pub tests_cycle : (cs : List Constraint) (es : List ℕ) (c : Chain) (r : Bool) → IsChainOf cs es (Some c) → (IsTrue r → Closes c) × (Closes c → IsTrue r) → (IsTrue r → IsNegativeCycle cs es) × (IsNegativeCycle cs es → IsTrue r)
+pub tests_cycle : (cs : List Constraint) (es : List ℕ) (c : ChainSum) (r : Bool) → IsChainOf cs es (Some c) → (IsTrue r → Closes c) × (Closes c → IsTrue r) → (IsTrue r → IsNegativeCycle cs es) × (IsNegativeCycle cs es → IsTrue r)
 tests_cycle cs es c r h t = ((λ y. let k : Closes c = t.0 y in is_cycle cs es c h k.0 k.1), (λ g. t.1 (closes cs es c h g)))

@@ -4,7 +4,7 @@ ghost use Rattle.bq_constraints.specs.Solutions.{IsWithin};
 ghost use Rattle.bq_certificate.specs.Nodes.{grouped};
 ghost use Rattle.bq_certcheck.specs.Bounds.{bound_at, IsModest, AreModest, IsSumOf, AddsPath, ReadsBounds, IsAtMost, Keeps, KeepsEach};
 
-use crate::chain::{Chain, chain_of};
+use crate::chain::{ChainSum, chain_of};
 use bq_certificate::{Line, Path};
 use bq_constraints::Constraint;
 
@@ -16,7 +16,7 @@ fn names_nodes(attrs: u8, path: &Path) -> bool
 }
 
 // Whether a chain leads from the one node of a path to the other.
-fn leads(chain: Chain, path: &Path) -> bool
+fn leads(chain: ChainSum, path: &Path) -> bool
     ensures { IsTrue result ↔ ((chain.from ≡ path.now.from) × (chain.to ≡ path.now.to)) }
 {
     u16::from(chain.from) == path.from && u16::from(chain.to) == path.to

@@ -7,7 +7,7 @@ use bq_constraints::Constraint;
 
 /// The nodes at the ends of a chain, and the sum of its bounds.
 #[derive(Clone, Copy)]
-pub struct Chain {
+pub struct ChainSum {
     pub from: u8,
     pub to: u8,
     pub sum: i64,
@@ -24,7 +24,7 @@ fn numbered(cs: &[Constraint], number: u16) -> Option<Constraint>
 }
 
 // The chain that begins at a node, where the numbers are one.
-fn chain_from(cs: &[Constraint], numbers: &[u16], from: u8) -> Option<Chain>
+fn chain_from(cs: &[Constraint], numbers: &[u16], from: u8) -> Option<ChainSum>
     requires within { All (IsWithin 12) cs.now }
     requires few { length numbers.now ≤ 13 }
     ensures chain { IsChainFrom cs.now numbers.now from result }
@@ -41,11 +41,11 @@ fn chain_from(cs: &[Constraint], numbers: &[u16], from: u8) -> Option<Chain>
         to = c.right;
         sum += c.bound;
     }
-    Some(Chain { from, to, sum })
+    Some(ChainSum { from, to, sum })
 }
 
 /// Returns the chain of these constraints, by their numbers from 1. None where there is none, or no number.
-pub fn chain_of(cs: &[Constraint], numbers: &[u16]) -> Option<Chain>
+pub fn chain_of(cs: &[Constraint], numbers: &[u16]) -> Option<ChainSum>
     requires within { All (IsWithin 12) cs.now }
     requires few { length numbers.now ≤ 13 }
     ensures chain { IsChainOf cs.now numbers.now result }
@@ -57,7 +57,7 @@ pub fn chain_of(cs: &[Constraint], numbers: &[u16]) -> Option<Chain>
 }
 
 // Whether a chain ends where it begins, and has a negative sum.
-fn closes(chain: Chain) -> bool
+fn closes(chain: ChainSum) -> bool
     ensures { IsTrue result ↔ Closes chain }
 {
     chain.from == chain.to && chain.sum < 0

@@ -8,9 +8,8 @@ use Rattle.bq_model.specs.declared.part.Sign.{Sign}
 use Rattle.bq_model.specs.declared.condition.Condition.{Condition}
 use Rattle.bq_model.specs.declared.condition.Condition.TheVariants.{C1, C2, C3}
 use Rattle.bq_model.specs.Query.{QueryValue, attr_lt, is_filter}
-use Rattle.bq_model.specs.Parts.{IsPart, AreParts}
+use Rattle.bq_model.specs.Parts.{IsPart, AreParts, sign_lists}
 use Rattle.bq_model.specs.Violation.{Failure, failure_lt, condition_lt, condition_index, Breaks, IsViolation, first}
-use Rattle.bq_lto_split.specs.Split.{sign_lists}
 use Rattle.bq_model.specs.declared.first_break.Break.{Break}
 use Rattle.bq_model.specs.FirstBreak.{IsFirstBreak}
 use Rattle.bq_decide.specs.Deciding.{NoneBefore}

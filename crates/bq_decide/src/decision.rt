@@ -1,9 +1,8 @@
 //! The decision on a query.
 ghost use Rattle.std.specs.Prelude.{◌≡◌, ◌<◌, ◌^◌, length};
-ghost use Rattle.bq_model.specs.Parts.{IsPart, AreParts};
+ghost use Rattle.bq_model.specs.Parts.{IsPart, AreParts, sign_lists};
 ghost use Rattle.bq_model.specs.Verdict.{IsDecision};
 ghost use Rattle.bq_model.specs.FirstBreak.{IsFirstBreak};
-ghost use Rattle.bq_lto_split.specs.Split.{sign_lists};
 ghost use Rattle.bq_refs.specs.Known.{IsBasis};
 
 use crate::breaking::violation_of;

@@ -12,10 +12,10 @@ use Rattle.bq_synopsis.specs.Axes.{IsBoxLayout}
 use Rattle.bq_synopsis.specs.Joining.{told_column, IsJoinLookup}
 use Rattle.bq_direct.specs.declared.direct.DirectLookup.{DirectLookup}
 use Rattle.bq_direct.specs.declared.direct.DirectLookups.{DirectLookups}
-use Rattle.bq_direct.specs.declared.direct.Range.{Range}
+use Rattle.bq_direct.specs.declared.direct.ColumnRange.{ColumnRange}
 
 -- the range that a row is asked at its own place, and the same range at the other place
-abbrev pub axis_of : Range → Axis
+abbrev pub axis_of : ColumnRange → Axis
 axis_of r = record { lo = r.lo; size = r.size; column = r.column }
 
 abbrev pub own_axis : DirectLookup → Axis

@@ -15,7 +15,7 @@ use bq_synopsis::{BoxLayout, JoinLookup, Prepared};
 
 /// The values of a column that are asked for: the least one, how many there are, and the column.
 #[derive(Clone, Copy)]
-pub struct Range {
+pub struct ColumnRange {
     pub lo: i64,
     pub size: u32,
     pub column: u8,
@@ -27,7 +27,7 @@ pub struct Range {
 #[derive(Drop)]
 pub struct DirectLookup {
     pub selected: ArrayVec<u8, 8>,
-    pub range: Range,
+    pub range: ColumnRange,
     pub own: u32,
     pub other: u32,
     pub stream: u8,
@@ -56,7 +56,7 @@ impl DirectLookups {
 }
 
 /// Returns how far the value of a row is above the least one, where it is in range.
-pub fn offset_in(range: Range, row: &[i64]) -> Option<u32>
+pub fn offset_in(range: ColumnRange, row: &[i64]) -> Option<u32>
     requires { IsShort (axis_of range) }
     ensures { IsAbove (by_column row.now range.column) (axis_of range) result }
 {
@@ -121,7 +121,7 @@ fn counts(layout: &BoxLayout) -> bool
 }
 
 // The only range that a row is asked at a place.
-fn only_range(layout: &BoxLayout) -> Option<Range>
+fn only_range(layout: &BoxLayout) -> Option<ColumnRange>
     ensures { IfSome result (λ range. layout.now.axes.items ≡ axis_of range ∷ []) }
 {
     let axes = layout.axes.as_slice();
@@ -129,7 +129,7 @@ fn only_range(layout: &BoxLayout) -> Option<Range>
         return None;
     }
     let axis = axes[0];
-    Some(Range {
+    Some(ColumnRange {
         lo: axis.lo,
         size: axis.size,
         column: axis.column,

@@ -1,7 +1,6 @@
 //! The family of a query over the streams of a catalog.
-ghost use Rattle.bq_model.specs.Parts.{AreParts};
+ghost use Rattle.bq_model.specs.Parts.{AreParts, sign_lists};
 ghost use Rattle.bq_model.specs.Verdict.{IsDecision};
-ghost use Rattle.bq_lto_split.specs.Split.{sign_lists};
 ghost use Rattle.bq_parser.specs.Resolution.{HasNamed};
 ghost use Rattle.bq_families.specs.Answer.{IsFamilyAnswer};
 

@@ -9,4 +9,4 @@ mod row;
 mod script;
 
 pub use row::Line;
-pub use script::Script;
+pub use script::LoadScript;

@@ -8,7 +8,7 @@ use std::marker::Model;
 /// The script of a number of rows, as far as its lines are not given yet: four lines that create two streams and two queries, and
 /// then the rows. A clause sees it as the lines that are left.
 #[derive(Drop)]
-pub struct Script {
+pub struct LoadScript {
     /// How many of the lines before the rows were given.
     heads: usize,
     /// How many rows there are in all.
@@ -19,7 +19,7 @@ pub struct Script {
     number: u64,
 }
 
-impl Model for Script {
+impl Model for LoadScript {
     ghost use Rattle.std.specs.Prelude.{◌≡◌, ℕ, ◌+◌, ◌-◌, ◌≤◌, List, ◌++◌, drop};
     ghost use Rattle.bq_gen.specs.Script.{number_at, head_lines, rows_from};
 
@@ -46,14 +46,14 @@ fn head_line(place: usize) -> &'static [u8]
     }
 }
 
-impl Script {
+impl LoadScript {
     /// Returns the script of this many rows, of which no line was given.
     #[tactic(auto, using(crate::proofs::Left::length_script))]
-    pub fn new(rows: u32) -> Script
+    pub fn new(rows: u32) -> LoadScript
         ensures lines { result ≡ script_lines rows }
         ensures len { length result ≡ rows + 4 }
     {
-        Script {
+        LoadScript {
             heads: 0,
             rows,
             given: 0,

@@ -16,7 +16,7 @@ use Rattle.bq_laws.proofs.Tests.{true_or_false, not_both, false_if, same_bool, a
 use Rattle.bq_laws.proofs.SameBoxes.{are-same, same-itself, same-then, same-turned}
 use Rattle.bq_laws.proofs.GrowingBoxes.{start-stays, start-new}
 use Rattle.bq_layout.specs.declared.boxes.Slot.{Slot}
-use Rattle.bq_layout.specs.declared.boxes.Entry.{Entry}
+use Rattle.bq_layout.specs.declared.boxes.BoxEntry.{BoxEntry}
 use Rattle.bq_layout.specs.declared.boxes.Boxes.{Boxes}
 use Rattle.bq_layout.specs.Capped.{capped}
 use Rattle.bq_layout.specs.Boxed.{cells_over, boxed}
@@ -35,7 +35,7 @@ other_code q b c m n h e f =
     false_if (nat_eq m n) (λ same. h (nat_true m n same)) ∙ sym (false_if (same_box q b c) (λ same. h (e ∙ code_same q b c same ∙ sym f)))
 
 -- an entry is compared with a box by their parts
-pub entry_told : (q : QueryValue) (parts : List PartPlan) (e : Entry) (i place : ℕ) (p o : PartPlan) (r : Bool) → e.part < length parts → i < length parts
+pub entry_told : (q : QueryValue) (parts : List PartPlan) (e : BoxEntry) (i place : ℕ) (p o : PartPlan) (r : Bool) → e.part < length parts → i < length parts
     → p ≡ slice_index_or parts e.part p → o ≡ slice_index_or parts i o → r ≡ same_box q (box_at p e.place) (box_at o place)
     → r ≡ same_box q (box_of (boxed q 0 parts) e) (box_in (boxed q 0 parts) i place)
 entry_told q parts e i place p o r l m f g h =
@@ -48,21 +48,21 @@ entry_told q parts e i place p o r l m f g h =
 -- ---- the same box is found
 
 -- no box from this entry on is the same
-abbrev pub NoneFrom : QueryValue → List PartPlan → List Entry → Box → ℕ → Type 0
-NoneFrom q plan entries b i = (k : ℕ) (e : Entry) → i ≤ k → k < length entries → same_box q (box_of plan (get_or entries k e)) b ≡ false
+abbrev pub NoneFrom : QueryValue → List PartPlan → List BoxEntry → Box → ℕ → Type 0
+NoneFrom q plan entries b i = (k : ℕ) (e : BoxEntry) → i ≤ k → k < length entries → same_box q (box_of plan (get_or entries k e)) b ≡ false
 
 -- the entries from this one on are looked at, and the one before it is of the bucket of the box
-pub record AreLooked (q : QueryValue) (plan : List PartPlan) (entries : List Entry) (count : ℕ) (b : Box) (i : ℕ) : Type 0 where
+pub record AreLooked (q : QueryValue) (plan : List PartPlan) (entries : List BoxEntry) (count : ℕ) (b : Box) (i : ℕ) : Type 0 where
   pub within : i ≤ length entries
   pub there : 0 < i → get_or (buckets_of count entries) (i - 1) 0 ≡ code_of q b % count
   pub none : NoneFrom q plan entries b i
 
-module _ (q : QueryValue) (plan : List PartPlan) (entries : List Entry) (are : All (IsEntry q plan) entries) (count : ℕ) (b : Box) where
+module _ (q : QueryValue) (plan : List PartPlan) (entries : List BoxEntry) (are : All (IsEntry q plan) entries) (count : ℕ) (b : Box) where
   -- an entry of another bucket is of another box
-  apart : (k : ℕ) (e : Entry) → k < length entries → get_or (buckets_of count entries) k 0 ≢ code_of q b % count → same_box q (box_of plan (get_or entries k e)) b ≡ false
+  apart : (k : ℕ) (e : BoxEntry) → k < length entries → get_or (buckets_of count entries) k 0 ≢ code_of q b % count → same_box q (box_of plan (get_or entries k e)) b ≡ false
   apart k e l other =
       false_if (same_box q (box_of plan (get_or entries k e)) b) (λ h.
-      other (get_or-map (λ (x : Entry). x.code % count) entries k e 0 l ∙ ap (λ (n : ℕ). n % count) ((are k e l).code ∙ code_same q (box_of plan (get_or entries k e)) b h)))
+      other (get_or-map (λ (x : BoxEntry). x.code % count) entries k e 0 l ∙ ap (λ (n : ℕ). n % count) ((are k e l).code ∙ code_same q (box_of plan (get_or entries k e)) b h)))
 
   pub looked_none : (code i : ℕ) → code ≡ code_of q b → IsLast (buckets_of count entries) (code % count) (length entries) i → AreLooked q plan entries count b i
   looked_none code i is h =
@@ -73,7 +73,7 @@ module _ (q : QueryValue) (plan : List PartPlan) (entries : List Entry) (are : A
         none = λ k e low high. apart k e high (λ g. h.passed k low high (g ∙ sym same));
       }
 
-  pub looked_one : (i j : ℕ) (e : Entry) → 0 < i → AreLooked q plan entries count b i → same_box q (box_of plan (get_or entries (i - 1) e)) b ≡ false
+  pub looked_one : (i j : ℕ) (e : BoxEntry) → 0 < i → AreLooked q plan entries count b i → same_box q (box_of plan (get_or entries (i - 1) e)) b ≡ false
       → IsLast (buckets_of count entries) (get_or (buckets_of count entries) (i - 1) 0) (i - 1) j → AreLooked q plan entries count b j
   looked_one i j e some h other next =
       let w = h.within in
@@ -85,7 +85,7 @@ module _ (q : QueryValue) (plan : List PartPlan) (entries : List Entry) (are : A
           | inl before ↦ apart k d high (λ g. next.passed k low before (g ∙ sym (h.there some)))
           | inr r ↦ elim r [
             | inl here ↦ subst (λ (m : ℕ). same_box q (box_of plan (get_or entries m d)) b ≡ false) (sym here)
-                (ap (λ (x : Entry). same_box q (box_of plan x) b) (get_or_default entries (i - 1) d e (omega (arith, some, w))) ∙ other)
+                (ap (λ (x : BoxEntry). same_box q (box_of plan x) b) (get_or_default entries (i - 1) d e (omega (arith, some, w))) ∙ other)
             | inr behind ↦ h.none k d (omega (arith, behind, some)) high
           ]
         ];
@@ -105,25 +105,25 @@ last_at q plan boxes h code count bucket number e is l f =
     (is ∙ ap (λ (n : ℕ). code % n) e) (h.chained.last bucket m))
 
 -- an entry that is looked at and is not of the same box
-pub looked_at : (q : QueryValue) (plan : List PartPlan) (boxes : Boxes) → AreListed q plan boxes → (b : Box) (i : ℕ) (e : Entry) → 0 < i → e ≡ get_or boxes.entries.items (i - 1) e
+pub looked_at : (q : QueryValue) (plan : List PartPlan) (boxes : Boxes) → AreListed q plan boxes → (b : Box) (i : ℕ) (e : BoxEntry) → 0 < i → e ≡ get_or boxes.entries.items (i - 1) e
     → same_box q (box_of plan e) b ≡ false → AreLooked q plan boxes.entries.items (length boxes.lasts.items) b i → AreLooked q plan boxes.entries.items (length boxes.lasts.items) b e.before
 looked_at q plan boxes h b i e some is other k =
     let w = k.within in
     looked_one q plan boxes.entries.items h.entries (length boxes.lasts.items) b i e.before e some k
-    (subst (λ (x : Entry). same_box q (box_of plan x) b ≡ false) is other)
-    (subst (λ (x : Entry). IsLast (buckets_of (length boxes.lasts.items) boxes.entries.items) (get_or (buckets_of (length boxes.lasts.items) boxes.entries.items) (i - 1) 0) (i - 1) x.before) (sym is)
+    (subst (λ (x : BoxEntry). same_box q (box_of plan x) b ≡ false) is other)
+    (subst (λ (x : BoxEntry). IsLast (buckets_of (length boxes.lasts.items) boxes.entries.items) (get_or (buckets_of (length boxes.lasts.items) boxes.entries.items) (i - 1) 0) (i - 1) x.before) (sym is)
     (h.chained.before (i - 1) e (omega (arith, some, w))))
 
-none_any : (f : Entry → Bool) (entries : List Entry) → ((k : ℕ) (e : Entry) → k < length entries → f (get_or entries k e) ≡ false) → list_any f entries ≡ false
+none_any : (f : BoxEntry → Bool) (entries : List BoxEntry) → ((k : ℕ) (e : BoxEntry) → k < length entries → f (get_or entries k e) ≡ false) → list_any f entries ≡ false
 none_any f [] h = refl
 none_any f (x ∷ xs) h = ap₂ (λ s t. s || t) (h 0 x (omega arith)) (none_any f xs (λ k e l. h (suc k) e (omega (arith, l))))
 
-any-map : (f : Box → Bool) (g : Entry → Box) (xs : List Entry) → list_any f (map g xs) ≡ list_any (λ e. f (g e)) xs
+any-map : (f : Box → Bool) (g : BoxEntry → Box) (xs : List BoxEntry) → list_any f (map g xs) ≡ list_any (λ e. f (g e)) xs
 any-map f g [] = refl
 any-map f g (x ∷ xs) = ap (λ t. f (g x) || t) (any-map f g xs)
 
 -- after the last of its bucket the box is not listed
-pub looked_all : (q : QueryValue) (plan : List PartPlan) (entries : List Entry) (count : ℕ) (b : Box) (i : ℕ) → i ≤ 0 → AreLooked q plan entries count b i
+pub looked_all : (q : QueryValue) (plan : List PartPlan) (entries : List BoxEntry) (count : ℕ) (b : Box) (i : ℕ) → i ≤ 0 → AreLooked q plan entries count b i
     → list_any (λ c. same_box q c b) (map (box_of plan) entries) ≡ false
 looked_all q plan entries count b i l h =
     any-map (λ c. same_box q c b) (box_of plan) entries ∙ none_any (λ e. same_box q (box_of plan e) b) entries (λ k e m. h.none k e (omega (arith, l)) m)
@@ -160,15 +160,15 @@ last_behind buckets x b n i e other h =
     before_or : (k n : ℕ) → k < n + 1 → (k < n) ⊎ (k ≡ n)
     before_or k n l = grind arith
 
-module _ (count : ℕ) (entries : List Entry) (lasts : List ℕ) (e : Entry) (bucket : ℕ) where
+module _ (count : ℕ) (entries : List BoxEntry) (lasts : List ℕ) (e : BoxEntry) (bucket : ℕ) where
   B : List ℕ
   B = buckets_of count entries
 
   more : buckets_of count (entries ++ e ∷ []) ≡ buckets_of count entries ++ (e.code % count) ∷ []
-  more = map-append (λ (x : Entry). x.code % count) entries (e ∷ [])
+  more = map-append (λ (x : BoxEntry). x.code % count) entries (e ∷ [])
 
   long : length entries ≡ length (buckets_of count entries)
-  long = sym (length-map entries (λ (x : Entry). x.code % count))
+  long = sym (length-map entries (λ (x : BoxEntry). x.code % count))
 
   pub chained_more : AreChained count entries lasts → length lasts ≡ count → bucket ≡ e.code % count → bucket < count → e.before ≡ get_or lasts bucket 0
       → AreChained count (entries ++ e ∷ []) (set lasts bucket (length entries + 1))
@@ -196,16 +196,16 @@ module _ (count : ℕ) (entries : List Entry) (lasts : List ℕ) (e : Entry) (bu
           subst (λ (i : ℕ). IsLast (buckets_of count entries ++ (e.code % count) ∷ []) b (length entries + 1) i) (sym (get_or-set_other lasts bucket b (length entries + 1) 0 other))
           (last_behind (buckets_of count entries) (e.code % count) b (length entries) (get_or lasts b 0) long (λ g. other (sym g ∙ sym is)) (h.last b l))
 
-      before_of : (k : ℕ) (d : Entry) → (k < length entries) ⊎ (k ≡ length entries)
+      before_of : (k : ℕ) (d : BoxEntry) → (k < length entries) ⊎ (k ≡ length entries)
           → IsLast (buckets_of count entries ++ (e.code % count) ∷ []) (get_or (buckets_of count entries ++ (e.code % count) ∷ []) k 0) k (get_or (entries ++ e ∷ []) k d).before
       before_of k d (inl early) =
-          subst (λ (x : Entry). IsLast (buckets_of count entries ++ (e.code % count) ∷ []) (get_or (buckets_of count entries ++ (e.code % count) ∷ []) k 0) k x.before) (sym (get_or-append entries (e ∷ []) d k early))
+          subst (λ (x : BoxEntry). IsLast (buckets_of count entries ++ (e.code % count) ∷ []) (get_or (buckets_of count entries ++ (e.code % count) ∷ []) k 0) k x.before) (sym (get_or-append entries (e ∷ []) d k early))
           (subst (λ (b : ℕ). IsLast (buckets_of count entries ++ (e.code % count) ∷ []) b k (get_or entries k d).before)
           (sym (get_or-append (buckets_of count entries) ((e.code % count) ∷ []) 0 k (omega (arith, early, long))))
           (last_kept (buckets_of count entries) (e.code % count) (get_or (buckets_of count entries) k 0) k (get_or entries k d).before (omega (arith, early, long)) (h.before k d early)))
       before_of k d (inr here) =
           subst (λ (m : ℕ). IsLast (buckets_of count entries ++ (e.code % count) ∷ []) (get_or (buckets_of count entries ++ (e.code % count) ∷ []) m 0) m (get_or (entries ++ e ∷ []) m d).before) (sym here)
-          (subst (λ (x : Entry). IsLast (buckets_of count entries ++ (e.code % count) ∷ []) (get_or (buckets_of count entries ++ (e.code % count) ∷ []) (length entries) 0) (length entries) x.before)
+          (subst (λ (x : BoxEntry). IsLast (buckets_of count entries ++ (e.code % count) ∷ []) (get_or (buckets_of count entries ++ (e.code % count) ∷ []) (length entries) 0) (length entries) x.before)
           (sym (get_or-append_seam entries e [] d))
           (subst (λ (b : ℕ). IsLast (buckets_of count entries ++ (e.code % count) ∷ []) b (length entries) e.before)
           (sym (ap (λ m. get_or (buckets_of count entries ++ (e.code % count) ∷ []) m 0) long ∙ get_or-append_seam (buckets_of count entries) (e.code % count) [] 0))
@@ -222,11 +222,11 @@ start-same q (x ∷ xs) b c h = λ i. cond (tests i) 0 (size_in x + start-same q
     tests = same_bool (same_box q x b) (same_box q x c) (λ k. same-then q x b c k h) (λ k. same-then q x c b k (same-turned q b c h))
 
 -- an entry that is listed has its box among those that are listed
-pub is_listed : (q : QueryValue) (plan : List PartPlan) (entries : List Entry) (e : Entry) (b : Box) → Contains entries e → same_box q (box_of plan e) b ≡ true
+pub is_listed : (q : QueryValue) (plan : List PartPlan) (entries : List BoxEntry) (e : BoxEntry) (b : Box) → Contains entries e → same_box q (box_of plan e) b ≡ true
     → list_any (λ c. same_box q c b) (map (box_of plan) entries) ≡ true
 is_listed q plan entries e b k h = any_if (λ c. same_box q c b) (map (box_of plan) entries) (box_of plan e) (Has-map (box_of plan) (Has-from_contains entries e k)) h
 
-module _ (q : QueryValue) (plan : List PartPlan) (old new : Boxes) (e : Entry) (bucket size : ℕ) (h : AreListed q plan old) (good : IsEntry q plan e)
+module _ (q : QueryValue) (plan : List PartPlan) (old new : Boxes) (e : BoxEntry) (bucket size : ℕ) (h : AreListed q plan old) (good : IsEntry q plan e)
     (fresh : list_any (λ c. same_box q c (box_of plan e)) (listed plan old) ≡ false) (pushed : new.entries.items ≡ old.entries.items ++ e ∷ [])
     (sized : size ≡ capped (size_in (box_of plan e))) (summed : new.cells ≡ min (old.cells + size) (2 ^ 64 - 1))
     (based : old.cells < 2 ^ 32 → e.slot.base ≡ old.cells) (fits : size < 2 ^ 32 → e.slot.size ≡ size) where
@@ -248,7 +248,7 @@ module _ (q : QueryValue) (plan : List PartPlan) (old new : Boxes) (e : Entry) (
         size = fits m.1 ∙ whole size (size_in (box_of plan e)) sized m.1;
       }
 
-  slot_old : new.cells < 2 ^ 32 → (o : Entry) → Contains old.entries.items o → IsSlot q (listed plan old) (box_of plan o) o.slot → IsSlot q (listed plan new) (box_of plan o) o.slot
+  slot_old : new.cells < 2 ^ 32 → (o : BoxEntry) → Contains old.entries.items o → IsSlot q (listed plan old) (box_of plan o) o.slot → IsSlot q (listed plan new) (box_of plan o) o.slot
   slot_old l o k s = record {
     base =
         s.base
@@ -260,8 +260,8 @@ module _ (q : QueryValue) (plan : List PartPlan) (old new : Boxes) (e : Entry) (
   slots_more : new.cells < 2 ^ 32 → All (λ o. IsSlot q (listed plan new) (box_of plan o) o.slot) new.entries.items
   slots_more l =
       let m = small_left new.cells old.cells size summed l in
-      subst (All (λ (o : Entry). IsSlot q (listed plan new) (box_of plan o) o.slot)) (sym pushed)
-      (All-push (λ (o : Entry). IsSlot q (listed plan new) (box_of plan o) o.slot) old.entries.items e
+      subst (All (λ (o : BoxEntry). IsSlot q (listed plan new) (box_of plan o) o.slot)) (sym pushed)
+      (All-push (λ (o : BoxEntry). IsSlot q (listed plan new) (box_of plan o) o.slot) old.entries.items e
       (λ k d i. slot_old l (get_or old.entries.items k d) (Contains-get_or old.entries.items k d i) (h.slots m.0 k d i)) (slot_new l))
 
   pub box_added : new.lasts.items ≡ set old.lasts.items bucket (length new.entries.items) → bucket ≡ e.code % length old.lasts.items → bucket < length old.lasts.items
@@ -273,7 +273,7 @@ module _ (q : QueryValue) (plan : List PartPlan) (old new : Boxes) (e : Entry) (
         let k : new.lasts.items ≡ set old.lasts.items bucket (length old.entries.items + 1) = lasts ∙ ap (set old.lasts.items bucket) f in
         let n : length new.lasts.items ≡ length old.lasts.items = ap length lasts ∙ length-set old.lasts.items bucket (length new.entries.items) in
         subst (λ (count : ℕ). AreChained count new.entries.items new.lasts.items) (sym n)
-        (subst (λ (xs : List Entry). AreChained (length old.lasts.items) xs new.lasts.items) (sym pushed)
+        (subst (λ (xs : List BoxEntry). AreChained (length old.lasts.items) xs new.lasts.items) (sym pushed)
         (subst (AreChained (length old.lasts.items) (old.entries.items ++ e ∷ [])) (sym k)
         (chained_more (length old.lasts.items) old.entries.items old.lasts.items e bucket h.chained refl is low begin)));
     cells = cells_more;
@@ -281,7 +281,7 @@ module _ (q : QueryValue) (plan : List PartPlan) (old new : Boxes) (e : Entry) (
   }
 
 -- the box of a part, as an entry
-pub is_entry_of : (q : QueryValue) (parts : List PartPlan) (e : Entry) → e.part < length parts → e.place < length (slice_index_or parts e.part no_part).streams.items
+pub is_entry_of : (q : QueryValue) (parts : List PartPlan) (e : BoxEntry) → e.part < length parts → e.place < length (slice_index_or parts e.part no_part).streams.items
     → e.code ≡ code_of q (box_in (boxed q 0 parts) e.part e.place) → IsEntry q (boxed q 0 parts) e
 is_entry_of q parts e l m h = record { known = omega (arith, l, as_many q 0 parts); here = omega (arith, m, streams_in q parts e.part l e.place); code = h }
 
@@ -296,10 +296,10 @@ module _ (q : QueryValue) (parts : List PartPlan) (boxes : Boxes) (b : Box) (slo
   pub found_slot : (i place : ℕ) → b ≡ box_in (boxed q 0 parts) i place → i < length parts → place < length (slice_index_or parts i no_part).streams.items → AreListed q (boxed q 0 parts) boxes
       → boxes.cells < 2 ^ 32 → IsSlot q (listed (boxed q 0 parts) boxes) b slot
   found_slot i place is l m h small =
-      let e : Entry = found.0 in
+      let e : BoxEntry = found.0 in
       let good : IsEntry q (boxed q 0 parts) e = All-contains (IsEntry q (boxed q 0 parts)) boxes.entries.items e h.entries found.1 in
       let s : IsSlot q (listed (boxed q 0 parts) boxes) (box_of (boxed q 0 parts) e) e.slot
-      = All-contains (λ (o : Entry). IsSlot q (listed (boxed q 0 parts) boxes) (box_of (boxed q 0 parts) o) o.slot) boxes.entries.items e (h.slots small) found.1 in
+      = All-contains (λ (o : BoxEntry). IsSlot q (listed (boxed q 0 parts) boxes) (box_of (boxed q 0 parts) o) o.slot) boxes.entries.items e (h.slots small) found.1 in
       let same = are-same q (box_of (boxed q 0 parts) e) b found.2 in
       let k : e.part < length parts = (let g = good.known in omega (arith, g, as_many q 0 parts)) in
       record {

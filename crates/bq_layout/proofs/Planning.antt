@@ -12,15 +12,14 @@ use Rattle.bq_model.specs.declared.plan.PartPlan.{PartPlan}
 use Rattle.bq_model.specs.declared.plan.Plan.{Plan}
 use Rattle.bq_model.specs.declared.plan.Plan.TheVariants as plan
 use Rattle.bq_model.specs.Query.{QueryValue, is_filter}
-use Rattle.bq_model.specs.Parts.{IsPart, AreParts}
+use Rattle.bq_model.specs.Parts.{IsPart, AreParts, sign_lists}
 use Rattle.bq_model.specs.Plan.{IsPartPlan, IsPlan}
 use Rattle.bq_model.specs.Violation.{IsViolation}
 use Rattle.bq_model.specs.Sharing.{boxes, IsPlanFor, numbers_for}
 use Rattle.bq_model.specs.Verdict.{number_of, is_above, first_above}
-use Rattle.bq_lto_split.specs.Split.{sign_lists}
 use Rattle.bq_layout.specs.declared.error.LayoutError.{LayoutError}
 use Rattle.bq_layout.specs.declared.error.LayoutError.TheVariants as why
-use Rattle.bq_layout.specs.declared.draft.Draft.{Draft}
+use Rattle.bq_layout.specs.declared.draft.PlanDraft.{PlanDraft}
 use Rattle.bq_layout.specs.Capped.{capped}
 use Rattle.bq_layout.specs.Boxed.{cells_for, boxed}
 use Rattle.bq_layout.specs.Drafts.{IsDraft, signs_of}
@@ -89,12 +88,12 @@ kept_few n f = λ i. record { parts = n.parts; cells = by (2 ^ 64 - 1) n.cells (
 -- ---- the plan
 
 -- the plan of the query, without shared cells or with them, with these numbers as 64 bits keep them; where the cells are few, it is that of the drafts
-pub record IsWhole (shares : Bool) (q : QueryValue) (draft : Draft) (whole : List PartPlan) : Type 0 where
+pub record IsWhole (shares : Bool) (q : QueryValue) (draft : PlanDraft) (whole : List PartPlan) : Type 0 where
   pub plan : IsPlanFor shares q whole
   pub numbers : numbers_in draft ≡ kept (numbers_for shares q whole)
   pub same : draft.cells < 2 ^ 32 → whole ≡ draft.parts.items
 
-module _ (q : QueryValue) (draft : Draft) (d : AreDrafted q draft) (parts : AreParts q (signs_of draft.parts.items)) where
+module _ (q : QueryValue) (draft : PlanDraft) (d : AreDrafted q draft) (parts : AreParts q (signs_of draft.parts.items)) where
   plans_are : (next : ℕ) (ps : List PartPlan) → All (IsDraft q) ps → All (IsPartPlan q) (boxed q next ps)
   plans_are next [] h k o l = absurd (omega (arith, l))
   plans_are next (p ∷ ps) h zero o l = (h 0 p (omega arith)).plan next
@@ -121,7 +120,7 @@ module _ (q : QueryValue) (draft : Draft) (d : AreDrafted q draft) (parts : AreP
     same = d.boxes;
   }
 
-  pub shared_whole : (new : Draft) → IsSharedDraft q draft new → IsWhole true q new (shared q (boxed q 0 draft.parts.items))
+  pub shared_whole : (new : PlanDraft) → IsSharedDraft q draft new → IsWhole true q new (shared q (boxed q 0 draft.parts.items))
   unfolding kept
   shared_whole new h =
       let plan : List PartPlan = boxed q 0 draft.parts.items in
@@ -136,7 +135,7 @@ module _ (q : QueryValue) (draft : Draft) (d : AreDrafted q draft) (parts : AreP
         same = h.parts.boxes;
       }
 
-module _ (shares : Bool) (q : QueryValue) (draft : Draft) (whole : List PartPlan) (w : IsWhole shares q draft whole) (plain : IsFalse (is_filter q)) (fine : IsViolation q None) where
+module _ (shares : Bool) (q : QueryValue) (draft : PlanDraft) (whole : List PartPlan) (w : IsWhole shares q draft whole) (plain : IsFalse (is_filter q)) (fine : IsViolation q None) where
   first_same : first_above (numbers_in draft) ≡ first_above (numbers_for shares q whole)
   first_same = ap first_above w.numbers ∙ above_kept (numbers_for shares q whole)
 

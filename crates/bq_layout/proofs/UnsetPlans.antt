@@ -4,15 +4,14 @@ use Rattle.bq_model.specs.declared.part.Part.{Part}
 use Rattle.bq_model.specs.declared.part.Sign.{Sign}
 use Rattle.bq_model.specs.declared.plan.PartPlan.{PartPlan}
 use Rattle.bq_model.specs.Query.{QueryValue}
-use Rattle.bq_model.specs.Parts.{AreParts}
-use Rattle.bq_lto_split.specs.Split.{sign_lists}
-use Rattle.bq_layout.specs.declared.draft.Draft.{Draft}
+use Rattle.bq_model.specs.Parts.{AreParts, sign_lists}
+use Rattle.bq_layout.specs.declared.draft.PlanDraft.{PlanDraft}
 use Rattle.bq_layout.specs.declared.error.LayoutError.{LayoutError}
 use Rattle.bq_layout.specs.declared.error.LayoutError.TheVariants as why
 use Rattle.bq_layout.specs.Sums.{IsDrafted}
 use Rattle.bq_layout.specs.Unset.{AreUnset, IsPartFault}
 
-pub unset_plans : (q : QueryValue) (ps : List Part) (draft : Draft) (plans : List PartPlan) → AreParts q (sign_lists ps) → IsDrafted q (sign_lists ps) (Ok draft) → plans ≡ draft.parts.items → AreUnset q plans
+pub unset_plans : (q : QueryValue) (ps : List Part) (draft : PlanDraft) (plans : List PartPlan) → AreParts q (sign_lists ps) → IsDrafted q (sign_lists ps) (Ok draft) → plans ≡ draft.parts.items → AreUnset q plans
 unset_plans q ps draft plans are h e = subst (AreUnset q) (sym e) record { parts = subst (λ (z : List (List Sign)). AreParts q z) (sym h.1) are; drafts = h.0.drafts }
 
 pub part_fault : (q : QueryValue) (parts : List (List Sign)) (e : LayoutError) → IsDrafted q parts (Err e) → IsPartFault q e

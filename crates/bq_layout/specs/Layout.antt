@@ -12,7 +12,7 @@ use Rattle.bq_model.specs.Sharing.{IsPlanFor, IsPlanOf, numbers_for}
 use Rattle.bq_model.specs.Verdict.{number_of, first_above}
 use Rattle.bq_layout.specs.declared.error.LayoutError.{LayoutError}
 use Rattle.bq_layout.specs.declared.error.LayoutError.TheVariants as why
-use Rattle.bq_layout.specs.declared.draft.Draft.{Draft}
+use Rattle.bq_layout.specs.declared.draft.PlanDraft.{PlanDraft}
 use Rattle.bq_layout.specs.Capped.{capped}
 
 -- no number of the plan is above its limit
@@ -45,11 +45,11 @@ IsLimited all (Err (why.Violation part condition attr)) = ⊥
 IsLimited all (Err why.Memory) = ⊥
 
 -- the numbers that drafts come to
-abbrev pub numbers_in : Draft → Numbers
+abbrev pub numbers_in : PlanDraft → Numbers
 numbers_in draft = record { parts = length draft.parts.items; cells = draft.cells; answers = draft.answers; work = draft.work }
 
 -- the plan of the drafts with their numbers, where none is above its limit, or the first that is
-abbrev pub IsNumbered : Draft → Result Plan LayoutError → Type 0
+abbrev pub IsNumbered : PlanDraft → Result Plan LayoutError → Type 0
 IsNumbered draft (Ok plan.Filter) = ⊥
 IsNumbered draft (Ok (plan.Parts parts numbers)) = (parts ≡ draft.parts.items) × IsLimited (numbers_in draft) (Ok numbers)
 IsNumbered draft (Err why) = IsLimited (numbers_in draft) (Err why)

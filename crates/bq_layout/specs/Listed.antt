@@ -5,7 +5,7 @@ use Rattle.bq_model.specs.declared.plan.PartPlan.{PartPlan}
 use Rattle.bq_model.specs.Query.{QueryValue}
 use Rattle.bq_model.specs.Sharing.{Box, box_at, size_in, same_box, sizes_in, start_in}
 use Rattle.bq_layout.specs.declared.boxes.Slot.{Slot}
-use Rattle.bq_layout.specs.declared.boxes.Entry.{Entry}
+use Rattle.bq_layout.specs.declared.boxes.BoxEntry.{BoxEntry}
 use Rattle.bq_layout.specs.declared.boxes.Boxes.{Boxes}
 use Rattle.bq_layout.specs.Capped.{capped}
 use Rattle.bq_layout.specs.Codes.{code_of}
@@ -19,7 +19,7 @@ abbrev pub box_in : List PartPlan → ℕ → ℕ → Box
 box_in plan i place = box_at (slice_index_or plan i no_part) place
 
 -- the box that an entry stands for
-abbrev pub box_of : List PartPlan → Entry → Box
+abbrev pub box_of : List PartPlan → BoxEntry → Box
 box_of plan e = box_in plan e.part e.place
 
 -- the boxes that are listed
@@ -31,7 +31,7 @@ abbrev pub with_box : QueryValue → List Box → Box → List Box
 with_box q list b = if list_any (λ c. same_box q c b) list then list else list ++ b ∷ []
 
 -- the buckets of entries, of so many buckets
-abbrev pub buckets_of : ℕ → List Entry → List ℕ
+abbrev pub buckets_of : ℕ → List BoxEntry → List ℕ
 buckets_of count entries = map (λ e. e.code % count) entries
 
 -- the last of the first n numbers that is of the bucket, by its number from 1, or 0 where none is
@@ -41,10 +41,10 @@ pub record IsLast (buckets : List ℕ) (bucket n i : ℕ) : Type 0 where
   pub there : 0 < i → slice_index_or buckets (i - 1) 0 ≡ bucket
 
 -- of so many buckets each has its last entry, and each entry has the last one of its bucket before it, each by its number from 1
-pub record AreChained (count : ℕ) (entries : List Entry) (lasts : List ℕ) : Type 0 where
+pub record AreChained (count : ℕ) (entries : List BoxEntry) (lasts : List ℕ) : Type 0 where
   pub some : 0 < count
   pub last : (b : ℕ) → b < count → IsLast (buckets_of count entries) b (length entries) (slice_index_or lasts b 0)
-  pub before : (k : ℕ) (e : Entry) → k < length entries → IsLast (buckets_of count entries) (slice_index_or (buckets_of count entries) k 0) k (slice_index_or entries k e).before
+  pub before : (k : ℕ) (e : BoxEntry) → k < length entries → IsLast (buckets_of count entries) (slice_index_or (buckets_of count entries) k 0) k (slice_index_or entries k e).before
 
 -- the box stands here in a list of boxes
 pub record IsSlot (q : QueryValue) (list : List Box) (b : Box) (slot : Slot) : Type 0 where
@@ -52,7 +52,7 @@ pub record IsSlot (q : QueryValue) (list : List Box) (b : Box) (slot : Slot) : T
   pub size : slot.size ≡ size_in b
 
 -- an entry is of a stream of a part of the plan, and has the code of its box
-pub record IsEntry (q : QueryValue) (plan : List PartPlan) (e : Entry) : Type 0 where
+pub record IsEntry (q : QueryValue) (plan : List PartPlan) (e : BoxEntry) : Type 0 where
   pub known : e.part < length plan
   pub here : e.place < length (slice_index_or plan e.part no_part).streams.items
   pub code : e.code ≡ code_of q (box_of plan e)
@@ -67,7 +67,7 @@ pub record AreListed (q : QueryValue) (plan : List PartPlan) (boxes : Boxes) : T
 -- where the same box stands that is listed, or none where it is not listed
 abbrev pub IsFound : QueryValue → List PartPlan → Boxes → Box → Option Slot → Type 0
 IsFound q plan boxes b None = list_any (λ c. same_box q c b) (listed plan boxes) ≡ false
-IsFound q plan boxes b (Some slot) = (e : Entry) × Contains boxes.entries.items e × (same_box q (box_of plan e) b ≡ true) × (slot ≡ e.slot)
+IsFound q plan boxes b (Some slot) = (e : BoxEntry) × Contains boxes.entries.items e × (same_box q (box_of plan e) b ≡ true) × (slot ≡ e.slot)
 
 -- no boxes, and some buckets
 pub record IsEmpty (boxes : Boxes) : Type 0 where

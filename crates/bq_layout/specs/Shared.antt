@@ -6,7 +6,7 @@ use Rattle.bq_model.specs.declared.plan.PartPlan.{PartPlan}
 use Rattle.bq_model.specs.Query.{QueryValue}
 use Rattle.bq_model.specs.Plan.{stream_at}
 use Rattle.bq_model.specs.Sharing.{Box, box_at, boxes_in, same_box, different_boxes, boxes, start_in, shared_cells}
-use Rattle.bq_layout.specs.declared.draft.Draft.{Draft}
+use Rattle.bq_layout.specs.declared.draft.PlanDraft.{PlanDraft}
 use Rattle.bq_layout.specs.declared.boxes.Slot.{Slot}
 use Rattle.bq_layout.specs.declared.boxes.Boxes.{Boxes}
 use Rattle.bq_layout.specs.Capped.{capped}
@@ -34,7 +34,7 @@ pub record AreShared (q : QueryValue) (old new : List PartPlan) (count : ℕ) : 
   pub boxes : count < 2 ^ 32 → shared q (boxed q 0 old) ≡ new
 
 -- the drafts, which had boxes that follow each other, with shared cells
-pub record IsSharedDraft (q : QueryValue) (old new : Draft) : Type 0 where
+pub record IsSharedDraft (q : QueryValue) (old new : PlanDraft) : Type 0 where
   pub parts : AreShared q old.parts.items new.parts.items new.cells
   pub answers : new.answers ≡ old.answers
   pub work : new.work ≡ old.work

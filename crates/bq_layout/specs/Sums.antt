@@ -12,7 +12,7 @@ use Rattle.bq_model.specs.Violation.{IsViolation}
 use Rattle.bq_model.specs.declared.first_break.Break.{Break}
 use Rattle.bq_layout.specs.declared.error.LayoutError.{LayoutError}
 use Rattle.bq_layout.specs.declared.error.LayoutError.TheVariants as why
-use Rattle.bq_layout.specs.declared.draft.Draft.{Draft}
+use Rattle.bq_layout.specs.declared.draft.PlanDraft.{PlanDraft}
 use Rattle.bq_layout.specs.Capped.{capped}
 use Rattle.bq_layout.specs.Boxed.{cells_for, boxed}
 use Rattle.bq_layout.specs.Drafts.{IsDraft, signs_of}
@@ -30,7 +30,7 @@ pub record AreSizesOf (q : QueryValue) (s : List Sign) (columns : List Attr) (si
   pub of : (range : Attr → Dim) → All (IsRangeOf q s range) columns → size ≡ capped (box_size (map range columns))
 
 -- drafts of plans, with the numbers that they come to; where the cells are few enough, the boxes are set from number 0 on
-pub record AreDrafted (q : QueryValue) (draft : Draft) : Type 0 where
+pub record AreDrafted (q : QueryValue) (draft : PlanDraft) : Type 0 where
   pub drafts : All (IsDraft q) draft.parts.items
   pub cells : draft.cells ≡ capped (sum_by (cells_for q) draft.parts.items)
   pub boxes : draft.cells < 2 ^ 32 → boxed q 0 draft.parts.items ≡ draft.parts.items
@@ -42,7 +42,7 @@ abbrev pub violation_at : ℕ → Break → LayoutError
 violation_at i found = why.Violation (i + 1) found.condition found.attr
 
 -- drafts of plans of all parts, of which none breaks a condition; or the first that does
-abbrev pub IsDrafted : QueryValue → List (List Sign) → Result Draft LayoutError → Type 0
+abbrev pub IsDrafted : QueryValue → List (List Sign) → Result PlanDraft LayoutError → Type 0
 IsDrafted q parts (Ok draft) = AreDrafted q draft × (signs_of draft.parts.items ≡ parts) × IsViolation q None
 IsDrafted q parts (Err (why.Violation part condition attr)) = IsViolation q (Some record { part = part; condition = condition; attr = attr })
 IsDrafted q parts (Err (why.Limit which value)) = ⊥

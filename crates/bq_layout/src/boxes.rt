@@ -22,7 +22,7 @@ pub struct Slot {
 // A box that is listed: its part, its place of FROM and where it stands; its code; and the last box before it of its bucket, by its
 // number from 1, or 0 where there is none.
 #[derive(Clone, Copy)]
-struct Entry {
+struct BoxEntry {
     part: usize,
     place: usize,
     slot: Slot,
@@ -33,7 +33,7 @@ struct Entry {
 /// The different boxes so far, the last one of each bucket of codes, by its number from 1, and how many cells they have.
 #[derive(Drop)]
 pub struct Boxes {
-    entries: Vec<Entry>,
+    entries: Vec<BoxEntry>,
     lasts: Vec<usize>,
     pub cells: u64,
 }
@@ -49,7 +49,7 @@ fn bucket_of(code: u64, count: usize) -> usize
 
 // Whether an entry is of the same box. The code is that of the box.
 fn is_entry(
-    entry: Entry,
+    entry: BoxEntry,
     q: &Query,
     parts: &[PartPlan],
     part: usize,
@@ -126,7 +126,7 @@ impl Boxes {
             size: narrowed(size),
         };
         let bucket = bucket_of(code, self.lasts.len());
-        self.entries.push(Entry {
+        self.entries.push(BoxEntry {
             part,
             place,
             slot,

@@ -1,15 +1,14 @@
 //! The plan of a query.
 ghost use Rattle.std.specs.Prelude.{◌≡◌, ◌≤◌, ◌<◌, length, true, false, IsFalse, IfOk, IfErr, None};
 ghost use Rattle.bq_model.specs.Query.{is_filter};
-ghost use Rattle.bq_model.specs.Parts.{AreParts};
+ghost use Rattle.bq_model.specs.Parts.{AreParts, sign_lists};
 ghost use Rattle.bq_model.specs.Violation.{IsViolation};
-ghost use Rattle.bq_lto_split.specs.Split.{sign_lists};
 ghost use Rattle.bq_layout.specs.Unset.{AreUnset, IsPartFault};
 ghost use Rattle.bq_layout.specs.Sums.{IsDrafted, violation_at};
 ghost use Rattle.bq_layout.specs.Shared.{IsSharedDraft};
 ghost use Rattle.bq_layout.specs.Layout.{IsLayout, IsNumbered};
 
-use crate::draft::{Draft, add_part};
+use crate::draft::{PlanDraft, add_part};
 use crate::error::LayoutError;
 use crate::limits::limited;
 use crate::placing::share;
@@ -32,7 +31,7 @@ fn violation_at(i: usize, found: Break) -> LayoutError
 }
 
 // The plans of the parts, with what they come to, or the first part that breaks a condition.
-fn drafted(alloc: Global, q: &Query, parts: &[Part]) -> Result<Draft, LayoutError>
+fn drafted(alloc: Global, q: &Query, parts: &[Part]) -> Result<PlanDraft, LayoutError>
     requires parts { AreParts q.now (sign_lists parts.now) }
     requires few { length parts.now ≤ 4096 }
     requires plain { IsFalse (is_filter q.now) }
@@ -42,7 +41,7 @@ fn drafted(alloc: Global, q: &Query, parts: &[Part]) -> Result<Draft, LayoutErro
     let Ok(plans) = Vec::with_capacity(alloc, parts.len()) else {
         return Err(LayoutError::Memory);
     };
-    let mut draft = Draft {
+    let mut draft = PlanDraft {
         parts: plans,
         cells: 0,
         answers: 0,
@@ -64,10 +63,10 @@ fn drafted(alloc: Global, q: &Query, parts: &[Part]) -> Result<Draft, LayoutErro
 }
 
 // The plans of the parts.
-fn parts_of(draft: Draft) -> Vec<PartPlan>
+fn parts_of(draft: PlanDraft) -> Vec<PartPlan>
     ensures { result.items ≡ draft.parts.items }
 {
-    let Draft {
+    let PlanDraft {
         parts,
         cells: _cells,
         answers: _answers,
@@ -77,7 +76,7 @@ fn parts_of(draft: Draft) -> Vec<PartPlan>
 }
 
 // The drafts with shared cells.
-fn with_shared(alloc: Global, q: &Query, draft: Draft) -> Result<Draft, AllocError>
+fn with_shared(alloc: Global, q: &Query, draft: PlanDraft) -> Result<PlanDraft, AllocError>
     requires few { length draft.parts.items ≤ 4096 }
     ensures { IfOk result (IsSharedDraft q.now draft) }
 {
@@ -87,11 +86,11 @@ fn with_shared(alloc: Global, q: &Query, draft: Draft) -> Result<Draft, AllocErr
 }
 
 // The plan with its numbers, or the first number that is above its limit.
-fn planned(draft: Draft) -> Result<Plan, LayoutError>
+fn planned(draft: PlanDraft) -> Result<Plan, LayoutError>
     requires { length draft.parts.items ≤ 4096 }
     ensures { IsNumbered draft result }
 {
-    let Draft {
+    let PlanDraft {
         parts,
         cells,
         answers,

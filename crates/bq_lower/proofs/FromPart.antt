@@ -10,7 +10,7 @@ use Rattle.bq_model.specs.declared.part.Sign.{Sign}
 use Rattle.bq_model.specs.Query.{QueryValue, attrs_of, is_filter, IsWithinLimits}
 use Rattle.bq_model.specs.Order.{IsBounded}
 use Rattle.bq_model.specs.Links.{IsEquality}
-use Rattle.bq_model.specs.Parts.{IsPart, AreParts}
+use Rattle.bq_model.specs.Parts.{IsPart, AreParts, sign_lists}
 use Rattle.bq_model.specs.Violation.{Failure, Breaks, Fails, IsViolation, filter, first}
 use Rattle.bq_model.proofs.Has.{Has-from_contains, Contains-from_has}
 use Rattle.bq_model.proofs.Unique.{one_list_of_parts}
@@ -22,7 +22,6 @@ use Rattle.bq_constraints.proofs.NodeFacts.{node_has, place_below}
 use Rattle.bq_constraints.proofs.OfDomains.{node_within}
 use Rattle.bq_constraints.proofs.InPart.{least_in_part, greatest_in_part}
 use Rattle.bq_closure.specs.Answers.{IsSmall}
-use Rattle.bq_lto_split.specs.Split.{sign_lists}
 use Rattle.bq_refs.specs.Known.{IsKnown}
 use Rattle.bq_refs.proofs.InPartFacts.{satisfiable}
 use Rattle.bq_lower.specs.declared.ground.Ground.{Ground}

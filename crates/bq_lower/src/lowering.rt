@@ -2,11 +2,10 @@
 ghost use Rattle.std.specs.Prelude.{◌≡◌, ◌<◌, ◌≤◌, length};
 ghost use Rattle.bq_model.specs.declared.decision.Decision.TheVariants as decisions;
 ghost use Rattle.bq_model.specs.Order.{IsBounded};
-ghost use Rattle.bq_model.specs.Parts.{IsPart, AreParts};
+ghost use Rattle.bq_model.specs.Parts.{IsPart, AreParts, sign_lists};
 ghost use Rattle.bq_model.specs.Verdict.{IsDecision};
 ghost use Rattle.bq_constraints.specs.Solutions.{IsSatisfiable};
 ghost use Rattle.bq_closure.specs.Answers.{IsSmall};
-ghost use Rattle.bq_lto_split.specs.Split.{sign_lists};
 ghost use Rattle.bq_refs.specs.Known.{IsKnown};
 ghost use Rattle.bq_lower.specs.Laws.{AreLocalFor};
 ghost use Rattle.bq_lower.specs.Blanks.{IsRead, AreBlanks};

@@ -8,9 +8,8 @@ use Rattle.bq_model.specs.declared.decision.Decision.{Decision}
 use Rattle.bq_model.specs.declared.decision.Decision.TheVariants as decision
 use Rattle.bq_model.specs.declared.part.Part.{Part}
 use Rattle.bq_model.specs.Query.{QueryValue}
-use Rattle.bq_model.specs.Parts.{AreParts, HasMoreParts}
+use Rattle.bq_model.specs.Parts.{AreParts, HasMoreParts, sign_lists}
 use Rattle.bq_model.specs.Verdict.{IsDecision}
-use Rattle.bq_lto_split.specs.Split.{sign_lists}
 use Rattle.bq_laws.proofs.CountedParts.{parts_are_counted}
 use Rattle.bq_lower.specs.declared.error.LowerError.{LowerError}
 use Rattle.bq_lower.specs.declared.error.LowerError.TheVariants as why

@@ -1,7 +1,6 @@
 //! What is found for the query of a script.
 ghost use Rattle.std.specs.Prelude.{◌≡◌, ◌≤◌, length};
-ghost use Rattle.bq_model.specs.Parts.{AreParts};
-ghost use Rattle.bq_lto_split.specs.Split.{sign_lists};
+ghost use Rattle.bq_model.specs.Parts.{AreParts, sign_lists};
 ghost use Rattle.bq_parser.specs.Resolution.{HasNamed};
 ghost use Rattle.bq_lowering.specs.Found as found;
 ghost use Rattle.bq_lowering.specs.Found.{FindsFor};

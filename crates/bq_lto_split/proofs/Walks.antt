@@ -10,9 +10,9 @@ use Rattle.bq_closure.specs.Choices.{IsChoice}
 use Rattle.bq_closure.proofs.Zips.{zip_length}
 use Rattle.bq_model.specs.declared.part.Part.{Part}
 use Rattle.bq_model.specs.Query.{QueryValue}
-use Rattle.bq_model.specs.Parts.{pairs, signs_lt, sign_lt, AreParts, HasMoreParts}
+use Rattle.bq_model.specs.Parts.{pairs, signs_lt, sign_lt, AreParts, HasMoreParts, sign_lists}
 use Rattle.bq_closure.specs.declared.distances.Distances.{Distances}
-use Rattle.bq_lto_split.specs.Split.{sign_lists, OnTooMany}
+use Rattle.bq_lto_split.specs.Split.{OnTooMany}
 use Rattle.bq_lto_split.specs.Tree.{Before, Follows, Walked, IsOver, Walks, WalkedTwo, WalksTwo, Adds}
 use Rattle.bq_lto_split.specs.declared.error.SplitError.{SplitError}
 use Rattle.bq_lto_split.specs.declared.error.SplitError.TheVariants as why

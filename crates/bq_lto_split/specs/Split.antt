@@ -1,13 +1,7 @@
 -- What a split answers.
-use Rattle.std.specs.Prelude.{List, map, Result, Ok, Err}
-use Rattle.bq_model.specs.declared.part.Part.{Part}
-use Rattle.bq_model.specs.declared.part.Sign.{Sign}
+use Rattle.std.specs.Prelude.{Result, Ok, Err}
 use Rattle.bq_lto_split.specs.declared.error.SplitError.{SplitError}
 use Rattle.bq_lto_split.specs.declared.error.SplitError.TheVariants as why
-
--- the sign vectors of the parts
-abbrev pub sign_lists : List Part → List (List Sign)
-sign_lists ps = map (λ p. p.signs.items) ps
 
 -- P holds where the answer is that there are too many parts
 abbrev pub OnTooMany : {A : Type 0} → Result A SplitError → Type 0 → Type 0

@@ -3,7 +3,7 @@ use Rattle.std.specs.Prelude.{◌≡◌, ℕ, ◌+◌, ◌<◌, ◌≤◌, ℤ, 
 use Rattle.bq_model.specs.declared.part.Sign.{Sign}
 use Rattle.bq_model.specs.declared.part.Part.{Part}
 use Rattle.bq_model.specs.Query.{QueryValue, attrs_of, IsWithinLimits}
-use Rattle.bq_model.specs.Parts.{pairs, signs_lt, IsPart}
+use Rattle.bq_model.specs.Parts.{pairs, signs_lt, IsPart, sign_lists}
 use Rattle.bq_model.specs.Members.{Has, Ascends}
 use Rattle.bq_model.specs.Prefixes.{StartsWith, IsFeasible, ArePartsUnder}
 use Rattle.bq_constraints.specs.declared.constraint.Constraint.{Constraint}
@@ -16,7 +16,6 @@ use Rattle.bq_constraints.specs.Solutions.{Solves, Implies}
 use Rattle.bq_constraints.specs.Soft.{next_fails, SoftHold}
 use Rattle.bq_lto_split.specs.declared.error.SplitError.{SplitError}
 use Rattle.bq_lto_split.specs.declared.error.SplitError.TheVariants as why
-use Rattle.bq_lto_split.specs.Split.{sign_lists}
 
 -- the same integers meet the constraints as those of the comparisons, the domains and the signs
 pub record AreOf (q : QueryValue) (signs : List Sign) (cs : List Constraint) : Type 0 where

@@ -8,10 +8,9 @@ use Rattle.std.proofs.lemmas.Option.{slice_get-map, slice_get-get_or, slice_get_
 use Rattle.bq_model.specs.declared.part.Part.{Part}
 use Rattle.bq_model.specs.Query.{QueryValue}
 use Rattle.bq_model.specs.Assignment.{Assignment}
-use Rattle.bq_model.specs.Parts.{AreParts, InPart}
+use Rattle.bq_model.specs.Parts.{AreParts, InPart, sign_lists}
 use Rattle.bq_model.specs.Violation.{Failure, IsViolation, filter, first}
 use Rattle.bq_model.proofs.Unique.{one_list_of_parts}
-use Rattle.bq_lto_split.specs.Split.{sign_lists}
 use Rattle.bq_chains.specs.declared.chains.Chain.{Chain}
 use Rattle.bq_chains.specs.Chains.{chains_of, chains_in}
 use Rattle.bq_mend.specs.Violating.{AreChainsAt, Shows}

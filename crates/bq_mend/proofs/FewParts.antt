@@ -4,13 +4,12 @@ use Rattle.std.proofs.lemmas.List.{length-map}
 use Rattle.std.specs.declared.option.Option.TheVariants.{None, Some}
 use Rattle.bq_model.specs.declared.part.Part.{Part}
 use Rattle.bq_model.specs.Query.{QueryValue, is_filter}
-use Rattle.bq_model.specs.Parts.{AreParts, HasMoreParts}
+use Rattle.bq_model.specs.Parts.{AreParts, HasMoreParts, sign_lists}
 use Rattle.bq_model.specs.Violation.{Failure, IsViolation, filter}
 use Rattle.bq_model.specs.declared.decision.Decision.{Decision}
 use Rattle.bq_model.specs.declared.decision.Decision.TheVariants as decision
 use Rattle.bq_model.specs.Verdict.{IsDecision}
 use Rattle.bq_model.proofs.Violation.{one_violation}
-use Rattle.bq_lto_split.specs.Split.{sign_lists}
 use Rattle.bq_laws.proofs.CountedParts.{parts_are_counted}
 use Rattle.bq_mend.specs.Meeting.{Meets}
 

@@ -4,9 +4,8 @@ use Rattle.std.proofs.lemmas.Bool.Decides.{nat_tests}
 use Rattle.bq_model.specs.declared.part.Part.{Part}
 use Rattle.bq_model.specs.declared.part.Sign.{Sign}
 use Rattle.bq_model.specs.Query.{QueryValue}
-use Rattle.bq_model.specs.Parts.{AreParts, HasMoreParts, IsPart, signs_of}
+use Rattle.bq_model.specs.Parts.{AreParts, HasMoreParts, IsPart, signs_of, sign_lists}
 use Rattle.bq_model.proofs.Has.{Has, Has-from_contains}
-use Rattle.bq_lto_split.specs.Split.{sign_lists}
 use Rattle.bq_mend.specs.Meeting.{NeverMeets}
 
 -- a query with a part has an assignment that meets them

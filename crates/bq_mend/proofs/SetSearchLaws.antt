@@ -7,7 +7,7 @@ use Rattle.bq_refs.proofs.Searching.{no_more}
 use Rattle.bq_model.specs.declared.atom.Attr.{Attr}
 use Rattle.bq_model.specs.Query.{QueryValue}
 use Rattle.bq_model.proofs.Has.{Has, first, later, Has-append_left, Has-append_right, Has-append_cases, Contains-from_has}
-use Rattle.bq_mend.specs.declared.mend.Kind.{Kind}
+use Rattle.bq_mend.specs.declared.mend.ChangeKind.{ChangeKind}
 use Rattle.bq_mend.specs.Mended.{on, Mends}
 use Rattle.bq_mend.specs.Sublists.{IsSublist}
 use Rattle.bq_mend.specs.Sets.{open_columns, sets_of, IsLeastSet, HasWithin, AreLeastAmong, AreLeastSets}
@@ -41,7 +41,7 @@ none_within list i columns l a w =
 pub cut-by : (m n most size : ℕ) → m ≡ most → n ≡ size → (nat_lt m n ≡ true → most < size) × (most < size → nat_lt m n ≡ true)
 cut-by m n most size e f = ((λ h. grind (arith, nat_tests)), (λ h. grind (arith, nat_tests)))
 
-module _ (kind : Kind) (q : QueryValue) where
+module _ (kind : ChangeKind) (q : QueryValue) where
   abbrev sets : List (List Attr)
   sets = sets_of (open_columns q)
 

@@ -6,8 +6,8 @@ use Rattle.bq_model.specs.declared.plan.Numbers.{Numbers}
 use Rattle.bq_model.specs.Query.{QueryValue}
 use Rattle.bq_mend.specs.declared.judging.Judgement.{Judgement}
 use Rattle.bq_mend.specs.declared.judging.Judgement.TheVariants as judgement
-use Rattle.bq_mend.specs.declared.mend.Kind.{Kind}
-use Rattle.bq_mend.specs.declared.mend.Kind.TheVariants as kind
+use Rattle.bq_mend.specs.declared.mend.ChangeKind.{ChangeKind}
+use Rattle.bq_mend.specs.declared.mend.ChangeKind.TheVariants as kind
 use Rattle.bq_mend.specs.declared.mend.Mend.{Mend}
 use Rattle.bq_mend.specs.declared.mend.Mend.TheVariants.{Distinct, Compact, Shared}
 use Rattle.bq_mend.specs.declared.searching.LeastSets.{LeastSets}
@@ -46,7 +46,7 @@ has_cost (judgement.Violation part condition attr) = true
 has_cost judgement.ManyParts = true
 
 -- the least sets of columns that mend a query, where a condition refuses it, and else none
-pub record AreSetsFor (kind : Kind) (q : QueryValue) (own : Judgement) (sets : LeastSets) : Type 0 where
+pub record AreSetsFor (kind : ChangeKind) (q : QueryValue) (own : Judgement) (sets : LeastSets) : Type 0 where
   pub refused : IsTrue (breaks_condition own) → AreLeastSets kind q most_sets sets.found.items sets.cut_short
   pub other : IsFalse (breaks_condition own) → (sets.found.items ≡ []) × IsFalse sets.cut_short
 

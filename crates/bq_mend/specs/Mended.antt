@@ -12,8 +12,8 @@ use Rattle.bq_model.specs.declared.atom.Op.TheVariants.{Lt, Gt}
 use Rattle.bq_model.specs.Query.{QueryValue, attr_lt, attrs_of, consts_of, is_soft, with_new, IsShort, IsWithinLimits}
 use Rattle.bq_mend.specs.declared.mend.Mend.{Mend}
 use Rattle.bq_mend.specs.declared.mend.Mend.TheVariants.{Distinct, Domains, Bounds, Comparison, Compact, Shared}
-use Rattle.bq_mend.specs.declared.mend.Kind.{Kind}
-use Rattle.bq_mend.specs.declared.mend.Kind.TheVariants as kind
+use Rattle.bq_mend.specs.declared.mend.ChangeKind.{ChangeKind}
+use Rattle.bq_mend.specs.declared.mend.ChangeKind.TheVariants as kind
 use Rattle.bq_mend.specs.Meeting.{Stands}
 
 -- the widest domain that a column may be given: all integers of at most 15 digits
@@ -56,7 +56,7 @@ mended Compact q = record q { compact = true }
 mended Shared q = q
 
 -- the columns of a set bounded in one of two ways
-abbrev pub on : Kind → List Attr → Mend
+abbrev pub on : ChangeKind → List Attr → Mend
 on kind.Bounds columns = Bounds columns
 on kind.Domains columns = Domains columns
 

@@ -7,7 +7,7 @@ use Rattle.bq_model.specs.Members.{Has}
 use Rattle.bq_model.specs.Query.{QueryValue, attrs_of, attr_eq}
 use Rattle.bq_mend.specs.declared.mend.Mend.{Mend}
 use Rattle.bq_mend.specs.declared.mend.Mend.TheVariants.{Distinct, Domains, Bounds, Comparison, Compact, Shared}
-use Rattle.bq_mend.specs.declared.mend.Kind.{Kind}
+use Rattle.bq_mend.specs.declared.mend.ChangeKind.{ChangeKind}
 use Rattle.bq_mend.specs.Mended.{on, IsBound, Mends}
 use Rattle.bq_mend.specs.Sublists.{IsSublist}
 
@@ -48,7 +48,7 @@ unfoldable pub sets_of : List Attr → List (List Attr)
 sets_of columns = ((sets_with [] 0 columns ++ sets_with [] 1 columns) ++ sets_with [] 2 columns) ++ sets_with [] 3 columns
 
 -- with each column of the set bounded the query is mended, and with each of fewer of them it is not
-pub record IsLeastSet (kind : Kind) (q : QueryValue) (set : List Attr) : Type 0 where
+pub record IsLeastSet (kind : ChangeKind) (q : QueryValue) (set : List Attr) : Type 0 where
   pub columns : IsSublist set (open_columns q)
   pub few : length set ≤ 3
   pub mends : Mends (on kind set) q
@@ -61,13 +61,13 @@ pub record HasWithin (sets : List (List Attr)) (set : List Attr) : Type 0 where
   pub within : IsSublist one set
 
 -- each of the sets is a least one, and each of the first n sets of at most three columns that mends contains one of them
-pub record AreLeastAmong (kind : Kind) (q : QueryValue) (n : ℕ) (sets : List (List Attr)) : Type 0 where
+pub record AreLeastAmong (kind : ChangeKind) (q : QueryValue) (n : ℕ) (sets : List (List Attr)) : Type 0 where
   pub each : (set : List Attr) → Has sets set → IsLeastSet kind q set
   pub all : (set : List Attr) → Has (take n (sets_of (open_columns q))) set → Mends (on kind set) q → HasWithin sets set
 
 -- least sets that mend the query. Where the search was not cut short, each set of at most three columns that mends contains one of them; where it was,
 -- there are more such sets than might be looked at.
-pub record AreLeastSets (kind : Kind) (q : QueryValue) (most : ℕ) (sets : List (List Attr)) (cut_short : Bool) : Type 0 where
+pub record AreLeastSets (kind : ChangeKind) (q : QueryValue) (most : ℕ) (sets : List (List Attr)) (cut_short : Bool) : Type 0 where
   pub each : (set : List Attr) → Has sets set → IsLeastSet kind q set
   pub all : IsFalse cut_short → (set : List Attr) → IsSublist set (open_columns q) → length set ≤ 3 → Mends (on kind set) q → HasWithin sets set
   pub cut : IsTrue cut_short ↔ most < length (sets_of (open_columns q))

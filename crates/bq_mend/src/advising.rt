@@ -8,7 +8,7 @@ use crate::comparing::{BestComparisons, Cheaper, best_comparisons, fewer};
 use crate::dearest::{DearPart, dearest_for};
 use crate::judging::{Judgement, judge, numbers_with};
 use crate::meeting::never_meets;
-use crate::mend::{Kind, Mend};
+use crate::mend::{ChangeKind, Mend};
 use crate::narrowing::narrowings;
 use crate::searching::{LeastSets, least_sets};
 use crate::violating::chains_for;
@@ -113,7 +113,7 @@ fn sets_for(
     alloc: Global,
     query: &Query,
     own: Judgement,
-    kind: Kind,
+    kind: ChangeKind,
 ) -> Result<LeastSets, AllocError>
     ensures { IfOk result (AreSetsFor kind query.now own) }
 {
@@ -212,8 +212,8 @@ pub fn advise(alloc: Global, query: &Query, shared: bool) -> Result<QueryAdvice,
     let chains = chains_for(alloc, query, judgement)?;
     let dearest = dearest_for(alloc, query, judgement)?;
     let distinct = distinct_mends(alloc, query, judgement)?;
-    let bounds = sets_for(alloc, query, judgement, Kind::Bounds)?;
-    let domains = sets_for(alloc, query, judgement, Kind::Domains)?;
+    let bounds = sets_for(alloc, query, judgement, ChangeKind::Bounds)?;
+    let domains = sets_for(alloc, query, judgement, ChangeKind::Domains)?;
     let compact = compact_numbers(alloc, query, shared, judgement)?;
     let fewer = shared_numbers(alloc, query, shared, judgement)?;
     let BestComparisons { best, cut_short } = comparisons_for(alloc, query, shared, judgement)?;

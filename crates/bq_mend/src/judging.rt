@@ -1,8 +1,7 @@
 //! What a query comes to.
 ghost use Rattle.std.specs.Prelude.{◌≡◌, ◌≤◌, IsFalse, length, IfOk};
 ghost use Rattle.bq_model.specs.Query.{is_filter};
-ghost use Rattle.bq_model.specs.Parts.{AreParts};
-ghost use Rattle.bq_lto_split.specs.Split.{sign_lists};
+ghost use Rattle.bq_model.specs.Parts.{AreParts, sign_lists};
 ghost use Rattle.bq_mend.specs.Sets.{IsMendOf};
 ghost use Rattle.bq_mend.specs.Numbered.{IsJudgement, IsJudgementWith, AreNumbersWith, accepted, shares};
 

@@ -30,7 +30,7 @@ pub use comparing::{BestComparisons, Cheaper, best_comparisons};
 pub use dearest::{DearPart, dearest_for};
 pub use judging::{Judgement, judge, judge_with, numbers_with};
 pub use meeting::{never_meets, stands};
-pub use mend::{Kind, Mend};
+pub use mend::{ChangeKind, Mend};
 pub use narrowing::narrowings;
 pub use searching::{LeastSets, least_sets};
 pub use writing::{mends, written};

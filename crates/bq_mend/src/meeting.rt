@@ -1,7 +1,6 @@
 //! Whether a query meets all conditions and has a part.
 ghost use Rattle.std.specs.Prelude.{◌↔◌, ◌≤◌, IsTrue, length, IfOk};
-ghost use Rattle.bq_model.specs.Parts.{AreParts};
-ghost use Rattle.bq_lto_split.specs.Split.{sign_lists};
+ghost use Rattle.bq_model.specs.Parts.{AreParts, sign_lists};
 ghost use Rattle.bq_mend.specs.Meeting.{Meets, Stands, NeverMeets};
 
 use bq_decide::decide;

@@ -21,7 +21,7 @@ pub enum Mend {
 
 /// What bounds the columns of a set: two comparisons each, or a domain each.
 #[derive(Clone, Copy, Debug, PartialEq, Eq)]
-pub enum Kind {
+pub enum ChangeKind {
     Bounds,
     Domains,
 }

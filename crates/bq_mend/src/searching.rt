@@ -6,7 +6,7 @@ ghost use Rattle.bq_mend.specs.Sets.{HasWithin, AreLeastAmong, AreLeastSets, ope
 ghost use Rattle.bq_mend.specs.SetSearch.{behind, Looks};
 
 use crate::columns::ColumnSet;
-use crate::mend::{Kind, Mend};
+use crate::mend::{ChangeKind, Mend};
 use crate::sets::{open_columns, sets_of};
 use crate::writing::mends;
 use bq_model::{Attr, Query, is_same};
@@ -58,18 +58,23 @@ fn has_within(sets: &[ColumnSet], columns: &[Attr]) -> bool
 }
 
 // The change that bounds the columns of a set in one of two ways.
-fn on(kind: Kind, set: &ColumnSet) -> Mend
+fn on(kind: ChangeKind, set: &ColumnSet) -> Mend
     ensures { result ≡ on kind set.now }
 {
     let columns = ColumnSet::of(set.columns());
     match kind {
-        Kind::Bounds => Mend::Bounds(columns),
-        Kind::Domains => Mend::Domains(columns),
+        ChangeKind::Bounds => Mend::Bounds(columns),
+        ChangeKind::Domains => Mend::Domains(columns),
     }
 }
 
 // Whether bounds or domains on the columns of a set mend the query.
-fn set_mends(alloc: Global, query: &Query, kind: Kind, set: &ColumnSet) -> Result<bool, AllocError>
+fn set_mends(
+    alloc: Global,
+    query: &Query,
+    kind: ChangeKind,
+    set: &ColumnSet,
+) -> Result<bool, AllocError>
     requires { IsSublist set.now (open_columns query.now) }
     ensures { IfOk result (λ is. IsTrue is ↔ Mends (on kind set.now) query.now) }
 {
@@ -80,7 +85,7 @@ fn set_mends(alloc: Global, query: &Query, kind: Kind, set: &ColumnSet) -> Resul
 fn look_at(
     alloc: Global,
     query: &Query,
-    kind: Kind,
+    kind: ChangeKind,
     set: &ColumnSet,
     found: &mut Vec<ColumnSet>,
 ) -> Result<(), AllocError>
@@ -103,7 +108,7 @@ fn look_at(
 fn look_through(
     alloc: Global,
     query: &Query,
-    kind: Kind,
+    kind: ChangeKind,
     sets: &[ColumnSet],
     most: u16,
 ) -> Result<Vec<ColumnSet>, AllocError>
@@ -124,7 +129,7 @@ pub fn least_sets(
     alloc: Global,
     query: &Query,
     most: u16,
-    kind: Kind,
+    kind: ChangeKind,
 ) -> Result<LeastSets, AllocError>
     ensures { IfOk result (λ sets. AreLeastSets kind query.now most sets.found.items sets.cut_short) }
 {

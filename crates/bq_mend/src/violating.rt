@@ -1,7 +1,6 @@
 //! What the part orders that breaks a condition.
 ghost use Rattle.std.specs.Prelude.{◌<◌, ◌≤◌, length, IfOk};
-ghost use Rattle.bq_model.specs.Parts.{AreParts};
-ghost use Rattle.bq_lto_split.specs.Split.{sign_lists};
+ghost use Rattle.bq_model.specs.Parts.{AreParts, sign_lists};
 ghost use Rattle.bq_mend.specs.Violating.{AreChainsAt, AreChainsFor, Shows};
 
 use crate::judging::Judgement;

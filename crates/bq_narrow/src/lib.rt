@@ -19,7 +19,7 @@ pub use binding::Binding;
 pub use combination::{dim_size, values_into, values_of};
 pub use fixed::{fixed_dims, pinned_dims, single_dims};
 pub use lines::{is_empty, line_of, offset_of};
-pub use lists::{Dims, Numbers, Values};
+pub use lists::{Counts, Dims, Values};
 pub use narrow::{above, below, narrowed_dims};
 pub use part::{PartAt, RowAt};
 pub use values::{rows_in, value_in};

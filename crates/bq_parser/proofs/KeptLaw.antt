@@ -24,7 +24,7 @@ use Rattle.bq_parser.specs.declared.transitions.Action.{Action}
 use Rattle.bq_parser.specs.declared.transitions.Action.TheVariants as actions
 use Rattle.bq_parser.specs.declared.tree.OperandAst.TheVariants.{Column, Integer}
 use Rattle.bq_parser.specs.declared.draft.Draft.{Draft}
-use Rattle.bq_parser.specs.declared.draft.Kept.{Kept}
+use Rattle.bq_parser.specs.declared.draft.DraftList.{DraftList}
 use Rattle.bq_parser.specs.declared.draft.Form.TheVariants as forms
 use Rattle.bq_parser.specs.DraftSteps.{kept, or_far, put, drafted}
 use Rattle.bq_parser.specs.Grammar.{Lexeme}
@@ -38,7 +38,7 @@ less_more m n h = grind (arith, nat_tests)
 over_more : (m n : ℕ) → n ≤ m → true ≡ nat_lt n (m + 1)
 over_more m n h = grind (arith, nat_tests)
 
-abbrev pub with_items : {T : Type 0} {n : ℕ} → List T → Bool → Kept T n
+abbrev pub with_items : {T : Type 0} {n : ℕ} → List T → Bool → DraftList T n
 with_items xs over = record { list = record { items = xs }; over = over }
 
 put_room : {X T : Type 0} (f : X → T) (n : ℕ) (xs : List X) (x : X) → length xs < n → put n (f x) (keep f n xs) ≡ keep f n (xs ++ x ∷ [])

@@ -12,7 +12,7 @@ use Rattle.bq_parser.specs.declared.tree.AtomAst.{AtomAst}
 use Rattle.bq_parser.specs.declared.tree.Statement.{Statement}
 use Rattle.bq_parser.specs.declared.tree.Statement.TheVariants.{CreateStream, CreateQuery, Explain, DropQuery, Checkpoint, ResumeRows, ResumeGiven, ResumeCell, ResumeTuple}
 use Rattle.bq_parser.specs.declared.draft.Draft.{Draft}
-use Rattle.bq_parser.specs.declared.draft.Kept.{Kept}
+use Rattle.bq_parser.specs.declared.draft.DraftList.{DraftList}
 use Rattle.bq_parser.specs.declared.draft.Form.{Form}
 use Rattle.bq_parser.specs.declared.draft.Form.TheVariants as forms
 
@@ -26,11 +26,11 @@ or_far None = pos 9223372036854775807
 or_far (Some z) = z
 
 -- one item more, where there is room
-abbrev pub put : {T : Type 0} → (n : ℕ) → T → Kept T n → Kept T n
+abbrev pub put : {T : Type 0} → (n : ℕ) → T → DraftList T n → DraftList T n
 put n x k = if nat_lt (length k.list.items) n then record k { list = record { items = k.list.items ++ x ∷ [] } } else record k { over = true }
 
 -- an empty list
-abbrev pub no_items : {T : Type 0} {n : ℕ} → Kept T n
+abbrev pub no_items : {T : Type 0} {n : ℕ} → DraftList T n
 no_items = record { list = record { items = [] }; over = false }
 
 -- the column of this name in the stream that was named last

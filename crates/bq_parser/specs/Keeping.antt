@@ -14,13 +14,13 @@ use Rattle.bq_parser.specs.declared.tree.OperandAst.{OperandAst}
 use Rattle.bq_parser.specs.declared.tree.OperandAst.TheVariants.{Column, Integer}
 use Rattle.bq_parser.specs.declared.tree.AtomAst.{AtomAst}
 use Rattle.bq_parser.specs.declared.draft.Draft.{Draft}
-use Rattle.bq_parser.specs.declared.draft.Kept.{Kept}
+use Rattle.bq_parser.specs.declared.draft.DraftList.{DraftList}
 use Rattle.bq_parser.specs.DraftSteps.{kept, or_far}
 use Rattle.bq_parser.specs.Grammar.{Lexeme}
 use Rattle.bq_parser.specs.Reading.{Parts, text_of, number_of, walk, no_parts}
 
 -- the first n of a list, and whether there are more
-abbrev pub keep : {X T : Type 0} → (X → T) → (n : ℕ) → List X → Kept T n
+abbrev pub keep : {X T : Type 0} → (X → T) → (n : ℕ) → List X → DraftList T n
 keep f n xs = record { list = record { items = take n (map f xs) }; over = nat_lt n (length xs) }
 
 -- a column by the names that are kept

@@ -33,7 +33,7 @@ pub enum Form {
 
 /// A list so far: as many as it may have, and whether there were more.
 #[derive(Drop)]
-pub struct Kept<T, const N: usize> {
+pub struct DraftList<T, const N: usize> {
     pub list: ArrayVec<T, N>,
     pub over: bool,
 }
@@ -43,29 +43,29 @@ pub struct Kept<T, const N: usize> {
 pub struct Draft {
     pub form: Form,
     pub name: Name,
-    pub columns: Kept<ColumnDef, 8>,
+    pub columns: DraftList<ColumnDef, 8>,
     pub column: Name,
     pub low: i64,
     pub shared: bool,
     pub compact: bool,
     pub distinct: bool,
-    pub select: Kept<ColumnAst, 8>,
-    pub from: Kept<Name, 4>,
-    pub atoms: Kept<AtomAst, 16>,
+    pub select: DraftList<ColumnAst, 8>,
+    pub from: DraftList<Name, 4>,
+    pub atoms: DraftList<AtomAst, 16>,
     pub stream: Name,
     pub left: OperandAst,
     pub op: Op,
     pub index: i64,
     pub count: i64,
-    pub values: Kept<i64, 8>,
+    pub values: DraftList<i64, 8>,
 }
 
-impl<T: Default + Drop, const N: usize> Kept<T, N> {
+impl<T: Default + Drop, const N: usize> DraftList<T, N> {
     // An empty list.
     fn none() -> Self
         ensures { result ≡ no_items }
     {
-        Kept {
+        DraftList {
             list: ArrayVec::new(),
             over: false,
         }
@@ -129,7 +129,7 @@ impl Draft {
             Action::BeginCompact => self.begin_query(false, true),
             Action::BeginSharedCompact => self.begin_query(true, true),
             Action::Named => self.name = kept_name(text),
-            Action::BeginColumns => self.columns = Kept::none(),
+            Action::BeginColumns => self.columns = DraftList::none(),
             Action::ColumnIs => self.column = kept_name(text),
             Action::AddColumn => self.put_column(None),
             Action::LowIs => self.low = kept_integer(text),
@@ -193,7 +193,7 @@ impl Draft {
         ensures { self.new ≡ record self.old { distinct = false; select = no_items } }
     {
         self.distinct = false;
-        self.select = Kept::none();
+        self.select = DraftList::none();
     }
 
     // Adds a selected column of this name.
@@ -208,8 +208,8 @@ impl Draft {
     fn begin_from(&mut self)
         ensures { self.new ≡ record self.old { from = no_items; atoms = no_items } }
     {
-        self.from = Kept::none();
-        self.atoms = Kept::none();
+        self.from = DraftList::none();
+        self.atoms = DraftList::none();
     }
 
     // Adds the atom that this side ends.
@@ -236,7 +236,7 @@ impl Draft {
         ensures { self.new ≡ record self.old { form = forms.Tuple; values = no_items } }
     {
         self.form = Form::Tuple;
-        self.values = Kept::none();
+        self.values = DraftList::none();
     }
 
     /// Returns the statement, once it is whole and within its limits.
@@ -288,20 +288,20 @@ pub fn start() -> Draft
     Draft {
         form: Form::Explain,
         name: underscore(),
-        columns: Kept::none(),
+        columns: DraftList::none(),
         column: underscore(),
         low: 0,
         shared: false,
         compact: false,
         distinct: false,
-        select: Kept::none(),
-        from: Kept::none(),
-        atoms: Kept::none(),
+        select: DraftList::none(),
+        from: DraftList::none(),
+        atoms: DraftList::none(),
         stream: underscore(),
         left: OperandAst::Integer(0),
         op: Op::Lt,
         index: 0,
         count: 0,
-        values: Kept::none(),
+        values: DraftList::none(),
     }
 }

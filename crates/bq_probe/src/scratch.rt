@@ -16,7 +16,7 @@ use crate::beside::leaves_nothing;
 use crate::stack::Bindings;
 use bq_model::{Cell, Dim, PartPlan, size_of};
 use bq_narrow::{
-    Dims, Numbers, RowAt, fixed_dims, is_empty, line_of, narrowed_dims, pinned_dims, single_dims,
+    Counts, Dims, RowAt, fixed_dims, is_empty, line_of, narrowed_dims, pinned_dims, single_dims,
 };
 use bq_pool::{Extent, Pool, StridedCells};
 use bq_synopsis::{is_scan, may_look_up, stream_at};
@@ -25,8 +25,8 @@ use bq_synopsis::{is_scan, may_look_up, stream_at};
 #[derive(Drop, Default)]
 pub struct ProbeScratch {
     pub(crate) chosen: Bindings,
-    pub(crate) numbers: Numbers,
-    pub(crate) sizes: Numbers,
+    pub(crate) numbers: Counts,
+    pub(crate) sizes: Counts,
     pub(crate) dims: Dims,
     pub(crate) line: Option<StridedCells>,
 }

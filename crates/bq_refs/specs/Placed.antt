@@ -5,7 +5,7 @@ use Rattle.bq_model.specs.Query.{QueryValue, attrs_of}
 use Rattle.bq_model.specs.Order.{IsElement}
 use Rattle.bq_constraints.specs.Nodes.{node_of}
 use Rattle.bq_refs.specs.declared.placed.Placed.{Placed}
-use Rattle.bq_refs.specs.declared.placed.Named.{Named}
+use Rattle.bq_refs.specs.declared.placed.NamedAttr.{NamedAttr}
 
 -- an element of the query, with its node
 pub record IsPlaced (q : QueryValue) (x : Placed) : Type 0 where
@@ -13,6 +13,6 @@ pub record IsPlaced (q : QueryValue) (x : Placed) : Type 0 where
   pub node : x.node ≡ node_of (attrs_of q.atoms) x.element
 
 -- an attribute of the query, with its node
-pub record IsNamed (q : QueryValue) (a : Named) : Type 0 where
+pub record IsNamed (q : QueryValue) (a : NamedAttr) : Type 0 where
   pub known : Contains (attrs_of q.atoms) a.attr
   pub node : a.node ≡ node_of (attrs_of q.atoms) (element.Attr a.attr)

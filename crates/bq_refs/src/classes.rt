@@ -8,13 +8,13 @@ ghost use Rattle.bq_refs.specs.Placed.{IsNamed};
 ghost use Rattle.bq_refs.specs.Refs.{IsClassPlace};
 
 use crate::order::is_equal;
-use crate::placed::{Named, as_element, named_at};
+use crate::placed::{NamedAttr, as_element, named_at};
 use arrayvec::ArrayVec;
 use bq_closure::Distances;
 use bq_model::{Element, Part, Query};
 
 // Whether two attributes are of one class.
-fn are_one_class(q: &Query, p: &Part, bounds: &Distances, a: Named, b: Named) -> bool
+fn are_one_class(q: &Query, p: &Part, bounds: &Distances, a: NamedAttr, b: NamedAttr) -> bool
     requires known { AreKnown q.now p.now.signs.items bounds.now }
     requires left { IsNamed q.now a }
     requires right { IsNamed q.now b }
@@ -26,7 +26,7 @@ fn are_one_class(q: &Query, p: &Part, bounds: &Distances, a: Named, b: Named) ->
 }
 
 // The place of the attribute that names the class of another.
-fn class_of(q: &Query, p: &Part, bounds: &Distances, a: Named) -> u8
+fn class_of(q: &Query, p: &Part, bounds: &Distances, a: NamedAttr) -> u8
     requires known { AreKnown q.now p.now.signs.items bounds.now }
     requires among { IsNamed q.now a }
     ensures { IsClassPlace q.now p.now.signs.items a.attr result }

@@ -18,7 +18,7 @@ pub struct Placed {
 
 /// An attribute of a query with its node.
 #[derive(Clone, Copy)]
-pub struct Named {
+pub struct NamedAttr {
     pub attr: Attr,
     pub node: u8,
 }
@@ -36,32 +36,32 @@ pub fn with_node(q: &Query, element: Element) -> Placed
 }
 
 /// Returns an attribute with its node.
-pub fn attr_with_node(q: &Query, attr: Attr) -> Named
+pub fn attr_with_node(q: &Query, attr: Attr) -> NamedAttr
     requires { Contains (attrs_of q.now.atoms) attr }
     ensures attr { result.attr ≡ attr }
     ensures named { IsNamed q.now result }
 {
-    Named {
+    NamedAttr {
         attr,
         node: node(q.attrs(), Element::Attr(attr)),
     }
 }
 
 /// Returns the attribute at a place with its node, which is not looked for.
-pub fn named_at(q: &Query, i: usize) -> Named
+pub fn named_at(q: &Query, i: usize) -> NamedAttr
     requires { i < length (attrs_of q.now.atoms) }
     ensures attr { (d : Attr) → result.attr ≡ slice_index_or (attrs_of q.now.atoms) i d }
     ensures named { IsNamed q.now result }
 {
     let attrs = q.attrs();
-    Named {
+    NamedAttr {
         attr: attrs[i],
         node: i as u8 + 1,
     }
 }
 
 /// Returns the attribute as an element.
-pub fn as_element(q: &Query, a: Named) -> Placed
+pub fn as_element(q: &Query, a: NamedAttr) -> Placed
     requires { IsNamed q.now a }
     ensures element { result.element ≡ element.Attr a.attr }
     ensures placed { IsPlaced q.now result }

@@ -9,12 +9,19 @@ ghost use Rattle.bq_refs.specs.Placed.{IsNamed, IsPlaced};
 ghost use Rattle.bq_refs.specs.Redundant.{LiesBetween, EqualsLeft, EqualsRight, Parts};
 
 use crate::order::{is_equal, is_less};
-use crate::placed::{Named, Placed, as_element, attr_with_node, named_at, with_node};
+use crate::placed::{NamedAttr, Placed, as_element, attr_with_node, named_at, with_node};
 use bq_closure::Distances;
 use bq_model::{Attr, Element, Part, Query};
 
 // Whether e is in one group with x, and lies between x and y.
-fn lies_between(q: &Query, p: &Part, bounds: &Distances, x: Named, y: Named, e: Placed) -> bool
+fn lies_between(
+    q: &Query,
+    p: &Part,
+    bounds: &Distances,
+    x: NamedAttr,
+    y: NamedAttr,
+    e: Placed,
+) -> bool
     requires known { AreKnown q.now p.now.signs.items bounds.now }
     requires left { IsNamed q.now x }
     requires right { IsNamed q.now y }
@@ -27,7 +34,14 @@ fn lies_between(q: &Query, p: &Part, bounds: &Distances, x: Named, y: Named, e: 
 }
 
 // Whether e is in one group with x, equals x and is less than y.
-fn equals_left(q: &Query, p: &Part, bounds: &Distances, x: Named, y: Named, e: Placed) -> bool
+fn equals_left(
+    q: &Query,
+    p: &Part,
+    bounds: &Distances,
+    x: NamedAttr,
+    y: NamedAttr,
+    e: Placed,
+) -> bool
     requires known { AreKnown q.now p.now.signs.items bounds.now }
     requires left { IsNamed q.now x }
     requires right { IsNamed q.now y }
@@ -40,7 +54,14 @@ fn equals_left(q: &Query, p: &Part, bounds: &Distances, x: Named, y: Named, e: P
 }
 
 // Whether e is in one group with x, x is less than e, and e equals y.
-fn equals_right(q: &Query, p: &Part, bounds: &Distances, x: Named, y: Named, e: Placed) -> bool
+fn equals_right(
+    q: &Query,
+    p: &Part,
+    bounds: &Distances,
+    x: NamedAttr,
+    y: NamedAttr,
+    e: Placed,
+) -> bool
     requires known { AreKnown q.now p.now.signs.items bounds.now }
     requires left { IsNamed q.now x }
     requires right { IsNamed q.now y }
@@ -53,7 +74,7 @@ fn equals_right(q: &Query, p: &Part, bounds: &Distances, x: Named, y: Named, e: 
 }
 
 // Whether a constant of the group lies between x and y, or equals one and parts it from the other.
-fn parts(q: &Query, p: &Part, bounds: &Distances, x: Named, y: Named, e: Placed) -> bool
+fn parts(q: &Query, p: &Part, bounds: &Distances, x: NamedAttr, y: NamedAttr, e: Placed) -> bool
     requires known { AreKnown q.now p.now.signs.items bounds.now }
     requires left { IsNamed q.now x }
     requires right { IsNamed q.now y }
@@ -66,7 +87,7 @@ fn parts(q: &Query, p: &Part, bounds: &Distances, x: Named, y: Named, e: Placed)
 }
 
 // Whether an attribute of the group lies between x and y.
-fn some_attr_between(q: &Query, p: &Part, bounds: &Distances, x: Named, y: Named) -> bool
+fn some_attr_between(q: &Query, p: &Part, bounds: &Distances, x: NamedAttr, y: NamedAttr) -> bool
     requires known { AreKnown q.now p.now.signs.items bounds.now }
     requires left { IsNamed q.now x }
     requires right { IsNamed q.now y }
@@ -82,7 +103,7 @@ fn some_attr_between(q: &Query, p: &Part, bounds: &Distances, x: Named, y: Named
 }
 
 // Whether a constant of the group parts x from y.
-fn some_const_parts(q: &Query, p: &Part, bounds: &Distances, x: Named, y: Named) -> bool
+fn some_const_parts(q: &Query, p: &Part, bounds: &Distances, x: NamedAttr, y: NamedAttr) -> bool
     requires known { AreKnown q.now p.now.signs.items bounds.now }
     requires left { IsNamed q.now x }
     requires right { IsNamed q.now y }

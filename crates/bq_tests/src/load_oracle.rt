@@ -1,7 +1,7 @@
 //! The generated load beside the plain evaluator, row by row.
 use crate::run::words;
 use arrayvec::ArrayVec;
-use bq_gen::Script;
+use bq_gen::LoadScript;
 use bq_io::{MemSink, Status, SureSource};
 use bq_model::{Atom, Attr, Element, Op, Query, Row};
 use bq_oracle::Oracle;
@@ -146,7 +146,7 @@ fn push_refusal(text: &mut Vec<u8>, line: u32) -> Result<(), AllocError> {
 
 // The lines of the script. Behind each row stands a line that is refused, so that the replies to each row stand apart.
 fn script_text(alloc: Global) -> Result<Vec<u8>, AllocError> {
-    let mut script = Script::new(ROWS);
+    let mut script = LoadScript::new(ROWS);
     let mut text = Vec::new(alloc);
     for i in 0..ROWS + 4 {
         if let Some(line) = script.next() {

@@ -1,11 +1,11 @@
 //! The generated load beside rows that were worked out apart.
-use bq_gen::Script;
+use bq_gen::LoadScript;
 use std::test::Fail;
 
 // The first rows, and nothing behind the last.
 #[test]
 fn a_script_begins_with_these_rows(rt: HostRuntime) -> Result<(), Fail> {
-    let mut script = Script::new(10);
+    let mut script = LoadScript::new(10);
     for _ in 0..4 {
         assert!(rt; script.next().is_some());
     }
@@ -35,7 +35,7 @@ fn a_script_begins_with_these_rows(rt: HostRuntime) -> Result<(), Fail> {
 // How many bytes the lines have, without LF, and the last row.
 #[test]
 fn a_script_of_100000_rows_ends_with_this_row(rt: HostRuntime) -> Result<(), Fail> {
-    let mut script = Script::new(100_000);
+    let mut script = LoadScript::new(100_000);
     let mut bytes = 0u64;
     for _ in 0..100_003 {
         match script.next() {

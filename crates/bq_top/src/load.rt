@@ -6,7 +6,7 @@ ghost use Rattle.bq_top.specs.Load.{start, LoadEnds};
 ghost use Rattle.bq_top.specs.Loading.{Counted, AnsweredScript};
 
 use crate::summary::{line_count, summary};
-use bq_gen::Script;
+use bq_gen::LoadScript;
 use bq_io::{MemSink, Sink, Status, write_all};
 use bq_pool::Steps;
 use bq_session::{LineOutcome, Session};
@@ -40,7 +40,7 @@ fn reply_lines<L: Ledger>(
 // Answers the lines of a script, and counts the lines of all replies.
 fn answer_lines<L: Ledger>(
     alloc: Global,
-    script: &mut Script,
+    script: &mut LoadScript,
     session: &mut Session,
     steps: &mut Steps<L>,
 ) -> Option<u128>
@@ -61,7 +61,7 @@ fn answer_lines<L: Ledger>(
 // Answers the lines of a script, and counts the lines of all replies; the steps are counted by a ledger of their own.
 fn answer_script<L: Ledger>(
     alloc: Global,
-    script: &mut Script,
+    script: &mut LoadScript,
     session: &mut Session,
     blank: Blank,
 ) -> Option<u128>
@@ -85,7 +85,7 @@ pub fn load<O: Sink>(alloc: Global, rows: u32, output: &mut O) -> Status
     let Ok(mut session) = Session::new(alloc, Session::MOST_ROWS) else {
         return Status::Memory;
     };
-    let mut script = Script::new(rows);
+    let mut script = LoadScript::new(rows);
     let answered = answer_script::<Brand>(alloc, &mut script, &mut session, Blank::new(2));
     let announced = session.announced();
     session.close();

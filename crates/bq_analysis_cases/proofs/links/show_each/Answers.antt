@@ -5,8 +5,7 @@ use Rattle.std.specs.List.{All}
 use Rattle.bq_model.specs.declared.part.Part.{Part}
 use Rattle.bq_model.specs.declared.part.Sign.{Sign}
 use Rattle.bq_model.specs.Query.{QueryValue}
-use Rattle.bq_model.specs.Parts.{IsPart}
-use Rattle.bq_lto_split.specs.Split.{sign_lists}
+use Rattle.bq_model.specs.Parts.{IsPart, sign_lists}
 use Rattle.bq_analysis_cases.proofs.links.show_each.Goals as goal
 
 -- each part of a list of parts is one

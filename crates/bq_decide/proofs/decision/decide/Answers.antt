@@ -1,8 +1,7 @@
 use Rattle.std.proofs.Common.{◌≡◌, false, subst, sym, arith, Some, None}
 use Rattle.bq_model.specs.declared.part.Part.{Part}
 use Rattle.bq_model.specs.Query.{is_filter}
-use Rattle.bq_model.specs.Parts.{IsPart}
-use Rattle.bq_lto_split.specs.Split.{sign_lists}
+use Rattle.bq_model.specs.Parts.{IsPart, sign_lists}
 use Rattle.bq_model.specs.FirstBreak.{IsFirstBreak}
 use Rattle.bq_decide.proofs.Numbered.{part_there, signs_at, one_fails, none_more, none_fails}
 use Rattle.bq_decide.proofs.decision.decide.Goals as goal

@@ -1,4 +1,4 @@
-use Rattle.bq_lto_split.specs.Split.{sign_lists}
+use Rattle.bq_model.specs.Parts.{sign_lists}
 use Rattle.bq_decide.specs.Deciding.{NoneBefore}
 use Rattle.bq_decide.proofs.decision.decide.Given as goal
 

@@ -1,7 +1,6 @@
 use Rattle.std.proofs.Common.{subst, sym, refl, ◌∙◌, ap, ◌++◌, ◌∷◌, [], Some, None, Err}
 use Rattle.bq_model.specs.declared.part.Part.{Part}
-use Rattle.bq_model.specs.Parts.{IsPart}
-use Rattle.bq_lto_split.specs.Split.{sign_lists}
+use Rattle.bq_model.specs.Parts.{IsPart, sign_lists}
 use Rattle.bq_model.specs.FirstBreak.{IsFirstBreak}
 use Rattle.bq_decide.proofs.Numbered.{none_more, none_fails, one_fails}
 use Rattle.bq_layout.specs.declared.error.LayoutError.{LayoutError}

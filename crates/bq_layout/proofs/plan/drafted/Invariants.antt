@@ -1,5 +1,5 @@
 use Rattle.std.proofs.Common.{◌≡◌, take}
-use Rattle.bq_lto_split.specs.Split.{sign_lists}
+use Rattle.bq_model.specs.Parts.{sign_lists}
 use Rattle.bq_decide.specs.Deciding.{NoneBefore}
 use Rattle.bq_layout.specs.Drafts.{signs_of}
 use Rattle.bq_layout.specs.Sums.{AreDrafted}

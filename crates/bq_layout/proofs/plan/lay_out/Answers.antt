@@ -1,8 +1,7 @@
 use Rattle.std.proofs.Common.{◌≡◌, ◌≤◌, Bool, true, false, length, subst, sym, arith, List}
 use Rattle.bq_model.specs.declared.part.Sign.{Sign}
 use Rattle.bq_model.specs.Query.{is_filter}
-use Rattle.bq_model.specs.Parts.{AreParts}
-use Rattle.bq_lto_split.specs.Split.{sign_lists}
+use Rattle.bq_model.specs.Parts.{AreParts, sign_lists}
 use Rattle.bq_layout.specs.Boxed.{boxed}
 use Rattle.bq_layout.specs.Shared.{shared}
 use Rattle.bq_layout.specs.Layout.{IsLayout}

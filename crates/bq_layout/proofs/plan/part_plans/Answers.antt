@@ -1,5 +1,5 @@
 use Rattle.bq_layout.proofs.Planning.{few_drafts}
-use Rattle.bq_lto_split.specs.Split.{sign_lists}
+use Rattle.bq_model.specs.Parts.{sign_lists}
 use Rattle.bq_layout.proofs.UnsetPlans.{unset_plans, part_fault}
 use Rattle.bq_layout.proofs.plan.part_plans.Goals as goal
 
