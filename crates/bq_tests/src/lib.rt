@@ -24,16 +24,6 @@ mod load;
 #[cfg(test)]
 mod load_oracle;
 #[cfg(test)]
-mod oracle;
-#[cfg(test)]
-mod pool;
-#[cfg(test)]
 mod run;
 #[cfg(test)]
 mod runs;
-#[cfg(test)]
-mod script;
-#[cfg(test)]
-mod synopsis;
-#[cfg(test)]
-mod table;
