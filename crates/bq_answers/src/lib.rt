@@ -12,12 +12,13 @@
 //! | and where the entry begins or ceases to wait | at most log2 w + 1 comparisons more, and at most w numbers moved |
 //! | `entry`, `waiting_entry`, `lone_entry` | one lookup |
 //! | `settle` | w counts |
-//! | `len`, `waiting_len`, `clear` | the same for any n |
+//! | `len`, `waiting_len`, `clear`, `set_only` | the same for any n |
 //!
 //! At 65,536 entries a tuple is found by 17 comparisons, and adding one moves at most 256 KiB of numbers. Room for all
 //! entries is taken in `Answers::new`: for each, 24 bytes and 8 for each value.
 #![tactic(auto)]
 
+mod columns;
 mod lone;
 mod rows;
 mod search;

@@ -1,6 +1,8 @@
 //! An entry that a table keeps beside its lists, where it is the only one.
-ghost use Rattle.std.specs.Prelude.{◌≡◌, ◌≤◌, true, false, length};
+ghost use Rattle.std.specs.Prelude.{◌≡◌, ◌≤◌, true, false, length, map};
+ghost use Rattle.bq_model.specs.Meaning.{by_column};
 
+use crate::columns::put_columns;
 use bq_model::Tuple;
 
 /// Room for an entry, and whether one is there.
@@ -32,6 +34,18 @@ impl Lone {
     {
         put_values(&mut self.tuple, t);
         self.waiting = waiting;
+        self.is_there = true;
+    }
+
+    /// Puts the entry of the values of these columns of a row there, which waits once.
+    pub fn put_selected(&mut self, columns: &[u8], row: &[i64])
+        requires { length columns.now ≤ 8 }
+        ensures there { self.new.is_there ≡ true }
+        ensures tuple { self.new.tuple.items ≡ map (by_column row.now) columns.now }
+        ensures waiting { self.new.waiting ≡ 1 }
+    {
+        put_columns(&mut self.tuple, columns, row);
+        self.waiting = 1;
         self.is_there = true;
     }
 }

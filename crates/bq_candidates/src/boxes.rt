@@ -9,10 +9,11 @@ pub struct Interval {
     pub greatest: i64,
 }
 
-/// What a query asks of a row: an interval for each column.
+/// What a query asks of a row: an interval for each column. Where it is asked of each row that it may concern, no row is told to be within.
 #[derive(Clone, Copy, Debug)]
 pub struct QueryBox {
     pub columns: [Interval; 8],
+    pub is_asked: bool,
 }
 
 impl Interval {
@@ -41,6 +42,15 @@ impl QueryBox {
     {
         QueryBox {
             columns: [Interval::unbounded(); 8],
+            is_asked: false,
         }
+    }
+
+    /// Returns the box of the same intervals, of a query that is asked of each row that it may concern or is not.
+    pub fn with_asked(self, is_asked: bool) -> QueryBox
+        ensures { result ≡ record { columns = self.columns; is_asked = is_asked } }
+    {
+        let columns = self.columns;
+        QueryBox { columns, is_asked }
     }
 }

@@ -4,7 +4,7 @@ ghost use Rattle.std.specs.Int.{bit_at};
 ghost use Rattle.bq_candidates.specs.declared.boxes.QueryBox.{QueryBox};
 ghost use Rattle.bq_candidates.specs.declared.column.Column.{Column};
 ghost use Rattle.bq_candidates.specs.Boxes.{IsInside, unbounded};
-ghost use Rattle.bq_candidates.specs.Buckets.{AreColumns, AreFor, AreMarked, candidates_of, narrowed};
+ghost use Rattle.bq_candidates.specs.Buckets.{AreColumns, IsColumn, AreFor, AreMarked, candidates_of, narrowed};
 
 use crate::boxes::QueryBox;
 use crate::column::Column;
@@ -41,7 +41,32 @@ fn is_bounded(boxes: &[Option<QueryBox>], column: usize) -> bool
     false
 }
 
-// Puts the column of these boxes behind others.
+// Whether more buckets of a column are marked with no query than of the first of some columns.
+fn tells_more(own: &Column, columns: &[Column]) -> bool {
+    match columns.first() {
+        Some(first) => own.unmarked() > first.unmarked(),
+        None => false,
+    }
+}
+
+// Puts a column before others.
+fn put_first(columns: &mut Vec<Column>, own: Column)
+    ensures { (boxes : List (Option QueryBox)) → AreColumns boxes columns.old.items → IsColumn boxes own → AreColumns boxes columns.new.items }
+{
+    // There is room; what a column that was left out would tell is told by the queries themselves.
+    let _stored = columns.insert(0, own).is_ok();
+}
+
+// Puts a column behind others.
+fn put_last(columns: &mut Vec<Column>, own: Column)
+    ensures { (boxes : List (Option QueryBox)) → AreColumns boxes columns.old.items → IsColumn boxes own → AreColumns boxes columns.new.items }
+{
+    // Here too.
+    let _stored = columns.push(own).is_ok();
+}
+
+// Puts the column of these boxes beside others. The one that tells most stands first: where nothing is left by it, the others are not looked
+// at.
 fn put_column(columns: &mut Vec<Column>, boxes: &[Option<QueryBox>], column: usize)
     requires few { length boxes.now ≤ 64 }
     requires column { column < 8 }
@@ -49,8 +74,11 @@ fn put_column(columns: &mut Vec<Column>, boxes: &[Option<QueryBox>], column: usi
     ensures { AreColumns boxes.now columns.new.items }
 {
     let own = Column::over(boxes, column);
-    // There is room; what a column that was left out would tell is told by the queries themselves.
-    let _stored = columns.push(own).is_ok();
+    if tells_more(&own, columns.as_slice()) {
+        put_first(columns, own);
+    } else {
+        put_last(columns, own);
+    }
 }
 
 // What is left of a word by the only column.

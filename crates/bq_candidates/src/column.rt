@@ -147,6 +147,16 @@ fn buckets_within(grid: &Grid, interval: &Interval) -> (usize, usize)
     (from, end)
 }
 
+// Sets the bit of a box in the words of the buckets of which its interval in a column holds all, where the query need not be asked.
+fn mark_unasked(words: &mut [u64; 256], grid: &Grid, own: &QueryBox, column: usize, bit: usize)
+    requires bit { bit < 64 }
+    requires column { column < 8 }
+{
+    if !own.is_asked {
+        mark_within(words, grid, &own.columns[column], bit);
+    }
+}
+
 // Sets a bit in the words of the buckets of which an interval holds all.
 fn mark_within(words: &mut [u64; 256], grid: &Grid, interval: &Interval, bit: usize)
     requires bit { bit < 64 }
@@ -165,7 +175,7 @@ fn within_of(boxes: &[Option<QueryBox>], column: usize, grid: &Grid) -> [u64; 25
     let mut words = [0; 256];
     for k in 0..boxes.len() {
         if let Some(own) = &boxes[k] {
-            mark_within(&mut words, grid, &own.columns[column], k);
+            mark_unasked(&mut words, grid, own, column, k);
         }
     }
     words
@@ -194,6 +204,11 @@ impl Column {
             words,
             within,
         }
+    }
+
+    /// Returns how many buckets are marked with no query.
+    pub fn unmarked(&self) -> usize {
+        self.words.iter().filter(|word| **word == 0).count()
     }
 
     /// Returns the queries that the bucket of a row's value is marked with, and those that hold all of it.

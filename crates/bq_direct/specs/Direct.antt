@@ -1,6 +1,5 @@
 -- The two cells that a row of a query of one part meets, where one column tells them.
 use Rattle.std.specs.Prelude.{◌≡◌, ◌⊎◌, ℕ, ◌<◌, ◌-◌, List, [], ◌∷◌, length, map, true, slice_get, slice_index_or, Some}
-use Rattle.bq_model.specs.declared.cell.Cell.TheVariants.{Count}
 use Rattle.bq_model.specs.declared.plan.Kind.TheVariants as kinds
 use Rattle.bq_model.specs.declared.plan.PartPlan.{PartPlan}
 use Rattle.bq_model.specs.Parts.{pairs}

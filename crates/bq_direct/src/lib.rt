@@ -5,6 +5,8 @@
 //! created. A row is then asked one range.
 #![tactic(auto)]
 
+mod determined;
 mod direct;
 
+pub use determined::determined_tuple;
 pub use direct::{DirectLookup, DirectLookups, direct_lookups, offset_in, put_selected};

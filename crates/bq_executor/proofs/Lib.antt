@@ -8,6 +8,7 @@ pub mod Inserting
 pub mod PartCells
 pub mod Named
 pub mod Answered
+pub mod PlainRows
 pub mod RowAnswers
 pub mod RowCells
 pub mod PlanFacts

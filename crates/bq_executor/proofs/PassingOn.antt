@@ -5,9 +5,9 @@ use Rattle.bq_model.specs.declared.plan.Plan.{Plan}
 use Rattle.bq_model.specs.Query.{QueryValue}
 use Rattle.bq_answers.specs.Entries.{Entry, waiting_entries}
 use Rattle.bq_laws.proofs.Tests.{true_or_false}
-use Rattle.bq_index.specs.declared.prefilter.Prefilter.{Prefilter}
-use Rattle.bq_index.specs.Prefilter.{passes, IsPrefilter}
-use Rattle.bq_index.specs.Passing.{IsBoxOf}
+use Rattle.bq_filter.specs.declared.prefilter.Prefilter.{Prefilter}
+use Rattle.bq_filter.specs.Prefilter.{passes, IsPrefilter}
+use Rattle.bq_filter.specs.Passing.{IsBoxOf}
 use Rattle.bq_executor.specs.Executor.{ExecutorValue, IsSound, arrival, spelled, with_given}
 use Rattle.bq_executor.specs.Passing.{IsBoxFor, RefusedRowsPass}
 use Rattle.bq_executor.proofs.Refused.{refused_took}

@@ -19,7 +19,7 @@ use Rattle.bq_model.specs.declared.cell.Cell.{Cell}
 use Rattle.bq_laws.proofs.Tests.{and-left, and-right, not_both, true_or_false, nat_true}
 use Rattle.bq_pool.specs.declared.pool.Extent.{Extent}
 use Rattle.bq_pool.specs.Extents.{PoolValue, cells_of}
-use Rattle.bq_index.specs.Prefilter.{IsRefused}
+use Rattle.bq_filter.specs.Prefilter.{IsRefused}
 use Rattle.bq_index.specs.Owners.{has_base}
 use Rattle.bq_executor.specs.CellSteps.{lies, IsInserted, HasTaken, IsPlanReady, answered_by}
 use Rattle.bq_executor.proofs.InPart.{found_refused}

@@ -4,7 +4,6 @@ pub mod Runs
 pub mod Written
 pub mod FoundTable
 pub mod CellSteps
-pub mod Known
 pub mod Bases
 pub mod Loading
 pub mod Row

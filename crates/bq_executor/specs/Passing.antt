@@ -7,7 +7,7 @@ use Rattle.bq_model.specs.Query.{QueryValue}
 use Rattle.bq_model.specs.Domains.{RowKeeps}
 use Rattle.bq_model.specs.Meaning.{Arrival}
 use Rattle.bq_pool.specs.Extents.{PoolValue}
-use Rattle.bq_index.specs.Prefilter.{IsRefused}
+use Rattle.bq_filter.specs.Prefilter.{IsRefused}
 use Rattle.bq_executor.specs.Executor.{ExecutorValue, IsSound, waiting_in, with_given}
 use Rattle.bq_executor.specs.Standing.{AreKept, KeepsWithin, IsReady}
 use Rattle.bq_executor.specs.Bases.{TookFrom}

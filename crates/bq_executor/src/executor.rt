@@ -15,10 +15,11 @@ ghost use Rattle.bq_executor.specs.Standing.{StandsFor, AreKept, KeepsWithin, Is
 ghost use Rattle.bq_executor.specs.Bases.{StandsFrom};
 ghost use Rattle.bq_executor.specs.Row.{KeepsToWork, TakesRow};
 ghost use Rattle.bq_executor.specs.Loading.{loaded_given, loaded_cell, loaded_tuple, Loads};
-ghost use Rattle.bq_index.specs.Prefilter.{IsRefused};
+ghost use Rattle.bq_filter.specs.Prefilter.{IsRefused};
 ghost use Rattle.bq_executor.specs.Passing.{IsBoxFor};
 ghost use Rattle.bq_executor.specs.Written.{answer_lines};
 
+use crate::filter::plain_filter_row;
 use crate::join::Scratch;
 use crate::output::put_waiting;
 use crate::row::{Arrived, QueryAt, apply_row};
@@ -26,7 +27,8 @@ use crate::saturation::Saturation;
 use bq_answers::Answers;
 use bq_candidates::QueryBox;
 use bq_direct::{DirectLookups, direct_lookups};
-use bq_index::{Prefilter, PreparedPlan, prefilter_of, prepare_all};
+use bq_filter::{PlainFilter, Prefilter, plain_filter_of, prefilter_of};
+use bq_index::{PreparedPlan, prepare_all};
 use bq_io::{Sink, WriteFault};
 use bq_loading::{cell_to_load, fill, put_printed};
 use bq_model::{Cell, Plan, Query, Row, Tuple};
@@ -40,6 +42,7 @@ use std::sync::ledger::Ledger;
 pub struct Executor {
     given: u64,
     prefilter: Prefilter,
+    plain_filter: Option<PlainFilter>,
     table: Answers,
     query: Query,
     shared: bool,
@@ -56,13 +59,15 @@ impl Model for Executor {
     ghost use Rattle.bq_direct.specs.Direct.{AreDirect};
     ghost use Rattle.bq_executor.specs.Executor.{ExecutorValue, IsSound};
     ghost use Rattle.bq_index.specs.Prepared.{IsPreparedPlan};
-    ghost use Rattle.bq_index.specs.Prefilter.{IsPrefilter};
+    ghost use Rattle.bq_filter.specs.Prefilter.{IsPrefilter};
+    ghost use Rattle.bq_filter.specs.PlainFilter.{IsPlainFilter};
+    ghost use Rattle.std.specs.Prelude.{IfSome};
 
     ghost Value = { ExecutorValue };
 
     ghost view = { λ e. record { query = e.query; shared = e.shared; plan = e.plan; extent = e.extent; given = e.given; table = e.table; saturation = e.saturation } };
 
-    ghost invariant = { λ e. IsSound (record { query = e.query; shared = e.shared; plan = e.plan; extent = e.extent; given = e.given; table = e.table; saturation = e.saturation }) × IsPreparedPlan e.query (parts_of e.plan) e.prepared × IsPrefilter e.query e.plan e.prefilter × AreDirect e.query (parts_of e.plan) e.direct };
+    ghost invariant = { λ e. IsSound (record { query = e.query; shared = e.shared; plan = e.plan; extent = e.extent; given = e.given; table = e.table; saturation = e.saturation }) × IsPreparedPlan e.query (parts_of e.plan) e.prepared × IsPrefilter e.query e.plan e.prefilter × AreDirect e.query (parts_of e.plan) e.direct × IfSome e.plain_filter (IsPlainFilter e.query e.plan e.prefilter) };
 }
 
 // For how many answers a query with this plan has room.
@@ -118,6 +123,7 @@ impl Executor {
             Err(error) => return Err((extent, error)),
         };
         let prefilter = prefilter_of(&query, &plan);
+        let plain_filter = plain_filter_of(&query, &plan, &prefilter);
         let direct = direct_lookups(&query, &plan, &prepared);
         let capacity = most_answers(&plan);
         let width = query.select().len() as u8;
@@ -125,6 +131,7 @@ impl Executor {
             Ok(table) => Ok(Executor {
                 given: 0,
                 prefilter,
+                plain_filter,
                 table,
                 query,
                 shared,
@@ -155,14 +162,10 @@ impl Executor {
         let _waits = self.apply(false, pool, stream, row, steps);
     }
 
-    // Whether a row is to be taken up: one that is not is answered nothing, and no cell takes it. The prefilter is not asked where it is
-    // known already that the row passes.
-    fn passes(&self, is_within: bool, stream: u8, row: &Row) -> bool
+    // Whether a row is to be taken up: one that is not is answered nothing, and no cell takes it.
+    fn passes(&self, stream: u8, row: &Row) -> bool
         ensures { result ≡ false → IsRefused self.now.query self.now.plan (arrival stream row.now.items) }
     {
-        if is_within {
-            return true;
-        }
         self.prefilter.passes(stream, row)
     }
 
@@ -175,6 +178,7 @@ impl Executor {
 
     /// Takes a row as `row` does. Where it says no, no answer waits; where it says yes, some may. The prefilter is not asked of a row of which
     /// the caller says that it lies within the query's box; what is said decides on the time alone.
+    #[inline(always)]
     pub fn apply<L: Ledger>(
         &mut self,
         is_within: bool,
@@ -189,7 +193,32 @@ impl Executor {
         ensures none { result ≡ false → waiting_in self.new ≡ [] }
         ensures steps { KeepsToWork self.old (arrival stream row.now.items) steps.old steps.new }
     {
-        let passes = self.passes(is_within, stream, row);
+        if is_within {
+            return self.apply_filtered(true, pool, stream, row, steps);
+        }
+        if let Some(plain_filter) = &self.plain_filter {
+            self.given += 1;
+            return plain_filter_row(&self.prefilter, plain_filter, stream, row, &mut self.table);
+        }
+        self.apply_asked(pool, stream, row, steps)
+    }
+
+    // Takes a row as `apply` does, whatever the query, and asks the prefilter. It is not inlined, so that a row of a filter pays nothing for it.
+    #[inline(never)]
+    fn apply_asked<L: Ledger>(
+        &mut self,
+        pool: &mut Pool,
+        stream: u8,
+        row: &Row,
+        steps: &mut Steps<L>,
+    ) -> bool
+        requires ready { IsReady self.old pool.old }
+        requires keeps { RowKeeps self.old.query (arrival stream row.now.items) }
+        ensures took { TakesRow self.old pool.old (arrival stream row.now.items) self.new pool.new }
+        ensures none { result ≡ false → waiting_in self.new ≡ [] }
+        ensures steps { KeepsToWork self.old (arrival stream row.now.items) steps.old steps.new }
+    {
+        let passes = self.passes(stream, row);
         if !passes && !self.has_waiting() {
             self.given += 1;
             return false;
@@ -252,7 +281,7 @@ impl Executor {
         ensures history { (pool : PoolValue) (history : List Arrival) → StandsFor self.old pool history → StandsFor self.new pool history }
         ensures bases { (pool : PoolValue) (base : Base) (history : List Arrival) → StandsFrom self.old pool base history → StandsFrom self.new pool base history }
     {
-        let written = put_waiting(&self.table, name, out);
+        let written = put_waiting(&self.table, name, &mut self.scratch.line, out);
         self.give_up();
         written
     }
@@ -346,11 +375,15 @@ impl Executor {
         self.given = given;
     }
 
-    /// Returns a box of intervals outside of which each row of a stream is refused. There is none where each row of it is.
+    /// Returns a box of intervals outside of which each row of a stream is refused. There is none where each row of it is. A filter without
+    /// DISTINCT is asked of each row in it.
     pub fn box_for(&self, stream: u8) -> Option<QueryBox>
         ensures { IsBoxFor self.now.query self.now.plan stream result }
     {
-        self.prefilter.box_for(stream)
+        match self.prefilter.box_for(stream) {
+            Some(own) => Some(own.with_asked(self.plain_filter.is_some())),
+            None => None,
+        }
     }
 
     /// Returns how many rows were given.
@@ -423,6 +456,7 @@ impl Executor {
         let Executor {
             given: _,
             prefilter: _prefilter,
+            plain_filter: _plain_filter,
             table: _table,
             query: _query,
             shared: _,

@@ -1,5 +1,5 @@
 //! What a row does in one part: what the cells answer to it waits in the table, and its own cell takes it.
-ghost use Rattle.std.specs.Prelude.{◌≡◌, ◌<◌, ◌≤◌, ◌+◌, ◌*◌, ◌||◌, length, slice_index_or, true, false, IsTrue, if◌then◌else◌, Some, None, IfSome, MatchOption};
+ghost use Rattle.std.specs.Prelude.{◌≡◌, ◌<◌, ◌≤◌, ◌+◌, ◌-◌, ◌*◌, ◌||◌, length, slice_index_or, true, false, IsTrue, if◌then◌else◌, Some, None, IfSome, MatchOption};
 ghost use Rattle.bq_model.specs.declared.cell.Cell.TheVariants as cells;
 ghost use Rattle.bq_model.specs.Admission.{admits};
 ghost use Rattle.bq_model.specs.Meaning.{by_column};
@@ -18,15 +18,16 @@ ghost use Rattle.bq_probe.specs.Remaining.{as_found};
 ghost use Rattle.bq_answers.specs.Entries.{with_entries, Fits};
 ghost use Rattle.bq_executor.specs.FoundTable.{with_found, with_all, HaveRoom, AreOld};
 ghost use Rattle.bq_executor.specs.CellSteps.{arrives, with_row, CanCount, LeavesCell};
-ghost use Rattle.bq_executor.specs.Known.{IsDetermined};
+ghost use Rattle.bq_direct.specs.Known.{IsDetermined};
 ghost use Rattle.bq_executor.specs.Leaving.{reads_of};
 
-use crate::determined::determined_tuple;
+use bq_answer_lines::LINE_ROOM;
 use bq_answers::Answers;
+use bq_direct::determined_tuple;
 use bq_model::{Row, Tuple};
 use bq_narrow::PartAt;
 use bq_pool::{Pool, Steps};
-use bq_probe::{FirstLook, Probe, ProbeScratch, first_look, sees_nothing};
+use bq_probe::{FirstLook, Probe, ProbeScratch, first_look, look_before_walk};
 use bq_synopsis::{Admitted, OwnCell, own_cell, put_own};
 use std::sync::ledger::Ledger;
 
@@ -68,6 +69,7 @@ impl Takes {
 pub struct Scratch {
     pub room: ProbeScratch,
     pub tuple: Tuple,
+    pub line: [u8; LINE_ROOM],
 }
 
 impl Scratch {
@@ -76,6 +78,7 @@ impl Scratch {
         Scratch {
             room: ProbeScratch::default(),
             tuple: Tuple::new(),
+            line: [0; LINE_ROOM],
         }
     }
 }
@@ -108,13 +111,10 @@ fn walk_all<L: Ledger>(
     requires prepared { IsPrepared (pairs part.now.q.now) part.now.plan.now part.now.prepared.now }
     requires room { HaveRoom part.now.q.now.distinct (found_beside part.now.q.now part.now.plan.now (read_from (cells_of pool.now part.now.extent.now)) at.now.pos (by_column at.now.row.now.items)) table.old }
     ensures table { table.new ≡ with_entries table.old (with_all part.now.q.now.distinct (found_beside part.now.q.now part.now.plan.now (read_from (cells_of pool.now part.now.extent.now)) at.now.pos (by_column at.now.row.now.items)) table.old.entries) }
-    ensures reads { steps.new.reads ≤ steps.old.reads + 3 * share part.now.plan.now }
+    ensures reads { steps.new.reads ≤ steps.old.reads + (length part.now.plan.now.streams.items - 1) * share part.now.plan.now }
     ensures writes { steps.new.writes ≡ steps.old.writes }
 {
     let (q, plan, prepared) = (part.q, part.plan, part.prepared);
-    if sees_nothing(pool, part, at, room, steps) {
-        return;
-    }
     let mut probe = Probe::new(q, plan, prepared, at.pos, at.row, room);
     'walk: while let Some(count) = probe.next(pool, part.extent, q, plan, tuple, steps) {
         record_found(q.distinct(), tuple, count, table);
@@ -139,16 +139,13 @@ fn answer_once<L: Ledger>(
     requires room { HaveRoom part.now.q.now.distinct (found_beside part.now.q.now part.now.plan.now (read_from (cells_of pool.now part.now.extent.now)) at.now.pos (by_column at.now.row.now.items)) table.old }
     requires one { IsDetermined part.now.q.now part.now.plan.now at.now.pos at.now.row.now.items tuple.old.items }
     ensures table { table.new ≡ with_entries table.old (with_all part.now.q.now.distinct (found_beside part.now.q.now part.now.plan.now (read_from (cells_of pool.now part.now.extent.now)) at.now.pos (by_column at.now.row.now.items)) table.old.entries) }
-    ensures reads { steps.new.reads ≤ steps.old.reads + 3 * share part.now.plan.now }
+    ensures reads { steps.new.reads ≤ steps.old.reads + (length part.now.plan.now.streams.items - 1) * share part.now.plan.now }
     ensures writes { steps.new.writes ≡ steps.old.writes }
 {
     if table.has(tuple) {
         return;
     }
     let (q, plan, prepared) = (part.q, part.plan, part.prepared);
-    if sees_nothing(pool, part, at, room, steps) {
-        return;
-    }
     let mut probe = Probe::new(q, plan, prepared, at.pos, at.row, room);
     match probe.next(pool, part.extent, q, plan, tuple, steps) {
         Some(count) => record_found(true, tuple, count, table),
@@ -156,9 +153,36 @@ fn answer_once<L: Ledger>(
     }
 }
 
-// Takes up all that the cells of a part answer to a row. It is not inlined: with DISTINCT most rows do without it.
+// Takes up all that a walk over the cells of a part finds for a row, or the first find where there can be no other tuple. It is not
+// inlined: most rows are answered before a walk begins.
 #[inline(never)]
 fn walk<L: Ledger>(
+    pool: &Pool,
+    part: &PartAt<'_>,
+    at: &Admitted<'_>,
+    room: &mut ProbeScratch,
+    tuple: &mut Tuple,
+    table: &mut Answers,
+    steps: &mut Steps<L>,
+)
+    requires here { at.now.pos < length part.now.q.now.from }
+    requires ready { IsReady part.now.q.now part.now.plan.now pool.now part.now.extent.now }
+    requires prepared { IsPrepared (pairs part.now.q.now) part.now.plan.now part.now.prepared.now }
+    requires room { HaveRoom part.now.q.now.distinct (found_beside part.now.q.now part.now.plan.now (read_from (cells_of pool.now part.now.extent.now)) at.now.pos (by_column at.now.row.now.items)) table.old }
+    ensures table { table.new ≡ with_entries table.old (with_all part.now.q.now.distinct (found_beside part.now.q.now part.now.plan.now (read_from (cells_of pool.now part.now.extent.now)) at.now.pos (by_column at.now.row.now.items)) table.old.entries) }
+    ensures reads { steps.new.reads ≤ steps.old.reads + (length part.now.plan.now.streams.items - 1) * share part.now.plan.now }
+    ensures writes { steps.new.writes ≡ steps.old.writes }
+{
+    if determined_tuple(part.q, part.plan, at.pos, at.row, tuple) {
+        answer_once(pool, part, at, room, tuple, table, steps);
+    } else {
+        walk_all(pool, part, at, room, tuple, table, steps);
+    }
+}
+
+// Takes up all that the cells of a part answer to a row. It is not inlined: with DISTINCT most rows do without it.
+#[inline(never)]
+fn look_then_walk<L: Ledger>(
     pool: &Pool,
     part: &PartAt<'_>,
     at: &Admitted<'_>,
@@ -175,10 +199,12 @@ fn walk<L: Ledger>(
     ensures reads { steps.new.reads ≤ steps.old.reads + 3 * share part.now.plan.now }
     ensures writes { steps.new.writes ≡ steps.old.writes }
 {
-    if determined_tuple(part.q, part.plan, at.pos, at.row, tuple) {
-        answer_once(pool, part, at, room, tuple, table, steps);
-    } else {
-        walk_all(pool, part, at, room, tuple, table, steps);
+    match look_before_walk(pool, part, at, room, tuple, steps) {
+        FirstLook::Nothing => {}
+        FirstLook::One(count) => {
+            record_found(part.q.distinct(), tuple, u128::from(count), table)
+        }
+        FirstLook::Unknown => walk(pool, part, at, room, tuple, table, steps),
     }
 }
 
@@ -209,7 +235,7 @@ pub fn look<L: Ledger>(
         FirstLook::Unknown => {
             // Copies of its own for the call that is not inlined, so that the others stay in registers.
             let (met, row) = (*part, *at);
-            walk(pool, &met, &row, room, tuple, table, steps);
+            look_then_walk(pool, &met, &row, room, tuple, table, steps);
         }
     }
 }
@@ -237,7 +263,7 @@ fn answer<L: Ledger>(
     if part.prepared.join_lookup(at.pos).is_some() {
         look(pool, part, at, room, tuple, table, steps);
     } else {
-        walk(pool, part, at, room, tuple, table, steps);
+        look_then_walk(pool, part, at, room, tuple, table, steps);
     }
 }
 

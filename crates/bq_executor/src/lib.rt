@@ -14,7 +14,6 @@
 //! at a time, each of which is taken or refused; then it goes on as the other would. This takes no memory either.
 #![tactic(auto)]
 
-mod determined;
 mod executor;
 mod filter;
 mod join;

@@ -11,7 +11,7 @@ ghost use Rattle.bq_executor.specs.FoundTable.{with_all, HaveRoom};
 ghost use Rattle.bq_executor.specs.CellSteps.{answered_by, HasTaken, IsPlanReady, AnswersNothingNew};
 ghost use Rattle.bq_direct.specs.Direct.{IsDirect, AreDirect};
 ghost use Rattle.bq_index.specs.Prepared.{IsPreparedPlan};
-ghost use Rattle.bq_index.specs.Prefilter.{IsRefused};
+ghost use Rattle.bq_filter.specs.Prefilter.{IsRefused};
 
 use crate::filter::filter_row;
 use crate::join::Scratch;

@@ -1,5 +1,5 @@
 //! What a row does in a query of one part where one column tells the two cells that it meets.
-ghost use Rattle.std.specs.Prelude.{◌≡◌, ◌<◌, ◌≤◌, ◌+◌, ◌*◌, length, map, Some};
+ghost use Rattle.std.specs.Prelude.{◌≡◌, ◌<◌, ◌≤◌, ◌+◌, ◌*◌, length, map, true, Some};
 ghost use Rattle.bq_model.specs.Meaning.{by_column};
 ghost use Rattle.bq_model.specs.Combinations.{read_from};
 ghost use Rattle.bq_model.specs.Numbers.{work};
@@ -12,7 +12,7 @@ ghost use Rattle.bq_executor.specs.CellSteps.{arrives, all_found, HasTaken, AreR
 ghost use Rattle.bq_executor.specs.TwoCells.{told_by};
 ghost use Rattle.bq_direct.specs.Direct.{IsDirect};
 
-use crate::join::record_found;
+use crate::join::{MOST_TIMES, record_found};
 use crate::route::PartsAt;
 use bq_answers::Answers;
 use bq_direct::{DirectLookup, offset_in, put_selected};
@@ -21,6 +21,18 @@ use bq_narrow::{is_empty, rows_in};
 use bq_pool::{Pool, Steps};
 use bq_synopsis::{Admitted, Placement, own_cell, put_own};
 use std::sync::ledger::Ledger;
+
+// Takes up the values of these columns of a row with DISTINCT. It is not inlined either.
+#[inline(never)]
+fn take_up_once(columns: &[u8], row: &[i64], tuple: &mut Tuple, table: &mut Answers)
+    requires few { length columns.now ≤ 8 }
+    requires width { length (map (by_column row.now) columns.now) ≡ table.old.width }
+    requires room { Fits (map (by_column row.now) columns.now) table.old }
+    ensures { table.new ≡ with_entries table.old (with_found true (as_found (map (by_column row.now) columns.now) 1) table.old.entries) }
+{
+    put_selected(columns, row, tuple);
+    record_found(true, tuple, 1, table);
+}
 
 // Takes up what a cell with rows answers to a row. It is not inlined: most rows meet an empty cell.
 #[inline(never)]
@@ -36,8 +48,12 @@ fn take_up(
     requires room { Fits (map (by_column row.now.items) direct.now.selected.items) table.old }
     ensures { table.new ≡ with_entries table.old (with_found q.now.distinct (as_found (map (by_column row.now.items) direct.now.selected.items) (rows_in cell)) table.old.entries) }
 {
-    put_selected(direct.selected.as_slice(), row.as_slice(), tuple);
-    record_found(q.distinct(), tuple, u128::from(rows_in(cell)), table);
+    let (columns, values) = (direct.selected.as_slice(), row.as_slice());
+    if q.distinct() {
+        take_up_once(columns, values, tuple, table);
+    } else {
+        table.add_columns_upto(columns, values, u128::from(rows_in(cell)), MOST_TIMES);
+    }
 }
 
 // Takes up what the other cell tells of the answers to a row.
@@ -95,6 +111,7 @@ pub fn apply_direct<L: Ledger>(
     };
     let own = own_cell(pool, extent, q, plan, &at, steps);
     let there = pool.read(extent, direct.other + offset, steps);
-    answer_by_cell(q, direct, row, there, tuple, table);
+    // Both cells are read, and so the own one is put before the answer waits: where it stands is still at hand.
     put_own(pool, extent, plan, &at, &own, steps);
+    answer_by_cell(q, direct, row, there, tuple, table);
 }

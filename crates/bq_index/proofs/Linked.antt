@@ -101,6 +101,13 @@ module _ (q : QueryValue) (parts : List PartPlan) (pos : ℕ) (c : PartIndex) (a
       → i < length parts → get_or (buckets_of parts c.tests.items c.mask) i 0 ≡ row_bucket (pairs q) c v
   hit_there n i next l = next.there (let m = many_buckets parts c.tests.items c.mask in omega (arith, m, l))
 
+-- the next part of the bucket of a part
+pub next_linked : (parts : List PartPlan) (tests : List ℕ) (mask : ℕ) (heads links : List ℕ) → AreLinked (buckets_of parts tests mask) mask 0 heads links → (i next : ℕ) → i < length parts → next ≡ get_or links i 0
+    → IsNext (buckets_of parts tests mask) (get_or (buckets_of parts tests mask) i 0) (i + 1) next
+next_linked parts tests mask heads links are i next inside is =
+    subst (IsNext (buckets_of parts tests mask) (get_or (buckets_of parts tests mask) i 0) (i + 1)) (sym is)
+    (are.next i (omega arith) (let m = many_buckets parts tests mask in omega (arith, m, inside)))
+
 -- the next part of a bucket, where one part more stands before
 next_behind : (buckets : List ℕ) (b n i : ℕ) → get_or buckets n 0 ≢ b → IsNext buckets b (n + 1) i → IsNext buckets b n i
 next_behind buckets b n i other next = record {

@@ -11,7 +11,7 @@ use Rattle.bq_model.specs.Parts.{pairs}
 use Rattle.bq_model.specs.Plan.{dims_at}
 use Rattle.bq_model.specs.Meaning.{by_column}
 use Rattle.bq_model.specs.Admission.{alone, keeps_signs, in_range, admits}
-use Rattle.bq_laws.proofs.Tests.{and-right, true_or_false}
+use Rattle.bq_laws.proofs.Tests.{and-left, and-right, true_or_false}
 use Rattle.bq_synopsis.specs.declared.axes.Placement.TheVariants.{Cell}
 use Rattle.bq_index.specs.declared.shift.Shift.{Shift}
 use Rattle.bq_synopsis.specs.Axes.{IsPlacement}
@@ -20,7 +20,12 @@ use Rattle.bq_synopsis.proofs.PrepareLaws.{pushed-get}
 use Rattle.bq_index.proofs.ShiftLaws.{in-bounds, stands-shifted}
 use Rattle.bq_index.specs.declared.part_index.PartIndex.{PartIndex}
 use Rattle.bq_index.specs.PartIndex.{row_code, signs_of_part, code_after, IsPartIndex}
-use Rattle.bq_index.specs.Shifts.{IsNextShifted, AreShifts, StandsAt}
+use Rattle.bq_index.specs.declared.shift.CellAt.{CellAt}
+use Rattle.bq_index.specs.declared.part_entry.PartEntry.{PartEntry}
+use Rattle.bq_index.specs.Shift.{placed}
+use Rattle.bq_index.specs.Shifts.{HasNextCode, IsNextShifted, StandsAt}
+use Rattle.bq_index.specs.SimpleBox.{IsInBox}
+use Rattle.bq_index.specs.PartEntry.{IsPartEntry, ArePartEntries, IsCellIn}
 use Rattle.bq_index.proofs.PreparedParts.{part_at}
 use Rattle.bq_index.proofs.Telling.{told}
 
@@ -42,24 +47,18 @@ next_shifted parts place tells codes links i part next (Some s) is_injective wit
       (subst (λ x. IsShifted part x place s) (at_next ∙ get_or_from_slice_get parts (get_or links i 0) n next at_n) is);
 }
 
--- what is told of a part by its place in the list
-pub shift_at : (parts : List PartPlan) (place : ℕ) (is_injective : Bool) (codes links : List ℕ) (shifts : List (Option Shift)) (i : ℕ) (shift : Option Shift) → AreShifts parts place is_injective codes links shifts
-    → i < length parts → shift ≡ get_or shifts i shift → IfSome shift (λ s. IsNextShifted parts place is_injective codes links i s)
-shift_at parts place is_injective codes links shifts i None are inside at = tt
-shift_at parts place is_injective codes links shifts i (Some s) are inside at =
-    are.each i s (slice_get-get_or shifts i (Some s) (let m = are.many in omega (arith, m, inside)) ∙ ap (λ (x : Option Shift). Some x) (sym at))
+-- what a row meets at a part, by its place in the list
+pub entry_in : (parts : List PartPlan) (place : ℕ) (tells : Bool) (codes links : List ℕ) (entries : List PartEntry) (i : ℕ) (entry : PartEntry) → ArePartEntries parts place tells codes links entries
+    → i < length parts → entry ≡ get_or entries i entry → IsPartEntry parts place tells codes links i entry
+entry_in parts place tells codes links entries i entry are inside at =
+    are.each i entry (slice_get-get_or entries i entry (let m = are.many in omega (arith, m, inside)) ∙ ap (λ (x : PartEntry). Some x) (sym at))
 
 -- one more
-pub shifts_more : (parts : List PartPlan) (place : ℕ) (is_injective : Bool) (codes links : List ℕ) (shifts : List (Option Shift)) (shift : Option Shift)
-    → ((i : ℕ) (s : Shift) → slice_get shifts i ≡ Some (Some s) → IsNextShifted parts place is_injective codes links i s)
-    → IfSome shift (λ s. IsNextShifted parts place is_injective codes links (length shifts) s)
-    → (i : ℕ) (s : Shift) → slice_get (shifts ++ shift ∷ []) i ≡ Some (Some s) → IsNextShifted parts place is_injective codes links i s
-shifts_more parts place is_injective codes links shifts shift each own =
-    λ i s at. pushed-get (λ k (x : Option Shift). IfSome x (λ t. IsNextShifted parts place is_injective codes links k t)) shifts shift (λ k x at_k. told_of each k x at_k) own i (Some s) at
-  where
-    told_of : ((i : ℕ) (s : Shift) → slice_get shifts i ≡ Some (Some s) → IsNextShifted parts place is_injective codes links i s) → (k : ℕ) (x : Option Shift) → slice_get shifts k ≡ Some x → IfSome x (λ t. IsNextShifted parts place is_injective codes links k t)
-    told_of each k None at_k = tt
-    told_of each k (Some t) at_k = each k t at_k
+pub entries_more : (parts : List PartPlan) (place : ℕ) (tells : Bool) (codes links : List ℕ) (entries : List PartEntry) (entry : PartEntry)
+    → ((i : ℕ) (e : PartEntry) → slice_get entries i ≡ Some e → IsPartEntry parts place tells codes links i e)
+    → IsPartEntry parts place tells codes links (length entries) entry
+    → (i : ℕ) (e : PartEntry) → slice_get (entries ++ entry ∷ []) i ≡ Some e → IsPartEntry parts place tells codes links i e
+entries_more parts place tells codes links entries entry each own = pushed-get (λ k e. IsPartEntry parts place tells codes links k e) entries entry each own
 
 module _ (q : QueryValue) (parts : List PartPlan) (place : ℕ) (c : PartIndex) (are : IsPartIndex q parts place c) (row : List ℤ) where
   abbrev own : ℕ
@@ -74,6 +73,11 @@ module _ (q : QueryValue) (parts : List PartPlan) (place : ℕ) (c : PartIndex) 
   told_at i part at_i is_injective inside =
       told q parts place c are is_injective (by_column row) i (get_or c.codes.items i 0) own part at_i
       (get_or_default c.codes.items i 0 (get_or c.codes.items i 0) (let l = slice_get_within parts i part at_i in let m = many_codes in omega (arith, l, m))) refl inside
+
+  -- so does the code that is listed
+  pub code_tells : (i : ℕ) (part : PartPlan) → slice_get parts i ≡ Some part → c.is_injective ≡ true → (entry : PartEntry) → IsPartEntry parts place c.is_injective c.codes.items c.links.items i entry
+      → (code : ℕ) → code ≡ own → list_all (in_range (by_column row)) (dims_at part place) ≡ true → nat_eq entry.code code ≡ keeps_signs place (alone (by_column row)) (pairs q) part.signs.items
+  code_tells i part at_i is_injective entry is code same inside = ap₂ (λ a b. nat_eq a b) is.code same ∙ told_at i part at_i is_injective inside
 
   module _ (i : ℕ) (shift : Shift) (part next : PartPlan) (at_i : slice_get parts i ≡ Some part) (at_next : slice_get parts (get_or c.links.items i 0) ≡ Some next) (is : IsNextShifted parts place c.is_injective c.codes.items c.links.items i shift) where
     -- the next part admits the row where the part does
@@ -104,3 +108,38 @@ module _ (q : QueryValue) (parts : List PartPlan) (place : ℕ) (c : PartIndex) 
     -- and is the row's
     pub cell_next : StandsAt q parts place row (get_or c.links.items i 0) (record { number = number + shift.cells; kind = shift.kind })
     cell_next = record { within = is.within; stands = λ next at_next. stands_next i shift part next at_i at_next is number kind stands }
+
+  module _ (i : ℕ) (part : PartPlan) (at_i : slice_get parts i ≡ Some part) (has : HasNextCode parts c.is_injective c.codes.items c.links.items i) (number : ℕ) (kind : Kind)
+      (stands : IsPlacement part place row (admits q part place (by_column row)) (Cell number kind)) where
+    -- the next part admits the row where it lies in the ranges of its dims
+    next_admits : (next : PartPlan) → slice_get parts (get_or c.links.items i 0) ≡ Some next → list_all (in_range (by_column row)) (dims_at next place) ≡ true → admits q next place (by_column row) ≡ true
+    next_admits next at_next inside =
+        let admitted : admits q part place (by_column row) ≡ true = sym stands.inside in
+        let here : list_all (in_range (by_column row)) (dims_at part place) ≡ true = and-right _ _ admitted in
+        let signed : keeps_signs place (alone (by_column row)) (pairs q) part.signs.items ≡ true = and-left _ (list_all (in_range (by_column row)) (dims_at part place)) admitted in
+        ap₂ (λ a b. a && b)
+        (sym (told_at (get_or c.links.items i 0) next at_next has.is_injective inside) ∙ ap (λ k. nat_eq k own) (sym has.code) ∙ told_at i part at_i has.is_injective here ∙ signed) inside
+
+    -- and its cell there is the row's
+    pub cell_follows : (cell : CellAt) → IsCellIn parts place row (get_or c.links.items i 0) cell → StandsAt q parts place row (get_or c.links.items i 0) cell
+    cell_follows cell is = record {
+      within = has.within;
+      stands = λ next at_next.
+          let there : IsInBox next place row (placed cell) = is next at_next in
+          subst (λ b. IsPlacement next place row b (placed cell)) (sym there.inside ∙ sym (next_admits next at_next (sym there.inside))) there;
+    }
+
+    pub some_follows : (next : ℕ) → next ≡ get_or c.links.items i 0 → (cell : Option CellAt) → IfSome cell (λ x. IsCellIn parts place row next x) → IfSome cell (λ x. StandsAt q parts place row (get_or c.links.items i 0) x)
+    some_follows next same None is = tt
+    some_follows next same (Some cell) is = cell_follows cell (subst (λ n. IsCellIn parts place row n cell) same is)
+
+-- the cell where a row stands in the part of a number
+pub stands_of : (q : QueryValue) (parts : List PartPlan) (pos : ℕ) (row : List ℤ) (i : ℕ) (part : PartPlan) → i < length parts → slice_get parts i ≡ Some part → (cell : CellAt)
+    → IsPlacement part pos row (admits q part pos (by_column row)) (placed cell) → StandsAt q parts pos row i cell
+stands_of q parts pos row i part inside at_i cell there = record {
+  within = inside;
+  stands = λ p at_p. subst (λ x. IsPlacement x pos row (admits q x pos (by_column row)) (placed cell)) (the_same (sym at_i ∙ at_p)) there;
+}
+  where
+    the_same : {p r : PartPlan} → Some p ≡ Some r → p ≡ r
+    the_same e = cc

@@ -13,7 +13,7 @@ use Rattle.bq_model.specs.Admission.{alone, keeps_signs, in_range}
 use Rattle.bq_synopsis.specs.declared.prepared.Prepared.{Prepared}
 use Rattle.bq_index.specs.declared.part_index.PartIndex.{PartIndex}
 use Rattle.bq_index.specs.Owners.{AreOwners, EachTakes}
-use Rattle.bq_index.specs.Shifts.{AreShifts}
+use Rattle.bq_index.specs.PartEntry.{ArePartEntries}
 
 -- there is a pair of this number, and it is of the stream at a place of FROM
 abbrev pub IsLocal : List Pair → ℕ → ℕ → Type 0
@@ -120,8 +120,8 @@ pub record TellAll (ps : List Pair) (parts : List PartPlan) (place : ℕ) (tests
       → signs_of_row ps v tests ≡ signs_of_part part tests → keeps_signs place (alone v) ps part.signs.items ≡ true
 
 -- only pairs of the stream at this place are tested, those that are listed, each part has its code, which tells all signs where it is exact, and a mark
--- where it takes rows into a box of its own, as each does where that is said, the parts are chained by their buckets, and it is told how boxes are
--- shifted along a chain
+-- where it takes rows into a box of its own, as each does where that is said, the parts are chained by their buckets, and it is listed what a row
+-- meets at each
 pub record IsPartIndex (q : QueryValue) (parts : List PartPlan) (place : ℕ) (c : PartIndex) : Type 0 where
   pub local : All (IsLocal (pairs q) place) c.tests.items
   pub tested : AreOf (pairs q) c.tests.items c.tested.items
@@ -130,4 +130,4 @@ pub record IsPartIndex (q : QueryValue) (parts : List PartPlan) (place : ℕ) (c
   pub joined : AreLinked (buckets_of parts c.tests.items c.mask) c.mask 0 c.heads.items c.links.items
   pub owners : AreOwners q parts place c.owns.items
   pub each : c.each ≡ true → EachTakes q parts place
-  pub shifts : AreShifts parts place c.is_injective c.codes.items c.links.items c.shifts.items
+  pub entries : ArePartEntries parts place c.is_injective c.codes.items c.links.items c.entries.items

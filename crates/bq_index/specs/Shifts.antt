@@ -1,5 +1,5 @@
 -- Parts that follow each other in a chain and have the same code and the same dims at a place of FROM: a row stands at the same place of both.
-use Rattle.std.specs.Prelude.{◌≡◌, ℕ, ◌<◌, ℤ, Bool, true, List, length, slice_get, slice_index_or, Option, Some}
+use Rattle.std.specs.Prelude.{◌≡◌, ℕ, ◌<◌, ℤ, Bool, true, List, length, slice_get, slice_index_or, Some}
 use Rattle.bq_model.specs.declared.plan.PartPlan.{PartPlan}
 use Rattle.bq_model.specs.Query.{QueryValue}
 use Rattle.bq_model.specs.Meaning.{by_column}
@@ -16,10 +16,11 @@ pub record IsNextShifted (parts : List PartPlan) (place : ℕ) (tells : Bool) (c
   pub code : slice_index_or codes i 0 ≡ slice_index_or codes (slice_index_or links i 0) 0
   pub box : (part next : PartPlan) → slice_get parts i ≡ Some part → slice_get parts (slice_index_or links i 0) ≡ Some next → IsShifted part next place shift
 
--- for each part how its box is shifted in the next one, where that is told
-pub record AreShifts (parts : List PartPlan) (place : ℕ) (tells : Bool) (codes links : List ℕ) (shifts : List (Option Shift)) : Type 0 where
-  pub many : length shifts ≡ length parts
-  pub each : (i : ℕ) (shift : Shift) → slice_get shifts i ≡ Some (Some shift) → IsNextShifted parts place tells codes links i shift
+-- codes are exact, and the next part of the bucket has the code of the part of this number
+pub record HasNextCode (parts : List PartPlan) (tells : Bool) (codes links : List ℕ) (i : ℕ) : Type 0 where
+  pub is_injective : tells ≡ true
+  pub within : slice_index_or links i 0 < length parts
+  pub code : slice_index_or codes i 0 ≡ slice_index_or codes (slice_index_or links i 0) 0
 
 -- there is a part of this number, it admits a row, and this is the row's cell there
 pub record StandsAt (q : QueryValue) (parts : List PartPlan) (pos : ℕ) (row : List ℤ) (i : ℕ) (cell : CellAt) : Type 0 where

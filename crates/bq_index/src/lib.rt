@@ -6,17 +6,15 @@
 //! tells which part takes a row into a box.
 #![tactic(auto)]
 
-mod interval;
 mod key_pairs;
 mod owners;
+mod part_entry;
 mod part_index;
-mod passing;
-mod prefilter;
 mod prepared;
 mod shift;
 mod shifts;
+mod simple_box;
 
 pub use part_index::{CodedRow, IndexHit, PartIndex};
-pub use prefilter::{Prefilter, prefilter_of, stream_of};
 pub use prepared::{PreparedPlan, prepare_all};
 pub use shift::CellAt;

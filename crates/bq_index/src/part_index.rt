@@ -9,14 +9,18 @@ ghost use Rattle.bq_model.specs.Plan.{dims_at};
 ghost use Rattle.bq_synopsis.specs.Preparing.{IsPrepared};
 ghost use Rattle.bq_synopsis.specs.Axes.{IsPlacement};
 ghost use Rattle.bq_index.specs.Prepared.{ArePrepared};
-ghost use Rattle.bq_index.specs.Shifts.{IsNextShifted, StandsAt};
+ghost use Rattle.bq_index.specs.Shift.{placed};
+ghost use Rattle.bq_index.specs.Shifts.{StandsAt};
+ghost use Rattle.bq_index.specs.PartEntry.{IsPartEntry, IsCellIn};
+ghost use Rattle.bq_index.specs.SimpleBox.{IsInBox};
 ghost use Rattle.bq_index.specs.Owners.{BeginBehind, EachTakes, takes_rows};
 ghost use Rattle.bq_index.specs.PartIndex.{IsLocal, signs_at, signs_of_part, number_of, code_after, codes_of, row_code, buckets_of, row_bucket, AreOf, IsNext, IsMarked, AreKeyPairs, HasKeyPairs, TellAll, AreLinked, IsPartIndex};
 
 use crate::key_pairs::KeyPairs;
 use crate::owners::{each_takes, owners_at};
-use crate::shift::{CellAt, Shift};
-use crate::shifts::{Chained, shifts_of};
+use crate::part_entry::{PartEntry, entries_of};
+use crate::shift::CellAt;
+use crate::shifts::Chained;
 use arrayvec::ArrayVec;
 use bq_model::{Pair, PartPlan, PartPlans, Query, Row, Sign, is_within, value_alone, value_at};
 use bq_synopsis::{Placement, Prepared, placement_of};
@@ -43,8 +47,8 @@ pub struct PartIndex {
     heads: Vec<u32>,
     /// The next part of the bucket of each part; the number of all parts where there is none.
     links: Vec<u32>,
-    /// How many cells later the box of the next part begins, where a row stands in both at the same place or in neither.
-    shifts: Vec<Option<Shift>>,
+    /// What a row meets at each part.
+    entries: Vec<PartEntry>,
 }
 
 /// The code of a row, and the first part that it is led to.
@@ -179,23 +183,58 @@ impl PartIndex {
         ensures next { IsNext (buckets_of parts.now self.now.tests.items self.now.mask) (slice_index_or (buckets_of parts.now self.now.tests.items self.now.mask) i 0) (i + 1) result }
         ensures number { result ≡ slice_index_or self.now.links.items i 0 }
     {
-        // Named for the proof alone: the contract speaks of it.
-        let _parts = parts.len();
-        self.links[i as usize]
+        self.entry(q, parts, pos, i).next
     }
 
-    // How many cells later the box of the next part of a part's bucket begins, where a row stands at the same place of both.
-    fn shift(&self, q: &Query, parts: &PartPlans, pos: u8, i: u32) -> Option<Shift>
+    // What a row meets at a part.
+    fn entry(&self, q: &Query, parts: &PartPlans, pos: u8, i: u32) -> &PartEntry
         requires inside { i < length parts.now }
         requires part_index { IsPartIndex q.now parts.now pos self.now }
-        ensures { IfSome result (λ shift. IsNextShifted parts.now pos self.now.is_injective self.now.codes.items self.now.links.items i shift) }
+        ensures { IsPartEntry parts.now pos self.now.is_injective self.now.codes.items self.now.links.items i result.now }
     {
         // Named for the proof alone: the contract speaks of it.
         let _parts = parts.len();
-        self.shifts[i as usize]
+        &self.entries[i as usize]
     }
 
-    /// Returns the cell of a row in the next part of a part's bucket, where it follows from where the row stands in the part.
+    // The cell of a row in a part whose signs it has, where its box is listed and the row lies in it.
+    fn cell_in(&self, coded: &CodedRow<'_>, i: u32) -> Option<CellAt>
+        requires inside { i < length coded.now.parts.now }
+        requires part_index { IsPartIndex coded.now.q.now coded.now.parts.now coded.now.pos self.now }
+        ensures { IfSome result (λ cell. IsCellIn coded.now.parts.now coded.now.pos coded.now.row.now.items i cell) }
+    {
+        let entry = self.entry(coded.q, coded.parts, coded.pos, i);
+        let part = coded.parts.get(i);
+        cell_of(
+            entry
+                .simple_box
+                .placement(part, coded.pos, coded.row.as_slice()),
+        )
+    }
+
+    // The cell of a row in the next part of a part's bucket by the row's cell in the part, where both parts have one code.
+    fn cell_following(
+        &self,
+        coded: &CodedRow<'_>,
+        cell: CellAt,
+        i: u32,
+        entry: &PartEntry,
+    ) -> Option<CellAt>
+        requires part_index { IsPartIndex coded.now.q.now coded.now.parts.now coded.now.pos self.now }
+        requires entry { IsPartEntry coded.now.parts.now coded.now.pos self.now.is_injective self.now.codes.items self.now.links.items i entry.now }
+        requires stands { StandsAt coded.now.q.now coded.now.parts.now coded.now.pos coded.now.row.now.items i cell }
+        ensures { IfSome result (λ found. StandsAt coded.now.q.now coded.now.parts.now coded.now.pos coded.now.row.now.items (slice_index_or self.now.links.items i 0) found) }
+    {
+        // Named for the proof alone: the contract speaks of them.
+        let (_cell, _part) = (cell, i);
+        if entry.follows {
+            self.cell_in(coded, entry.next)
+        } else {
+            None
+        }
+    }
+
+    /// Returns the cell of a row in the next part of a part's bucket, where the row's cell in the part and the boxes of both tell it.
     pub fn cell_after(
         &self,
         coded: &CodedRow<'_>,
@@ -210,10 +249,11 @@ impl PartIndex {
         ensures { IfSome result (λ cell. StandsAt coded.now.q.now coded.now.parts.now coded.now.pos coded.now.row.now.items (slice_index_or self.now.links.items i 0) cell) }
     {
         match placement {
-            Placement::Cell { number, .. } => {
-                match self.shift(coded.q, coded.parts, coded.pos, i) {
+            Placement::Cell { number, kind } => {
+                let entry = self.entry(coded.q, coded.parts, coded.pos, i);
+                match entry.shift {
                     Some(shift) => Some(shift.after(number)),
-                    None => None,
+                    None => self.cell_following(coded, CellAt { number, kind }, i, entry),
                 }
             }
             Placement::Inside | Placement::Outside => None,
@@ -258,9 +298,7 @@ impl PartIndex {
         requires code { coded.now.code ≡ row_code (pairs coded.now.q.now) self.now (by_column coded.now.row.now.items) }
         ensures { list_all (in_range (by_column coded.now.row.now.items)) (dims_at part.now coded.now.pos) ≡ true → result ≡ keeps_signs coded.now.pos (alone (by_column coded.now.row.now.items)) (pairs coded.now.q.now) part.now.signs.items }
     {
-        // Named for the proof alone: the contract speaks of it.
-        let _parts = coded.parts.len();
-        self.codes[i as usize] == coded.code
+        self.entry(coded.q, coded.parts, coded.pos, i).code == coded.code
     }
 
     // Whether a row may be admitted by a part: where codes are exact, whether it has the signs of the part.
@@ -275,6 +313,22 @@ impl PartIndex {
             self.has_signs(coded, part, i)
         } else {
             true
+        }
+    }
+
+    // Where a row stands in the part of a number whose signs it has, where the part's box is listed.
+    fn listed_placement(&self, coded: &CodedRow<'_>, part: &PartPlan, i: u32) -> Option<Placement>
+        requires part_index { IsPartIndex coded.now.q.now coded.now.parts.now coded.now.pos self.now }
+        requires part { slice_get coded.now.parts.now i ≡ Some part.now }
+        ensures { IfSome result (λ placement. (self.now.is_injective ≡ true) × IsInBox part.now coded.now.pos coded.now.row.now.items placement) }
+    {
+        if self.is_injective {
+            let entry = self.entry(coded.q, coded.parts, coded.pos, i);
+            entry
+                .simple_box
+                .placement(part, coded.pos, coded.row.as_slice())
+        } else {
+            None
         }
     }
 
@@ -293,18 +347,30 @@ impl PartIndex {
         requires code { coded.now.code ≡ row_code (pairs coded.now.q.now) self.now (by_column coded.now.row.now.items) }
         ensures { IsPlacement part.now coded.now.pos coded.now.row.now.items (admits coded.now.q.now part.now coded.now.pos (by_column coded.now.row.now.items)) result }
     {
-        if self.may_admit(coded, part, i) {
-            placement_of(
+        if !self.may_admit(coded, part, i) {
+            return Placement::Outside;
+        }
+        match self.listed_placement(coded, part, i) {
+            Some(placement) => placement,
+            None => placement_of(
                 coded.q,
                 part,
                 prepared,
                 self.is_injective,
                 coded.pos,
                 coded.row,
-            )
-        } else {
-            Placement::Outside
+            ),
         }
+    }
+}
+
+// The cell where a row stands, where that is told.
+fn cell_of(placement: Option<Placement>) -> Option<CellAt>
+    ensures { IfSome result (λ cell. placement ≡ Some (placed cell)) }
+{
+    match placement {
+        Some(Placement::Cell { number, kind }) => Some(CellAt { number, kind }),
+        _ => None,
     }
 }
 
@@ -475,7 +541,7 @@ pub fn part_index_at(
         codes: codes.as_slice(),
         links: links.as_slice(),
     };
-    let shifts = shifts_of(alloc, q, parts, prepared, place, &chained)?;
+    let entries = entries_of(alloc, q, parts, prepared, place, &chained)?;
     Ok(PartIndex {
         tests: numbers,
         tested,
@@ -486,6 +552,6 @@ pub fn part_index_at(
         mask,
         heads,
         links,
-        shifts,
+        entries,
     })
 }

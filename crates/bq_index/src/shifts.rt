@@ -1,16 +1,15 @@
 //! Parts that follow each other in a chain, ask for the same signs, and have the same dims at a place of FROM: a row stands in all of them or in
 //! none, and at the same place of their boxes, so that it is tested and placed once.
-ghost use Rattle.std.specs.Prelude.{◌≡◌, ◌<◌, true, length, slice_get, slice_index_or, Some, IfSome, IfOk};
+ghost use Rattle.std.specs.Prelude.{◌≡◌, ◌<◌, true, length, slice_get, slice_index_or, Some, IfSome};
 ghost use Rattle.bq_model.specs.declared.plan.PartPlan.{PartPlan};
 ghost use Rattle.bq_model.specs.Parts.{pairs};
 ghost use Rattle.bq_synopsis.specs.Preparing.{IsPrepared};
 ghost use Rattle.bq_index.specs.Prepared.{ArePrepared};
-ghost use Rattle.bq_index.specs.Shifts.{IsNextShifted, AreShifts};
+ghost use Rattle.bq_index.specs.Shifts.{HasNextCode, IsNextShifted};
 
 use crate::shift::{Shift, shift_between};
 use bq_model::{PartPlans, Query};
 use bq_synopsis::Prepared;
-use std::alloc::{AllocError, Global};
 
 /// Whether the codes of parts are exact, these codes, and the next part of each part's bucket.
 #[derive(Clone, Copy)]
@@ -20,8 +19,13 @@ pub struct Chained<'a> {
     pub links: &'a [u32],
 }
 
-// What a part is asked of every row.
-fn prepared_of<'a>(q: &Query, parts: &PartPlans, prepared: &'a [Prepared], i: u32) -> &'a Prepared
+/// Returns what a part is asked of every row.
+pub fn prepared_of<'a>(
+    q: &Query,
+    parts: &PartPlans,
+    prepared: &'a [Prepared],
+    i: u32,
+) -> &'a Prepared
     requires inside { i < length parts.now }
     requires prepared { ArePrepared (pairs q.now) parts.now prepared.now }
     ensures { (part : PartPlan) → slice_get parts.now i ≡ Some part → IsPrepared (pairs q.now) part result.now }
@@ -40,8 +44,25 @@ fn have_code(codes: &[u32], i: u32, next: u32) -> bool
     codes[i as usize] == codes[next as usize]
 }
 
-// How many cells later the box of the next part begins, where a row stands at the same place of both.
-fn shift_at(
+/// Returns whether the next part of a part's bucket has the same code, and this is exact.
+pub fn has_next_code(parts: &PartPlans, chained: &Chained<'_>, i: u32) -> bool
+    requires inside { i < length parts.now }
+    requires codes { length chained.now.codes.now ≡ length parts.now }
+    requires links { length chained.now.links.now ≡ length parts.now }
+    ensures { result ≡ true → HasNextCode parts.now chained.now.is_injective chained.now.codes.now chained.now.links.now i }
+{
+    let next = chained.links[i as usize];
+    if !chained.is_injective {
+        return false;
+    }
+    if next >= parts.len() {
+        return false;
+    }
+    have_code(chained.codes, i, next)
+}
+
+/// Returns how many cells later the box of the next part begins, where a row stands at the same place of both.
+pub fn shift_at(
     q: &Query,
     parts: &PartPlans,
     prepared: &[Prepared],
@@ -55,38 +76,10 @@ fn shift_at(
     requires links { length chained.now.links.now ≡ length parts.now }
     ensures { IfSome result (λ shift. IsNextShifted parts.now place chained.now.is_injective chained.now.codes.now chained.now.links.now i shift) }
 {
+    if !has_next_code(parts, chained, i) {
+        return None;
+    }
     let next = chained.links[i as usize];
-    if !chained.is_injective {
-        return None;
-    }
-    if next >= parts.len() {
-        return None;
-    }
-    if !have_code(chained.codes, i, next) {
-        return None;
-    }
     let prepared = prepared_of(q, parts, prepared, next);
     shift_between(q, parts.get(i), parts.get(next), prepared, place)
-}
-
-/// Returns for each part how many cells later the box of the next one begins, where a row stands at the same place of both. An error says
-/// that memory was not found.
-pub fn shifts_of(
-    alloc: Global,
-    q: &Query,
-    parts: &PartPlans,
-    prepared: &[Prepared],
-    place: u8,
-    chained: &Chained<'_>,
-) -> Result<Vec<Option<Shift>>, AllocError>
-    requires prepared { ArePrepared (pairs q.now) parts.now prepared.now }
-    requires codes { length chained.now.codes.now ≡ length parts.now }
-    requires links { length chained.now.links.now ≡ length parts.now }
-    ensures { IfOk result (λ shifts. AreShifts parts.now place chained.now.is_injective chained.now.codes.now chained.now.links.now shifts.items) }
-{
-    let mut shifts: Vec<Option<Shift>> = Vec::with_capacity(alloc, parts.len() as usize)?;
-    'parts: for i in 0..parts.len() {
-        shifts.push(shift_at(q, parts, prepared, place, chained, i))?;
-    }
-    Ok(shifts)
 }

@@ -31,7 +31,7 @@ use Rattle.bq_synopsis.specs.Premises.{IsWalked}
 use Rattle.bq_synopsis.proofs.Lookups.{some-is, none-is}
 use Rattle.bq_synopsis.proofs.PlanLaws.{named, laid-beside}
 use Rattle.bq_narrow.specs.declared.binding.Binding.{Binding}
-use Rattle.bq_probe.specs.Choosing.{Setting, setting, start, chosen, cell_in, meets, meets_links, tuple_of, found, product_of}
+use Rattle.bq_probe.specs.Choosing.{Setting, setting, start, both, chosen, cell_in, meets, meets_links, tuple_of, found, product_of}
 use Rattle.bq_narrow.specs.Narrowed.{dims_in, narrowed_dims}
 use Rattle.bq_probe.specs.Joining.{is_some, value_of, are_told, told_values}
 use Rattle.bq_probe.specs.Remaining.{as_found}
@@ -129,11 +129,6 @@ module _ (row : List ℤ) where
   pub place-same : (keys : List KeyColumn) → place_of (map (λ (k : KeyColumn). k.dim) keys) (key_values row keys) ≡ row_place (map key_dim keys) (by_column row)
   place-same [] = refl
   place-same (k ∷ keys) = λ i. nat_abs (by_column row k.column.column -ℤ k.dim.lo) * size-same keys i + place-same keys i
-
--- the arriving row, and a cell of the other of two streams, by place
-abbrev pub both : ℕ → List ℤ → Cell → List Binding
-both zero values cell = chosen [] Present ∷ chosen values cell ∷ []
-both (suc arriving) values cell = chosen values cell ∷ chosen [] Present ∷ []
 
 -- the other of two places
 other-start : (arriving place : ℕ) → arriving < 2 → place ≡ 1 - arriving → place ≡ length (start arriving)

@@ -1,3 +1,4 @@
+pub mod AloneLaws
 pub mod BreakLaws
 pub mod BackLaws
 pub mod BesideLaws

@@ -32,7 +32,7 @@ use Rattle.bq_narrow.proofs.DimLaws.{low-narrowed}
 use Rattle.bq_probe.proofs.UnderwayLaws.{own-dims}
 
 -- dims of one value each have one combination
-both-one : (a b : ℕ) → a * b ≡ 1 → (a ≡ 1) × (b ≡ 1)
+pub both-one : (a b : ℕ) → a * b ≡ 1 → (a ≡ 1) × (b ≡ 1)
 both-one zero b e = absurd (omega (arith, e))
 both-one (suc zero) b e = (refl, omega (arith, e))
 both-one (suc (suc a)) zero e = absurd (omega (arith, e))
@@ -100,7 +100,7 @@ module _ (q : QueryValue) (part : PartPlan) (walked : IsWalked q part) (arriving
       let b = place-below (dims_at part (length (start arriving))) (map (λ d. d.lo) fixed) inside in
       omega (arith, b, are.cell, laid.size, laid.room)
 
-  cell-first : (contents : List Cell) → cell_in part (read_from contents) arriving (length (start arriving)) (map (λ d. d.lo) fixed) ≡ slice_index_or contents first Empty
+  pub cell-first : (contents : List Cell) → cell_in part (read_from contents) arriving (length (start arriving)) (map (λ d. d.lo) fixed) ≡ slice_index_or contents first Empty
   unfolding cell_in
   cell-first contents = by (length (start arriving) == arriving) refl ∙ ap (λ n. slice_index_or contents n Empty) are.cell
     where

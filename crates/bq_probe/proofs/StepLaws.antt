@@ -36,7 +36,7 @@ use Rattle.bq_synopsis.specs.Premises.{IsLaidOut, AreFitting}
 use Rattle.bq_probe.specs.Remaining.{left_of, outer_of, IsPlaced, WentBack, HasEntered, ended, popped, AreLight, limit, as_found}
 use Rattle.bq_probe.proofs.WalkLaws.{left-skip, left-back, left-past, left-whole, left-enter, outer-none}
 use Rattle.bq_probe.proofs.CostLaws.{cost-skip, cost-back, cost-end, cost-next, cost-enter}
-use Rattle.bq_narrow.proofs.NarrowLaws.{narrower, clip-narrower, one-value}
+use Rattle.bq_narrow.proofs.NarrowLaws.{clip-narrower, one-value}
 use Rattle.bq_narrow.proofs.DimLaws.{dims-beside, inside-narrowed}
 
 -- a dim counts with all its values where no known column fixes it, and else with one

@@ -79,3 +79,8 @@ found w known = record { tuple = tuple w known; count = product_of known }
 abbrev pub start : ℕ → List Binding
 start zero = chosen [] Present ∷ []
 start (suc arriving) = []
+
+-- the arriving row, and a cell of the other of two streams, by place
+abbrev pub both : ℕ → List ℤ → Cell → List Binding
+both zero values cell = chosen [] Present ∷ chosen values cell ∷ []
+both (suc arriving) values cell = chosen values cell ∷ chosen [] Present ∷ []

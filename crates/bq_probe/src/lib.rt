@@ -20,6 +20,6 @@ mod scratch;
 mod stack;
 
 pub use join::{FirstLook, first_look};
-pub use nothing::sees_nothing;
+pub use nothing::look_before_walk;
 pub use probe::Probe;
 pub use scratch::ProbeScratch;

@@ -45,7 +45,8 @@ pub fn meets_links(at: &RowAt<'_>, known: &[Binding]) -> bool
     requires prepared { IsPrepared at.now.pairs.now at.now.part.now at.now.prepared.now }
     ensures { result ≡ meets_links at.now.pairs.now at.now.part.now at.now.arriving at.now.row.now known.now }
 {
-    all_equal(at, known, at.part.equal.as_slice()) && all_less(at, known, at.part.less.as_slice())
+    // The inequalities first: an equality mostly holds of what it left to choose.
+    all_less(at, known, at.part.less.as_slice()) && all_equal(at, known, at.part.equal.as_slice())
 }
 
 /// Puts the values of the selected columns into `tuple`.

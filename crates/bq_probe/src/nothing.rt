@@ -1,39 +1,58 @@
-//! Rows to which the cells are seen to answer nothing before a walk begins.
-ghost use Rattle.std.specs.Prelude.{◌≡◌, ◌+◌, ◌-◌, ◌*◌, ◌<◌, ◌≤◌, length, true, []};
+//! What is seen of the answers to a row before a walk begins.
+ghost use Rattle.std.specs.Prelude.{◌≡◌, ◌+◌, ◌-◌, ◌*◌, ◌<◌, ◌≤◌, length, if◌then◌else◌};
 ghost use Rattle.bq_model.specs.Combinations.{read_from};
 ghost use Rattle.bq_model.specs.Meaning.{by_column};
 ghost use Rattle.bq_model.specs.Numbers.{share};
 ghost use Rattle.bq_model.specs.Parts.{pairs};
 ghost use Rattle.bq_model.specs.Probing.{found_beside};
 ghost use Rattle.bq_pool.specs.Extents.{cells_of};
+ghost use Rattle.bq_probe.specs.Joining.{Tells};
+ghost use Rattle.bq_probe.specs.declared.join.FirstLook.TheVariants as look;
 ghost use Rattle.bq_synopsis.specs.Premises.{IsReady};
 ghost use Rattle.bq_synopsis.specs.Preparing.{IsPrepared};
 
+use crate::join::FirstLook;
 use crate::scratch::ProbeScratch;
+use bq_model::Tuple;
 use bq_narrow::{PartAt, RowAt, is_empty};
 use bq_pool::{Pool, Steps};
 use bq_synopsis::Admitted;
 use std::sync::ledger::Ledger;
 
-/// Returns whether it is seen at once that the cells answer nothing to a row: it is listed that one cell is left where a walk begins,
-/// and that cell is empty; or the row's own columns leave no cell that holds anything where a walk ends. This is at most one read, and
-/// none over four streams, so that a walk may follow within three times the share of the part.
-pub fn sees_nothing<L: Ledger>(
+// What is told where it may be seen that there is no answer.
+fn nothing_where(seen: bool) -> FirstLook
+    ensures { result ≡ (if seen then look.Nothing else look.Unknown) }
+{
+    if seen {
+        FirstLook::Nothing
+    } else {
+        FirstLook::Unknown
+    }
+}
+
+/// Returns what is seen of the answers to a row before a walk begins, and puts the tuple where there is one. Where it is listed that one
+/// cell is left where a walk begins, there is none if that cell is empty, and over two streams that cell alone tells all; and there is
+/// none where the row's own columns leave no cell that holds anything where a walk ends. This is at most one read, and none over four
+/// streams, so that a walk may follow within three times the share of the part.
+pub fn look_before_walk<L: Ledger>(
     pool: &Pool,
     part: &PartAt<'_>,
     at: &Admitted<'_>,
     room: &mut ProbeScratch,
+    tuple: &mut Tuple,
     steps: &mut Steps<L>,
-) -> bool
+) -> FirstLook
     requires here { at.now.pos < length part.now.q.now.from }
     requires ready { IsReady part.now.q.now part.now.plan.now pool.now part.now.extent.now }
     requires prepared { IsPrepared (pairs part.now.q.now) part.now.plan.now part.now.prepared.now }
-    ensures nothing { result ≡ true → found_beside part.now.q.now part.now.plan.now (read_from (cells_of pool.now part.now.extent.now)) at.now.pos (by_column at.now.row.now.items) ≡ [] }
+    ensures found { Tells result tuple.new.items (found_beside part.now.q.now part.now.plan.now (read_from (cells_of pool.now part.now.extent.now)) at.now.pos (by_column at.now.row.now.items)) }
     ensures reads { steps.new.reads + (length part.now.plan.now.streams.items - 1) * share part.now.plan.now ≤ steps.old.reads + 3 * share part.now.plan.now }
     ensures writes { steps.new.writes ≡ steps.old.writes }
 {
-    if part.plan.streams.as_slice().len() > 3 {
-        return room.is_cut_off(pool, part.extent, part.plan, at.pos, at.row.as_slice());
+    let streams = part.plan.streams.as_slice().len();
+    if streams > 3 {
+        let seen = room.is_cut_off(pool, part.extent, part.plan, at.pos, at.row.as_slice());
+        return nothing_where(seen);
     }
     let row_at = RowAt {
         pairs: part.q.pairs().as_slice(),
@@ -42,8 +61,16 @@ pub fn sees_nothing<L: Ledger>(
         arriving: at.pos,
         row: at.row.as_slice(),
     };
-    match room.first_cell(&row_at) {
-        Some(cell) => is_empty(pool.read(part.extent, cell, steps)),
-        None => room.is_cut_off(pool, part.extent, part.plan, at.pos, at.row.as_slice()),
+    let Some(number) = room.first_cell(&row_at) else {
+        let seen = room.is_cut_off(pool, part.extent, part.plan, at.pos, at.row.as_slice());
+        return nothing_where(seen);
+    };
+    let cell = pool.read(part.extent, number, steps);
+    if is_empty(cell) {
+        return FirstLook::Nothing;
     }
+    if streams != 2 {
+        return FirstLook::Unknown;
+    }
+    room.look_alone(part.q, &row_at, cell, tuple)
 }

@@ -1,22 +1,27 @@
 //! Room for a walk, and the values that there are to try at the next place.
 ghost use Rattle.std.specs.Prelude.{◌≡◌, ◌≢◌, ◌*◌, ◌<◌, ◌^◌, length, [], ◌∷◌, ◌++◌, IfSome, map, true, false, Option, Some};
 ghost use Rattle.bq_model.specs.Boxes.{box_size, values_at, AreInside, AreNumbered};
-ghost use Rattle.bq_model.specs.Combinations.{read_from};
+ghost use Rattle.bq_model.specs.Combinations.{Reading, read_from};
 ghost use Rattle.bq_model.specs.Parts.{pairs};
 ghost use Rattle.bq_model.specs.Plan.{stream_at, dims_at};
 ghost use Rattle.bq_pool.specs.Extents.{cells_of, IsLive};
 ghost use Rattle.bq_probe.specs.Beside.{last_beside, IsEmptyBeside};
-ghost use Rattle.bq_probe.specs.Choosing.{start, chosen};
+ghost use Rattle.bq_probe.specs.Choosing.{setting, start, both, chosen};
+ghost use Rattle.bq_probe.specs.Joining.{Tells};
+ghost use Rattle.bq_probe.specs.Walk.{walk};
 ghost use Rattle.bq_narrow.specs.Lined.{StandOn, AreFixed};
 ghost use Rattle.bq_synopsis.specs.Preparing.{IsPrepared};
 ghost use Rattle.bq_narrow.specs.Narrowed.{narrowed_dims};
 ghost use Rattle.bq_synopsis.specs.Premises.{IsLaidOut};
 
 use crate::beside::leaves_nothing;
+use crate::join::FirstLook;
+use crate::links::{meets_links, tuple_of};
 use crate::stack::Bindings;
-use bq_model::{Cell, Dim, PartPlan, size_of};
+use bq_model::{Cell, Dim, PartPlan, Query, Tuple, size_of};
 use bq_narrow::{
-    Counts, Dims, RowAt, fixed_dims, is_empty, line_of, narrowed_dims, pinned_dims, single_dims,
+    Counts, Dims, RowAt, fixed_dims, is_empty, line_of, narrowed_dims, pinned_dims, rows_in,
+    single_dims,
 };
 use bq_pool::{Extent, Pool, StridedCells};
 use bq_synopsis::{is_scan, may_look_up, stream_at};
@@ -189,7 +194,8 @@ impl ProbeScratch {
     pub(crate) fn first_cell(&mut self, at: &RowAt<'_>) -> Option<u32>
         requires prepared { IsPrepared at.now.pairs.now at.now.part.now at.now.prepared.now }
         requires laid { length (start at.now.arriving) < length at.now.part.now.streams.items → IsLaidOut (stream_at at.now.part.now (length (start at.now.arriving))) (2 ^ 32) }
-        ensures { IfSome result (λ first. (length (start at.now.arriving) < length at.now.part.now.streams.items) × AreFixed at.now.part.now (length (start at.now.arriving)) (narrowed_dims at.now.pairs.now at.now.part.now at.now.arriving at.now.row.now (start at.now.arriving)) self.new.dims.items first) }
+        ensures chosen { self.new.chosen.items ≡ start at.now.arriving }
+        ensures first { IfSome result (λ first. (length (start at.now.arriving) < length at.now.part.now.streams.items) × AreFixed at.now.part.now (length (start at.now.arriving)) (narrowed_dims at.now.pairs.now at.now.part.now at.now.arriving at.now.row.now (start at.now.arriving)) self.new.dims.items first) }
     {
         self.begin(at.arriving);
         if self.chosen.len() >= at.part.streams.as_slice().len() {
@@ -201,6 +207,43 @@ impl ProbeScratch {
             return pinned;
         }
         single_dims(at, known, &mut self.dims)
+    }
+
+    // Takes up the cell to which a walk over two streams comes first, where it alone is left there, and the arriving row behind it, where
+    // that is not taken up yet.
+    fn take_both(&mut self, arriving: u8, cell: Cell)
+        requires chosen { self.old.chosen.items ≡ start arriving }
+        requires one { box_size self.old.dims.items ≡ 1 }
+        ensures { self.new.chosen.items ≡ both arriving (map (λ d. d.lo) self.old.dims.items) cell }
+    {
+        self.chosen.push(self.dims.as_slice(), 1, 0, cell);
+        if arriving == 0 {
+            return;
+        }
+        self.chosen.push_own();
+    }
+
+    /// Tells what the cell tells to which a walk over two streams comes first, where it alone is left there and is not empty, and puts the
+    /// tuple where there is one.
+    pub(crate) fn look_alone(
+        &mut self,
+        q: &Query,
+        at: &RowAt<'_>,
+        cell: Cell,
+        tuple: &mut Tuple,
+    ) -> FirstLook
+        requires prepared { IsPrepared at.now.pairs.now at.now.part.now at.now.prepared.now }
+        requires chosen { self.old.chosen.items ≡ start at.now.arriving }
+        requires one { box_size self.old.dims.items ≡ 1 }
+        ensures { (read : Reading) → Tells result tuple.new.items (walk (setting at.now.pairs.now q.now.select at.now.part.now at.now.arriving at.now.row.now read) 0 (both at.now.arriving (map (λ d. d.lo) self.old.dims.items) cell)) }
+    {
+        self.take_both(at.arriving, cell);
+        let known = self.chosen.as_slice();
+        if !meets_links(at, known) {
+            return FirstLook::Nothing;
+        }
+        tuple_of(at, known, q.select(), tuple);
+        FirstLook::One(rows_in(cell))
     }
 
     /// Tells whether it is seen that the row's own columns leave no cell that holds anything at the last place that a walk comes to. Over

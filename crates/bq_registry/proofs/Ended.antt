@@ -9,7 +9,7 @@ use Rattle.std.proofs.lemmas.List.Sums.{sum_by-cons}
 use Rattle.bq_model.specs.Domains.{RowKeeps}
 use Rattle.bq_model.specs.Meaning.{Arrival}
 use Rattle.bq_pool.specs.Extents.{PoolValue}
-use Rattle.bq_index.specs.Prefilter.{IsRefused}
+use Rattle.bq_filter.specs.Prefilter.{IsRefused}
 use Rattle.bq_executor.specs.Executor.{ExecutorValue, waiting_in}
 use Rattle.bq_executor.specs.Standing.{IsReady}
 use Rattle.bq_registry.specs.declared.queries.Runner.{Runner}

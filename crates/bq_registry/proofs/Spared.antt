@@ -6,7 +6,7 @@ use Rattle.bq_model.specs.Meaning.{Arrival}
 use Rattle.bq_pool.specs.Extents.{PoolValue}
 use Rattle.bq_executor.specs.Executor as executor
 use Rattle.bq_executor.specs.Executor.{ExecutorValue, waiting_in, with_given}
-use Rattle.bq_index.specs.Prefilter.{IsRefused}
+use Rattle.bq_filter.specs.Prefilter.{IsRefused}
 use Rattle.bq_executor.specs.Standing.{IsReady}
 use Rattle.bq_model.specs.Domains.{RowKeeps}
 use Rattle.bq_executor.proofs.PartCells.{with_own}

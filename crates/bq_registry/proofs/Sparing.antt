@@ -14,7 +14,7 @@ use Rattle.bq_model.specs.declared.plan.Plan.{Plan}
 use Rattle.bq_model.specs.Query.{QueryValue}
 use Rattle.bq_model.specs.Meaning.{Arrival}
 use Rattle.bq_executor.specs.Executor.{ExecutorValue, arrival, with_given}
-use Rattle.bq_index.specs.Prefilter.{IsRefused}
+use Rattle.bq_filter.specs.Prefilter.{IsRefused}
 use Rattle.bq_executor.specs.Passing.{IsBoxFor}
 use Rattle.bq_registry.specs.declared.concerned.Concerned.{Concerned}
 use Rattle.bq_registry.specs.Live.{Live}

@@ -5,7 +5,7 @@ use Rattle.bq_candidates.specs.declared.boxes.QueryBox.{QueryBox}
 use Rattle.bq_candidates.specs.declared.candidates.Candidates.{Candidates}
 use Rattle.bq_candidates.specs.Buckets.{AreFor}
 use Rattle.bq_model.specs.Meaning.{Arrival}
-use Rattle.bq_index.specs.Prefilter.{IsRefused}
+use Rattle.bq_filter.specs.Prefilter.{IsRefused}
 use Rattle.bq_executor.specs.Passing.{IsBoxFor}
 use Rattle.bq_registry.specs.declared.concerned.Concerned.{Concerned}
 use Rattle.bq_registry.specs.Live.{Live}

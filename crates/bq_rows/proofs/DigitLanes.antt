@@ -1,17 +1,15 @@
 -- Digits that are looked at together.
-use Rattle.std.proofs.Common.{◌≡◌, ℕ, zero, suc, ◌+◌, ◌-◌, ◌*◌, ◌/◌, ◌%◌, ◌^◌, ◌<◌, ◌≤◌, Bool, true, false, not, cond, bit_and, Fits, w8, List, [], ◌∷◌, length, map, take, drop, get_or, refl, ap, sym, ◌∙◌, subst, arith}
-use Rattle.std.specs.Int.Digits.{AllBelowBase, number_from_digits}
+use Rattle.std.proofs.Common.{◌≡◌, ℕ, zero, suc, ◌+◌, ◌-◌, ◌*◌, ◌%◌, ◌^◌, ◌<◌, ◌≤◌, Bool, true, false, not, cond, Fits, w8, List, [], ◌∷◌, ◌++◌, length, map, take, drop, replicate, refl, ap, sym, ◌∙◌, subst, arith}
+use Rattle.std.specs.Int.Digits.{AllBelowBase, number_from_digits, number_from_digits_after}
 use Rattle.std.specs.List.{prefix_len}
 use Rattle.std.proofs.lemmas.Bool.{agree_below, agree_below_at}
 use Rattle.std.proofs.lemmas.Bool.Decides.{nat_tests}
-use Rattle.std.proofs.lemmas.Nat.{and_block, and_mask}
-use Rattle.std.proofs.lemmas.List.Sums.{prefix_len_passes}
-use Rattle.std.proofs.lemmas.Simd.{get_or_wider, leading_from_mask_l, map-map, mask_l-mod, trailing_mask_l}
+use Rattle.std.proofs.lemmas.Simd.{leading_from_mask_l, map-map, mask_l-mod, trailing_mask_l}
 use Rattle.std.proofs.lemmas.List.{length-map}
-use lib.Lanes.{Each1, digits_l, mask_l, number_l, top}
+use lib.Lanes.{Each1, mask_l, top}
 use lib.Count.{count_trailing_zeros}
 use Rattle.bq_text.specs.Word.{is_digit}
-use Rattle.bq_text.specs.Value.{amount}
+use Rattle.bq_text.specs.Value.{amount, amount_after}
 use Rattle.bq_rows.proofs.FieldsAhead.{HasDigits}
 use Rattle.bq_rows.proofs.PlainFields.{within_18}
 use Rattle.bq_rows.proofs.RowsCounted.{small_front}
@@ -39,145 +37,60 @@ first_other f lanes marks long fit is all some =
     let mask = mask_is f lanes marks long is in
     ap (count_trailing_zeros 64) mask ∙ trailing_mask_l (λ x. top 7 (f x)) 64 lanes (omega (arith, long)) (omega (arith, mask, some)) ∙ same_run (λ x. not (top 7 (f x))) is_digit lanes fit all
 
--- The number of eight digits.
-
--- of four fields of 16 bits the lower 8 bits
-low_bytes : (a b c d : ℕ) → a < 2 ^ 16 → b < 2 ^ 16 → c < 2 ^ 16 → bit_and (((d * 2 ^ 16 + c) * 2 ^ 16 + b) * 2 ^ 16 + a) 71777214294589695 ≡ ((d % 256 * 2 ^ 16 + c % 256) * 2 ^ 16 + b % 256) * 2 ^ 16 + a % 256
-low_bytes a b c d ha hb hc =
-    let one = and_block 16 ((d * 2 ^ 16 + c) * 2 ^ 16 + b) 1095233372415 a 255 ha (omega arith) in
-    let two = and_block 16 (d * 2 ^ 16 + c) 16711935 b 255 hb (omega arith) in
-    let three = and_block 16 d 255 c 255 hc (omega arith) in
-    omega (arith, one, two, three, and_mask a 8, and_mask b 8, and_mask c 8, and_mask d 8)
-
--- of two fields of 32 bits the lower 16 bits
-low_halves : (a b : ℕ) → a < 2 ^ 32 → bit_and (b * 2 ^ 32 + a) 281470681808895 ≡ b % 65536 * 2 ^ 32 + a % 65536
-low_halves a b ha = omega (arith, and_block 32 b 65535 a 65535 ha (omega arith), and_mask a 16, and_mask b 16)
-
-pub eight : (word : ℕ) (digits : List ℕ) → length digits ≡ 8 → AllBelowBase 10 digits → word ≡ number_l 256 digits
-    → bit_and (bit_and (word * 2561 % 2 ^ 64 / 2 ^ 8) 71777214294589695 * 6553601 % 2 ^ 64 / 2 ^ 16) 281470681808895 * 42949672960001 % 2 ^ 64 / 2 ^ 32 ≡ number_from_digits 10 digits
-eight word [] long small is = absurd (omega (arith, long))
-eight word (a ∷ []) long small is = absurd (omega (arith, long))
-eight word (a ∷ b ∷ []) long small is = absurd (omega (arith, long))
-eight word (a ∷ b ∷ c ∷ []) long small is = absurd (omega (arith, long))
-eight word (a ∷ b ∷ c ∷ d ∷ []) long small is = absurd (omega (arith, long))
-eight word (a ∷ b ∷ c ∷ d ∷ e ∷ []) long small is = absurd (omega (arith, long))
-eight word (a ∷ b ∷ c ∷ d ∷ e ∷ f ∷ []) long small is = absurd (omega (arith, long))
-eight word (a ∷ b ∷ c ∷ d ∷ e ∷ f ∷ g ∷ []) long small is = absurd (omega (arith, long))
-eight word (a ∷ b ∷ c ∷ d ∷ e ∷ f ∷ g ∷ h ∷ i ∷ more) long small is = absurd (omega (arith, long))
-eight word (a ∷ b ∷ c ∷ d ∷ e ∷ f ∷ g ∷ h ∷ []) long small is =
-    let ha : a < 10 = small.0 in
-    let hb : b < 10 = small.1.0 in
-    let hc : c < 10 = small.1.1.0 in
-    let hd : d < 10 = small.1.1.1.0 in
-    let he : e < 10 = small.1.1.1.1.0 in
-    let hf : f < 10 = small.1.1.1.1.1.0 in
-    let hg : g < 10 = small.1.1.1.1.1.1.0 in
-    let hh : h < 10 = small.1.1.1.1.1.1.1.0 in
-    let ab = a * 10 + b in
-    let cd = c * 10 + d in
-    let ef = e * 10 + f in
-    let gh = g * 10 + h in
-    let first : word * 2561 % 2 ^ 64 / 2 ^ 8 ≡ ((gh * 2 ^ 16 + (ef + 256 * (f * 10 + g))) * 2 ^ 16 + (cd + 256 * (d * 10 + e))) * 2 ^ 16 + (ab + 256 * (b * 10 + c)) = omega (arith, is, ha, hb, hc, hd, he, hf, hg, hh) in
-    let twos : bit_and (word * 2561 % 2 ^ 64 / 2 ^ 8) 71777214294589695 ≡ ((gh * 2 ^ 16 + ef) * 2 ^ 16 + cd) * 2 ^ 16 + ab =
-    ap (λ n. bit_and n 71777214294589695) first
-    ∙ low_bytes (ab + 256 * (b * 10 + c)) (cd + 256 * (d * 10 + e)) (ef + 256 * (f * 10 + g)) gh (omega (arith, ha, hb, hc)) (omega (arith, hc, hd, he)) (omega (arith, he, hf, hg))
-    ∙ omega (arith, ha, hb, hc, hd, he, hf, hg, hh) in
-    let second : bit_and (word * 2561 % 2 ^ 64 / 2 ^ 8) 71777214294589695 * 6553601 % 2 ^ 64 / 2 ^ 16 ≡ (ef * 100 + gh) * 2 ^ 32 + ((ab * 100 + cd) + 65536 * (cd * 100 + ef)) = omega (arith, twos, ha, hb, hc, hd, he, hf, hg, hh) in
-    let fours : bit_and (bit_and (word * 2561 % 2 ^ 64 / 2 ^ 8) 71777214294589695 * 6553601 % 2 ^ 64 / 2 ^ 16) 281470681808895 ≡ (ef * 100 + gh) * 2 ^ 32 + (ab * 100 + cd) =
-    ap (λ n. bit_and n 281470681808895) second ∙ low_halves ((ab * 100 + cd) + 65536 * (cd * 100 + ef)) (ef * 100 + gh) (omega (arith, ha, hb, hc, hd, he, hf)) ∙ omega (arith, ha, hb, hc, hd, he, hf, hg, hh) in
-    omega (arith, fours, ha, hb, hc, hd, he, hf, hg, hh)
-
 -- The amount of the digits in front.
 
 -- what a byte stands for above `0`, in one byte
 abbrev pub minus : ℕ → ℕ
 minus x = (x + 208) % 256
 
-digit_minus : (x : ℕ) → is_digit x ≡ true → (minus x ≡ x - 48) × (x - 48 < 10)
+pub digit_minus : (x : ℕ) → is_digit x ≡ true → (minus x ≡ x - 48) × (x - 48 < 10)
 digit_minus x h = grind (arith, nat_tests)
 
-minus_small : (xs : List ℕ) → Each1 (λ x. x < 256) (map minus xs)
-minus_small [] = tt
-minus_small (x ∷ xs) = (omega arith, minus_small xs)
+-- the digits in front, each as its number
+record Writes (n from : ℕ) (xs : List ℕ) : Type 0 where
+  pub small : AllBelowBase 10 (take n (map minus xs))
+  pub number : number_from_digits_after 10 from (take n (map minus xs)) ≡ amount_after from (take n xs)
 
--- the word of eight bytes, and what is told of it where it is shifted so that just the digits are left
-shifted : (lanes : List ℕ) (n word result : ℕ) → 8 ≤ length lanes → 0 < n → n ≤ 8 → word ≡ number_l 256 (take 8 (map minus lanes)) → ((i : ℕ) → i < n → is_digit (get_or lanes i 0) ≡ true)
-    → ((digits : List ℕ) → length digits ≡ 8 → AllBelowBase 10 digits → word * 2 ^ (64 - 8 * n) % 2 ^ 64 ≡ number_l 256 digits → result ≡ number_from_digits 10 digits) → result ≡ amount (take n lanes)
-shifted [] n word result long some few is all told = absurd (omega (arith, long))
-shifted (a ∷ []) n word result long some few is all told = absurd (omega (arith, long))
-shifted (a ∷ b ∷ []) n word result long some few is all told = absurd (omega (arith, long))
-shifted (a ∷ b ∷ c ∷ []) n word result long some few is all told = absurd (omega (arith, long))
-shifted (a ∷ b ∷ c ∷ d ∷ []) n word result long some few is all told = absurd (omega (arith, long))
-shifted (a ∷ b ∷ c ∷ d ∷ e ∷ []) n word result long some few is all told = absurd (omega (arith, long))
-shifted (a ∷ b ∷ c ∷ d ∷ e ∷ f ∷ []) n word result long some few is all told = absurd (omega (arith, long))
-shifted (a ∷ b ∷ c ∷ d ∷ e ∷ f ∷ g ∷ []) n word result long some few is all told = absurd (omega (arith, long))
-shifted (a ∷ b ∷ c ∷ d ∷ e ∷ f ∷ g ∷ h ∷ more) zero word result long some few is all told = absurd (omega (arith, some))
-shifted (a ∷ b ∷ c ∷ d ∷ e ∷ f ∷ g ∷ h ∷ more) (suc zero) word result long some few is all told =
-    let da = digit_minus a (all 0 (omega arith)) in
-    told (0 ∷ 0 ∷ 0 ∷ 0 ∷ 0 ∷ 0 ∷ 0 ∷ (a - 48) ∷ []) refl (omega arith, (omega arith, (omega arith, (omega arith, (omega arith, (omega arith, (omega arith, (da.1, tt)))))))) (omega (arith, is, da.0, da.1))
-shifted (a ∷ b ∷ c ∷ d ∷ e ∷ f ∷ g ∷ h ∷ more) (suc (suc zero)) word result long some few is all told =
-    let da = digit_minus a (all 0 (omega arith)) in
-    let db = digit_minus b (all 1 (omega arith)) in
-    told (0 ∷ 0 ∷ 0 ∷ 0 ∷ 0 ∷ 0 ∷ (a - 48) ∷ (b - 48) ∷ []) refl (omega arith, (omega arith, (omega arith, (omega arith, (omega arith, (omega arith, (da.1, (db.1, tt)))))))) (omega (arith, is, da.0, da.1, db.0, db.1))
-shifted (a ∷ b ∷ c ∷ d ∷ e ∷ f ∷ g ∷ h ∷ more) (suc (suc (suc zero))) word result long some few is all told =
-    let da = digit_minus a (all 0 (omega arith)) in
-    let db = digit_minus b (all 1 (omega arith)) in
-    let dc = digit_minus c (all 2 (omega arith)) in
-    told (0 ∷ 0 ∷ 0 ∷ 0 ∷ 0 ∷ (a - 48) ∷ (b - 48) ∷ (c - 48) ∷ []) refl (omega arith, (omega arith, (omega arith, (omega arith, (omega arith, (da.1, (db.1, (dc.1, tt)))))))) (omega (arith, is, da.0, da.1, db.0, db.1, dc.0, dc.1))
-shifted (a ∷ b ∷ c ∷ d ∷ e ∷ f ∷ g ∷ h ∷ more) (suc (suc (suc (suc zero)))) word result long some few is all told =
-    let da = digit_minus a (all 0 (omega arith)) in
-    let db = digit_minus b (all 1 (omega arith)) in
-    let dc = digit_minus c (all 2 (omega arith)) in
-    let dd = digit_minus d (all 3 (omega arith)) in
-    told (0 ∷ 0 ∷ 0 ∷ 0 ∷ (a - 48) ∷ (b - 48) ∷ (c - 48) ∷ (d - 48) ∷ []) refl (omega arith, (omega arith, (omega arith, (omega arith, (da.1, (db.1, (dc.1, (dd.1, tt)))))))) (omega (arith, is, da.0, da.1, db.0, db.1, dc.0, dc.1, dd.0, dd.1))
-shifted (a ∷ b ∷ c ∷ d ∷ e ∷ f ∷ g ∷ h ∷ more) (suc (suc (suc (suc (suc zero))))) word result long some few is all told =
-    let da = digit_minus a (all 0 (omega arith)) in
-    let db = digit_minus b (all 1 (omega arith)) in
-    let dc = digit_minus c (all 2 (omega arith)) in
-    let dd = digit_minus d (all 3 (omega arith)) in
-    let de = digit_minus e (all 4 (omega arith)) in
-    told (0 ∷ 0 ∷ 0 ∷ (a - 48) ∷ (b - 48) ∷ (c - 48) ∷ (d - 48) ∷ (e - 48) ∷ []) refl (omega arith, (omega arith, (omega arith, (da.1, (db.1, (dc.1, (dd.1, (de.1, tt)))))))) (omega (arith, is, da.0, da.1, db.0, db.1, dc.0, dc.1, dd.0, dd.1, de.0, de.1))
-shifted (a ∷ b ∷ c ∷ d ∷ e ∷ f ∷ g ∷ h ∷ more) (suc (suc (suc (suc (suc (suc zero)))))) word result long some few is all told =
-    let da = digit_minus a (all 0 (omega arith)) in
-    let db = digit_minus b (all 1 (omega arith)) in
-    let dc = digit_minus c (all 2 (omega arith)) in
-    let dd = digit_minus d (all 3 (omega arith)) in
-    let de = digit_minus e (all 4 (omega arith)) in
-    let df = digit_minus f (all 5 (omega arith)) in
-    told (0 ∷ 0 ∷ (a - 48) ∷ (b - 48) ∷ (c - 48) ∷ (d - 48) ∷ (e - 48) ∷ (f - 48) ∷ []) refl (omega arith, (omega arith, (da.1, (db.1, (dc.1, (dd.1, (de.1, (df.1, tt)))))))) (omega (arith, is, da.0, da.1, db.0, db.1, dc.0, dc.1, dd.0, dd.1, de.0, de.1, df.0, df.1))
-shifted (a ∷ b ∷ c ∷ d ∷ e ∷ f ∷ g ∷ h ∷ more) (suc (suc (suc (suc (suc (suc (suc zero))))))) word result long some few is all told =
-    let da = digit_minus a (all 0 (omega arith)) in
-    let db = digit_minus b (all 1 (omega arith)) in
-    let dc = digit_minus c (all 2 (omega arith)) in
-    let dd = digit_minus d (all 3 (omega arith)) in
-    let de = digit_minus e (all 4 (omega arith)) in
-    let df = digit_minus f (all 5 (omega arith)) in
-    let dg = digit_minus g (all 6 (omega arith)) in
-    told (0 ∷ (a - 48) ∷ (b - 48) ∷ (c - 48) ∷ (d - 48) ∷ (e - 48) ∷ (f - 48) ∷ (g - 48) ∷ []) refl (omega arith, (da.1, (db.1, (dc.1, (dd.1, (de.1, (df.1, (dg.1, tt)))))))) (omega (arith, is, da.0, da.1, db.0, db.1, dc.0, dc.1, dd.0, dd.1, de.0, de.1, df.0, df.1, dg.0, dg.1))
-shifted (a ∷ b ∷ c ∷ d ∷ e ∷ f ∷ g ∷ h ∷ more) (suc (suc (suc (suc (suc (suc (suc (suc zero)))))))) word result long some few is all told =
-    let da = digit_minus a (all 0 (omega arith)) in
-    let db = digit_minus b (all 1 (omega arith)) in
-    let dc = digit_minus c (all 2 (omega arith)) in
-    let dd = digit_minus d (all 3 (omega arith)) in
-    let de = digit_minus e (all 4 (omega arith)) in
-    let df = digit_minus f (all 5 (omega arith)) in
-    let dg = digit_minus g (all 6 (omega arith)) in
-    let dh = digit_minus h (all 7 (omega arith)) in
-    told ((a - 48) ∷ (b - 48) ∷ (c - 48) ∷ (d - 48) ∷ (e - 48) ∷ (f - 48) ∷ (g - 48) ∷ (h - 48) ∷ []) refl (da.1, (db.1, (dc.1, (dd.1, (de.1, (df.1, (dg.1, (dh.1, tt)))))))) (omega (arith, is, da.0, da.1, db.0, db.1, dc.0, dc.1, dd.0, dd.1, de.0, de.1, df.0, df.1, dg.0, dg.1, dh.0, dh.1))
-shifted (a ∷ b ∷ c ∷ d ∷ e ∷ f ∷ g ∷ h ∷ more) (suc (suc (suc (suc (suc (suc (suc (suc (suc n))))))))) word result long some few is all told = absurd (omega (arith, few))
+begins : (b : Bool) (m n : ℕ) → suc n ≤ cond b (1 + m) 0 → (b ≡ true) × (n ≤ m)
+begins true m n few = (refl, omega (arith, few))
+begins false m n few = absurd (omega (arith, few))
 
-pub amount_front : (lanes above : List ℕ) (n result : ℕ) → length lanes ≡ 16 → above ≡ map minus lanes → 0 < n → n ≤ 8 → n ≤ prefix_len is_digit lanes
-    → ((digits : List ℕ) → length digits ≡ 8 → AllBelowBase 10 digits → get_or (digits_l (2 ^ 64) 2 (number_l 256 above)) 0 0 * 2 ^ (64 - 8 * n) % 2 ^ 64 ≡ number_l 256 digits → result ≡ number_from_digits 10 digits)
-    → result ≡ amount (take n lanes)
-amount_front lanes above n result long is some few run told =
-    let word : get_or (digits_l (2 ^ 64) 2 (number_l 256 above)) 0 0 ≡ number_l 256 (take 8 (map minus lanes)) =
-    ap (λ xs. get_or (digits_l (2 ^ 64) 2 (number_l 256 xs)) 0 0) is ∙ get_or_wider 256 8 (2 ^ 64) 2 (map minus lanes) 0 refl (minus_small lanes) (omega arith) in
-    shifted lanes n _ result (omega (arith, long)) some few word (λ i lt. prefix_len_passes is_digit lanes i 0 (omega (arith, lt, run))) told
+writes : (n from : ℕ) (xs : List ℕ) → n ≤ prefix_len is_digit xs → Writes n from xs
+writes zero from xs few = record { small = tt; number = refl }
+writes (suc n) from [] few = absurd (omega (arith, few))
+writes (suc n) from (x ∷ xs) few =
+    let one = begins (is_digit x) (prefix_len is_digit xs) n few in
+    let digit = digit_minus x one.0 in
+    let others = writes n (from * 10 + (x - 48)) xs one.1 in
+    record {
+      small = (omega (arith, digit.0, digit.1), others.small);
+      number = ap (λ d. number_from_digits_after 10 (from * 10 + d) (take n (map minus xs))) digit.0 ∙ others.number;
+    }
+
+behind_zeros : (k : ℕ) (digits : List ℕ) → number_from_digits_after 10 0 (replicate k 0 ++ digits) ≡ number_from_digits_after 10 0 digits
+behind_zeros zero digits = refl
+behind_zeros (suc k) digits = behind_zeros k digits
+
+zeros_small : (k : ℕ) (digits : List ℕ) → AllBelowBase 10 digits → AllBelowBase 10 (replicate k 0 ++ digits)
+zeros_small zero digits small = small
+zeros_small (suc k) digits small = (omega arith, zeros_small k digits small)
+
+-- a number of digits behind zeros
+pub record Padded (padded digits : List ℕ) : Type 0 where
+  pub small : AllBelowBase 10 padded
+  pub number : number_from_digits 10 padded ≡ amount digits
+
+pub behind_zeros_is : (padded xs : List ℕ) (k n : ℕ) → n ≤ prefix_len is_digit xs → padded ≡ replicate k 0 ++ take n (map minus xs) → Padded padded (take n xs)
+behind_zeros_is padded xs k n few is =
+    let told = writes n 0 xs few in record {
+      small = subst (λ (l : List ℕ). AllBelowBase 10 l) (sym is) (zeros_small k (take n (map minus xs)) told.small);
+      number = ap (number_from_digits 10) is ∙ behind_zeros k (take n (map minus xs)) ∙ told.number;
+    }
 
 -- Digits of a text by those among its next bytes.
 
 -- the amount of a few digits
-pub few_small : (text : List ℕ) (n kept : ℕ) → n ≡ prefix_len is_digit text → n ≤ 8 → kept ≡ amount (take n text) → kept < 10 ^ 18
+pub few_small : (text : List ℕ) (n kept : ℕ) → n ≡ prefix_len is_digit text → n ≤ 18 → kept ≡ amount (take n text) → kept < 10 ^ 18
 few_small text n kept run few is = within_18 kept n (subst (λ k. k < 10 ^ n) (sym is) (small_front text n (omega (arith, run)))) (omega (arith, few))
 
 less_or_same : (b : Bool) (m k : ℕ) → m ≤ k → cond b (1 + m) 0 ≤ cond b (1 + k) 0

@@ -1,7 +1,13 @@
 pub mod DigitLanes
 pub mod FieldsAhead
+pub mod LaneNumbers
+pub mod LanePlaces
 pub mod LinesCounted
 pub mod NamesAhead
+pub mod PairAmounts
+pub mod PairEnds
+pub mod PairRows
+pub mod PairsAhead
 pub mod PlainFields
 pub mod PlainLines
 pub mod RowsAhead

@@ -8,6 +8,8 @@
 mod counted_row;
 mod fast_row;
 mod lanes;
+mod orders;
+mod pairs;
 mod row_ahead;
 mod starts;
 

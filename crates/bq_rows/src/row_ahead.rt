@@ -7,10 +7,11 @@ ghost use Rattle.bq_schema.specs.Rows.{IsNamed, entry, is_comma, is_named, row_w
 ghost use Rattle.bq_schema.specs.Streams.{IsName, KeepsDomains, shape_at};
 ghost use Rattle.bq_text.specs.Value.{amount};
 ghost use Rattle.bq_text.specs.Word.{is_digit};
-ghost use Rattle.bq_rows.specs.Ahead.{AddsAt, AreFields, BeginsStream, EndsLine, FieldsTo, IsEnded, IsRowAhead};
+ghost use Rattle.bq_rows.specs.Ahead.{AddsAt, AddsNext, AreFields, BeginsStream, EndsLine, FieldsTo, IsEnded, IsRowAhead};
 
 use crate::fast_row::{above_zero, add_amount, add_any, add_opposite, begins_integer};
 use crate::lanes::{first_digits, short_amount_ahead};
+use crate::pairs::pair_ahead;
 use crate::starts::Starts;
 use bq_model::Row;
 use bq_schema::Catalog;
@@ -82,7 +83,7 @@ fn with_digit(amount: u64, digit: u64) -> u64
     amount.wrapping_mul(10).wrapping_add(digit)
 }
 
-// What `digits_at` gives, digit by digit behind the first eight.
+// What `digits_at` gives, digit by digit behind the first sixteen.
 fn all_digits_at(text: &[u8], start: usize) -> (u64, usize)
     requires ended { IsEnded text.now }
     requires here { start < length text.now }
@@ -209,9 +210,34 @@ fn read_other_fields_at(row: &mut Row, width: usize, text: &[u8], start: usize) 
     None
 }
 
+// Adds the integer at a place of a text to a row, with the next one where the row lacks two and these can be read together; and gives the
+// place behind. Where the integer is not one of 1 to 15 digits, or near the end of the text, the row stays.
+#[inline(always)]
+fn add_next_at(row: &mut Row, width: usize, text: &[u8], start: usize) -> Option<usize>
+    requires room { length row.old.items < width }
+    requires width { width ≤ 8 }
+    requires here { start < length text.now }
+    ensures adds { MatchOption result (row.new.items ≡ row.old.items) (λ end. AddsNext text.now start end row.old.items row.new.items) }
+    ensures room { length row.new.items ≤ width }
+{
+    if row.len() + 1 < width {
+        if let Some(pair) = pair_ahead(text, start) {
+            add_amount(row, pair.amounts[0]);
+            add_amount(row, pair.amounts[1]);
+            return Some(start + pair.len);
+        }
+    }
+    let Some(found) = short_amount_ahead(text, start) else {
+        return None;
+    };
+    let (amount, digits) = found;
+    add_amount(row, amount);
+    Some(start + digits)
+}
+
 // Puts the integers between commas from a place of a text on into an empty row, where there are just so many, at most 8; and gives the
-// place behind the last one. Where there are not, the row is left with any values. What follows an integer with a sign or of more than 8
-// digits, or near the end of the text, is read apart, so that nothing of this loop lies in memory for it.
+// place behind the last one. Where there are not, the row is left with any values. What follows an integer with a sign or of more than
+// 15 digits, or near the end of the text, is read apart, so that nothing of this loop lies in memory for it.
 #[inline(always)]
 fn read_fields_at(row: &mut Row, width: usize, text: &[u8], start: usize) -> Option<usize>
     requires empty { row.old.items ≡ [] }
@@ -223,17 +249,17 @@ fn read_fields_at(row: &mut Row, width: usize, text: &[u8], start: usize) -> Opt
 {
     let mut place = start;
     'fields: while row.len() < width {
-        let Some(found) = short_amount_ahead(text, place) else {
+        let Some(end) = add_next_at(row, width, text, place) else {
             if !begins_integer(text[place]) {
                 return None;
             }
             return read_other_fields_at(row, width, text, place);
         };
-        let (amount, digits) = found;
-        add_amount(row, amount);
-        let end = place + digits;
+        if row.len() == width {
+            return Some(end);
+        }
         if text[end] != b',' {
-            return if row.len() == width { Some(end) } else { None };
+            return None;
         }
         place = end + 1;
     }

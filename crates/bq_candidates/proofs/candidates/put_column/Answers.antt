@@ -1,6 +1,7 @@
-use Rattle.std.specs.Prelude.{is_ok}
-use Rattle.bq_candidates.proofs.Pushed.{pushed}
 use Rattle.bq_candidates.proofs.candidates.put_column.Goals as goal
 
-pub returns : goal.returns
-returns c = pushed c.args.boxes.now (is_ok c.push.result) c.args.columns.now.items c.push.new.self.items c.over-own.result c.push.ensures.items c.requires.others c.over-own.ensures
+pub returns-then-tells_more : goal.returns-then-tells_more
+returns-then-tells_more c = c.put_first.ensures c.args.boxes.now c.requires.others c.over-own.ensures
+
+pub returns-else-tells_more : goal.returns-else-tells_more
+returns-else-tells_more c = c.put_last.ensures c.args.boxes.now c.requires.others c.over-own.ensures

@@ -34,8 +34,3 @@ returns-in-None-clause-table g c =
     let read : Reading = read_from (cells_of c.args.pool.now c.args.part.now.extent.now) in
     none_added c.args.part.now.q.now.distinct (found_beside c.args.part.now.q.now c.args.part.now.plan.now read c.args.at.now.pos (by_column c.args.at.now.row.now.items)) c.args.table.now
     (sym (c.new-probe.ensures.left read) ∙ c.in-None.ensures.left.0)
-
-pub returns-then-sees_nothing-clause-table : goal.returns-then-sees_nothing-clause-table
-returns-then-sees_nothing-clause-table g c =
-    none_added c.args.part.now.q.now.distinct (found_beside c.args.part.now.q.now c.args.part.now.plan.now (read_from (cells_of c.args.pool.now c.args.part.now.extent.now)) c.args.at.now.pos (by_column c.args.at.now.row.now.items)) c.args.table.now
-    (c.sees_nothing.ensures.nothing c.if-sees_nothing.true)

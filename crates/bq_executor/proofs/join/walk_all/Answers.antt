@@ -8,7 +8,6 @@ use Rattle.bq_probe.specs.Remaining.{as_found, left_of}
 use Rattle.bq_executor.specs.FoundTable.{with_found, with_all}
 use Rattle.bq_executor.proofs.TableLaws.{taken_room, taken_table, taken_none, found_same}
 use Rattle.bq_executor.proofs.PassedRepeats.{passed_room, passed_table, passed_less}
-use Rattle.bq_executor.proofs.InPart.{none_added}
 use Rattle.bq_executor.proofs.join.walk_all.Goals as goal
 
 pub walk-preserved : goal.walk-preserved
@@ -48,8 +47,3 @@ walk-smaller g c =
 pub returns-clause-table : goal.returns-clause-table
 returns-clause-table g c =
     taken_none c.args.part.now.q.now.distinct (left_of c.args.part.now.q.now.select c.args.part.now.plan.now (read_from (cells_of c.args.pool.now c.args.part.now.extent.now)) c.walk.probe) c.walk.table _ c.in_default.ensures.left.0 c.walk.invariant.table
-
-pub returns-then-sees_nothing-clause-table : goal.returns-then-sees_nothing-clause-table
-returns-then-sees_nothing-clause-table g c =
-    none_added c.args.part.now.q.now.distinct (found_beside c.args.part.now.q.now c.args.part.now.plan.now (read_from (cells_of c.args.pool.now c.args.part.now.extent.now)) c.args.at.now.pos (by_column c.args.at.now.row.now.items)) c.args.table.now
-    (c.sees_nothing.ensures.nothing c.if-sees_nothing.true)

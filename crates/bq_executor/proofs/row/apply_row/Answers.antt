@@ -1,5 +1,5 @@
 use Rattle.bq_executor.specs.Executor.{arrival}
-use Rattle.bq_index.specs.Prefilter.{IsRefused}
+use Rattle.bq_filter.specs.Prefilter.{IsRefused}
 use Rattle.bq_executor.proofs.InPart.{none_added}
 use Rattle.bq_executor.proofs.PrefilterLaws.{refused_answers, refused_taken}
 use Rattle.bq_executor.proofs.row.apply_row.Goals as goal

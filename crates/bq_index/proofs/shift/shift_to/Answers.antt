@@ -1,5 +1,4 @@
-use Rattle.std.proofs.Common.{◌≡◌, ◌∙◌, refl, sym, ap, ap₂, List, true}
-use Rattle.bq_model.specs.declared.plan.Dim.{Dim}
+use Rattle.std.proofs.Common.{◌∙◌, refl, sym, ap₂}
 use Rattle.bq_model.specs.Sharing.{same_dims}
 use Rattle.bq_index.proofs.ShiftLaws.{shift-is}
 use Rattle.bq_index.proofs.shift.shift_to.Goals as goal

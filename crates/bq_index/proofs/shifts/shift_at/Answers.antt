@@ -1,4 +1,4 @@
-use Rattle.std.proofs.Common.{◌∙◌, get_or, Some, sym, ap, refl, arith}
+use Rattle.std.proofs.Common.{◌∙◌, get_or, Some, sym, ap}
 use Rattle.std.proofs.lemmas.Option.{slice_get-get_or}
 use Rattle.bq_model.specs.declared.plan.PartPlan.{PartPlan}
 use Rattle.bq_index.proofs.Shifting.{next_shifted}
@@ -7,10 +7,12 @@ use Rattle.bq_index.proofs.shifts.shift_at.Goals as goal
 pub shift_between-requires : goal.shift_between-requires
 shift_between-requires c =
     let next = get_or c.args.chained.now.links.now c.args.i 0 in
+    let has = c.has_next_code.ensures c.if-not-has_next_code.false in
     c.prepared_of-prepared.ensures c.get-2.result.now
-    (slice_get-get_or c.args.parts.now next c.get-2.result.now (omega arith) ∙ ap (λ (p : PartPlan). Some p) (sym (c.get-2.ensures c.get-2.result.now)))
+    (slice_get-get_or c.args.parts.now next c.get-2.result.now has.within ∙ ap (λ (p : PartPlan). Some p) (sym (c.get-2.ensures c.get-2.result.now)))
 
 pub returns : goal.returns
 returns c =
+    let has = c.has_next_code.ensures c.if-not-has_next_code.false in
     next_shifted c.args.parts.now c.args.place c.args.chained.now.is_injective c.args.chained.now.codes.now c.args.chained.now.links.now c.args.i c.get.result.now c.get-2.result.now c.shift_between.result
-    c.if-not-chained.false (omega arith) (c.have_code.ensures c.if-not-have_code.false) (c.get.ensures c.get.result.now) (c.get-2.ensures c.get-2.result.now) c.shift_between.ensures
+    has.is_injective has.within has.code (c.get.ensures c.get.result.now) (c.get-2.ensures c.get-2.result.now) c.shift_between.ensures

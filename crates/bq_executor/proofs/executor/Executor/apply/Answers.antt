@@ -1,24 +1,19 @@
-use Rattle.std.proofs.Common.{◌∙◌, refl, ap, arith}
-use Rattle.bq_executor.specs.Executor.{ExecutorValue, arrival, waiting_in}
-use Rattle.bq_executor.proofs.TakenRow.{row-refused}
-use Rattle.bq_executor.proofs.Refused.{refused_took_as, quiet-spelled}
+use Rattle.std.proofs.Common.{◌+◌, sym, subst}
+use Rattle.bq_model.specs.Domains.{RowKeeps}
+use Rattle.bq_filter.specs.PlainFilter.{IsPlainFilter}
+use Rattle.bq_executor.specs.Executor.{ExecutorValue, arrival}
+use Rattle.bq_executor.specs.Standing.{IsReady}
+use Rattle.bq_executor.specs.Row.{TakesRow}
+use Rattle.bq_executor.proofs.PlainRows.{plain_at, plain_taken}
 use Rattle.bq_executor.proofs.executor.Executor.apply.Goals as goal
 
-pub returns-then-not-has_waiting-clause-took : goal.returns-then-not-has_waiting-clause-took
-returns-then-not-has_waiting-clause-took g c =
+pub returns-in-Some-clause-took : goal.returns-in-Some-clause-took
+returns-in-Some-clause-took g c =
     let e : ExecutorValue = record { query = c.self.inside.query; shared = c.self.inside.shared; plan = c.self.inside.plan; extent = c.self.inside.extent; given = c.self.inside.given; table = c.self.inside.table; saturation = c.self.inside.saturation } in
+    let ready : IsReady e c.args.pool.now = subst (λ (x : ExecutorValue). IsReady x c.args.pool.now) (sym c.self.view_is) c.requires.ready in
     let r = arrival c.args.stream c.args.row.now.items in
-    row-refused e c.args.self.now c.self.view_is c.self.invariant.0 c.args.pool.now r c.requires.keeps
-    (refused_took_as e c.args.self.now c.self.view_is c.self.invariant.0 c.args.pool.now c.requires.ready r c.requires.keeps (c.if-not-has_waiting.ensures refl) (c.if-not-passes.ensures refl))
-
-pub returns-then-not-has_waiting-clause-none : goal.returns-then-not-has_waiting-clause-none
-returns-then-not-has_waiting-clause-none g c = λ no.
-    ap waiting_in c.self.view_is ∙ quiet-spelled c.args.self.now.table.entries (c.if-not-has_waiting.ensures refl)
-
-pub returns-then-not-has_waiting-clause-steps : goal.returns-then-not-has_waiting-clause-steps
-returns-then-not-has_waiting-clause-steps g c = record {
-  reads = omega arith;
-  writes = omega arith;
-  alone = λ filter. refl;
-  outside = λ none. refl;
-}
+    let keeps : RowKeeps e.query r = subst (λ (x : ExecutorValue). RowKeeps x.query r) (sym c.self.view_is) c.requires.keeps in
+    let is : IsPlainFilter e.query e.plan c.self.inside.prefilter c.in-Some.plain_filter
+    = plain_at e.query e.plan c.self.inside.prefilter c.self.inside.plain_filter c.in-Some.plain_filter c.in-Some.is c.self.invariant.4 in
+    subst (λ (x : ExecutorValue). TakesRow x c.args.pool.now r (let o : ExecutorValue = record { query = c.self.inside.query; shared = c.self.inside.shared; plan = c.self.inside.plan; extent = c.self.inside.extent; given = c.self.inside.given + 1; table = c.plain_filter_row.new.table; saturation = c.self.inside.saturation } in o) c.args.pool.now) c.self.view_is
+    (plain_taken e c.self.invariant.0 c.args.pool.now ready r c.self.inside.prefilter c.in-Some.plain_filter c.self.invariant.2 is c.plain_filter_row.result c.plain_filter_row.ensures.meets c.plain_filter_row.new.table c.plain_filter_row.ensures.table keeps)

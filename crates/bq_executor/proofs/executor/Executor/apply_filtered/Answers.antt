@@ -3,7 +3,7 @@ use Rattle.bq_model.specs.Domains.{RowKeeps}
 use Rattle.bq_answers.specs.Entries.{TableValue}
 use Rattle.bq_executor.specs.Executor.{ExecutorValue, arrival, IsSound, cleared}
 use Rattle.bq_executor.specs.Standing.{IsReady}
-use Rattle.bq_index.specs.Prefilter.{IsRefused}
+use Rattle.bq_filter.specs.Prefilter.{IsRefused}
 use Rattle.bq_executor.specs.Row.{KeepsToWork, TakesRow}
 use Rattle.bq_executor.proofs.TakenRow.{filter-plan, row-taken}
 use Rattle.bq_executor.proofs.Rows.{nothing-new, ready_row, room_clear, table_later, sound_later}
@@ -42,7 +42,7 @@ invariant_of-self g c =
     let ready : IsReady e c.args.pool.now = subst (λ (x : ExecutorValue). IsReady x c.args.pool.now) (sym c.self.view_is) c.requires.ready in
     let r = arrival c.args.stream c.args.row.now.items in
     let table = table_later e c.self.invariant.0 c.args.pool.now ready r c.self.invariant.0.ascends c.distinct.result c.distinct.ensures c.clear.new.table c.apply_row.new.table c.clear.ensures c.apply_row.ensures.table in
-    (subst (λ (t : TableValue). IsSound (let o : ExecutorValue = record { query = c.self.inside.query; shared = c.self.inside.shared; plan = c.self.inside.plan; extent = c.self.inside.extent; given = c.self.inside.given + 1; table = t; saturation = c.self.inside.saturation } in o)) (sym table) (sound_later e c.self.invariant.0 c.args.pool.now ready r c.self.invariant.0.ascends), c.self.invariant.1, c.self.invariant.2, c.self.invariant.3)
+    (subst (λ (t : TableValue). IsSound (let o : ExecutorValue = record { query = c.self.inside.query; shared = c.self.inside.shared; plan = c.self.inside.plan; extent = c.self.inside.extent; given = c.self.inside.given + 1; table = t; saturation = c.self.inside.saturation } in o)) (sym table) (sound_later e c.self.invariant.0 c.args.pool.now ready r c.self.invariant.0.ascends), c.self.invariant.1, c.self.invariant.2, c.self.invariant.3, c.self.invariant.4)
 
 pub returns-clause-took : goal.returns-clause-took
 returns-clause-took g c =

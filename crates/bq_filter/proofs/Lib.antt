@@ -1,0 +1,3 @@
+pub mod PassingOn
+pub mod PlainFilters
+pub mod PrefilterLaws

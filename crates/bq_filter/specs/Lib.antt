@@ -1,0 +1,3 @@
+pub mod Passing
+pub mod PlainFilter
+pub mod Prefilter

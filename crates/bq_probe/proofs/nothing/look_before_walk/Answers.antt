@@ -1,0 +1,124 @@
+use Rattle.std.proofs.Common.{◌≡◌, ℕ, ◌+◌, ◌-◌, ◌*◌, ◌<◌, ◌≤◌, Bool, true, false, List, [], length, map, refl, sym, ap, ◌∙◌, subst, arith, ℤ, if◌then◌else◌}
+use Rattle.bq_model.specs.declared.cell.Cell.TheVariants.{Empty}
+use Rattle.bq_model.specs.declared.part.Pair.{Pair}
+use Rattle.bq_model.specs.declared.plan.Dim.{Dim}
+use Rattle.bq_model.specs.declared.plan.PartPlan.{PartPlan}
+use Rattle.bq_model.specs.Combinations.{Found, read_from}
+use Rattle.bq_model.specs.Meaning.{by_column}
+use Rattle.bq_model.specs.Numbers.{share}
+use Rattle.bq_model.specs.Parts.{pairs}
+use Rattle.bq_model.specs.Probing.{found_beside}
+use Rattle.bq_model.specs.Query.{QueryValue}
+use Rattle.bq_pool.specs.declared.pool.Extent.{Extent}
+use Rattle.bq_pool.specs.Extents.{PoolValue, cells_of}
+use Rattle.bq_probe.specs.Beside.{last_beside, IsEmptyBeside}
+use Rattle.bq_probe.specs.Choosing.{setting, start, both}
+use Rattle.bq_probe.specs.Joining.{Tells}
+use Rattle.bq_probe.specs.Walk.{walk}
+use Rattle.bq_probe.specs.declared.join.FirstLook.{FirstLook}
+use Rattle.bq_probe.specs.declared.join.FirstLook.TheVariants as look
+use Rattle.bq_narrow.specs.Lined.{AreFixed}
+use Rattle.bq_synopsis.specs.Premises.{IsReady}
+use Rattle.bq_narrow.specs.Narrowed.{narrowed_dims}
+use Rattle.bq_probe.proofs.AloneLaws.{alone}
+use Rattle.bq_probe.proofs.BesideLaws.{last-there, nothing-beside}
+use Rattle.bq_probe.proofs.NothingLaws.{first-within, first-empty}
+use Rattle.bq_probe.proofs.StartLaws.{share-some, one-more}
+use Rattle.bq_probe.proofs.nothing.look_before_walk.Goals as goal
+
+-- what is seen at the last place
+seen-last : (q : QueryValue) (part : PartPlan) (pool : PoolValue) (e : Extent) (pos : ℕ) (row seen : List ℤ) → pos < length q.from → IsReady q part pool e → seen ≡ row
+    → (2 < length part.streams.items) × IsEmptyBeside part (read_from (cells_of pool e)) pos seen (last_beside (length part.streams.items) pos) → found_beside q part (read_from (cells_of pool e)) pos (by_column row) ≡ []
+seen-last q part pool e pos row seen within ready same empty =
+    let walked = ready.held.walked in
+    let here : pos < length part.streams.items = omega (arith, within, walked.plan.count) in
+    let there = last-there pos (length part.streams.items) (omega (arith, empty.0)) here in
+    nothing-beside q part pos row (read_from (cells_of pool e)) walked here (last_beside (length part.streams.items) pos) there.0 there.1
+    (subst (λ (r : List ℤ). IsEmptyBeside part (read_from (cells_of pool e)) pos r (last_beside (length part.streams.items) pos)) same empty.1)
+
+told-nothing : (seen : Bool) (told : FirstLook) (tuple : List ℤ) (finds : List Found) → told ≡ (if seen then look.Nothing else look.Unknown) → (seen ≡ true → finds ≡ []) → Tells told tuple finds
+told-nothing seen told tuple finds e none = subst (λ (t : FirstLook). Tells t tuple finds) (sym e) (by seen none)
+  where
+    by : (s : Bool) → (s ≡ true → finds ≡ []) → Tells (if s then look.Nothing else look.Unknown) tuple finds
+    by true h = h refl
+    by false h = tt
+
+-- the reads that a walk may still need
+room-for-more : (q : QueryValue) (part : PartPlan) (pool : PoolValue) (e : Extent) (pos before : ℕ) → pos < length q.from → IsReady q part pool e → length part.streams.items ≤ 3
+    → (reads : ℕ) → reads ≤ before + 1 → reads + (length part.streams.items - 1) * share part ≤ before + 3 * share part
+room-for-more q part pool e pos before within ready few reads most =
+    let held = ready.held in
+    let here : pos < length part.streams.items = omega (arith, within, held.walked.plan.count) in
+    let more = one-more (length part.streams.items) (share part) few (share-some q part pos held.walked here) in
+    omega (arith, more, most)
+
+same-fixed : (ps sp : List Pair) (part : PartPlan) (pos : ℕ) (row seen : List ℤ) (fixed : List Dim) (first : ℕ) → sp ≡ ps → seen ≡ row
+    → AreFixed part (length (start pos)) (narrowed_dims sp part pos seen (start pos)) fixed first → AreFixed part (length (start pos)) (narrowed_dims ps part pos row (start pos)) fixed first
+same-fixed ps sp part pos row seen fixed first e f h = subst (λ (ds : List Dim). AreFixed part (length (start pos)) ds fixed first) (λ k. narrowed_dims (e k) part pos (f k) (start pos)) h
+
+pub returns-then-streams-gt3-clause-found : goal.returns-then-streams-gt3-clause-found
+returns-then-streams-gt3-clause-found g c =
+    told-nothing c.is_cut_off-seen.result c.nothing_where.result _ _ c.nothing_where.ensures
+    (λ t. seen-last c.args.part.now.q.now c.args.part.now.plan.now c.args.pool.now c.args.part.now.extent.now c.args.at.now.pos _ _ c.requires.here c.requires.ready c.as_slice.ensures.value (c.is_cut_off-seen.ensures t))
+
+pub returns-in_default-clause-found : goal.returns-in_default-clause-found
+returns-in_default-clause-found g c =
+    told-nothing c.is_cut_off-seen-in_default.result c.nothing_where-in_default.result _ _ c.nothing_where-in_default.ensures
+    (λ t. seen-last c.args.part.now.q.now c.args.part.now.plan.now c.args.pool.now c.args.part.now.extent.now c.args.at.now.pos _ _ c.requires.here c.requires.ready c.as_slice-in_default.ensures.value (c.is_cut_off-seen-in_default.ensures t))
+
+pub read-cell-requires-clause-within : goal.read-cell-requires-clause-within
+read-cell-requires-clause-within g c =
+    let q = c.args.part.now.q.now in
+    let part = c.args.part.now.plan.now in
+    let pos = c.args.at.now.pos in
+    let held = c.requires.ready.held in
+    let here : pos < length part.streams.items = omega (arith, c.requires.here, held.walked.plan.count) in
+    let are = same-fixed (pairs q) _ part pos c.args.at.now.row.now.items _ c.first_cell.new.self.dims.items c.in-Some.number (c.as_slice-2.ensures.value ∙ c.pairs.ensures) c.as_slice-3.ensures.value c.in-Some.ensures.first.1 in
+    first-within q part held.walked pos c.args.at.now.row.now.items here c.in-Some.ensures.first.0 (64 * c.args.part.now.extent.now.pages) held.within c.first_cell.new.self.dims.items c.in-Some.number are
+
+pub returns-then-is_empty-clause-found : goal.returns-then-is_empty-clause-found
+returns-then-is_empty-clause-found g c =
+    let q = c.args.part.now.q.now in
+    let part = c.args.part.now.plan.now in
+    let pos = c.args.at.now.pos in
+    let held = c.requires.ready.held in
+    let here : pos < length part.streams.items = omega (arith, c.requires.here, held.walked.plan.count) in
+    let are = same-fixed (pairs q) _ part pos c.args.at.now.row.now.items _ c.first_cell.new.self.dims.items c.in-Some.number (c.as_slice-2.ensures.value ∙ c.pairs.ensures) c.as_slice-3.ensures.value c.in-Some.ensures.first.1 in
+    first-empty q part held.walked pos c.args.at.now.row.now.items here c.in-Some.ensures.first.0 (64 * c.args.part.now.extent.now.pages) held.within c.first_cell.new.self.dims.items c.in-Some.number are
+    (cells_of c.args.pool.now c.args.part.now.extent.now) (sym (c.read-cell.ensures.cell Empty) ∙ c.is_empty.ensures.yes c.if-is_empty.true)
+
+pub returns-clause-found : goal.returns-clause-found
+returns-clause-found g c =
+    let q = c.args.part.now.q.now in
+    let part = c.args.part.now.plan.now in
+    let pos = c.args.at.now.pos in
+    let row = c.args.at.now.row.now.items in
+    let held = c.requires.ready.held in
+    let here : pos < length part.streams.items = omega (arith, c.requires.here, held.walked.plan.count) in
+    let ps = c.as_slice-2.ensures.value ∙ c.pairs.ensures in
+    let rs = c.as_slice-3.ensures.value in
+    let are = same-fixed (pairs q) _ part pos row _ c.first_cell.new.self.dims.items c.in-Some.number ps rs c.in-Some.ensures.first.1 in
+    let two : length part.streams.items ≡ 2 = (let v = ap length c.as_slice-streams.ensures.value in let t = c.if-streams-ne2.false in omega (arith, v, t)) in
+    let read = read_from (cells_of c.args.pool.now c.args.part.now.extent.now) in
+    let values = map (λ d. d.lo) c.first_cell.new.self.dims.items in
+    let is : found_beside q part read pos (by_column row) ≡ walk (setting (pairs q) q.select part pos row read) 0 (both pos values c.read-cell.result)
+    = alone q part held.walked pos row here c.in-Some.ensures.first.0 (64 * c.args.part.now.extent.now.pages) held.within c.first_cell.new.self.dims.items c.in-Some.number are
+    (cells_of c.args.pool.now c.args.part.now.extent.now) two c.read-cell.result (sym (c.read-cell.ensures.cell Empty)) (c.is_empty.ensures.no c.if-is_empty.false) in
+    let told = subst (λ (xs : List Pair). Tells c.look_alone.result c.look_alone.new.tuple.items (walk (setting xs q.select part pos row read) 0 (both pos values c.read-cell.result))) ps
+    (subst (λ (xs : List ℤ). Tells c.look_alone.result c.look_alone.new.tuple.items (walk (setting c.as_slice-2.result.now q.select part pos xs read) 0 (both pos values c.read-cell.result))) rs (c.look_alone.ensures read)) in
+    subst (λ (finds : List Found). Tells c.look_alone.result c.look_alone.new.tuple.items finds) (sym is) told
+
+pub returns-then-is_empty-clause-reads : goal.returns-then-is_empty-clause-reads
+returns-then-is_empty-clause-reads g c =
+    room-for-more c.args.part.now.q.now c.args.part.now.plan.now c.args.pool.now c.args.part.now.extent.now c.args.at.now.pos _ c.requires.here c.requires.ready
+    (let v = ap length c.as_slice-streams.ensures.value in let f = c.if-streams-gt3.false in omega (arith, v, f)) _ (let r = c.read-cell.ensures.reads in omega (arith, r))
+
+pub returns-then-streams-ne2-clause-reads : goal.returns-then-streams-ne2-clause-reads
+returns-then-streams-ne2-clause-reads g c =
+    room-for-more c.args.part.now.q.now c.args.part.now.plan.now c.args.pool.now c.args.part.now.extent.now c.args.at.now.pos _ c.requires.here c.requires.ready
+    (let v = ap length c.as_slice-streams.ensures.value in let f = c.if-streams-gt3.false in omega (arith, v, f)) _ (let r = c.read-cell.ensures.reads in omega (arith, r))
+
+pub returns-clause-reads : goal.returns-clause-reads
+returns-clause-reads g c =
+    room-for-more c.args.part.now.q.now c.args.part.now.plan.now c.args.pool.now c.args.part.now.extent.now c.args.at.now.pos _ c.requires.here c.requires.ready
+    (let v = ap length c.as_slice-streams.ensures.value in let f = c.if-streams-gt3.false in omega (arith, v, f)) _ (let r = c.read-cell.ensures.reads in omega (arith, r))
