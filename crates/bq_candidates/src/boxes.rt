@@ -1,5 +1,5 @@
 //! Boxes of intervals.
-ghost use Rattle.std.specs.Prelude.{◌≡◌, ℕ, ◌<◌, false, slice_index_or};
+ghost use Rattle.std.specs.Prelude.{◌≡◌, ◌↔◌, ℕ, ◌<◌, false, slice_index_or};
 ghost use Rattle.bq_candidates.specs.Boxes.{unbounded};
 
 /// The integers from one up to another, both included. The least integer of 64 bits is no bound, and neither is the greatest.
@@ -29,7 +29,7 @@ impl Interval {
 
     /// Returns whether it is not the interval of all integers.
     pub fn is_bounded(&self) -> bool
-        ensures { result ≡ false → self.now ≡ unbounded }
+        ensures { (result ≡ false) ↔ (self.now ≡ unbounded) }
     {
         self.least != i64::MIN || self.greatest != i64::MAX
     }

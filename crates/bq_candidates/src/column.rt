@@ -1,5 +1,5 @@
 //! One column: the buckets of its values, and the queries of each.
-ghost use Rattle.std.specs.Prelude.{◌≡◌, ◌≢◌, ℕ, ◌<◌, ◌≤◌, pos, length, slice_index_or, Some};
+ghost use Rattle.std.specs.Prelude.{◌≡◌, ◌≢◌, ℕ, ◌<◌, ◌≤◌, pos, length, filter, nat_eq, slice_index_or, Some};
 ghost use Rattle.std.specs.Int.{bit_at};
 ghost use Rattle.bq_candidates.specs.Boxes.{unbounded};
 ghost use Rattle.bq_candidates.specs.declared.boxes.QueryBox.{QueryBox};
@@ -193,7 +193,8 @@ impl Column {
     pub fn over(boxes: &[Option<QueryBox>], column: usize) -> Column
         requires few { length boxes.now ≤ 64 }
         requires column { column < 8 }
-        ensures { IsColumn boxes.now result }
+        ensures column { result.column ≡ column }
+        ensures marks { IsColumn boxes.now result }
     {
         let grid = grid_over(span_of(boxes, column));
         let words = words_of(boxes, column, &grid);
@@ -207,7 +208,9 @@ impl Column {
     }
 
     /// Returns how many buckets are marked with no query.
-    pub fn unmarked(&self) -> usize {
+    pub fn unmarked(&self) -> usize
+        ensures { result ≡ length (filter (λ word. nat_eq word 0) self.now.words) }
+    {
         self.words.iter().filter(|word| **word == 0).count()
     }
 

@@ -1,5 +1,6 @@
 //! Between which integers the columns of a row lie where a query can care for it.
-ghost use Rattle.std.specs.Prelude.{◌≡◌, ◌&&◌, ◌<◌, ◌==◌, ℕ, ℤ, List, [], ◌∷◌, true, int_lt, length, MatchOption, ⊤, ◌≤ℤ◌, slice_index_or};
+ghost use Rattle.std.specs.Prelude.{◌≡◌, ◌&&◌, ◌<◌, ◌==◌, ℕ, ℤ, List, [], ◌∷◌, true, int_lt, length, MatchOption, ⊤, ◌≤ℤ◌, ◌-ℤ◌, slice_index_or};
+ghost use Rattle.std.specs.Int.{saturate_signed, w64};
 ghost use Rattle.std.specs.List.{list_all};
 ghost use Rattle.bq_model.specs.declared.plan.PartPlan.{PartPlan};
 ghost use Rattle.bq_model.specs.Assignment.{compares, meets};
@@ -18,8 +19,10 @@ pub struct Interval {
 }
 
 impl Interval {
-    /// Returns how far the greatest is from the least, at most 2^63 - 1.
-    pub fn width(&self) -> i64 {
+    /// Returns how far the greatest is from the least, at least -2^63 and at most 2^63 - 1.
+    pub fn width(&self) -> i64
+        ensures { result ≡ saturate_signed w64 (self.now.greatest -ℤ self.now.least) }
+    {
         self.greatest.saturating_sub(self.least)
     }
 }
