@@ -12,3 +12,4 @@ pub mod PlainFields
 pub mod PlainLines
 pub mod RowsAhead
 pub mod RowsCounted
+pub mod StreamsNoted

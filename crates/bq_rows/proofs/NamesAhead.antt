@@ -130,3 +130,22 @@ stream_begins streams text i len name sound room is short found = record {
   within = found.1;
   begins = stream_found streams text i name (drop len text) room is found.2 (others_unnamed streams text i name (drop len text) sound room is found.2);
 }
+
+-- A name of one byte.
+
+pub single_name : (streams : List Shape) (text : List ℕ) (stream : ℕ) → IsCatalog streams → stream < length streams → (shape_at streams stream).name ≡ get_or text 0 0 ∷ [] → IsName (get_or text 0 0 ∷ [])
+single_name streams text stream sound room is = subst (λ (name : List ℕ). IsName name) is (sound.shapes stream (record { name = []; columns = [] }) room).name
+
+-- behind such a name there is a byte
+pub single_inside : (streams : List Shape) (text : List ℕ) (stream : ℕ) → IsCatalog streams → stream < length streams → IsEnded text → (shape_at streams stream).name ≡ get_or text 0 0 ∷ []
+    → (take 1 text ≡ take 1 (get_or text 0 0 ∷ [])) × (1 < length text)
+single_inside streams text stream sound room ended is =
+    front_more text (get_or text 0 0 ∷ []) 0 ended (single_name streams text stream sound room is) (some_ended text ended) (omega arith) refl refl
+
+-- where a comma stands behind it, the text begins with that stream
+pub single_begins : (streams : List Shape) (text : List ℕ) (stream : ℕ) → IsCatalog streams → stream < length streams → IsEnded text → (shape_at streams stream).name ≡ get_or text 0 0 ∷ [] → get_or text 1 0 ≡ 44
+    → BeginsStream streams text stream 2
+single_begins streams text stream sound room ended is comma =
+    let name : List ℕ = get_or text 0 0 ∷ [] in
+    let front = single_inside streams text stream sound room ended is in
+    stream_begins streams text stream 2 name sound room (sym is) (omega arith) (name_found text name 1 ended (single_name streams text stream sound room is) front.1 refl front.0 comma)

@@ -1,5 +1,5 @@
 -- Fields of which two are read together.
-use Rattle.std.proofs.Common.{◌≡◌, ℕ, ℤ, pos, ◌+◌, ◌-◌, List, [], ◌∷◌, ◌++◌, get_or, subst, arith}
+use Rattle.std.proofs.Common.{◌≡◌, ℕ, ℤ, pos, ◌+◌, ◌-◌, ◌*◌, ◌≤◌, List, [], ◌∷◌, ◌++◌, length, get_or, length-append, ap, subst, arith}
 use Rattle.bq_rows.specs.Ahead.{AddsAt, AddsNext, AreFields, FieldsTo, IsEnded, one, two}
 use Rattle.bq_rows.specs.Short.{ArePair, IsShort}
 use Rattle.bq_rows.proofs.FieldsAhead.{fields_last, fields_more, short_at}
@@ -14,6 +14,15 @@ pair_next text start comma len first second old between new h begun pushed =
     let end : start + comma + 1 + (len - (comma + 1)) ≡ start + len = omega (arith, h.order) in
     two (start + comma) between (is_added text start comma first old between h.left begun) h.separated
     (subst (λ n. AddsAt text (start + comma + 1) n between new) end (is_added text (start + comma + 1) (len - (comma + 1)) second between new h.right pushed))
+
+-- where each integer has at most 15 digits, the place behind grows by at most 16 bytes an integer
+pub next_near : (start len : ℕ) (old new : List ℤ) (v : ℤ) → len ≤ 15 → new ≡ old ++ v ∷ [] → start + len + 1 + 16 * length old ≤ start + 16 * length new
+next_near start len old new v few pushed = omega (arith, few, ap length pushed, length-append old (v ∷ []))
+
+pub pair_near : (text : List ℕ) (start comma len first second : ℕ) (old between new : List ℤ) (v w : ℤ) → ArePair text start comma len first second → between ≡ old ++ v ∷ [] → new ≡ between ++ w ∷ []
+    → start + len + 1 + 16 * length old ≤ start + 16 * length new
+pair_near text start comma len first second old between new v w h begun pushed =
+    omega (arith, h.left.few, h.right.few, h.order, ap length begun, length-append old (v ∷ []), ap length pushed, length-append between (w ∷ []))
 
 pub next_last : (text : List ℕ) (start place end : ℕ) (row new : List ℤ) → IsEnded text → FieldsTo text start place row → AddsNext text place end row new → AreFields text start end new
 next_last text start place end row new ended h a = elim a [

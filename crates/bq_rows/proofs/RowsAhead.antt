@@ -1,5 +1,6 @@
 -- Rows at the front of a text whose last byte is LF.
-use Rattle.std.proofs.Common.{◌≡◌, ℕ, zero, suc, ℤ, ◌+◌, ◌-◌, ◌<◌, ◌≤◌, ◌≢◌, true, false, cond, ◌==◌, nat_lt, List, [], ◌∷◌, ◌++◌, length, take, drop, get_or, append_assoc, length-append, length-drop, Some, refl, ap, sym, ◌∙◌, subst, inl, inr, arith}
+use Rattle.std.proofs.Common.{◌≡◌, ℕ, zero, suc, ℤ, ◌+◌, ◌-◌, ◌<◌, ◌≤◌, ◌≢◌, true, false, cond, ◌==◌, nat_lt, List, [], ◌∷◌, ◌++◌, length, take, drop, get_or, append_assoc, length-append, length-drop, Option, None, Some, refl, ap, sym, ◌∙◌, subst, inl, inr, arith}
+use Rattle.std.specs.Prelude.{IfSome}
 use Rattle.std.specs.List.{list_all, prefix_len, slice_range, slice_split}
 use Rattle.std.specs.Io.BufRead.{ends_with_byte, strip_last}
 use Rattle.std.proofs.Math.Seq.{take-append_seam, drop-append_seam, take-append-add}
@@ -13,11 +14,11 @@ use Rattle.bq_text.proofs.Fronts.{and_left, and_right, and_both, all_weaker, fro
 use Rattle.bq_text.proofs.LeadingValue.{flag}
 use Rattle.bq_feed.specs.Reading.{IsFirstFeed, IsPlain as HasNoFeed}
 use Rattle.bq_schema.specs.Rows.{HasStream, entry, is_comma, row_with}
-use Rattle.bq_schema.specs.Streams.{IsName, KeepsDomains, Shape, shape_at, stream_number}
+use Rattle.bq_schema.specs.Streams.{IsName, KeepsDomains, Shape, lie_within, shape_at, stream_number}
 use Rattle.bq_parser.specs.LineKind.{without_return}
 use Rattle.bq_rows.specs.Ahead.{AreFields, BeginsStream, EndsLine, IsEnded, IsRowAhead}
 use Rattle.bq_rows.specs.Plain.{IsPlain, IsPlainRow, is_plain_byte}
-use Rattle.bq_rows.proofs.PlainFields.{clash}
+use Rattle.bq_rows.proofs.PlainFields.{clash, domains_kept, whole_row}
 use Rattle.bq_rows.proofs.PlainLines.{plain_row, word_plain}
 use Rattle.bq_rows.proofs.FieldsAhead.{take_sum}
 
@@ -130,6 +131,21 @@ row_found streams text stream start end len values b f e before few row domains 
       | inl same ↦ omega (arith, same, f.near, b.near, few)
       | inr more ↦ omega (arith, more.0, f.near, b.near, few)
     ]
+
+-- the same, where each value lies in the domain of its column
+pub row_kept : (streams : List Shape) (text : List ℕ) (stream start end len : ℕ) (values : List ℤ) → BeginsStream streams text stream start → AreFields text start end values → EndsLine text end len → len + 1 < length text
+    → length values ≡ length (shape_at streams stream).columns → length values ≤ 8 → lie_within (shape_at streams stream).columns values ≡ true → IsRowAhead streams text stream len values
+row_kept streams text stream start end len values b f e before size few within =
+    let fields = slice_split is_comma (slice_range text start end) in
+    row_found streams text stream start end len values b f e before few (whole_row stream (shape_at streams stream).columns fields values f.values (f.count ∙ size) within) (domains_kept streams stream values within)
+
+-- the same, where two bytes stand behind the last field, and more
+pub row_ending : (streams : List Shape) (text : List ℕ) (stream start end : ℕ) (values : List ℤ) (ending : Option ℕ) → BeginsStream streams text stream start → AreFields text start end values → end + 2 < length text
+    → length values ≡ length (shape_at streams stream).columns → length values ≤ 8 → lie_within (shape_at streams stream).columns values ≡ true → IfSome ending (λ len. EndsLine text end len)
+    → IfSome ending (λ len. IsRowAhead streams text stream len values)
+row_ending streams text stream start end values None b f room size few within e = tt
+row_ending streams text stream start end values (Some len) b f room size few within e =
+    row_kept streams text stream start end len values b f e (elim e.return [ inl same ↦ omega (arith, same, room) | inr more ↦ omega (arith, more.0, room) ]) size few within
 
 get_or-front : (text more : List ℕ) (n : ℕ) → n < length text → get_or (text ++ more) n 0 ≡ get_or text n 0
 get_or-front [] more n lt = absurd (omega (arith, lt))

@@ -1,4 +1,6 @@
 pub mod Ahead
 pub mod Counted
+pub mod Indexed
 pub mod Plain
+pub mod ReadFields
 pub mod Short

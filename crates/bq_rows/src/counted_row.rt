@@ -7,10 +7,10 @@ ghost use Rattle.bq_rows.specs.Ahead.{IsEnded};
 ghost use Rattle.bq_rows.specs.Counted.{AreRowsAhead, HasFields, IsSomeInteger, IsSomeRowAhead};
 
 use crate::fast_row::above_zero;
+use crate::indexed_catalog::IndexedCatalog;
 use crate::lanes::digits_ahead;
-use crate::row_ahead::{are_short, line_len, stream_ahead};
-use crate::starts::Starts;
-use bq_schema::{Catalog, Columns};
+use crate::row_ahead::{are_short, line_len};
+use bq_schema::Columns;
 
 // Where the digits from a place of a text on end. Two are looked at in a turn, which is one step of the place for both.
 fn digits_end(text: &[u8], start: usize) -> usize
@@ -105,7 +105,7 @@ fn fields_end(width: usize, text: &[u8], start: usize) -> Option<usize>
 const LEAST: [i64; 8] = [i64::MIN; 8];
 
 // Whether no column has a domain. The least integer of 64 bits lies in none, since the ends of a domain have at most 15 digits.
-fn have_no_domain(columns: &Columns) -> bool
+pub(crate) fn have_no_domain(columns: &Columns) -> bool
     requires few { length columns.now ≤ 8 }
     requires domains { All (λ c. HasEnds c.domain) columns.now }
     ensures { IsTrue result → (values : List ℤ) → length values ≡ length columns.now → lie_within columns.now values ≡ true }
@@ -117,19 +117,18 @@ fn have_no_domain(columns: &Columns) -> bool
 // without blanks and plus signs, with at most 18 digits a value. One CR may stand at its end. The last byte of the text is LF, and is not the
 // one that ends the line.
 #[inline(always)]
-fn counted_row_ahead(catalog: &Catalog, starts: &Starts, text: &[u8]) -> Option<usize>
+fn counted_row_ahead(streams: &IndexedCatalog, text: &[u8]) -> Option<usize>
     requires ended { IsEnded text.now }
-    ensures { IfSome result (λ len. IsSomeRowAhead catalog.now text.now len) }
+    ensures { IfSome result (λ len. IsSomeRowAhead streams.now text.now len) }
 {
-    let Some(found) = stream_ahead(catalog, starts, text) else {
+    let Some(found) = streams.stream_ahead(text) else {
         return None;
     };
     let (stream, start) = found;
-    let columns = catalog.columns(stream);
-    if !have_no_domain(columns) {
+    if !streams.is_free(stream) {
         return None;
     }
-    let Some(end) = fields_end(columns.as_slice().len(), text, start) else {
+    let Some(end) = fields_end(streams.width(stream), text, start) else {
         return None;
     };
     let Some(len) = line_len(text, end) else {
@@ -152,9 +151,9 @@ pub struct CountedRows {
 /// Returns the rows at the front of a text, so many at most, of streams of which no column has a domain, each written without blanks
 /// and plus signs. The last byte of the text is LF, and is not the one that ends a row.
 #[inline(never)] // called once for many rows, and its loop then has all registers
-pub fn counted_rows_ahead(catalog: &Catalog, starts: &Starts, text: &[u8], most: u64) -> CountedRows
+pub fn counted_rows_ahead(streams: &IndexedCatalog, text: &[u8], most: u64) -> CountedRows
     requires ended { IsEnded text.now }
-    ensures rows { AreRowsAhead catalog.now text.now result.count result.begin result.end }
+    ensures rows { AreRowsAhead streams.now text.now result.count result.begin result.end }
     ensures few { result.count ≤ most }
 {
     let mut rows = CountedRows {
@@ -163,7 +162,7 @@ pub fn counted_rows_ahead(catalog: &Catalog, starts: &Starts, text: &[u8], most:
         end: 0,
     };
     'counting: while rows.count < most {
-        match counted_row_ahead(catalog, starts, text.split_at(rows.end).1) {
+        match counted_row_ahead(streams, text.split_at(rows.end).1) {
             Some(len) => {
                 rows = CountedRows {
                     count: rows.count + 1,

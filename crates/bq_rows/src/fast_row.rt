@@ -10,7 +10,7 @@ ghost use Rattle.bq_text.specs.Value.{amount};
 ghost use Rattle.bq_text.specs.Word.{is_digit};
 ghost use Rattle.bq_rows.specs.Plain.{AddsInteger, IsPlain, IsPlainRow};
 
-use crate::starts::Starts;
+use crate::indexed_catalog::IndexedCatalog;
 use bq_model::Row;
 use bq_schema::Catalog;
 use bq_text::leading_i64;
@@ -187,15 +187,11 @@ fn without_return(line: &[u8]) -> &[u8]
     }
 }
 
-/// Puts the row that a line is into `row`, in place of what that holds, and gives the number of its stream, where the line is a row of
-/// a stream, each value in the domain of its column, written without blanks. One CR may stand at its end. Else `row` is left with any values.
-#[inline(always)] // into the loops over lines, with what it calls
-pub fn read_plain(catalog: &Catalog, starts: &Starts, line: &[u8], row: &mut Row) -> Option<u8>
+// What `read_plain` gives, of the streams alone.
+#[inline(always)]
+fn read_plain_of(catalog: &Catalog, line: &[u8], row: &mut Row) -> Option<u8>
     ensures { IfSome result (λ stream. IsPlainRow catalog.now line.now stream row.new.items) }
 {
-    if !starts.may_lead(line, catalog.len()) {
-        return None;
-    }
     match catalog.stream_at_front(without_return(line)) {
         Some(found) => {
             let (stream, fields) = found;
@@ -207,4 +203,16 @@ pub fn read_plain(catalog: &Catalog, starts: &Starts, line: &[u8], row: &mut Row
         }
         None => None,
     }
+}
+
+/// Puts the row that a line is into `row`, in place of what that holds, and gives the number of its stream, where the line is a row of
+/// a stream, each value in the domain of its column, written without blanks. One CR may stand at its end. Else `row` is left with any values.
+#[inline(always)] // into the loops over lines, with what it calls
+pub fn read_plain(streams: &IndexedCatalog, line: &[u8], row: &mut Row) -> Option<u8>
+    ensures { IfSome result (λ stream. IsPlainRow streams.now line.now stream row.new.items) }
+{
+    if !streams.may_lead(line) {
+        return None;
+    }
+    read_plain_of(streams.all(), line, row)
 }

@@ -104,7 +104,26 @@ pub(crate) fn digits_ahead(text: &[u8], start: usize) -> Option<usize>
     Some(digits)
 }
 
-/// Returns the amount that the digits at a place of a text write, and how many they are, where these are 1 to 15 and 16 bytes stand there.
+/// Returns the amount that the digits at a place of a text write, and how many they are, where these are 1 to 15. 16 bytes stand there.
+#[inline(always)]
+pub(crate) fn short_amount_at(text: &[u8], start: usize) -> Option<(u64, usize)>
+    requires { start + LANES ≤ length text.now }
+    ensures digits { IfSome result (λ found. found.1 ≡ prefix_len is_digit (drop start text.now)) }
+    ensures some { IfSome result (λ found. 0 < found.1) }
+    ensures few { IfSome result (λ found. found.1 ≤ 15) }
+    ensures within { IfSome result (λ found. start + found.1 < length text.now) }
+    ensures amount { IfSome result (λ found. found.0 ≡ amount (take found.1 (drop start text.now))) }
+    ensures small { IfSome result (λ found. found.0 < 10 ^ 18) }
+{
+    let lanes = lanes_from(text, start);
+    let digits = digits_in(lanes);
+    if 15 <= digits.wrapping_sub(1) {
+        return None;
+    }
+    Some((amount_of(lanes, digits), digits))
+}
+
+/// Returns the same, or nothing where 16 bytes do not stand there.
 #[inline(always)]
 pub(crate) fn short_amount_ahead(text: &[u8], start: usize) -> Option<(u64, usize)>
     requires { start < length text.now }
@@ -118,12 +137,7 @@ pub(crate) fn short_amount_ahead(text: &[u8], start: usize) -> Option<(u64, usiz
     if text.len() - start < LANES {
         return None;
     }
-    let lanes = lanes_from(text, start);
-    let digits = digits_in(lanes);
-    if 15 <= digits.wrapping_sub(1) {
-        return None;
-    }
-    Some((amount_of(lanes, digits), digits))
+    short_amount_at(text, start)
 }
 
 /// Returns the amount of the first 16 digits at a place of a text, and 16, where so many stand there, and a byte behind them; else nothing

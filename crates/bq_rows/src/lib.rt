@@ -7,13 +7,15 @@
 
 mod counted_row;
 mod fast_row;
+mod indexed_catalog;
 mod lanes;
 mod orders;
 mod pairs;
 mod row_ahead;
 mod starts;
+mod stream_tables;
 
 pub use counted_row::{CountedRows, counted_rows_ahead};
 pub use fast_row::read_plain;
+pub use indexed_catalog::IndexedCatalog;
 pub use row_ahead::read_row_ahead;
-pub use starts::Starts;

@@ -101,15 +101,12 @@ pub(crate) struct Pair {
 }
 
 /// Returns the amounts that the digits before and behind a comma at a place of a text write, where these are 1 to 8 each, and all, with the
-/// byte behind them, stand in the next 16 bytes.
+/// byte behind them, stand in the 16 bytes from there on.
 #[inline(always)]
-pub(crate) fn pair_ahead(text: &[u8], start: usize) -> Option<Pair>
-    requires { start < length text.now }
+pub(crate) fn pair_at(text: &[u8], start: usize) -> Option<Pair>
+    requires { start + LANES ≤ length text.now }
     ensures { IfSome result (λ pair. ArePair text.now start pair.comma pair.len (slice_index pair.amounts 0) (slice_index pair.amounts 1)) }
 {
-    if text.len() - start < LANES {
-        return None;
-    }
     let lanes = lanes_from(text, start);
     let Some(ends) = two_ends(lanes) else {
         return None;

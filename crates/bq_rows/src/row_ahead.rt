@@ -1,18 +1,18 @@
 //! Rows as they mostly come, read straight from what a reader has ahead. The last byte of such a text is LF, so that names and digits end
 //! before it, and no place is compared with a length.
-ghost use Rattle.std.specs.Prelude.{◌≡◌, ℕ, slice_index, [], ◌+◌, ◌*◌, ◌≤◌, ◌<◌, ◌^◌, length, take, drop, false, IfSome, IsTrue, MatchOption};
-ghost use Rattle.std.specs.List.{prefix_len, slice_range, slice_split};
-ghost use Rattle.std.specs.declared.result.Result.TheVariants.{Ok};
-ghost use Rattle.bq_schema.specs.Rows.{IsNamed, entry, is_comma, is_named, row_with};
-ghost use Rattle.bq_schema.specs.Streams.{IsName, KeepsDomains, shape_at};
+ghost use Rattle.std.specs.Prelude.{◌≡◌, ℕ, true, slice_index, [], ◌+◌, ◌*◌, ◌≤◌, ◌<◌, ◌^◌, length, take, drop, false, IfSome, IsTrue, MatchOption};
+ghost use Rattle.std.specs.List.{prefix_len};
+ghost use Rattle.bq_schema.specs.Rows.{IsNamed, is_named};
+ghost use Rattle.bq_schema.specs.Streams.{IsName, lie_within, shape_at};
 ghost use Rattle.bq_text.specs.Value.{amount};
 ghost use Rattle.bq_text.specs.Word.{is_digit};
 ghost use Rattle.bq_rows.specs.Ahead.{AddsAt, AddsNext, AreFields, BeginsStream, EndsLine, FieldsTo, IsEnded, IsRowAhead};
+ghost use Rattle.bq_rows.specs.ReadFields.{ReadsFields};
 
 use crate::fast_row::{above_zero, add_amount, add_any, add_opposite, begins_integer};
-use crate::lanes::{first_digits, short_amount_ahead};
-use crate::pairs::pair_ahead;
-use crate::starts::Starts;
+use crate::indexed_catalog::IndexedCatalog;
+use crate::lanes::{first_digits, short_amount_ahead, short_amount_at};
+use crate::pairs::pair_at;
 use bq_model::Row;
 use bq_schema::Catalog;
 
@@ -56,20 +56,20 @@ fn later_stream_ahead(catalog: &Catalog, first: u8, text: &[u8]) -> Option<u8>
     None
 }
 
-// The number of the stream with whose name and a comma a text begins, and where what stands behind that comma begins. It looks first at
-// the first stream whose name begins with the same byte, and at none where there is no such name.
-pub(crate) fn stream_ahead(catalog: &Catalog, starts: &Starts, text: &[u8]) -> Option<(u8, usize)>
-    requires { IsEnded text.now }
+// The number of the stream with whose name and a comma a text begins, where that is this number or above, and where what stands behind that
+// comma begins.
+#[inline(always)]
+pub(crate) fn other_stream_ahead(catalog: &Catalog, first: u8, text: &[u8]) -> Option<(u8, usize)>
+    requires known { first < length catalog.now }
+    requires ended { IsEnded text.now }
     ensures { IfSome result (λ found. BeginsStream catalog.now text.now found.0 found.1) }
 {
-    let stream = starts.of(text[0]);
-    if catalog.len() <= stream {
-        return None;
-    }
-    let name = catalog.stream_name(stream).bytes();
+    // No effect at run time. The proof reads from this call that the names differ.
+    let _catalog = catalog.len();
+    let name = catalog.stream_name(first).bytes();
     match named_len(text, name) {
-        Some(len) => Some((stream, len)),
-        None => match later_stream_ahead(catalog, stream, text) {
+        Some(len) => Some((first, len)),
+        None => match later_stream_ahead(catalog, first, text) {
             Some(later) => Some((later, catalog.stream_name(later).bytes().len() + 1)),
             None => None,
         },
@@ -188,13 +188,13 @@ fn add_integer_at(row: &mut Row, text: &[u8], start: usize) -> Option<usize>
 
 // Puts the integers between commas from a place of a text on behind the values of a row, where there are just so many with these, at most
 // 8; and gives the place behind the last one. Where there are not, the row is left with any values.
-#[cold]
-#[inline(never)]
+#[inline(always)]
 fn read_other_fields_at(row: &mut Row, width: usize, text: &[u8], start: usize) -> Option<usize>
     requires width { width ≤ 8 }
     requires ended { IsEnded text.now }
     requires here { start < length text.now }
     ensures fields { IfSome result (λ end. (from : ℕ) → FieldsTo text.now from start row.old.items → AreFields text.now from end row.new.items) }
+    ensures within { IfSome result (λ end. end < length text.now) }
     ensures width { IfSome result (λ end. length row.new.items ≡ width) }
 {
     let mut place = start;
@@ -211,23 +211,24 @@ fn read_other_fields_at(row: &mut Row, width: usize, text: &[u8], start: usize) 
 }
 
 // Adds the integer at a place of a text to a row, with the next one where the row lacks two and these can be read together; and gives the
-// place behind. Where the integer is not one of 1 to 15 digits, or near the end of the text, the row stays.
+// place behind. Where the integer is not one of 1 to 15 digits, the row stays.
 #[inline(always)]
 fn add_next_at(row: &mut Row, width: usize, text: &[u8], start: usize) -> Option<usize>
-    requires room { length row.old.items < width }
+    requires lacks { length row.old.items < width }
     requires width { width ≤ 8 }
-    requires here { start < length text.now }
+    requires room { start + 16 ≤ length text.now }
     ensures adds { MatchOption result (row.new.items ≡ row.old.items) (λ end. AddsNext text.now start end row.old.items row.new.items) }
-    ensures room { length row.new.items ≤ width }
+    ensures near { IfSome result (λ end. end + 1 + 16 * length row.old.items ≤ start + 16 * length row.new.items) }
+    ensures few { length row.new.items ≤ width }
 {
     if row.len() + 1 < width {
-        if let Some(pair) = pair_ahead(text, start) {
+        if let Some(pair) = pair_at(text, start) {
             add_amount(row, pair.amounts[0]);
             add_amount(row, pair.amounts[1]);
             return Some(start + pair.len);
         }
     }
-    let Some(found) = short_amount_ahead(text, start) else {
+    let Some(found) = short_amount_at(text, start) else {
         return None;
     };
     let (amount, digits) = found;
@@ -235,35 +236,40 @@ fn add_next_at(row: &mut Row, width: usize, text: &[u8], start: usize) -> Option
     Some(start + digits)
 }
 
-// Puts the integers between commas from a place of a text on into an empty row, where there are just so many, at most 8; and gives the
-// place behind the last one. Where there are not, the row is left with any values. What follows an integer with a sign or of more than
-// 15 digits, or near the end of the text, is read apart, so that nothing of this loop lies in memory for it.
+/// How far the fields of a row were read: all of them, with the place behind the last one; or those before a place at which no integer of
+/// 1 to 15 digits stands; or they are no such fields.
+#[derive(Clone, Copy)]
+pub(crate) enum Fields {
+    All(usize),
+    Before(usize),
+    Others,
+}
+
+// Puts the integers between commas from a place of a text on into an empty row, where there are just so many, at most 8, and as many bytes
+// stand there as these take at most with 15 digits each. What follows an integer with a sign or of more digits is left to be read apart, so
+// that nothing of this loop lies in memory for it. Else the row is left with any values.
 #[inline(always)]
-fn read_fields_at(row: &mut Row, width: usize, text: &[u8], start: usize) -> Option<usize>
+fn read_fields_at(row: &mut Row, width: usize, text: &[u8], start: usize) -> Fields
     requires empty { row.old.items ≡ [] }
+    requires some { 0 < width }
     requires width { width ≤ 8 }
     requires ended { IsEnded text.now }
-    requires here { start < length text.now }
-    ensures fields { IfSome result (λ end. AreFields text.now start end row.new.items) }
-    ensures width { IfSome result (λ end. length row.new.items ≡ width) }
+    requires room { start + 16 * width + 2 ≤ length text.now }
+    ensures { ReadsFields result text.now start width row.new.items }
 {
     let mut place = start;
-    'fields: while row.len() < width {
+    'fields: loop {
         let Some(end) = add_next_at(row, width, text, place) else {
-            if !begins_integer(text[place]) {
-                return None;
-            }
-            return read_other_fields_at(row, width, text, place);
+            return Fields::Before(place);
         };
         if row.len() == width {
-            return Some(end);
+            return Fields::All(end);
         }
         if text[end] != b',' {
-            return None;
+            return Fields::Others;
         }
         place = end + 1;
     }
-    None
 }
 
 // The length of the line that ends at a place, with an LF or with CR and LF.
@@ -281,62 +287,98 @@ pub(crate) fn line_len(text: &[u8], place: usize) -> Option<usize>
     None
 }
 
-// Puts the row of a stream that the fields from a place of a text on are into an empty row, where each value lies in its domain; and gives
-// the place behind the last field. Where they are no such row, the row is left with any values.
-#[inline(always)]
-#[tactic(auto, using(crate::proofs::PlainFields::whole_row, crate::proofs::PlainFields::domains_kept))]
-fn read_row_at(
-    catalog: &Catalog,
+// The length of the line that is a row of a stream, of which the fields before a place are in the row. It is not inlined, so that rows with
+// integers of 1 to 15 digits pay nothing for it.
+#[cold]
+#[inline(never)]
+fn read_rest_at(
+    streams: &IndexedCatalog,
     stream: u8,
     text: &[u8],
-    start: usize,
+    place: usize,
     row: &mut Row,
 ) -> Option<usize>
-    requires empty { row.old.items ≡ [] }
-    requires known { stream < length catalog.now }
+    requires known { stream < length streams.now }
     requires ended { IsEnded text.now }
-    requires here { start < length text.now }
-    ensures fields { IfSome result (λ end. AreFields text.now start end row.new.items) }
-    ensures row { IfSome result (λ end. row_with stream (shape_at catalog.now stream).columns (slice_split is_comma (slice_range text.now start end)) ≡ Ok (entry stream row.new.items)) }
-    ensures domains { IfSome result (λ end. KeepsDomains catalog.now stream row.new.items) }
-    ensures few { IfSome result (λ end. length row.new.items ≤ 8) }
+    requires here { place < length text.now }
+    ensures { IfSome result (λ len. (start : ℕ) → BeginsStream streams.now text.now stream start → FieldsTo text.now start place row.old.items → IsRowAhead streams.now text.now stream len row.new.items) }
 {
-    let columns = catalog.columns(stream);
-    let Some(end) = read_fields_at(row, columns.as_slice().len(), text, start) else {
+    if !begins_integer(text[place]) {
+        return None;
+    }
+    let columns = streams.all().columns(stream);
+    let Some(end) = read_other_fields_at(row, columns.as_slice().len(), text, place) else {
         return None;
     };
     if !columns.keep(row.as_slice()) {
         return None;
     }
-    Some(end)
-}
-
-/// Puts the row that the first line of a text is into an empty `row`, and gives the number of its stream and the length of the line,
-/// where the line is a row of a stream, each value in the domain of its column, written without blanks. One CR may stand at its end. The
-/// last byte of the text is LF, and is not the one that ends the line. Where it gives nothing, `row` is left with any values.
-#[inline(always)] // into the loops over lines, with what it calls
-pub fn read_row_ahead(
-    catalog: &Catalog,
-    starts: &Starts,
-    text: &[u8],
-    row: &mut Row,
-) -> Option<(u8, usize)>
-    requires empty { row.old.items ≡ [] }
-    requires ended { IsEnded text.now }
-    ensures { IfSome result (λ found. IsRowAhead catalog.now text.now found.0 found.1 row.new.items) }
-{
-    let Some(found) = stream_ahead(catalog, starts, text) else {
-        return None;
-    };
-    let (stream, start) = found;
-    let Some(end) = read_row_at(catalog, stream, text, start, row) else {
-        return None;
-    };
     let Some(len) = line_len(text, end) else {
         return None;
     };
     if text.len() <= len + 1 {
         return None;
     }
-    Some((stream, len))
+    Some(len)
+}
+
+// Whether each value of a row lies in the domain of its column, where one of them has a domain.
+#[inline(always)]
+fn is_kept(streams: &IndexedCatalog, stream: u8, row: &Row) -> bool
+    requires known { stream < length streams.now }
+    requires width { length row.now.items ≡ length (shape_at streams.now stream).columns }
+    ensures { IsTrue result → lie_within (shape_at streams.now stream).columns row.now.items ≡ true }
+{
+    if streams.is_free(stream) {
+        return true;
+    }
+    streams.all().columns(stream).keep(row.as_slice())
+}
+
+// Puts the row of a stream that the fields from a place of a text on are into an empty row, and gives the length of its line.
+#[inline(always)]
+fn read_row_at(
+    streams: &IndexedCatalog,
+    stream: u8,
+    text: &[u8],
+    start: usize,
+    row: &mut Row,
+) -> Option<usize>
+    requires empty { row.old.items ≡ [] }
+    requires begins { BeginsStream streams.now text.now stream start }
+    requires ended { IsEnded text.now }
+    ensures { IfSome result (λ len. IsRowAhead streams.now text.now stream len row.new.items) }
+{
+    if text.len() < streams.room(stream) {
+        return read_rest_at(streams, stream, text, start, row);
+    }
+    match read_fields_at(row, streams.width(stream), text, start) {
+        Fields::All(end) => {
+            if !is_kept(streams, stream, row) {
+                return None;
+            }
+            line_len(text, end)
+        }
+        Fields::Before(place) => read_rest_at(streams, stream, text, place, row),
+        Fields::Others => None,
+    }
+}
+
+/// Puts the row that the first line of a text is into an empty `row`, and gives the number of its stream and the length of the line,
+/// where the line is a row of a stream, each value in the domain of its column, written without blanks. One CR may stand at its end. The
+/// last byte of the text is LF, and is not the one that ends the line. Where it gives nothing, `row` is left with any values.
+#[inline(always)] // into the loops over lines, with what it calls
+pub fn read_row_ahead(streams: &IndexedCatalog, text: &[u8], row: &mut Row) -> Option<(u8, usize)>
+    requires empty { row.old.items ≡ [] }
+    requires ended { IsEnded text.now }
+    ensures { IfSome result (λ found. IsRowAhead streams.now text.now found.0 found.1 row.new.items) }
+{
+    let Some(found) = streams.stream_ahead(text) else {
+        return None;
+    };
+    let (stream, start) = found;
+    match read_row_at(streams, stream, text, start, row) {
+        Some(len) => Some((stream, len)),
+        None => None,
+    }
 }

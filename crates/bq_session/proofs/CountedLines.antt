@@ -1,23 +1,47 @@
 -- Rows that are only counted, one after another.
 use Rattle.std.proofs.Common.{◌≡◌, ℕ, ◌+◌, ◌-◌, ◌^◌, ◌<◌, ◌≤◌, Bool, true, false, List, [], ◌∷◌, ◌++◌, length, take, drop, refl, ap, sym, ◌∙◌, subst, arith}
 use Rattle.std.proofs.lemmas.List.{drop-drop, length-take}
-use Rattle.bq_feed.specs.Reading.{GivesAll, Reading}
-use Rattle.bq_feed.specs.Reading as feed
+use Rattle.bq_feed.specs.Reading.{GivesAll, IsBuffered, Reading}
 use Rattle.bq_feed.proofs.Pieces.{cut-at}
 use Rattle.bq_rows.specs.Counted as front
 use Rattle.bq_rows.specs.Counted.{AreRowsAhead, IsSomeRowAhead}
 use Rattle.bq_session.specs.Counted.{CountsRows, none, more}
 use Rattle.bq_rows.specs.Plain.{IsPlainRow}
+use Rattle.bq_schema.specs.Streams.{Shape}
 use Rattle.bq_session.specs.Session.{SessionValue}
 use Rattle.bq_rows.proofs.RowsAhead.{lies_ahead}
 use Rattle.bq_rows.proofs.LinesCounted.{stands, within_ahead}
 
 -- what a reader keeps when so many lines were given up to a place, and what a session keeps when so many rows were counted
-abbrev reader_at : Reading → ℕ → ℕ → List ℕ → Reading
+abbrev pub reader_at : Reading → ℕ → ℕ → List ℕ → Reading
 reader_at old count end line = record old { ahead = drop end old.ahead; line = line; lines = old.lines + count }
 
 abbrev session_at : SessionValue → ℕ → Bool → SessionValue
 session_at k count began = record k { taken = k.taken + count; lines = k.lines + count; began = began }
+
+-- what a reader has room for
+pub record HasRoom (old : Reading) (count : ℕ) : Type 0 where
+  pub counted : (old.lines + count ≤ old.taken) × (old.taken < 2 ^ 64)
+  pub ended : old.ended ≡ false
+  pub unfailed : old.failed ≡ false
+
+-- one row more is given
+pub row_given : (old : Reading) (streams : List Shape) (before begin len : ℕ) (line : List ℕ) → HasRoom old (before + 1) → begin ≤ length old.ahead → IsSomeRowAhead streams (drop begin (old.ahead ++ 10 ∷ [])) len
+    → IsBuffered (reader_at old before begin line) (reader_at old (before + 1) (begin + len + 1) (take len (drop begin old.ahead)))
+row_given old streams before begin len line room inside row =
+    let rest = drop begin old.ahead in
+    let is = stands streams old.ahead begin len inside row in
+    let later : drop (len + 1) rest ≡ drop (begin + len + 1) old.ahead = drop-drop (len + 1) begin old.ahead ∙ ap (λ n. drop n old.ahead) (omega arith) in
+    record {
+      whole = cut-at rest len 10 is.feed.0 is.feed.1 ∙ ap (λ l. take len rest ++ 10 ∷ l) later;
+      plain = is.feed.2;
+      short = omega (arith, length-take len rest, is.short);
+      taken = refl;
+      lines = omega arith;
+      counted = (omega (arith, room.counted.0), room.counted.1);
+      ended = (room.ended, room.ended);
+      unfailed = (room.unfailed, room.unfailed);
+    }
 
 -- so many rows were counted
 record Reached (old : Reading) (k : SessionValue) (count end : ℕ) : Type 0 where
@@ -38,23 +62,13 @@ one_more : (old : Reading) (k : SessionValue) (before begin len : ℕ) → HaveR
 one_more old k before begin len room inside h row =
     let rest = drop begin old.ahead in
     let is = stands k.streams old.ahead begin len inside row in
-    let later : drop (len + 1) rest ≡ drop (begin + len + 1) old.ahead = drop-drop (len + 1) begin old.ahead ∙ ap (λ n. drop n old.ahead) (omega arith) in
     let same : take len (rest ++ 10 ∷ []) ≡ take len rest = (lies_ahead rest len is.row.row.feed is.row.row.before).same in
     let rows : k.taken + (before + 1) ≡ k.taken + before + 1 = omega arith in
     let lines : k.lines + (before + 1) ≡ k.lines + before + 1 = omega arith in
     let kept : session_at k (before + 1) true ≡ record k { taken = k.taken + before + 1; lines = k.lines + before + 1; began = true } =
     ap (λ (n : ℕ). record k { taken = n; lines = k.lines + (before + 1); began = true }) rows ∙ ap (λ (n : ℕ). record k { taken = k.taken + before + 1; lines = n; began = true }) lines in
     more (reader_at old before begin h.line) (session_at k before h.began) h.rows
-    (record {
-      whole = cut-at rest len 10 is.feed.0 is.feed.1 ∙ ap (λ l. take len rest ++ 10 ∷ l) later;
-      plain = is.feed.2;
-      short = omega (arith, length-take len rest, is.short);
-      taken = refl;
-      lines = omega arith;
-      counted = (omega (arith, room.counted.0), room.counted.1);
-      ended = (room.ended, room.ended);
-      unfailed = (room.unfailed, room.unfailed);
-    })
+    (row_given old k.streams before begin len h.line (record { counted = room.counted; ended = room.ended; unfailed = room.unfailed }) inside row)
     (record {
       stream = is.row.stream;
       values = is.row.values;
@@ -86,7 +100,7 @@ reached old k count begin end room (front.more before start len h row c e) =
     subst (λ n. Reached old k n end) (sym c) (subst (λ n. Reached old k (before + 1) n) (sym e) last)
 
 -- a reader is told by what it keeps
-reading_is : (r s : Reading) → r.ahead ≡ s.ahead → r.line ≡ s.line → r.taken ≡ s.taken → r.lines ≡ s.lines → r.ended ≡ s.ended → r.failed ≡ s.failed → r ≡ s
+pub reading_is : (r s : Reading) → r.ahead ≡ s.ahead → r.line ≡ s.line → r.taken ≡ s.taken → r.lines ≡ s.lines → r.ended ≡ s.ended → r.failed ≡ s.failed → r ≡ s
 reading_is r s ahead line taken lines ended failed =
     ap (λ (x : List ℕ). record r { ahead = x }) ahead
     ∙ ap (λ (x : List ℕ). record r { ahead = s.ahead; line = x }) line

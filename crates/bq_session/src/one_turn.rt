@@ -1,12 +1,15 @@
 //! One turn of a source: its next line, answered before the source is read again.
-ghost use Rattle.std.specs.Prelude.{◌≡◌, ◌⊎◌, ℕ, ◌+◌, ◌<◌, ◌≤◌, ◌^◌, List, length, false};
+ghost use Rattle.std.specs.Prelude.{◌≡◌, ◌⊎◌, ℕ, ◌+◌, ◌<◌, ◌≤◌, ◌^◌, List, length, false, IsTrue};
 ghost use Rattle.bq_io.specs.Gathered.{gathered_seen};
 ghost use Rattle.bq_io.specs.Sink.{SinkState};
 ghost use Rattle.bq_io.specs.Source.{SourceState};
-ghost use Rattle.bq_feed.specs.Reading.{IsBegun, Reading};
+ghost use Rattle.bq_feed.specs.Reading.{AreLinesAhead, GivesAll, IsBegun, Reading};
+ghost use Rattle.bq_rows.specs.Ahead.{IsEnded};
+ghost use Rattle.bq_session.specs.declared.outcome.LineOutcome.TheVariants as outcomes;
 ghost use Rattle.bq_session.specs.State.{State};
 ghost use Rattle.bq_session.specs.Session.{StandsFor, Answered, SessionValue};
 ghost use Rattle.bq_session.specs.Run.{HasState};
+ghost use Rattle.bq_session.specs.AnsweredRows.{AreAnswered, TurnedBehind};
 ghost use Rattle.bq_session.specs.Counted.{CountsRows};
 ghost use Rattle.bq_session.specs.Turned.{AnsweredLine, Turned};
 
@@ -18,6 +21,7 @@ use bq_feed::LineReader;
 use bq_io::{Gathered, Sink, Source};
 use bq_model::Row;
 use bq_pool::Steps;
+use bq_rows::CountedRows;
 use std::sync::ledger::Ledger;
 
 /// How a turn of a source went.
@@ -47,9 +51,7 @@ fn answer<O: Sink, L: Ledger>(
 ) -> LineOutcome
     requires few { session.old.lines + 1 < 2 ^ 64 }
     requires short { long ≡ false → length reader.now.line ≤ 1024 }
-    ensures { (s : State) → (line : List ℕ) → IsBegun long reader.now.line line → StandsFor session.old s
-        → Answered result s line session.new (gathered_seen (O.seen output.old.sink.now) output.old.sink.ghost_name output.old.held.items)
-        (gathered_seen (O.seen output.new.sink.now) output.new.sink.ghost_name output.new.held.items) }
+    ensures { (s : State) → (line : List ℕ) → IsBegun long reader.now.line line → StandsFor session.old s → Answered result s line session.new (gathered_seen (O.seen output.old.sink.now) output.old.sink.ghost_name output.old.held.items) (gathered_seen (O.seen output.new.sink.now) output.new.sink.ghost_name output.new.held.items) }
 {
     if long {
         session.long_line(output)
@@ -61,9 +63,7 @@ fn answer<O: Sink, L: Ledger>(
 // How a turn went in which a line came that was answered so.
 #[inline(always)]
 fn turn_of<O: Sink>(outcome: LineOutcome, output: &mut Gathered<'_, O>) -> Turn
-    ensures turned { (s : State) → (old new : Reading) → (source now : SourceState) → (session session' : SessionValue) → (below : SinkState) → (held : List ℕ)
-        → AnsweredLine outcome s old new source now session' below (O.seen output.old.sink.now) held output.old.held.items
-        → Turned result s old new source now session session' below (O.seen output.new.sink.now) held output.new.held.items }
+    ensures turned { (s : State) → (old new : Reading) → (source now : SourceState) → (session session' : SessionValue) → (below : SinkState) → (held : List ℕ) → AnsweredLine outcome s old new source now session' below (O.seen output.old.sink.now) held output.old.held.items → Turned result s old new source now session session' below (O.seen output.new.sink.now) held output.new.held.items }
     ensures same_reference { output.new.sink.ghost_name ≡ output.old.sink.ghost_name }
 {
     match outcome {
@@ -87,9 +87,7 @@ fn any_turn<I: Source, O: Sink, L: Ledger>(
 ) -> Turn
     requires stands { HasState session.old }
     requires room { (session.old.lines + 1 < 2 ^ 64) ⊎ (session.old.lines ≤ reader.old.lines) }
-    ensures turned { (s : State) → StandsFor session.old s
-        → Turned result s reader.old reader.new (I.seen input.old) (I.seen input.new) session.old session.new
-        (O.seen output.old.sink.now) (O.seen output.new.sink.now) output.old.held.items output.new.held.items }
+    ensures turned { (s : State) → StandsFor session.old s → Turned result s reader.old reader.new (I.seen input.old) (I.seen input.new) session.old session.new (O.seen output.old.sink.now) (O.seen output.new.sink.now) output.old.held.items output.new.held.items }
     ensures same_reference { output.new.sink.ghost_name ≡ output.old.sink.ghost_name }
 {
     match fetch(reader, input, output) {
@@ -119,9 +117,7 @@ pub fn take_turn<I: Source, O: Sink, L: Ledger>(
 ) -> Turn
     requires stands { HasState session.old }
     requires room { (session.old.lines + 1 < 2 ^ 64) ⊎ (session.old.lines ≤ reader.old.lines) }
-    ensures turned { (s : State) → StandsFor session.old s
-        → Turned result s reader.old reader.new (I.seen input.old) (I.seen input.new) session.old session.new
-        (O.seen output.old.sink.now) (O.seen output.new.sink.now) output.old.held.items output.new.held.items }
+    ensures turned { (s : State) → StandsFor session.old s → Turned result s reader.old reader.new (I.seen input.old) (I.seen input.new) session.old session.new (O.seen output.old.sink.now) (O.seen output.new.sink.now) output.old.held.items output.new.held.items }
     ensures same_reference { output.new.sink.ghost_name ≡ output.old.sink.ghost_name }
 {
     let mut row = Row::new();
@@ -129,11 +125,152 @@ pub fn take_turn<I: Source, O: Sink, L: Ledger>(
         Some(found) => {
             let (stream, len) = found;
             reader.give_line(len);
-            let outcome = session.plain_row(stream, &row, output, steps);
+            let outcome = session.plain_row(stream, &row, false, output, steps);
             turn_of(outcome, output)
         }
         None => any_turn(reader, session, input, output, steps),
     }
+}
+
+// What `take_turn` does, where no query is live. It is not inlined, so that rows that queries are asked of pay nothing for it.
+#[inline(never)]
+fn unasked_turn<I: Source, O: Sink, L: Ledger>(
+    reader: &mut LineReader,
+    session: &mut Session,
+    input: &mut I,
+    output: &mut Gathered<'_, O>,
+    steps: &mut Steps<L>,
+) -> Turn
+    requires stands { HasState session.old }
+    requires room { (session.old.lines + 1 < 2 ^ 64) ⊎ (session.old.lines ≤ reader.old.lines) }
+    ensures turned { (s : State) → StandsFor session.old s → Turned result s reader.old reader.new (I.seen input.old) (I.seen input.new) session.old session.new (O.seen output.old.sink.now) (O.seen output.new.sink.now) output.old.held.items output.new.held.items }
+    ensures same_reference { output.new.sink.ghost_name ≡ output.old.sink.ghost_name }
+{
+    take_turn(reader, session, input, output, steps)
+}
+
+// The rows at the front of a text that were answered one after another, and how the last one was.
+#[derive(Clone, Copy)]
+struct AnsweredRows {
+    rows: CountedRows,
+    outcome: LineOutcome,
+}
+
+// Whether the reply to a line was written.
+fn is_done(outcome: LineOutcome) -> bool
+    ensures { IsTrue result → outcome ≡ outcomes.Done }
+{
+    match outcome {
+        LineOutcome::Done => true,
+        LineOutcome::WriteFault => false,
+        LineOutcome::Memory => false,
+    }
+}
+
+// Answers the rows at the front of a text, up to one of which the reply breaks off, without asking whether a query is live.
+#[inline(always)]
+fn answer_rows<O: Sink, L: Ledger>(
+    session: &mut Session,
+    text: &[u8],
+    output: &mut Gathered<'_, O>,
+    steps: &mut Steps<L>,
+) -> AnsweredRows
+    requires stands { HasState session.old }
+    requires ended { IsEnded text.now }
+    requires room { session.old.lines + length text.now < 2 ^ 64 }
+    ensures rows { AreAnswered text.now session.old (O.seen output.old.sink.now) output.old.held.items result.outcome result.rows.count result.rows.begin result.rows.end session.new (O.seen output.new.sink.now) output.new.held.items }
+    ensures same_reference { output.new.sink.ghost_name ≡ output.old.sink.ghost_name }
+{
+    let mut rows = CountedRows {
+        count: 0,
+        begin: 0,
+        end: 0,
+    };
+    'rows: loop {
+        let mut row = Row::new();
+        let Some(found) = session.row_ahead(text.split_at(rows.end).1, &mut row) else {
+            return AnsweredRows {
+                rows,
+                outcome: LineOutcome::Done,
+            };
+        };
+        let (stream, len) = found;
+        rows = CountedRows {
+            count: rows.count + 1,
+            begin: rows.end,
+            end: rows.end + len + 1,
+        };
+        let outcome = session.plain_row(stream, &row, true, output, steps);
+        if !is_done(outcome) {
+            return AnsweredRows { rows, outcome };
+        }
+    }
+}
+
+// Gives the lines of rows at the front of what the reader has ahead, where there are any.
+#[inline(always)]
+fn give_rows(reader: &mut LineReader, rows: CountedRows)
+    requires { AreLinesAhead reader.old.ahead rows.count rows.begin rows.end }
+    ensures some { 0 < rows.count → GivesAll reader.old reader.new rows.count rows.begin rows.end }
+    ensures none { rows.count ≡ 0 → reader.new ≡ reader.old }
+{
+    if rows.count == 0 {
+        return;
+    }
+    reader.give_lines(rows.count, rows.begin, rows.end);
+}
+
+// Whether so many lines can be counted, and one more for each byte of a text.
+fn can_count(lines: u64, text: &[u8]) -> bool
+    ensures { IsTrue result → lines + length text.now < 2 ^ 64 }
+{
+    lines <= u64::MAX - text.len() as u64
+}
+
+// Answers the rows at the front of what the reader has ahead, gives their lines behind them, and takes one turn more.
+#[inline(always)]
+fn asked_turns<I: Source, O: Sink, L: Ledger>(
+    reader: &mut LineReader,
+    session: &mut Session,
+    input: &mut I,
+    output: &mut Gathered<'_, O>,
+    steps: &mut Steps<L>,
+) -> Turn
+    requires stands { HasState session.old }
+    requires numbered { session.old.lines ≤ reader.old.lines }
+    ensures turned { TurnedBehind result reader.old reader.new (I.seen input.old) (I.seen input.new) session.old session.new (O.seen output.old.sink.now) (O.seen output.new.sink.now) output.old.held.items output.new.held.items }
+    ensures same_reference { output.new.sink.ghost_name ≡ output.old.sink.ghost_name }
+{
+    if !can_count(reader.lines(), reader.ahead_and_feed()) {
+        return any_turn(reader, session, input, output, steps);
+    }
+    let answered = answer_rows(session, reader.ahead_and_feed(), output, steps);
+    give_rows(reader, answered.rows);
+    match answered.outcome {
+        LineOutcome::Done => any_turn(reader, session, input, output, steps),
+        LineOutcome::WriteFault => Turn::Stopped,
+        LineOutcome::Memory => turn_of(LineOutcome::Memory, output),
+    }
+}
+
+/// Answers the rows at the front of what the reader has ahead, where a query is live, and then does what `take_turn` does.
+#[inline(always)]
+pub(crate) fn next_turn<I: Source, O: Sink, L: Ledger>(
+    reader: &mut LineReader,
+    session: &mut Session,
+    input: &mut I,
+    output: &mut Gathered<'_, O>,
+    steps: &mut Steps<L>,
+) -> Turn
+    requires stands { HasState session.old }
+    requires numbered { session.old.lines ≤ reader.old.lines }
+    ensures turned { TurnedBehind result reader.old reader.new (I.seen input.old) (I.seen input.new) session.old session.new (O.seen output.old.sink.now) (O.seen output.new.sink.now) output.old.held.items output.new.held.items }
+    ensures same_reference { output.new.sink.ghost_name ≡ output.old.sink.ghost_name }
+{
+    if session.has_no_query() {
+        return unasked_turn(reader, session, input, output, steps);
+    }
+    asked_turns(reader, session, input, output, steps)
 }
 
 /// Counts the rows at the front of what the reader has ahead, as long as no query is live and one more row may be taken: those of streams

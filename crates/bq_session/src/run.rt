@@ -5,7 +5,7 @@ ghost use Rattle.bq_session.specs.State.{State};
 ghost use Rattle.bq_session.specs.Session.{StandsFor};
 ghost use Rattle.bq_session.specs.Run.{HasState, Ran};
 
-use crate::one_turn::{Turn, count_rows, take_turn};
+use crate::one_turn::{Turn, count_rows, next_turn};
 use crate::pause::Pause;
 use crate::session::Session;
 use bq_feed::LineReader;
@@ -47,7 +47,7 @@ pub fn run_lines<I: Source, O: Sink, L: Ledger>(
     let mut pause = Pause::default();
     'answering: loop {
         count_rows(reader, session, &mut pause);
-        match take_turn(reader, session, input, output, steps) {
+        match next_turn(reader, session, input, output, steps) {
             Turn::Answered => {}
             Turn::Ended => return Ending::Done,
             Turn::Failed => return Ending::ReadFault,

@@ -1,9 +1,13 @@
-use Rattle.std.proofs.Common.{◌-◌, length}
+use Rattle.std.proofs.Common.{◌+◌, ◌-◌, ◌*◌, ◌<◌, ◌≤◌, length}
 use Rattle.bq_rows.specs.Ahead.{FieldsTo}
 use Rattle.bq_rows.proofs.row_ahead.read_fields_at.Given as goal
 
 abbrev pub invariant-fields : goal.invariant-fields
-invariant-fields l = FieldsTo l.text l.start l.place l.row.items
+invariant-fields l = record {
+  front : FieldsTo l.text l.start l.place l.row.items;
+  lacks : length l.row.items < l.width;
+  near : l.place ≤ l.start + 16 * length l.row.items;
+}
 
 abbrev pub decreases-fields : goal.decreases-fields
 decreases-fields l = length l.text - l.place

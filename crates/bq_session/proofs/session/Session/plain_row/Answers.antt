@@ -4,6 +4,24 @@ use Rattle.bq_session.specs.Session.{SessionValue, StandsFor}
 use Rattle.bq_session.proofs.Standing.{plain_asks}
 use Rattle.bq_session.proofs.session.Session.plain_row.Goals as goal
 
+pub returns-then-asked-clause-reply : goal.returns-then-asked-clause-reply
+returns-then-asked-clause-reply g c = λ s line short row stands.
+    let old = subst (λ (k : SessionValue). StandsFor k s) (sym c.self.view_is) stands in
+    let is = subst (λ (k : SessionValue). IsPlainRow k.streams line c.args.stream c.args.row.now.items) (sym c.self.view_is) row in
+    record {
+      request = _;
+      asks = plain_asks _ s line c.args.stream c.args.row.now.items short old is;
+      does = c.ask_row.ensures.reply s (record {
+        limit = old.limit;
+        streams = old.streams;
+        queries = old.queries;
+        quiet = old.quiet;
+        taken = old.taken;
+        lines = ap (λ n. n + 1) old.lines;
+        began = old.began;
+      });
+    }
+
 pub returns-clause-reply : goal.returns-clause-reply
 returns-clause-reply g c = λ s line short row stands.
     let old = subst (λ (k : SessionValue). StandsFor k s) (sym c.self.view_is) stands in

@@ -4,7 +4,7 @@ use Rattle.std.proofs.lemmas.List.{take-take}
 use Rattle.bq_text.specs.Word.{is_digit}
 use Rattle.bq_text.specs.Value.{amount}
 use Rattle.bq_rows.proofs.DigitLanes.{few_small, run_whole}
-use Rattle.bq_rows.proofs.lanes.short_amount_ahead.Goals as goal
+use Rattle.bq_rows.proofs.lanes.short_amount_at.Goals as goal
 
 pub returns-clause-digits : goal.returns-clause-digits
 returns-clause-digits c =

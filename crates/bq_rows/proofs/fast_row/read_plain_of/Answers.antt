@@ -1,5 +1,5 @@
 use Rattle.bq_rows.proofs.PlainLines.{plain_row}
-use Rattle.bq_rows.proofs.fast_row.read_plain.Goals as goal
+use Rattle.bq_rows.proofs.fast_row.read_plain_of.Goals as goal
 
 pub returns-then-read_row_of : goal.returns-then-read_row_of
 returns-then-read_row_of c =

@@ -1,9 +1,0 @@
-use Rattle.std.proofs.Common.{arith}
-use Rattle.bq_rows.proofs.PairAmounts.{pair_at}
-use Rattle.bq_rows.proofs.pairs.pair_ahead.Goals as goal
-
-pub returns : goal.returns
-returns c =
-    let e = c.in-Some in
-    pair_at c.args.text.now c.lanes_from-lanes.result c.args.start e.ends.0 e.ends.1 _ _ (omega (arith, c.if-text-start-lt-LANES.false)) c.lanes_from-lanes.ensures e.ensures.first e.ensures.second e.ensures.within
-    (c.are_short_before.ensures c.if-not-are_short_before.false) c.if-text-start-ne44.false c.amounts_before.ensures.first c.amounts_before.ensures.second
