@@ -1,20 +1,39 @@
 -- A text that is put before itself again and again.
-use Rattle.std.proofs.Common.{◌≡◌, ℕ, zero, suc, ◌+◌, ◌-◌, ◌≤◌, ℤ, List, ◌++◌, length, drop, replicate, append_assoc, subst, refl, ap, sym, ◌∙◌, arith}
+use Rattle.std.proofs.Common.{◌≡◌, ℕ, zero, suc, ◌+◌, ◌-◌, ◌≤◌, ℤ, List, ◌++◌, length, take, drop, replicate, length-take-le, take-append-drop, append_assoc, subst, refl, ap, sym, ◌∙◌, arith}
 use Rattle.std.specs.List.{flat_map}
+use Rattle.std.proofs.lemmas.Simd.{put_chunk_is}
+use lib.Lanes.{put_chunk}
 use Rattle.std.proofs.lemmas.List.{drop-drop, drop-append-le, drop_at}
-use Rattle.bq_io.specs.Sink.{SinkState, Wrote, BrokeOff}
+use Rattle.std.specs.Prelude.{⊤}
+use Rattle.std.specs.declared.result.Result.{Result}
+use Rattle.std.specs.declared.result.Result.TheVariants.{Ok, Err}
+use Rattle.bq_io.specs.declared.sink.WriteFault.{WriteFault}
+use Rattle.bq_io.specs.Sink.{SinkState, Wrote, BrokeOff, Writes}
 use Rattle.bq_io.proofs.Writing.{Wrote-trans, BrokeOff-then, BrokeOff-stop}
 use Rattle.bq_text.specs.Tuple.{tuple_line}
 
+-- what is put at a place stands there
+pub put_at : (xs text : List ℕ) (i : ℕ) → i + length text ≤ length xs → drop i (put_chunk i xs text) ≡ text ++ drop (i + length text) xs
+put_at xs text i h =
+    ap (drop i) (put_chunk_is i xs text h)
+    ∙ drop_at (take i xs) (text ++ drop (length text) (drop i xs)) i (length-take-le i xs (omega (arith, h)))
+    ∙ ap (λ l. text ++ l) (drop-drop (length text) i xs)
+
+-- and so does what is put before a place
+pub put_before : (xs text : List ℕ) (e n : ℕ) → length text ≡ n → n ≤ e → e ≤ length xs → drop (e - n) (put_chunk (e - n) xs text) ≡ text ++ drop e xs
+put_before xs text e n h room inside =
+    let at : (e - n) + length text ≡ e = omega (arith, h, room) in
+    put_at xs text (e - n) (omega (arith, at, inside)) ∙ ap (λ m. text ++ drop m xs) at
+
 -- the end of what stands before a place
-pub tail_before : (xs text ys : List ℕ) (e l : ℕ) → length text ≡ 16 → l ≤ 16 → 16 ≤ e
-    → drop (e - 16) xs ≡ text ++ ys → drop (e - l) xs ≡ drop (16 - l) text ++ ys
-tail_before xs text ys e l n short room h =
-    let at : (e - 16) + (16 - l) ≡ e - l = omega (arith, short, room) in
+pub tail_before : (w : ℕ) (xs text ys : List ℕ) (e l : ℕ) → length text ≡ w → l ≤ w → w ≤ e
+    → drop (e - w) xs ≡ text ++ ys → drop (e - l) xs ≡ drop (w - l) text ++ ys
+tail_before w xs text ys e l n short room h =
+    let at : (e - w) + (w - l) ≡ e - l = omega (arith, short, room) in
     ap (λ m. drop m xs) (sym at)
-    ∙ sym (drop-drop (16 - l) (e - 16) xs)
-    ∙ ap (drop (16 - l)) h
-    ∙ drop-append-le (16 - l) text ys (omega (arith, n))
+    ∙ sym (drop-drop (w - l) (e - w) xs)
+    ∙ ap (drop (w - l)) h
+    ∙ drop-append-le (w - l) text ys (omega (arith, n))
 
 -- what stands behind it
 pub whole_before : (xs text ys : List ℕ) (e : ℕ) → length text ≡ 16 → 16 ≤ e → drop (e - 16) xs ≡ text ++ ys → drop e xs ≡ ys
@@ -51,6 +70,11 @@ pub one_and_more : (t u : List ℕ) (m n : ℕ) → t ≡ u → m + 1 ≡ n
     → flat_map (λ (text : List ℕ). text) (replicate (m + 1) t) ≡ flat_map (λ (text : List ℕ). text) (replicate n u)
 one_and_more t u m n h e =
     ap (λ (k : ℕ). flat_map (λ (text : List ℕ). text) (replicate k t)) e ∙ ap (λ (x : List ℕ). flat_map (λ (text : List ℕ). text) (replicate n x)) h
+
+-- a front was written, and then the rest or a front of it
+pub front_and_rest : (text : List ℕ) (n : ℕ) (a b c : SinkState) (result : Result ⊤ WriteFault) → Wrote a b (take n text) → Writes result b c (drop n text) → Writes result a c text
+front_and_rest text n a b c (Ok x) w o = subst (Wrote a c) (take-append-drop n text) (Wrote-trans a b c _ _ w o)
+front_and_rest text n a b c (Err e) w o = subst (BrokeOff a c) (take-append-drop n text) (BrokeOff-then a b c _ _ w o)
 
 module _ (text : List ℕ) (a b c : SinkState) where
   -- so many copies more were written

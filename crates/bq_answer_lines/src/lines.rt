@@ -1,13 +1,16 @@
 //! The lines of one answer in room that is kept.
-ghost use Rattle.std.specs.Prelude.{◌≡◌, ◌≤◌, ◌<◌, ◌+◌, ◌-◌, ◌++◌, [], ◌∷◌, drop, length, replicate};
+ghost use Rattle.std.specs.Prelude.{◌≡◌, ◌≤◌, ◌<◌, ◌+◌, ◌-◌, ◌++◌, [], ◌∷◌, true, drop, length, replicate};
 ghost use Rattle.std.specs.List.{flat_map};
 ghost use Rattle.std.specs.Fmt.{signed_decimal};
 ghost use Rattle.bq_io.specs.Sink.{Writes};
+ghost use Rattle.bq_answer_lines.specs.Copies.{PutsCopies};
 ghost use Rattle.bq_text.specs.Tuple.{tuple_text, tuple_line};
 
-use bq_io::{Sink, WriteFault, write_all};
+use crate::threes::{put_below_million, put_below_thousand};
+use bq_io::{Sink, WriteAnswer, WriteFault, write_all};
 use bq_text::{Name, put_tuples};
 use itoa::write_digits;
+use std::simd::prelude::*;
 
 /// The bytes of the room: 32 short lines, which end at its end.
 pub const LINE_ROOM: usize = 528;
@@ -18,7 +21,8 @@ const SHORT: usize = 16;
 // How often a short line stands in the room at most.
 const MOST_COPIES: u128 = 32;
 
-// Puts an integer before that place, and returns where it starts.
+// Puts an integer before that place, and returns where it starts. It is not inlined: most integers are written by a few moves.
+#[inline(never)]
 fn put_integer_before(line: &mut [u8], end: usize, value: i64) -> usize
     requires room { 20 ≤ end }
     requires inside { end ≤ length line.old }
@@ -35,7 +39,28 @@ fn put_integer_before(line: &mut [u8], end: usize, value: i64) -> usize
     start - 1
 }
 
+// Puts an integer before that place, and returns where it starts. One of up to six digits takes a few moves.
+#[inline(always)]
+fn put_digits_before(line: &mut [u8], end: usize, value: i64) -> usize
+    requires room { 20 ≤ end }
+    requires inside { end ≤ length line.old }
+    ensures text { drop result line.new ≡ signed_decimal value ++ drop end line.old }
+    ensures before { result ≤ end }
+    ensures short { end ≤ result + 20 }
+    ensures len { length line.new ≡ length line.old }
+{
+    let small = value.cast_unsigned();
+    if small < 1000 {
+        return put_below_thousand(line, end, small as usize);
+    }
+    if small < 1_000_000 {
+        return put_below_million(line, end, small as usize);
+    }
+    put_integer_before(line, end, value)
+}
+
 // Puts a comma and a value before that place, and returns where the comma stands.
+#[inline(always)]
 fn put_value_before(line: &mut [u8], end: usize, value: i64) -> usize
     requires room { 21 ≤ end }
     requires inside { end ≤ length line.old }
@@ -44,18 +69,19 @@ fn put_value_before(line: &mut [u8], end: usize, value: i64) -> usize
     ensures short { end ≤ result + 21 }
     ensures len { length line.new ≡ length line.old }
 {
-    let start = put_integer_before(line, end, value);
+    let start = put_digits_before(line, end, value);
     line[start - 1] = b',';
     start - 1
 }
 
 // Puts the values of a tuple at the end of a line, each behind a comma, and LF behind them. Returns where they start.
+#[inline(always)]
 fn put_values(line: &mut [u8], values: &[i64]) -> usize
     requires few { length values.now ≤ 8 }
     requires size { length line.old ≡ 528 }
     ensures text { drop result line.new ≡ tuple_text values.now ++ 10 ∷ [] }
     ensures room { 359 ≤ result }
-    ensures inside { result ≤ 528 }
+    ensures inside { result < 528 }
     ensures len { length line.new ≡ 528 }
 {
     let mut start = line.len() - 1;
@@ -74,7 +100,7 @@ fn put_name_before(line: &mut [u8], end: usize, name: &Name) -> usize
     requires inside { end ≤ length line.old }
     ensures text { drop result line.new ≡ name.now ++ drop end line.old }
     ensures near { end ≤ result + 24 }
-    ensures inside { result ≤ length line.new }
+    ensures before { result ≤ end }
     ensures len { length line.new ≡ length line.old }
 {
     match name.bytes() {
@@ -102,12 +128,12 @@ fn put_name_before(line: &mut [u8], end: usize, name: &Name) -> usize
 }
 
 // Puts the line of an answer at the end of the room, and returns where it starts.
+#[inline(always)]
 fn put_line(line: &mut [u8], name: &Name, values: &[i64]) -> usize
     requires few { length values.now ≤ 8 }
     requires size { length line.old ≡ 528 }
     ensures text { drop result line.new ≡ tuple_line name.now values.now }
-    ensures room { 335 ≤ result }
-    ensures inside { result ≤ length line.new }
+    ensures inside { result < 528 }
     ensures len { length line.new ≡ 528 }
 {
     let end = put_values(line, values);
@@ -115,21 +141,21 @@ fn put_line(line: &mut [u8], name: &Name, values: &[i64]) -> usize
 }
 
 // Puts a short text before that place. It is one move.
-fn put_short_before(line: &mut [u8], end: usize, text: &[u8; SHORT])
+fn put_short_before(line: &mut [u8], end: usize, text: u8x16)
     requires room { 16 ≤ end }
     requires inside { end ≤ length line.old }
-    ensures text { drop (end - 16) line.new ≡ text.now ++ drop end line.old }
+    ensures text { drop (end - 16) line.new ≡ text ++ drop end line.old }
     ensures len { length line.new ≡ length line.old }
 {
-    line[end - SHORT..end].copy_from_slice(text);
+    text.copy_to_slice(&mut line[end - SHORT..]);
 }
 
 // Puts the last so many bytes of a short text before that place, and returns where they start.
-fn put_tail_before(line: &mut [u8], end: usize, text: &[u8; SHORT], len: usize) -> usize
+fn put_tail_before(line: &mut [u8], end: usize, text: u8x16, len: usize) -> usize
     requires short { len ≤ 16 }
     requires room { 16 ≤ end }
     requires inside { end ≤ length line.old }
-    ensures text { drop result line.new ≡ drop (16 - len) text.now ++ drop end line.old }
+    ensures text { drop result line.new ≡ drop (16 - len) text ++ drop end line.old }
     ensures behind { drop end line.new ≡ drop end line.old }
     ensures start { result + len ≡ end }
     ensures len { length line.new ≡ length line.old }
@@ -146,39 +172,46 @@ fn repeat_short(line: &mut [u8], start: usize, more: usize) -> usize
     requires few { more < 32 }
     ensures text { drop result line.new ≡ flat_map (λ text. text) (replicate (more + 1) (drop start line.old)) }
     ensures behind { drop start line.new ≡ drop start line.old }
-    ensures inside { result ≤ 528 }
+    ensures before { result ≤ start }
     ensures len { length line.new ≡ 528 }
 {
-    let mut text = [0; SHORT];
-    text.copy_from_slice(line.split_at(LINE_ROOM - SHORT).1);
+    let text = u8x16::from_slice(&line[LINE_ROOM - SHORT..]);
     let len = LINE_ROOM - start;
     let mut at = start;
     'copies: for k in 0..more {
-        at = put_tail_before(line, at, &text, len);
+        at = put_tail_before(line, at, text, len);
     }
     at
 }
 
-// Writes a short text that ends the room up to 32 times, by one call of the sink where it takes all.
-fn write_few<O: Sink>(
-    line: &mut [u8],
-    start: usize,
-    times: usize,
-    out: &mut O,
-) -> Result<(), WriteFault>
+// Puts a short text that ends the room before itself until it stands there so many times, up to 32, and returns where the first one starts.
+// It is not inlined: most answers wait once.
+#[inline(never)]
+fn put_few(line: &mut [u8], start: usize, times: u128) -> Option<usize>
     requires size { length line.old ≡ 528 }
-    requires short { 512 ≤ start }
-    requires inside { start ≤ 528 }
-    requires some { 0 < times }
-    requires few { times ≤ 32 }
-    ensures { Writes result (O.seen out.old) (O.seen out.new) (flat_map (λ text. text) (replicate times (drop start line.old))) }
+    requires inside { start < 528 }
+    ensures { PutsCopies result times start line.old line.new }
 {
-    let first = repeat_short(line, start, times - 1);
-    write_all(out, line.split_at(first).1)
+    if start < LINE_ROOM - SHORT || times == 0 || times > MOST_COPIES {
+        return None;
+    }
+    Some(repeat_short(line, start, times as usize - 1))
 }
 
-// Writes a short text that ends the room so many times, up to 32 times by one call of the sink. It is not inlined: most answers wait few times.
-#[inline(never)]
+// Puts a text that ends the room before itself until it stands there so many times, where it is done by a few moves.
+#[inline(always)]
+fn put_copies(line: &mut [u8], start: usize, times: u128) -> Option<usize>
+    requires size { length line.old ≡ 528 }
+    requires inside { start < 528 }
+    ensures { PutsCopies result times start line.old line.new }
+{
+    if times == 1 {
+        return Some(start);
+    }
+    put_few(line, start, times)
+}
+
+// Writes a short text that ends the room so many times, up to 32 times by one call of the sink.
 fn write_times<O: Sink>(
     line: &mut [u8],
     start: usize,
@@ -203,26 +236,70 @@ fn write_times<O: Sink>(
     Ok(())
 }
 
-/// Writes a tuple of at most 8 values so many times as an answer of the query of this name, up to 32 short lines by one call of the sink.
-pub fn put_lines<O: Sink>(
+// Writes a tuple so many times as an answer, of which the line ends the room. It is not inlined: most lines are short, and wait few times.
+#[inline(never)]
+fn put_many<O: Sink>(
     room: &mut [u8; LINE_ROOM],
+    start: usize,
     name: &Name,
     tuple: &[i64],
     times: u128,
     out: &mut O,
 ) -> Result<(), WriteFault>
-    requires { length tuple.now ≤ 8 }
+    requires few { length tuple.now ≤ 8 }
+    requires inside { start ≤ 528 }
+    requires line { drop start room.old ≡ tuple_line name.now tuple.now }
     ensures { Writes result (O.seen out.old) (O.seen out.new) (flat_map (tuple_line name.now) (replicate times tuple.now)) }
 {
-    let start = put_line(room, name, tuple);
-    if times == 1 {
-        return write_all(out, room.split_at(start).1);
-    }
     if start < LINE_ROOM - SHORT {
         return put_tuples(out, name, tuple, times);
     }
-    if 1 <= times && times <= 32 {
-        return write_few(room, start, times as usize, out);
-    }
     write_times(room, start, times, out)
+}
+
+// Writes what is left of a line. It is not inlined: mostly the sink takes a line whole.
+#[cold]
+#[inline(never)]
+fn write_rest<O: Sink>(line: &[u8], taken: usize, out: &mut O) -> Result<(), WriteFault>
+    requires { taken ≤ length line.now }
+    ensures { Writes result (O.seen out.old) (O.seen out.new) (drop taken line.now) }
+{
+    write_all(out, line.split_at(taken).1)
+}
+
+// Writes a line that is not empty.
+#[inline(always)]
+fn write_line<O: Sink>(line: &[u8], out: &mut O) -> Result<(), WriteFault>
+    requires { 0 < length line.now }
+    ensures { Writes result (O.seen out.old) (O.seen out.new) line.now }
+{
+    match out.write(line) {
+        WriteAnswer::Took(n) => {
+            if n == line.len() {
+                return Ok(());
+            }
+            write_rest(line, n, out)
+        }
+        WriteAnswer::Failed => Err(WriteFault),
+    }
+}
+
+/// Writes a tuple of at most 8 values so many times as an answer of the query of this name, up to 32 short lines by one call of the sink.
+#[inline(always)]
+pub fn put_lines<O: Sink>(
+    room: &mut [u8; LINE_ROOM],
+    name: &Name,
+    tuple: &[i64],
+    times: &u128,
+    out: &mut O,
+) -> Result<(), WriteFault>
+    requires { length tuple.now ≤ 8 }
+    ensures { Writes result (O.seen out.old) (O.seen out.new) (flat_map (tuple_line name.now) (replicate times.now tuple.now)) }
+{
+    let start = put_line(room, name, tuple);
+    // How often it waits is read when the line stands, so that it is kept nowhere meanwhile.
+    match put_copies(room, start, *times) {
+        Some(first) => write_line(room.split_at(first).1, out),
+        None => put_many(room, start, name, tuple, *times, out),
+    }
 }

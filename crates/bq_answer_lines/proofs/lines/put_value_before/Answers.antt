@@ -7,7 +7,7 @@ bounds-line-start c = omega arith
 
 pub returns-clause-text : goal.returns-clause-text
 returns-clause-text c =
-    let w = c.put_integer_before-start in
+    let w = c.put_digits_before-start in
     let e : w.result - 1 + 1 ≡ w.result = omega arith in
     let back = to_z-of_z c.ranges.value in
     rw (drop-set w.new.line (w.result - 1) 44 (omega arith), e, w.ensures.text, back)

@@ -1,4 +1,4 @@
-use Rattle.std.proofs.Common.{◌+◌, ◌++◌, drop, ap, ◌∙◌, refl, sym, arith}
+use Rattle.std.proofs.Common.{◌+◌, ◌++◌, take, drop, take_all, length-drop, ap, ◌∙◌, refl, sym, arith}
 use Rattle.std.proofs.lemmas.List.{append-nil}
 use Rattle.bq_answer_lines.proofs.Tails.{tail_is, once_more, behind_later}
 use Rattle.bq_answer_lines.proofs.lines.repeat_short.Goals as goal
@@ -6,7 +6,7 @@ use Rattle.bq_answer_lines.proofs.lines.repeat_short.Goals as goal
 pub copies-init : goal.copies-init
 copies-init c = record {
   text = sym (append-nil (drop c.args.start c.args.line.now));
-  tail = tail_is c.args.line.now c.copy_from_slice.new.self c.args.start (c.copy_from_slice.ensures.after ∙ c.split_at.ensures.back) c.requires.short c.requires.inside;
+  tail = tail_is c.args.line.now (take 16 (drop 512 c.args.line.now)) c.args.start (take_all 16 (drop 512 c.args.line.now) (omega (arith, length-drop 512 c.args.line.now, c.requires.size))) c.requires.short c.requires.inside;
   behind = refl;
   room = omega (arith, c.requires.short);
   inside = omega arith;
