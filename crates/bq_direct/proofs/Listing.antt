@@ -1,5 +1,5 @@
 -- What is listed says how the only part takes a row.
-use Rattle.std.proofs.Common.{get_or, ◌≡◌, ℕ, ◌-◌, ◌<◌, List, [], ◌∷◌, length, map, sym, ap, ◌∙◌, subst, arith}
+use Rattle.std.proofs.Common.{inl, inr, get_or, ◌≡◌, ℕ, ◌-◌, ◌<◌, List, [], ◌∷◌, length, map, sym, ap, ◌∙◌, subst, arith}
 use Rattle.std.specs.Prelude.{Option, Some, None, IfSome, slice_get, slice_index_or}
 use Rattle.bq_model.specs.declared.plan.PartPlan.{PartPlan}
 use Rattle.bq_model.specs.Parts.{pairs}
@@ -11,9 +11,9 @@ use Rattle.bq_synopsis.specs.declared.join_lookup.JoinLookup.{JoinLookup}
 use Rattle.bq_synopsis.specs.Axes.{IsBoxLayout}
 use Rattle.bq_synopsis.specs.Joining.{told_column, IsJoinLookup}
 use Rattle.bq_synopsis.specs.Preparing.{IsPrepared}
-use Rattle.bq_synopsis.proofs.Lookups.{some-is, none-is}
 use Rattle.bq_direct.specs.declared.direct.DirectLookup.{DirectLookup}
-use Rattle.bq_direct.specs.Direct.{IsListedFrom, IsDirect}
+use Rattle.bq_direct.specs.declared.direct.DirectLookups.{DirectLookups}
+use Rattle.bq_direct.specs.Direct.{IsListedFrom, IsDirect, IsDirectFor, AreDirect}
 
 -- a list of one range
 pub only-axis : (xs : List Axis) (a o : Axis) → length xs ≡ 1 → a ≡ get_or xs 0 o → xs ≡ a ∷ []
@@ -47,10 +47,11 @@ module _ (q : QueryValue) (plan : List PartPlan) (p : Prepared) (place stream : 
         };
   }
 
--- one that is listed is one that was made
-pub listed-direct : (q : QueryValue) (plan : List PartPlan) (o : Option DirectLookup) (d : DirectLookup) → IfSome o (λ x. IsDirect q plan x) → o ≡ Some d → IsDirect q plan d
-listed-direct q plan None d h e = absurd (none-is d e)
-listed-direct q plan (Some x) d h e = subst (λ (y : DirectLookup). IsDirect q plan y) (some-is x d e) h
+-- one that is listed is the first or the second
+pub listed-direct : (q : QueryValue) (plan : List PartPlan) (all : DirectLookups) → IsDirectFor q plan all.first → IsDirectFor q plan all.second → AreDirect q plan all
+listed-direct q plan all first second d (inl e) = subst (IsDirectFor q plan) e first
+listed-direct q plan all first second d (inr e) = subst (IsDirectFor q plan) e second
 
-pub none-direct : (q : QueryValue) (plan : List PartPlan) (d : DirectLookup) → None ≡ Some d → IsDirect q plan d
-none-direct q plan d e = absurd (none-is d e)
+-- where nothing is listed
+pub none-direct : (q : QueryValue) (plan : List PartPlan) (d : DirectLookup) → d.stream ≡ 256 → IsDirectFor q plan d
+none-direct q plan d e = λ few. absurd (omega (arith, e, few))

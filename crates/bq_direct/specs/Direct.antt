@@ -51,10 +51,14 @@ pub record IsDirect (q : QueryValue) (parts : List PartPlan) (d : DirectLookup) 
   pub stream : d.stream ≡ slice_index_or q.from d.pos 0
   pub only : (part : PartPlan) → slice_get parts 0 ≡ Some part → IsDirectIn q part d
 
+-- it says so where its stream is one that a row can have
+abbrev pub IsDirectFor : QueryValue → List PartPlan → DirectLookup → Type 0
+IsDirectFor q parts d = d.stream < 256 → IsDirect q parts d
+
 -- it is one of those listed
 abbrev pub IsListedIn : DirectLookups → DirectLookup → Type 0
-IsListedIn all d = (all.first ≡ Some d) ⊎ (all.second ≡ Some d)
+IsListedIn all d = (all.first ≡ d) ⊎ (all.second ≡ d)
 
 -- each that is listed says so
 abbrev pub AreDirect : QueryValue → List PartPlan → DirectLookups → Type 0
-AreDirect q parts all = (d : DirectLookup) → IsListedIn all d → IsDirect q parts d
+AreDirect q parts all = (d : DirectLookup) → IsListedIn all d → IsDirectFor q parts d

@@ -46,7 +46,7 @@ fn put_determined(
     requires { length columns.now ≤ 8 }
     ensures { result ≡ true → AreKnown part.now pos row.now columns.now tuple.new.items }
 {
-    tuple.clear();
+    *tuple = Tuple::new();
     'columns: for a in columns {
         match determined_value(part, pos, row, *a) {
             Some(x) => tuple.push(x),

@@ -5,13 +5,16 @@ ghost use Rattle.bq_model.specs.Numbers.{parts_of};
 ghost use Rattle.bq_model.specs.declared.plan.Kind.TheVariants as kinds;
 ghost use Rattle.bq_synopsis.specs.Axes.{IsAbove, IsShort};
 ghost use Rattle.bq_synopsis.specs.Joining.{told_column};
-ghost use Rattle.bq_direct.specs.Direct.{axis_of, IsListedIn, IsListedFrom, IsDirect, AreDirect};
+ghost use Rattle.bq_direct.specs.Direct.{axis_of, IsListedIn, IsListedFrom, IsDirect, IsDirectFor, AreDirect};
 ghost use Rattle.bq_index.specs.Prepared.{IsPreparedPlan};
 
 use arrayvec::ArrayVec;
 use bq_index::PreparedPlan;
 use bq_model::{Attr, Kind, PartPlans, Plan, Query, Tuple, value_at};
 use bq_synopsis::{BoxLayout, JoinLookup, Prepared};
+
+/// A number that no stream has.
+const NO_STREAM: u16 = 256;
 
 /// The values of a column that are asked for: the least one, how many there are, and the column.
 #[derive(Clone, Copy)]
@@ -23,23 +26,23 @@ pub struct ColumnRange {
 
 /// How a row of a stream of FROM is taken into the only part of a query: the range of one column tells the cell that counts the row and the
 /// cell of the other stream that can answer with it, each by the first cell of its box. A column of the other stream has the same value, and
-/// each selected column has that of a column of the row.
+/// each selected column has that of a column of the row. Where no row is taken so, the number is one that no stream has.
 #[derive(Drop)]
 pub struct DirectLookup {
     pub selected: ArrayVec<u8, 8>,
     pub range: ColumnRange,
     pub own: u32,
     pub other: u32,
-    pub stream: u8,
+    pub stream: u16,
     pub pos: u8,
     pub joined: u8,
 }
 
-/// How the rows of each of two streams are taken so.
+/// How the rows of each of two streams are taken so, as far as they are.
 #[derive(Drop)]
 pub struct DirectLookups {
-    pub first: Option<DirectLookup>,
-    pub second: Option<DirectLookup>,
+    pub first: DirectLookup,
+    pub second: DirectLookup,
 }
 
 impl DirectLookups {
@@ -48,10 +51,14 @@ impl DirectLookups {
     pub fn of_stream(&self, stream: u8) -> Option<&DirectLookup>
         ensures { IfSome result (λ d. IsListedIn self.now d.now × (d.now.stream ≡ stream)) }
     {
-        match of_stream(&self.first, stream) {
-            Some(direct) => Some(direct),
-            None => of_stream(&self.second, stream),
+        let number = u16::from(stream);
+        if self.first.stream == number {
+            return Some(&self.first);
         }
+        if self.second.stream == number {
+            return Some(&self.second);
+        }
+        None
     }
 }
 
@@ -61,26 +68,10 @@ pub fn offset_in(range: ColumnRange, row: &[i64]) -> Option<u32>
     ensures { IsAbove (by_column row.now range.column) (axis_of range) result }
 {
     let offset = value_at(row, range.column).wrapping_sub(range.lo);
-    if 0 <= offset && offset < i64::from(range.size) {
+    if offset.cast_unsigned() < u64::from(range.size) {
         Some(offset as u32)
     } else {
         None
-    }
-}
-
-// What is listed, where it is of this stream.
-fn of_stream(listed: &Option<DirectLookup>, stream: u8) -> Option<&DirectLookup>
-    ensures { IfSome result (λ d. (listed.now ≡ Some d.now) × (d.now.stream ≡ stream)) }
-{
-    match listed {
-        Some(direct) => {
-            if direct.stream == stream {
-                Some(direct)
-            } else {
-                None
-            }
-        }
-        None => None,
     }
 }
 
@@ -104,7 +95,7 @@ pub fn put_selected(columns: &[u8], row: &[i64], tuple: &mut Tuple)
     requires { length columns.now ≤ 8 }
     ensures { tuple.new.items ≡ map (by_column row.now) columns.now }
 {
-    tuple.clear();
+    *tuple = Tuple::new();
     'columns: for column in columns {
         tuple.push(value_at(row, *column));
     }
@@ -139,7 +130,7 @@ fn only_range(layout: &BoxLayout) -> Option<ColumnRange>
 // How a row is taken by what it is asked at its own place and what stands at the other, where each is one range, of the same values, and
 // the row's column is told for that of the other stream.
 fn direct_from(
-    stream: u8,
+    stream: u16,
     pos: u8,
     listed: &JoinLookup,
     selected: ArrayVec<u8, 8>,
@@ -180,6 +171,37 @@ fn direct_from(
     })
 }
 
+// What is listed where no row is taken so.
+fn none_listed() -> DirectLookup
+    ensures { result.stream ≡ 256 }
+{
+    DirectLookup {
+        selected: ArrayVec::new(),
+        range: ColumnRange {
+            lo: 0,
+            size: 0,
+            column: 0,
+        },
+        own: 0,
+        other: 0,
+        stream: NO_STREAM,
+        pos: 0,
+        joined: 0,
+    }
+}
+
+// What is listed of a place of FROM, where rows are taken so there.
+fn listed_at(q: &Query, parts: &PartPlans, prepared: &PreparedPlan, pos: u8) -> DirectLookup
+    requires here { pos < 2 }
+    requires prepared { IsPreparedPlan q.now parts.now prepared.now }
+    ensures { IsDirectFor q.now parts.now result }
+{
+    match direct_at(q, parts, prepared, pos) {
+        Some(direct) => direct,
+        None => none_listed(),
+    }
+}
+
 // Whether this column is told.
 fn is_column(told: Option<u8>, column: u8) -> bool
     ensures { result ≡ true → told ≡ Some column }
@@ -201,11 +223,11 @@ fn layout_at(part: &Prepared, place: u8) -> Option<&BoxLayout>
 }
 
 // The stream at a place of FROM.
-fn stream_at(from: &[u8], pos: u8) -> u8
+fn stream_at(from: &[u8], pos: u8) -> u16
     requires { pos < length from.now }
     ensures { result ≡ slice_index_or from.now pos 0 }
 {
-    from[usize::from(pos)]
+    u16::from(from[usize::from(pos)])
 }
 
 // How a row of the stream at a place of FROM is taken into the only part, where it can be listed.
@@ -241,12 +263,12 @@ pub fn direct_lookups(q: &Query, plan: &Plan, prepared: &PreparedPlan) -> Direct
 {
     match plan {
         Plan::Filter => DirectLookups {
-            first: None,
-            second: None,
+            first: none_listed(),
+            second: none_listed(),
         },
         Plan::Parts { parts, .. } => DirectLookups {
-            first: direct_at(q, parts, prepared, 0),
-            second: direct_at(q, parts, prepared, 1),
+            first: listed_at(q, parts, prepared, 0),
+            second: listed_at(q, parts, prepared, 1),
         },
     }
 }

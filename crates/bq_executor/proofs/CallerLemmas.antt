@@ -4,7 +4,7 @@ use Rattle.bq_model.specs.declared.cell.Cell.{Cell}
 use Rattle.bq_model.specs.Meaning.{Arrival}
 use Rattle.bq_model.specs.Sharing.{sizes_in}
 use Rattle.bq_model.specs.Combinations.{read_from}
-use Rattle.bq_laws.specs.Closed.{IsClosed}
+use Rattle.bq_saturated.specs.Known.{AreSaturated}
 use Rattle.bq_synopsis.specs.Premises.{AreFitting}
 use Rattle.bq_pool.specs.declared.pool.Extent.{Extent}
 use Rattle.bq_pool.specs.Extents.{PoolValue, cells_of, with_cells, IsLive, IsTaken, IsGivenBack}
@@ -30,7 +30,7 @@ kept_same e p o live same k =
       live = live;
       fitting = λ part c. subst (λ (cs : List Cell). AreFitting part (read_from cs)) cut (k.fitting part c);
       counts = λ part c place i l s. subst (λ (cs : List Cell). CountsUpto e.given (read_from cs part place i)) cut (k.counts part c place i l s);
-      saturated = λ s d. subst (λ (cs : List Cell). IsClosed e.query (parts_in e) (read_from cs) (tuples_in e)) cut (k.saturated s d);
+      saturated = λ d. subst (λ (cs : List Cell). AreSaturated e.saturation e.query (parts_in e) (read_from cs) (tuples_in e)) cut (k.saturated d);
     }
 
 pub within_same : (e : ExecutorValue) (p o : PoolValue) → IsLive o e.extent → cells_of o e.extent ≡ cells_of p e.extent → KeepsWithin e p → KeepsWithin e o

@@ -39,3 +39,6 @@ pub mod PassingOn
 pub mod OnlyPart
 pub mod Putting
 pub mod LeftCells
+pub mod RowReads
+pub mod CursorCells
+pub mod LookedRows

@@ -28,7 +28,7 @@ use Rattle.bq_executor.proofs.Answered.{settled-tuples, settled-has, filter_plai
 use Rattle.bq_executor.proofs.Room.{Lie, lie_from, lie_all, tuples_changed, changed_within, room_for}
 use Rattle.bq_executor.proofs.TakingNew.{tuples_new_all}
 use Rattle.bq_executor.proofs.OldAnswers.{has-changed, has-from-tuples, tuples-from-has}
-use Rattle.bq_executor.proofs.Closing.{closed-more}
+use Rattle.bq_executor.proofs.Closing.{saturated-more}
 use Rattle.bq_executor.proofs.PlanFacts.{has_parts}
 use Rattle.bq_executor.proofs.Settled.{settled-spelled}
 use Rattle.bq_executor.proofs.Keeping.{keeps}
@@ -155,7 +155,7 @@ module _ (e : ExecutorValue) (sound : IsSound e) (t : List ℤ) (wide : length t
     live = k.live;
     fitting = k.fitting;
     counts = k.counts;
-    saturated = λ s d. closed-more e.query (parts_in e) (read_from (cells_in e pool)) (tuples_of es) (tuples_of after.entries) tuples-stay (k.saturated s d);
+    saturated = λ d. saturated-more e.saturation e.query (parts_in e) (read_from (cells_in e pool)) (tuples_of es) (tuples_of after.entries) tuples-stay (k.saturated d);
   }
 
   pub tuple-within : (pool : PoolValue) → KeepsWithin e pool → KeepsWithin (told after) pool

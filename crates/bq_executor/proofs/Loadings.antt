@@ -19,9 +19,9 @@ use Rattle.bq_laws.proofs.Bases.{bases-keep-on}
 use Rattle.bq_laws.proofs.Tests.{and-left, and-right, true_or_false, nat_true}
 use Rattle.bq_pool.specs.Extents.{PoolValue, cells_of, with_cells, IsLive}
 use Rattle.bq_pool.proofs.CallerLemmas.{cells_of_with, live_with}
-use Rattle.bq_executor.specs.declared.saturation.Saturation.TheVariants as saturation
-use Rattle.bq_executor.specs.Executor.{ExecutorValue, parts_in, list_in, cells_in, rest_in, IsSound, with_given, with_saturation}
-use Rattle.bq_executor.proofs.Closing.{stands-saturated, within-saturated}
+use Rattle.bq_saturated.specs.Known.{none_yet}
+use Rattle.bq_executor.specs.Executor.{ExecutorValue, parts_in, list_in, cells_in, rest_in, tuples_in, IsSound, with_given, with_saturation}
+use Rattle.bq_executor.proofs.Closing.{stands-saturated, within-saturated, none-known}
 use Rattle.bq_executor.specs.Standing.{CountsUpto, AreKept, KeepsWithin}
 use Rattle.bq_loading.specs.Loadable.{is_empty, kind_at, filled_cell}
 use Rattle.bq_executor.specs.Bases.{kept_in, StandsFrom}
@@ -29,10 +29,6 @@ use Rattle.bq_executor.specs.Loading.{loaded_cell, Loads}
 use Rattle.bq_loading.proofs.CellKinds.{kind-past, kind-of-box}
 use Rattle.bq_loading.proofs.PlanBoxes.{parts_plans, parts_boxes, no_boxes}
 use Rattle.bq_executor.proofs.PlanFacts.{no_parts, cells_of_plan}
-
--- of none is not of all
-none-are : saturation.None ≡ saturation.All → ⊥
-none-are h = cc
 
 -- what stood for no rows since keeps just the base
 pub keeps-base : (e : ExecutorValue) (pool : PoolValue) (base : Base) → StandsFrom e pool base [] → kept_in e base [] ≡ base
@@ -232,12 +228,12 @@ module _ (e : ExecutorValue) (sound : IsSound e) (pool : PoolValue) (live : IsLi
         apart : (a b : ℕ) → nat_eq a b ≡ false → a ≡ b → ⊥
         apart a b f h = grind (arith, f, h)
 
-    filled-kept : AreKept e pool → AreKept (with_saturation e saturation.None) later
+    filled-kept : AreKept e pool → AreKept (with_saturation e none_yet) later
     filled-kept k = record {
       live = live_later;
       fitting = λ part known place j l s. (kept_at k part known place j l s).0;
       counts = λ part known place j l s. (kept_at k part known place j l s).1;
-      saturated = λ s d. absurd (none-are s);
+      saturated = λ d. none-known e.query (parts_in e) (read_from (cells_in e later)) (tuples_in e);
     }
 
     filled-within : KeepsWithin e pool → KeepsWithin e later
@@ -258,7 +254,7 @@ module _ (e : ExecutorValue) (sound : IsSound e) (pool : PoolValue) (live : IsLi
 
   -- the executor then
   abbrev pub told : Bool → ExecutorValue
-  told result = with_saturation e (cond result saturation.None e.saturation)
+  told result = with_saturation e (cond result none_yet e.saturation)
 
   told-same : (result : Bool) → result ≡ false → told result ≡ e
   told-same result r = ap told r
@@ -299,7 +295,7 @@ module _ (e : ExecutorValue) (sound : IsSound e) (pool : PoolValue) (live : IsLi
       by : (b : Bool) → is_empty (get_or all i Cell.Empty) ≡ b → Loads result (cond b (Some (record base { cells = set base.cells i c })) None) e pool (told result) after
       by true h =
           let r : result ≡ true = p.0 ∙ h in
-          (r, stands-saturated e (cond result saturation.None e.saturation) after (record base { cells = set base.cells i c }) [] (subst (λ (o : PoolValue). StandsFrom e o (record base { cells = set base.cells i c }) []) (sym (p.1 ∙ ap (λ b. cond b (with_cells pool e.extent (set all i c)) pool) r)) (filled-from c w base s)))
+          (r, stands-saturated e (cond result none_yet e.saturation) after (record base { cells = set base.cells i c }) [] (subst (λ (o : PoolValue). StandsFrom e o (record base { cells = set base.cells i c }) []) (sym (p.1 ∙ ap (λ b. cond b (with_cells pool e.extent (set all i c)) pool) r)) (filled-from c w base s)))
       by false h =
           let r : result ≡ false = p.0 ∙ h in
           (r, told-same result r, p.1 ∙ ap (λ b. cond b (with_cells pool e.extent (set all i c)) pool) r)
@@ -324,7 +320,7 @@ module _ (e : ExecutorValue) (sound : IsSound e) (pool : PoolValue) (live : IsLi
 
   pub cell-within : (o : Option Cell) (result : Bool) (after : PoolValue) → wanted ≡ o → Puts o result after → KeepsWithin e pool → KeepsWithin (told result) after
   cell-within o result after w p k =
-      within-saturated e (cond result saturation.None e.saturation) after (put-is (KeepsWithin e) o result after w p k (λ c f. filled-within c f k))
+      within-saturated e (cond result none_yet e.saturation) after (put-is (KeepsWithin e) o result after w p k (λ c f. filled-within c f k))
 
   -- only the cells of the extent changed
   pub cell-only : (o : Option Cell) (result : Bool) (after : PoolValue) → wanted ≡ o → Puts o result after → pool ≡ with_cells pool e.extent all

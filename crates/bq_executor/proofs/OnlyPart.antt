@@ -5,7 +5,7 @@ use Rattle.std.proofs.lemmas.List.{take_all}
 use Rattle.bq_model.specs.declared.plan.PartPlan.{PartPlan}
 use Rattle.bq_model.specs.Query.{QueryValue}
 use Rattle.bq_model.specs.Meaning.{by_column}
-use Rattle.bq_model.specs.Numbers.{work, share}
+use Rattle.bq_executor.specs.Reads.{most_reads, row_reads}
 use Rattle.bq_model.specs.Admission.{admits, alone, in_range, keeps_signs}
 use Rattle.bq_model.specs.Parts.{pairs}
 use Rattle.bq_model.specs.Plan.{dims_at}
@@ -14,13 +14,11 @@ use Rattle.bq_model.specs.Combinations.{Reading, read_from, found_in}
 use Rattle.bq_pool.specs.declared.pool.Extent.{Extent}
 use Rattle.bq_pool.specs.Extents.{PoolValue, cells_of}
 use Rattle.bq_synopsis.specs.Premises.{IsReady}
-use Rattle.bq_answers.specs.Entries.{TableValue, with_entries}
 use Rattle.bq_index.specs.Owners.{takes_rows}
-use Rattle.bq_executor.specs.FoundTable.{with_all}
 use Rattle.bq_executor.specs.CellSteps.{arrives, all_found, with_row, CanCount, HasTaken, AreReady}
 use Rattle.bq_executor.specs.Signed.{IsSigned}
 use Rattle.bq_executor.proofs.Inserting.{part_plan}
-use Rattle.bq_executor.proofs.InPart.{none_added, found_refused, row_refused}
+use Rattle.bq_executor.proofs.InPart.{found_refused, row_refused}
 use Rattle.bq_executor.proofs.PartCells.{taken_start, taken_step, ready_part, room_part, work_more}
 
 one-is : (plan : List PartPlan) (part : PartPlan) → length plan ≡ 1 → slice_get plan 0 ≡ Some part → plan ≡ part ∷ []
@@ -52,19 +50,15 @@ module _ (q : QueryValue) (plan : List PartPlan) (e : Extent) (pos : ℕ) (here 
   pub only-counts : CanCount part (read_from (cells_of before e))
   only-counts = room_part q plan e pos here values before ready 0 part at_0 before taken refl
 
-  -- what it finds is all that is found, and its work is all work
+  -- what it finds is all that is found, and its reads are all reads
   pub only-found : (read : Reading) → all_found q plan read (arrives q pos values) ≡ found_in q part read (arrives q pos values)
   only-found read = ap (λ ps. all_found q ps read (arrives q pos values)) (one-is plan part one at_0) ∙ append-nil (found_in q part read (arrives q pos values))
 
-  pub only-work : work plan ≡ share part
+  pub only-work : row_reads plan ≡ most_reads part
   only-work =
       let more = work_more q plan e pos here values before ready 0 part at_0 before taken in
-      let none : work [] ≡ 0 = refl in
-      ap work (sym (take_all (0 + 1) plan (omega (arith, one)))) ∙ more ∙ omega (arith, none)
-
-  pub only-table : (d : Bool) (read : Reading) (start table : TableValue) → table ≡ with_entries start (with_all d (found_in q part read (arrives q pos values)) start.entries)
-      → table ≡ with_entries start (with_all d (all_found q plan read (arrives q pos values)) start.entries)
-  only-table d read start table is = is ∙ ap (λ fs. with_entries start (with_all d fs start.entries)) (sym (only-found read))
+      let none : row_reads [] ≡ 0 = refl in
+      ap row_reads (sym (take_all (0 + 1) plan (omega (arith, one)))) ∙ more ∙ omega (arith, none)
 
   module _ (several : 1 < length q.from) where
     owns : true ≡ takes_rows q plan pos 0 part
@@ -81,6 +75,6 @@ module _ (q : QueryValue) (plan : List PartPlan) (e : Extent) (pos : ℕ) (here 
     pub only-refused : admits q part pos (by_column values) ≡ false → HasTaken q plan e (arrives q pos values) (length plan) before before
     only-refused refused = only-taken before (row_refused true q part pos values e before refused)
 
-  pub only-none : (d : Bool) (read : Reading) (table : TableValue) → admits q part pos (by_column values) ≡ false → table ≡ with_entries table (with_all d (all_found q plan read (arrives q pos values)) table.entries)
-  only-none d read table refused =
-      only-table d read table table (none_added d _ table (found_refused q part ready.limits (part_plan q plan ready.limits ready.plan 0 part at_0) pos here values read refused))
+  pub only-none : (read : Reading) → admits q part pos (by_column values) ≡ false → all_found q plan read (arrives q pos values) ≡ []
+  only-none read refused =
+      only-found read ∙ found_refused q part ready.limits (part_plan q plan ready.limits ready.plan 0 part at_0) pos here values read refused

@@ -1,12 +1,11 @@
 -- A part and the cell that a row falls into: where it is left as it is, and what is known of it while the parts take the row.
-use Rattle.std.proofs.Common.{◌≡◌, ℕ, ◌<◌, ◌&&◌, ◌||◌, not, ◌⊎◌, inl, inr, cond, Bool, true, false, ℤ, List, [], ◌∷◌, length, take, sym, ap, ◌∙◌, subst, refl, arith, slice_get, Some, Contains}
+use Rattle.std.proofs.Common.{◌≡◌, ℕ, ◌<◌, ◌&&◌, ◌||◌, not, ◌⊎◌, inl, inr, cond, Bool, true, false, ℤ, List, length, take, sym, ap, ◌∙◌, subst, refl, arith, slice_get, Some, Contains}
 use Rattle.bq_model.specs.declared.cell.Cell.{Cell}
 use Rattle.bq_model.specs.declared.plan.PartPlan.{PartPlan}
 use Rattle.bq_model.specs.Query.{QueryValue}
 use Rattle.bq_model.specs.Meaning.{by_column}
 use Rattle.bq_model.specs.Plan.{stream_at}
 use Rattle.bq_model.specs.Admission.{admits}
-use Rattle.bq_model.specs.Cells.{content}
 use Rattle.bq_model.specs.Merge.{merged}
 use Rattle.bq_model.specs.Combinations.{read_from, found_in}
 use Rattle.bq_model.proofs.Has.{Contains-from_has}
@@ -21,7 +20,8 @@ use Rattle.bq_synopsis.specs.Own.{IsOwnCell}
 use Rattle.bq_synopsis.proofs.OwnLaws.{stays-put}
 use Rattle.bq_answers.specs.Entries.{TableValue, with_entries}
 use Rattle.bq_executor.specs.FoundTable.{with_all, AreOld}
-use Rattle.bq_executor.specs.CellSteps.{arrives, all_found, with_row, HasTaken, CanCount, AreReady, LeavesCell, AnswersNothingNew}
+use Rattle.bq_executor.specs.CellSteps.{arrives, all_found, with_row, HasTaken, CanCount, AreReady, AnswersNothingNew}
+use Rattle.bq_index.specs.Leaving.{LeavesCell}
 use Rattle.bq_index.specs.Owners.{takes_rows}
 use Rattle.bq_index.proofs.Owning.{first-has, has-several}
 use Rattle.bq_executor.proofs.InPart.{place_inside}
@@ -33,12 +33,6 @@ use Rattle.bq_executor.proofs.OldAnswers.{has-later}
 pub turned : (b : Bool) → not b ≡ true → b ≡ false
 turned true h = absurd cc
 turned false h = refl
-
--- the cell that was read says that the row leaves it as it is
-pub leaves-cell : (part : PartPlan) (pos : ℕ) (values : List ℤ) (cells : List Cell) (own : OwnCell) → IsOwnCell part pos values cells own → own_cells.with_row own values ≡ own.held
-    → LeavesCell part (read_from cells) pos values
-leaves-cell part pos values cells own o stays =
-    sym (λ i. merged (o.kind i) (o.held i) (content (o.kind i) (values ∷ []))) ∙ stays ∙ o.held
 
 module _ (q : QueryValue) (part : PartPlan) (pos : ℕ) (values : List ℤ) (e : Extent) (pool : PoolValue) where
   -- then the pool is as if the cell had taken the row

@@ -13,7 +13,7 @@ use Rattle.bq_model.specs.Plan.{stream_at, dims_at}
 use Rattle.bq_model.specs.Admission.{admits}
 use Rattle.bq_model.specs.Cells.{row_place, content, FitsKind}
 use Rattle.bq_model.specs.Merge.{merged}
-use Rattle.bq_model.specs.Numbers.{share, work}
+use Rattle.bq_executor.specs.Reads.{most_reads, row_reads}
 use Rattle.bq_model.specs.Combinations.{read_from, Reading, Found, found_in}
 use Rattle.bq_model.proofs.Has.{Contains-from_has}
 use Rattle.bq_laws.proofs.Walking.{plans-are-walkable}
@@ -220,8 +220,8 @@ module _ (q : QueryValue) (plan : List PartPlan) (e : Extent) (pos : ℕ) (here 
             ap (λ ps. all_found q ps first_read r) taken_more ∙ all_found-append q first_read r (take n plan) (part ∷ [])
             ∙ ap (λ fs. all_found q (take n plan) first_read r ++ fs) (no_more (found_in q part first_read r))
 
-    -- the work of the parts so far
-    pub work_more : work (take (n + 1) plan) ≡ work (take n plan) + share part
+    -- the reads in the parts so far
+    pub work_more : row_reads (take (n + 1) plan) ≡ row_reads (take n plan) + most_reads part
     work_more =
         let l : n < length plan = slice_get_within plan n part at_n in
-        sum_by_more share plan n part l ∙ ap (λ (p : PartPlan). work (take n plan) + share p) (get_or_from_slice_get plan n part part at_n)
+        sum_by_more most_reads plan n part l ∙ ap (λ (p : PartPlan). row_reads (take n plan) + most_reads p) (get_or_from_slice_get plan n part part at_n)

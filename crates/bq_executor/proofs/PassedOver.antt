@@ -1,9 +1,9 @@
 -- What the parts did to a row so far, and that parts which are passed over did nothing, since they do not admit it.
-use Rattle.std.proofs.Common.{◌≡◌, ℕ, zero, suc, ◌+◌, ◌-◌, ◌*◌, ◌<◌, ◌≤◌, ℤ, List, length, take, refl, sym, subst, arith, slice_get, Some, false}
+use Rattle.std.proofs.Common.{◌≡◌, ℕ, zero, suc, ◌+◌, ◌-◌, ◌<◌, ◌≤◌, ℤ, List, length, take, refl, sym, subst, arith, slice_get, Some, false}
 use Rattle.bq_model.specs.declared.plan.PartPlan.{PartPlan}
 use Rattle.bq_model.specs.Query.{QueryValue}
 use Rattle.bq_model.specs.Meaning.{by_column}
-use Rattle.bq_model.specs.Numbers.{work}
+use Rattle.bq_executor.specs.Reads.{row_reads}
 use Rattle.bq_model.specs.Admission.{admits}
 use Rattle.bq_model.specs.Combinations.{read_from}
 use Rattle.bq_pool.specs.declared.pool.Extent.{Extent}
@@ -23,7 +23,7 @@ use Rattle.bq_index.proofs.Linked.{NoneAdmits}
 pub record HaveDone (q : QueryValue) (plan : List PartPlan) (e : Extent) (pos : ℕ) (values : List ℤ) (before : PoolValue) (start : TableValue) (paid : StepsValue) (n : ℕ) (now : PoolValue) (table : TableValue) (steps : StepsValue) : Type 0 where
   pub taken : HasTaken q plan e (arrives q pos values) n before now
   pub found : table ≡ with_entries start (with_all q.distinct (all_found q (take n plan) (read_from (cells_of before e)) (arrives q pos values)) start.entries)
-  pub reads : steps.reads ≤ paid.reads + 3 * work (take n plan) + n
+  pub reads : steps.reads ≤ paid.reads + row_reads (take n plan) + n
   pub writes : steps.writes ≤ paid.writes + n
 
 -- the same of a state that is the same

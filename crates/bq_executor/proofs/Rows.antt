@@ -16,7 +16,8 @@ use Rattle.bq_model.specs.Plan.{IsPartPlan, stream_at}
 use Rattle.bq_model.specs.Cells.{printed, FitsKind}
 use Rattle.bq_model.specs.Combinations.{Reading, Found, found_in, read_from}
 use Rattle.bq_model.specs.Bases.{Base, kept_row}
-use Rattle.bq_laws.specs.Closed.{IsClosed, IsSaturated, own_place, own_content}
+use Rattle.bq_laws.specs.Closed.{IsSaturated, own_place, own_content}
+use Rattle.bq_saturated.specs.Known.{AreSaturated}
 use Rattle.bq_laws.proofs.Saturated.{saturated-cells-answer-nothing-new}
 use Rattle.bq_laws.proofs.ClosedTables.{cells-stay-saturated}
 use Rattle.bq_model.specs.Future.{waiting, future}
@@ -40,14 +41,16 @@ use Rattle.bq_model.specs.Domains.{RowKeeps}
 use Rattle.bq_pool.specs.Extents.{PoolValue, cells_of}
 use Rattle.bq_synopsis.specs.Premises.{AreFitting, HasRoom}
 use Rattle.bq_answers.specs.Entries.{Entry, TableValue, entry_of, with_entries, Ascends, waiting_of, tuples_of}
-use Rattle.bq_executor.specs.declared.saturation.Saturation.TheVariants as saturation
+use Rattle.bq_saturated.specs.declared.saturation.Saturation.TheVariants as saturation
 use Rattle.bq_executor.specs.Executor.{ExecutorValue, list_in, cells_in, tuples_in, waiting_in, IsSound, with_given, cleared}
 use Rattle.bq_executor.specs.Standing.{StandsFor, CountsUpto, AreKept, KeepsWithin, IsReady, future_in, pool_with, TookRow}
 use Rattle.bq_executor.specs.FoundTable.{with_all, HaveRoom}
-use Rattle.bq_executor.specs.CellSteps.{arrives, answered_by, HasParts, HasTaken, IsPlanReady, CanCount, LeavesCell, AnswersNothingNew}
+use Rattle.bq_executor.specs.CellSteps.{arrives, answered_by, HasParts, HasTaken, IsPlanReady, CanCount, AnswersNothingNew}
+use Rattle.bq_index.specs.Leaving.{LeavesCell}
 use Rattle.bq_executor.proofs.InPart.{place_inside}
 use Rattle.bq_executor.proofs.OldAnswers.{has-cleared}
-use Rattle.bq_executor.proofs.Closing.{distinct-plan}
+use Rattle.bq_executor.proofs.Closing.{distinct-plan, closed-all}
+use Rattle.bq_executor.proofs.Inserting.{get_has}
 use Rattle.bq_executor.proofs.Founds.{Agree, found-same}
 use Rattle.bq_executor.proofs.Spelled.{spelled_is}
 use Rattle.bq_executor.proofs.Answered.{future-rises, cleared-ascends}
@@ -99,7 +102,7 @@ module _ (e : ExecutorValue) (sound : IsSound e) (pool : PoolValue) (ready : IsR
   is_kept : IsKept q parts list
   is_kept = kept_is e.shared q e.plan sound.accepted.plan
 
-  plans : All (IsPartPlan q) parts
+  pub plans : All (IsPartPlan q) parts
   plans = all_plans e.plan has
     where
       all_plans : (p : Plan) → HasParts q p → All (IsPartPlan q) (parts_of p)
@@ -175,7 +178,7 @@ module _ (e : ExecutorValue) (sound : IsSound e) (pool : PoolValue) (ready : IsR
         (λ part k. fitting part (Contains-from_has parts part k));
   }
 
-  agree : (part : PartPlan) → Has parts part → Agree part (length q.from) (read_from all_cells) (read_from (cells_in e pool))
+  pub agree : (part : PartPlan) → Has parts part → Agree part (length q.from) (read_from all_cells) (read_from (cells_in e pool))
   agree part k place i l s = sym (cut part (Contains-from_has parts part k) place i (there e.plan has k l) s)
     where
       there : (p : Plan) → HasParts q p → Has (parts_of p) part → place < length q.from → place < length part.streams.items
@@ -208,7 +211,7 @@ module _ (e : ExecutorValue) (sound : IsSound e) (pool : PoolValue) (ready : IsR
         = found-same q part (read_from all_cells) (read_from (cells_in e pool)) (arrives q pos values) (agree part (Has-from_contains parts part k)) in
         let among : Contains (tuples_in e) f.tuple
         = saturated-cells-answer-nothing-new q parts dp part k (read_from (cells_in e pool)) fits (tuples_in e) (arrives q pos values) pos here refl l stays
-        (ready.kept.saturated (all so) d part k pos i here l) f (subst (λ fs. Contains fs f) found_cut c) in
+        (closed-all e.saturation q parts (read_from (cells_in e pool)) (tuples_in e) (all so) (ready.kept.saturated d) part k pos i here l) f (subst (λ fs. Contains fs f) found_cut c) in
         has-cleared f.tuple q.distinct e.table.entries es d is among;
   }
 
@@ -254,22 +257,23 @@ module _ (e : ExecutorValue) (sound : IsSound e) (pool : PoolValue) (ready : IsR
         subst (λ x. FitsKind kind x × CountsUpto (e.given + 1) x) (sym (read_after q parts plans list of r all_cells (cells_of after e.extent) whole taken.inserted part c place i l s))
         (kept_by _ e.given kind (read_from (cells_in e pool) part place i) r.values ready.few (ready.kept.fitting part c place i l s) (ready.kept.counts part c place i l s))
 
-    -- the table is closed over the cells where it was before
-    closed : q.distinct ≡ true → IsClosed q parts (read_from (cells_in e pool)) (tuples_in e) → IsClosed q parts (read_from (cells_in later after)) (tuples_of now)
-    closed d was part k place i l m =
+    -- each cell that was saturated is
+    stay : q.distinct ≡ true → AreSaturated e.saturation q parts (read_from (cells_in e pool)) (tuples_in e) → AreSaturated e.saturation q parts (read_from (cells_in later after)) (tuples_of now)
+    stay d was n part there place i l m is =
+        let k : Contains parts part = Contains-from_has parts part (get_has parts n part there) in
         let base : Base = record { cells = cells_in e pool; table = tuples_in e; given = e.given } in
         let size : length base.cells ≡ sizes_in list = length-take-le (sizes_in list) all_cells whole in
         let table : tuples_of now ≡ (kept_row q parts list base r).table = tuples d ∙ sym (ap (λ b. cond b (merged_table (tuples_in e) (future_in e pool r)) []) d) in
         subst (λ (cs : List Cell). IsSaturated q part (read_from cs) (tuples_of now) place i) (sym cells_later)
         (subst (λ (ts : List (List ℤ)). IsSaturated q part (read_from (kept_row q parts list base r).cells) ts place i) (sym table)
-        ((cells-stay-saturated q parts (distinct-plan e sound d) list of base r size).stay part k place i l m (was part k place i l m)))
+        ((cells-stay-saturated q parts (distinct-plan e sound d) list of base r size).stay part k place i l m (was n part there place i l m is)))
 
     pub kept : AreKept later after
     kept = record {
       live = taken.live;
       fitting = λ part c place i l s. (kept_at part c place i l s).0;
       counts = λ part c place i l s. (kept_at part c place i l s).1;
-      saturated = λ s d. closed d (ready.kept.saturated s d);
+      saturated = λ d. stay d (ready.kept.saturated d);
     }
 
     -- it keeps within its announced numbers where it did

@@ -22,7 +22,7 @@ use Rattle.bq_laws.specs.Closed.{IsClosed}
 use Rattle.bq_laws.proofs.ClosedTables.{tables-stay-closed}
 use Rattle.bq_loading.proofs.PlanBoxes.{parts_plans, parts_boxes, no_boxes}
 use Rattle.bq_executor.proofs.PlanFacts.{no_parts}
-use Rattle.bq_executor.proofs.Closing.{distinct-plan}
+use Rattle.bq_executor.proofs.Closing.{distinct-plan, known-closed}
 use Rattle.bq_pool.specs.Extents.{PoolValue}
 use Rattle.bq_executor.specs.Executor.{ExecutorValue, parts_in, list_in, cells_in, tuples_in, IsSound}
 use Rattle.bq_executor.specs.Standing.{StandsFor, CountsUpto, AreKept}
@@ -88,10 +88,11 @@ module _ (e : ExecutorValue) (pool : PoolValue) (history : List Arrival) (sound 
         subst (CountsUpto e.given) (sym (cell_is part c place i l s))
         (subst (λ (n : ℕ). CountsUpto n (cell_of e.query history part place i)) (sym stands.given) (cell-counts e.query part history place i));
     saturated =
-        λ s d.
+        λ d.
         (let closed = (tables-stay-closed e.query (parts_in e) (distinct-plan e sound d) (list_in e) boxes-are).histories history stands.rows in
-        subst (λ (cs : List Cell). IsClosed e.query (parts_in e) (read_from cs) (tuples_in e)) (sym stands.cells)
-        (subst (λ (ts : List (List ℤ)). IsClosed e.query (parts_in e) (read_from (synopsis_in e.query (list_in e) history)) ts) (sym (stands.tuples d)) closed));
+        known-closed e.saturation e.query (parts_in e) (read_from (cells_in e pool)) (tuples_in e)
+        (subst (λ (cs : List Cell). IsClosed e.query (parts_in e) (read_from cs) (tuples_in e)) (sym stands.cells)
+        (subst (λ (ts : List (List ℤ)). IsClosed e.query (parts_in e) (read_from (synopsis_in e.query (list_in e) history)) ts) (sym (stands.tuples d)) closed)));
   }
 
 pub standing-is-ready : StandingIsReady

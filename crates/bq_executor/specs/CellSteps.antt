@@ -22,7 +22,7 @@ use Rattle.bq_pool.specs.declared.pool.Extent.{Extent}
 use Rattle.bq_pool.specs.Extents.{PoolValue, cells_of, with_cells, IsLive}
 use Rattle.bq_synopsis.specs.Premises.{AreFitting, HasRoom, row_cell}
 use Rattle.bq_answers.specs.Entries.{Entry, has}
-use Rattle.bq_laws.specs.Closed.{own_place, with_own}
+use Rattle.bq_index.specs.Leaving.{LeavesCell}
 use Rattle.bq_index.specs.Owners.{has_base}
 
 -- a row of the stream at a place of FROM
@@ -86,10 +86,6 @@ pub record AreReady (q : QueryValue) (parts : List PartPlan) (pool : PoolValue) 
   pub within : cells ≤ 64 * extent.pages
   pub fitting : (part : PartPlan) → Contains parts part → AreFitting part (read_from (cells_of pool extent))
   pub room : (part : PartPlan) → Contains parts part → CanCount part (read_from (cells_of pool extent))
-
--- a row leaves the cell of a part that it falls into as it is
-abbrev pub LeavesCell : PartPlan → Reading → ℕ → List ℤ → Type 0
-LeavesCell part read pos values = with_own part read pos values ≡ read part pos (own_place part pos values)
 
 -- with DISTINCT, where the query has cells: whatever a part answers to a row that leaves its cell as it is has an entry
 pub record AnswersNothingNew (q : QueryValue) (parts : List PartPlan) (read : Reading) (entries : List Entry) : Type 0 where

@@ -18,7 +18,7 @@ use Rattle.bq_model.specs.Sharing.{Box, kept_boxes, sizes_in, IsPlanOf}
 use Rattle.bq_model.specs.Ranges.{all_tuples}
 use Rattle.bq_pool.specs.declared.pool.Extent.{Extent}
 use Rattle.bq_pool.specs.Extents.{PoolValue, cells_of}
-use Rattle.bq_executor.specs.declared.saturation.Saturation.{Saturation}
+use Rattle.bq_saturated.specs.declared.saturation.Saturation.{Saturation}
 
 -- the query, whether its cells are shared, its plan, the extent of its cells, how many rows were given, the answer table, and of which cells
 -- it is known that the table has all that they tell

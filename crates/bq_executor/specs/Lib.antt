@@ -9,5 +9,5 @@ pub mod Loading
 pub mod Row
 pub mod Passing
 pub mod Signed
-pub mod Leaving
 pub mod TwoCells
+pub mod Reads

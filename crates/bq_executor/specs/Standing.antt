@@ -2,7 +2,6 @@
 use Rattle.std.specs.Prelude.{◌≡◌, ℕ, ◌+◌, ◌-◌, ◌*◌, ◌<◌, ◌≤◌, ◌^◌, min, true, ℤ, List, [], ◌∷◌, ◌++◌, length, replicate, Contains}
 use Rattle.bq_answers.specs.Entries.{waiting_of, Ascends}
 use Rattle.bq_laws.specs.Growth.{occurs}
-use Rattle.bq_laws.specs.Closed.{IsClosed}
 use Rattle.bq_model.specs.declared.cell.Cell.{Cell}
 use Rattle.bq_model.specs.declared.plan.PartPlan.{PartPlan}
 use Rattle.bq_model.specs.Meaning.{Arrival, new_answers}
@@ -16,8 +15,8 @@ use Rattle.bq_model.specs.Numbers.{pages_of}
 use Rattle.bq_model.specs.Sharing.{sizes_in, synopsis_in, merge_in}
 use Rattle.bq_pool.specs.Extents.{PoolValue, with_cells, IsLive}
 use Rattle.bq_synopsis.specs.Premises.{AreFitting}
-use Rattle.bq_executor.specs.declared.saturation.Saturation.TheVariants as saturation
-use Rattle.bq_executor.specs.Executor.{ExecutorValue, parts_in, list_in, cells_in, rest_in, tuples_in, waiting_in, with_given, most_answers}
+use Rattle.bq_saturated.specs.Known.{AreSaturated}
+use Rattle.bq_executor.specs.Executor.{ExecutorValue, parts_in, list_in, cells_in, rest_in, tuples_in, waiting_in, with_given, with_saturation, most_answers}
 
 -- the executor stands for a history of its query: the cells are its synopsis, and with DISTINCT the tuples those printed
 pub record StandsFor (e : ExecutorValue) (pool : PoolValue) (history : List Arrival) : Type 0 where
@@ -35,14 +34,14 @@ CountsUpto most (Cell.Count n) = n ≤ most
 CountsUpto most Cell.Present = Unit {0}
 CountsUpto most (Cell.Extreme z) = Unit {0}
 
--- the extent is live, each cell is of its kind and counts at most the rows that were given, and with DISTINCT the table is closed over the
--- cells where all are known to be saturated
+-- the extent is live, each cell is of its kind and counts at most the rows that were given, and with DISTINCT each cell of which it is known
+-- that it is saturated is
 pub record AreKept (e : ExecutorValue) (pool : PoolValue) : Type 0 where
   pub live : IsLive pool e.extent
   pub fitting : (part : PartPlan) → Contains (parts_in e) part → AreFitting part (read_from (cells_in e pool))
   pub counts : (part : PartPlan) → Contains (parts_in e) part → (place i : ℕ) → place < length part.streams.items → i < (stream_at part place).size
       → CountsUpto e.given (read_from (cells_in e pool) part place i)
-  pub saturated : e.saturation ≡ saturation.All → e.query.distinct ≡ true → IsClosed e.query (parts_in e) (read_from (cells_in e pool)) (tuples_in e)
+  pub saturated : e.query.distinct ≡ true → AreSaturated e.saturation e.query (parts_in e) (read_from (cells_in e pool)) (tuples_in e)
 
 -- a query that keeps within the numbers that its plan announces: its cells lie in just so many pages, those behind the announced ones
 -- are empty, and its table has room for just so many answers, holds no more, and no tuple twice
@@ -74,11 +73,12 @@ TookRow before pool r after later =
     (history : List Arrival) → StandsFor before pool history
     → (waiting_in after ≡ new_answers before.query history r) × StandsFor after later (history ++ r ∷ [])
 
--- the executor took a row: what cells and table answer waits, the cells have the row, and with DISTINCT the table has the tuples
+-- the executor took a row: what cells and table answer waits, the cells have the row, and with DISTINCT the table has the tuples; what is
+-- known of saturated cells may grow
 pub record Took (before : ExecutorValue) (pool : PoolValue) (r : Arrival) (after : ExecutorValue) (later : PoolValue) : Type 0 where
   pub waits : (t : List ℤ) → waiting_of t after.table.entries ≡ min (occurs t (future_in before pool r)) (2 ^ 127)
   pub cells : later ≡ pool_with before pool r
   pub tuples : before.query.distinct ≡ true → tuples_in after ≡ merged_table (tuples_in before) (future_in before pool r)
-  pub same : after ≡ with_given before (before.given + 1) after.table.entries
+  pub same : after ≡ with_given (with_saturation before after.saturation) (before.given + 1) after.table.entries
   pub kept : AreKept after later
   pub history : TookRow before pool r after later

@@ -9,11 +9,12 @@ ghost use Rattle.bq_model.specs.Bases.{Base, first_base};
 ghost use Rattle.bq_io.specs.Sink.{Writes};
 ghost use Rattle.bq_pool.specs.Extents.{PoolValue, cells_of, with_cells, IsLive, IsGivenBack};
 ghost use Rattle.bq_answers.specs.Entries.{with_entries, waiting_entries, settled};
-ghost use Rattle.bq_executor.specs.declared.saturation.Saturation.TheVariants as saturation;
+ghost use Rattle.bq_saturated.specs.declared.saturation.Saturation.TheVariants as saturation;
+ghost use Rattle.bq_saturated.specs.Known.{none_yet};
 ghost use Rattle.bq_executor.specs.Executor.{IsAccepted, IsSound, arrival, cells_in, cleared, list_in, most_answers, parts_in, tuples_in, waiting_in, with_given, with_saturation};
 ghost use Rattle.bq_executor.specs.Standing.{StandsFor, AreKept, KeepsWithin, IsReady};
 ghost use Rattle.bq_executor.specs.Bases.{StandsFrom};
-ghost use Rattle.bq_executor.specs.Row.{KeepsToWork, TakesRow};
+ghost use Rattle.bq_executor.specs.Row.{HasLooked, KeepsToReads, KeepsToWork, TakesRow};
 ghost use Rattle.bq_executor.specs.Loading.{loaded_given, loaded_cell, loaded_tuple, Loads};
 ghost use Rattle.bq_filter.specs.Prefilter.{IsRefused};
 ghost use Rattle.bq_executor.specs.Passing.{IsBoxFor};
@@ -22,8 +23,8 @@ ghost use Rattle.bq_executor.specs.Written.{answer_lines};
 use crate::filter::plain_filter_row;
 use crate::join::Scratch;
 use crate::output::put_waiting;
-use crate::row::{Arrived, QueryAt, apply_row};
-use crate::saturation::Saturation;
+use crate::row::{Arrived, QueryAt, apply_row, meet_by_cells};
+use crate::two_cells::answer_anew;
 use bq_answers::Answers;
 use bq_candidates::QueryBox;
 use bq_direct::{DirectLookups, direct_lookups};
@@ -33,6 +34,7 @@ use bq_io::{Sink, WriteFault};
 use bq_loading::{cell_to_load, fill, put_printed};
 use bq_model::{Cell, Plan, Query, Row, Tuple};
 use bq_pool::{Extent, Pool, Steps};
+use bq_saturated::{Cursor, LookedAt, Saturation, look_beside_row};
 use bq_text::Name;
 use std::alloc::{AllocError, Global};
 use std::marker::Model;
@@ -80,8 +82,8 @@ fn most_answers(plan: &Plan) -> u32
     }
 }
 
-// Leaves nothing that waits; with DISTINCT the tuples stay.
-fn clear(distinct: bool, table: &mut Answers)
+/// Leaves nothing that waits; with DISTINCT the tuples stay.
+pub fn clear(distinct: bool, table: &mut Answers)
     ensures { table.new ≡ with_entries table.old (cleared distinct table.old.entries) }
 {
     if table.len() == 0 {
@@ -194,7 +196,7 @@ impl Executor {
         ensures steps { KeepsToWork self.old (arrival stream row.now.items) steps.old steps.new }
     {
         if is_within {
-            return self.apply_filtered(true, pool, stream, row, steps);
+            return self.apply_passed(pool, stream, row, steps);
         }
         if let Some(plain_filter) = &self.plain_filter {
             self.given += 1;
@@ -218,12 +220,75 @@ impl Executor {
         ensures none { result ≡ false → waiting_in self.new ≡ [] }
         ensures steps { KeepsToWork self.old (arrival stream row.now.items) steps.old steps.new }
     {
-        let passes = self.passes(stream, row);
-        if !passes && !self.has_waiting() {
-            self.given += 1;
-            return false;
+        if self.passes(stream, row) {
+            return self.apply_passed(pool, stream, row, steps);
         }
-        self.apply_filtered(passes, pool, stream, row, steps)
+        if self.has_waiting() {
+            return self.apply_filtered(false, pool, stream, row, steps);
+        }
+        self.given += 1;
+        false
+    }
+
+    // Takes a row as `apply` does, without asking the prefilter: by two cells, where one column of it tells them.
+    #[inline(always)]
+    fn apply_passed<L: Ledger>(
+        &mut self,
+        pool: &mut Pool,
+        stream: u8,
+        row: &Row,
+        steps: &mut Steps<L>,
+    ) -> bool
+        requires ready { IsReady self.old pool.old }
+        requires keeps { RowKeeps self.old.query (arrival stream row.now.items) }
+        ensures took { TakesRow self.old pool.old (arrival stream row.now.items) self.new pool.new }
+        ensures none { result ≡ false → waiting_in self.new ≡ [] }
+        ensures steps { KeepsToWork self.old (arrival stream row.now.items) steps.old steps.new }
+    {
+        if self.direct.of_stream(stream).is_some() {
+            self.apply_by_cells(pool, stream, row, steps)
+        } else {
+            self.apply_filtered(true, pool, stream, row, steps)
+        }
+    }
+
+    // Takes a row as `apply` does, by two cells where one column of it tells them. It is not inlined, and is told apart from other rows before
+    // it is called, so that each way keeps on the stack what it needs alone.
+    #[inline(never)]
+    fn apply_by_cells<L: Ledger>(
+        &mut self,
+        pool: &mut Pool,
+        stream: u8,
+        row: &Row,
+        steps: &mut Steps<L>,
+    ) -> bool
+        requires ready { IsReady self.old pool.old }
+        requires keeps { RowKeeps self.old.query (arrival stream row.now.items) }
+        ensures took { TakesRow self.old pool.old (arrival stream row.now.items) self.new pool.new }
+        ensures none { result ≡ false → waiting_in self.new ≡ [] }
+        ensures steps { KeepsToWork self.old (arrival stream row.now.items) steps.old steps.new }
+    {
+        let Some(direct) = self.direct.of_stream(stream) else {
+            return self.apply_filtered(true, pool, stream, row, steps);
+        };
+        self.given += 1;
+        let query = QueryAt {
+            q: &self.query,
+            plan: &self.plan,
+            prepared: &self.prepared,
+            extent: &self.extent,
+            known: false,
+        };
+        let arrived = Arrived { stream, row };
+        let there = meet_by_cells(pool, &query, direct, &arrived, steps);
+        answer_anew(
+            &self.query,
+            direct,
+            row,
+            there,
+            &mut self.scratch.tuple,
+            &mut self.table,
+        )
     }
 
     // Takes a row as `apply` does, of which it is known whether it passes the prefilter. It is not inlined, and the way to it is laid aside,
@@ -245,6 +310,59 @@ impl Executor {
         ensures none { result ≡ false → waiting_in self.new ≡ [] }
         ensures steps { KeepsToWork self.old (arrival stream row.now.items) steps.old steps.new }
     {
+        self.look_where_loaded(pool, stream, steps);
+        self.apply_known(passes, pool, stream, row, steps)
+    }
+
+    // Looks at cells as `look_on` does, where it is not known whether all are saturated.
+    #[inline(always)]
+    fn look_where_loaded<L: Ledger>(&mut self, pool: &Pool, stream: u8, steps: &mut Steps<L>)
+        requires ready { IsReady self.old pool.now }
+        ensures { HasLooked self.old pool.now stream self.new steps.old steps.new }
+    {
+        match self.saturation {
+            Saturation::Before(cursor) => self.look_on(pool, stream, cursor, steps),
+            _ => {}
+        }
+    }
+
+    // Looks at some cells after others were loaded, whether they are saturated: as many as the announced work leaves room for beside a row of
+    // a stream. It is not inlined, so that a row of a query of which no cell was loaded pays nothing for it.
+    #[cold]
+    #[inline(never)]
+    fn look_on<L: Ledger>(&mut self, pool: &Pool, stream: u8, cursor: Cursor, steps: &mut Steps<L>)
+        requires ready { IsReady self.old pool.now }
+        requires here { self.old.saturation ≡ saturation.Before cursor }
+        ensures { HasLooked self.old pool.now stream self.new steps.old steps.new }
+    {
+        let all = LookedAt {
+            q: &self.query,
+            plan: &self.plan,
+            prepared: &self.prepared,
+            extent: &self.extent,
+            table: &self.table,
+        };
+        let (room, tuple) = (&mut self.scratch.room, &mut self.scratch.tuple);
+        self.saturation = look_beside_row(pool, &all, stream, cursor, room, tuple, steps);
+    }
+
+    // Takes a row as `apply_filtered` does, with what is known of the cells.
+    #[inline(always)]
+    fn apply_known<L: Ledger>(
+        &mut self,
+        passes: bool,
+        pool: &mut Pool,
+        stream: u8,
+        row: &Row,
+        steps: &mut Steps<L>,
+    ) -> bool
+        requires prefilter { passes ≡ false → IsRefused self.old.query self.old.plan (arrival stream row.now.items) }
+        requires ready { IsReady self.old pool.old }
+        requires keeps { RowKeeps self.old.query (arrival stream row.now.items) }
+        ensures took { TakesRow self.old pool.old (arrival stream row.now.items) self.new pool.new }
+        ensures none { result ≡ false → waiting_in self.new ≡ [] }
+        ensures steps { KeepsToReads self.old (arrival stream row.now.items) steps.old steps.new }
+    {
         self.given += 1;
         clear(self.query.distinct(), &mut self.table);
         let known = self.saturation.spares(&self.query);
@@ -252,7 +370,6 @@ impl Executor {
             q: &self.query,
             plan: &self.plan,
             prepared: &self.prepared,
-            direct: &self.direct,
             extent: &self.extent,
             known,
         };
@@ -326,8 +443,8 @@ impl Executor {
 
     /// Puts the content of a cell in its place: whatever base with no rows since the executor stood for, it then stands for this base with that
     /// cell. Returns false, and changes nothing, where the query keeps no cell of this number, where that cell is not empty, and where the
-    /// content does not fit its kind: a count is 1 up to the rows given, and the content 1 says that there are rows. From then on no cell is
-    /// known to be saturated. This is at most one read and one write.
+    /// content does not fit its kind: a count is 1 up to the rows given, and the content 1 says that there are rows. Then no cell is known to
+    /// be saturated yet. This is at most one read and one write.
     pub fn load_cell<L: Ledger>(
         &mut self,
         pool: &mut Pool,
@@ -337,7 +454,7 @@ impl Executor {
     ) -> bool
         requires live { IsLive pool.old self.old.extent }
         ensures loads { (base : Base) → StandsFrom self.old pool.old base [] → Loads result (loaded_cell (list_in self.old) i v base) self.old pool.old self.new pool.new }
-        ensures same { self.new ≡ with_saturation self.old (if result then saturation.None else self.old.saturation) }
+        ensures same { self.new ≡ with_saturation self.old (if result then none_yet else self.old.saturation) }
         ensures only { pool.new ≡ with_cells pool.old self.old.extent (cells_of pool.new self.old.extent) }
         ensures kept { AreKept self.old pool.old → AreKept self.new pool.new }
         ensures within { KeepsWithin self.old pool.old → KeepsWithin self.new pool.new }

@@ -3,7 +3,7 @@ ghost use Rattle.std.specs.Prelude.{◌≡◌, ◌<◌, ◌≤◌, ◌+◌, ◌-
 ghost use Rattle.bq_model.specs.declared.cell.Cell.TheVariants as cells;
 ghost use Rattle.bq_model.specs.Admission.{admits};
 ghost use Rattle.bq_model.specs.Meaning.{by_column};
-ghost use Rattle.bq_model.specs.Combinations.{read_from, found_in};
+ghost use Rattle.bq_model.specs.Combinations.{Reading, read_from, found_in};
 ghost use Rattle.bq_model.specs.Probing.{found_beside};
 ghost use Rattle.bq_model.specs.Numbers.{share};
 ghost use Rattle.bq_pool.specs.Extents.{cells_of, with_cells};
@@ -17,9 +17,10 @@ ghost use Rattle.bq_synopsis.specs.Own.{IsOwnCell};
 ghost use Rattle.bq_probe.specs.Remaining.{as_found};
 ghost use Rattle.bq_answers.specs.Entries.{with_entries, Fits};
 ghost use Rattle.bq_executor.specs.FoundTable.{with_found, with_all, HaveRoom, AreOld};
-ghost use Rattle.bq_executor.specs.CellSteps.{arrives, with_row, CanCount, LeavesCell};
+ghost use Rattle.bq_executor.specs.CellSteps.{arrives, with_row, CanCount};
 ghost use Rattle.bq_direct.specs.Known.{IsDetermined};
-ghost use Rattle.bq_executor.specs.Leaving.{reads_of};
+ghost use Rattle.bq_executor.specs.Reads.{most_reads};
+ghost use Rattle.bq_index.specs.Leaving.{reads_of, LeavesCell};
 
 use bq_answer_lines::LINE_ROOM;
 use bq_answers::Answers;
@@ -122,8 +123,7 @@ fn walk_all<L: Ledger>(
     }
 }
 
-// Takes up the one tuple that a part can answer to a row. Where it has an entry nothing changes, and no cell is read;
-// else the walk ends at the first find.
+// Takes up the one tuple that a part can answer to a row: the walk ends at the first find.
 fn answer_once<L: Ledger>(
     pool: &Pool,
     part: &PartAt<'_>,
@@ -142,9 +142,6 @@ fn answer_once<L: Ledger>(
     ensures reads { steps.new.reads ≤ steps.old.reads + (length part.now.plan.now.streams.items - 1) * share part.now.plan.now }
     ensures writes { steps.new.writes ≡ steps.old.writes }
 {
-    if table.has(tuple) {
-        return;
-    }
     let (q, plan, prepared) = (part.q, part.plan, part.prepared);
     let mut probe = Probe::new(q, plan, prepared, at.pos, at.row, room);
     match probe.next(pool, part.extent, q, plan, tuple, steps) {
@@ -180,7 +177,20 @@ fn walk<L: Ledger>(
     }
 }
 
-// Takes up all that the cells of a part answer to a row. It is not inlined: with DISTINCT most rows do without it.
+// Whether all that a part can answer to a row is one tuple that the row alone tells, and that has an entry. No cell is read, and where
+// there is no entry nothing is asked.
+fn is_answered(part: &PartAt<'_>, at: &Admitted<'_>, tuple: &mut Tuple, table: &Answers) -> bool
+    requires here { at.now.pos < length part.now.plan.now.streams.items }
+    ensures { result ≡ true → (read : Reading) → AreOld part.now.q.now.distinct (found_beside part.now.q.now part.now.plan.now read at.now.pos (by_column at.now.row.now.items)) table.now.entries }
+{
+    if table.len() == 0 || !determined_tuple(part.q, part.plan, at.pos, at.row, tuple) {
+        return false;
+    }
+    table.has(tuple)
+}
+
+// Takes up all that the cells of a part answer to a row. Where that is one tuple that has an entry, nothing changes. It is not inlined: with
+// DISTINCT most rows do without it.
 #[inline(never)]
 fn look_then_walk<L: Ledger>(
     pool: &Pool,
@@ -196,9 +206,12 @@ fn look_then_walk<L: Ledger>(
     requires prepared { IsPrepared (pairs part.now.q.now) part.now.plan.now part.now.prepared.now }
     requires room { HaveRoom part.now.q.now.distinct (found_beside part.now.q.now part.now.plan.now (read_from (cells_of pool.now part.now.extent.now)) at.now.pos (by_column at.now.row.now.items)) table.old }
     ensures table { table.new ≡ with_entries table.old (with_all part.now.q.now.distinct (found_beside part.now.q.now part.now.plan.now (read_from (cells_of pool.now part.now.extent.now)) at.now.pos (by_column at.now.row.now.items)) table.old.entries) }
-    ensures reads { steps.new.reads ≤ steps.old.reads + 3 * share part.now.plan.now }
+    ensures reads { steps.new.reads ≤ steps.old.reads + most_reads part.now.plan.now }
     ensures writes { steps.new.writes ≡ steps.old.writes }
 {
+    if is_answered(part, at, tuple, table) {
+        return;
+    }
     match look_before_walk(pool, part, at, room, tuple, steps) {
         FirstLook::Nothing => {}
         FirstLook::One(count) => {
@@ -224,7 +237,7 @@ pub fn look<L: Ledger>(
     requires prepared { IsPrepared (pairs part.now.q.now) part.now.plan.now part.now.prepared.now }
     requires room { HaveRoom part.now.q.now.distinct (found_beside part.now.q.now part.now.plan.now (read_from (cells_of pool.now part.now.extent.now)) at.now.pos (by_column at.now.row.now.items)) table.old }
     ensures table { table.new ≡ with_entries table.old (with_all part.now.q.now.distinct (found_beside part.now.q.now part.now.plan.now (read_from (cells_of pool.now part.now.extent.now)) at.now.pos (by_column at.now.row.now.items)) table.old.entries) }
-    ensures reads { steps.new.reads ≤ steps.old.reads + 3 * share part.now.plan.now }
+    ensures reads { steps.new.reads ≤ steps.old.reads + most_reads part.now.plan.now }
     ensures writes { steps.new.writes ≡ steps.old.writes }
 {
     match first_look(pool, part, at, tuple, steps) {
@@ -256,7 +269,7 @@ fn answer<L: Ledger>(
     requires prepared { IsPrepared (pairs part.now.q.now) part.now.plan.now part.now.prepared.now }
     requires room { HaveRoom part.now.q.now.distinct (found_beside part.now.q.now part.now.plan.now (read_from (cells_of pool.now part.now.extent.now)) at.now.pos (by_column at.now.row.now.items)) table.old }
     ensures table { table.new ≡ with_entries table.old (with_all part.now.q.now.distinct (found_beside part.now.q.now part.now.plan.now (read_from (cells_of pool.now part.now.extent.now)) at.now.pos (by_column at.now.row.now.items)) table.old.entries) }
-    ensures reads { steps.new.reads ≤ steps.old.reads + 3 * share part.now.plan.now }
+    ensures reads { steps.new.reads ≤ steps.old.reads + most_reads part.now.plan.now }
     ensures writes { steps.new.writes ≡ steps.old.writes }
 {
     let (room, tuple) = (&mut scratch.room, &mut scratch.tuple);
@@ -286,7 +299,7 @@ fn answer_and_put<L: Ledger>(
     requires room { HaveRoom part.now.q.now.distinct (found_beside part.now.q.now part.now.plan.now (read_from (cells_of pool.old part.now.extent.now)) at.now.pos (by_column at.now.row.now.items)) table.old }
     ensures table { table.new ≡ with_entries table.old (with_all part.now.q.now.distinct (found_beside part.now.q.now part.now.plan.now (read_from (cells_of pool.old part.now.extent.now)) at.now.pos (by_column at.now.row.now.items)) table.old.entries) }
     ensures pool { MatchOption own.now (pool.new ≡ pool.old) (λ cell. pool.new ≡ with_cells pool.old part.now.extent.now (cells_with_row part.now.plan.now at.now.pos at.now.row.now.items (cells_of pool.old part.now.extent.now))) }
-    ensures reads { steps.new.reads ≤ steps.old.reads + 3 * share part.now.plan.now }
+    ensures reads { steps.new.reads ≤ steps.old.reads + most_reads part.now.plan.now }
     ensures writes { steps.new.writes ≤ steps.old.writes + 1 }
 {
     answer(pool, part, at, scratch, table, steps);
@@ -355,7 +368,7 @@ pub fn apply_to_part<L: Ledger>(
     ensures table { table.new ≡ with_entries table.old (with_all part.now.q.now.distinct (found_in part.now.q.now part.now.plan.now (read_from (cells_of pool.old part.now.extent.now)) (arrives part.now.q.now at.now.pos at.now.row.now.items)) table.old.entries) }
     ensures pool { pool.new ≡ with_row takes.owns part.now.q.now part.now.plan.now at.now.pos at.now.row.now.items part.now.extent.now pool.old }
     ensures same { result ≡ false → pool.new ≡ pool.old }
-    ensures reads { steps.new.reads + reads_of takes.own ≤ steps.old.reads + 3 * share part.now.plan.now + 1 }
+    ensures reads { steps.new.reads + reads_of takes.own ≤ steps.old.reads + most_reads part.now.plan.now + 1 }
     ensures writes { steps.new.writes ≤ steps.old.writes + 1 }
 {
     // Read for the proof alone: the call tells how many streams there are.

@@ -2,23 +2,22 @@
 ghost use Rattle.std.specs.Prelude.{◌≡◌, ◌<◌, ◌≤◌, ◌+◌, ◌*◌, ◌&&◌, ◌||◌, not, length, slice_get, Some, IfSome, true};
 ghost use Rattle.bq_model.specs.Meaning.{by_column};
 ghost use Rattle.bq_model.specs.Combinations.{read_from};
-ghost use Rattle.bq_model.specs.Numbers.{work};
 ghost use Rattle.bq_model.specs.Plan.{ArePartPlans};
 ghost use Rattle.bq_model.specs.Parts.{pairs};
 ghost use Rattle.bq_pool.specs.Extents.{cells_of};
 ghost use Rattle.bq_answers.specs.Entries.{with_entries};
 ghost use Rattle.bq_executor.specs.FoundTable.{with_all, HaveRoom};
+ghost use Rattle.bq_executor.specs.Reads.{row_reads};
 ghost use Rattle.bq_executor.specs.CellSteps.{arrives, all_found, HasTaken, AreReady, AnswersNothingNew};
-ghost use Rattle.bq_executor.specs.Leaving.{IsPlaced};
+ghost use Rattle.bq_index.specs.Leaving.{IsPlaced};
 ghost use Rattle.bq_index.specs.Owners.{EachTakes};
 ghost use Rattle.bq_index.specs.PartIndex.{IsPartIndex, IsNext, buckets_of, row_bucket, row_code};
 ghost use Rattle.bq_index.specs.Prepared.{IsPreparedPlan};
 ghost use Rattle.bq_index.specs.Shifts.{StandsAt};
 
 use crate::join::{Scratch, Takes, apply_to_part};
-use crate::left::{Led, Reached, reach};
 use bq_answers::Answers;
-use bq_index::{CellAt, CodedRow, PartIndex, PreparedPlan};
+use bq_index::{CellAt, CodedRow, Led, PartIndex, PreparedPlan, Reached, reach};
 use bq_model::{PartPlans, Query, Row};
 use bq_narrow::PartAt;
 use bq_pool::{Extent, Pool, Steps};
@@ -105,7 +104,7 @@ fn apply_along<L: Ledger>(
     requires room { HaveRoom led.now.coded.q.now.distinct (all_found led.now.coded.q.now led.now.coded.parts.now (read_from (cells_of pool.old led.now.extent.now)) (arrives led.now.coded.q.now led.now.coded.pos led.now.coded.row.now.items)) table.old }
     ensures table { table.new ≡ with_entries table.old (with_all led.now.coded.q.now.distinct (all_found led.now.coded.q.now led.now.coded.parts.now (read_from (cells_of pool.old led.now.extent.now)) (arrives led.now.coded.q.now led.now.coded.pos led.now.coded.row.now.items)) table.old.entries) }
     ensures pool { HasTaken led.now.coded.q.now led.now.coded.parts.now led.now.extent.now (arrives led.now.coded.q.now led.now.coded.pos led.now.coded.row.now.items) (length led.now.coded.parts.now) pool.old pool.new }
-    ensures reads { steps.new.reads ≤ steps.old.reads + 3 * work led.now.coded.parts.now + length led.now.coded.parts.now }
+    ensures reads { steps.new.reads ≤ steps.old.reads + row_reads led.now.coded.parts.now + length led.now.coded.parts.now }
     ensures writes { steps.new.writes ≤ steps.old.writes + length led.now.coded.parts.now }
 {
     let (coded, part_index) = (&led.coded, led.part_index);
@@ -170,7 +169,7 @@ pub fn apply_to_parts<L: Ledger>(
     requires room { HaveRoom all.now.q.now.distinct (all_found all.now.q.now all.now.parts.now (read_from (cells_of pool.old all.now.extent.now)) (arrives all.now.q.now pos row.now.items)) table.old }
     ensures table { table.new ≡ with_entries table.old (with_all all.now.q.now.distinct (all_found all.now.q.now all.now.parts.now (read_from (cells_of pool.old all.now.extent.now)) (arrives all.now.q.now pos row.now.items)) table.old.entries) }
     ensures pool { HasTaken all.now.q.now all.now.parts.now all.now.extent.now (arrives all.now.q.now pos row.now.items) (length all.now.parts.now) pool.old pool.new }
-    ensures reads { steps.new.reads ≤ steps.old.reads + 3 * work all.now.parts.now + length all.now.parts.now }
+    ensures reads { steps.new.reads ≤ steps.old.reads + row_reads all.now.parts.now + length all.now.parts.now }
     ensures writes { steps.new.writes ≤ steps.old.writes + length all.now.parts.now }
 {
     let part_index = all.prepared.part_index(all.q, all.parts, pos);

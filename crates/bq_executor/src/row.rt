@@ -3,35 +3,36 @@ ghost use Rattle.std.specs.Prelude.{◌≡◌, ◌<◌, ◌≤◌, ◌+◌, ◌*
 ghost use Rattle.std.specs.List.{list_any};
 ghost use Rattle.bq_model.specs.declared.plan.Plan.TheVariants as plans;
 ghost use Rattle.bq_model.specs.Combinations.{read_from};
-ghost use Rattle.bq_model.specs.Numbers.{work, parts_of};
+ghost use Rattle.bq_model.specs.Numbers.{parts_of};
 ghost use Rattle.bq_pool.specs.Extents.{cells_of};
 ghost use Rattle.bq_answers.specs.Entries.{with_entries};
 ghost use Rattle.bq_executor.specs.Executor.{arrival};
 ghost use Rattle.bq_executor.specs.FoundTable.{with_all, HaveRoom};
+ghost use Rattle.bq_executor.specs.TwoCells.{told_by};
+ghost use Rattle.bq_executor.specs.Reads.{row_reads};
 ghost use Rattle.bq_executor.specs.CellSteps.{answered_by, HasTaken, IsPlanReady, AnswersNothingNew};
-ghost use Rattle.bq_direct.specs.Direct.{IsDirect, AreDirect};
+ghost use Rattle.bq_direct.specs.Direct.{IsDirect};
 ghost use Rattle.bq_index.specs.Prepared.{IsPreparedPlan};
 ghost use Rattle.bq_filter.specs.Prefilter.{IsRefused};
 
 use crate::filter::filter_row;
 use crate::join::Scratch;
 use crate::route::{PartsAt, apply_to_parts};
-use crate::two_cells::apply_direct;
+use crate::two_cells::meet_cells;
 use bq_answers::Answers;
-use bq_direct::{DirectLookup, DirectLookups};
+use bq_direct::DirectLookup;
 use bq_index::PreparedPlan;
-use bq_model::{Plan, Query, Row};
+use bq_model::{Cell, Plan, Query, Row};
 use bq_pool::{Extent, Pool, Steps};
 use std::sync::ledger::Ledger;
 
-/// A query: its plan, what its parts are asked of every row, how its rows are taken by two cells, the extent of the cells, and whether it is
-/// known that a row which leaves its cell as it is is answered nothing new.
+/// A query: its plan, what its parts are asked of every row, the extent of the cells, and whether it is known that a row which leaves its cell
+/// as it is is answered nothing new.
 #[derive(Clone, Copy)]
 pub struct QueryAt<'a> {
     pub q: &'a Query,
     pub plan: &'a Plan,
     pub prepared: &'a PreparedPlan,
-    pub direct: &'a DirectLookups,
     pub extent: &'a Extent,
     pub known: bool,
 }
@@ -76,7 +77,7 @@ fn apply_by_plan<L: Ledger>(
     requires room { HaveRoom query.now.q.now.distinct (answered_by query.now.q.now query.now.plan.now (read_from (cells_of pool.old query.now.extent.now)) (arrival arrived.now.stream arrived.now.row.now.items)) table.old }
     ensures table { table.new ≡ with_entries table.old (with_all query.now.q.now.distinct (answered_by query.now.q.now query.now.plan.now (read_from (cells_of pool.old query.now.extent.now)) (arrival arrived.now.stream arrived.now.row.now.items)) table.old.entries) }
     ensures pool { HasTaken query.now.q.now (parts_of query.now.plan.now) query.now.extent.now (arrival arrived.now.stream arrived.now.row.now.items) (length (parts_of query.now.plan.now)) pool.old pool.new }
-    ensures reads { steps.new.reads ≤ steps.old.reads + 3 * work (parts_of query.now.plan.now) + length (parts_of query.now.plan.now) }
+    ensures reads { steps.new.reads ≤ steps.old.reads + row_reads (parts_of query.now.plan.now) + length (parts_of query.now.plan.now) }
     ensures writes { steps.new.writes ≤ steps.old.writes + length (parts_of query.now.plan.now) }
     ensures alone { query.now.plan.now ≡ plans.Filter → steps.new ≡ steps.old }
     ensures outside { list_any (λ s. arrived.now.stream == s) query.now.q.now.from ≡ false → steps.new ≡ steps.old }
@@ -100,30 +101,27 @@ fn apply_by_plan<L: Ledger>(
     }
 }
 
-// Takes a row of which one column tells the cells that it meets.
+/// Takes a row of which one column tells the cells that it meets into its own one, and returns what the other holds, which tells the answers.
 #[inline(always)]
-fn apply_by_cells<L: Ledger>(
+pub fn meet_by_cells<L: Ledger>(
     pool: &mut Pool,
     query: &QueryAt<'_>,
     direct: &DirectLookup,
     arrived: &Arrived<'_>,
-    scratch: &mut Scratch,
-    table: &mut Answers,
     steps: &mut Steps<L>,
-)
+) -> Cell
     requires direct { IsDirect query.now.q.now (parts_of query.now.plan.now) direct.now }
     requires stream { direct.now.stream ≡ arrived.now.stream }
     requires ready { IsPlanReady query.now.q.now query.now.plan.now pool.old query.now.extent.now }
-    requires room { HaveRoom query.now.q.now.distinct (answered_by query.now.q.now query.now.plan.now (read_from (cells_of pool.old query.now.extent.now)) (arrival arrived.now.stream arrived.now.row.now.items)) table.old }
-    ensures table { table.new ≡ with_entries table.old (with_all query.now.q.now.distinct (answered_by query.now.q.now query.now.plan.now (read_from (cells_of pool.old query.now.extent.now)) (arrival arrived.now.stream arrived.now.row.now.items)) table.old.entries) }
+    ensures answers { answered_by query.now.q.now query.now.plan.now (read_from (cells_of pool.old query.now.extent.now)) (arrival arrived.now.stream arrived.now.row.now.items) ≡ told_by direct.now arrived.now.row.now.items result }
     ensures pool { HasTaken query.now.q.now (parts_of query.now.plan.now) query.now.extent.now (arrival arrived.now.stream arrived.now.row.now.items) (length (parts_of query.now.plan.now)) pool.old pool.new }
-    ensures reads { steps.new.reads ≤ steps.old.reads + 3 * work (parts_of query.now.plan.now) + length (parts_of query.now.plan.now) }
+    ensures reads { steps.new.reads ≤ steps.old.reads + row_reads (parts_of query.now.plan.now) + length (parts_of query.now.plan.now) }
     ensures writes { steps.new.writes ≤ steps.old.writes + length (parts_of query.now.plan.now) }
     ensures alone { query.now.plan.now ≡ plans.Filter → steps.new ≡ steps.old }
     ensures outside { list_any (λ s. arrived.now.stream == s) query.now.q.now.from ≡ false → steps.new ≡ steps.old }
 {
     match query.plan {
-        Plan::Filter => {}
+        Plan::Filter => Cell::Empty,
         Plan::Parts { parts, .. } => {
             let all = PartsAt {
                 q: query.q,
@@ -132,15 +130,7 @@ fn apply_by_cells<L: Ledger>(
                 extent: query.extent,
                 known: query.known,
             };
-            apply_direct(
-                pool,
-                &all,
-                direct,
-                arrived.row,
-                &mut scratch.tuple,
-                table,
-                steps,
-            );
+            meet_cells(pool, &all, direct, arrived.row, steps)
         }
     }
 }
@@ -159,12 +149,11 @@ pub fn apply_row<L: Ledger>(
     requires prefilter { passes ≡ false → IsRefused query.now.q.now query.now.plan.now (arrival arrived.now.stream arrived.now.row.now.items) }
     requires ready { IsPlanReady query.now.q.now query.now.plan.now pool.old query.now.extent.now }
     requires prepared { IsPreparedPlan query.now.q.now (parts_of query.now.plan.now) query.now.prepared.now }
-    requires direct { AreDirect query.now.q.now (parts_of query.now.plan.now) query.now.direct.now }
     requires known { query.now.known ≡ true → AnswersNothingNew query.now.q.now (parts_of query.now.plan.now) (read_from (cells_of pool.old query.now.extent.now)) table.old.entries }
     requires room { HaveRoom query.now.q.now.distinct (answered_by query.now.q.now query.now.plan.now (read_from (cells_of pool.old query.now.extent.now)) (arrival arrived.now.stream arrived.now.row.now.items)) table.old }
     ensures table { table.new ≡ with_entries table.old (with_all query.now.q.now.distinct (answered_by query.now.q.now query.now.plan.now (read_from (cells_of pool.old query.now.extent.now)) (arrival arrived.now.stream arrived.now.row.now.items)) table.old.entries) }
     ensures pool { HasTaken query.now.q.now (parts_of query.now.plan.now) query.now.extent.now (arrival arrived.now.stream arrived.now.row.now.items) (length (parts_of query.now.plan.now)) pool.old pool.new }
-    ensures reads { steps.new.reads ≤ steps.old.reads + 3 * work (parts_of query.now.plan.now) + length (parts_of query.now.plan.now) }
+    ensures reads { steps.new.reads ≤ steps.old.reads + row_reads (parts_of query.now.plan.now) + length (parts_of query.now.plan.now) }
     ensures writes { steps.new.writes ≤ steps.old.writes + length (parts_of query.now.plan.now) }
     ensures alone { query.now.plan.now ≡ plans.Filter → steps.new ≡ steps.old }
     ensures outside { list_any (λ s. arrived.now.stream == s) query.now.q.now.from ≡ false → steps.new ≡ steps.old }
@@ -172,8 +161,5 @@ pub fn apply_row<L: Ledger>(
     if !passes {
         return;
     }
-    match query.direct.of_stream(arrived.stream) {
-        Some(direct) => apply_by_cells(pool, query, direct, arrived, scratch, table, steps),
-        None => apply_by_plan(pool, query, arrived, scratch, table, steps),
-    }
+    apply_by_plan(pool, query, arrived, scratch, table, steps);
 }

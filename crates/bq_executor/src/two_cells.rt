@@ -1,17 +1,19 @@
 //! What a row does in a query of one part where one column tells the two cells that it meets.
-ghost use Rattle.std.specs.Prelude.{◌≡◌, ◌<◌, ◌≤◌, ◌+◌, ◌*◌, length, map, true, Some};
+ghost use Rattle.std.specs.Prelude.{◌≡◌, [], ◌<◌, ◌≤◌, ◌+◌, ◌*◌, length, map, true, false, Some};
 ghost use Rattle.bq_model.specs.Meaning.{by_column};
 ghost use Rattle.bq_model.specs.Combinations.{read_from};
-ghost use Rattle.bq_model.specs.Numbers.{work};
 ghost use Rattle.bq_pool.specs.Extents.{cells_of};
 ghost use Rattle.bq_narrow.specs.Values.{rows_in};
 ghost use Rattle.bq_probe.specs.Remaining.{as_found};
 ghost use Rattle.bq_answers.specs.Entries.{with_entries, Fits};
+ghost use Rattle.bq_executor.specs.Executor.{cleared, spelled};
 ghost use Rattle.bq_executor.specs.FoundTable.{with_found, with_all, HaveRoom};
+ghost use Rattle.bq_executor.specs.Reads.{row_reads};
 ghost use Rattle.bq_executor.specs.CellSteps.{arrives, all_found, HasTaken, AreReady};
 ghost use Rattle.bq_executor.specs.TwoCells.{told_by};
 ghost use Rattle.bq_direct.specs.Direct.{IsDirect};
 
+use crate::executor::clear;
 use crate::join::{MOST_TIMES, record_found};
 use crate::route::PartsAt;
 use bq_answers::Answers;
@@ -22,7 +24,7 @@ use bq_pool::{Pool, Steps};
 use bq_synopsis::{Admitted, Placement, own_cell, put_own};
 use std::sync::ledger::Ledger;
 
-// Takes up the values of these columns of a row with DISTINCT. It is not inlined either.
+// Takes up the values of these columns of a row with DISTINCT. It is not inlined: most such queries have no DISTINCT.
 #[inline(never)]
 fn take_up_once(columns: &[u8], row: &[i64], tuple: &mut Tuple, table: &mut Answers)
     requires few { length columns.now ≤ 8 }
@@ -34,8 +36,8 @@ fn take_up_once(columns: &[u8], row: &[i64], tuple: &mut Tuple, table: &mut Answ
     record_found(true, tuple, 1, table);
 }
 
-// Takes up what a cell with rows answers to a row. It is not inlined: most rows meet an empty cell.
-#[inline(never)]
+// Takes up what a cell with rows answers to a row. To call it costs more than to inline it.
+#[inline(always)]
 fn take_up(
     q: &Query,
     direct: &DirectLookup,
@@ -75,30 +77,87 @@ fn answer_by_cell(
     take_up(q, direct, row, cell, tuple, table);
 }
 
-/// Takes a row of a stream of FROM into the only part of a query, where that admits it.
+// Gives up what waited, and takes up what the other cell tells. It is not inlined: most rows meet an empty cell.
+#[inline(never)]
+fn take_up_anew(
+    q: &Query,
+    direct: &DirectLookup,
+    row: &Row,
+    cell: Cell,
+    tuple: &mut Tuple,
+    table: &mut Answers,
+)
+    requires { HaveRoom q.now.distinct (told_by direct.now row.now.items cell) (with_entries table.old (cleared q.now.distinct table.old.entries)) }
+    ensures { table.new ≡ with_entries table.old (with_all q.now.distinct (told_by direct.now row.now.items cell) (cleared q.now.distinct table.old.entries)) }
+{
+    clear(q.distinct(), table);
+    answer_by_cell(q, direct, row, cell, tuple, table);
+}
+
+// Gives up what waited. It is not inlined, so that a row before which nothing waited pays nothing for it.
+#[cold]
+#[inline(never)]
+fn give_up(q: &Query, table: &mut Answers)
+    ensures { table.new ≡ with_entries table.old (cleared q.now.distinct table.old.entries) }
+{
+    clear(q.distinct(), table);
+}
+
+// Gives up what waited, where there is anything.
 #[inline(always)]
-pub fn apply_direct<L: Ledger>(
+fn give_up_listed(q: &Query, table: &mut Answers)
+    ensures { table.new ≡ with_entries table.old (cleared q.now.distinct table.old.entries) }
+{
+    if table.len() == 0 {
+        return;
+    }
+    give_up(q, table);
+}
+
+/// Gives up what waited, takes up what the other cell tells of the answers to a row, and returns whether any may wait.
+#[inline(always)]
+pub fn answer_anew(
+    q: &Query,
+    direct: &DirectLookup,
+    row: &Row,
+    cell: Cell,
+    tuple: &mut Tuple,
+    table: &mut Answers,
+) -> bool
+    requires { HaveRoom q.now.distinct (told_by direct.now row.now.items cell) (with_entries table.old (cleared q.now.distinct table.old.entries)) }
+    ensures table { table.new ≡ with_entries table.old (with_all q.now.distinct (told_by direct.now row.now.items cell) (cleared q.now.distinct table.old.entries)) }
+    ensures none { result ≡ false → spelled table.new.entries ≡ [] }
+{
+    if is_empty(cell) {
+        give_up_listed(q, table);
+        return false;
+    }
+    take_up_anew(q, direct, row, cell, tuple, table);
+    true
+}
+
+/// Takes a row of a stream of FROM into its own cell, where the only part of a query admits it, and returns what the other cell holds, which
+/// tells the answers: nothing, where the part does not admit it.
+#[inline(always)]
+pub fn meet_cells<L: Ledger>(
     pool: &mut Pool,
     all: &PartsAt<'_>,
     direct: &DirectLookup,
     row: &Row,
-    tuple: &mut Tuple,
-    table: &mut Answers,
     steps: &mut Steps<L>,
-)
+) -> Cell
     requires direct { IsDirect all.now.q.now all.now.parts.now direct.now }
     requires ready { AreReady all.now.q.now all.now.parts.now pool.old all.now.extent.now }
-    requires room { HaveRoom all.now.q.now.distinct (all_found all.now.q.now all.now.parts.now (read_from (cells_of pool.old all.now.extent.now)) (arrives all.now.q.now direct.now.pos row.now.items)) table.old }
-    ensures table { table.new ≡ with_entries table.old (with_all all.now.q.now.distinct (all_found all.now.q.now all.now.parts.now (read_from (cells_of pool.old all.now.extent.now)) (arrives all.now.q.now direct.now.pos row.now.items)) table.old.entries) }
+    ensures answers { all_found all.now.q.now all.now.parts.now (read_from (cells_of pool.old all.now.extent.now)) (arrives all.now.q.now direct.now.pos row.now.items) ≡ told_by direct.now row.now.items result }
     ensures pool { HasTaken all.now.q.now all.now.parts.now all.now.extent.now (arrives all.now.q.now direct.now.pos row.now.items) (length all.now.parts.now) pool.old pool.new }
-    ensures reads { steps.new.reads ≤ steps.old.reads + 3 * work all.now.parts.now + length all.now.parts.now }
+    ensures reads { steps.new.reads ≤ steps.old.reads + row_reads all.now.parts.now + length all.now.parts.now }
     ensures writes { steps.new.writes ≤ steps.old.writes + length all.now.parts.now }
 {
     let (q, extent) = (all.q, all.extent);
     let plan = all.parts.get(0);
     let values = row.as_slice();
     let Some(offset) = offset_in(direct.range, values) else {
-        return;
+        return Cell::Empty;
     };
     let placement = Placement::Cell {
         number: direct.own + offset,
@@ -109,9 +168,9 @@ pub fn apply_direct<L: Ledger>(
         pos: direct.pos,
         placement,
     };
-    let own = own_cell(pool, extent, q, plan, &at, steps);
+    // The own cell is read last, and put at once: where it stands is still at hand.
     let there = pool.read(extent, direct.other + offset, steps);
-    // Both cells are read, and so the own one is put before the answer waits: where it stands is still at hand.
+    let own = own_cell(pool, extent, q, plan, &at, steps);
     put_own(pool, extent, plan, &at, &own, steps);
-    answer_by_cell(q, direct, row, there, tuple, table);
+    there
 }

@@ -6,3 +6,4 @@ pub mod Telling
 pub mod Shifting
 pub mod ShiftLaws
 pub mod SimpleBoxLaws
+pub mod PassedCells

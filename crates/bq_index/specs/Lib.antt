@@ -5,3 +5,4 @@ pub mod Shifts
 pub mod Shift
 pub mod SimpleBox
 pub mod PartEntry
+pub mod Leaving

@@ -451,20 +451,20 @@ fn is_exact(key_pairs: &KeyPairs, tests: &[u8]) -> bool
     key_pairs.is_complete && are_few(tests)
 }
 
-// The numbers of the pairs that are tested at a place, and whether a code of their signs is exact. Few parts need not be told.
+// The numbers of the pairs that are tested at a place, and whether a code of their signs is exact. Few parts need no code that is not.
 fn tests_for(q: &Query, parts: &PartPlans, key_pairs: &KeyPairs, place: u8) -> Tests
     requires { key_pairs.now.is_complete ≡ true → AreKeyPairs (pairs q.now) parts.now key_pairs.now.marks }
     ensures local { All (IsLocal (pairs q.now) place) result.numbers.items }
     ensures is_injective { result.is_injective ≡ true → TellAll (pairs q.now) parts.now place result.numbers.items }
 {
-    if mask_for(parts.len()) == 0 {
+    let numbers = tests_at(q, parts, &key_pairs.marks, place);
+    let is_injective = is_exact(key_pairs, numbers.as_slice());
+    if !is_injective && mask_for(parts.len()) == 0 {
         return Tests {
             numbers: ArrayVec::new(),
             is_injective: false,
         };
     }
-    let numbers = tests_at(q, parts, &key_pairs.marks, place);
-    let is_injective = is_exact(key_pairs, numbers.as_slice());
     Tests {
         numbers,
         is_injective,

@@ -45,7 +45,7 @@ none-of : {X Y : Type 0} (f : X → List Y) (xs : List X) → ((x : X) → f x �
 none-of f [] h = refl
 none-of f (x ∷ xs) h = λ k. h x k ++ none-of f xs h k
 
-none-at : {X Y : Type 0} (f : X → List Y) (d : X) (xs : List X) → ((i : ℕ) → i < length xs → f (get_or xs i d) ≡ []) → flat_map f xs ≡ []
+pub none-at : {X Y : Type 0} (f : X → List Y) (d : X) (xs : List X) → ((i : ℕ) → i < length xs → f (get_or xs i d) ≡ []) → flat_map f xs ≡ []
 none-at f d [] h = refl
 none-at f d (x ∷ xs) h = λ k. h 0 (omega arith) k ++ none-at f d xs (λ i l. h (suc i) (omega (arith, l))) k
 
@@ -73,7 +73,7 @@ module _ (w : Setting) (name : IsNamed w.pairs w.part) (place : ℕ) (other : pl
       by true e = absurd (other (grind (arith, nat_tests)))
       by false e = refl
 
-  cell-there : (vs : List ℤ) → cell_at w place vs ≡ w.read w.part place (place_of (dims_at w.part place) vs)
+  pub cell-there : (vs : List ℤ) → cell_at w place vs ≡ w.read w.part place (place_of (dims_at w.part place) vs)
   unfolding cell_in
   cell-there vs = by (place == w.arriving) refl
     where

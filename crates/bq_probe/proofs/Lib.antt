@@ -1,3 +1,4 @@
+pub mod AheadLaws
 pub mod AloneLaws
 pub mod BreakLaws
 pub mod BackLaws
@@ -9,6 +10,7 @@ pub mod ModelLaws
 pub mod NothingLaws
 pub mod OneEach
 pub mod RepeatLaws
+pub mod RunLaws
 pub mod StartLaws
 pub mod StepLaws
 pub mod UnderwayLaws

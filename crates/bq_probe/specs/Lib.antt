@@ -4,4 +4,6 @@ pub mod Choosing
 pub mod Costs
 pub mod Remaining
 pub mod Repeats
+pub mod Ahead
+pub mod Runs
 pub mod Joining

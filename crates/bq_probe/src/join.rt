@@ -59,7 +59,7 @@ fn put_values(listed: &JoinLookup, arriving: u8, row: &[i64], select: &[Attr], t
     requires { length select.now ≤ 8 }
     ensures { tuple.new.items ≡ told_values listed.now arriving row.now select.now }
 {
-    tuple.clear();
+    *tuple = Tuple::new();
     'selected: for a in select {
         tuple.push(value_of(row, listed.column_of(arriving, *a)));
     }

@@ -10,6 +10,7 @@ use bq_model::{Attr, Link, Tuple};
 use bq_narrow::{Binding, RowAt, value_in};
 
 // Whether the two sides of each link are equal.
+#[inline(always)]
 fn all_equal(at: &RowAt<'_>, known: &[Binding], links: &[Link]) -> bool
     requires prepared { IsPrepared at.now.pairs.now at.now.part.now at.now.prepared.now }
     ensures { result ≡ list_all (λ l. int_eq (value_in at.now.pairs.now at.now.part.now at.now.arriving at.now.row.now known.now l.left) (value_in at.now.pairs.now at.now.part.now at.now.arriving at.now.row.now known.now l.right)) links.now }
@@ -25,6 +26,7 @@ fn all_equal(at: &RowAt<'_>, known: &[Binding], links: &[Link]) -> bool
 }
 
 // Whether the left side of each link is less.
+#[inline(always)]
 fn all_less(at: &RowAt<'_>, known: &[Binding], links: &[Link]) -> bool
     requires prepared { IsPrepared at.now.pairs.now at.now.part.now at.now.prepared.now }
     ensures { result ≡ list_all (λ l. int_lt (value_in at.now.pairs.now at.now.part.now at.now.arriving at.now.row.now known.now l.left) (value_in at.now.pairs.now at.now.part.now at.now.arriving at.now.row.now known.now l.right)) links.now }
@@ -41,6 +43,7 @@ fn all_less(at: &RowAt<'_>, known: &[Binding], links: &[Link]) -> bool
 
 /// Returns whether all links of the part hold.
 #[tactic(auto, unfolding(crate::specs::Choosing::meets_links))]
+#[inline(always)]
 pub fn meets_links(at: &RowAt<'_>, known: &[Binding]) -> bool
     requires prepared { IsPrepared at.now.pairs.now at.now.part.now at.now.prepared.now }
     ensures { result ≡ meets_links at.now.pairs.now at.now.part.now at.now.arriving at.now.row.now known.now }
@@ -51,12 +54,13 @@ pub fn meets_links(at: &RowAt<'_>, known: &[Binding]) -> bool
 
 /// Puts the values of the selected columns into `tuple`.
 #[tactic(auto, unfolding(crate::specs::Choosing::tuple_of))]
+#[inline(always)]
 pub fn tuple_of(at: &RowAt<'_>, known: &[Binding], select: &[Attr], tuple: &mut Tuple)
     requires few { length select.now ≤ 8 }
     requires prepared { IsPrepared at.now.pairs.now at.now.part.now at.now.prepared.now }
     ensures { tuple.new.items ≡ tuple_of at.now.pairs.now select.now at.now.part.now at.now.arriving at.now.row.now known.now }
 {
-    tuple.clear();
+    *tuple = Tuple::new();
     'selected: for a in select {
         tuple.push(value_in(at, known, *a));
     }

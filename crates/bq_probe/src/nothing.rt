@@ -31,9 +31,10 @@ fn nothing_where(seen: bool) -> FirstLook
 }
 
 /// Returns what is seen of the answers to a row before a walk begins, and puts the tuple where there is one. Where it is listed that one
-/// cell is left where a walk begins, there is none if that cell is empty, and over two streams that cell alone tells all; and there is
-/// none where the row's own columns leave no cell that holds anything where a walk ends. This is at most one read, and none over four
-/// streams, so that a walk may follow within three times the share of the part.
+/// cell is left where a walk begins, there is none if that cell is empty, and over two streams that cell alone tells all; there is none
+/// where the cells are seen to be empty, side by side, among which are all that links leave where a walk begins; and none where the row's own
+/// columns leave no cell that holds anything where a walk ends. This is at most one read, and none over four streams, so that a walk may
+/// follow within three times the share of the part; over two streams no walk need follow a read.
 pub fn look_before_walk<L: Ledger>(
     pool: &Pool,
     part: &PartAt<'_>,
@@ -46,6 +47,8 @@ pub fn look_before_walk<L: Ledger>(
     requires ready { IsReady part.now.q.now part.now.plan.now pool.now part.now.extent.now }
     requires prepared { IsPrepared (pairs part.now.q.now) part.now.plan.now part.now.prepared.now }
     ensures found { Tells result tuple.new.items (found_beside part.now.q.now part.now.plan.now (read_from (cells_of pool.now part.now.extent.now)) at.now.pos (by_column at.now.row.now.items)) }
+    ensures alone { length part.now.plan.now.streams.items ≡ 2 → result ≡ look.Unknown → steps.new ≡ steps.old }
+    ensures few { steps.new.reads ≤ steps.old.reads + share part.now.plan.now }
     ensures reads { steps.new.reads + (length part.now.plan.now.streams.items - 1) * share part.now.plan.now ≤ steps.old.reads + 3 * share part.now.plan.now }
     ensures writes { steps.new.writes ≡ steps.old.writes }
 {
@@ -62,6 +65,9 @@ pub fn look_before_walk<L: Ledger>(
         row: at.row.as_slice(),
     };
     let Some(number) = room.first_cell(&row_at) else {
+        if room.is_clear_ahead(pool, part.extent, &row_at) {
+            return FirstLook::Nothing;
+        }
         let seen = room.is_cut_off(pool, part.extent, part.plan, at.pos, at.row.as_slice());
         return nothing_where(seen);
     };

@@ -5,9 +5,11 @@ ghost use Rattle.bq_model.specs.Combinations.{Reading, read_from};
 ghost use Rattle.bq_model.specs.Parts.{pairs};
 ghost use Rattle.bq_model.specs.Plan.{stream_at, dims_at};
 ghost use Rattle.bq_pool.specs.Extents.{cells_of, IsLive};
+ghost use Rattle.bq_probe.specs.Ahead.{IsClearAhead};
 ghost use Rattle.bq_probe.specs.Beside.{last_beside, IsEmptyBeside};
 ghost use Rattle.bq_probe.specs.Choosing.{setting, start, both, chosen};
 ghost use Rattle.bq_probe.specs.Joining.{Tells};
+ghost use Rattle.bq_probe.specs.declared.join.FirstLook.TheVariants as look;
 ghost use Rattle.bq_probe.specs.Walk.{walk};
 ghost use Rattle.bq_narrow.specs.Lined.{StandOn, AreFixed};
 ghost use Rattle.bq_synopsis.specs.Preparing.{IsPrepared};
@@ -17,6 +19,7 @@ ghost use Rattle.bq_synopsis.specs.Premises.{IsLaidOut};
 use crate::beside::leaves_nothing;
 use crate::join::FirstLook;
 use crate::links::{meets_links, tuple_of};
+use crate::run::run_of;
 use crate::stack::Bindings;
 use bq_model::{Cell, Dim, PartPlan, Query, Tuple, size_of};
 use bq_narrow::{
@@ -224,7 +227,8 @@ impl ProbeScratch {
     }
 
     /// Tells what the cell tells to which a walk over two streams comes first, where it alone is left there and is not empty, and puts the
-    /// tuple where there is one.
+    /// tuple where there is one. It is not inlined: most cells are empty.
+    #[inline(never)]
     pub(crate) fn look_alone(
         &mut self,
         q: &Query,
@@ -235,7 +239,8 @@ impl ProbeScratch {
         requires prepared { IsPrepared at.now.pairs.now at.now.part.now at.now.prepared.now }
         requires chosen { self.old.chosen.items ≡ start at.now.arriving }
         requires one { box_size self.old.dims.items ≡ 1 }
-        ensures { (read : Reading) → Tells result tuple.new.items (walk (setting at.now.pairs.now q.now.select at.now.part.now at.now.arriving at.now.row.now read) 0 (both at.now.arriving (map (λ d. d.lo) self.old.dims.items) cell)) }
+        ensures sure { result ≡ look.Unknown → ⊥ }
+        ensures found { (read : Reading) → Tells result tuple.new.items (walk (setting at.now.pairs.now q.now.select at.now.part.now at.now.arriving at.now.row.now read) 0 (both at.now.arriving (map (λ d. d.lo) self.old.dims.items) cell)) }
     {
         self.take_both(at.arriving, cell);
         let known = self.chosen.as_slice();
@@ -244,6 +249,25 @@ impl ProbeScratch {
         }
         tuple_of(at, known, q.select(), tuple);
         FirstLook::One(rows_in(cell))
+    }
+
+    /// Tells whether cells among which are all that are left where a walk begins are seen to be empty, where links say that columns are
+    /// equal. No cell is read.
+    pub(crate) fn is_clear_ahead(&self, pool: &Pool, e: &Extent, at: &RowAt<'_>) -> bool
+        requires chosen { self.now.chosen.items ≡ start at.now.arriving }
+        requires live { IsLive pool.now e.now }
+        requires prepared { IsPrepared at.now.pairs.now at.now.part.now at.now.prepared.now }
+        requires laid { length (start at.now.arriving) < length at.now.part.now.streams.items → IsLaidOut (stream_at at.now.part.now (length (start at.now.arriving))) (64 * e.now.pages) }
+        ensures { result ≡ true → IsClearAhead at.now.pairs.now at.now.part.now (read_from (cells_of pool.now e.now)) at.now.arriving at.now.row.now }
+    {
+        if at.part.equal.as_slice().is_empty() {
+            return false;
+        }
+        if self.chosen.len() >= at.part.streams.as_slice().len() {
+            return false;
+        }
+        let run = run_of(at, self.chosen.as_slice());
+        pool.is_clear(e, run.first, run.count)
     }
 
     /// Tells whether it is seen that the row's own columns leave no cell that holds anything at the last place that a walk comes to. Over

@@ -16,6 +16,7 @@ pub mod Quiet
 pub mod Creating
 pub mod Shown
 pub mod BitsLeft
+pub mod Only
 pub mod Sparing
 pub mod Spared
 pub mod Fresh

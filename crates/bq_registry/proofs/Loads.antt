@@ -18,7 +18,7 @@ use Rattle.bq_model.specs.Bases.{Base}
 use Rattle.bq_laws.proofs.PlanBoxes.{count-of-boxes}
 use Rattle.bq_pool.specs.Extents.{PoolValue, cells_of, with_cells}
 use Rattle.bq_executor.specs.Executor as executor
-use Rattle.bq_executor.specs.declared.saturation.Saturation.{Saturation}
+use Rattle.bq_saturated.specs.declared.saturation.Saturation.{Saturation}
 use Rattle.bq_executor.specs.Executor.{ExecutorValue, list_in, waiting_in, with_given, with_saturation}
 use Rattle.bq_executor.specs.Bases.{StandsFrom}
 use Rattle.bq_executor.specs.Loading.{Loads}

@@ -1,10 +1,10 @@
 -- Which live queries a row may be spared.
-use Rattle.std.proofs.Common.{◌≡◌, ◌≢◌, ℕ, ℤ, ◌<◌, ◌≤◌, List, [], ◌∷◌, ◌++◌, length, slice_set, sym, ap, ◌∙◌, subst, arith, slice_index_or, slice_get, bit_or, Option, Some, None, inl, inr}
+use Rattle.std.proofs.Common.{◌≡◌, ◌≢◌, ℕ, ℤ, ◌<◌, ◌≤◌, List, [], ◌∷◌, ◌++◌, length, slice_set, sym, ap, ◌∙◌, subst, arith, slice_index_or, slice_get, bit_or, Bool, true, false, replicate, Option, Some, None, inl, inr}
 use Rattle.std.specs.Int.{bit_at}
 use Rattle.std.proofs.lemmas.Bool.{cases_eq, cases_lt}
-use Rattle.std.proofs.lemmas.List.{get_or_append_left, length-append, get_or-set_same, get_or-set_other, length-set}
+use Rattle.std.proofs.lemmas.List.{get_or_append_left, length-append, get_or-set_same, get_or-set_other, length-set, get_or-replicate, get_or_past, length-replicate}
 use Rattle.std.proofs.Math.Seq.{get_or-append_seam}
-use Rattle.std.proofs.lemmas.Nat.Bits.{bit_at_or, bit_at-lt, bit_at-zero}
+use Rattle.std.proofs.lemmas.Nat.Bits.{bit_at_or, bit_at-lt}
 use Rattle.std.proofs.lemmas.Option.{slice_get_within, slice_get-get_or, get_or_from_slice_get}
 use Rattle.bq_candidates.specs.declared.boxes.QueryBox.{QueryBox}
 use Rattle.bq_candidates.specs.declared.candidates.Candidates.{Candidates}
@@ -72,6 +72,8 @@ pub told_kept : (c : Concerned) (before after : List Live) → length after ≡ 
     → IsTold c before → IsTold c after
 told_kept c before after size asks plans told = record {
   streams = told.streams;
+  size = told.size;
+  within = told.within;
   listed = λ stream own on there.
       (let was = told.listed stream own on there in
       let many = was.own.size in
@@ -114,19 +116,43 @@ boxes_more stream live boxes new own n e is size runs each box k l o there =
     ]
 
 -- where the candidates of no stream are listed
-pub told_none : (c : Concerned) (live : List Live) → length c.streams.items ≤ 16 → c.listed ≡ 0 → IsTold c live
+pub told_none : (c : Concerned) (live : List Live) → length c.streams.items ≤ 16 → c.listed ≡ replicate 256 false → IsTold c live
 told_none c live few none = record {
   streams = few;
-  listed = λ stream own on there. absurd (let off = bit_at-zero stream in let is = ap (λ (word : ℕ). bit_at word stream) none in omega (arith, on, off, is));
+  size = ap (λ (bs : List Bool). length bs) none ∙ length-replicate 256 false;
+  within = λ stream on. absurd (off stream on);
+  listed = λ stream own on there. absurd (off stream on);
 }
+  where
+    all_false : (n stream : ℕ) → slice_index_or (replicate n false) stream false ≡ false
+    all_false n stream = elim (cases_lt stream n) [
+      | inl h ↦ get_or-replicate n stream false false h
+      | inr h ↦ get_or_past (replicate n false) stream false (let size = length-replicate n false in omega (arith, size, h))
+    ]
+
+    true_not_false : true ≡ false → ⊥
+    true_not_false e = cc
+
+    off : (stream : ℕ) → slice_index_or c.listed stream false ≡ true → ⊥
+    off stream on = true_not_false (sym on ∙ ap (λ (bs : List Bool). slice_index_or bs stream false) none ∙ all_false 256 stream)
 
 -- one more stream is listed
 pub lists_one : (live : List Live) (before after : Concerned) (n : ℕ) (new : Candidates) → n < length before.streams.items → IsTold before live → IsListed n new live
-    → after.streams.items ≡ slice_set before.streams.items n new → ((i : ℕ) → i ≢ n → bit_at after.listed i ≡ bit_at before.listed i) → IsTold after live
-lists_one live before after n new inside told own is others =
+    → after.streams.items ≡ slice_set before.streams.items n new → after.listed ≡ slice_set before.listed n true → IsTold after live
+lists_one live before after n new inside told own is marked =
     let now = before.streams.items in
+    let size = ap (λ (xs : List Candidates). length xs) is in
+    let same = length-set now n new in
+    let few = told.streams in
+    let was : (s : ℕ) → s ≢ n → slice_index_or after.listed s false ≡ true → slice_index_or before.listed s false ≡ true
+    = λ s ne on. sym (get_or-set_other before.listed n s true false ne) ∙ sym (ap (λ (bs : List Bool). slice_index_or bs s false) marked) ∙ on in
     record {
-      streams = (let size = ap (λ (xs : List Candidates). length xs) is in let same = length-set now n new in let few = told.streams in omega (arith, size, same, few));
+      streams = omega (arith, size, same, few);
+      size = ap (λ (bs : List Bool). length bs) marked ∙ length-set before.listed n true ∙ told.size;
+      within = λ s on. elim (cases_eq s n) [
+        | inl e ↦ omega (arith, e, inside, size, same)
+        | inr ne ↦ (let w = told.within s (was s ne on) in omega (arith, w, size, same))
+      ];
       listed = λ s c on there.
           (let e : slice_get (slice_set now n new) s ≡ Some c = ap (λ (xs : List Candidates). slice_get xs s) (sym is) ∙ there in
           let at : slice_index_or (slice_set now n new) s c ≡ c = get_or_from_slice_get (slice_set now n new) s c c e in
@@ -137,7 +163,7 @@ lists_one live before after n new inside told own is others =
             | inr ne ↦
                 let within = slice_get_within (slice_set now n new) s c e in
                 let all = length-set now n new in
-                told.listed s c (sym (others s ne) ∙ on)
+                told.listed s c (was s ne on)
                 (slice_get-get_or now s c (omega (arith, within, all)) ∙ ap (λ (z : Candidates). Some z) (sym (get_or-set_other now n s new c ne) ∙ at))
           ]);
     }

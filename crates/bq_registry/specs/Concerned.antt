@@ -1,5 +1,5 @@
 -- Which live queries a row may concern.
-use Rattle.std.specs.Prelude.{◌≡◌, ℕ, ◌<◌, ◌≤◌, List, length, slice_get, slice_index_or, Option, Some}
+use Rattle.std.specs.Prelude.{◌≡◌, ℕ, ◌<◌, ◌≤◌, List, length, slice_get, slice_index_or, Option, Some, true, false}
 use Rattle.std.specs.Int.{bit_at}
 use Rattle.bq_candidates.specs.declared.boxes.QueryBox.{QueryBox}
 use Rattle.bq_candidates.specs.declared.candidates.Candidates.{Candidates}
@@ -25,7 +25,9 @@ pub record IsListed (stream : ℕ) (c : Candidates) (live : List Live) : Type 0 
 -- the candidates of each stream are listed, or it is known that they are not
 pub record IsTold (c : Concerned) (live : List Live) : Type 0 where
   pub streams : length c.streams.items ≤ 16
-  pub listed : (stream : ℕ) (own : Candidates) → bit_at c.listed stream ≡ 1 → slice_get c.streams.items stream ≡ Some own → IsListed stream own live
+  pub size : length c.listed ≡ 256
+  pub within : (stream : ℕ) → slice_index_or c.listed stream false ≡ true → stream < length c.streams.items
+  pub listed : (stream : ℕ) (own : Candidates) → slice_index_or c.listed stream false ≡ true → slice_get c.streams.items stream ≡ Some own → IsListed stream own live
 
 -- the word has bits of live queries alone, and each that has none refuses the row
 pub record MayConcern (word : ℕ) (r : Arrival) (live : List Live) : Type 0 where

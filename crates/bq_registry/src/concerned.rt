@@ -1,5 +1,5 @@
 //! Which live queries a row may concern.
-ghost use Rattle.std.specs.Prelude.{◌≡◌, ◌<◌, ◌≤◌, ℕ, List, [], length, IfOk};
+ghost use Rattle.std.specs.Prelude.{◌≡◌, ◌<◌, ◌≤◌, ℕ, List, [], length, slice_index_or, true, false, IfOk};
 ghost use Rattle.std.specs.Int.{bit_at};
 ghost use Rattle.bq_executor.specs.Executor.{arrival};
 ghost use Rattle.bq_registry.specs.Live.{Live};
@@ -7,19 +7,19 @@ ghost use Rattle.bq_registry.specs.Concerned.{AreBoxes, IsListed, IsTold, MayCon
 
 use crate::queries::Queries;
 use arrayvec::ArrayVec;
-use bq_candidates::{Candidates, Concerns, QueryBox, has_bit, with_bit};
+use bq_candidates::{Candidates, Concerns, QueryBox, with_bit};
 use bq_model::Row;
 use std::alloc::{AllocError, Global};
 
 /// The streams that there may be.
 const STREAMS: usize = 16;
 
-/// For each stream the candidates among the live queries, and a bit for each stream of which they are listed. Where live queries came or
-/// went, those of a stream are listed anew before its next row.
+/// For each stream the candidates among the live queries, and for each number that a stream may have whether they are listed. Where live
+/// queries came or went, those of a stream are listed anew before its next row.
 #[derive(Drop)]
 pub struct Concerned {
     pub streams: Vec<Candidates>,
-    pub listed: u64,
+    pub listed: [bool; 256],
 }
 
 /// Returns the bits of so many queries.
@@ -68,7 +68,10 @@ impl Concerned {
         'streams: while streams.len() < STREAMS {
             streams.push(Candidates::new(alloc)?)?;
         }
-        Ok(Concerned { streams, listed: 0 })
+        Ok(Concerned {
+            streams,
+            listed: [false; 256],
+        })
     }
 
     /// Leaves the candidates to be listed anew before they are asked for.
@@ -77,38 +80,59 @@ impl Concerned {
         requires { length self.old.streams.items ≤ 16 }
         ensures { (live : List Live) → IsTold self.new live }
     {
-        self.listed = 0;
+        self.listed = [false; 256];
     }
 
-    // Lists the candidates of a stream anew. It is not inlined, so that a row of a stream that is listed pays nothing for it.
-    #[cold]
-    #[inline(never)]
+    // Whether the candidates of a stream are listed.
+    #[inline(always)]
+    fn is_listed(&self, stream: u8) -> bool
+        requires { length self.now.listed ≡ 256 }
+        ensures { result ≡ slice_index_or self.now.listed stream false }
+    {
+        self.listed[usize::from(stream)]
+    }
+
+    // Lists the candidates of a stream anew.
     #[tactic(auto, using(crate::proofs::Sparing::lists_one))]
     fn list_anew(&mut self, stream: u8, live: &Queries)
         requires few { length live.now ≤ 64 }
         requires stream { stream < length self.old.streams.items }
         requires told { IsTold self.old live.now }
         ensures told { IsTold self.new live.now }
-        ensures listed { bit_at self.new.listed stream ≡ 1 }
-        ensures size { length self.new.streams.items ≡ length self.old.streams.items }
+        ensures listed { slice_index_or self.new.listed stream false ≡ true }
     {
         let number = usize::from(stream);
         list_stream(&mut self.streams[number], live, stream);
-        self.listed = with_bit(self.listed, number);
+        self.listed[number] = true;
     }
 
-    // Lists the candidates of a stream, where they are not listed.
-    fn list(&mut self, stream: u8, live: &Queries)
+    // Returns the candidates for a row of a stream of which they are listed.
+    #[inline(always)]
+    fn of_listed(&self, stream: u8, row: &Row, live: &Queries) -> Concerns
+        requires told { IsTold self.now live.now }
+        requires listed { slice_index_or self.now.listed stream false ≡ true }
+        ensures { MayConcern result.word (arrival stream row.now.items) live.now }
+    {
+        let number = usize::from(stream);
+        self.streams[number].of(row.as_slice())
+    }
+
+    // Returns the candidates for a row of a stream of which they are not listed, and lists them where there may be such a stream. It is not
+    // inlined, so that a row of a stream of which they are listed pays nothing for it.
+    #[cold]
+    #[inline(never)]
+    fn of_unlisted(&mut self, stream: u8, row: &Row, live: &Queries) -> Concerns
         requires few { length live.now ≤ 64 }
-        requires stream { stream < length self.old.streams.items }
         requires told { IsTold self.old live.now }
         ensures told { IsTold self.new live.now }
-        ensures listed { bit_at self.new.listed stream ≡ 1 }
-        ensures size { length self.new.streams.items ≡ length self.old.streams.items }
+        ensures may { MayConcern result.word (arrival stream row.now.items) live.now }
     {
-        if !has_bit(self.listed, usize::from(stream)) {
-            self.list_anew(stream, live);
+        if usize::from(stream) >= self.streams.len() {
+            let word = all_of(live.len());
+            return Concerns { word, within: 0 };
         }
+        self.list_anew(stream, live);
+        self.of_listed(stream, row, live)
     }
 
     /// Returns the candidates for a row of a stream, which are listed first where live queries came or went.
@@ -119,12 +143,9 @@ impl Concerned {
         ensures told { IsTold self.new live.now }
         ensures may { MayConcern result.word (arrival stream row.now.items) live.now }
     {
-        let number = usize::from(stream);
-        if number >= self.streams.len() {
-            let word = all_of(live.len());
-            return Concerns { word, within: 0 };
+        if self.is_listed(stream) {
+            return self.of_listed(stream, row, live);
         }
-        self.list(stream, live);
-        self.streams[number].of(row.as_slice())
+        self.of_unlisted(stream, row, live)
     }
 }

@@ -9,7 +9,8 @@ ghost use Rattle.bq_model.specs.Bases.{Base, first_base};
 ghost use Rattle.bq_io.specs.Sink.{Writes};
 ghost use Rattle.bq_pool.specs.Extents.{PoolValue, cells_of, with_cells, IsLive, IsGivenBack};
 ghost use Rattle.bq_answers.specs.Entries.{settled};
-ghost use Rattle.bq_executor.specs.declared.saturation.Saturation.TheVariants as saturation;
+ghost use Rattle.bq_saturated.specs.declared.saturation.Saturation.TheVariants as saturation;
+ghost use Rattle.bq_saturated.specs.Known.{none_yet};
 ghost use Rattle.bq_executor.specs.Executor.{IsAccepted, IsSound, arrival, most_answers, parts_in, tuples_in, waiting_in, with_given, with_saturation};
 ghost use Rattle.bq_executor.specs.Standing.{AreKept, KeepsWithin, IsReady};
 ghost use Rattle.bq_executor.specs.Row.{KeepsToWork, TakesRow};
@@ -115,7 +116,7 @@ impl SharedExecutor {
     ) -> bool
         requires live { IsLive pool.old self.old.extent }
         ensures loads { (base : Base) → StandsFromShared self.old pool.old base [] → LoadsShared result (loaded_cell (boxes self.old.query (parts_in self.old)) i v base) self.old pool.old self.new pool.new }
-        ensures same { self.new ≡ with_saturation self.old (if result then saturation.None else self.old.saturation) }
+        ensures same { self.new ≡ with_saturation self.old (if result then none_yet else self.old.saturation) }
         ensures only { pool.new ≡ with_cells pool.old self.old.extent (cells_of pool.new self.old.extent) }
         ensures kept { AreKept self.old pool.old → AreKept self.new pool.new }
         ensures within { KeepsWithin self.old pool.old → KeepsWithin self.new pool.new }

@@ -1,21 +1,12 @@
-use Rattle.std.proofs.Common.{◌≡◌, ◌<◌, List, ◌∷◌, length, nat_eq, arith, sym, ◌∙◌}
+use Rattle.std.proofs.Common.{◌≡◌, ◌<◌, List, ◌∷◌, length, arith, sym, ◌∙◌}
 use Rattle.bq_model.specs.Combinations.{read_from, Reading, Found}
 use Rattle.bq_model.specs.Meaning.{by_column}
 use Rattle.bq_model.specs.Probing.{found_beside}
 use Rattle.bq_pool.specs.Extents.{cells_of}
 use Rattle.bq_probe.specs.Remaining.{as_found, left_of}
 use Rattle.bq_executor.proofs.InPart.{none_added}
-use Rattle.bq_executor.proofs.OneTuple.{each_known, none_new, first_alone}
+use Rattle.bq_executor.proofs.OneTuple.{each_known, first_alone}
 use Rattle.bq_executor.proofs.join.answer_once.Goals as goal
-
-pub returns-then-has-clause-table : goal.returns-then-has-clause-table
-returns-then-has-clause-table g c =
-    let read : Reading = read_from (cells_of c.args.pool.now c.args.part.now.extent.now) in
-    let here : c.args.at.now.pos < length c.args.part.now.plan.now.streams.items = (let h = c.requires.here in let n = c.requires.ready.held.walked.plan.count in omega (arith, h, n)) in
-    none_new c.args.part.now.q.now.distinct (nat_eq (length c.args.tuple.now.items) c.args.table.now.width) c.args.tuple.now.items
-    (found_beside c.args.part.now.q.now c.args.part.now.plan.now read c.args.at.now.pos (by_column c.args.at.now.row.now.items)) c.args.table.now c.requires.one.distinct
-    (each_known c.args.part.now.q.now c.args.part.now.plan.now read c.args.at.now.pos c.args.at.now.row.now.items c.args.tuple.now.items here c.requires.one.known)
-    c.if-has.ensures
 
 pub returns-in-Some-clause-table : goal.returns-in-Some-clause-table
 returns-in-Some-clause-table g c =

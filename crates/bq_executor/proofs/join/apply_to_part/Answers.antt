@@ -4,7 +4,7 @@ use Rattle.bq_pool.specs.Extents.{cells_of}
 use Rattle.bq_executor.specs.FoundTable.{HaveRoom}
 use Rattle.bq_executor.proofs.InPart.{found_admitted, all_added, own_room}
 use Rattle.bq_executor.proofs.OldAnswers.{old-adds-none}
-use Rattle.bq_executor.proofs.OwnCells.{leaves-cell}
+use Rattle.bq_index.proofs.PassedCells.{leaves-cell}
 use Rattle.bq_executor.proofs.Putting.{put-is, put-with, put-none}
 use Rattle.bq_synopsis.specs.Own.{IsOwnCell}
 use Rattle.bq_synopsis.specs.Premises.{HasRoom}

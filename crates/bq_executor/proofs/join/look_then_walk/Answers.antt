@@ -2,10 +2,13 @@ use Rattle.std.proofs.Common.{◌∙◌, List, [], ◌∷◌, ap, sym}
 use Rattle.bq_model.specs.Combinations.{read_from, Found}
 use Rattle.bq_model.specs.Meaning.{by_column}
 use Rattle.bq_model.specs.Probing.{found_beside}
+use Rattle.bq_pool.specs.Counted.{StepsValue}
 use Rattle.bq_pool.specs.Extents.{cells_of}
 use Rattle.bq_probe.specs.Remaining.{as_found}
 use Rattle.bq_executor.proofs.TableLaws.{found_same}
 use Rattle.bq_executor.proofs.InPart.{none_added, one_added}
+use Rattle.bq_executor.proofs.OldAnswers.{old-adds-none}
+use Rattle.bq_executor.proofs.RowReads.{told-reads, walk-reads}
 use Rattle.bq_executor.proofs.join.look_then_walk.Goals as goal
 
 pub returns-in-Nothing-clause-table : goal.returns-in-Nothing-clause-table
@@ -19,3 +22,18 @@ returns-in-One-clause-table g c =
     let f : Found = as_found c.look_before_walk.new.tuple.items c.from.result in
     let all : List Found = found_beside c.args.part.now.q.now c.args.part.now.plan.now (read_from (cells_of c.args.pool.now c.args.part.now.extent.now)) c.args.at.now.pos (by_column c.args.at.now.row.now.items) in
     one_added d f all c.args.table.now c.record_found.new.table (c.in-One.ensures.found ∙ ap (λ n. as_found c.look_before_walk.new.tuple.items n ∷ []) (sym c.from.ensures)) (found_same c.distinct.result d f c.args.table.now c.record_found.new.table c.distinct.ensures c.record_found.ensures)
+
+pub returns-then-is_answered-clause-table : goal.returns-then-is_answered-clause-table
+returns-then-is_answered-clause-table g c =
+    old-adds-none c.args.part.now.q.now.distinct _ c.args.table.now (c.is_answered.ensures c.if-is_answered.true (read_from (cells_of c.args.pool.now c.args.part.now.extent.now)))
+
+pub returns-in-Nothing-clause-reads : goal.returns-in-Nothing-clause-reads
+returns-in-Nothing-clause-reads g c = told-reads c.args.part.now.plan.now c.args.steps.now.reads c.look_before_walk.new.steps.reads c.look_before_walk.ensures.few
+
+pub returns-in-One-clause-reads : goal.returns-in-One-clause-reads
+returns-in-One-clause-reads g c = told-reads c.args.part.now.plan.now c.args.steps.now.reads c.look_before_walk.new.steps.reads c.look_before_walk.ensures.few
+
+pub returns-in-Unknown-clause-reads : goal.returns-in-Unknown-clause-reads
+returns-in-Unknown-clause-reads g c =
+    walk-reads c.args.part.now.plan.now c.args.steps.now.reads c.look_before_walk.new.steps.reads c.walk.new.steps.reads
+    (λ two. ap (λ (s : StepsValue). s.reads) (c.look_before_walk.ensures.alone two c.in-Unknown.is)) c.look_before_walk.ensures.reads c.walk.ensures.reads

@@ -8,8 +8,9 @@ use Rattle.bq_index.specs.Shifts.{StandsAt}
 use Rattle.bq_executor.proofs.PartCells.{taken_step, ready_part, room_now, table_more, work_more}
 use Rattle.bq_index.proofs.Linked.{passed_by, hit_within}
 use Rattle.bq_executor.proofs.PassedOver.{HaveDone, nothing_done, same_state, passed_one, passed_over}
-use Rattle.bq_executor.proofs.LeftCells.{met_done, paid_to, held-parts, on-chain, next-of, reached_done, own-there, few-read}
-use Rattle.bq_executor.specs.Leaving.{number_of}
+use Rattle.bq_executor.proofs.LeftCells.{met_done, paid_to, held-parts, reached_done, own-there, few-read}
+use Rattle.bq_index.proofs.PassedCells.{on-chain, next-of}
+use Rattle.bq_index.specs.Leaving.{number_of}
 use Rattle.bq_pool.specs.Counted.{StepsValue}
 use Rattle.bq_laws.proofs.Tests.{and-left, and-right}
 use Rattle.bq_executor.proofs.OwnCells.{turned, can-count, old-now}

@@ -2,7 +2,7 @@ use Rattle.std.proofs.Common.{◌≡◌, ◌-◌, length, true}
 use Rattle.std.specs.Option.{IfSome}
 use Rattle.bq_index.specs.declared.shift.CellAt.{CellAt}
 use Rattle.bq_index.specs.Shifts.{StandsAt}
-use Rattle.bq_executor.specs.Leaving.{IsOnChain}
+use Rattle.bq_index.specs.Leaving.{IsOnChain}
 use Rattle.bq_executor.proofs.PassedOver.{HaveDone}
 use Rattle.bq_executor.proofs.route.apply_along.Given as goal
 

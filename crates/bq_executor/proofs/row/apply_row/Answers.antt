@@ -15,6 +15,3 @@ returns-then-not-passes-clause-pool g c =
     let r = arrival c.args.arrived.now.stream c.args.arrived.now.row.now.items in
     refused_taken c.args.query.now.q.now c.args.query.now.plan.now c.args.pool.now c.args.query.now.extent.now c.requires.ready r
     (c.requires.prefilter c.if-not-passes.true)
-
-pub apply_by_cells-requires-clause-direct : goal.apply_by_cells-requires-clause-direct
-apply_by_cells-requires-clause-direct g c = c.requires.direct c.in-Some.direct.now c.in-Some.ensures.0

@@ -20,6 +20,7 @@ use Rattle.bq_probe.specs.declared.join.FirstLook.TheVariants as look
 use Rattle.bq_narrow.specs.Lined.{AreFixed}
 use Rattle.bq_synopsis.specs.Premises.{IsReady}
 use Rattle.bq_narrow.specs.Narrowed.{narrowed_dims}
+use Rattle.bq_probe.proofs.AheadLaws.{clear-ahead}
 use Rattle.bq_probe.proofs.AloneLaws.{alone}
 use Rattle.bq_probe.proofs.BesideLaws.{last-there, nothing-beside}
 use Rattle.bq_probe.proofs.NothingLaws.{first-within, first-empty}
@@ -66,6 +67,13 @@ returns-in_default-clause-found g c =
     told-nothing c.is_cut_off-seen-in_default.result c.nothing_where-in_default.result _ _ c.nothing_where-in_default.ensures
     (λ t. seen-last c.args.part.now.q.now c.args.part.now.plan.now c.args.pool.now c.args.part.now.extent.now c.args.at.now.pos _ _ c.requires.here c.requires.ready c.as_slice-in_default.ensures.value (c.is_cut_off-seen-in_default.ensures t))
 
+pub returns-then-is_clear_ahead-clause-found : goal.returns-then-is_clear_ahead-clause-found
+returns-then-is_clear_ahead-clause-found g c =
+    let held = c.requires.ready.held in
+    let here : c.args.at.now.pos < length c.args.part.now.plan.now.streams.items = omega (arith, c.requires.here, held.walked.plan.count) in
+    clear-ahead c.args.part.now.q.now c.args.part.now.plan.now c.args.at.now.pos c.args.at.now.row.now.items _ _ (read_from (cells_of c.args.pool.now c.args.part.now.extent.now)) held.walked here
+    (c.as_slice-2.ensures.value ∙ c.pairs.ensures) c.as_slice-3.ensures.value (c.is_clear_ahead.ensures c.if-is_clear_ahead.true)
+
 pub read-cell-requires-clause-within : goal.read-cell-requires-clause-within
 read-cell-requires-clause-within g c =
     let q = c.args.part.now.q.now in
@@ -105,7 +113,7 @@ returns-clause-found g c =
     = alone q part held.walked pos row here c.in-Some.ensures.first.0 (64 * c.args.part.now.extent.now.pages) held.within c.first_cell.new.self.dims.items c.in-Some.number are
     (cells_of c.args.pool.now c.args.part.now.extent.now) two c.read-cell.result (sym (c.read-cell.ensures.cell Empty)) (c.is_empty.ensures.no c.if-is_empty.false) in
     let told = subst (λ (xs : List Pair). Tells c.look_alone.result c.look_alone.new.tuple.items (walk (setting xs q.select part pos row read) 0 (both pos values c.read-cell.result))) ps
-    (subst (λ (xs : List ℤ). Tells c.look_alone.result c.look_alone.new.tuple.items (walk (setting c.as_slice-2.result.now q.select part pos xs read) 0 (both pos values c.read-cell.result))) rs (c.look_alone.ensures read)) in
+    (subst (λ (xs : List ℤ). Tells c.look_alone.result c.look_alone.new.tuple.items (walk (setting c.as_slice-2.result.now q.select part pos xs read) 0 (both pos values c.read-cell.result))) rs (c.look_alone.ensures.found read)) in
     subst (λ (finds : List Found). Tells c.look_alone.result c.look_alone.new.tuple.items finds) (sym is) told
 
 pub returns-then-is_empty-clause-reads : goal.returns-then-is_empty-clause-reads
@@ -122,3 +130,30 @@ pub returns-clause-reads : goal.returns-clause-reads
 returns-clause-reads g c =
     room-for-more c.args.part.now.q.now c.args.part.now.plan.now c.args.pool.now c.args.part.now.extent.now c.args.at.now.pos _ c.requires.here c.requires.ready
     (let v = ap length c.as_slice-streams.ensures.value in let f = c.if-streams-gt3.false in omega (arith, v, f)) _ (let r = c.read-cell.ensures.reads in omega (arith, r))
+
+-- one read is no more than the share
+one-read : (q : QueryValue) (part : PartPlan) (pool : PoolValue) (e : Extent) (pos before : ℕ) → pos < length q.from → IsReady q part pool e
+    → (reads : ℕ) → reads ≤ before + 1 → reads ≤ before + share part
+one-read q part pool e pos before within ready reads most =
+    let held = ready.held in
+    let here : pos < length part.streams.items = omega (arith, within, held.walked.plan.count) in
+    let some = share-some q part pos held.walked here in
+    omega (arith, some, most)
+
+pub returns-then-is_empty-clause-few : goal.returns-then-is_empty-clause-few
+returns-then-is_empty-clause-few g c =
+    one-read c.args.part.now.q.now c.args.part.now.plan.now c.args.pool.now c.args.part.now.extent.now c.args.at.now.pos _ c.requires.here c.requires.ready _ (let r = c.read-cell.ensures.reads in omega (arith, r))
+
+pub returns-then-streams-ne2-clause-few : goal.returns-then-streams-ne2-clause-few
+returns-then-streams-ne2-clause-few g c =
+    one-read c.args.part.now.q.now c.args.part.now.plan.now c.args.pool.now c.args.part.now.extent.now c.args.at.now.pos _ c.requires.here c.requires.ready _ (let r = c.read-cell.ensures.reads in omega (arith, r))
+
+pub returns-clause-few : goal.returns-clause-few
+returns-clause-few g c =
+    one-read c.args.part.now.q.now c.args.part.now.plan.now c.args.pool.now c.args.part.now.extent.now c.args.at.now.pos _ c.requires.here c.requires.ready _ (let r = c.read-cell.ensures.reads in omega (arith, r))
+
+pub returns-then-streams-ne2-clause-alone : goal.returns-then-streams-ne2-clause-alone
+returns-then-streams-ne2-clause-alone g c two unknown = absurd (let v = ap length c.as_slice-streams.ensures.value in let t = c.if-streams-ne2.true in omega (arith, v, t, two))
+
+pub returns-clause-alone : goal.returns-clause-alone
+returns-clause-alone g c two unknown = absurd (c.look_alone.ensures.sure unknown)

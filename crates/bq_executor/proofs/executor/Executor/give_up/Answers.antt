@@ -3,7 +3,7 @@ use Rattle.bq_pool.specs.Extents.{PoolValue}
 use Rattle.bq_model.specs.Meaning.{Arrival}
 use Rattle.bq_answers.specs.Entries.{TableValue, tuples_of}
 use Rattle.bq_model.specs.Combinations.{read_from}
-use Rattle.bq_laws.specs.Closed.{IsClosed}
+use Rattle.bq_saturated.specs.Known.{AreSaturated}
 use Rattle.bq_executor.specs.Executor.{ExecutorValue, IsSound, parts_in, cells_in, tuples_in, waiting_in}
 use Rattle.bq_executor.specs.Standing.{StandsFor, AreKept, KeepsWithin}
 use Rattle.bq_model.specs.Bases.{Base}
@@ -55,5 +55,5 @@ returns-clause-kept c pool k =
       live = own.live;
       fitting = own.fitting;
       counts = own.counts;
-      saturated = λ s d. subst (λ (ts : List (List ℤ)). IsClosed e.query (parts_in e) (read_from (cells_in e pool)) ts) (sym tuples) (own.saturated s d);
+      saturated = λ d. subst (λ (ts : List (List ℤ)). AreSaturated e.saturation e.query (parts_in e) (read_from (cells_in e pool)) ts) (sym tuples) (own.saturated d);
     }

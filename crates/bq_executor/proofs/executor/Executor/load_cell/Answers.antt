@@ -5,7 +5,7 @@ use Rattle.bq_model.specs.Sharing.{sizes_in}
 use Rattle.bq_model.specs.Bases.{Base}
 use Rattle.bq_pool.specs.Extents.{PoolValue, cells_of, with_cells, IsLive}
 use Rattle.bq_pool.specs.Counted.{StepsValue}
-use Rattle.bq_executor.specs.declared.saturation.Saturation.{Saturation}
+use Rattle.bq_saturated.specs.declared.saturation.Saturation.{Saturation}
 use Rattle.bq_executor.specs.Executor.{ExecutorValue, list_in, with_saturation}
 use Rattle.bq_executor.specs.Standing.{AreKept, KeepsWithin}
 use Rattle.bq_executor.specs.Bases.{StandsFrom}

@@ -5,7 +5,7 @@ use Rattle.bq_executor.proofs.Bases.{bases-and-histories}
 use Rattle.bq_executor.proofs.Behind.{plan-behind}
 use Rattle.bq_executor.proofs.Keeping.{keeps}
 use Rattle.bq_executor.proofs.Settled.{begins, none_within}
-use Rattle.bq_executor.specs.declared.saturation.Saturation.TheVariants as saturation
+use Rattle.bq_saturated.specs.declared.saturation.Saturation.TheVariants as saturation
 use Rattle.bq_executor.specs.Executor.{ExecutorValue}
 use Rattle.bq_executor.proofs.executor.Executor.new.Goals as goal
 

@@ -6,16 +6,16 @@ use Rattle.bq_probe.specs.Remaining.{as_found}
 use Rattle.bq_probe.proofs.AloneLaws.{refused, answered}
 use Rattle.bq_probe.proofs.scratch.ProbeScratch.look_alone.Goals as goal
 
-pub returns-then-not-meets_links : goal.returns-then-not-meets_links
-returns-then-not-meets_links c read =
+pub returns-then-not-meets_links-clause-found : goal.returns-then-not-meets_links-clause-found
+returns-then-not-meets_links-clause-found c read =
     let at = c.args.at.now in
     let w = setting at.pairs.now c.args.q.now.select at.part.now at.arriving at.row.now read in
     let known : List Binding = both at.arriving (map (λ d. d.lo) c.args.self.now.dims.items) c.args.cell in
     let same : known ≡ c.as_slice-known.result.now = sym (c.as_slice-known.ensures.value ∙ c.take_both.ensures) in
     refused w known (ap (meets w) same ∙ sym c.meets_links.ensures ∙ c.if-not-meets_links.true)
 
-pub returns : goal.returns
-returns c read =
+pub returns-clause-found : goal.returns-clause-found
+returns-clause-found c read =
     let at = c.args.at.now in
     let w = setting at.pairs.now c.args.q.now.select at.part.now at.arriving at.row.now read in
     let values = map (λ d. d.lo) c.args.self.now.dims.items in

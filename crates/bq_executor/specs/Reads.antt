@@ -1,0 +1,13 @@
+-- How many cells a row reads at most.
+use Rattle.std.specs.Prelude.{ℕ, ◌*◌, List, length, nat_eq, if◌then◌else◌}
+use Rattle.std.specs.List.{sum_by}
+use Rattle.bq_model.specs.declared.plan.PartPlan.{PartPlan}
+use Rattle.bq_model.specs.Numbers.{share}
+
+-- in a part, beside its own cell: over two streams no more than its share
+abbrev pub most_reads : PartPlan → ℕ
+most_reads part = if nat_eq (length part.streams.items) 2 then share part else 3 * share part
+
+-- in all parts
+abbrev pub row_reads : List PartPlan → ℕ
+row_reads parts = sum_by most_reads parts

@@ -1,0 +1,77 @@
+-- A walk of which all cells that are left where it begins are empty finds nothing.
+use Rattle.std.proofs.Common.{◌≡◌, ℕ, zero, suc, ◌+◌, ◌-◌, ◌<◌, ◌≤◌, List, [], length, refl, sym, ap, ◌∙◌, subst, arith, ℤ}
+use Rattle.std.specs.Prelude.{slice_index_or}
+use Rattle.bq_model.specs.Boxes.{box, box_size, place_of, values_at, AreInside}
+use Rattle.bq_model.proofs.BoxLaws.{values-inside, length-box, at-box}
+use Rattle.bq_model.specs.declared.cell.Cell.{Cell}
+use Rattle.bq_model.specs.declared.cell.Cell.TheVariants.{Empty}
+use Rattle.bq_model.specs.declared.part.Pair.{Pair}
+use Rattle.bq_model.specs.declared.plan.PartPlan.{PartPlan}
+use Rattle.bq_model.specs.Combinations.{Reading, read_from}
+use Rattle.bq_model.specs.Meaning.{by_column}
+use Rattle.bq_model.specs.Parts.{pairs}
+use Rattle.bq_model.specs.Plan.{stream_at, dims_at}
+use Rattle.bq_model.specs.Probing.{found_beside}
+use Rattle.bq_model.specs.Query.{QueryValue}
+use Rattle.bq_narrow.specs.Narrowed.{narrowed_dims}
+use Rattle.bq_narrow.specs.declared.binding.Binding.{Binding}
+use Rattle.bq_probe.proofs.BesideLaws.{none-at, cell-there}
+use Rattle.bq_probe.proofs.BreakLaws.{breaks, breaks-inequality}
+use Rattle.bq_probe.proofs.ExactLaws.{walk-is}
+use Rattle.bq_probe.proofs.ModelLaws.{combinations-are}
+use Rattle.bq_probe.proofs.NothingLaws.{walk-own, start-beside}
+use Rattle.bq_probe.specs.Ahead.{IsClearAhead}
+use Rattle.bq_probe.specs.Choosing.{Setting, setting, start, cell_at}
+use Rattle.bq_pool.specs.Strides.{NoneOccupied}
+use Rattle.bq_probe.specs.declared.run.CellRun.{CellRun}
+use Rattle.bq_probe.specs.Walk.{walk, opened, entered}
+use Rattle.bq_synopsis.proofs.PlanLaws.{named}
+use Rattle.bq_synopsis.specs.Premises.{IsWalked}
+
+-- no candidate has a cell that holds anything
+walk-clear : (w : Setting) (more : ℕ) (known : List Binding) → ((vs : List ℤ) → AreInside (narrowed_dims w.pairs w.part w.arriving w.row known) vs → cell_at w (length known) vs ≡ Empty) → walk w (suc more) known ≡ []
+unfolding walk
+walk-clear w more known empty =
+    let D = narrowed_dims w.pairs w.part w.arriving w.row known in
+    none-at (opened w known (walk w more)) [] (box D) (λ i l.
+    let b : i < box_size D = omega (arith, l, length-box D) in
+    (λ k. opened w known (walk w more) (at-box D i b k)) ∙ ap (entered (values_at D i) known (walk w more)) (empty (values_at D i) (values-inside D i b)))
+
+walk-none : (w : Setting) (streams : ℕ) → length (start w.arriving) < streams
+    → ((vs : List ℤ) → AreInside (narrowed_dims w.pairs w.part w.arriving w.row (start w.arriving)) vs → cell_at w (length (start w.arriving)) vs ≡ Empty) → walk w streams [] ≡ []
+walk-none w streams l empty = by w.arriving refl streams l empty
+  where
+    by : (a : ℕ) → w.arriving ≡ a → (n : ℕ) → length (start a) < n → ((vs : List ℤ) → AreInside (narrowed_dims w.pairs w.part w.arriving w.row (start a)) vs → cell_at w (length (start a)) vs ≡ Empty) → walk w n [] ≡ []
+    by a e zero m h = absurd (omega (arith, m))
+    by zero e (suc zero) m h = absurd (omega (arith, m))
+    by zero e (suc (suc n)) m h = walk-own w (suc n) [] (sym e) (walk-clear w n (start zero) h)
+    by (suc a) e (suc n) m h = walk-clear w n [] h
+
+-- and so the row is answered nothing
+pub clear-ahead : (q : QueryValue) (part : PartPlan) (arriving : ℕ) (row seen : List ℤ) (ps : List Pair) (read : Reading) → IsWalked q part → arriving < length part.streams.items → ps ≡ pairs q → seen ≡ row
+    → IsClearAhead ps part read arriving seen → found_beside q part read arriving (by_column row) ≡ []
+clear-ahead q part arriving row seen ps read walked here e f ahead =
+    let w = setting (pairs q) q.select part arriving row read in
+    let n = named q part walked in
+    let clear : IsClearAhead (pairs q) part read arriving row = subst (λ xs. IsClearAhead xs part read arriving row) e (subst (λ r. IsClearAhead ps part read arriving r) f ahead) in
+    sym (walk-is w (breaks w n) (breaks-inequality w n) ∙ combinations-are q part arriving row read here)
+    ∙ walk-none w (length part.streams.items) clear.there (λ vs h. cell-there w n (length (start arriving)) (start-beside arriving) vs ∙ clear.each vs h)
+
+-- cells side by side that are empty, among which are all that are left
+pub run-clear : (ps : List Pair) (part : PartPlan) (arriving : ℕ) (row : List ℤ) (contents : List Cell) (run : CellRun) (known : List Binding) → known ≡ start arriving → length (start arriving) < length part.streams.items
+    → ((vs : List ℤ) → AreInside (narrowed_dims ps part arriving row known) vs
+    → (run.first ≤ (stream_at part (length known)).base + place_of (dims_at part (length known)) vs) × ((stream_at part (length known)).base + place_of (dims_at part (length known)) vs < run.first + run.count))
+    → NoneOccupied (λ i. slice_index_or contents (run.first + i) Empty) 0 run.count → IsClearAhead ps part (read_from contents) arriving row
+run-clear ps part arriving row contents run known is there holds none = record {
+  there = there;
+  each = λ vs h. (
+      let at = subst
+      (λ (ks : List Binding). (xs : List ℤ) → AreInside (narrowed_dims ps part arriving row ks) xs
+      → (run.first ≤ (stream_at part (length ks)).base + place_of (dims_at part (length ks)) xs) × ((stream_at part (length ks)).base + place_of (dims_at part (length ks)) xs < run.first + run.count))
+      is holds vs h in
+      let number = (stream_at part (length (start arriving))).base + place_of (dims_at part (length (start arriving))) vs in
+      let low = at.0 in
+      let high = at.1 in
+      let from : number ≡ run.first + (number - run.first) = omega (arith, low) in
+      (λ k. slice_index_or contents (from k) Empty) ∙ none (number - run.first) (omega arith) (omega (arith, low, high)));
+}

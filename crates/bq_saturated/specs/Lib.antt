@@ -1,0 +1,3 @@
+pub mod Saturated
+pub mod Known
+pub mod Looking

@@ -1,0 +1,76 @@
+-- A look at one cell after the other, whether it is saturated.
+use Rattle.std.specs.Prelude.{◌≡◌, ◌⊎◌, ℕ, ◌+◌, min, max, ◌*◌, ◌<◌, ◌≤◌, true, ℤ, List, length, nat_eq, if◌then◌else◌, Contains, Some, slice_get}
+use Rattle.bq_model.specs.declared.plan.PartPlan.{PartPlan}
+use Rattle.bq_model.specs.declared.plan.Plan.{Plan}
+use Rattle.bq_model.specs.declared.plan.Plan.TheVariants as plan
+use Rattle.bq_model.specs.Query.{QueryValue}
+use Rattle.bq_model.specs.Plan.{stream_at}
+use Rattle.bq_model.specs.Combinations.{Reading}
+use Rattle.bq_model.specs.Numbers.{share}
+use Rattle.bq_pool.specs.declared.pool.Extent.{Extent}
+use Rattle.bq_pool.specs.Extents.{PoolValue}
+use Rattle.bq_synopsis.specs.Premises.{IsReady}
+use Rattle.bq_index.specs.declared.prepared.PreparedPlan.{PreparedPlan}
+use Rattle.bq_index.specs.Prepared.{IsPreparedPlan}
+use Rattle.bq_laws.specs.Closed.{IsClosed}
+use Rattle.bq_saturated.specs.declared.saturation.Cursor.{Cursor}
+use Rattle.bq_saturated.specs.declared.saturation.Saturation.{Saturation}
+use Rattle.bq_saturated.specs.declared.cursor.Came.{Came}
+use Rattle.bq_saturated.specs.declared.cursor.Step.{Step}
+use Rattle.bq_saturated.specs.Known.{IsBefore, AreSaturated}
+
+-- one cell stands before another, and where all cells before it are saturated, so are all before the other
+abbrev pub LeadsOn : QueryValue → List PartPlan → Reading → Cursor → Cursor → Type 0
+LeadsOn q parts read at next =
+    IsBefore next at.part at.place at.cell
+    × ((table : List (List ℤ)) → AreSaturated (Saturation.Before at) q parts read table → AreSaturated (Saturation.Before next) q parts read table)
+
+-- there is a cell at a cursor
+pub record IsAtCell (q : QueryValue) (parts : List PartPlan) (at : Cursor) : Type 0 where
+  pub part : at.part < length parts
+  pub place : at.place < length q.from
+  pub cell : (part : PartPlan) → slice_get parts at.part ≡ Some part → at.cell < (stream_at part at.place).size
+
+-- the cells of a query with DISTINCT over two streams are ready to be looked at, beside a table of this width; a walk in any part reads at most so many
+pub record CanLook (q : QueryValue) (parts : List PartPlan) (asked : PreparedPlan) (pool : PoolValue) (extent : Extent) (wide most : ℕ) : Type 0 where
+  pub distinct : q.distinct ≡ true
+  pub prepared : IsPreparedPlan q parts asked
+  pub ready : (part : PartPlan) → Contains parts part → IsReady q part pool extent
+  pub width : length q.select ≡ wide
+  pub two : length q.from ≡ 2
+  pub shares : (part : PartPlan) → Contains parts part → share part ≤ most
+
+-- with DISTINCT over two streams the cells of a plan are ready to be looked at, where a walk reads no more than the announced work
+abbrev pub CanLookAt : QueryValue → Plan → PreparedPlan → PoolValue → Extent → ℕ → Type 0
+CanLookAt q plan.Filter asked pool extent wide = Unit {0}
+CanLookAt q (plan.Parts parts numbers) asked pool extent wide = q.distinct ≡ true → length q.from ≡ 2 → CanLook q parts asked pool extent wide numbers.work
+
+-- how many reads a row over two streams leaves of three for each unit of the announced work, if it reads one for each itself
+abbrev pub spare_reads : QueryValue → Plan → ℕ
+spare_reads q plan.Filter = 0
+spare_reads q (plan.Parts parts numbers) = if nat_eq (length q.from) 2 then 2 * numbers.work else 0
+
+-- how many cells a look at a cell of a part reads at most: that one, and of those of the other stream no more than there are, nor than the work
+abbrev pub look_cost : PartPlan → ℕ → ℕ
+look_cost part most = 1 + min most (max (stream_at part 0).size (stream_at part 1).size)
+
+-- what a step of a cursor does: it goes on to a cell up to which all are saturated, or stays where what is left may not do for a look, or comes
+-- to a cell that is not saturated
+abbrev pub HasStepped : QueryValue → List PartPlan → Reading → List (List ℤ) → ℕ → Came → Step → Type 0
+HasStepped q parts read table most from (Step.On to) =
+    (to.left < from.left) × IsBefore to.at from.at.part from.at.place from.at.cell
+    × (AreSaturated (Saturation.Before from.at) q parts read table → AreSaturated (Saturation.Before to.at) q parts read table)
+HasStepped q parts read table most from Step.Stays = from.left ≤ most
+HasStepped q parts read table most from Step.Open = IsClosed q parts read table → ⊥
+
+-- a look over at most so many reads goes on from a cursor, or leaves it where a look at a cell may cost more than that
+abbrev pub HasMoved : Cursor → ℕ → ℕ → Saturation → Type 0
+HasMoved from budget most Saturation.All = Unit {0}
+HasMoved from budget most (Saturation.Before at) = ((at ≡ from) × (budget ≤ most)) ⊎ IsBefore at from.part from.place from.cell
+HasMoved from budget most Saturation.None = Unit {0}
+
+-- how many reads are left after a step
+abbrev pub left_after : ℕ → Step → ℕ
+left_after left (Step.On to) = to.left
+left_after left Step.Stays = left
+left_after left Step.Open = 0

@@ -1,0 +1,243 @@
+//! The look at one cell after the other, after cells were loaded, until all are known to be saturated.
+ghost use Rattle.std.specs.Prelude.{◌≡◌, ℕ, ◌+◌, ◌*◌, ◌<◌, ◌≤◌, ◌^◌, ◌↔◌, true, length, slice_get, slice_index_or, Some, None, IfSome};
+ghost use Rattle.bq_answers.specs.Entries.{tuples_of};
+ghost use Rattle.bq_laws.specs.Closed.{IsClosed, IsSaturated};
+ghost use Rattle.bq_model.specs.Combinations.{read_from};
+ghost use Rattle.bq_model.specs.Numbers.{share};
+ghost use Rattle.bq_model.specs.declared.cell.Cell.TheVariants.{Empty};
+ghost use Rattle.bq_model.specs.declared.plan.PartPlan.{PartPlan};
+ghost use Rattle.bq_pool.specs.Extents.{cells_of, IsLive};
+ghost use Rattle.bq_saturated.specs.declared.saturation.Saturation.TheVariants as saturation;
+ghost use Rattle.bq_saturated.specs.Known.{AreSaturated};
+ghost use Rattle.bq_saturated.specs.Looking.{CanLook, LeadsOn, IsAtCell, HasMoved, HasStepped, left_after, look_cost};
+
+use crate::cell_row::CellPlace;
+use crate::saturated::is_saturated;
+use crate::saturation::{Cursor, Saturation};
+use bq_answers::Answers;
+use bq_index::PreparedPlan;
+use bq_model::{PartPlan, PartPlans, Query, StreamPlan, Tuple};
+use bq_narrow::PartAt;
+use bq_pool::{Extent, Pool, Steps};
+use bq_probe::ProbeScratch;
+use bq_synopsis::stream_at;
+use std::sync::ledger::Ledger;
+
+/// The cells of a query with DISTINCT over two streams: its parts, what they are asked of every row, the extent, and the answer table. A walk over the cells
+/// of any part reads at most `most` of them.
+#[derive(Clone, Copy)]
+pub struct CellsAt<'a> {
+    pub q: &'a Query,
+    pub parts: &'a PartPlans,
+    pub prepared: &'a PreparedPlan,
+    pub extent: &'a Extent,
+    pub table: &'a Answers,
+    pub most: u32,
+}
+
+/// Where a cursor came to, and how many reads are left.
+#[derive(Clone, Copy, Debug, PartialEq, Eq, Drop)]
+pub struct Came {
+    pub at: Cursor,
+    pub left: u64,
+}
+
+/// What a step of a cursor comes to.
+#[derive(Clone, Copy, Debug, PartialEq, Eq, Drop)]
+pub enum Step {
+    /// It goes on.
+    On(Came),
+    /// It stays, since the next cell may cost more reads than are left.
+    Stays,
+    /// The cell at the cursor is not saturated.
+    Open,
+}
+
+// How many cells of a box are passed with no look, since the marks tell that they are empty: from one on all of its page of 64 cells, or that
+// one, or none. So no mark is asked for more than 64 cells.
+fn clear_ahead(pool: &Pool, extent: &Extent, stream: &StreamPlan, cell: u32) -> u32
+    requires live { IsLive pool.now extent.now }
+    requires within { stream.now.base + stream.now.size ≤ 64 * extent.now.pages }
+    requires few { stream.now.base + stream.now.size < 2 ^ 32 }
+    requires inside { cell < stream.now.size }
+    ensures clear { (i : ℕ) → cell ≤ i → i < cell + result → slice_index_or (cells_of pool.now extent.now) (stream.now.base + i) Empty ≡ Empty }
+    ensures within { cell + result ≤ stream.now.size }
+{
+    let first = stream.base + cell;
+    let span = (stream.size - cell).min(64 - first % 64);
+    if pool.is_clear(extent, first, span) {
+        return span;
+    }
+    if pool.is_clear(extent, first, 1) {
+        1
+    } else {
+        0
+    }
+}
+
+// Where a cursor comes to with no look: behind cells that are empty, or to the next box. There is none where it is at a cell that is not.
+fn past_clear(pool: &Pool, all: &CellsAt<'_>, at: Cursor) -> Option<Cursor>
+    requires look { CanLook all.now.q.now all.now.parts.now all.now.prepared.now pool.now all.now.extent.now all.now.table.now.width all.now.most }
+    requires inside { at.part < length all.now.parts.now }
+    ensures on { IfSome result (λ next. LeadsOn all.now.q.now all.now.parts.now (read_from (cells_of pool.now all.now.extent.now)) at next) }
+    ensures there { result ≡ None → IsAtCell all.now.q.now all.now.parts.now at }
+{
+    // Named for the proof alone: the call tells that there are fewer than 2^32 parts.
+    let _parts = all.parts.len();
+    let plan = all.parts.get(at.part);
+    if usize::from(at.place) >= plan.streams.as_slice().len() {
+        return Some(Cursor {
+            part: at.part + 1,
+            place: 0,
+            cell: 0,
+        });
+    }
+    let stream = stream_at(plan, usize::from(at.place));
+    if at.cell >= stream.size {
+        return Some(Cursor {
+            part: at.part,
+            place: at.place + 1,
+            cell: 0,
+        });
+    }
+    let count = clear_ahead(pool, all.extent, stream, at.cell);
+    if count == 0 {
+        return None;
+    }
+    Some(Cursor {
+        part: at.part,
+        place: at.place,
+        cell: at.cell + count,
+    })
+}
+
+// What a look at a cell of a part over two streams costs at most.
+fn cost_in(plan: &PartPlan, most: u32) -> u64
+    requires { length plan.now.streams.items ≡ 2 }
+    ensures { result ≡ look_cost plan.now most }
+{
+    let larger = stream_at(plan, 0).size.max(stream_at(plan, 1).size);
+    1 + u64::from(most.min(larger))
+}
+
+// Whether the cell at a cursor is saturated.
+fn is_saturated_at<L: Ledger>(
+    pool: &Pool,
+    all: &CellsAt<'_>,
+    at: Cursor,
+    room: &mut ProbeScratch,
+    tuple: &mut Tuple,
+    steps: &mut Steps<L>,
+) -> bool
+    requires look { CanLook all.now.q.now all.now.parts.now all.now.prepared.now pool.now all.now.extent.now all.now.table.now.width all.now.most }
+    requires there { IsAtCell all.now.q.now all.now.parts.now at }
+    ensures value { (part : PartPlan) → slice_get all.now.parts.now at.part ≡ Some part → (result ≡ true) ↔ IsSaturated all.now.q.now part (read_from (cells_of pool.now all.now.extent.now)) (tuples_of all.now.table.now.entries) at.place at.cell }
+    ensures reads { (part : PartPlan) → slice_get all.now.parts.now at.part ≡ Some part → steps.new.reads ≤ steps.old.reads + 1 + share part }
+    ensures writes { steps.new.writes ≡ steps.old.writes }
+{
+    let part = PartAt {
+        q: all.q,
+        plan: all.parts.get(at.part),
+        prepared: all.prepared.part(all.q, all.parts, at.part),
+        extent: all.extent,
+    };
+    let cell = CellPlace {
+        pos: at.place,
+        i: at.cell,
+    };
+    is_saturated(pool, &part, cell, room, tuple, all.table, steps)
+}
+
+// The look at the cell at a cursor, behind which the cursor goes where it is saturated.
+fn look_at<L: Ledger>(
+    pool: &Pool,
+    all: &CellsAt<'_>,
+    from: Came,
+    room: &mut ProbeScratch,
+    tuple: &mut Tuple,
+    steps: &mut Steps<L>,
+) -> Step
+    requires look { CanLook all.now.q.now all.now.parts.now all.now.prepared.now pool.now all.now.extent.now all.now.table.now.width all.now.most }
+    requires there { IsAtCell all.now.q.now all.now.parts.now from.at }
+    ensures stepped { HasStepped all.now.q.now all.now.parts.now (read_from (cells_of pool.now all.now.extent.now)) (tuples_of all.now.table.now.entries) all.now.most from result }
+    ensures reads { steps.new.reads + left_after from.left result ≤ steps.old.reads + from.left }
+    ensures writes { steps.new.writes ≡ steps.old.writes }
+{
+    let cost = cost_in(all.parts.get(from.at.part), all.most);
+    if from.left < cost {
+        return Step::Stays;
+    }
+    if !is_saturated_at(pool, all, from.at, room, tuple, steps) {
+        return Step::Open;
+    }
+    let at = Cursor {
+        part: from.at.part,
+        place: from.at.place,
+        cell: from.at.cell + 1,
+    };
+    Step::On(Came {
+        at,
+        left: from.left - cost,
+    })
+}
+
+// A step of a cursor: over cells that are empty, or over one that is looked at.
+fn go_on<L: Ledger>(
+    pool: &Pool,
+    all: &CellsAt<'_>,
+    from: Came,
+    room: &mut ProbeScratch,
+    tuple: &mut Tuple,
+    steps: &mut Steps<L>,
+) -> Step
+    requires look { CanLook all.now.q.now all.now.parts.now all.now.prepared.now pool.now all.now.extent.now all.now.table.now.width all.now.most }
+    requires inside { from.at.part < length all.now.parts.now }
+    ensures stepped { HasStepped all.now.q.now all.now.parts.now (read_from (cells_of pool.now all.now.extent.now)) (tuples_of all.now.table.now.entries) all.now.most from result }
+    ensures reads { steps.new.reads + left_after from.left result ≤ steps.old.reads + from.left }
+    ensures writes { steps.new.writes ≡ steps.old.writes }
+{
+    if from.left == 0 {
+        return Step::Stays;
+    }
+    match past_clear(pool, all, from.at) {
+        Some(at) => Step::On(Came {
+            at,
+            left: from.left - 1,
+        }),
+        None => look_at(pool, all, from, room, tuple, steps),
+    }
+}
+
+/// Returns what is known of the cells of a query with DISTINCT after so many reads at most, where all before a cursor are known to be
+/// saturated: the cursor goes on over cells that are saturated, and when it comes behind the last one all are known to be; where it comes to
+/// one that is not, nothing is known any more. It stays where the next cell may cost more reads than are left. No cell is written.
+pub fn look_on<L: Ledger>(
+    pool: &Pool,
+    all: &CellsAt<'_>,
+    cursor: Cursor,
+    budget: u64,
+    room: &mut ProbeScratch,
+    tuple: &mut Tuple,
+    steps: &mut Steps<L>,
+) -> Saturation
+    requires look { CanLook all.now.q.now all.now.parts.now all.now.prepared.now pool.now all.now.extent.now all.now.table.now.width all.now.most }
+    requires known { AreSaturated (saturation.Before cursor) all.now.q.now all.now.parts.now (read_from (cells_of pool.now all.now.extent.now)) (tuples_of all.now.table.now.entries) }
+    ensures known { AreSaturated result all.now.q.now all.now.parts.now (read_from (cells_of pool.now all.now.extent.now)) (tuples_of all.now.table.now.entries) }
+    ensures moves { HasMoved cursor budget all.now.most result }
+    ensures open { result ≡ saturation.None → IsClosed all.now.q.now all.now.parts.now (read_from (cells_of pool.now all.now.extent.now)) (tuples_of all.now.table.now.entries) → ⊥ }
+    ensures reads { steps.new.reads ≤ steps.old.reads + budget }
+    ensures writes { steps.new.writes ≡ steps.old.writes }
+{
+    let mut came = Came {
+        at: cursor,
+        left: budget,
+    };
+    'cells: while came.at.part < all.parts.len() {
+        match go_on(pool, all, came, room, tuple, steps) {
+            Step::On(next) => came = next,
+            Step::Stays => return Saturation::Before(came.at),
+            Step::Open => return Saturation::None,
+        }
+    }
+    Saturation::All
+}

@@ -1,0 +1,82 @@
+//! The look at cells beside a row, after some were loaded.
+ghost use Rattle.std.specs.Prelude.{◌≡◌, ◌+◌, ◌≤◌, ◌==◌, true, false};
+ghost use Rattle.std.specs.List.{list_any};
+ghost use Rattle.bq_answers.specs.Entries.{tuples_of};
+ghost use Rattle.bq_model.specs.Combinations.{read_from};
+ghost use Rattle.bq_model.specs.Numbers.{parts_of};
+ghost use Rattle.bq_model.specs.declared.plan.Plan.TheVariants as plans;
+ghost use Rattle.bq_pool.specs.Extents.{cells_of};
+ghost use Rattle.bq_saturated.specs.declared.saturation.Saturation.TheVariants as saturation;
+ghost use Rattle.bq_saturated.specs.Known.{AreSaturated};
+ghost use Rattle.bq_saturated.specs.Looking.{CanLookAt, spare_reads};
+
+use crate::cursor::{CellsAt, look_on};
+use crate::saturation::{Cursor, Saturation};
+use bq_answers::Answers;
+use bq_index::PreparedPlan;
+use bq_model::{Plan, Query, Tuple};
+use bq_pool::{Extent, Pool, Steps};
+use bq_probe::ProbeScratch;
+use std::sync::ledger::Ledger;
+
+/// A query whose cells are looked at: its plan, what its parts are asked of every row, the extent of the cells, and the answer table.
+#[derive(Clone, Copy)]
+pub struct LookedAt<'a> {
+    pub q: &'a Query,
+    pub plan: &'a Plan,
+    pub prepared: &'a PreparedPlan,
+    pub extent: &'a Extent,
+    pub table: &'a Answers,
+}
+
+// Whether a stream is one of FROM.
+fn is_named(from: &[u8], stream: u8) -> bool
+    ensures { result ≡ list_any (λ s. stream == s) from.now }
+{
+    from.iter().any(|s| stream == *s)
+}
+
+/// Returns what is known of the cells of a query after some were looked at beside a row of a stream of FROM, from a cursor on: as many as the
+/// announced work leaves room for. With DISTINCT over two streams the cursor goes on; of any other query nothing is looked at.
+pub fn look_beside_row<L: Ledger>(
+    pool: &Pool,
+    all: &LookedAt<'_>,
+    stream: u8,
+    cursor: Cursor,
+    room: &mut ProbeScratch,
+    tuple: &mut Tuple,
+    steps: &mut Steps<L>,
+) -> Saturation
+    requires look { CanLookAt all.now.q.now all.now.plan.now all.now.prepared.now pool.now all.now.extent.now all.now.table.now.width }
+    requires known { all.now.q.now.distinct ≡ true → AreSaturated (saturation.Before cursor) all.now.q.now (parts_of all.now.plan.now) (read_from (cells_of pool.now all.now.extent.now)) (tuples_of all.now.table.now.entries) }
+    ensures known { all.now.q.now.distinct ≡ true → AreSaturated result all.now.q.now (parts_of all.now.plan.now) (read_from (cells_of pool.now all.now.extent.now)) (tuples_of all.now.table.now.entries) }
+    ensures reads { steps.new.reads ≤ steps.old.reads + spare_reads all.now.q.now all.now.plan.now }
+    ensures writes { steps.new.writes ≡ steps.old.writes }
+    ensures alone { all.now.plan.now ≡ plans.Filter → steps.new ≡ steps.old }
+    ensures outside { list_any (λ s. stream == s) all.now.q.now.from ≡ false → steps.new ≡ steps.old }
+{
+    if !all.q.distinct() {
+        return Saturation::None;
+    }
+    if all.q.from().len() != 2 {
+        return Saturation::None;
+    }
+    if !is_named(all.q.from(), stream) {
+        return Saturation::Before(cursor);
+    }
+    match all.plan {
+        Plan::Filter => Saturation::None,
+        Plan::Parts { parts, numbers } => {
+            let cells = CellsAt {
+                q: all.q,
+                parts,
+                prepared: all.prepared,
+                extent: all.extent,
+                table: all.table,
+                most: numbers.work,
+            };
+            let budget = 2 * u64::from(numbers.work);
+            look_on(pool, &cells, cursor, budget, room, tuple, steps)
+        }
+    }
+}
