@@ -277,8 +277,56 @@ def resumed():
     return Workload("hot rooms gone on with from a checkpoint", head, lambda r: f"{r.choice(('Reading', 'Cap'))},{1 + r.randrange(64)},{1001 + r.randrange(1000)}")
 
 
+def payments(name, columns, keys, more=()):
+    """Orders that are paid: a join by the number of the order, with the columns of a payment in this order. One row in eight is a payment. Of a
+    careless order the cells that answer a row stand apart; what is answered is the same. `more` are streams that every order has one row of."""
+    domains = {"status": " IN 1..3", "region": " IN 1..4", "id": ""}
+    selected = [column for column in ("region", "status") if column in columns]
+    head = ["CREATE STREAM Orders (id)", f"CREATE STREAM Paid ({', '.join(column + domains[column] for column in columns)})"]
+    head += [f"CREATE STREAM {stream} (id IN 1..{keys})" for stream in more]
+    links = "".join(f" AND Orders.id = {stream}.id" for stream in more)
+    head += [
+        f"CREATE QUERY q AS SELECT {', '.join('Paid.' + column for column in selected)} FROM {', '.join(('Orders', 'Paid') + tuple(more))} "
+        f"WHERE Orders.id = Paid.id{links} AND Orders.id > 0 AND Orders.id < {keys + 1}"
+    ]
+
+    def one(r):
+        values = {"status": 1 + r.randrange(3), "region": 1 + r.randrange(4), "id": 1 + r.randrange(keys)}
+        if r.randrange(8):
+            return f"{r.choice(('Orders',) + tuple(more))},{values['id']}"
+        return "Paid," + ",".join(str(values[column]) for column in columns)
+
+    python = [
+        "import sys, collections, itertools",
+        f"streams, columns, selected = {('Orders',) + tuple(more)!r}, {tuple(columns)!r}, {tuple(selected)!r}",
+        "came = {stream: collections.Counter() for stream in streams}",
+        "paid = collections.defaultdict(collections.Counter)",
+        "for line in sys.stdin:",
+        "    name, *fields = line.rstrip('\\n').split(',')",
+        "    row = dict(zip(columns, map(int, fields))) if name == 'Paid' else {'id': int(fields[0])}",
+        "    times = 1",
+        "    for stream in streams:",
+        "        times *= 1 if stream == name else came[stream][row['id']]",
+        "    if name == 'Paid':",
+        "        new = tuple(row[column] for column in selected)",
+        "        found = {new: times}",
+        "        paid[row['id']][new] += 1",
+        "    else:",
+        "        found = {answer: times * count for answer, count in paid[row['id']].items()}",
+        "        came[name][row['id']] += 1",
+        "    for answer in sorted(found):",
+        "        sys.stdout.write(('q,' + ','.join(map(str, answer)) + '\\n') * found[answer])",
+    ]
+    return Workload(name, head, one, python="\n".join(python))
+
+
 WORKLOADS = [
     no_query(), with_cr(no_query()), filters(), filters_apart(), four_conditions(False), four_conditions(True), with_cr(filters()),
     joins(), joins_apart(), distinct(), rooms(False), rooms(True), rooms_that_count(False), rooms_that_count(True),
     many_answers(False), many_answers(True), worst(), untouched(1), untouched(8), untouched(64), resumed(),
+    payments("payments by key and status", ("id", "status"), 60000),
+    payments("payments by status and key", ("status", "id"), 60000),
+    payments("payments by region, status and key", ("region", "status", "id"), 10000),
+    payments("payments by region, key and status", ("region", "id", "status"), 10000),
+    payments("payments by status and key, of orders that are sent", ("status", "id"), 20000, ("Sent",)),
 ]

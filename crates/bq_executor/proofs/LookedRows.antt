@@ -1,5 +1,5 @@
 -- An executor that looked at cells beside a row, and then took it.
-use Rattle.std.proofs.Common.{◌≡◌, ℕ, ◌+◌, ◌*◌, ◌≤◌, nat_eq, cond, Bool, true, false, List, [], length, refl, sym, ap, ◌∙◌, subst, arith, All}
+use Rattle.std.proofs.Common.{◌≡◌, ℕ, ◌+◌, ◌-◌, ◌*◌, ◌/◌, ◌≤◌, nat_eq, cond, Bool, true, false, List, [], length, refl, sym, ap, ◌∙◌, subst, arith, All}
 use Rattle.std.proofs.lemmas.List.Elements.{All-contains}
 use Rattle.bq_model.specs.declared.plan.Plan.{Plan}
 use Rattle.bq_model.specs.declared.plan.Plan.TheVariants as plan
@@ -79,7 +79,7 @@ pub rows-and-spare : (q : QueryValue) (p : Plan) → AnnouncesWork p → All (Is
 rows-and-spare q plan.Filter announced own = (let none = rows-upto [] in omega (arith, none))
 rows-and-spare q (plan.Parts parts numbers) announced own = by (nat_eq (length q.from) 2) (nat_true (length q.from) 2)
   where
-    by : (b : Bool) → (b ≡ true → length q.from ≡ 2) → row_reads parts + cond b (2 * numbers.work) 0 ≤ 3 * work parts
+    by : (b : Bool) → (b ≡ true → length q.from ≡ 2) → row_reads parts + cond b (2 * numbers.work - numbers.work / 2) 0 ≤ 3 * work parts
     by true two = (let few = rows-two parts (λ part k. (All-contains (IsPartPlan q) parts part own (Contains-from_has parts part k)).count ∙ two refl) in omega (arith, few, announced))
     by false two = (let few = rows-upto parts in omega (arith, few))
 

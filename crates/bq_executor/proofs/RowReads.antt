@@ -1,5 +1,5 @@
 -- How many cells a row reads at most, beside the share and the work.
-use Rattle.std.proofs.Common.{◌≡◌, ℕ, ◌+◌, ◌-◌, ◌*◌, ◌≤◌, nat_eq, cond, Bool, true, false, refl, List, [], ◌∷◌, length, ap, subst, arith}
+use Rattle.std.proofs.Common.{◌≡◌, ℕ, ◌+◌, ◌-◌, ◌*◌, ◌/◌, ◌≤◌, nat_eq, cond, Bool, true, false, refl, List, [], ◌∷◌, length, ap, subst, arith}
 use Rattle.std.proofs.lemmas.List.Sums.{sum_by-cons}
 use Rattle.bq_model.specs.declared.plan.PartPlan.{PartPlan}
 use Rattle.bq_model.specs.Numbers.{share, work}
@@ -11,35 +11,35 @@ use Rattle.bq_executor.specs.Reads.{most_reads, row_reads}
 pub told-reads : (part : PartPlan) (before after : ℕ) → after ≤ before + share part → after ≤ before + most_reads part
 told-reads part before after few = by (nat_eq (length part.streams.items) 2)
   where
-    by : (b : Bool) → after ≤ before + cond b (share part) (3 * share part)
-    by true = few
+    by : (b : Bool) → after ≤ before + cond b (share part + share part / 2) (3 * share part)
+    by true = omega (arith, few)
     by false = omega (arith, few)
 
--- over two streams nothing was read before a walk, and over more what leaves room for it
-pub walk-reads : (part : PartPlan) (before looked after : ℕ) → (length part.streams.items ≡ 2 → looked ≡ before)
-    → looked + (length part.streams.items - 1) * share part ≤ before + 3 * share part → after ≤ looked + (length part.streams.items - 1) * share part
+-- over two streams at most half the share was read before a walk, and over more what leaves room for it
+pub walk-reads : (part : PartPlan) (before looked after most : ℕ) → (length part.streams.items ≡ 2 → 2 * looked ≤ 2 * before + share part)
+    → looked + most ≤ before + 3 * share part → most ≤ (length part.streams.items - 1) * share part → after ≤ looked + most
     → after ≤ before + most_reads part
-walk-reads part before looked after alone room walked = by (nat_eq (length part.streams.items) 2) (nat_true (length part.streams.items) 2)
+walk-reads part before looked after most alone room few walked = by (nat_eq (length part.streams.items) 2) (nat_true (length part.streams.items) 2)
   where
-    two : (n : ℕ) → n ≡ 2 → after ≤ looked + (n - 1) * share part → looked ≡ before → after ≤ before + share part
-    two n is most same = (let w : after ≤ looked + (2 - 1) * share part = subst (λ (m : ℕ). after ≤ looked + (m - 1) * share part) is most in omega (arith, w, same))
+    two : (n : ℕ) → n ≡ 2 → most ≤ (n - 1) * share part → 2 * looked ≤ 2 * before + share part → after ≤ before + (share part + share part / 2)
+    two n is h half = (let w : most ≤ (2 - 1) * share part = subst (λ (m : ℕ). most ≤ (m - 1) * share part) is h in omega (arith, w, half, walked))
 
-    by : (b : Bool) → (b ≡ true → length part.streams.items ≡ 2) → after ≤ before + cond b (share part) (3 * share part)
-    by true is = two (length part.streams.items) (is refl) walked (alone (is refl))
+    by : (b : Bool) → (b ≡ true → length part.streams.items ≡ 2) → after ≤ before + cond b (share part + share part / 2) (3 * share part)
+    by true is = two (length part.streams.items) (is refl) few (alone (is refl))
     by false is = omega (arith, room, walked)
 
 -- it reads some where the share is some
 pub most-some : (part : PartPlan) → 1 ≤ share part → 1 ≤ most_reads part
 most-some part some = by (nat_eq (length part.streams.items) 2)
   where
-    by : (b : Bool) → 1 ≤ cond b (share part) (3 * share part)
-    by true = some
+    by : (b : Bool) → 1 ≤ cond b (share part + share part / 2) (3 * share part)
+    by true = omega (arith, some)
     by false = omega (arith, some)
 
 most-upto : (part : PartPlan) → most_reads part ≤ 3 * share part
 most-upto part = by (nat_eq (length part.streams.items) 2)
   where
-    by : (b : Bool) → cond b (share part) (3 * share part) ≤ 3 * share part
+    by : (b : Bool) → cond b (share part + share part / 2) (3 * share part) ≤ 3 * share part
     by true = omega arith
     by false = omega arith
 
@@ -52,11 +52,11 @@ rows-upto (part ∷ parts) =
     let reads = sum_by-cons most_reads part parts in
     let all = sum_by-cons share part parts in omega (arith, one, others, reads, all))
 
-two-streams : (part : PartPlan) → length part.streams.items ≡ 2 → most_reads part ≡ share part
-two-streams part two = ap (λ n. cond (nat_eq n 2) (share part) (3 * share part)) two
+two-streams : (part : PartPlan) → length part.streams.items ≡ 2 → most_reads part ≡ share part + share part / 2
+two-streams part two = ap (λ n. cond (nat_eq n 2) (share part + share part / 2) (3 * share part)) two
 
--- and over two streams no more than the work
-pub rows-two : (parts : List PartPlan) → ((part : PartPlan) → Has parts part → length part.streams.items ≡ 2) → row_reads parts ≤ work parts
+-- and over two streams no more than one and a half times the work
+pub rows-two : (parts : List PartPlan) → ((part : PartPlan) → Has parts part → length part.streams.items ≡ 2) → row_reads parts ≤ work parts + work parts / 2
 rows-two [] two = omega arith
 rows-two (part ∷ parts) two =
     (let one = two-streams part (two part first) in

@@ -1,11 +1,10 @@
 //! What a row does in one part: what the cells answer to it waits in the table, and its own cell takes it.
-ghost use Rattle.std.specs.Prelude.{◌≡◌, ◌<◌, ◌≤◌, ◌+◌, ◌-◌, ◌*◌, ◌||◌, length, slice_index_or, true, false, IsTrue, if◌then◌else◌, Some, None, IfSome, MatchOption};
+ghost use Rattle.std.specs.Prelude.{◌≡◌, ◌<◌, ◌≤◌, ◌+◌, ◌*◌, ◌||◌, length, slice_index_or, true, false, IsTrue, if◌then◌else◌, Some, None, IfSome, MatchOption};
 ghost use Rattle.bq_model.specs.declared.cell.Cell.TheVariants as cells;
 ghost use Rattle.bq_model.specs.Admission.{admits};
 ghost use Rattle.bq_model.specs.Meaning.{by_column};
 ghost use Rattle.bq_model.specs.Combinations.{Reading, read_from, found_in};
 ghost use Rattle.bq_model.specs.Probing.{found_beside};
-ghost use Rattle.bq_model.specs.Numbers.{share};
 ghost use Rattle.bq_pool.specs.Extents.{cells_of, with_cells};
 ghost use Rattle.bq_model.specs.Parts.{pairs};
 ghost use Rattle.bq_synopsis.specs.Premises.{IsHeld, IsReady, HasRoom, row_cell};
@@ -14,6 +13,7 @@ ghost use Rattle.bq_synopsis.specs.Preparing.{IsPrepared};
 ghost use Rattle.bq_synopsis.specs.Axes.{IsCell};
 ghost use Rattle.bq_synopsis.specs.Own as own_cells;
 ghost use Rattle.bq_synopsis.specs.Own.{IsOwnCell};
+ghost use Rattle.bq_probe.specs.Costs.{walk_reads};
 ghost use Rattle.bq_probe.specs.Remaining.{as_found};
 ghost use Rattle.bq_answers.specs.Entries.{with_entries, Fits};
 ghost use Rattle.bq_executor.specs.FoundTable.{with_found, with_all, HaveRoom, AreOld};
@@ -112,7 +112,7 @@ fn walk_all<L: Ledger>(
     requires prepared { IsPrepared (pairs part.now.q.now) part.now.plan.now part.now.prepared.now }
     requires room { HaveRoom part.now.q.now.distinct (found_beside part.now.q.now part.now.plan.now (read_from (cells_of pool.now part.now.extent.now)) at.now.pos (by_column at.now.row.now.items)) table.old }
     ensures table { table.new ≡ with_entries table.old (with_all part.now.q.now.distinct (found_beside part.now.q.now part.now.plan.now (read_from (cells_of pool.now part.now.extent.now)) at.now.pos (by_column at.now.row.now.items)) table.old.entries) }
-    ensures reads { steps.new.reads ≤ steps.old.reads + (length part.now.plan.now.streams.items - 1) * share part.now.plan.now }
+    ensures reads { steps.new.reads ≤ steps.old.reads + walk_reads part.now.plan.now at.now.pos }
     ensures writes { steps.new.writes ≡ steps.old.writes }
 {
     let (q, plan, prepared) = (part.q, part.plan, part.prepared);
@@ -139,7 +139,7 @@ fn answer_once<L: Ledger>(
     requires room { HaveRoom part.now.q.now.distinct (found_beside part.now.q.now part.now.plan.now (read_from (cells_of pool.now part.now.extent.now)) at.now.pos (by_column at.now.row.now.items)) table.old }
     requires one { IsDetermined part.now.q.now part.now.plan.now at.now.pos at.now.row.now.items tuple.old.items }
     ensures table { table.new ≡ with_entries table.old (with_all part.now.q.now.distinct (found_beside part.now.q.now part.now.plan.now (read_from (cells_of pool.now part.now.extent.now)) at.now.pos (by_column at.now.row.now.items)) table.old.entries) }
-    ensures reads { steps.new.reads ≤ steps.old.reads + (length part.now.plan.now.streams.items - 1) * share part.now.plan.now }
+    ensures reads { steps.new.reads ≤ steps.old.reads + walk_reads part.now.plan.now at.now.pos }
     ensures writes { steps.new.writes ≡ steps.old.writes }
 {
     let (q, plan, prepared) = (part.q, part.plan, part.prepared);
@@ -167,7 +167,7 @@ fn walk<L: Ledger>(
     requires prepared { IsPrepared (pairs part.now.q.now) part.now.plan.now part.now.prepared.now }
     requires room { HaveRoom part.now.q.now.distinct (found_beside part.now.q.now part.now.plan.now (read_from (cells_of pool.now part.now.extent.now)) at.now.pos (by_column at.now.row.now.items)) table.old }
     ensures table { table.new ≡ with_entries table.old (with_all part.now.q.now.distinct (found_beside part.now.q.now part.now.plan.now (read_from (cells_of pool.now part.now.extent.now)) at.now.pos (by_column at.now.row.now.items)) table.old.entries) }
-    ensures reads { steps.new.reads ≤ steps.old.reads + (length part.now.plan.now.streams.items - 1) * share part.now.plan.now }
+    ensures reads { steps.new.reads ≤ steps.old.reads + walk_reads part.now.plan.now at.now.pos }
     ensures writes { steps.new.writes ≡ steps.old.writes }
 {
     if determined_tuple(part.q, part.plan, at.pos, at.row, tuple) {

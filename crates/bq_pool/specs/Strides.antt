@@ -1,5 +1,5 @@
 -- Cells that stand equally far apart, and the first of them that is not empty.
-use Rattle.std.specs.Prelude.{◌≡◌, ℕ, ◌+◌, ◌*◌, ◌/◌, ◌<◌, ◌≤◌, List, length, slice_index, slice_index_or, Option, MatchOption}
+use Rattle.std.specs.Prelude.{◌≡◌, ℕ, zero, suc, ◌+◌, ◌*◌, ◌/◌, ◌%◌, ◌<◌, ◌≤◌, List, length, slice_index, slice_index_or, Option, MatchOption}
 use Rattle.bq_model.specs.declared.cell.Cell.{Cell}
 use Rattle.bq_model.specs.declared.cell.Cell.TheVariants.{Empty}
 use Rattle.bq_pool.specs.declared.scan.StridedCells.{StridedCells}
@@ -27,6 +27,18 @@ abbrev pub Scanned : (ℕ → Cell) → (from to before : ℕ) → Option Occupi
 Scanned at from to before found after =
     MatchOption found (NoneOccupied at from to × (after + from ≡ before + to))
     (λ occupied. IsFirst at from to occupied × (after + from ≡ before + occupied.next + 1))
+
+-- how many words of marks tell of so many cells side by side from one on: one for each page
+abbrev pub words_over : (first count : ℕ) → ℕ
+words_over first zero = 0
+words_over first (suc more) = (first % 64 + more) / 64 + 1
+
+-- of so many of these cells, which stand side by side from one on, the first one was found that is not empty, if one is not; and each
+-- word of marks that was looked at is one read
+abbrev pub Marked : (ℕ → Cell) → (first count before : ℕ) → Option Occupied → (after : ℕ) → Type 0
+Marked at first count before found after =
+    MatchOption found (NoneOccupied at 0 count × (after ≡ before + words_over first count))
+    (λ occupied. IsFirst at 0 count occupied × (after ≡ before + words_over first (occupied.next + 1)))
 
 -- the table has a page of the cells for that cell of a slot
 pub record HasPage (cells : List Cell) (page_table : List ℕ) (slot i : ℕ) : Type 0 where

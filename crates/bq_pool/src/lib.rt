@@ -9,6 +9,7 @@
 //! stands above can bound its reads and its writes, and cannot make or hide one.
 #![tactic(auto)]
 
+mod counted;
 mod marked;
 mod pages;
 mod pool;

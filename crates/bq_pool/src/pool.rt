@@ -1,13 +1,13 @@
 //! The page pool: a clause sees how many pages are free and the cells of each live extent.
-ghost use Rattle.std.specs.Prelude.{◌≡◌, ℕ, ◌+◌, ◌*◌, ◌<◌, ◌≤◌, length, slice_index, slice_index_or, slice_set, IfOk, MatchResult, true, false};
+ghost use Rattle.std.specs.Prelude.{◌≡◌, ℕ, ◌+◌, ◌*◌, ◌<◌, ◌≤◌, length, slice_index, slice_index_or, slice_set, IfOk, MatchResult};
 ghost use Rattle.bq_pool.specs.Extents.{cells_of, with_cells, IsLive, IsTaken, IsFull, IsGivenBack, live_extents, lent_pages, AreApart, IsFresh};
-ghost use Rattle.bq_pool.specs.Strides.{at_stride, NoneOccupied, Scanned};
+ghost use Rattle.bq_pool.specs.Strides.{at_stride, Scanned, Marked};
 ghost use Rattle.bq_model.specs.declared.cell.Cell.{Cell};
 ghost use Rattle.bq_model.specs.declared.cell.Cell.TheVariants.{Empty as empty};
 
 use crate::marked::MarkedCells;
 use crate::pages::{clear_pages, copy_pages, vacant};
-use crate::scan::{Occupied, StridedCells, first_along, first_beside, is_clear};
+use crate::scan::{Occupied, StridedCells, first_along, first_beside, first_marked};
 use crate::steps::Steps;
 use bq_model::Cell;
 use std::alloc::{AllocError, Global};
@@ -130,12 +130,12 @@ impl Pool {
         ensures reads { steps.new.reads ≡ steps.old.reads + 1 }
         ensures writes { steps.new.writes ≡ steps.old.writes }
     {
-        steps.count_read();
         let i = index as usize;
         let page = self.page_table[usize::from(extent.slot) * PAGES_PER_SLOT + i / CELLS_PER_PAGE];
-        *self
-            .cells
-            .cell(usize::from(page) * CELLS_PER_PAGE + i % CELLS_PER_PAGE)
+        *self.cells.cell(
+            usize::from(page) * CELLS_PER_PAGE + i % CELLS_PER_PAGE,
+            steps,
+        )
     }
 
     /// Returns the first cell of a line of an extent that is not empty, from one place up to another, if one is not. Each cell that is
@@ -177,20 +177,27 @@ impl Pool {
         )
     }
 
-    /// Returns whether all of so many cells of an extent, side by side from one on, are empty. The words of marks tell it, one for each
-    /// page: no cell is read.
-    pub fn is_clear(&self, extent: &Extent, first: u32, count: u32) -> bool
+    /// Returns the first of so many cells of an extent that is not empty, side by side from one on, if one is not. The words of marks tell it, one
+    /// for each page: each word that is looked at is one read, and the cell that is found costs none of its own.
+    pub fn first_marked<L: Ledger>(
+        &self,
+        extent: &Extent,
+        first: u32,
+        count: u32,
+        steps: &mut Steps<L>,
+    ) -> Option<Occupied>
         requires live { IsLive self.now extent.now }
         requires within { first + count ≤ 64 * extent.now.pages }
-        ensures yes { result ≡ true → NoneOccupied (λ i. slice_index_or (cells_of self.now extent.now) (first + i) empty) 0 count }
-        ensures no { result ≡ false → NoneOccupied (λ i. slice_index_or (cells_of self.now extent.now) (first + i) empty) 0 count → ⊥ }
+        ensures reads { Marked (λ i. slice_index_or (cells_of self.now extent.now) (first + i) empty) first count steps.old.reads result steps.new.reads }
+        ensures writes { steps.new.writes ≡ steps.old.writes }
     {
-        is_clear(
+        first_marked(
             &self.cells,
             &self.page_table,
             usize::from(extent.slot),
             first,
             count,
+            steps,
         )
     }
 

@@ -1,11 +1,12 @@
 //! Cells that stand equally far apart, and the first of them that is not empty. Cells side by side are passed by a page at
 //! a time, by its word of marks; of others each is looked up, and none is copied but the one that is found.
-ghost use Rattle.std.specs.Prelude.{◌≡◌, ℕ, ◌+◌, ◌*◌, ◌/◌, ◌%◌, ◌<◌, ◌≤◌, ◌^◌, length, slice_index_or, MatchOption, true, false};
+ghost use Rattle.std.specs.Prelude.{◌≡◌, ℕ, ◌+◌, ◌*◌, ◌/◌, ◌%◌, ◌<◌, ◌≤◌, ◌^◌, ◌⊎◌, length};
 ghost use Rattle.bq_model.specs.declared.cell.Cell.TheVariants.{Empty as empty};
 ghost use Rattle.bq_pool.specs.Places.{cell_at, cell_place};
-ghost use Rattle.bq_pool.specs.Strides.{NoneOccupied, Scanned, HasPage};
+ghost use Rattle.bq_pool.specs.Strides.{Scanned, Marked, HasPage};
 
-use crate::marked::{MarkedCells, is_empty};
+use crate::counted::is_empty;
+use crate::marked::MarkedCells;
 use crate::steps::Steps;
 use bq_model::Cell;
 use std::sync::ledger::Ledger;
@@ -42,6 +43,7 @@ fn run_from(page_table: &[u16], slot: usize, number: usize, most: usize) -> Run
     ensures few { result.count ≤ most }
     ensures start { result.start ≡ cell_place page_table.now slot number }
     ensures page { number % 64 + result.count ≤ 64 }
+    ensures whole { (result.count ≡ most) ⊎ (number % 64 + result.count ≡ 64) }
 {
     let page = usize::from(page_table[slot * 4096 + number / 64]);
     let within = number % 64;
@@ -53,15 +55,23 @@ fn run_from(page_table: &[u16], slot: usize, number: usize, most: usize) -> Run
     }
 }
 
-// The cell of a slot with that number.
-fn cell_of<'a>(cells: &'a MarkedCells, page_table: &[u16], slot: usize, number: usize) -> &'a Cell
+// The cell of a slot with that number. This is one read.
+fn cell_of<'a, L: Ledger>(
+    cells: &'a MarkedCells,
+    page_table: &[u16],
+    slot: usize,
+    number: usize,
+    steps: &mut Steps<L>,
+) -> &'a Cell
     requires slot { slot < 64 }
     requires small { number < 2 ^ 32 }
     requires page { HasPage cells.now page_table.now slot number }
-    ensures { result.now ≡ cell_at cells.now page_table.now slot number }
+    ensures cell { result.now ≡ cell_at cells.now page_table.now slot number }
+    ensures reads { steps.new.reads ≡ steps.old.reads + 1 }
+    ensures writes { steps.new.writes ≡ steps.old.writes }
 {
     let page = usize::from(page_table[slot * 4096 + number / 64]);
-    cells.cell(page * 64 + number % 64)
+    cells.cell(page * 64 + number % 64, steps)
 }
 
 /// Returns the first cell of a slot that is not empty, among those from one place up to another, counted from its cell `first` on.
@@ -84,16 +94,16 @@ pub fn first_beside<L: Ledger>(
     let mut i = from;
     'pages: while i < to {
         let run = run_from(page_table, slot, (first + i) as usize, (to - i) as usize);
-        match cells.first_from(run.start, run.count) {
-            Some(k) => {
-                steps.count_reads(k + 1);
+        match cells.first_from(run.start, run.count, steps) {
+            Some(found) => {
+                steps.count_reads(found.next as usize);
                 return Some(Occupied {
-                    next: i + k as u32,
-                    cell: *cells.cell(run.start + k),
+                    next: i + found.next,
+                    cell: found.cell,
                 });
             }
             None => {
-                steps.count_reads(run.count);
+                steps.count_reads(run.count - 1);
                 i += run.count as u32;
             }
         }
@@ -120,12 +130,12 @@ pub fn first_along<L: Ledger>(
 {
     let mut i = from;
     'cells: while i < to {
-        steps.count_read();
         let seen = cell_of(
             cells,
             page_table,
             slot,
             (strided.first + i * strided.stride) as usize,
+            steps,
         );
         if !is_empty(seen) {
             return Some(Occupied {
@@ -138,28 +148,34 @@ pub fn first_along<L: Ledger>(
     None
 }
 
-/// Returns whether all of so many cells of a slot, side by side from its cell `first` on, are empty. The words of marks tell it: no cell
-/// is read.
-pub fn is_clear(
+/// Returns the first of so many cells of a slot that is not empty, side by side from its cell `first` on. The words of marks tell it: each
+/// word that is looked at is one read, and the cell that is found costs none of its own.
+pub fn first_marked<L: Ledger>(
     cells: &MarkedCells,
     page_table: &[u16],
     slot: usize,
     first: u32,
     count: u32,
-) -> bool
+    steps: &mut Steps<L>,
+) -> Option<Occupied>
     requires slot { slot < 64 }
     requires fits { (i : ℕ) → i < count → first + i < 2 ^ 32 }
     requires pages { (i : ℕ) → i < count → HasPage cells.now page_table.now slot (first + i) }
-    ensures yes { result ≡ true → NoneOccupied (λ i. cell_at cells.now page_table.now slot (first + i)) 0 count }
-    ensures no { result ≡ false → NoneOccupied (λ i. cell_at cells.now page_table.now slot (first + i)) 0 count → ⊥ }
+    ensures reads { Marked (λ i. cell_at cells.now page_table.now slot (first + i)) first count steps.old.reads result steps.new.reads }
+    ensures writes { steps.new.writes ≡ steps.old.writes }
 {
     let mut i = 0;
     'pages: while i < count {
         let run = run_from(page_table, slot, (first + i) as usize, (count - i) as usize);
-        match cells.first_from(run.start, run.count) {
-            Some(_k) => return false,
+        match cells.first_from(run.start, run.count, steps) {
+            Some(found) => {
+                return Some(Occupied {
+                    next: i + found.next,
+                    cell: found.cell,
+                });
+            }
             None => i += run.count as u32,
         }
     }
-    true
+    None
 }

@@ -1,6 +1,6 @@
 -- A walk of which all cells that are left where it begins are empty finds nothing.
 use Rattle.std.proofs.Common.{◌≡◌, ℕ, zero, suc, ◌+◌, ◌-◌, ◌<◌, ◌≤◌, List, [], length, refl, sym, ap, ◌∙◌, subst, arith, ℤ}
-use Rattle.std.specs.Prelude.{slice_index_or}
+use Rattle.std.specs.Prelude.{slice_index_or, false, Option, None, Some, is_some}
 use Rattle.bq_model.specs.Boxes.{box, box_size, place_of, values_at, AreInside}
 use Rattle.bq_model.proofs.BoxLaws.{values-inside, length-box, at-box}
 use Rattle.bq_model.specs.declared.cell.Cell.{Cell}
@@ -22,7 +22,8 @@ use Rattle.bq_probe.proofs.ModelLaws.{combinations-are}
 use Rattle.bq_probe.proofs.NothingLaws.{walk-own, start-beside}
 use Rattle.bq_probe.specs.Ahead.{IsClearAhead}
 use Rattle.bq_probe.specs.Choosing.{Setting, setting, start, cell_at}
-use Rattle.bq_pool.specs.Strides.{NoneOccupied}
+use Rattle.bq_pool.specs.declared.scan.Occupied.{Occupied}
+use Rattle.bq_pool.specs.Strides.{NoneOccupied, Marked, words_over}
 use Rattle.bq_probe.specs.declared.run.CellRun.{CellRun}
 use Rattle.bq_probe.specs.Walk.{walk, opened, entered}
 use Rattle.bq_synopsis.proofs.PlanLaws.{named}
@@ -46,6 +47,21 @@ walk-none w streams l empty = by w.arriving refl streams l empty
     by zero e (suc zero) m h = absurd (omega (arith, m))
     by zero e (suc (suc n)) m h = walk-own w (suc n) [] (sym e) (walk-clear w n (start zero) h)
     by (suc a) e (suc n) m h = walk-clear w n [] h
+
+-- no word of marks told of one
+pub marked-none : (at : ℕ → Cell) (first count before : ℕ) (found : Option Occupied) (after : ℕ) → is_some found ≡ false → Marked at first count before found after → NoneOccupied at 0 count
+marked-none at first count before None after e h = h.0
+marked-none at first count before (Some occupied) after e h = absurd (let z : ⊥ = cc in z)
+
+words-more : (first n m : ℕ) → n ≤ m → words_over first n ≤ words_over first m
+words-more first zero m l = omega arith
+words-more first (suc n) zero l = absurd (omega (arith, l))
+words-more first (suc n) (suc m) l = omega (arith, l)
+
+-- no more words than there are over the cells
+pub marked-words : (at : ℕ → Cell) (first count before : ℕ) (found : Option Occupied) (after : ℕ) → Marked at first count before found after → after ≤ before + words_over first count
+marked-words at first count before None after s = (let r = s.1 in omega (arith, r))
+marked-words at first count before (Some occupied) after s = (let r = s.1 in let b = s.0.below in let w = words-more first (occupied.next + 1) count (omega (arith, b)) in omega (arith, r, w))
 
 -- and so the row is answered nothing
 pub clear-ahead : (q : QueryValue) (part : PartPlan) (arriving : ℕ) (row seen : List ℤ) (ps : List Pair) (read : Reading) → IsWalked q part → arriving < length part.streams.items → ps ≡ pairs q → seen ≡ row

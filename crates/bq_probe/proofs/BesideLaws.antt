@@ -5,6 +5,7 @@ use Rattle.std.specs.Prelude.{Some, None, flat_map, nat_lt, slice_get, slice_ind
 use Rattle.std.specs.List.{list_all}
 use Rattle.std.specs.Ordering.{int_eq}
 use Rattle.std.proofs.lemmas.Bool.Decides.{nat_tests}
+use Rattle.std.proofs.Math.Nat.{mul-le-mul}
 use Rattle.std.proofs.lemmas.List.Folds.{flat_map-map}
 use Rattle.bq_model.specs.Boxes.{box, dim_size, box_size, place_of, values_at, AreNumbered, AreInside}
 use Rattle.bq_model.proofs.BoxLaws.{place-below, values-inside, length-box, at-box, sound-full}
@@ -171,6 +172,26 @@ last-there arriving streams e l = by (arriving == streams - 1) refl
     by : (t : Bool) → (arriving == streams - 1) ≡ t → ((if t then streams - 2 else streams - 1) < streams) × ((if t then streams - 2 else streams - 1) ≢ arriving)
     by true f = let g : arriving ≡ streams - 1 = grind (arith, nat_tests) in (omega (arith, e), λ h. omega (arith, h, g, e))
     by false f = let g : arriving ≢ streams - 1 = grind (arith, nat_tests) in (omega (arith, e), λ h. g (sym h))
+
+-- there are no links
+pub no-links : (links equal : List Link) → links ≡ equal → (empty : Bool) → empty ≡ (length links == 0) → empty ≡ true → equal ≡ []
+no-links [] equal e empty is t = sym e
+no-links (l ∷ links) equal e empty is t = absurd (let f : (suc (length links) == 0) ≡ true = sym is ∙ t in let g : suc (length links) ≡ 0 = grind (arith, nat_tests) in omega (arith, g))
+
+pub last-other : (arriving streams : ℕ) → 2 ≤ streams → last_beside streams arriving ≢ arriving
+last-other arriving streams e = by (arriving == streams - 1) refl
+  where
+    by : (t : Bool) → (arriving == streams - 1) ≡ t → (if t then streams - 2 else streams - 1) ≢ arriving
+    by true f = let g : arriving ≡ streams - 1 = grind (arith, nat_tests) in λ h. omega (arith, h, g, e)
+    by false f = let g : arriving ≢ streams - 1 = grind (arith, nat_tests) in λ h. g (sym h)
+
+-- what is left of the dims of a place has no more values
+pub beside-few : (part : PartPlan) (arriving : ℕ) (row : List ℤ) (place : ℕ) → box_size (beside_dims part arriving row place) ≤ box_size (dims_at part place)
+beside-few part arriving row place = by (dims_at part place)
+  where
+    by : (ds : List Dim) → box_size (map (clip arriving 0 part.less.items (λ a. by_column row a.column)) ds) ≤ box_size ds
+    by [] = omega arith
+    by (d ∷ ds) = mul-le-mul (clip-narrower arriving 0 part.less.items (λ a. by_column row a.column) d).size (by ds)
 
 -- what is left of the dims of a place lies inside them
 pub inner-box : (part : PartPlan) (arriving : ℕ) (row : List ℤ) (place cells : ℕ) → IsLaidOut (stream_at part place) cells → IsInnerBox (dims_at part place) (beside_dims part arriving row place)

@@ -1,5 +1,6 @@
 -- What a walk has before it.
-use Rattle.std.proofs.Common.{◌≡◌, ℕ, zero, suc, ◌+◌, ◌-◌, ◌*◌, ◌<◌, ◌≤◌, ◌==◌, ◌⊎◌, inl, inr, Bool, true, false, not, cond, List, [], ◌∷◌, ◌++◌, filter, length, refl, sym, ap, ◌∙◌, arith, append-nil, if◌then◌else◌, ℤ}
+use Rattle.std.proofs.Common.{◌≡◌, ℕ, zero, suc, ◌+◌, ◌-◌, ◌*◌, ◌<◌, ◌≤◌, ◌==◌, ◌⊎◌, inl, inr, Bool, true, false, not, cond, List, [], ◌∷◌, ◌++◌, filter, length, refl, sym, ap, ◌∙◌, subst, arith, append-nil, ◌≢◌, if◌then◌else◌, ℤ}
+use Rattle.std.specs.Prelude.{nat_lt}
 use Rattle.std.specs.List.{flat_map, range_with_len}
 use Rattle.std.proofs.lemmas.Bool.Decides.{nat_tests}
 use Rattle.std.proofs.Math.Nat.{mul-le-mul, mul-le-mul_left}
@@ -9,18 +10,22 @@ use Rattle.bq_model.specs.declared.plan.PartPlan.{PartPlan}
 use Rattle.bq_model.specs.Query.{QueryValue}
 use Rattle.bq_model.specs.Meaning.{by_column}
 use Rattle.bq_model.specs.Parts.{pairs}
-use Rattle.bq_model.specs.Plan.{dims_at}
+use Rattle.bq_model.specs.Plan.{stream_at, dims_at}
 use Rattle.bq_model.specs.Combinations.{Reading}
 use Rattle.bq_model.specs.Numbers.{equals_some, share}
 use Rattle.bq_model.specs.Probing.{is_known, tried_dims, found_beside}
 use Rattle.bq_model.proofs.BoxLaws.{full-dim-size}
+use Rattle.bq_probe.specs.Beside.{last_beside, third_beside}
 use Rattle.bq_probe.specs.Choosing.{setting}
 use Rattle.bq_probe.specs.Walk.{left, walk_from}
-use Rattle.bq_probe.specs.Costs.{cost_left, below, below_from, reads, read_at, tried_size}
+use Rattle.bq_probe.specs.Costs.{walk_reads, cost_left, below, below_from, reads, read_at, tried_size}
 use Rattle.bq_synopsis.specs.Premises.{IsWalked}
 use Rattle.bq_probe.proofs.WalkLaws.{walk-first, outer-none}
 use Rattle.bq_probe.proofs.CostLaws.{cost-first}
+use Rattle.bq_probe.proofs.StepLaws.{tried-open}
+use Rattle.bq_synopsis.proofs.PlanLaws.{laid-beside}
 use Rattle.bq_probe.proofs.ExactLaws.{walk-is}
+use Rattle.bq_probe.proofs.BesideLaws.{last-there}
 use Rattle.bq_probe.proofs.BreakLaws.{breaks, breaks-inequality}
 use Rattle.bq_synopsis.proofs.PlanLaws.{named}
 use Rattle.bq_probe.proofs.ModelLaws.{combinations-are}
@@ -158,6 +163,32 @@ reads-few q part arriving walked l =
     let e = mul-le-mul d u in
     omega (arith, a, b, e)
 
+-- the combinations of one place are no more than the share
+one-place : (part : PartPlan) (arriving m p place : ℕ) → ((i : ℕ) → AreFull (dims_at part i)) → p ≤ place → place < p + m → tried_size part arriving place ≤ free_share part arriving m p
+one-place part arriving zero p place h low high = absurd (omega (arith, low, high))
+one-place part arriving (suc m) p place h low high = elim (here-or-later place p low) [
+  | inl e ↦
+      let here : tried_size part arriving place ≤ tried_size part arriving p * free_share part arriving m (p + 1)
+      = subst (λ (n : ℕ). tried_size part arriving n ≤ tried_size part arriving p * free_share part arriving m (p + 1)) e (one-at-least (tried_size part arriving p) (free_share part arriving m (p + 1)) (share-positive part arriving m (p + 1) h)) in
+      here
+  | inr later ↦
+      let rest = one-place part arriving m (p + 1) place h later (omega (arith, high)) in
+      let more = more-at-least (tried_size part arriving p) (free_share part arriving m (p + 1)) (size-positive part arriving p (h p)) in
+      omega (arith, rest, more)
+]
+  where
+    more-at-least : (x S : ℕ) → 0 < x → S ≤ x * S
+    more-at-least zero S l = absurd (omega (arith, l))
+    more-at-least (suc x) S l = omega arith
+
+pub tried-share : (q : QueryValue) (part : PartPlan) (arriving place : ℕ) → IsWalked q part → arriving < length part.streams.items → place < length part.streams.items → tried_size part arriving place ≤ share part
+tried-share q part arriving place walked here there =
+    let N = length part.streams.items in
+    let one = one-place part arriving N 0 place (λ i. (named q part walked i).full) (omega arith) (omega (arith, there)) in
+    let s = share-is part arriving N 0 in
+    let t = walked.tried arriving (omega (arith, here, walked.plan.count)) in
+    omega (arith, one, s, t)
+
 -- which is at most three times the share
 pub others-share : (streams S : ℕ) → streams ≤ 4 → (streams - 1) * S ≤ 3 * S
 others-share streams S m = mul-le-mul (let d : streams - 1 ≤ 3 = omega (arith, m) in d) (let e : S ≤ S = omega arith in e)
@@ -171,3 +202,144 @@ one-more streams S m l =
 pub reads-start : (q : QueryValue) (part : PartPlan) (arriving : ℕ) → IsWalked q part → arriving < length part.streams.items → length part.streams.items ≤ 4 →
     cost_left (reads part arriving) (length part.streams.items) [] 0 false ≤ 3 * share part
 reads-start q part arriving walked l m = let a = reads-few q part arriving walked l in let b = others-share (length part.streams.items) (share part) m in omega (arith, a, b)
+
+-- the share for each other stream
+pub walk-few : (q : QueryValue) (part : PartPlan) (arriving : ℕ) → IsWalked q part → arriving < length part.streams.items → walk_reads part arriving ≤ (length part.streams.items - 1) * share part
+unfolding walk_reads
+walk-few q part arriving walked l = reads-few q part arriving walked l
+
+-- over at most three streams a walk leaves one share
+pub walk-three : (q : QueryValue) (part : PartPlan) (arriving : ℕ) → IsWalked q part → arriving < length part.streams.items → length part.streams.items ≤ 3 → walk_reads part arriving ≤ 2 * share part
+walk-three q part arriving walked l m =
+    let a = walk-few q part arriving walked l in
+    let b : (length part.streams.items - 1) * share part ≤ 2 * share part = mul-le-mul (let d : length part.streams.items - 1 ≤ 2 = omega (arith, m) in d) (let e : share part ≤ share part = omega arith in e) in
+    omega (arith, a, b)
+
+-- three sizes, of which the last is not 1
+sizes-top : (E X G : ℕ) → 2 * X ≤ 3 * G → 2 ≤ G → E * (1 + X) ≤ 2 * (E * G)
+sizes-top E X G h g = let a = mul-le-mul_left E h in let b = mul-le-mul_left E g in omega (arith, a, b)
+
+sizes-in : (F L : ℕ) → 2 ≤ L → 2 * (F * (1 + L)) ≤ 3 * (F * L)
+sizes-in F L l = let a = mul-le-mul_left F l in omega (arith, a)
+
+sizes-some : (F L : ℕ) → 0 < F → 2 ≤ L → 2 ≤ F * L
+sizes-some F L f l = let a = mul-le-mul_left F l in omega (arith, a, f)
+
+three-sizes : (E F L : ℕ) → 0 < F → 2 ≤ L → E * (1 + F * (1 + L)) ≤ 2 * (E * (F * L))
+three-sizes E F L f l = sizes-top E (F * (1 + L)) (F * L) (sizes-in F L l) (sizes-some F L f l)
+
+-- and a look at the last of them, where one of the last two is not 1
+three-room : (E F L : ℕ) → 0 < E → 0 < F → 0 < L → (2 ≤ F) ⊎ (2 ≤ L) → E * (1 + F * (1 + L)) + L ≤ 3 * (E * (F * L))
+three-room E F L e f l (inr h) =
+    (let a = three-sizes E F L f h in
+    let b = mul-le-mul e (let c = mul-le-mul f (let d : L ≤ L = omega arith in d) in c) in
+    omega (arith, a, b))
+three-room E F L e f l (inl h) =
+    (let fl = mul-le-mul h (let d : L ≤ L = omega arith in d) in
+    let a = mul-le-mul_left E fl in
+    let b = mul-le-mul_left E (let o : 1 ≤ L = l in o) in
+    let c = mul-le-mul (let o : 1 ≤ E = e in o) (let d : L ≤ L = omega arith in d) in
+    let g = mul-le-mul_left F (let o : 1 ≤ L = l in o) in
+    let h2 = mul-le-mul_left E g in
+    omega (arith, a, b, c, h2))
+
+-- and an arriving row between them
+abbrev four_reads : (s e : ℕ → ℕ) → ℕ
+four_reads s e = s 0 * (e 0 + (s 1 * (e 1 + (s 2 * (e 2 + (s 3 * (e 3 + 0) + 0)) + 0)) + 0)) + 0
+
+abbrev four_sizes : (ℕ → ℕ) → ℕ
+four_sizes s = s 0 * (s 1 * (s 2 * (s 3 * 1)))
+
+record IsOwn (s e : ℕ → ℕ) (own : ℕ) : Type 0 where
+  one : s own ≡ 1
+  none : e own ≡ 0
+  other : (p : ℕ) → p ≢ own → e p ≡ 1
+  some : (p : ℕ) → 0 < s p
+
+four-few : (s e : ℕ → ℕ) (own : ℕ) → IsOwn s e own → own < 4 → (2 ≤ s (third_beside own)) ⊎ (2 ≤ s (last_beside 4 own)) → four_reads s e + s (last_beside 4 own) ≤ 3 * four_sizes s
+four-few s e zero is below two =
+    (let h = three-room (s 1) (s 2) (s 3) (is.some 1) (is.some 2) (is.some 3) two in
+    let a = is.one in let z = is.none in let b = is.other 1 (omega arith) in let c = is.other 2 (omega arith) in let d = is.other 3 (omega arith) in
+    rw (a, z, b, c, d) (omega (arith, h)))
+four-few s e (suc zero) is below two =
+    (let h = three-room (s 0) (s 2) (s 3) (is.some 0) (is.some 2) (is.some 3) two in
+    let a = is.one in let z = is.none in let b = is.other 0 (omega arith) in let c = is.other 2 (omega arith) in let d = is.other 3 (omega arith) in
+    rw (a, z, b, c, d) (omega (arith, h)))
+four-few s e (suc (suc zero)) is below two =
+    (let h = three-room (s 0) (s 1) (s 3) (is.some 0) (is.some 1) (is.some 3) two in
+    let a = is.one in let z = is.none in let b = is.other 0 (omega arith) in let c = is.other 1 (omega arith) in let d = is.other 3 (omega arith) in
+    rw (a, z, b, c, d) (omega (arith, h)))
+four-few s e (suc (suc (suc zero))) is below two =
+    (let h = three-room (s 0) (s 1) (s 2) (is.some 0) (is.some 1) (is.some 2) two in
+    let a = is.one in let z = is.none in let b = is.other 0 (omega arith) in let c = is.other 1 (omega arith) in let d = is.other 2 (omega arith) in
+    rw (a, z, b, c, d) (omega (arith, h)))
+four-few s e (suc (suc (suc (suc n)))) is below two = absurd (omega (arith, below))
+
+own-size : (part : PartPlan) (arriving : ℕ) → tried_size part arriving arriving ≡ 1
+unfolding tried_size
+own-size part arriving = by (arriving == arriving) refl
+  where
+    by : (t : Bool) → (arriving == arriving) ≡ t → box_size (if t then [] else filter (λ d. not (equals_some part d.attr (is_known arriving arriving))) (dims_at part arriving)) ≡ 1
+    by true e = omega arith
+    by false e = absurd (grind (arith, nat_tests))
+
+read-other : (arriving p : ℕ) → p ≢ arriving → read_at arriving p ≡ 1
+read-other arriving p e = by (p == arriving) refl
+  where
+    by : (t : Bool) → (p == arriving) ≡ t → ◌≡◌ {A = ℕ} (if t then 0 else 1) 1
+    by true f = absurd (e (grind (arith, nat_tests)))
+    by false f = refl
+
+-- over four streams a walk leaves a look at the last place, where it or the one before has several cells
+pub walk-four : (q : QueryValue) (part : PartPlan) (arriving : ℕ) → IsWalked q part → arriving < length part.streams.items → length part.streams.items ≡ 4
+    → (2 ≤ tried_size part arriving (third_beside arriving)) ⊎ (2 ≤ tried_size part arriving (last_beside (length part.streams.items) arriving))
+    → walk_reads part arriving + tried_size part arriving (last_beside (length part.streams.items) arriving) ≤ 3 * share part
+unfolding walk_reads cost_left
+walk-four q part arriving walked l four two =
+    let full : (i : ℕ) → AreFull (dims_at part i) = λ i. (named q part walked i).full in
+    let own : IsOwn (tried_size part arriving) (read_at arriving) arriving = record { one = own-size part arriving; none = read-here arriving arriving refl; other = read-other arriving; some = λ p. size-positive part arriving p (full p) } in
+    let few = four-few (tried_size part arriving) (read_at arriving) arriving own (omega (arith, l, four)) (subst (λ (n : ℕ). (2 ≤ tried_size part arriving (third_beside arriving)) ⊎ (2 ≤ tried_size part arriving (last_beside n arriving))) four two) in
+    let N = length part.streams.items in
+    let z : N - 0 ≡ N = omega arith in
+    let a : below_from (reads part arriving) (N - 0) 0 0 ≡ below (reads part arriving) 4 0 = (λ k. below_from (reads part arriving) (z k) 0 0) ∙ cost-first (reads part arriving) N 0 ∙ ap (λ n. below (reads part arriving) n 0) four in
+    let last = ap (λ (n : ℕ). tried_size part arriving (last_beside n arriving)) four in
+    let s = share-is part arriving N 0 in
+    let t = walked.tried arriving (omega (arith, l, walked.plan.count)) in
+    let u : free_share part arriving 4 0 ≤ share part = subst (λ (n : ℕ). free_share part arriving n 0 ≤ share part) four (omega (arith, s, t)) in
+    omega (arith, a, few, u, last)
+
+third-there : (arriving : ℕ) → (third_beside arriving < 3) × (third_beside arriving ≢ arriving)
+third-there arriving = by (nat_lt arriving 2) refl
+  where
+    by : (t : Bool) → nat_lt arriving 2 ≡ t → ((if t then 2 else 1) < 3) × ((if t then 2 else 1) ≢ arriving)
+    by true f = let g : arriving < 2 = grind (arith, nat_tests) in (omega arith, λ h. omega (arith, h, g))
+    by false f = let g : 2 ≤ arriving = grind (arith, nat_tests) in (omega arith, λ h. omega (arith, h, g))
+
+-- a look ahead and a walk behind it read no more than three times the share
+pub look-and-walk : (q : QueryValue) (part : PartPlan) (arriving : ℕ) → IsWalked q part → arriving < length part.streams.items → length part.streams.items ≤ 3
+    → (before looked : ℕ) → looked ≤ before + share part → looked + walk_reads part arriving ≤ before + 3 * share part
+look-and-walk q part arriving walked l few before looked h = let w = walk-three q part arriving walked l few in omega (arith, w, h)
+
+pub walk-alone : (q : QueryValue) (part : PartPlan) (arriving : ℕ) → IsWalked q part → arriving < length part.streams.items → length part.streams.items ≤ 4 → walk_reads part arriving ≤ 3 * share part
+walk-alone q part arriving walked l few = let w = walk-few q part arriving walked l in let m = others-share (length part.streams.items) (share part) few in omega (arith, w, m)
+
+-- nothing is looked at, or there is room for the look
+pub look-and-walk-four : (q : QueryValue) (part : PartPlan) (arriving : ℕ) → IsWalked q part → arriving < length part.streams.items → 3 < length part.streams.items → length part.streams.items ≤ 4
+    → (2 ≤ (stream_at part (third_beside arriving)).size) ⊎ (2 ≤ (stream_at part (last_beside (length part.streams.items) arriving)).size)
+    → (before looked : ℕ) → (looked ≡ before) ⊎ ((2 < length part.streams.items) × (part.equal.items ≡ []) × (looked ≤ before + tried_size part arriving (last_beside (length part.streams.items) arriving)))
+    → looked + walk_reads part arriving ≤ before + 3 * share part
+look-and-walk-four q part arriving walked l many few two before looked (inl same) =
+    (let w = walk-few q part arriving walked l in let m = others-share (length part.streams.items) (share part) few in omega (arith, w, m, same))
+look-and-walk-four q part arriving walked l many few two before looked (inr look) =
+    (let N = length part.streams.items in
+    let four : N ≡ 4 = omega (arith, many, few) in
+    let there = last-there arriving N (omega (arith, many)) l in
+    let third = third-there arriving in
+    let at : (place : ℕ) → place < N → place ≢ arriving → 2 ≤ (stream_at part place).size → 2 ≤ tried_size part arriving place
+    = λ place below other some. (let o = tried-open part arriving place look.1 other in let z = (laid-beside q part walked walked.cells (omega arith) arriving place l below other).size in omega (arith, o, z, some)) in
+    let tried : (2 ≤ tried_size part arriving (third_beside arriving)) ⊎ (2 ≤ tried_size part arriving (last_beside N arriving)) = elim two [
+      | inl h ↦ inl (at (third_beside arriving) (omega (arith, third.0, many)) third.1 h)
+      | inr h ↦ inr (at (last_beside N arriving) there.0 there.1 h)
+    ] in
+    let w = walk-four q part arriving walked l four tried in
+    let r = look.2 in omega (arith, w, r))

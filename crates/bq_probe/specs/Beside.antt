@@ -1,5 +1,5 @@
 -- What the arriving row's own columns leave at another place, before anything is chosen there.
-use Rattle.std.specs.Prelude.{◌≡◌, ℕ, ◌+◌, ◌-◌, ◌<◌, ◌==◌, ℤ, List, map, slice_index_or, if◌then◌else◌}
+use Rattle.std.specs.Prelude.{◌≡◌, ℕ, ◌+◌, ◌-◌, ◌<◌, ◌==◌, nat_lt, ℤ, List, map, slice_index_or, if◌then◌else◌}
 use Rattle.bq_model.specs.Boxes.{box_size, values_at, place_of, AreNumbered, AreInside}
 use Rattle.bq_model.specs.Combinations.{Reading}
 use Rattle.bq_model.specs.Meaning.{by_column}
@@ -14,6 +14,10 @@ use Rattle.bq_synopsis.specs.Narrowing.{clip}
 -- the last place that a walk over so many streams comes to
 abbrev pub last_beside : ℕ → ℕ → ℕ
 last_beside streams arriving = if arriving == streams - 1 then streams - 2 else streams - 1
+
+-- the place that a walk over four streams comes to before it
+abbrev pub third_beside : ℕ → ℕ
+third_beside arriving = if nat_lt arriving 2 then 2 else 1
 
 -- the dims of a place, each with the values that the inequalities with the row's own columns leave
 abbrev pub beside_dims : PartPlan → ℕ → List ℤ → ℕ → List Dim

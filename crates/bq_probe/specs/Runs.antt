@@ -1,8 +1,14 @@
 -- Cells side by side among which are all that are left at a place.
-use Rattle.std.specs.Prelude.{ℕ, ℤ, ◌+◌, ◌*◌, ◌<◌, ◌≤◌, ◌-ℤ◌, ◌≤ℤ◌, nat_abs}
+use Rattle.std.specs.Prelude.{ℕ, ℤ, Option, None, Some, ◌+◌, ◌*◌, ◌<◌, ◌≤◌, ◌-ℤ◌, ◌≤ℤ◌, nat_abs}
 use Rattle.bq_model.specs.Boxes.{dim_size}
+use Rattle.bq_model.specs.declared.atom.Attr.{Attr}
 use Rattle.bq_model.specs.declared.plan.Dim.{Dim}
 use Rattle.bq_probe.specs.declared.run.CellRun.{CellRun}
+
+-- a dim counts with all its values where no known column fixes it, and else with one
+abbrev pub free_dim : Dim → Option Attr → ℕ
+free_dim d None = dim_size d
+free_dim d (Some a) = 1
 
 -- of the places in a run, those with a value that is left of one dim more lie in another run
 pub record IsLonger (left dim : Dim) (run longer : CellRun) : Type 0 where

@@ -1,17 +1,19 @@
 //! Rows whose own columns leave, at the last place that a walk would come to, no cell that holds anything.
-ghost use Rattle.std.specs.Prelude.{◌≡◌, ◌*◌, ◌≤◌, [], ◌∷◌, length, true};
+ghost use Rattle.std.specs.Prelude.{◌≡◌, ◌⊎◌, ◌+◌, ◌*◌, ◌<◌, ◌≤◌, [], ◌∷◌, length, true, false};
 ghost use Rattle.bq_model.specs.Combinations.{read_from};
 ghost use Rattle.bq_model.specs.Meaning.{by_column};
-ghost use Rattle.bq_model.specs.Plan.{stream_at};
+ghost use Rattle.bq_model.specs.Boxes.{box_size};
+ghost use Rattle.bq_model.specs.Plan.{stream_at, dims_at};
 ghost use Rattle.bq_pool.specs.Extents.{cells_of, IsLive};
-ghost use Rattle.bq_probe.specs.Beside.{last_beside, beside_dims, IsEmptyBeside, IsInnerBox, IsEmptyIn};
+ghost use Rattle.bq_probe.specs.Beside.{last_beside, third_beside, beside_dims, IsEmptyBeside, IsInnerBox, IsEmptyIn};
 ghost use Rattle.bq_synopsis.specs.Premises.{IsLaidOut};
 ghost use Rattle.bq_synopsis.specs.Narrowing.{clip_by, clip};
 
 use bq_model::{Dim, Link, PartPlan, StreamPlan, dims_at, is_same, size_of, value_at};
 use bq_narrow::{Dims, above, below, dim_size, line_of, offset_of};
-use bq_pool::{Extent, Pool};
+use bq_pool::{Extent, Pool, Steps};
 use bq_synopsis::{is_known, stream_at};
+use std::sync::ledger::Ledger;
 
 // The dim with the values that an inequality with a column of the row leaves.
 fn clip_by(arriving: u8, row: &[i64], link: Link, dim: Dim) -> Dim
@@ -48,11 +50,19 @@ fn beside_dims(part: &PartPlan, arriving: u8, row: &[i64], place: usize, dims: &
 }
 
 // Whether the cells of a box for the values of these dims are seen to be empty, where they stand side by side.
-fn holds_nothing(pool: &Pool, e: &Extent, plan: &StreamPlan, dims: &[Dim]) -> bool
+fn holds_nothing<L: Ledger>(
+    pool: &Pool,
+    e: &Extent,
+    plan: &StreamPlan,
+    dims: &[Dim],
+    steps: &mut Steps<L>,
+) -> bool
     requires live { IsLive pool.now e.now }
     requires laid { IsLaidOut plan.now (64 * e.now.pages) }
     requires inner { IsInnerBox plan.now.dims.items dims.now }
-    ensures { result ≡ true → IsEmptyIn plan.now (cells_of pool.now e.now) dims.now }
+    ensures empty { result ≡ true → IsEmptyIn plan.now (cells_of pool.now e.now) dims.now }
+    ensures reads { steps.new.reads ≤ steps.old.reads + box_size dims.now }
+    ensures writes { steps.new.writes ≡ steps.old.writes }
 {
     let size = size_of(dims);
     if size == 0 {
@@ -64,22 +74,39 @@ fn holds_nothing(pool: &Pool, e: &Extent, plan: &StreamPlan, dims: &[Dim]) -> bo
     if line.stride != 1 {
         return false;
     }
-    pool.is_clear(e, line.first, size)
+    pool.first_marked(e, line.first, size, steps).is_none()
 }
 
 // Whether the cells of a box of one dim are seen to be empty for these of its values.
-fn holds_none(pool: &Pool, e: &Extent, plan: &StreamPlan, whole: Dim, left: Dim) -> bool
+fn holds_none<L: Ledger>(
+    pool: &Pool,
+    e: &Extent,
+    plan: &StreamPlan,
+    whole: Dim,
+    left: Dim,
+    steps: &mut Steps<L>,
+) -> bool
     requires live { IsLive pool.now e.now }
     requires laid { IsLaidOut plan.now (64 * e.now.pages) }
     requires only { plan.now.dims.items ≡ whole ∷ [] }
     requires inner { IsInnerBox plan.now.dims.items (left ∷ []) }
-    ensures { result ≡ true → IsEmptyIn plan.now (cells_of pool.now e.now) (left ∷ []) }
+    ensures empty { result ≡ true → IsEmptyIn plan.now (cells_of pool.now e.now) (left ∷ []) }
+    ensures reads { steps.new.reads ≤ steps.old.reads + box_size (left ∷ []) }
+    ensures writes { steps.new.writes ≡ steps.old.writes }
 {
     let size = dim_size(left);
     if size == 0 {
         return true;
     }
-    pool.is_clear(e, plan.base + offset_of(whole, left), size)
+    pool.first_marked(e, plan.base + offset_of(whole, left), size, steps)
+        .is_none()
+}
+
+// The place that a walk over four streams comes to before the last one.
+fn third_beside(arriving: u8) -> usize
+    ensures { result ≡ third_beside arriving }
+{
+    if arriving < 2 { 2 } else { 1 }
 }
 
 // The last place that a walk comes to.
@@ -94,27 +121,43 @@ fn last_beside(streams: usize, arriving: u8) -> usize
     }
 }
 
-/// Returns whether it is seen that the row's own columns leave no cell that holds anything at the last place that a walk comes to. No
-/// cell is read.
-pub fn leaves_nothing(
+/// Returns whether the last two places that a walk over four streams comes to have one cell each: then it may read all that three times the
+/// share leaves.
+pub fn has_single_cells(part: &PartPlan, arriving: u8) -> bool
+    requires four { 3 < length part.now.streams.items }
+    ensures { result ≡ false → (2 ≤ (stream_at part.now (third_beside arriving)).size) ⊎ (2 ≤ (stream_at part.now (last_beside (length part.now.streams.items) arriving)).size) }
+{
+    if stream_at(part, third_beside(arriving)).size > 1 {
+        return false;
+    }
+    let last = last_beside(part.streams.as_slice().len(), arriving);
+    stream_at(part, last).size <= 1
+}
+
+/// Returns whether it is seen that the row's own columns leave no cell that holds anything at the last place that a walk comes to. A
+/// word of marks that is looked at is one read.
+pub fn leaves_nothing<L: Ledger>(
     pool: &Pool,
     e: &Extent,
     part: &PartPlan,
     arriving: u8,
     row: &[i64],
     dims: &mut Dims,
+    steps: &mut Steps<L>,
 ) -> bool
     requires several { 2 ≤ length part.now.streams.items }
     requires live { IsLive pool.now e.now }
     requires laid { IsLaidOut (stream_at part.now (last_beside (length part.now.streams.items) arriving)) (64 * e.now.pages) }
-    ensures { result ≡ true → IsEmptyBeside part.now (read_from (cells_of pool.now e.now)) arriving row.now (last_beside (length part.now.streams.items) arriving) }
+    ensures empty { result ≡ true → IsEmptyBeside part.now (read_from (cells_of pool.now e.now)) arriving row.now (last_beside (length part.now.streams.items) arriving) }
+    ensures reads { steps.new.reads ≤ steps.old.reads + box_size (dims_at part.now (last_beside (length part.now.streams.items) arriving)) }
+    ensures writes { steps.new.writes ≡ steps.old.writes }
 {
     let place = last_beside(part.streams.as_slice().len(), arriving);
     let plan = stream_at(part, place);
     if let [dim] = plan.dims.as_slice() {
         let left = clip(arriving, row, part.less.as_slice(), *dim);
-        return holds_none(pool, e, plan, *dim, left);
+        return holds_none(pool, e, plan, *dim, left, steps);
     }
     beside_dims(part, arriving, row, place, dims);
-    holds_nothing(pool, e, plan, dims.as_slice())
+    holds_nothing(pool, e, plan, dims.as_slice(), steps)
 }

@@ -12,7 +12,7 @@ ghost use Rattle.bq_model.specs.declared.cell.Cell.TheVariants.{Present};
 ghost use Rattle.bq_pool.specs.Extents.{cells_of, IsLive};
 ghost use Rattle.bq_probe.specs.Choosing.{start, chosen, cell_in, meets_links, tuple_of, product_of};
 ghost use Rattle.bq_narrow.specs.Narrowed.{dims_in};
-ghost use Rattle.bq_probe.specs.Costs.{read_at};
+ghost use Rattle.bq_probe.specs.Costs.{read_at, walk_reads};
 ghost use Rattle.bq_narrow.specs.Lined.{StandOn};
 ghost use Rattle.bq_probe.specs.Repeats.{IsTold, ArePassed};
 ghost use Rattle.bq_synopsis.specs.Preparing.{IsPrepared};
@@ -118,6 +118,7 @@ impl<'a> Probe<'a> {
         ensures ones { (read : Reading) → AreFitting part.now read → q.now.distinct ≡ true → All (λ f. f.count ≡ 1) (left_of q.now.select part.now read result) }
         ensures reads { reads_left part.now result ≤ 3 * share part.now }
         ensures few { reads_left part.now result ≤ (length part.now.streams.items - 1) * share part.now }
+        ensures whole { reads_left part.now result ≤ walk_reads part.now pos }
     {
         // Read for the proof alone: the call tells how many streams there are.
         let _from = q.from();

@@ -1,5 +1,5 @@
 //! Room for a walk, and the values that there are to try at the next place.
-ghost use Rattle.std.specs.Prelude.{◌≡◌, ◌≢◌, ◌*◌, ◌<◌, ◌^◌, length, [], ◌∷◌, ◌++◌, IfSome, map, true, false, Option, Some};
+ghost use Rattle.std.specs.Prelude.{◌≡◌, ◌≢◌, ◌⊎◌, ◌+◌, ◌*◌, ◌<◌, ◌≤◌, ◌^◌, length, [], ◌∷◌, ◌++◌, IfSome, map, true, false, Option, Some};
 ghost use Rattle.bq_model.specs.Boxes.{box_size, values_at, AreInside, AreNumbered};
 ghost use Rattle.bq_model.specs.Combinations.{Reading, read_from};
 ghost use Rattle.bq_model.specs.Parts.{pairs};
@@ -8,6 +8,7 @@ ghost use Rattle.bq_pool.specs.Extents.{cells_of, IsLive};
 ghost use Rattle.bq_probe.specs.Ahead.{IsClearAhead};
 ghost use Rattle.bq_probe.specs.Beside.{last_beside, IsEmptyBeside};
 ghost use Rattle.bq_probe.specs.Choosing.{setting, start, both, chosen};
+ghost use Rattle.bq_probe.specs.Costs.{tried_size};
 ghost use Rattle.bq_probe.specs.Joining.{Tells};
 ghost use Rattle.bq_probe.specs.declared.join.FirstLook.TheVariants as look;
 ghost use Rattle.bq_probe.specs.Walk.{walk};
@@ -26,8 +27,9 @@ use bq_narrow::{
     Counts, Dims, RowAt, fixed_dims, is_empty, line_of, narrowed_dims, pinned_dims, rows_in,
     single_dims,
 };
-use bq_pool::{Extent, Pool, StridedCells};
+use bq_pool::{Extent, Pool, Steps, StridedCells};
 use bq_synopsis::{is_scan, may_look_up, stream_at};
+use std::sync::ledger::Ledger;
 
 /// Room for a walk. What it holds between two walks means nothing.
 #[derive(Drop, Default)]
@@ -251,39 +253,53 @@ impl ProbeScratch {
         FirstLook::One(rows_in(cell))
     }
 
-    /// Tells whether cells among which are all that are left where a walk begins are seen to be empty, where links say that columns are
-    /// equal. No cell is read.
-    pub(crate) fn is_clear_ahead(&self, pool: &Pool, e: &Extent, at: &RowAt<'_>) -> bool
+    /// Tells whether the cells that the equalities leave where a walk begins are seen to be empty, where they stand side by side. A word of
+    /// marks that is looked at is one read, and they are no more than half the cells that a walk tries.
+    pub(crate) fn is_clear_ahead<L: Ledger>(
+        &self,
+        pool: &Pool,
+        e: &Extent,
+        at: &RowAt<'_>,
+        steps: &mut Steps<L>,
+    ) -> bool
         requires chosen { self.now.chosen.items ≡ start at.now.arriving }
         requires live { IsLive pool.now e.now }
         requires prepared { IsPrepared at.now.pairs.now at.now.part.now at.now.prepared.now }
         requires laid { length (start at.now.arriving) < length at.now.part.now.streams.items → IsLaidOut (stream_at at.now.part.now (length (start at.now.arriving))) (64 * e.now.pages) }
-        ensures { result ≡ true → IsClearAhead at.now.pairs.now at.now.part.now (read_from (cells_of pool.now e.now)) at.now.arriving at.now.row.now }
+        ensures clear { result ≡ true → IsClearAhead at.now.pairs.now at.now.part.now (read_from (cells_of pool.now e.now)) at.now.arriving at.now.row.now }
+        ensures reads { (steps.new.reads ≡ steps.old.reads) ⊎ ((length (start at.now.arriving) < length at.now.part.now.streams.items) × (2 * steps.new.reads ≤ 2 * steps.old.reads + tried_size at.now.part.now at.now.arriving (length (start at.now.arriving)))) }
+        ensures writes { steps.new.writes ≡ steps.old.writes }
     {
-        if at.part.equal.as_slice().is_empty() {
-            return false;
-        }
         if self.chosen.len() >= at.part.streams.as_slice().len() {
             return false;
         }
-        let run = run_of(at, self.chosen.as_slice());
-        pool.is_clear(e, run.first, run.count)
+        let Some(run) = run_of(at, self.chosen.as_slice()) else {
+            return false;
+        };
+        if !run.is_worth_a_look() {
+            return false;
+        }
+        pool.first_marked(e, run.first, run.count, steps).is_none()
     }
 
     /// Tells whether it is seen that the row's own columns leave no cell that holds anything at the last place that a walk comes to. Over
-    /// two streams a walk sees that itself, and where links say that columns are equal one cell mostly tells it. No cell is read.
+    /// two streams a walk sees that itself, and where links say that columns are equal one cell mostly tells it. A word of marks that is
+    /// looked at is one read.
     #[inline(never)]
-    pub(crate) fn is_cut_off(
+    pub(crate) fn is_cut_off<L: Ledger>(
         &mut self,
         pool: &Pool,
         e: &Extent,
         part: &PartPlan,
         arriving: u8,
         row: &[i64],
+        steps: &mut Steps<L>,
     ) -> bool
         requires live { IsLive pool.now e.now }
         requires laid { 2 < length part.now.streams.items → IsLaidOut (stream_at part.now (last_beside (length part.now.streams.items) arriving)) (64 * e.now.pages) }
-        ensures { result ≡ true → (2 < length part.now.streams.items) × IsEmptyBeside part.now (read_from (cells_of pool.now e.now)) arriving row.now (last_beside (length part.now.streams.items) arriving) }
+        ensures empty { result ≡ true → (2 < length part.now.streams.items) × IsEmptyBeside part.now (read_from (cells_of pool.now e.now)) arriving row.now (last_beside (length part.now.streams.items) arriving) }
+        ensures reads { (steps.new.reads ≡ steps.old.reads) ⊎ ((2 < length part.now.streams.items) × (part.now.equal.items ≡ []) × (steps.new.reads ≤ steps.old.reads + tried_size part.now arriving (last_beside (length part.now.streams.items) arriving))) }
+        ensures writes { steps.new.writes ≡ steps.old.writes }
     {
         if part.streams.as_slice().len() < 3 {
             return false;
@@ -291,7 +307,7 @@ impl ProbeScratch {
         if !part.equal.as_slice().is_empty() {
             return false;
         }
-        leaves_nothing(pool, e, part, arriving, row, &mut self.dims)
+        leaves_nothing(pool, e, part, arriving, row, &mut self.dims, steps)
     }
 
     // Takes up a cell with the values at a place of these dims.

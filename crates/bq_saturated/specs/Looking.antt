@@ -1,5 +1,6 @@
 -- A look at one cell after the other, whether it is saturated.
-use Rattle.std.specs.Prelude.{◌≡◌, ◌⊎◌, ℕ, ◌+◌, min, max, ◌*◌, ◌<◌, ◌≤◌, true, ℤ, List, length, nat_eq, if◌then◌else◌, Contains, Some, slice_get}
+use Rattle.std.specs.Prelude.{◌≡◌, ◌⊎◌, ℕ, ◌+◌, ◌-◌, ◌/◌, min, max, ◌*◌, ◌<◌, ◌≤◌, Bool, true, false, ℤ, List, length, nat_eq, if◌then◌else◌, Contains, Some, slice_get}
+use Rattle.bq_model.specs.declared.cell.Cell.{Cell}
 use Rattle.bq_model.specs.declared.plan.PartPlan.{PartPlan}
 use Rattle.bq_model.specs.declared.plan.Plan.{Plan}
 use Rattle.bq_model.specs.declared.plan.Plan.TheVariants as plan
@@ -15,6 +16,7 @@ use Rattle.bq_index.specs.Prepared.{IsPreparedPlan}
 use Rattle.bq_laws.specs.Closed.{IsClosed}
 use Rattle.bq_saturated.specs.declared.saturation.Cursor.{Cursor}
 use Rattle.bq_saturated.specs.declared.saturation.Saturation.{Saturation}
+use Rattle.bq_saturated.specs.declared.cursor.Ahead.{Ahead}
 use Rattle.bq_saturated.specs.declared.cursor.Came.{Came}
 use Rattle.bq_saturated.specs.declared.cursor.Step.{Step}
 use Rattle.bq_saturated.specs.Known.{IsBefore, AreSaturated}
@@ -31,6 +33,15 @@ pub record IsAtCell (q : QueryValue) (parts : List PartPlan) (at : Cursor) : Typ
   pub place : at.place < length q.from
   pub cell : (part : PartPlan) → slice_get parts at.part ≡ Some part → at.cell < (stream_at part at.place).size
 
+-- a cell holds this
+abbrev pub HoldsAt : List PartPlan → Reading → Cursor → Cell → Type 0
+HoldsAt parts read at held = (part : PartPlan) → slice_get parts at.part ≡ Some part → held ≡ read part at.place at.cell
+
+-- what stands at a cursor: nothing up to the next one, or a cell that holds this
+abbrev pub StandsAhead : QueryValue → List PartPlan → Reading → Cursor → Ahead → Type 0
+StandsAhead q parts read at (Ahead.On next) = LeadsOn q parts read at next
+StandsAhead q parts read at (Ahead.At held) = IsAtCell q parts at × HoldsAt parts read at held
+
 -- the cells of a query with DISTINCT over two streams are ready to be looked at, beside a table of this width; a walk in any part reads at most so many
 pub record CanLook (q : QueryValue) (parts : List PartPlan) (asked : PreparedPlan) (pool : PoolValue) (extent : Extent) (wide most : ℕ) : Type 0 where
   pub distinct : q.distinct ≡ true
@@ -45,10 +56,10 @@ abbrev pub CanLookAt : QueryValue → Plan → PreparedPlan → PoolValue → Ex
 CanLookAt q plan.Filter asked pool extent wide = Unit {0}
 CanLookAt q (plan.Parts parts numbers) asked pool extent wide = q.distinct ≡ true → length q.from ≡ 2 → CanLook q parts asked pool extent wide numbers.work
 
--- how many reads a row over two streams leaves of three for each unit of the announced work, if it reads one for each itself
+-- how many reads a row over two streams leaves of three for each unit of the announced work, if it reads one and a half for each itself
 abbrev pub spare_reads : QueryValue → Plan → ℕ
 spare_reads q plan.Filter = 0
-spare_reads q (plan.Parts parts numbers) = if nat_eq (length q.from) 2 then 2 * numbers.work else 0
+spare_reads q (plan.Parts parts numbers) = if nat_eq (length q.from) 2 then 2 * numbers.work - numbers.work / 2 else 0
 
 -- how many cells a look at a cell of a part reads at most: that one, and of those of the other stream no more than there are, nor than the work
 abbrev pub look_cost : PartPlan → ℕ → ℕ
@@ -69,8 +80,16 @@ HasMoved from budget most Saturation.All = Unit {0}
 HasMoved from budget most (Saturation.Before at) = ((at ≡ from) × (budget ≤ most)) ⊎ IsBefore at from.part from.place from.cell
 HasMoved from budget most Saturation.None = Unit {0}
 
--- how many reads are left after a step
-abbrev pub left_after : ℕ → Step → ℕ
-left_after left (Step.On to) = to.left
-left_after left Step.Stays = left
-left_after left Step.Open = 0
+-- what a look beside a row comes to, with DISTINCT over two streams: a row of no stream of FROM leaves the cursor where it is; beside any other the
+-- look goes on, and ends for good only where a cell is not saturated
+abbrev pub HasLookedBeside : QueryValue → Plan → Reading → List (List ℤ) → (named : Bool) → Cursor → Saturation → Type 0
+HasLookedBeside q plan.Filter read table named from now = Unit {0}
+HasLookedBeside q (plan.Parts parts numbers) read table false from now = now ≡ Saturation.Before from
+HasLookedBeside q (plan.Parts parts numbers) read table true from now =
+    HasMoved from (2 * numbers.work - numbers.work / 2) numbers.work now × (now ≡ Saturation.None → IsClosed q parts read table → ⊥)
+
+-- how many reads are left after a step that goes on
+abbrev pub left_after : Step → ℕ
+left_after (Step.On to) = to.left
+left_after Step.Stays = 0
+left_after Step.Open = 0

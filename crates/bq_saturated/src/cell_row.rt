@@ -12,11 +12,12 @@ use bq_model::{Attr, Cell, Row, dims_at, values_at};
 use bq_narrow::PartAt;
 use bq_synopsis::class_of;
 
-/// Where a cell of a part stands: its place of FROM, and its place in the box there.
+/// A cell of a part: its place of FROM, its place in the box there, and what it holds.
 #[derive(Clone, Copy, Debug, PartialEq, Eq, Drop)]
-pub struct CellPlace {
+pub struct SeenCell {
     pub pos: u8,
     pub i: u32,
+    pub held: Cell,
 }
 
 // The extreme that a cell keeps, and 0 where it keeps none.
@@ -52,17 +53,17 @@ fn column_value(part: &PartAt<'_>, pos: u8, column: u8, values: &[i64], held: Ce
     value_or(values, extreme_of(held), class)
 }
 
-/// Returns the row that a cell is read as, by what the cell holds. It has all eight columns that a row may have.
-pub fn row_of_cell(part: &PartAt<'_>, cell: CellPlace, held: Cell) -> Row
+/// Returns the row that a cell is read as. It has all eight columns that a row may have.
+pub fn row_of_cell(part: &PartAt<'_>, cell: SeenCell) -> Row
     requires laid { IsLaidOut (stream_at part.now.plan.now cell.pos) (2 ^ 32) }
     requires inside { cell.i < (stream_at part.now.plan.now cell.pos).size }
     requires prepared { IsPrepared (pairs part.now.q.now) part.now.plan.now part.now.prepared.now }
-    ensures columns { HasColumns (row_of_cell part.now.q.now part.now.plan.now cell.pos cell.i (extreme_of held)) result.items }
+    ensures columns { HasColumns (row_of_cell part.now.q.now part.now.plan.now cell.pos cell.i (extreme_of cell.held)) result.items }
 {
     let values = values_at(dims_at(part.plan, usize::from(cell.pos)), cell.i);
     let mut row = Row::new();
     'columns: for column in 0..8u8 {
-        row.push(column_value(part, cell.pos, column, values.as_slice(), held));
+        row.push(column_value(part, cell.pos, column, values.as_slice(), cell.held));
     }
     row
 }

@@ -9,14 +9,14 @@ ghost use Rattle.bq_model.specs.declared.plan.PartPlan.{PartPlan};
 ghost use Rattle.bq_pool.specs.Extents.{cells_of, IsLive};
 ghost use Rattle.bq_saturated.specs.declared.saturation.Saturation.TheVariants as saturation;
 ghost use Rattle.bq_saturated.specs.Known.{AreSaturated};
-ghost use Rattle.bq_saturated.specs.Looking.{CanLook, LeadsOn, IsAtCell, HasMoved, HasStepped, left_after, look_cost};
+ghost use Rattle.bq_saturated.specs.Looking.{CanLook, StandsAhead, IsAtCell, HoldsAt, HasMoved, HasStepped, left_after, look_cost};
 
-use crate::cell_row::CellPlace;
+use crate::cell_row::SeenCell;
 use crate::saturated::is_saturated;
 use crate::saturation::{Cursor, Saturation};
 use bq_answers::Answers;
 use bq_index::PreparedPlan;
-use bq_model::{PartPlan, PartPlans, Query, StreamPlan, Tuple};
+use bq_model::{Cell, PartPlan, PartPlans, Query, StreamPlan, Tuple};
 use bq_narrow::PartAt;
 use bq_pool::{Extent, Pool, Steps};
 use bq_probe::ProbeScratch;
@@ -53,40 +53,69 @@ pub enum Step {
     Open,
 }
 
-// How many cells of a box are passed with no look, since the marks tell that they are empty: from one on all of its page of 64 cells, or that
-// one, or none. So no mark is asked for more than 64 cells.
-fn clear_ahead(pool: &Pool, extent: &Extent, stream: &StreamPlan, cell: u32) -> u32
+/// What stands at a cursor.
+#[derive(Clone, Copy, Debug, PartialEq, Eq, Drop)]
+pub enum Ahead {
+    /// No cell that holds anything: the cursor goes on.
+    On(Cursor),
+    /// A cell, which holds this.
+    At(Cell),
+}
+
+// How many cells are empty from one on, and what that one holds.
+#[derive(Clone, Copy)]
+struct ClearCells {
+    count: u32,
+    held: Cell,
+}
+
+// How many cells of a box are empty from one on, as far as its page of 64 cells goes, and what that one holds. A word of marks tells it: one
+// read.
+fn clear_ahead<L: Ledger>(
+    pool: &Pool,
+    extent: &Extent,
+    stream: &StreamPlan,
+    cell: u32,
+    steps: &mut Steps<L>,
+) -> ClearCells
     requires live { IsLive pool.now extent.now }
     requires within { stream.now.base + stream.now.size ≤ 64 * extent.now.pages }
     requires few { stream.now.base + stream.now.size < 2 ^ 32 }
     requires inside { cell < stream.now.size }
-    ensures clear { (i : ℕ) → cell ≤ i → i < cell + result → slice_index_or (cells_of pool.now extent.now) (stream.now.base + i) Empty ≡ Empty }
-    ensures within { cell + result ≤ stream.now.size }
+    ensures clear { (i : ℕ) → cell ≤ i → i < cell + result.count → slice_index_or (cells_of pool.now extent.now) (stream.now.base + i) Empty ≡ Empty }
+    ensures within { cell + result.count ≤ stream.now.size }
+    ensures held { result.count ≡ 0 → result.held ≡ slice_index_or (cells_of pool.now extent.now) (stream.now.base + cell) Empty }
+    ensures reads { steps.new.reads ≤ steps.old.reads + 1 }
+    ensures writes { steps.new.writes ≡ steps.old.writes }
 {
     let first = stream.base + cell;
     let span = (stream.size - cell).min(64 - first % 64);
-    if pool.is_clear(extent, first, span) {
-        return span;
-    }
-    if pool.is_clear(extent, first, 1) {
-        1
-    } else {
-        0
+    match pool.first_marked(extent, first, span, steps) {
+        Some(found) => ClearCells {
+            count: found.next,
+            held: found.cell,
+        },
+        None => ClearCells {
+            count: span,
+            held: Cell::Empty,
+        },
     }
 }
 
-// Where a cursor comes to with no look: behind cells that are empty, or to the next box. There is none where it is at a cell that is not.
-fn past_clear(pool: &Pool, all: &CellsAt<'_>, at: Cursor) -> Option<Cursor>
+// What stands at a cursor: it goes on behind cells that are empty, or to the next box, if it is not at a cell that holds something. This is at
+// most one read.
+fn past_clear<L: Ledger>(pool: &Pool, all: &CellsAt<'_>, at: Cursor, steps: &mut Steps<L>) -> Ahead
     requires look { CanLook all.now.q.now all.now.parts.now all.now.prepared.now pool.now all.now.extent.now all.now.table.now.width all.now.most }
     requires inside { at.part < length all.now.parts.now }
-    ensures on { IfSome result (λ next. LeadsOn all.now.q.now all.now.parts.now (read_from (cells_of pool.now all.now.extent.now)) at next) }
-    ensures there { result ≡ None → IsAtCell all.now.q.now all.now.parts.now at }
+    ensures ahead { StandsAhead all.now.q.now all.now.parts.now (read_from (cells_of pool.now all.now.extent.now)) at result }
+    ensures reads { steps.new.reads ≤ steps.old.reads + 1 }
+    ensures writes { steps.new.writes ≡ steps.old.writes }
 {
     // Named for the proof alone: the call tells that there are fewer than 2^32 parts.
     let _parts = all.parts.len();
     let plan = all.parts.get(at.part);
     if usize::from(at.place) >= plan.streams.as_slice().len() {
-        return Some(Cursor {
+        return Ahead::On(Cursor {
             part: at.part + 1,
             place: 0,
             cell: 0,
@@ -94,20 +123,20 @@ fn past_clear(pool: &Pool, all: &CellsAt<'_>, at: Cursor) -> Option<Cursor>
     }
     let stream = stream_at(plan, usize::from(at.place));
     if at.cell >= stream.size {
-        return Some(Cursor {
+        return Ahead::On(Cursor {
             part: at.part,
             place: at.place + 1,
             cell: 0,
         });
     }
-    let count = clear_ahead(pool, all.extent, stream, at.cell);
-    if count == 0 {
-        return None;
+    let clear = clear_ahead(pool, all.extent, stream, at.cell, steps);
+    if clear.count == 0 {
+        return Ahead::At(clear.held);
     }
-    Some(Cursor {
+    Ahead::On(Cursor {
         part: at.part,
         place: at.place,
-        cell: at.cell + count,
+        cell: at.cell + clear.count,
     })
 }
 
@@ -125,14 +154,16 @@ fn is_saturated_at<L: Ledger>(
     pool: &Pool,
     all: &CellsAt<'_>,
     at: Cursor,
+    held: Cell,
     room: &mut ProbeScratch,
     tuple: &mut Tuple,
     steps: &mut Steps<L>,
 ) -> bool
     requires look { CanLook all.now.q.now all.now.parts.now all.now.prepared.now pool.now all.now.extent.now all.now.table.now.width all.now.most }
     requires there { IsAtCell all.now.q.now all.now.parts.now at }
+    requires held { HoldsAt all.now.parts.now (read_from (cells_of pool.now all.now.extent.now)) at held }
     ensures value { (part : PartPlan) → slice_get all.now.parts.now at.part ≡ Some part → (result ≡ true) ↔ IsSaturated all.now.q.now part (read_from (cells_of pool.now all.now.extent.now)) (tuples_of all.now.table.now.entries) at.place at.cell }
-    ensures reads { (part : PartPlan) → slice_get all.now.parts.now at.part ≡ Some part → steps.new.reads ≤ steps.old.reads + 1 + share part }
+    ensures reads { (part : PartPlan) → slice_get all.now.parts.now at.part ≡ Some part → steps.new.reads ≤ steps.old.reads + share part }
     ensures writes { steps.new.writes ≡ steps.old.writes }
 {
     let part = PartAt {
@@ -141,33 +172,37 @@ fn is_saturated_at<L: Ledger>(
         prepared: all.prepared.part(all.q, all.parts, at.part),
         extent: all.extent,
     };
-    let cell = CellPlace {
+    let cell = SeenCell {
         pos: at.place,
         i: at.cell,
+        held,
     };
     is_saturated(pool, &part, cell, room, tuple, all.table, steps)
 }
 
-// The look at the cell at a cursor, behind which the cursor goes where it is saturated.
+// The look at the cell at a cursor, of which it was read what it holds, and behind which the cursor goes where it is saturated.
 fn look_at<L: Ledger>(
     pool: &Pool,
     all: &CellsAt<'_>,
     from: Came,
+    held: Cell,
     room: &mut ProbeScratch,
     tuple: &mut Tuple,
     steps: &mut Steps<L>,
 ) -> Step
     requires look { CanLook all.now.q.now all.now.parts.now all.now.prepared.now pool.now all.now.extent.now all.now.table.now.width all.now.most }
     requires there { IsAtCell all.now.q.now all.now.parts.now from.at }
+    requires held { HoldsAt all.now.parts.now (read_from (cells_of pool.now all.now.extent.now)) from.at held }
+    requires some { 0 < from.left }
     ensures stepped { HasStepped all.now.q.now all.now.parts.now (read_from (cells_of pool.now all.now.extent.now)) (tuples_of all.now.table.now.entries) all.now.most from result }
-    ensures reads { steps.new.reads + left_after from.left result ≤ steps.old.reads + from.left }
+    ensures reads { steps.new.reads + left_after result + 1 ≤ steps.old.reads + from.left }
     ensures writes { steps.new.writes ≡ steps.old.writes }
 {
     let cost = cost_in(all.parts.get(from.at.part), all.most);
     if from.left < cost {
         return Step::Stays;
     }
-    if !is_saturated_at(pool, all, from.at, room, tuple, steps) {
+    if !is_saturated_at(pool, all, from.at, held, room, tuple, steps) {
         return Step::Open;
     }
     let at = Cursor {
@@ -193,18 +228,18 @@ fn go_on<L: Ledger>(
     requires look { CanLook all.now.q.now all.now.parts.now all.now.prepared.now pool.now all.now.extent.now all.now.table.now.width all.now.most }
     requires inside { from.at.part < length all.now.parts.now }
     ensures stepped { HasStepped all.now.q.now all.now.parts.now (read_from (cells_of pool.now all.now.extent.now)) (tuples_of all.now.table.now.entries) all.now.most from result }
-    ensures reads { steps.new.reads + left_after from.left result ≤ steps.old.reads + from.left }
+    ensures reads { steps.new.reads + left_after result ≤ steps.old.reads + from.left }
     ensures writes { steps.new.writes ≡ steps.old.writes }
 {
     if from.left == 0 {
         return Step::Stays;
     }
-    match past_clear(pool, all, from.at) {
-        Some(at) => Step::On(Came {
+    match past_clear(pool, all, from.at, steps) {
+        Ahead::On(at) => Step::On(Came {
             at,
             left: from.left - 1,
         }),
-        None => look_at(pool, all, from, room, tuple, steps),
+        Ahead::At(held) => look_at(pool, all, from, held, room, tuple, steps),
     }
 }
 

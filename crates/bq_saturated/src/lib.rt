@@ -14,7 +14,7 @@ mod looking;
 mod saturated;
 mod saturation;
 
-pub use cell_row::CellPlace;
+pub use cell_row::SeenCell;
 pub use cursor::{CellsAt, look_on};
 pub use looking::{LookedAt, look_beside_row};
 pub use saturated::is_saturated;

@@ -1,5 +1,5 @@
 //! The look at cells beside a row, after some were loaded.
-ghost use Rattle.std.specs.Prelude.{◌≡◌, ◌+◌, ◌≤◌, ◌==◌, true, false};
+ghost use Rattle.std.specs.Prelude.{◌≡◌, ◌+◌, ◌≤◌, ◌==◌, true, false, length};
 ghost use Rattle.std.specs.List.{list_any};
 ghost use Rattle.bq_answers.specs.Entries.{tuples_of};
 ghost use Rattle.bq_model.specs.Combinations.{read_from};
@@ -8,7 +8,7 @@ ghost use Rattle.bq_model.specs.declared.plan.Plan.TheVariants as plans;
 ghost use Rattle.bq_pool.specs.Extents.{cells_of};
 ghost use Rattle.bq_saturated.specs.declared.saturation.Saturation.TheVariants as saturation;
 ghost use Rattle.bq_saturated.specs.Known.{AreSaturated};
-ghost use Rattle.bq_saturated.specs.Looking.{CanLookAt, spare_reads};
+ghost use Rattle.bq_saturated.specs.Looking.{CanLookAt, HasLookedBeside, spare_reads};
 
 use crate::cursor::{CellsAt, look_on};
 use crate::saturation::{Cursor, Saturation};
@@ -37,7 +37,8 @@ fn is_named(from: &[u8], stream: u8) -> bool
 }
 
 /// Returns what is known of the cells of a query after some were looked at beside a row of a stream of FROM, from a cursor on: as many as the
-/// announced work leaves room for. With DISTINCT over two streams the cursor goes on; of any other query nothing is looked at.
+/// announced work leaves room for. With DISTINCT over two streams the cursor goes on, stays where the next cell may cost more than that, or ends at a cell
+/// that is not saturated; beside a row of another stream it stays. Of any other query nothing is looked at.
 pub fn look_beside_row<L: Ledger>(
     pool: &Pool,
     all: &LookedAt<'_>,
@@ -50,6 +51,7 @@ pub fn look_beside_row<L: Ledger>(
     requires look { CanLookAt all.now.q.now all.now.plan.now all.now.prepared.now pool.now all.now.extent.now all.now.table.now.width }
     requires known { all.now.q.now.distinct ≡ true → AreSaturated (saturation.Before cursor) all.now.q.now (parts_of all.now.plan.now) (read_from (cells_of pool.now all.now.extent.now)) (tuples_of all.now.table.now.entries) }
     ensures known { all.now.q.now.distinct ≡ true → AreSaturated result all.now.q.now (parts_of all.now.plan.now) (read_from (cells_of pool.now all.now.extent.now)) (tuples_of all.now.table.now.entries) }
+    ensures moves { all.now.q.now.distinct ≡ true → length all.now.q.now.from ≡ 2 → HasLookedBeside all.now.q.now all.now.plan.now (read_from (cells_of pool.now all.now.extent.now)) (tuples_of all.now.table.now.entries) (list_any (λ s. stream == s) all.now.q.now.from) cursor result }
     ensures reads { steps.new.reads ≤ steps.old.reads + spare_reads all.now.q.now all.now.plan.now }
     ensures writes { steps.new.writes ≡ steps.old.writes }
     ensures alone { all.now.plan.now ≡ plans.Filter → steps.new ≡ steps.old }
@@ -75,7 +77,8 @@ pub fn look_beside_row<L: Ledger>(
                 table: all.table,
                 most: numbers.work,
             };
-            let budget = 2 * u64::from(numbers.work);
+            let work = u64::from(numbers.work);
+            let budget = 2 * work - work / 2;
             look_on(pool, &cells, cursor, budget, room, tuple, steps)
         }
     }

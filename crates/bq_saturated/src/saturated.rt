@@ -14,13 +14,12 @@ ghost use Rattle.bq_synopsis.specs.Premises.{IsReady};
 ghost use Rattle.bq_synopsis.specs.Preparing.{IsPrepared};
 ghost use Rattle.bq_saturated.specs.Saturated.{HasEach};
 
-use crate::cell_row::{CellPlace, row_of_cell};
+use crate::cell_row::{SeenCell, row_of_cell};
 use bq_answers::Answers;
 use bq_model::{Row, Tuple};
 use bq_narrow::{PartAt, is_empty};
 use bq_pool::{Pool, Steps};
 use bq_probe::{Probe, ProbeScratch};
-use bq_synopsis::stream_at;
 use std::sync::ledger::Ledger;
 
 // A row, and the place of FROM at which it stands.
@@ -62,11 +61,11 @@ fn has_each<L: Ledger>(
 }
 
 /// Returns whether a cell of a part is saturated: whether the table has each tuple that the cell tells together with cells of the other
-/// streams that are not empty. An empty cell is saturated, and that is one read; for any other a walk is paid too. No cell is written.
+/// streams that are not empty. An empty cell is saturated, and no cell is read; for any other a walk is paid. No cell is written.
 pub fn is_saturated<L: Ledger>(
     pool: &Pool,
     part: &PartAt<'_>,
-    cell: CellPlace,
+    cell: SeenCell,
     room: &mut ProbeScratch,
     tuple: &mut Tuple,
     table: &Answers,
@@ -75,23 +74,22 @@ pub fn is_saturated<L: Ledger>(
     requires distinct { part.now.q.now.distinct ≡ true }
     requires here { cell.pos < length part.now.q.now.from }
     requires inside { cell.i < (stream_at part.now.plan.now cell.pos).size }
+    requires held { cell.held ≡ read_from (cells_of pool.now part.now.extent.now) part.now.plan.now cell.pos cell.i }
     requires ready { IsReady part.now.q.now part.now.plan.now pool.now part.now.extent.now }
     requires prepared { IsPrepared (pairs part.now.q.now) part.now.plan.now part.now.prepared.now }
     requires width { length part.now.q.now.select ≡ table.now.width }
     ensures value { (result ≡ true) ↔ IsSaturated part.now.q.now part.now.plan.now (read_from (cells_of pool.now part.now.extent.now)) (tuples_of table.now.entries) cell.pos cell.i }
-    ensures reads { steps.new.reads ≤ steps.old.reads + 1 + (length part.now.plan.now.streams.items - 1) * share part.now.plan.now }
+    ensures reads { steps.new.reads ≤ steps.old.reads + (length part.now.plan.now.streams.items - 1) * share part.now.plan.now }
     ensures writes { steps.new.writes ≡ steps.old.writes }
 {
     // Read for the proof alone: the call tells that each column is one of eight.
     let _select = part.q.select();
-    let number = stream_at(part.plan, usize::from(cell.pos)).base + cell.i;
-    let held = pool.read(part.extent, number, steps);
-    if is_empty(held) {
+    if is_empty(cell.held) {
         return true;
     }
     let at = PlacedRow {
         pos: cell.pos,
-        row: row_of_cell(part, cell, held),
+        row: row_of_cell(part, cell),
     };
     has_each(pool, part, &at, room, tuple, table, steps)
 }

@@ -1,9 +1,10 @@
-use Rattle.std.proofs.Common.{◌∙◌, List, [], ◌∷◌, ap, sym}
+use Rattle.std.proofs.Common.{◌∙◌, List, [], ◌∷◌, ap, sym, arith}
 use Rattle.bq_model.specs.Combinations.{read_from, Found}
 use Rattle.bq_model.specs.Meaning.{by_column}
 use Rattle.bq_model.specs.Probing.{found_beside}
-use Rattle.bq_pool.specs.Counted.{StepsValue}
 use Rattle.bq_pool.specs.Extents.{cells_of}
+use Rattle.bq_probe.proofs.StartLaws.{walk-few}
+use Rattle.bq_probe.specs.Costs.{walk_reads}
 use Rattle.bq_probe.specs.Remaining.{as_found}
 use Rattle.bq_executor.proofs.TableLaws.{found_same}
 use Rattle.bq_executor.proofs.InPart.{none_added, one_added}
@@ -35,5 +36,6 @@ returns-in-One-clause-reads g c = told-reads c.args.part.now.plan.now c.args.ste
 
 pub returns-in-Unknown-clause-reads : goal.returns-in-Unknown-clause-reads
 returns-in-Unknown-clause-reads g c =
-    walk-reads c.args.part.now.plan.now c.args.steps.now.reads c.look_before_walk.new.steps.reads c.walk.new.steps.reads
-    (λ two. ap (λ (s : StepsValue). s.reads) (c.look_before_walk.ensures.alone two c.in-Unknown.is)) c.look_before_walk.ensures.reads c.walk.ensures.reads
+    walk-reads c.args.part.now.plan.now c.args.steps.now.reads c.look_before_walk.new.steps.reads c.walk.new.steps.reads (walk_reads c.args.part.now.plan.now c.args.at.now.pos)
+    (λ two. c.look_before_walk.ensures.alone two c.in-Unknown.is) c.look_before_walk.ensures.reads
+    (let walked = c.requires.ready.held.walked in walk-few c.args.part.now.q.now c.args.part.now.plan.now c.args.at.now.pos walked (omega (arith, c.requires.here, walked.plan.count))) c.walk.ensures.reads

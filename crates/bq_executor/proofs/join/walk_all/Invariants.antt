@@ -1,9 +1,9 @@
-use Rattle.std.proofs.Common.{◌≡◌, ◌≤◌, ◌+◌, ◌-◌, ◌*◌, length}
+use Rattle.std.proofs.Common.{◌≡◌, ◌≤◌, ◌+◌, length}
 use Rattle.bq_model.specs.Meaning.{by_column}
 use Rattle.bq_model.specs.Combinations.{read_from}
 use Rattle.bq_model.specs.Probing.{found_beside}
-use Rattle.bq_model.specs.Numbers.{share}
 use Rattle.bq_pool.specs.Extents.{cells_of}
+use Rattle.bq_probe.specs.Costs.{walk_reads}
 use Rattle.bq_probe.specs.Remaining.{IsUnderway, left_of, reads_left}
 use Rattle.bq_answers.specs.Entries.{with_entries}
 use Rattle.bq_executor.specs.FoundTable.{with_all, HaveRoom}
@@ -15,7 +15,7 @@ invariant-walk g l = record {
   room : HaveRoom l.part.q.now.distinct (left_of l.part.q.now.select l.part.plan.now (read_from (cells_of l.pool l.part.extent.now)) l.probe) l.table;
   table : with_entries l.table (with_all l.part.q.now.distinct (left_of l.part.q.now.select l.part.plan.now (read_from (cells_of l.pool l.part.extent.now)) l.probe) l.table.entries)
       ≡ with_entries l.fn.table (with_all l.part.q.now.distinct (found_beside l.part.q.now l.part.plan.now (read_from (cells_of l.pool l.part.extent.now)) l.at.pos (by_column l.at.row.now.items)) l.fn.table.entries);
-  reads : l.steps.reads + reads_left l.part.plan.now l.probe ≤ l.fn.steps.reads + (length l.part.plan.now.streams.items - 1) * share l.part.plan.now;
+  reads : l.steps.reads + reads_left l.part.plan.now l.probe ≤ l.fn.steps.reads + walk_reads l.part.plan.now l.at.pos;
   writes : l.steps.writes ≡ l.fn.steps.writes;
 }
 

@@ -1,6 +1,5 @@
 use Rattle.std.proofs.Common.{◌≡◌, ◌∙◌, length, sym, ap, arith, ℤ, ◌-ℤ◌, nat_abs, to_z, of_z, w64}
 use Rattle.std.proofs.lemmas.Int.{ints, to_z-of_z}
-use Rattle.bq_synopsis.specs.Narrowing.{binding_column}
 use Rattle.bq_narrow.specs.Values.{value_in}
 use Rattle.bq_probe.proofs.RunLaws.{bound-one}
 use Rattle.bq_probe.proofs.run.bound_place.Goals as goal
@@ -10,9 +9,8 @@ returns c =
     let at = c.args.at.now in
     let x = c.value_in-value.result in
     let fits = c.value_in-value.type_inv in
-    let same : to_z w64 (of_z w64 x) ≡ x = to_z-of_z w64 x (record { sfits = fits }) in
-    let e = ap (binding_column at.arriving (length c.args.known.now) c.args.dim.attr) (sym c.as_slice.ensures.value) ∙ sym c.binding_column.ensures ∙ c.in-Some.is in (
+    let same : to_z w64 (of_z w64 x) ≡ x = to_z-of_z w64 x (record { sfits = fits }) in (
       c.offset.ensures.below,
-      λ v h k. bound-one at.arriving (length c.args.known.now) at.part.now.equal.items at.part.now.less.items (value_in at.pairs.now at.part.now at.arriving at.row.now c.args.known.now) c.args.dim c.in-Some.column x e c.value_in-value.ensures
+      λ v h k. bound-one at.arriving (length c.args.known.now) at.part.now.equal.items at.part.now.less.items (value_in at.pairs.now at.part.now at.arriving at.row.now c.args.known.now) c.args.dim c.args.column x c.requires.bound c.value_in-value.ensures
           (let l = c.if-value-dim.false in omega (arith, ints, l)) (let l = c.if-dim-value.false in omega (arith, ints, l)) v h k ∙ ap (λ (z : ℤ). nat_abs (z -ℤ c.args.dim.lo)) (sym same) ∙ sym c.offset.ensures.value,
     )

@@ -32,5 +32,9 @@ returns-clause-reads g c other at_other =
     let there = got-there c.args.all.now.parts.now c.args.at.part c.get.result.now c.requires.there.part (c.get.ensures c.get.result.now) in
     let k = part-among c.args.all.now.parts.now c.args.at.part c.get.result.now there in
     let two : length c.get.result.now.streams.items ≡ 2 = (c.requires.look.ready c.get.result.now k).held.walked.plan.count ∙ c.requires.look.two in
-    let r = subst (λ (n : ℕ). c.is_saturated.new.steps.reads ≤ c.args.steps.now.reads + 1 + (n - 1) * share c.get.result.now) two c.is_saturated.ensures.reads in
-    subst (λ (p : PartPlan). c.is_saturated.new.steps.reads ≤ c.args.steps.now.reads + 1 + share p) (part-is c.args.all.now.parts.now c.args.at.part c.get.result.now other there at_other) (omega (arith, r))
+    let r = subst (λ (n : ℕ). c.is_saturated.new.steps.reads ≤ c.args.steps.now.reads + (n - 1) * share c.get.result.now) two c.is_saturated.ensures.reads in
+    subst (λ (p : PartPlan). c.is_saturated.new.steps.reads ≤ c.args.steps.now.reads + share p) (part-is c.args.all.now.parts.now c.args.at.part c.get.result.now other there at_other) (omega (arith, r))
+
+pub is_saturated-requires-clause-held : goal.is_saturated-requires-clause-held
+is_saturated-requires-clause-held g c =
+    c.requires.held c.get.result.now (got-there c.args.all.now.parts.now c.args.at.part c.get.result.now c.requires.there.part (c.get.ensures c.get.result.now))

@@ -46,8 +46,8 @@ returns-clause-stepped g c =
 
 -- what the look read at most
 cost-paid : (q : QueryValue) (parts : List PartPlan) (asked : PreparedPlan) (pool : PoolValue) (e : Extent) (wide most : ℕ) → CanLook q parts asked pool e wide most
-    → (n : ℕ) (part got : PartPlan) → slice_get parts n ≡ Some part → slice_get parts n ≡ Some got → (before after cost : ℕ) → after ≤ before + 1 + share part
-    → cost ≡ look_cost got most → after ≤ before + cost
+    → (n : ℕ) (part got : PartPlan) → slice_get parts n ≡ Some part → slice_get parts n ≡ Some got → (before after cost : ℕ) → after ≤ before + share part
+    → cost ≡ look_cost got most → after + 1 ≤ before + cost
 cost-paid q parts asked pool e wide most look n part got there at_got before after cost few is =
     let k = part-among parts n part there in
     let ready = look.ready part k in

@@ -1,7 +1,6 @@
-use Rattle.std.proofs.Common.{◌≡◌, ◌∙◌, ◌+◌, sym, ap, subst, arith, slice_index_or}
+use Rattle.std.proofs.Common.{sym, subst, arith}
 use Rattle.bq_answers.specs.Entries.{tuples_of}
 use Rattle.bq_model.specs.declared.cell.Cell.{Cell}
-use Rattle.bq_model.specs.declared.plan.StreamPlan.{StreamPlan}
 use Rattle.bq_model.specs.Cells.{FitsKind}
 use Rattle.bq_model.specs.Combinations.{read_from, Reading}
 use Rattle.bq_model.specs.Plan.{stream_at}
@@ -15,12 +14,9 @@ returns-clause-value g c =
     let plan = c.args.part.now.plan.now in
     let place = c.args.cell.pos in
     let read : Reading = read_from (cells_of c.args.pool.now c.args.part.now.extent.now) in
-    let stream : c.stream_at.result.now ≡ stream_at plan place = c.stream_at.ensures ∙ ap (stream_at plan) c.from.ensures in
-    let held : c.read-held.result ≡ read plan place c.args.cell.i
-    = c.read-held.ensures.cell Cell.Empty ∙ ap (λ (s : StreamPlan). slice_index_or (cells_of c.args.pool.now c.args.part.now.extent.now) (s.base + c.args.cell.i) Cell.Empty) stream in
     let n = c.requires.ready.held.walked.plan.count in
-    let fits : FitsKind (stream_at plan place).kind c.read-held.result
-    = subst (λ (d : Cell). FitsKind (stream_at plan place).kind d) (sym held) (c.requires.ready.fitting place c.args.cell.i (omega (arith, c.requires.here, n)) c.requires.inside) in
+    let fits : FitsKind (stream_at plan place).kind c.args.cell.held
+    = subst (λ (d : Cell). FitsKind (stream_at plan place).kind d) (sym c.requires.held) (c.requires.ready.fitting place c.args.cell.i (omega (arith, c.requires.here, n)) c.requires.inside) in
     let law = saturated-by-row q plan c.select-select.ensures.limits c.requires.ready.held.walked.plan read (tuples_of c.args.table.now.entries) place c.args.cell.i
-    (stream_at plan place).kind c.read-held.result held fits (c.is_empty.ensures.no c.if-is_empty.false) c.row_of_cell.result.items c.row_of_cell.ensures.columns in
+    (stream_at plan place).kind c.args.cell.held c.requires.held fits (c.is_empty.ensures.no c.if-is_empty.false) c.row_of_cell.result.items c.row_of_cell.ensures.columns in
     (λ t. law.0 (c.has_each.ensures.value.0 t), λ s. c.has_each.ensures.value.1 (law.1 s))

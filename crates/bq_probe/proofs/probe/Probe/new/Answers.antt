@@ -1,7 +1,7 @@
 use Rattle.std.proofs.Common.{All, subst, ◌≡◌, ◌∙◌, ◌≤◌, length, false, arith, ap, sym}
 use Rattle.bq_probe.specs.Choosing.{setting}
 use Rattle.bq_probe.specs.Walk.{left}
-use Rattle.bq_probe.specs.Costs.{cost_left, reads}
+use Rattle.bq_probe.specs.Costs.{cost_left, reads, walk_reads}
 use Rattle.bq_probe.proofs.StartLaws.{left-start, reads-start, reads-few}
 use Rattle.bq_model.specs.Meaning.{by_column}
 use Rattle.bq_model.specs.Combinations.{Found}
@@ -37,3 +37,10 @@ returns-clause-few c =
     let e = ap (λ ns. cost_left (reads c.args.part.now c.args.pos) (length c.args.part.now.streams.items) ns 0 false) c.clear-2.ensures in
     let m = c.open.ensures.reads in
     omega (arith, h, e, m)
+
+pub returns-clause-whole : goal.returns-clause-whole
+unfolding walk_reads
+returns-clause-whole c =
+    let e = ap (λ ns. cost_left (reads c.args.part.now c.args.pos) (length c.args.part.now.streams.items) ns 0 false) c.clear-2.ensures in
+    let m = c.open.ensures.reads in
+    omega (arith, e, m)

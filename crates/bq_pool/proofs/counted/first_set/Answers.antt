@@ -1,6 +1,6 @@
 use Rattle.std.proofs.Common.{arith, rules}
 use Rattle.bq_pool.proofs.Bits.{first_found, none_found}
-use Rattle.bq_pool.proofs.marked.first_of.Goals as goal
+use Rattle.bq_pool.proofs.counted.first_set.Goals as goal
 
 pub returns-then-first-count : goal.returns-then-first-count
 returns-then-first-count c =
