@@ -31,7 +31,7 @@ use Rattle.bq_necessity.specs.Cases.{s_a, t_c, at_first}
 use Rattle.bq_necessity.specs.Closed.{under_closed, DomainsMayMislead}
 use Rattle.bq_necessity.specs.Within.{written}
 use Rattle.bq_necessity.proofs.OnePart.{refused-by, all_apart, no_equality}
-use Rattle.bq_necessity.proofs.Skipping.{domain-verdict-is-exact}
+use Rattle.bq_necessity.proofs.Skipping.{domain-conditions-are-exact}
 
 -- S.a and T.c
 at : ℤ → ℤ → Assignment
@@ -158,5 +158,5 @@ domains-may-mislead = record {
   refused = refused;
   written_limits = written_limits;
   accepted = accepted;
-  enough = λ n. (domain-verdict-is-exact q written_limits refl (inr refl) None accepted).0 n refl;
+  enough = λ n. (domain-conditions-are-exact q written_limits refl (inr refl) None accepted).0 n refl;
 }

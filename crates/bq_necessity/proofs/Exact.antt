@@ -7,11 +7,12 @@ use Rattle.bq_model.specs.Plan.{IsPlanned}
 use Rattle.bq_model.specs.Plan as planned
 use Rattle.bq_necessity.specs.Plain.{HasNoDomains, IsPlain}
 use Rattle.bq_necessity.specs.States.{Evaluator, IsRight, HasFewStates, NeedsStates}
-use Rattle.bq_necessity.specs.Soft.{no_distinct, CountedVerdictIsExact}
-use Rattle.bq_necessity.specs.Accepted.{FewStatesDecide, VerdictIsExact, NoneLacksPlan}
+use Rattle.bq_necessity.specs.Soft.{no_distinct, CountedConditionsAreExact}
+use Rattle.bq_necessity.specs.Accepted.{FewStatesDecide, ConditionsAreExact, NoneLacksPlan}
 use Rattle.bq_necessity.proofs.Possible.{Possible, possible, followed}
 use Rattle.bq_necessity.proofs.FewStates.{accepted-has-states, told-are-polynomial, polynomially-many-are-few}
 use Rattle.bq_necessity.proofs.SomePlan.{some_plan}
+use Rattle.bq_necessity.proofs.Separated.{few-refute}
 use Rattle.bq_necessity.proofs.Refused.{refused-needs-states, telling-needs-states}
 
 -- an evaluator that is right and has few states
@@ -26,7 +27,7 @@ has-right q plan within none is violation =
 -- where there is one, no condition is violated
 none_violated : (q : QueryValue) → IsWithinLimits q → IsPlain q → (r : Option Failure) → IsViolation q r → HasRight q → r ≡ None
 none_violated q within plain None violation h = refl
-none_violated q within plain (Some f) violation h = absurd (refused-needs-states q within plain f violation h.0 h.1 h.2)
+none_violated q within plain (Some f) violation h = absurd (few-refute q h.0 h.1 h.2 (refused-needs-states q within plain f violation))
 
 pub few-states-decide : FewStatesDecide
 few-states-decide q plan within plain is r violation = (none_violated q within plain r violation, at r violation)
@@ -46,22 +47,22 @@ none-lacks-plan q none r violation n = some_planned q none r violation (λ o. n 
 pub some-right : (q : QueryValue) → IsWithinLimits q → HasNoDomains q → IsViolation q None → Possible (HasRight q)
 some-right q within none violation = followed (some_planned q none None violation) (λ o. possible (has-right q o.0 within none o.1 violation))
 
-pub verdict-is-exact : VerdictIsExact
-verdict-is-exact q within plain r violation = (from r violation, into r violation)
+pub conditions-are-exact : ConditionsAreExact
+conditions-are-exact q within plain r violation = (from r violation, into r violation)
   where
     from : (r : Option Failure) → IsViolation q r → NeedsStates q → r ≢ None
-    from None v n e = some-right q within plain.domains v (λ h. n h.0 h.1 h.2)
+    from None v n e = some-right q within plain.domains v (λ h. few-refute q h.0 h.1 h.2 n)
     from (Some f) v n e = cc
 
     into : (r : Option Failure) → IsViolation q r → r ≢ None → NeedsStates q
     into None v n = absurd (n refl)
     into (Some f) v n = refused-needs-states q within plain f v
 
-pub counted-verdict-is-exact : CountedVerdictIsExact
-counted-verdict-is-exact q within none whole d r violation = (from r violation, into r violation)
+pub counted-conditions-are-exact : CountedConditionsAreExact
+counted-conditions-are-exact q within none whole d r violation = (from r violation, into r violation)
   where
     from : (r : Option Failure) → IsViolation q r → NeedsStates q → r ≢ None
-    from None v n e = some-right q within none v (λ (h : HasRight q). n h.0 h.1 h.2)
+    from None v n e = some-right q within none v (λ (h : HasRight q). few-refute q h.0 h.1 h.2 n)
     from (Some f) v n e = cc
 
     into : (r : Option Failure) → IsViolation q r → r ≢ None → NeedsStates q

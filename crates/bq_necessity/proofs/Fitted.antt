@@ -5,8 +5,8 @@ use Rattle.std.proofs.lemmas.List.Elements.{All-contains}
 use Rattle.bq_model.proofs.Has.{Contains-from_has}
 use Rattle.bq_model.specs.Query.{QueryValue, IsColumn, attrs_of}
 use Rattle.bq_model.specs.Meaning.{Arrival, by_column, at_place, assignment_of}
-use Rattle.bq_necessity.specs.States.{Evaluator, after, IsWithin, AreWithin, IsRight, HasFewFor, NeedsStates}
-use Rattle.bq_necessity.specs.Catalog.{IsOver, AreRows, IsRightOver, HasFewOverFor, CatalogNeedsStates}
+use Rattle.bq_necessity.specs.States.{Evaluator, after, IsWithin, AreWithin, IsRight, HasStates, NeedsStates}
+use Rattle.bq_necessity.specs.Catalog.{IsOver, AreRows, IsRightOver, HasStatesOver, NeedsStatesOver, CatalogNeedsStates}
 use Rattle.bq_necessity.proofs.Formed.{IsFormed, formed}
 use Rattle.bq_necessity.proofs.Mixing.{Agree, same-holds, same-projected}
 use Rattle.bq_necessity.proofs.Refused.{refused-needs-states}
@@ -85,23 +85,18 @@ module _ (width : ℕ → ℕ) where
         ∙ right (map fit h) (fit r) (are-rows h) (length-fit (width r.stream) r.values)
         ∙ new-changed cut q q follows h r
 
-    fitted-few : (e : Evaluator) (b : ℕ) → HasFewOverFor width e b → HasFewFor (fitted e) b
+    fitted-has : (e : Evaluator) (n bound most : ℕ) → HasStatesOver width e n bound most → HasStates (fitted e) n bound most
     unfolding fitted
-    fitted-few e b o = record {
-      n = o.n;
-      most = o.most;
-      states = record {
-        states = o.states.states;
-        size = o.states.size;
-        all = λ h l w. subst (Contains o.states.states) (sym (after-changed cut e (changing cut e).start h ∙ ap (λ (s : ℕ). after e s (map fit h)) (start-changed cut e)))
-            (o.states.all (map fit h) (are-rows h) (subst (λ (m : ℕ). m ≤ o.n) (sym (length-map h fit)) l) (are-within (b * suc o.n) h w));
-      };
-      few = o.few;
+    fitted-has e n bound most o = record {
+      states = o.states;
+      size = o.size;
+      all = λ h l w. subst (Contains o.states) (sym (after-changed cut e (changing cut e).start h ∙ ap (λ (s : ℕ). after e s (map fit h)) (start-changed cut e)))
+          (o.all (map fit h) (are-rows h) (subst (λ (m : ℕ). m ≤ n) (sym (length-map h fit)) l) (are-within bound h w));
     }
 
     -- what is needed on all rows is needed on those of the catalog
-    pub over-needs : NeedsStates q → (e : Evaluator) → IsRightOver width q e → ¬ ((b : ℕ) → HasFewOverFor width e b)
-    over-needs n e right few = n (fitted e) (fitted-right e right) (λ b. fitted-few e b (few b))
+    pub over-needs : NeedsStates q → NeedsStatesOver width q
+    over-needs n none = n (λ b all. none b (λ e right m most has. all (fitted e) (fitted-right e right) m most (fitted-has e m (b * suc m) most has)))
 
 pub catalog-needs-states : CatalogNeedsStates
 catalog-needs-states q within plain f violation width over = over-needs width q (formed q within) over (refused-needs-states q within plain f violation)

@@ -47,3 +47,7 @@ pub mod Skipping
 pub mod Closed
 pub mod Loose
 pub mod CatalogExact
+pub mod Compact
+pub mod UnlikeRefused
+pub mod UnlikeKept
+pub mod Unlike

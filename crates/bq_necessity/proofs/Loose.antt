@@ -36,6 +36,7 @@ use Rattle.bq_necessity.specs.States.{Evaluator, after, IsWithin, AreWithin, IsR
 use Rattle.bq_necessity.proofs.Exact.{HasRight, some-right}
 use Rattle.bq_necessity.proofs.OnePart.{refused-first, unbounded, selects-bounded}
 use Rattle.bq_necessity.proofs.Refused.{telling-needs-states}
+use Rattle.bq_necessity.proofs.Separated.{few-refute}
 use Rattle.bq_necessity.proofs.RowsChanged.{changed_row, change_each, Follows, new-changed, changing, after-changed, start-changed, says-changed}
 
 -- S.a, S.b and T.c
@@ -247,7 +248,8 @@ few-for e b o = record {
 }
 
 enough : ¬ NeedsStates (at_least true)
-enough n = some-right strict strict_limits refl accepted (λ (o : HasRight strict). n (changing greater o.0) (right-for o.0 o.1) (λ b. few-for o.0 b (o.2 (suc b))))
+enough n = some-right strict strict_limits refl accepted
+    (λ (o : HasRight strict). few-refute (at_least true) (changing greater o.0) (right-for o.0 o.1) (λ b. few-for o.0 b (o.2 (suc b))) n)
 
 pub soft-may-mislead : SoftMayMislead
 soft-may-mislead = record {

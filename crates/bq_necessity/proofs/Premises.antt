@@ -9,6 +9,7 @@ use Rattle.bq_necessity.specs.Premises.{PremisesAreNeeded}
 use Rattle.bq_necessity.specs.Cases.{s_a, seen}
 use Rattle.bq_necessity.proofs.Plainly.{plain-if}
 use Rattle.bq_necessity.proofs.OneState.{filters-need-few-states}
+use Rattle.bq_necessity.proofs.Separated.{few-refute}
 use Rattle.bq_necessity.proofs.WorkedRefusals.{refusals-are-these}
 
 -- SELECT S.a FROM S
@@ -23,7 +24,7 @@ pub premises-are-needed : PremisesAreNeeded
 premises-are-needed = record {
   violation = λ f. (
       let one = filters-need-few-states all_rows refl in
-      f all_rows (within-limits all_rows refl) (plain-if all_rows refl refl refl) one.0 one.1 one.2
+      few-refute all_rows one.0 one.1 one.2 (f all_rows (within-limits all_rows refl) (plain-if all_rows refl refl refl))
       );
   right = λ f. (
       let one = filters-need-few-states all_rows refl in

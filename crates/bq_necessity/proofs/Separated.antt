@@ -2,7 +2,7 @@
 use Rattle.std.proofs.Common.{◌≡◌, ℕ, suc, ◌*◌, ◌<◌, ◌≤◌, ◌^◌, List, [], ◌∷◌, ◌++◌, length, Bool, refl, sym, ap, ◌∙◌, arith}
 use Rattle.bq_model.specs.Query.{QueryValue}
 use Rattle.bq_model.specs.Meaning.{Arrival}
-use Rattle.bq_necessity.specs.States.{Evaluator, after, IsRight, HasStates, AreWithin, HasFewFor, NeedsStates, AnsweredAlike}
+use Rattle.bq_necessity.specs.States.{Evaluator, after, IsRight, HasStates, AreWithin, HasFewFor, HasFewStates, NeedsStates, AnsweredAlike}
 use Rattle.bq_model.proofs.Has.{Has-from_contains, Contains-from_has}
 use Rattle.bq_necessity.proofs.Pigeons.{states-needed, below, length-below, has-below}
 
@@ -44,7 +44,11 @@ states-below e n bound most h = record {
 }
 
 pub needs-all : (q : QueryValue) (b : ℕ) → ((n : ℕ) → NeedsAt q n (b * suc n)) → NeedsStates q
-needs-all q b f e right few =
+needs-all q b f none = none b (λ e right n most has. f n e right most has)
+
+-- what has a right evaluator of few states does not need many
+pub few-refute : (q : QueryValue) (e : Evaluator) → IsRight q e → HasFewStates e → ¬ NeedsStates q
+few-refute q e right few needs = needs (λ b all. (
     let o : HasFewFor e b = few b in
-    let m : 2 ^ o.n ≤ o.most = f o.n e right o.most o.states in
-    omega (arith, m, o.few)
+    let m : 2 ^ o.n ≤ o.most = all e right o.n o.most o.states in
+    omega (arith, m, o.few)))

@@ -15,10 +15,10 @@ use Rattle.bq_model.specs.Violation.{Failure, IsViolation}
 use Rattle.bq_laws.proofs.Keeping.{row-keeps}
 use Rattle.bq_laws.proofs.Tests.{filter-passes, true_or_false}
 use Rattle.bq_necessity.specs.Soft.{RefusalTells, no_soft, no_distinct, by_selected}
-use Rattle.bq_necessity.specs.States.{Evaluator, after, AreWithin, HasFewFor, NeedsStates}
-use Rattle.bq_necessity.specs.Within.{as_comparisons, written, IsRightOn, HasFewOn, NeedsStatesOn, NeedsStatesWithin, WrittenIsAlike, WrittenDecides, DomainsNeedStates, CatalogDomainsNeedStates, DomainVerdictIsExact}
+use Rattle.bq_necessity.specs.States.{Evaluator, after, AreWithin, NeedsStates}
+use Rattle.bq_necessity.specs.Within.{as_comparisons, written, IsRightOn, HasStatesOn, NeedsStatesOn, NeedsStatesWithin, WrittenIsAlike, WrittenDecides, DomainsNeedStates, CatalogDomainsNeedStates, DomainConditionsAreExact}
 use Rattle.bq_necessity.specs.Catalog.{IsOver, IsRow, AreRows}
-use Rattle.bq_necessity.proofs.Exact.{verdict-is-exact, counted-verdict-is-exact}
+use Rattle.bq_necessity.proofs.Exact.{conditions-are-exact, counted-conditions-are-exact}
 use Rattle.bq_necessity.proofs.Fitted.{over-needs}
 use Rattle.bq_necessity.proofs.Formed.{IsFormed, formed}
 use Rattle.bq_necessity.proofs.Refused.{telling-need}
@@ -27,14 +27,11 @@ use Rattle.bq_necessity.proofs.Written.{keeps, keeps-row, row-keeps as keeps-it,
 
 -- what is needed on some rows is needed on more
 pub on-more : (few many : Arrival → Type 0) → ((r : Arrival) → few r → many r) → (q : QueryValue) → NeedsStatesOn few q → NeedsStatesOn many q
-on-more few many into q n e right least =
-    n e (λ h r k i. right h r (λ j d l. into (slice_index_or h j d) (k j d l)) (into r i)) (λ b. (
-    let o : HasFewOn many e b = least b in
-    record {
-      n = o.n;
-      most = o.most;
-      states = record { states = o.states.states; size = o.states.size; all = λ h k l w. o.states.all h (λ j d m. into (slice_index_or h j d) (k j d m)) l w };
-      few = o.few;
+on-more few many into q n none = n (λ b all. none b (λ e right m most has. all e
+    (λ h r k i. right h r (λ j d l. into (slice_index_or h j d) (k j d l)) (into r i)) m most record {
+      states = has.states;
+      size = has.size;
+      all = λ h k l w. has.all h (λ j d o. into (slice_index_or h j d) (k j d o)) l w;
     }))
 
 -- rows of any kind
@@ -42,24 +39,12 @@ abbrev pub AnyRow : Arrival → Type 0
 AnyRow r = Unit {0}
 
 on-all : (q : QueryValue) → NeedsStates q → NeedsStatesOn AnyRow q
-on-all q n e right few = n e (λ h r. right h r (λ j d l. tt) tt) (λ b. (
-    let o : HasFewOn AnyRow e b = few b in
-    record {
-      n = o.n;
-      most = o.most;
-      states = record { states = o.states.states; size = o.states.size; all = λ h l w. o.states.all h (λ j d m. tt) l w };
-      few = o.few;
-    }))
+on-all q n none = n (λ b all. none b (λ e right m most has. all e (λ h r. right h r (λ j d l. tt) tt) m most
+    record { states = has.states; size = has.size; all = λ h l w. has.all h (λ j d o. tt) l w }))
 
 all-on : (q : QueryValue) → NeedsStatesOn AnyRow q → NeedsStates q
-all-on q n e right few = n e (λ h r k i. right h r) (λ b. (
-    let o : HasFewFor e b = few b in
-    record {
-      n = o.n;
-      most = o.most;
-      states = record { states = o.states.states; size = o.states.size; all = λ h k l w. o.states.all h l w };
-      few = o.few;
-    }))
+all-on q n none = n (λ b all. none b (λ e right m most has. all e (λ h r k i. right h r) m most
+    record { states = has.states; size = has.size; all = λ h k l w. has.all h l w }))
 
 module _ (q : QueryValue) (p : IsFormed q) where
   abbrev K : List Arrival → List Arrival
@@ -119,29 +104,24 @@ module _ (q : QueryValue) (p : IsFormed q) where
       | inr k ↦ ap (λ b. cond b (e.says (after (skipping e) e.start h) r) []) k ∙ sym (new-outside q p h r k)
     ]
 
-    skipping-few : (e : Evaluator) (b : ℕ) → HasFewOn Both e b → HasFewOn kind (skipping e) b
+    skipping-has : (e : Evaluator) (n bound most : ℕ) → HasStatesOn Both e n bound most → HasStatesOn kind (skipping e) n bound most
     unfolding skipping
-    skipping-few e b o = record {
-      n = o.n;
-      most = o.most;
-      states = record {
-        states = o.states.states;
-        size = o.states.size;
-        all = λ h k l w. subst (Contains o.states.states) (sym (after-kept e (skipping e).start h)) (at h k l w);
-      };
-      few = o.few;
+    skipping-has e n bound most o = record {
+      states = o.states;
+      size = o.size;
+      all = λ h k l w. subst (Contains o.states) (sym (after-kept e (skipping e).start h)) (at h k l w);
     }
       where
-        at : (h : List Arrival) → All kind h → length h ≤ o.n → AreWithin (b * suc o.n) h → Contains o.states.states (after e (skipping e).start (K h))
-        at h k l w = o.states.all (K h) (kept-both h k) (omega (arith, l, few-kept h)) (within-kept (b * suc o.n) h w)
+        at : (h : List Arrival) → All kind h → length h ≤ n → AreWithin bound h → Contains o.states (after e (skipping e).start (K h))
+        at h k l w = o.all (K h) (kept-both h k) (omega (arith, l, few-kept h)) (within-kept bound h w)
 
     pub skipped : NeedsStatesOn kind (written q) → NeedsStatesOn Both q
-    skipped n e right few = n (skipping e) (skipping-right e right) (λ b. skipping-few e b (few b))
+    skipped n none = n (λ b all. none b (λ e right m most has. all (skipping e) (skipping-right e right) m most (skipping-has e m (b * suc m) most has)))
 
   pub written-decides-at : NeedsStatesWithin q ↔ NeedsStates (written q)
   written-decides-at = (
     (λ n. all-on (written q) (on-more (RowKeeps q) AnyRow (λ r k. tt) (written q)
-        (λ e right few. n e (λ h r k i. right h r k i ∙ alike-within h r k i) few))),
+        (λ none. n (λ b all. none b (λ e right m most has. all e (λ h r k i. right h r k i ∙ alike-within h r k i) m most has))))),
     (λ n. on-more (Both AnyRow) (RowKeeps q) (λ r k. k.1) q (skipped AnyRow (on-all (written q) n))),
   )
 
@@ -228,25 +208,19 @@ over-written q within width over a (inr h) = elim (written-attrs q a (Has-from_c
 
 pub catalog-domains-need-states : CatalogDomainsNeedStates
 catalog-domains-need-states q within whole f violation tells width over =
-    skipped q (formed q within) (IsRow width) (λ e right few.
+    skipped q (formed q within) (IsRow width) (λ none.
     over-needs width (written q) (formed-written q within) (over-written q within width over)
     (telling-need (written q) (formed-written q within) refl whole f violation (tells-written q f tells))
-    e (λ h r k i. right h r (row-of-catalog width h k) i) (λ b. (
-    let o : HasFewOn (IsRow width) e b = few b in
-    record {
-      n = o.n;
-      most = o.most;
-      states = record { states = o.states.states; size = o.states.size; all = λ h k l w. o.states.all h (row-of-catalog width h k) l w };
-      few = o.few;
-    })))
+    (λ b all. none b (λ e right m most has. all e (λ h r k i. right h r (row-of-catalog width h k) i) m most
+    record { states = has.states; size = has.size; all = λ h k l w. has.all h (row-of-catalog width h k) l w })))
 
 verdict-of-written : (q : QueryValue) → IsWithinLimits (written q) → q.compact ≡ false → All (λ t. IsFalse (is_soft t.op)) q.atoms ⊎ (q.distinct ≡ false) → (r : Option Failure) → IsViolation (written q) r
     → NeedsStates (written q) ↔ (r ≢ None)
-verdict-of-written q within whole (inl hard) r violation = verdict-is-exact (written q) within record { hard = hard-written q hard; domains = refl; compact = whole } r violation
-verdict-of-written q within whole (inr d) r violation = counted-verdict-is-exact (written q) within refl whole d r violation
+verdict-of-written q within whole (inl hard) r violation = conditions-are-exact (written q) within record { hard = hard-written q hard; domains = refl; compact = whole } r violation
+verdict-of-written q within whole (inr d) r violation = counted-conditions-are-exact (written q) within refl whole d r violation
 
-pub domain-verdict-is-exact : DomainVerdictIsExact
-domain-verdict-is-exact q within whole o r violation =
+pub domain-conditions-are-exact : DomainConditionsAreExact
+domain-conditions-are-exact q within whole o r violation =
     let same : NeedsStatesWithin q ↔ NeedsStates (written q) = written-decides-at q (formed-before q within) in
     let exact : NeedsStates (written q) ↔ (r ≢ None) = verdict-of-written q within whole o r violation in
     ((λ n. exact.0 (same.0 n)), (λ n. same.1 (exact.1 n)))

@@ -39,7 +39,7 @@ unfolding counting
 length-counting zero = refl
 length-counting (suc n) = omega (arith, length-counting n)
 
-length-valued : (b : ℕ) → length (valued b) ≡ 2 * b + 3
+pub length-valued : (b : ℕ) → length (valued b) ≡ 2 * b + 3
 unfolding valued
 length-valued zero = refl
 length-valued (suc b) = omega (arith, length-valued b)
@@ -61,17 +61,17 @@ count-counting (suc n) k l = elim (equal_or_less k n (omega (arith, l))) [
   | inr m ↦ later (count-counting n k m)
 ]
 
-empty-valued : (b : ℕ) → Has (valued b) Cell.Empty
+pub empty-valued : (b : ℕ) → Has (valued b) Cell.Empty
 unfolding valued
 empty-valued zero = first
 empty-valued (suc b) = later (later (empty-valued b))
 
-present-valued : (b : ℕ) → Has (valued b) Cell.Present
+pub present-valued : (b : ℕ) → Has (valued b) Cell.Present
 unfolding valued
 present-valued zero = later first
 present-valued (suc b) = later (later (present-valued b))
 
-extreme-valued : (b : ℕ) (z : ℤ) → nat_abs z ≤ b → Has (valued b) (Cell.Extreme z)
+pub extreme-valued : (b : ℕ) (z : ℤ) → nat_abs z ≤ b → Has (valued b) (Cell.Extreme z)
 unfolding valued
 extreme-valued zero (pos n) l =
     let e : 0 ≡ n = omega (arith, l) in
@@ -89,7 +89,7 @@ extreme-valued (suc b) (negsuc n) l = elim (equal_or_less n b (omega (arith, ste
     step : (n : ℕ) → suc n ≤ suc b → n ≤ b
     step n k = omega (arith, k)
 
-value-within : (most : ℕ) (row : List ℤ) (column : ℕ) → IsWithin most row → nat_abs (slice_index_or row column (pos 0)) ≤ most
+pub value-within : (most : ℕ) (row : List ℤ) (column : ℕ) → IsWithin most row → nat_abs (slice_index_or row column (pos 0)) ≤ most
 value-within most [] column h = omega arith
 value-within most (z ∷ row) zero h = h.0
 value-within most (z ∷ row) (suc column) h = value-within most row column h.1

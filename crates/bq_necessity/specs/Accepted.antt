@@ -39,8 +39,8 @@ FewStatesDecide =
     → ((e : Evaluator) × IsRight q e × HasFewStates e) ↔ (violation ≡ None)
 
 -- the same whether or not a plan is known: no evaluator that is right has few states, exactly where a condition is violated
-abbrev pub VerdictIsExact : Type 0
-VerdictIsExact =
+abbrev pub ConditionsAreExact : Type 0
+ConditionsAreExact =
     (q : QueryValue) → IsWithinLimits q → IsPlain q
     → (violation : Option Failure) → IsViolation q violation
     → NeedsStates q ↔ (violation ≢ None)

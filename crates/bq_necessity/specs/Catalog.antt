@@ -32,15 +32,12 @@ pub record HasStatesOver (width : ℕ → ℕ) (e : Evaluator) (n bound most : �
   pub size : length states ≤ most
   pub all : (history : List Arrival) → AreRows width history → length history ≤ n → AreWithin bound history → Contains states (after e e.start history)
 
--- for some n it has fewer than 2^n states after at most n rows with values within b * (n + 1)
-pub record HasFewOverFor (width : ℕ → ℕ) (e : Evaluator) (b : ℕ) : Type 0 where
-  pub n : ℕ
-  pub most : ℕ
-  pub states : HasStatesOver width e n (b * suc n) most
-  pub few : most < 2 ^ n
+-- for one factor b, each evaluator that is right on the rows of the catalog is in at least 2^n states after at most n of them with values
+-- within b * (n + 1): that there is no such factor is absurd
+abbrev pub NeedsStatesOver : (ℕ → ℕ) → QueryValue → Type 0
+NeedsStatesOver width q = ¬ ((b : ℕ) → ¬ ((e : Evaluator) → IsRightOver width q e → (n most : ℕ) → HasStatesOver width e n (b * suc n) most → 2 ^ n ≤ most))
 
--- a plain query over a catalog that is refused has no evaluator of few states, even if it is right only on rows of the catalog
+-- a plain query over a catalog that is refused needs many states, even of evaluators that are right only on rows of the catalog
 abbrev pub CatalogNeedsStates : Type 0
 CatalogNeedsStates =
-    (q : QueryValue) → IsWithinLimits q → IsPlain q → (f : Failure) → IsViolation q (Some f) → (width : ℕ → ℕ) → IsOver width q
-    → (e : Evaluator) → IsRightOver width q e → ¬ ((b : ℕ) → HasFewOverFor width e b)
+    (q : QueryValue) → IsWithinLimits q → IsPlain q → (f : Failure) → IsViolation q (Some f) → (width : ℕ → ℕ) → IsOver width q → NeedsStatesOver width q

@@ -8,4 +8,6 @@ pub mod Cases
 pub mod Premises
 pub mod Catalog
 pub mod Closed
+pub mod Compact
+pub mod Unlike
 pub mod Loose

@@ -20,8 +20,8 @@ TellingNeedsStates =
     (q : QueryValue) → IsWithinLimits q → HasNoDomains q → IsFalse q.compact → (f : Failure) → IsViolation q (Some f) → RefusalTells q f → NeedsStates q
 
 -- without DISTINCT and domains, where the query is not compact, no evaluator that is right has few states, exactly where a condition is violated
-abbrev pub CountedVerdictIsExact : Type 0
-CountedVerdictIsExact =
+abbrev pub CountedConditionsAreExact : Type 0
+CountedConditionsAreExact =
     (q : QueryValue) → IsWithinLimits q → HasNoDomains q → IsFalse q.compact → IsFalse q.distinct
     → (violation : Option Failure) → IsViolation q violation
     → NeedsStates q ↔ (violation ≢ None)

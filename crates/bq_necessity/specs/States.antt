@@ -48,11 +48,15 @@ pub record HasFewFor (e : Evaluator) (b : ℕ) : Type 0 where
 abbrev pub HasFewStates : Evaluator → Type 0
 HasFewStates e = (b : ℕ) → HasFewFor e b
 
--- no evaluator that is right has few states
-abbrev pub NeedsStates : QueryValue → Type 0
-NeedsStates q = (e : Evaluator) → IsRight q e → ¬ HasFewStates e
+-- whatever the number n, each evaluator that is right is in at least 2^n states after at most n rows with values within b * (n + 1)
+abbrev pub NeedsStatesBy : QueryValue → ℕ → Type 0
+NeedsStatesBy q b = (e : Evaluator) → IsRight q e → (n most : ℕ) → HasStates e n (b * suc n) most → 2 ^ n ≤ most
 
--- a plain query that is refused has no evaluator of few states
+-- for one factor b, the same for all evaluators, this is so: that there is none is absurd
+abbrev pub NeedsStates : QueryValue → Type 0
+NeedsStates q = ¬ ((b : ℕ) → ¬ NeedsStatesBy q b)
+
+-- a plain query that is refused needs many states
 abbrev pub RefusedNeedsStates : Type 0
 RefusedNeedsStates = (q : QueryValue) → IsWithinLimits q → IsPlain q → (f : Failure) → IsViolation q (Some f) → NeedsStates q
 

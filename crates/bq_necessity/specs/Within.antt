@@ -1,5 +1,5 @@
 -- Queries with domains, of evaluators that see only rows within them; and such a query with its domains written as comparisons.
-use Rattle.std.specs.Prelude.{◌≡◌, ◌≢◌, ◌↔◌, ◌⊎◌, ℕ, suc, ◌<◌, ◌≤◌, ◌*◌, ◌^◌, pos, ◌+ℤ◌, ◌-ℤ◌, List, [], ◌∷◌, ◌++◌, length, All, Contains, IsFalse}
+use Rattle.std.specs.Prelude.{◌≡◌, ◌≢◌, ◌↔◌, ◌⊎◌, ℕ, suc, ◌≤◌, ◌*◌, ◌^◌, pos, ◌+ℤ◌, ◌-ℤ◌, List, [], ◌∷◌, ◌++◌, length, All, Contains, IsFalse}
 use Rattle.std.specs.List.{flat_map}
 use Rattle.std.specs.declared.option.Option.{Option}
 use Rattle.std.specs.declared.option.Option.TheVariants.{None, Some}
@@ -34,18 +34,15 @@ pub record HasStatesOn (kind : Arrival → Type 0) (e : Evaluator) (n bound most
   pub size : length states ≤ most
   pub all : (history : List Arrival) → All kind history → length history ≤ n → AreWithin bound history → Contains states (after e e.start history)
 
--- for some n it has fewer than 2^n states after at most n of these rows with values within b * (n + 1)
-pub record HasFewOn (kind : Arrival → Type 0) (e : Evaluator) (b : ℕ) : Type 0 where
-  pub n : ℕ
-  pub most : ℕ
-  pub states : HasStatesOn kind e n (b * suc n) most
-  pub few : most < 2 ^ n
+-- each evaluator that is right on rows of the kind is in at least 2^n states after at most n of them with values within b * (n + 1)
+abbrev pub NeedsStatesOnBy : (Arrival → Type 0) → QueryValue → ℕ → Type 0
+NeedsStatesOnBy kind q b = (e : Evaluator) → IsRightOn kind q e → (n most : ℕ) → HasStatesOn kind e n (b * suc n) most → 2 ^ n ≤ most
 
--- no evaluator that is right on rows of the kind has few states on them
+-- for one factor b: that there is none is absurd
 abbrev pub NeedsStatesOn : (Arrival → Type 0) → QueryValue → Type 0
-NeedsStatesOn kind q = (e : Evaluator) → IsRightOn kind q e → ¬ ((b : ℕ) → HasFewOn kind e b)
+NeedsStatesOn kind q = ¬ ((b : ℕ) → ¬ NeedsStatesOnBy kind q b)
 
--- none that is right on rows within the domains has few states on these
+-- many states are needed on rows within the domains
 abbrev pub NeedsStatesWithin : QueryValue → Type 0
 NeedsStatesWithin q = NeedsStatesOn (RowKeeps q) q
 
@@ -59,19 +56,19 @@ WrittenIsAlike =
 abbrev pub WrittenDecides : Type 0
 WrittenDecides = (q : QueryValue) → IsWithinLimits q → NeedsStatesWithin q ↔ NeedsStates (written q)
 
--- so where the written query is refused, no evaluator of the query has few states on rows within its domains
+-- so where the written query is refused, the query needs many states on rows within its domains
 abbrev pub DomainsNeedStates : Type 0
 DomainsNeedStates = (q : QueryValue) → IsWithinLimits q → IsFalse q.compact → (f : Failure) → IsViolation (written q) (Some f) → RefusalTells q f → NeedsStatesWithin q
 
--- nor even one that is right only on those of them that a catalog has, of so many values for each stream
+-- even of evaluators that are right only on those of them that a catalog has, of so many values for each stream
 abbrev pub CatalogDomainsNeedStates : Type 0
 CatalogDomainsNeedStates =
     (q : QueryValue) → IsWithinLimits q → IsFalse q.compact → (f : Failure) → IsViolation (written q) (Some f) → RefusalTells q f
     → (width : ℕ → ℕ) → IsOver width q → NeedsStatesOn (λ r. IsRow width r × RowKeeps q r) q
 
--- and where no comparison is soft or there is no DISTINCT, none has exactly where the written query violates a condition
-abbrev pub DomainVerdictIsExact : Type 0
-DomainVerdictIsExact =
+-- and where no comparison is soft or there is no DISTINCT, it needs them exactly where the written query violates a condition
+abbrev pub DomainConditionsAreExact : Type 0
+DomainConditionsAreExact =
     (q : QueryValue) → IsWithinLimits (written q) → IsFalse q.compact → All (λ t. IsFalse (is_soft t.op)) q.atoms ⊎ IsFalse q.distinct
     → (violation : Option Failure) → IsViolation (written q) violation
     → NeedsStatesWithin q ↔ (violation ≢ None)

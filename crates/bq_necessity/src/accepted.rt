@@ -1,6 +1,6 @@
 //! The counterpart of the law on refused queries, and both as one.
-ghost use Rattle.bq_necessity.specs.CatalogExact.{CatalogVerdictIsExact};
-ghost use Rattle.bq_necessity.specs.Accepted.{PolynomiallyManyAreFew, AcceptedHasStates, FewStatesDecide, VerdictIsExact, NoneLacksPlan};
+ghost use Rattle.bq_necessity.specs.CatalogExact.{CatalogConditionsAreExact};
+ghost use Rattle.bq_necessity.specs.Accepted.{PolynomiallyManyAreFew, AcceptedHasStates, FewStatesDecide, ConditionsAreExact, NoneLacksPlan};
 
 /// Polynomially many states, in the number of rows and the bound on their values, are few.
 pub fn polynomially_many_are_few()
@@ -18,9 +18,9 @@ pub fn few_states_decide()
     ensures { FewStatesDecide }
 {}
 
-/// No evaluator that is right on a query that is not compact and has no soft comparisons and no domains has few states, exactly where a condition is violated.
-pub fn verdict_is_exact()
-    ensures { VerdictIsExact }
+/// The conditions are exact: a query that is not compact and has no soft comparisons and no domains needs many states, exactly where a condition is violated.
+pub fn conditions_are_exact()
+    ensures { ConditionsAreExact }
 {}
 
 /// No query without domains lacks a plan.
@@ -29,6 +29,6 @@ pub fn none_lacks_plan()
 {}
 
 /// The same of evaluators that are right only on rows as a catalog has them.
-pub fn catalog_verdict_is_exact()
-    ensures { CatalogVerdictIsExact }
+pub fn catalog_conditions_are_exact()
+    ensures { CatalogConditionsAreExact }
 {}

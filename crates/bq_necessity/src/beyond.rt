@@ -1,17 +1,19 @@
-//! What is known of refusals beyond plain queries: soft comparisons without DISTINCT, and domains. Nothing is said of the refusal of a compact query.
+//! What is known of refusals beyond plain queries: soft comparisons without DISTINCT, domains, and COMPACT.
 ghost use Rattle.bq_necessity.specs.Closed.{DomainsMayMislead};
+ghost use Rattle.bq_necessity.specs.Compact.{CompactIsJudgedPlainly};
 ghost use Rattle.bq_necessity.specs.Loose.{SoftMayMislead};
-ghost use Rattle.bq_necessity.specs.Soft.{TellingNeedsStates, CountedVerdictIsExact};
-ghost use Rattle.bq_necessity.specs.Within.{WrittenIsAlike, WrittenDecides, DomainsNeedStates, CatalogDomainsNeedStates, DomainVerdictIsExact};
+ghost use Rattle.bq_necessity.specs.Soft.{TellingNeedsStates, CountedConditionsAreExact};
+ghost use Rattle.bq_necessity.specs.Unlike.{UnlikeMayMislead};
+ghost use Rattle.bq_necessity.specs.Within.{WrittenIsAlike, WrittenDecides, DomainsNeedStates, CatalogDomainsNeedStates, DomainConditionsAreExact};
 
-/// An evaluator that is right on a query without domains that is refused, and is not compact, is in at least 2^n states after n rows, where no comparison is soft, there is no DISTINCT, or the refusal names a selected column.
+/// A query without domains that is refused, and is not compact, needs many states where no comparison is soft, there is no DISTINCT, or the refusal names a selected column.
 pub fn telling_needs_states()
     ensures { TellingNeedsStates }
 {}
 
-/// No evaluator that is right on a query that is not compact and has neither DISTINCT nor domains has few states, exactly where a condition is violated.
-pub fn counted_verdict_is_exact()
-    ensures { CountedVerdictIsExact }
+/// The conditions are exact of a query that is not compact and has neither DISTINCT nor domains.
+pub fn counted_conditions_are_exact()
+    ensures { CountedConditionsAreExact }
 {}
 
 /// On rows within the domains of a query, the query with its domains written as comparisons answers the same.
@@ -35,8 +37,13 @@ pub fn catalog_domains_need_states()
 {}
 
 /// Where no comparison is soft or there is no DISTINCT, a query that is not compact needs many states on rows within its domains, exactly where the written one violates a condition.
-pub fn domain_verdict_is_exact()
-    ensures { DomainVerdictIsExact }
+pub fn domain_conditions_are_exact()
+    ensures { DomainConditionsAreExact }
+{}
+
+/// A query needs many states exactly where it does without COMPACT, so a compact query is judged by the one without the word.
+pub fn compact_is_judged_plainly()
+    ensures { CompactIsJudgedPlainly }
 {}
 
 /// A worked query with a domain is refused, the written one is not, and on rows within the domain few states are enough.
@@ -47,4 +54,9 @@ pub fn domains_may_mislead()
 /// A worked query with a soft comparison is refused; without DISTINCT it needs many states, and with it few are enough.
 pub fn soft_may_mislead()
     ensures { SoftMayMislead }
+{}
+
+/// A worked query with DISTINCT and two soft comparisons is refused by the third condition, and few states are enough for it.
+pub fn unlike_may_mislead()
+    ensures { UnlikeMayMislead }
 {}

@@ -4,7 +4,8 @@ ghost use Rattle.bq_necessity.specs.Catalog.{CatalogNeedsStates};
 ghost use Rattle.bq_necessity.specs.Premises.{PremisesAreNeeded};
 ghost use Rattle.bq_necessity.specs.States.{RefusedNeedsStates, WholeHistoriesAreRight, FiltersNeedFewStates};
 
-/// An evaluator that is right on a query that is refused, is not compact, and has no soft comparisons and no domains is in at least 2^n states after n rows with values within a multiple of n.
+/// A query that is refused, is not compact, and has no soft comparisons and no domains needs many states: by one factor b each evaluator that is right
+/// is in at least 2^n states after at most n rows with values within b * (n + 1), whatever n.
 pub fn refused_needs_states()
     ensures { RefusedNeedsStates }
 {}
