@@ -14,7 +14,7 @@ use Rattle.bq_parser.specs.declared.tree.AtomAst.{AtomAst}
 use Rattle.bq_parser.specs.declared.tree.SelectAst.{SelectAst}
 use Rattle.bq_parser.specs.declared.tree.Statement.TheVariants.{CreateQuery}
 use Rattle.bq_parser.specs.DraftLimits.{is_word_kind}
-use Rattle.bq_parser.specs.Grammar.{Lexeme, word, key, comma, semicolon, separated, name_tokens, column_tokens, operand_tokens, op_token, atom_tokens, where_tokens, distinct_tokens, select_tokens, tokens_with, Spells}
+use Rattle.bq_parser.specs.Grammar.{Lexeme, word, key, comma, semicolon, separated, name_tokens, column_tokens, operand_tokens, op_token, atom_tokens, where_tokens, distinct_tokens, select_tokens, FreeWords, tokens_with, written, Spells}
 use Rattle.bq_parser.specs.Limits.{column_in, columns_in}
 use Rattle.bq_parser.specs.Reading.{kind_at, text_of}
 use Rattle.bq_parser.specs.Syntax.{lexeme_as, lexeme_of, lexemes}
@@ -207,15 +207,15 @@ create_ended w true false more ls = refl
 create_ended w false true more ls = refl
 create_ended w false false more ls = refl
 
-query_said : (w name : List ℕ) (s : SelectAst) (shared b : Bool) → said (behind_where (tokens_with (word w ∷ []) (CreateQuery name s shared) ++ ended b)) ≡ columns_in s.atoms.items
+query_said : (w : FreeWords (List ℕ)) (name : List ℕ) (s : SelectAst) (shared b : Bool) → said (behind_where (tokens_with (written w) (CreateQuery name s shared) ++ ended b)) ≡ columns_in s.atoms.items
 query_said w name s shared b =
-    ap (λ ls. said (behind_where ls)) (create_ended w shared s.compact (word name ∷ key keys.AsKey ∷ select_tokens s) (ended b))
-    ∙ ap said (create_behind w shared s.compact (word name ∷ key keys.AsKey ∷ (select_tokens s ++ ended b)) ∙ select_behind s (ended b))
+    ap (λ ls. said (behind_where ls)) (create_ended w.compact shared s.compact (word name ∷ key keys.AsKey ∷ select_tokens s) (ended b))
+    ∙ ap said (create_behind w.compact shared s.compact (word name ∷ key keys.AsKey ∷ (select_tokens s ++ ended b)) ∙ select_behind s (ended b))
     ∙ where_said s.atoms.items b
 
 spelled_said : (ls : List Lexeme) (name : List ℕ) (s : SelectAst) (shared : Bool) → Spells ls (CreateQuery name s shared) → said (behind_where ls) ≡ columns_in s.atoms.items
 spelled_said ls name s shared (whole, w, is, inl e) =
-    ap (λ r. said (behind_where r)) (e ∙ sym (append-nil (tokens_with (word w ∷ []) (CreateQuery name s shared)))) ∙ query_said w name s shared false
+    ap (λ r. said (behind_where r)) (e ∙ sym (append-nil (tokens_with (written w) (CreateQuery name s shared)))) ∙ query_said w name s shared false
 spelled_said ls name s shared (whole, w, is, inr e) = ap (λ r. said (behind_where r)) e ∙ query_said w name s shared true
 
 -- the comparisons of a query name the columns that stand behind WHERE

@@ -16,7 +16,7 @@ use Rattle.bq_parser.specs.declared.tree.OperandAst.TheVariants.{Column, Integer
 use Rattle.bq_parser.specs.declared.tree.AtomAst.{AtomAst}
 use Rattle.bq_parser.specs.declared.tree.SelectAst.{SelectAst}
 use Rattle.bq_parser.specs.declared.tree.Statement.TheVariants.{CreateQuery}
-use Rattle.bq_parser.specs.Grammar.{Lexeme, word, number, key, comma, opening, closing, semicolon, separated, name_tokens, domain_tokens, coldef_tokens, column_tokens, operand_tokens, op_token, atom_tokens, where_tokens, distinct_tokens, select_tokens, tokens_with}
+use Rattle.bq_parser.specs.Grammar.{Lexeme, word, number, key, comma, opening, closing, semicolon, separated, name_tokens, domain_tokens, coldef_tokens, column_tokens, operand_tokens, op_token, atom_tokens, where_tokens, distinct_tokens, select_tokens, tokens_with, FreeWords, written, key_tokens, to_tokens}
 use Rattle.bq_parser.specs.Reading.{kind_at}
 use Rattle.bq_parser.specs.Syntax.{lexeme_as, lexemes}
 use Rattle.bq_parser.specs.Limits.{soft_in}
@@ -143,13 +143,13 @@ distinct_none p true h = let a = h.keys keys.DistinctKey in omega (arith, a)
 distinct_none p false h = refl
 
 -- signs of a query: those of the selected columns, of FROM and of WHERE
-pub query_count : (p : TokenKind → Bool) (w name : List ℕ) (s : SelectAst) (shared : Bool) → IsSign p
-    → count p (tokens_with (word w ∷ []) (CreateQuery name s shared)) ≡ count p (separated comma column_tokens s.select.items) + (count p (separated comma name_tokens s.from.items) + count p (where_tokens s.atoms.items))
+pub query_count : (p : TokenKind → Bool) (w : FreeWords (List ℕ)) (name : List ℕ) (s : SelectAst) (shared : Bool) → IsSign p
+    → count p (tokens_with (written w) (CreateQuery name s shared)) ≡ count p (separated comma column_tokens s.select.items) + (count p (separated comma name_tokens s.from.items) + count p (where_tokens s.atoms.items))
 query_count p w name s shared h =
     let columns = separated comma column_tokens s.select.items in
     let names = separated comma name_tokens s.from.items in
     let atoms = where_tokens s.atoms.items in
-    let a : count p (tokens_with (word w ∷ []) (CreateQuery name s shared)) ≡ one (p kinds.Word) + (one (p (kinds.Reserved keys.AsKey)) + count p (select_tokens s)) = behind p w shared s.compact (word name ∷ key keys.AsKey ∷ select_tokens s) h in
+    let a : count p (tokens_with (written w) (CreateQuery name s shared)) ≡ one (p kinds.Word) + (one (p (kinds.Reserved keys.AsKey)) + count p (select_tokens s)) = behind p w.compact shared s.compact (word name ∷ key keys.AsKey ∷ select_tokens s) h in
     let b : count p (select_tokens s) ≡ one (p (kinds.Reserved keys.SelectKey)) + count p (distinct_tokens s.distinct ++ (columns ++ (key keys.FromKey ∷ (names ++ atoms)))) = ap (count p) (select_grouped s) in
     let c = count_append p (distinct_tokens s.distinct) (columns ++ (key keys.FromKey ∷ (names ++ atoms))) in
     let d : count p (columns ++ (key keys.FromKey ∷ (names ++ atoms))) ≡ count p columns + (one (p (kinds.Reserved keys.FromKey)) + count p (names ++ atoms)) = count_append p columns (key keys.FromKey ∷ (names ++ atoms)) in
@@ -261,13 +261,13 @@ soft_where : (atoms : List AtomAst) → count is_soft_sign (where_tokens atoms) 
 soft_where atoms = where_count is_soft_sign atoms soft_sign ∙ soft_total atoms
 
 -- the numbers of the signs of a query
-pub record QueryCounts (w name : List ℕ) (s : SelectAst) (shared : Bool) (ls : List Lexeme) : Type 0 where
+pub record QueryCounts (w : FreeWords (List ℕ)) (name : List ℕ) (s : SelectAst) (shared : Bool) (ls : List Lexeme) : Type 0 where
   pub comparisons : count is_comparison ls ≡ length s.atoms.items
   pub soft : count is_soft_sign ls ≡ length (soft_in s.atoms.items)
   pub sides : count is_point ls + count is_integer ls ≡ length s.select.items + length s.atoms.items * 2
   pub commas : count is_comma ls + 2 ≡ length s.select.items + length s.from.items
 
-pub query_counts : (w name : List ℕ) (s : SelectAst) (shared : Bool) → 0 < length s.select.items → 0 < length s.from.items → QueryCounts w name s shared (tokens_with (word w ∷ []) (CreateQuery name s shared))
+pub query_counts : (w : FreeWords (List ℕ)) (name : List ℕ) (s : SelectAst) (shared : Bool) → 0 < length s.select.items → 0 < length s.from.items → QueryCounts w name s shared (tokens_with (written w) (CreateQuery name s shared))
 query_counts w name s shared columns streams = record {
   comparisons =
       let q = query_count is_comparison w name s shared comparison_sign in
@@ -304,3 +304,19 @@ stream_commas name columns some =
 pub tuple_integers : (values : List ℤ) → count is_integer (map number values) ≡ length values
 tuple_integers [] = refl
 tuple_integers (z ∷ values) = let e = tuple_integers values in omega (arith, e)
+
+-- commas stand between the streams of a lock alone
+lock_key_none : (k : Option ℤ) → count is_comma (key_tokens k) ≡ 0
+lock_key_none None = refl
+lock_key_none (Some z) = refl
+
+to_commas : (w : List ℕ) (names : List (List ℕ)) → 0 < length names → count is_comma (to_tokens (word w ∷ []) names) + 1 ≡ length names
+to_commas w [] some = absurd (omega arith)
+to_commas w (n ∷ ns) some = let e = between is_comma comma name_tokens (n ∷ ns) refl (λ c. refl) some in omega (arith, e)
+
+pub lock_commas : (w : FreeWords (List ℕ)) (k : Option ℤ) (names : List (List ℕ)) → 0 < length names → count is_comma (word w.lock ∷ key_tokens k ++ to_tokens (word w.to ∷ []) names) + 1 ≡ length names
+lock_commas w k names some =
+    let a = count_append is_comma (key_tokens k) (to_tokens (word w.to ∷ []) names) in
+    let b = lock_key_none k in
+    let c = to_commas w.to names some in
+    omega (arith, a, b, c)

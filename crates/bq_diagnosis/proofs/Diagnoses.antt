@@ -11,37 +11,41 @@ use Rattle.bq_reply.specs.declared.refusal.Refusal.{Refusal}
 use Rattle.bq_diagnosis.specs.declared.fault.Asks.{Asks}
 use Rattle.bq_diagnosis.specs.declared.fault.Asks.TheVariants as asks
 use Rattle.bq_diagnosis.specs.declared.fault.Fault.{Fault}
-use Rattle.bq_diagnosis.specs.declared.fault.Fault.TheVariants.{LineTooLong, Syntax, Limit, DuplicateStream, DuplicateColumn, DuplicateQuery, TooManyStreams, TooManyQueries, NoStream, NotInFrom, NoColumn, SelfJoin, NoQuery, RowKey, RowName, RowStream, Arity, Value, Domain}
+use Rattle.bq_diagnosis.specs.declared.fault.Fault.TheVariants.{LineTooLong, Syntax, Limit, DuplicateStream, DuplicateColumn, DuplicateQuery, TooManyStreams, TooManyQueries, NoStream, NotInFrom, NoColumn, SelfJoin, NoQuery, Locked, LockTwice, LockNoStream, NoLock, RowKey, RowName, RowStream, Arity, Value, Domain}
 use Rattle.bq_diagnosis.specs.Asked.{IsAsked, IsTextAsked, row_asked, fits, stated}
 use Rattle.bq_diagnosis.specs.Faults.{IsOfStatement, IsTrueOf, IsTrueOfText, IsDiagnosis, IsTextDiagnosis, IsStatementDiagnosis}
 use Rattle.bq_diagnosis.specs.FaultWords.{word_of}
 use Rattle.bq_diagnosis.specs.RowFaults.{IsOfRow, HasRowFault, IsRowFault}
 
 -- what is said of a statement is said of a text that is this statement
-of_statement : (streams : List Shape) (live : List (List ℕ)) (text : List ℕ) (s : Statement) (fault : Fault) → IsStatement text s → IsOfStatement streams live s fault → IsTrueOfText streams live text fault
-of_statement streams live text s LineTooLong is h = (s, is, h)
-of_statement streams live text s (Syntax at next) is h = absurd h
-of_statement streams live text s (Limit what found) is h = (s, is, h)
-of_statement streams live text s (DuplicateStream name) is h = (s, is, h)
-of_statement streams live text s (DuplicateColumn name) is h = (s, is, h)
-of_statement streams live text s (DuplicateQuery name) is h = (s, is, h)
-of_statement streams live text s TooManyStreams is h = (s, is, h)
-of_statement streams live text s TooManyQueries is h = (s, is, h)
-of_statement streams live text s (NoStream name) is h = (s, is, h)
-of_statement streams live text s (NotInFrom column) is h = (s, is, h)
-of_statement streams live text s (NoColumn column) is h = (s, is, h)
-of_statement streams live text s (SelfJoin name) is h = (s, is, h)
-of_statement streams live text s (NoQuery name) is h = (s, is, h)
-of_statement streams live text s RowKey is h = (s, is, h)
-of_statement streams live text s (RowName bytes) is h = (s, is, h)
-of_statement streams live text s RowStream is h = (s, is, h)
-of_statement streams live text s (Arity stream wanted found) is h = (s, is, h)
-of_statement streams live text s (Value field) is h = (s, is, h)
-of_statement streams live text s (Domain stream field) is h = (s, is, h)
+of_statement : (streams : List Shape) (live : List (List ℕ)) (text : List ℕ) (s : Statement) (fault : Fault) → IsStatement text s → limit_of s ≡ None → IsOfStatement streams live s fault → IsTrueOfText streams live text fault
+of_statement streams live text s (Syntax at next) is within h = absurd h
+of_statement streams live text s (Limit what found) is within h = absurd h
+of_statement streams live text s LineTooLong is within h = (s, is, within, h)
+of_statement streams live text s (DuplicateStream name) is within h = (s, is, within, h)
+of_statement streams live text s (DuplicateColumn name) is within h = (s, is, within, h)
+of_statement streams live text s (DuplicateQuery name) is within h = (s, is, within, h)
+of_statement streams live text s TooManyStreams is within h = (s, is, within, h)
+of_statement streams live text s TooManyQueries is within h = (s, is, within, h)
+of_statement streams live text s (NoStream name) is within h = (s, is, within, h)
+of_statement streams live text s (NotInFrom column) is within h = (s, is, within, h)
+of_statement streams live text s (NoColumn column) is within h = (s, is, within, h)
+of_statement streams live text s (SelfJoin name) is within h = (s, is, within, h)
+of_statement streams live text s (NoQuery name) is within h = (s, is, within, h)
+of_statement streams live text s (Locked line) is within h = (s, is, within, h)
+of_statement streams live text s (LockTwice name) is within h = (s, is, within, h)
+of_statement streams live text s (LockNoStream name) is within h = (s, is, within, h)
+of_statement streams live text s NoLock is within h = (s, is, within, h)
+of_statement streams live text s RowKey is within h = (s, is, within, h)
+of_statement streams live text s (RowName bytes) is within h = (s, is, within, h)
+of_statement streams live text s RowStream is within h = (s, is, within, h)
+of_statement streams live text s (Arity stream wanted found) is within h = (s, is, within, h)
+of_statement streams live text s (Value field) is within h = (s, is, within, h)
+of_statement streams live text s (Domain stream field) is within h = (s, is, within, h)
 
 -- what is said of a text that is read as a statement is said of its line
 of_text : (streams : List Shape) (live : List (List ℕ)) (line : List ℕ) (fault : Fault) → IsTrueOfText streams live (stripped line) fault → IsTrueOf streams live line fault
-of_text streams live line LineTooLong h = absurd h.2
+of_text streams live line LineTooLong h = absurd h.3
 of_text streams live line (Syntax at next) h = h
 of_text streams live line (Limit what found) h = h
 of_text streams live line (DuplicateStream name) h = h
@@ -54,15 +58,19 @@ of_text streams live line (NotInFrom column) h = h
 of_text streams live line (NoColumn column) h = h
 of_text streams live line (SelfJoin name) h = h
 of_text streams live line (NoQuery name) h = h
-of_text streams live line RowKey h = absurd h.2
-of_text streams live line (RowName bytes) h = absurd h.2
-of_text streams live line RowStream h = absurd h.2
-of_text streams live line (Arity stream wanted found) h = absurd h.2
-of_text streams live line (Value field) h = absurd h.2
-of_text streams live line (Domain stream field) h = absurd h.2
+of_text streams live line (Locked number) h = absurd h.3
+of_text streams live line (LockTwice name) h = h
+of_text streams live line (LockNoStream name) h = h
+of_text streams live line NoLock h = h
+of_text streams live line RowKey h = absurd h.3
+of_text streams live line (RowName bytes) h = absurd h.3
+of_text streams live line RowStream h = absurd h.3
+of_text streams live line (Arity stream wanted found) h = absurd h.3
+of_text streams live line (Value field) h = absurd h.3
+of_text streams live line (Domain stream field) h = absurd h.3
 
 -- what is said of a row line is said of its line
-of_row : (streams : List Shape) (live : List (List ℕ)) (line : List ℕ) (fault : Fault) → IsOfRow streams (stripped line) fault → IsTrueOf streams live line fault
+pub of_row : (streams : List Shape) (live : List (List ℕ)) (line : List ℕ) (fault : Fault) → IsOfRow streams (stripped line) fault → IsTrueOf streams live line fault
 of_row streams live line LineTooLong h = absurd h.2
 of_row streams live line (Syntax at next) h = absurd h.2
 of_row streams live line (Limit what found) h = absurd h.2
@@ -76,6 +84,10 @@ of_row streams live line (NotInFrom column) h = absurd h.2
 of_row streams live line (NoColumn column) h = absurd h.2
 of_row streams live line (SelfJoin name) h = absurd h.2
 of_row streams live line (NoQuery name) h = absurd h.2
+of_row streams live line (Locked number) h = absurd h.2
+of_row streams live line (LockTwice name) h = absurd h.2
+of_row streams live line (LockNoStream name) h = absurd h.2
+of_row streams live line NoLock h = absurd h.2
 of_row streams live line RowKey h = h
 of_row streams live line (RowName bytes) h = h
 of_row streams live line RowStream h = h
@@ -93,7 +105,7 @@ of_kind streams live kind line text asked short k t h =
 pub found_statement : (streams : List Shape) (live : List (List ℕ)) (text : List ℕ) (s : Statement) (result : Result Asks Fault) → IsStatement text s → limit_of s ≡ None
     → IsStatementDiagnosis streams live s result → IsTextDiagnosis streams live text result
 found_statement streams live text s (Ok asked) is within h = record { asked = stated s is within h.asked; facts = h.facts }
-found_statement streams live text s (Err fault) is within h = record { asked = stated s is within h.asked; facts = of_statement streams live text s fault is h.facts }
+found_statement streams live text s (Err fault) is within h = record { asked = stated s is within h.asked; facts = of_statement streams live text s fault is within h.facts }
 
 -- a line with nothing in it
 pub found_nothing : (streams : List Shape) (live : List (List ℕ)) (line text : List ℕ) → length line ≤ 1024 → kind_of_line (stripped line) ≡ kinds.Nothing → stripped line ≡ text → IsDiagnosis streams live line (Ok asks.Nothing)

@@ -6,3 +6,4 @@ pub mod LimitsFound
 pub mod NamesThere
 pub mod RowTests
 pub mod StreamTests
+pub mod LockedLines

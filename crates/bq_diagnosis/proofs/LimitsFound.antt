@@ -17,13 +17,13 @@ use Rattle.bq_parser.specs.declared.parsing.What.{What}
 use Rattle.bq_parser.specs.declared.parsing.What.TheVariants as limits
 use Rattle.bq_parser.specs.declared.tree.SelectAst.{SelectAst}
 use Rattle.bq_parser.specs.declared.tree.Statement.{Statement}
-use Rattle.bq_parser.specs.declared.tree.Statement.TheVariants.{CreateStream, CreateQuery, Explain, DropQuery, Checkpoint, ResumeRows, ResumeGiven, ResumeCell, ResumeTuple}
+use Rattle.bq_parser.specs.declared.tree.Statement.TheVariants.{CreateStream, CreateQuery, Explain, DropQuery, Checkpoint, ResumeRows, ResumeGiven, ResumeCell, ResumeTuple, Lock, Unlock}
 use Rattle.bq_parser.specs.DraftLimits.{is_word_kind}
-use Rattle.bq_parser.specs.Grammar.{Lexeme, word, key, tokens_with, select_tokens, Spells}
+use Rattle.bq_parser.specs.Grammar.{Lexeme, word, key, FreeWords, to_tokens, no_words, tokens_with, written, IsSpelling, select_tokens, Spells}
 use Rattle.bq_parser.specs.Syntax.{lexeme_as, lexeme_of, lexemes, IsStatement}
 use Rattle.bq_parser.specs.Keeping.{IsCut}
-use Rattle.bq_parser.specs.Limits.{word_in, number_in, names_of, integers_of, columns_of, selected_by, streams_of, atoms_of, values_of, soft_in, columns_in, integers_in, same_column, number_of_different, is_long, is_far, is_wide, is_beyond, is_reversed, limit_of}
-use Rattle.bq_parser.proofs.Compact.{create_tokens, spelling_length}
+use Rattle.bq_parser.specs.Limits.{word_in, number_in, names_of, integers_of, columns_of, selected_by, streams_of, atoms_of, values_of, opened_by, soft_in, columns_in, integers_in, same_column, number_of_different, is_long, is_far, is_wide, is_beyond, is_reversed, limit_of}
+use Rattle.bq_parser.proofs.Compact.{create_tokens, lock_tokens, spelling_length, lock_length, unlock_length, to_length}
 use Rattle.bq_parser.proofs.Said.{cut_at, without_semicolon, numbers_query}
 use Rattle.bq_parser.proofs.Taken.{or_left, or_right}
 use Rattle.bq_parser.proofs.Within.{integers_spelled, near_fits}
@@ -32,7 +32,7 @@ use Rattle.bq_diagnosis.specs.Compared.{columns_compared}
 use Rattle.bq_diagnosis.specs.Marks.{is_point}
 use Rattle.bq_diagnosis.specs.Passed.{long_length, found_in}
 use Rattle.bq_diagnosis.proofs.ColumnsTold.{columns_of_query}
-use Rattle.bq_diagnosis.proofs.Counting.{count, counted, but_semicolon, IsSign, comma_sign, point_sign, integer_sign, soft_sign, comparison_sign, query_counts, stream_commas, tuple_integers}
+use Rattle.bq_diagnosis.proofs.Counting.{count, counted, but_semicolon, IsSign, comma_sign, point_sign, integer_sign, soft_sign, comparison_sign, query_counts, stream_commas, tuple_integers, lock_commas}
 
 -- whether a statement passes a limit
 abbrev passes : What → Statement → Bool
@@ -47,6 +47,7 @@ passes limits.Value s = list_any (is_beyond s) (integers_of s)
 passes limits.Consts s = nat_lt 6 (number_of_different int_eq (integers_in (atoms_of s)))
 passes limits.Domain s = list_any (λ c. is_reversed c.domain) (columns_of s)
 passes limits.Tuple s = nat_lt 8 (length (values_of s))
+passes limits.Streams s = nat_lt 16 (length (opened_by s))
 
 -- the first of these limits that is passed
 abbrev first_passed : Statement → List What → Option What
@@ -63,7 +64,7 @@ is_passed s what (w ∷ ws) e = some_first s w what ws (passes w s) refl e (is_p
 
 -- the limit that is answered is passed
 passed : (s : Statement) (what : What) → limit_of s ≡ Some what → passes what s ≡ true
-passed s what e = is_passed s what (limits.Name ∷ limits.Columns ∷ limits.Select ∷ limits.From ∷ limits.Atoms ∷ limits.Soft ∷ limits.Attrs ∷ limits.Value ∷ limits.Consts ∷ limits.Domain ∷ limits.Tuple ∷ []) e
+passed s what e = is_passed s what (limits.Name ∷ limits.Columns ∷ limits.Select ∷ limits.From ∷ limits.Atoms ∷ limits.Soft ∷ limits.Attrs ∷ limits.Value ∷ limits.Consts ∷ limits.Domain ∷ limits.Tuple ∷ limits.Streams ∷ []) e
 
 skip : (b : Bool) (w what : What) (rest : Option What) → (w ≡ what → ⊥) → cond b (Some w) rest ≡ Some what → (b ≡ false) × (rest ≡ Some what)
 skip true w what rest other e = absurd (other cc)
@@ -117,17 +118,27 @@ long_words line [] c = refl
 long_words line (t ∷ ts) c =
     long_as t.kind (slice_range line t.from t.to) t.from t.to (long_bytes ts) (flat_map word_in (lexemes line ts)) c.0.order (cut_length line t c.0) (long_words line ts c.1)
 
-not_long : (w : List ℕ) (names : List (List ℕ)) → length w ≡ 7 → long_length (w ∷ names) ≡ long_length names
+not_long : (w : List ℕ) (names : List (List ℕ)) → length w ≤ 7 → long_length (w ∷ names) ≡ long_length names
 not_long w names e = let short : is_long w ≡ false = grind (arith, nat_tests) in ap (λ b. cond b (Some (length w)) (long_length names)) short
 
-long_query : (w : List ℕ) (shared k : Bool) (more : List Lexeme) → length w ≡ 7 → long_length (flat_map word_in (create_tokens (word w ∷ []) shared k more)) ≡ long_length (flat_map word_in (create_tokens [] shared k more))
+long_query : (w : List ℕ) (shared k : Bool) (more : List Lexeme) → length w ≤ 7 → long_length (flat_map word_in (create_tokens (word w ∷ []) shared k more)) ≡ long_length (flat_map word_in (create_tokens [] shared k more))
 long_query w true true more h = not_long w (flat_map word_in more) h
 long_query w false true more h = not_long w (flat_map word_in more) h
 long_query w true false more h = refl
 long_query w false false more h = refl
 
-long_with : (w : List ℕ) (s : Statement) → length w ≡ 7 → long_length (flat_map word_in (tokens_with (word w ∷ []) s)) ≡ long_length (names_of s)
-long_with w (CreateQuery name select shared) h = long_query w shared select.compact (word name ∷ key keys.AsKey ∷ select_tokens select) h
+long_to : (w : FreeWords (List ℕ)) (names : List (List ℕ)) → IsSpelling w → long_length (flat_map word_in (to_tokens (word w.to ∷ []) names)) ≡ long_length (flat_map word_in (to_tokens [] names))
+long_to w [] h = refl
+long_to w (n ∷ ns) h = not_long w.to (flat_map word_in (to_tokens [] (n ∷ ns))) (omega (arith, to_length w.to h.to))
+
+long_lock : (w : FreeWords (List ℕ)) (k : Option ℤ) (names : List (List ℕ)) → IsSpelling w → long_length (flat_map word_in (lock_tokens (written w) k names)) ≡ long_length (flat_map word_in (lock_tokens no_words k names))
+long_lock w None names h = not_long w.lock (flat_map word_in (to_tokens (word w.to ∷ []) names)) (omega (arith, lock_length w.lock h.lock)) ∙ long_to w names h
+long_lock w (Some z) names h = not_long w.lock (flat_map word_in (to_tokens (word w.to ∷ []) names)) (omega (arith, lock_length w.lock h.lock)) ∙ long_to w names h
+
+long_with : (w : FreeWords (List ℕ)) (s : Statement) → IsSpelling w → long_length (flat_map word_in (tokens_with (written w) s)) ≡ long_length (names_of s)
+long_with w (CreateQuery name select shared) h = long_query w.compact shared select.compact (word name ∷ key keys.AsKey ∷ select_tokens select) (omega (arith, spelling_length w.compact h.compact))
+long_with w (Lock k streams) h = long_lock w k streams.items h
+long_with w (Unlock k) h = not_long w.unlock [] (omega (arith, unlock_length w.unlock h.unlock))
 long_with w (CreateStream name columns) h = refl
 long_with w (Explain name) h = refl
 long_with w (DropQuery name) h = refl
@@ -138,8 +149,8 @@ long_with w (ResumeCell name index content) h = refl
 long_with w (ResumeTuple name values) h = refl
 
 long_spelled : (ls : List Lexeme) (s : Statement) → Spells ls s → long_length (flat_map word_in ls) ≡ long_length (names_of s)
-long_spelled ls s (whole, w, is, inl e) = ap (λ r. long_length (flat_map word_in r)) e ∙ long_with w s (spelling_length w is)
-long_spelled ls s (whole, w, is, inr e) = ap (λ r. long_length (flat_map word_in r)) e ∙ ap long_length (without_semicolon (tokens_with (word w ∷ []) s)) ∙ long_with w s (spelling_length w is)
+long_spelled ls s (whole, w, is, inl e) = ap (λ r. long_length (flat_map word_in r)) e ∙ long_with w s is
+long_spelled ls s (whole, w, is, inr e) = ap (λ r. long_length (flat_map word_in r)) e ∙ ap long_length (without_semicolon (tokens_with (written w) s)) ∙ long_with w s is
 
 -- the integers among tokens, where none has more than 64 bits
 
@@ -181,9 +192,9 @@ values_told line (t ∷ ts) c h =
     (values_told line ts c.1 (none_later (number_in (lexeme_of line t)) (flat_map number_in (lexemes line ts)) h))
 
 -- signs that a spelled statement has
-signs_spelled : (p : TokenKind → Bool) (line : List ℕ) (ts : List Token) (s : Statement) → IsSign p → (h : Spells (lexemes line ts) s) → count_of p ts ≡ count p (tokens_with (word h.1 ∷ []) s)
+signs_spelled : (p : TokenKind → Bool) (line : List ℕ) (ts : List Token) (s : Statement) → IsSign p → (h : Spells (lexemes line ts) s) → count_of p ts ≡ count p (tokens_with (written h.1) s)
 signs_spelled p line ts s sign (whole, w, is, inl e) = counted p line ts ∙ ap (count p) e
-signs_spelled p line ts s sign (whole, w, is, inr e) = counted p line ts ∙ ap (count p) e ∙ but_semicolon p (tokens_with (word w ∷ []) s) sign
+signs_spelled p line ts s sign (whole, w, is, inr e) = counted p line ts ∙ ap (count p) e ∙ but_semicolon p (tokens_with (written w) s) sign
 
 more_than : (m n : ℕ) → nat_lt m n ≡ true → m < n
 more_than m n h = grind (arith, nat_tests)
@@ -240,6 +251,14 @@ tuple_found (ResumeTuple name values) line ts p h =
     omega (arith, c, e)
 tuple_found _ line ts p h = let f : false ≡ true = p in cc
 
+streams_found : (s : Statement) (line : List ℕ) (ts : List Token) → passes limits.Streams s ≡ true → Spells (lexemes line ts) s → count_of is_comma ts + 1 ≡ length (opened_by s)
+streams_found (Lock k streams) line ts p h =
+    let c = signs_spelled is_comma line ts (Lock k streams) comma_sign h in
+    let some = more_than 16 (length streams.items) p in
+    let e = lock_commas h.1 k streams.items (omega (arith, some)) in
+    omega (arith, c, e)
+streams_found _ line ts p h = let f : false ≡ true = p in cc
+
 query_values : (line : List ℕ) (ts : List Token) (name : List ℕ) (select : SelectAst) (shared : Bool) → list_any is_far (integers_of (CreateQuery name select shared)) ≡ false → Spells (lexemes line ts) (CreateQuery name select shared) → StandFrom line 0 ts
     → integers_at line ts ≡ integers_in select.atoms.items
 query_values line ts name select shared near h stand =
@@ -264,6 +283,7 @@ found_for limits.Value s line ts p e h stand = refl
 found_for limits.Consts s line ts p e h stand = ap Some (consts_found s line ts p (near_integers s e) h stand)
 found_for limits.Domain s line ts p e h stand = refl
 found_for limits.Tuple s line ts p e h stand = ap Some (tuple_found s line ts p h)
+found_for limits.Streams s line ts p e h stand = ap Some (streams_found s line ts p h)
 
 same_tokens : (line : List ℕ) (ts us : List Token) → tokens line ≡ Ok ts → tokens line ≡ Ok us → ts ≡ us
 same_tokens line ts us a b = let e : Ok ts ≡ Ok us = sym a ∙ b in cc

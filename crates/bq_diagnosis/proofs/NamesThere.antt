@@ -9,6 +9,10 @@ use Rattle.bq_parser.specs.declared.tree.SelectAst.{SelectAst}
 use Rattle.bq_parser.specs.declared.resolution.ResolveError.{ResolveError}
 use Rattle.bq_parser.specs.declared.resolution.ResolveError.TheVariants.{UnknownStream, UnknownColumn, SelfJoin}
 use Rattle.bq_parser.specs.Resolution.{resolved, query_for, has_streams, has_columns, named_columns, place_in, place_under}
+use Rattle.bq_reply.specs.declared.refusal.Refusal.{Refusal}
+use Rattle.bq_reply.specs.declared.refusal.Refusal.TheVariants as words
+use Rattle.bq_diagnosis.specs.Asked.{lock_asked}
+use Rattle.bq_diagnosis.specs.declared.fault.Asks.{Asks}
 use Rattle.bq_diagnosis.specs.declared.fault.Fault.TheVariants as faults
 use Rattle.bq_diagnosis.specs.Faults.{HasNameFault, first_repeated, is_no_stream, is_not_from, is_no_column}
 
@@ -68,7 +72,7 @@ no_stream streams s name e = record {
   error = UnknownStream;
   refused = resolved_by streams s false (has_columns streams s) (all_differ s.from.items) (left_false (list_all (λ n. is_some (stream_number streams n)) s.from.items) (list_all (λ c. is_some (place_in s.from.items c)) (named_columns s)) (one_fails (λ n. is_some (stream_number streams n)) s.from.items name e)) refl refl;
   word = refl;
-  fact = λ live n shared. e;
+  fact = λ live n shared may. (may, e);
 }
 
 -- the names of FROM are streams
@@ -81,7 +85,7 @@ not_in_from streams s column e f = record {
   error = UnknownStream;
   refused = resolved_by streams s false (has_columns streams s) (all_differ s.from.items) (names_there streams s false e (one_fails (λ c. is_some (place_in s.from.items c)) (named_columns s) column f)) refl refl;
   word = refl;
-  fact = λ live n shared. f;
+  fact = λ live n shared may. (may, e, f);
 }
 
 -- a column is none of its stream
@@ -91,7 +95,7 @@ no_column streams s column e f g = record {
   error = UnknownColumn;
   refused = resolved_by streams s true false (all_differ s.from.items) (names_there streams s true e (all_pass (λ c. is_some (place_in s.from.items c)) (named_columns s) f)) (one_fails (λ c. is_some (place_under streams c)) (named_columns s) column g) refl;
   word = refl;
-  fact = λ live n shared. g;
+  fact = λ live n shared may. (may, e, f, g);
 }
 
 -- a stream stands in FROM twice
@@ -101,8 +105,24 @@ self_join streams s name e f g h = record {
   error = SelfJoin;
   refused = resolved_by streams s true true false (names_there streams s true e (all_pass (λ c. is_some (place_in s.from.items c)) (named_columns s) f)) (all_pass (λ c. is_some (place_under streams c)) (named_columns s) g) (one_repeated s.from.items name h);
   word = refl;
-  fact = λ live n shared. h;
+  fact = λ live n shared may. (may, e, f, g, h);
 }
+
+-- the streams of a lock are there, each once, or not, by two tests
+lock_by : (streams : List Shape) (names : List (List ℕ)) (lock : Asks) (a b : Bool) → all_differ names ≡ a → list_all (λ n. is_some (stream_number streams n)) names ≡ b
+    → lock_asked streams names lock ≡ cond (not a) (Err words.Duplicate) (cond (not b) (Err words.UnknownStream) (Ok lock))
+lock_by streams names lock a b p q =
+    let chain : Bool → Bool → Result Asks Refusal = λ x y. cond (not x) (Err words.Duplicate) (cond (not y) (Err words.UnknownStream) (Ok lock)) in
+    ap (λ x. chain x (list_all (λ n. is_some (stream_number streams n)) names)) p ∙ ap (λ y. chain a y) q
+
+pub lock_twice : (streams : List Shape) (names : List (List ℕ)) (lock : Asks) (name : List ℕ) → first_repeated names ≡ Some name → lock_asked streams names lock ≡ Err words.Duplicate
+lock_twice streams names lock name e = lock_by streams names lock false (list_all (λ n. is_some (stream_number streams n)) names) (one_repeated names name e) refl
+
+pub lock_no_stream : (streams : List Shape) (names : List (List ℕ)) (lock : Asks) (name : List ℕ) → first_repeated names ≡ None → find (is_no_stream streams) names ≡ Some name → lock_asked streams names lock ≡ Err words.UnknownStream
+lock_no_stream streams names lock name e f = lock_by streams names lock true false (none_repeated names e) (one_fails (λ n. is_some (stream_number streams n)) names name f)
+
+pub lock_there : (streams : List Shape) (names : List (List ℕ)) (lock : Asks) → first_repeated names ≡ None → find (is_no_stream streams) names ≡ None → lock_asked streams names lock ≡ Ok lock
+lock_there streams names lock e f = lock_by streams names lock true true (none_repeated names e) (all_pass (λ n. is_some (stream_number streams n)) names f)
 
 -- all names are there
 pub all_there : (streams : List Shape) (s : SelectAst) → find (is_no_stream streams) s.from.items ≡ None → find (is_not_from s.from.items) (named_columns s) ≡ None

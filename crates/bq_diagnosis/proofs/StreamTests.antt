@@ -11,7 +11,8 @@ use Rattle.bq_reply.specs.declared.refusal.Refusal.{Refusal}
 use Rattle.bq_reply.specs.declared.refusal.Refusal.TheVariants as words
 use Rattle.bq_diagnosis.specs.declared.fault.Asks.{Asks}
 use Rattle.bq_diagnosis.specs.Asked.{is_live, query_asked}
-use Rattle.bq_diagnosis.specs.Faults.{first_repeated}
+use Rattle.bq_parser.specs.declared.tree.Statement.{Statement}
+use Rattle.bq_diagnosis.specs.Faults.{first_repeated, name_in, IsNewStream, IsNewQuery}
 use Rattle.bq_diagnosis.proofs.NamesThere.{none_repeated, one_repeated}
 
 -- what adding a stream gives, by three tests
@@ -46,6 +47,17 @@ not_false false h = cc
 
 pub at_least : (n : ℕ) → nat_lt n 16 ≡ false → 16 ≤ n
 at_least n h = grind (arith, nat_tests)
+
+same_name_in : (name n : List ℕ) → Some name ≡ Some n → name ≡ n
+same_name_in name n e = cc
+
+-- the name of a stream that is new is new
+pub new_stream : (streams : List Shape) (name : List ℕ) (s : Statement) → name_in s ≡ Some name → list_any (λ (x : Shape). bytes_eq x.name name) streams ≡ false → IsNewStream streams s
+new_stream streams name s named e n is = ap (λ m. list_any (λ (x : Shape). bytes_eq x.name m) streams) (sym (same_name_in name n (sym named ∙ is))) ∙ e
+
+-- the name of a query that is new is new
+pub new_query : (live : List (List ℕ)) (name : List ℕ) (s : Statement) → name_in s ≡ Some name → is_live live name ≡ false → IsNewQuery live s
+new_query live name s named e n is = ap (is_live live) (sym (same_name_in name n (sym named ∙ is))) ∙ e
 
 few : (n : ℕ) → n < 64 → nat_le 64 n ≡ false
 few n h = grind (arith, nat_tests)

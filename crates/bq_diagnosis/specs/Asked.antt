@@ -1,12 +1,12 @@
--- What a line asks for over streams and live queries, or the word by which a session refuses it: the first that applies. Of rows only the
+-- What a line asks for over streams and live queries in an open session, or the word by which a session refuses it: the first that applies. Of rows only the
 -- form is asked, and of the lines of checkpoints whether their query is there.
-use Rattle.std.specs.Prelude.{◌≡◌, ℕ, ◌<◌, ◌≤◌, Bool, List, length, if◌then◌else◌, nat_le, Some, None}
-use Rattle.std.specs.List.{list_any}
+use Rattle.std.specs.Prelude.{◌≡◌, ℕ, ◌<◌, ◌≤◌, Bool, not, List, length, if◌then◌else◌, is_some, nat_le, Some, None}
+use Rattle.std.specs.List.{list_any, list_all}
 use Rattle.std.specs.Str.{bytes_eq}
 use Rattle.std.specs.declared.result.Result.{Result}
 use Rattle.std.specs.declared.result.Result.TheVariants.{Ok, Err}
 use Rattle.bq_model.specs.Query.{QueryValue}
-use Rattle.bq_schema.specs.Streams.{Shape, added}
+use Rattle.bq_schema.specs.Streams.{Shape, added, all_differ, stream_number}
 use Rattle.bq_schema.specs.Rows.{Entry, row_of}
 use Rattle.bq_schema.specs.declared.stream_error.StreamError.{StreamError}
 use Rattle.bq_schema.specs.declared.row_error.RowError.{RowError}
@@ -22,7 +22,7 @@ use Rattle.bq_parser.specs.Limits.{limit_of}
 use Rattle.bq_parser.specs.Resolution.{resolved}
 use Rattle.bq_reply.specs.Words.{stream_refusal, row_refusal, resolve_refusal}
 use Rattle.bq_reply.specs.declared.refusal.Refusal.{Refusal}
-use Rattle.bq_reply.specs.declared.refusal.Refusal.TheVariants.{LineTooLong, Syntax, Limit, Duplicate, TooMany, UnknownQuery}
+use Rattle.bq_reply.specs.declared.refusal.Refusal.TheVariants.{LineTooLong, Syntax, Limit, Duplicate, TooMany, UnknownStream, UnknownQuery, Value}
 use Rattle.bq_diagnosis.specs.declared.fault.Asks.{Asks}
 use Rattle.bq_diagnosis.specs.declared.fault.Asks.TheVariants as asks
 
@@ -53,7 +53,12 @@ query_asked live name named = if is_live live name then Err Duplicate else (if n
 abbrev pub live_asked : List (List ℕ) → List ℕ → Asks → Result Asks Refusal
 live_asked live name asked = if is_live live name then Ok asked else Err UnknownQuery
 
--- what a statement asks for
+-- a lock is asked for that names streams that are there, each once
+abbrev pub lock_asked : List Shape → List (List ℕ) → Asks → Result Asks Refusal
+lock_asked streams names lock =
+    if not (all_differ names) then Err Duplicate else (if not (list_all (λ n. is_some (stream_number streams n)) names) then Err UnknownStream else Ok lock)
+
+-- what a statement asks for in an open session, in which no line unlocks
 abbrev pub statement_asked : List Shape → List (List ℕ) → Statement → Result Asks Refusal
 statement_asked streams live (statements.CreateStream name columns) = stream_asked (asks.Stream name columns) (added streams (record { name = name; columns = columns.items }))
 statement_asked streams live (statements.CreateQuery name select shared) = query_asked live name (query_named name shared (resolved streams select))
@@ -64,6 +69,8 @@ statement_asked streams live (statements.ResumeRows rows) = Ok asks.Other
 statement_asked streams live (statements.ResumeGiven name rows) = live_asked live name asks.Other
 statement_asked streams live (statements.ResumeCell name index content) = live_asked live name asks.Other
 statement_asked streams live (statements.ResumeTuple name values) = live_asked live name asks.Other
+statement_asked streams live (statements.Lock k opened) = lock_asked streams opened.items (asks.Lock k opened)
+statement_asked streams live (statements.Unlock k) = Err Value
 
 -- What a text asks for that is read as a statement: it is none, or one that passes a limit, or what the statement asks for.
 pub data IsStatementAsked (streams : List Shape) (live : List (List ℕ)) (text : List ℕ) (asked : Result Asks Refusal) : Type 0 where

@@ -81,3 +81,4 @@ found_by limits.Value line ts = None
 found_by limits.Consts line ts = Some (number_of_different int_eq (integers_at line ts))
 found_by limits.Domain line ts = None
 found_by limits.Tuple line ts = Some (count_of is_integer ts)
+found_by limits.Streams line ts = Some (count_of is_comma ts + 1)

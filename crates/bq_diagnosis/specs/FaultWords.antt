@@ -2,11 +2,12 @@
 use Rattle.bq_reply.specs.declared.refusal.Refusal.{Refusal}
 use Rattle.bq_reply.specs.declared.refusal.Refusal.TheVariants as words
 use Rattle.bq_diagnosis.specs.declared.fault.Fault.{Fault}
-use Rattle.bq_diagnosis.specs.declared.fault.Fault.TheVariants.{LineTooLong, Syntax, Limit, DuplicateStream, DuplicateColumn, DuplicateQuery, TooManyStreams, TooManyQueries, NoStream, NotInFrom, NoColumn, SelfJoin, NoQuery, RowKey, RowName, RowStream, Arity, Value, Domain}
+use Rattle.bq_diagnosis.specs.declared.fault.Fault.TheVariants.{LineTooLong, Syntax, Limit, DuplicateStream, DuplicateColumn, DuplicateQuery, TooManyStreams, TooManyQueries, NoStream, NotInFrom, NoColumn, SelfJoin, NoQuery, Locked, LockTwice, LockNoStream, NoLock, RowKey, RowName, RowStream, Arity, Value, Domain}
 
 -- the word by which a session refuses a line with this fault
 abbrev pub word_of : Fault → Refusal
 word_of LineTooLong = words.LineTooLong
+word_of (Locked line) = words.Locked
 word_of (Syntax at next) = words.Syntax
 word_of (Limit what found) = words.Limit
 word_of (DuplicateStream name) = words.Duplicate
@@ -19,6 +20,9 @@ word_of (NotInFrom column) = words.UnknownStream
 word_of (NoColumn column) = words.UnknownColumn
 word_of (SelfJoin name) = words.SelfJoin
 word_of (NoQuery name) = words.UnknownQuery
+word_of (LockTwice name) = words.Duplicate
+word_of (LockNoStream name) = words.UnknownStream
+word_of NoLock = words.Value
 word_of RowKey = words.Syntax
 word_of (RowName bytes) = words.Limit
 word_of RowStream = words.UnknownStream

@@ -2,6 +2,7 @@ pub mod Asked
 pub mod Compared
 pub mod Counted
 pub mod FaultWords
+pub mod Locked
 pub mod Faults
 pub mod Marks
 pub mod Passed

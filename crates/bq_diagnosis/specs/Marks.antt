@@ -11,7 +11,7 @@ use Rattle.bq_lexer.specs.Tokens.{tokens}
 use Rattle.bq_parser.specs.declared.tree.ColumnAst.{ColumnAst}
 use Rattle.bq_parser.specs.declared.parsing.What.{What}
 use Rattle.bq_parser.specs.declared.parsing.What.TheVariants as limits
-use Rattle.bq_parser.specs.DraftLimits.{is_long_token, is_integer_kind}
+use Rattle.bq_parser.specs.DraftLimits.{is_long_token, is_word_kind, is_integer_kind}
 use Rattle.bq_parser.specs.Limits.{is_far}
 use Rattle.bq_diagnosis.specs.declared.fault.Fault.{Fault}
 use Rattle.bq_diagnosis.specs.declared.fault.Fault.TheVariants as faults
@@ -63,6 +63,7 @@ is_anchor anchors.From kind = is_from kind
 is_anchor anchors.Query kind = is_query kind
 is_anchor anchors.Opening kind = is_opening kind
 is_anchor anchors.Where kind = is_where kind
+is_anchor anchors.Word kind = is_word_kind kind
 
 -- the tokens behind the first one of a kind
 abbrev pub behind_anchor : Anchor → List Token → List Token
@@ -102,20 +103,25 @@ abbrev pub beyond_place : List ℕ → Bool → List Token → Option ℕ
 beyond_place line wide [] = None
 beyond_place line wide (t ∷ ts) = if is_beyond_at line wide t then Some t.from else beyond_place line wide ts
 
--- whether a token is RESUME
-abbrev pub is_resume : TokenKind → Bool
-is_resume (kinds.Reserved keys.ResumeKey) = true
-is_resume _ = false
+-- whether a statement whose integers may have all of 64 bits begins with a token: RESUME, or a word that is not reserved
+abbrev pub begins_wide : TokenKind → Bool
+begins_wide (kinds.Reserved keys.ResumeKey) = true
+begins_wide kinds.Word = true
+begins_wide _ = false
 
--- whether these are the tokens of a line of a checkpoint, whose integers may have all of 64 bits
-abbrev pub is_resumed : List Token → Bool
-is_resumed [] = false
-is_resumed (t ∷ ts) = is_resume t.kind
+-- whether these are the tokens of a line of a checkpoint or of a lock
+abbrev pub has_wide : List Token → Bool
+has_wide [] = false
+has_wide (t ∷ ts) = begins_wide t.kind
+
+-- the tokens behind TO, which is the second word of a lock
+abbrev pub behind_to : List Token → List Token
+behind_to ts = behind_anchor anchors.Word (behind_anchor anchors.Word ts)
 
 -- the place of a limit that is passed, where one name or more is too long, or one integer or more too far
 abbrev pub limit_place : List ℕ → What → List Token → Option ℕ
 limit_place line limits.Name ts = long_place ts
-limit_place line limits.Value ts = beyond_place line (is_resumed ts) ts
+limit_place line limits.Value ts = beyond_place line (has_wide ts) ts
 limit_place line _ ts = None
 
 -- the place of a fault of a statement among its tokens, where its sentence is of one name
@@ -129,6 +135,8 @@ token_place line (faults.NotInFrom column) ts = column_place line column ts
 token_place line (faults.NoColumn column) ts = column_place line column ts
 token_place line (faults.SelfJoin name) ts = again_place line name (behind_anchor anchors.From ts)
 token_place line (faults.NoQuery name) ts = named_place line name ts
+token_place line (faults.LockTwice name) ts = again_place line name (behind_to ts)
+token_place line (faults.LockNoStream name) ts = named_place line name (behind_to ts)
 token_place line _ ts = None
 
 -- its place in a text that is cut into these tokens
@@ -152,6 +160,8 @@ short_place text (faults.Syntax at next) = Some at
 short_place text faults.RowKey = Some 0
 short_place text (faults.RowName bytes) = Some 0
 short_place text faults.RowStream = Some 0
+short_place text (faults.Locked line) = Some 0
+short_place text faults.NoLock = Some 0
 short_place text (faults.Arity stream wanted found) = Some (length text)
 short_place text (faults.Value field) = Some (field_place text field)
 short_place text (faults.Domain stream field) = Some (field_place text field)

@@ -4,7 +4,7 @@ use Rattle.std.specs.Ordering.{int_eq}
 use Rattle.bq_parser.specs.declared.parsing.What.{What}
 use Rattle.bq_parser.specs.declared.parsing.What.TheVariants as limits
 use Rattle.bq_parser.specs.declared.tree.Statement.{Statement}
-use Rattle.bq_parser.specs.Limits.{names_of, columns_of, selected_by, streams_of, atoms_of, values_of, soft_in, columns_in, integers_in, same_column, number_of_different, is_long}
+use Rattle.bq_parser.specs.Limits.{names_of, columns_of, selected_by, streams_of, atoms_of, values_of, opened_by, soft_in, columns_in, integers_in, same_column, number_of_different, is_long}
 
 -- how many bytes the first name has that is too long
 abbrev pub long_length : List (List ℕ) → Option ℕ
@@ -24,3 +24,4 @@ found_in limits.Value s = None
 found_in limits.Consts s = Some (number_of_different int_eq (integers_in (atoms_of s)))
 found_in limits.Domain s = None
 found_in limits.Tuple s = Some (length (values_of s))
+found_in limits.Streams s = Some (length (opened_by s))

@@ -11,7 +11,7 @@ use bq_hints::next_at;
 use bq_parser::{LineKind, ParseError, classify, parse};
 
 /// The most bytes of a line.
-const MOST_BYTES: usize = 1024;
+pub const MOST_BYTES: usize = 1024;
 
 // What is found for a text that is read as a statement.
 fn diagnose_text(text: &[u8], known: &Known<'_>) -> Result<Asks, Fault>
@@ -33,8 +33,8 @@ fn diagnose_text(text: &[u8], known: &Known<'_>) -> Result<Asks, Fault>
 }
 
 /// Returns what a line asks for over the streams and the live queries, or what is wrong with it. The word of a fault is the one by
-/// which a session with these streams and live queries refuses the line, and what the fault says is so. A row is looked at for its form
-/// alone.
+/// which an open session with these streams and live queries refuses the line, and what the fault says is so: it is the first cause. A
+/// row is looked at for its form alone.
 pub fn diagnose(line: &[u8], known: &Known<'_>) -> Result<Asks, Fault>
     ensures found { IsDiagnosis known.now.catalog.now known.now.live.now line.now result }
     ensures ready { IfOk result (IsReady known.now.catalog.now) }

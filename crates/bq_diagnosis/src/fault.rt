@@ -17,6 +17,15 @@ pub struct Known<'a> {
     pub live: &'a [Name],
 }
 
+/// A lock that stands: the number of the line that set it, its key, where it has one, and the names of the streams whose rows it lets,
+/// or none where it lets those of all streams.
+#[derive(Clone, Copy)]
+pub struct Lock<'a> {
+    pub line: u64,
+    pub key: Option<i64>,
+    pub streams: &'a [Name],
+}
+
 /// What a line asks for with which nothing is wrong.
 #[derive(Drop)]
 pub enum Asks {
@@ -41,6 +50,13 @@ pub enum Asks {
     Drop(Name),
     /// A checkpoint, or a line of one.
     Other,
+    /// That the session is locked, but for rows of these streams, or of all where none is named.
+    Lock {
+        key: Option<i64>,
+        streams: ArrayVec<Name, 16>,
+    },
+    /// That the session is open again.
+    Unlock,
 }
 
 /// What is wrong with a line: each kind of cause, with its facts.
@@ -51,7 +67,7 @@ pub enum Fault {
     /// A statement leaves the grammar at this byte, where these may stand.
     Syntax {
         at: u16,
-        next: ArrayVec<Candidate, 26>,
+        next: ArrayVec<Candidate, 29>,
     },
     /// A statement passes this limit first, with so many of what it is on: of names the bytes of the first that is too long, and none
     /// where the limit is on no number.
@@ -95,6 +111,20 @@ pub enum Fault {
     NoQuery {
         name: Name,
     },
+    /// The lock of this line stands, and the line is none that it lets.
+    Locked {
+        line: u64,
+    },
+    /// A lock names this stream twice.
+    LockTwice {
+        name: Name,
+    },
+    /// A lock names this stream, which is not there.
+    LockNoStream {
+        name: Name,
+    },
+    /// No lock stands that a line could open.
+    NoLock,
     /// A row begins with a reserved word.
     RowKey,
     /// A row begins with a word of so many bytes, more than a name may have.
@@ -126,19 +156,23 @@ pub fn word_of(fault: &Fault) -> Refusal
 {
     match fault {
         Fault::LineTooLong => Refusal::LineTooLong,
+        Fault::Locked { .. } => Refusal::Locked,
         Fault::Syntax { .. } | Fault::RowKey => Refusal::Syntax,
         Fault::Limit { .. } | Fault::RowName { .. } => Refusal::Limit,
         Fault::DuplicateStream { .. }
         | Fault::DuplicateColumn { .. }
-        | Fault::DuplicateQuery { .. } => Refusal::Duplicate,
+        | Fault::DuplicateQuery { .. }
+        | Fault::LockTwice { .. } => Refusal::Duplicate,
         Fault::TooManyStreams | Fault::TooManyQueries => Refusal::TooMany,
-        Fault::NoStream { .. } | Fault::NotInFrom { .. } | Fault::RowStream =>
-            Refusal::UnknownStream,
+        Fault::NoStream { .. }
+        | Fault::NotInFrom { .. }
+        | Fault::LockNoStream { .. }
+        | Fault::RowStream => Refusal::UnknownStream,
         Fault::NoColumn { .. } => Refusal::UnknownColumn,
         Fault::SelfJoin { .. } => Refusal::SelfJoin,
         Fault::NoQuery { .. } => Refusal::UnknownQuery,
         Fault::Arity { .. } => Refusal::Arity,
-        Fault::Value { .. } => Refusal::Value,
+        Fault::Value { .. } | Fault::NoLock => Refusal::Value,
         Fault::Domain { .. } => Refusal::Domain,
     }
 }

@@ -2,7 +2,8 @@
 //!
 //! A line is read as a session reads it, over the streams and the names of the live queries alone. What is wrong with it is told by
 //! the fault, of which the session's word is one part: where the grammar is left and what may stand there, which name is not there, how
-//! many fields are wanted, which of them is no integer.
+//! many fields are wanted, which of them is no integer. In a session that is locked, a line that the lock does not let is told with the
+//! line that locked.
 #![tactic(auto)]
 
 mod compared;
@@ -10,6 +11,7 @@ mod diagnosis;
 mod fault;
 mod fields;
 mod finding;
+mod locking;
 mod marks;
 mod names;
 mod passing;
@@ -17,6 +19,7 @@ mod rows;
 mod statements;
 
 pub use diagnosis::diagnose;
-pub use fault::{Asks, Fault, Known, word_of};
+pub use fault::{Asks, Fault, Known, Lock, word_of};
 pub use fields::fields_text;
+pub use locking::diagnose_locked;
 pub use marks::place_of;

@@ -24,6 +24,7 @@ pub enum Anchor {
     Query,
     Opening,
     Where,
+    Word,
 }
 
 /// Returns the bytes of a line that a token takes.
@@ -91,6 +92,7 @@ fn is_anchor(anchor: Anchor, kind: TokenKind) -> bool
         Anchor::Query => matches!(kind, TokenKind::Reserved(Key::QueryKey)),
         Anchor::Opening => matches!(kind, TokenKind::Open),
         Anchor::Where => matches!(kind, TokenKind::Reserved(Key::WhereKey)),
+        Anchor::Word => matches!(kind, TokenKind::Word),
     }
 }
 
@@ -213,14 +215,25 @@ fn beyond_place(line: &[u8], wide: bool, tokens: &[Token]) -> Option<u16>
     }
 }
 
-// Whether these are the tokens of a line of a checkpoint, which begins with RESUME.
-fn is_resumed(tokens: &[Token]) -> bool
-    ensures { result ≡ marks.is_resumed tokens.now }
+// Whether these are the tokens of a line of a checkpoint, which begins with RESUME, or of a lock, which begins with a word that is not
+// reserved.
+fn has_wide(tokens: &[Token]) -> bool
+    ensures { result ≡ marks.has_wide tokens.now }
 {
     match tokens {
         [] => false,
-        [first, ..] => matches!(first.kind, TokenKind::Reserved(Key::ResumeKey)),
+        [first, ..] => matches!(
+            first.kind,
+            TokenKind::Reserved(Key::ResumeKey) | TokenKind::Word
+        ),
     }
+}
+
+// The tokens behind TO, which is the second word of a lock.
+fn behind_to(tokens: &[Token]) -> &[Token]
+    ensures { result.now ≡ marks.behind_to tokens.now }
+{
+    behind_anchor(Anchor::Word, behind_anchor(Anchor::Word, tokens))
 }
 
 // The place of a limit that is passed.
@@ -229,7 +242,7 @@ fn limit_place(line: &[u8], what: What, tokens: &[Token]) -> Option<u16>
 {
     match what {
         What::Name => long_place(tokens),
-        What::Value => beyond_place(line, is_resumed(tokens), tokens),
+        What::Value => beyond_place(line, has_wide(tokens), tokens),
         _ => None,
     }
 }
@@ -252,6 +265,8 @@ fn token_place(line: &[u8], fault: &Fault, tokens: &[Token]) -> Option<u16>
         Fault::NoColumn { column } => column_place(line, column, tokens),
         Fault::SelfJoin { name } => again_place(line, name, behind_anchor(Anchor::From, tokens)),
         Fault::NoQuery { name } => named_place(line, name, tokens),
+        Fault::LockTwice { name } => again_place(line, name, behind_to(tokens)),
+        Fault::LockNoStream { name } => named_place(line, name, behind_to(tokens)),
         _ => None,
     }
 }
@@ -303,7 +318,11 @@ fn short_place(text: &[u8], fault: &Fault) -> Option<u16>
 {
     match fault {
         Fault::Syntax { at, .. } => Some(*at),
-        Fault::RowKey | Fault::RowName { .. } | Fault::RowStream => Some(0),
+        Fault::RowKey
+        | Fault::RowName { .. }
+        | Fault::RowStream
+        | Fault::Locked { .. }
+        | Fault::NoLock => Some(0),
         Fault::Arity { .. } => Some(text.len() as u16),
         Fault::Value { field } => Some(field_place(text, *field)),
         Fault::Domain { field, .. } => Some(field_place(text, u16::from(*field))),

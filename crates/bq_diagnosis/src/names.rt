@@ -49,8 +49,8 @@ fn is_no_column(column: &ColumnAst, catalog: &Catalog) -> bool
     place_under(column, catalog).is_none()
 }
 
-// The first name that is that of no stream.
-fn unknown_stream(names: &[Name], catalog: &Catalog) -> Option<Name>
+/// Returns the first name that is that of no stream.
+pub fn unknown_stream(names: &[Name], catalog: &Catalog) -> Option<Name>
     ensures { result ≡ find (faults.is_no_stream catalog.now) names.now }
 {
     match names {

@@ -224,6 +224,7 @@ fn number_found(what: What, line: &[u8], tokens: &[Token]) -> Option<u16>
         What::Attrs => Some(different_columns(line, tokens)),
         What::Consts => Some(different_values(line, tokens)),
         What::Tuple => Some(integers(tokens)),
+        What::Streams => Some(commas(tokens) + 1),
         What::Value | What::Domain => None,
     }
 }

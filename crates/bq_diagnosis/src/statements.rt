@@ -4,13 +4,13 @@ ghost use Rattle.bq_schema.specs.Streams.{HasEnds};
 ghost use Rattle.bq_parser.specs.Grammar.{IsWhole};
 ghost use Rattle.bq_parser.specs.Limits.{limit_of};
 ghost use Rattle.bq_parser.specs.Resolution.{IsTaken};
-ghost use Rattle.bq_parser.specs.declared.tree.Statement.TheVariants.{CreateStream, CreateQuery};
+ghost use Rattle.bq_parser.specs.declared.tree.Statement.TheVariants.{CreateStream, CreateQuery, Lock};
 ghost use Rattle.bq_diagnosis.specs.Asked as asking;
 ghost use Rattle.bq_diagnosis.specs.Faults.{IsStatementDiagnosis, IsReady, live_found};
 
 use crate::fault::{Asks, Fault, Known};
-use crate::finding::{has_stream, repeated_column};
-use crate::names::query_fault;
+use crate::finding::{has_stream, repeated_column, repeated_name};
+use crate::names::{query_fault, unknown_stream};
 use arrayvec::ArrayVec;
 use bq_parser::{SelectAst, Statement, resolve};
 use bq_schema::ColumnDef;
@@ -90,6 +90,24 @@ fn diagnose_live(name: Name, asks: Asks, live: &[Name]) -> Result<Asks, Fault>
     }
 }
 
+// What is found for LOCK.
+fn diagnose_lock(
+    key: Option<i64>,
+    streams: ArrayVec<Name, 16>,
+    known: &Known<'_>,
+) -> Result<Asks, Fault>
+    ensures found { IsStatementDiagnosis known.now.catalog.now known.now.live.now (Lock key streams) result }
+    ensures ready { IfOk result (IsReady known.now.catalog.now) }
+{
+    if let Some(name) = repeated_name(streams.as_slice()) {
+        return Err(Fault::LockTwice { name });
+    }
+    if let Some(name) = unknown_stream(streams.as_slice(), known.catalog) {
+        return Err(Fault::LockNoStream { name });
+    }
+    Ok(Asks::Lock { key, streams })
+}
+
 /// Returns what a statement within the limits asks for over the streams and the live queries, or what is wrong with it.
 pub fn diagnose_statement(statement: Statement, known: &Known<'_>) -> Result<Asks, Fault>
     requires whole { IsWhole statement }
@@ -110,5 +128,7 @@ pub fn diagnose_statement(statement: Statement, known: &Known<'_>) -> Result<Ask
         Statement::ResumeGiven { name, .. } => diagnose_live(name, Asks::Other, known.live),
         Statement::ResumeCell { name, .. } => diagnose_live(name, Asks::Other, known.live),
         Statement::ResumeTuple { name, .. } => diagnose_live(name, Asks::Other, known.live),
+        Statement::Lock { key, streams } => diagnose_lock(key, streams, known),
+        Statement::Unlock { .. } => Err(Fault::NoLock),
     }
 }

@@ -3,9 +3,9 @@ use Rattle.std.specs.Prelude.{◌≡◌, ℕ, ◌<◌, ◌⊎◌, Bool, true, fa
 use Rattle.bq_parser.specs.declared.tree.Statement.{Statement}
 use Rattle.bq_parser.specs.Syntax.{IsStatement, IsFault}
 use Rattle.bq_hints.specs.declared.candidates.Candidate.{Candidate}
-use Rattle.bq_hints.specs.declared.candidates.Candidate.TheVariants.{Name, Integer, Column, Points, SecondPoint, Comma, Open, Close, Comparison, End, Create, Stream, Query, As, Select, Distinct, From, Where, And, Explain, Drop, In, Shared, Compact, Checkpoint, Resume}
+use Rattle.bq_hints.specs.declared.candidates.Candidate.TheVariants.{Name, Integer, Column, Points, SecondPoint, Comma, Open, Close, Comparison, End, Create, Stream, Query, As, Select, Distinct, From, Where, And, Explain, Drop, In, Shared, Compact, Checkpoint, Resume, Lock, Unlock, To}
 
--- a text of the candidate
+-- a text of the candidate; behind a word that is not reserved there stands more, so that no name is tried by it
 abbrev pub sample_of : Candidate → List ℕ
 sample_of Name = codes "x"
 sample_of Integer = codes "0"
@@ -33,6 +33,9 @@ sample_of Shared = codes "SHARED"
 sample_of Compact = codes "COMPACT QUERY"
 sample_of Checkpoint = codes "CHECKPOINT"
 sample_of Resume = codes "RESUME"
+sample_of Lock = codes "LOCK 0"
+sample_of Unlock = codes "UNLOCK 0"
+sample_of To = codes "TO x"
 
 -- how the candidate is told
 abbrev pub told_as : Candidate → List ℕ
@@ -62,6 +65,9 @@ told_as Shared = codes "SHARED"
 told_as Compact = codes "COMPACT"
 told_as Checkpoint = codes "CHECKPOINT"
 told_as Resume = codes "RESUME"
+told_as Lock = codes "LOCK"
+told_as Unlock = codes "UNLOCK"
+told_as To = codes "TO"
 
 -- a front of a statement, and behind a space the text of a candidate
 abbrev pub tried : List ℕ → Candidate → List ℕ

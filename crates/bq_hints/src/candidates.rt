@@ -32,6 +32,9 @@ pub enum Candidate {
     Compact,
     Checkpoint,
     Resume,
+    Lock,
+    Unlock,
+    To,
 }
 
 /// The candidate that fills places of an array that no clause speaks of.
@@ -42,7 +45,7 @@ impl Default for Candidate {
 }
 
 /// All candidates, in the order in which they are told.
-pub const ALL: [Candidate; 26] = [
+pub const ALL: [Candidate; 29] = [
     Candidate::Name,
     Candidate::Integer,
     Candidate::Column,
@@ -68,10 +71,14 @@ pub const ALL: [Candidate; 26] = [
     Candidate::Compact,
     Candidate::Checkpoint,
     Candidate::Resume,
+    Candidate::Lock,
+    Candidate::Unlock,
+    Candidate::To,
     Candidate::End,
 ];
 
-/// Returns a text of the candidate, of at most 14 bytes, by which it is tried.
+/// Returns a text of the candidate, of at most 14 bytes, by which it is tried. Behind a word that is not reserved there stands more, so
+/// that no name is tried by it.
 pub fn sample_of(candidate: Candidate) -> &'static [u8]
     ensures sample { result.now ≡ candidates.sample_of candidate }
     ensures short { length result.now ≤ 14 }
@@ -103,6 +110,9 @@ pub fn sample_of(candidate: Candidate) -> &'static [u8]
         Candidate::Compact => b"COMPACT QUERY",
         Candidate::Checkpoint => b"CHECKPOINT",
         Candidate::Resume => b"RESUME",
+        Candidate::Lock => b"LOCK 0",
+        Candidate::Unlock => b"UNLOCK 0",
+        Candidate::To => b"TO x",
     }
 }
 
@@ -137,5 +147,8 @@ pub fn told_as(candidate: Candidate) -> &'static [u8]
         Candidate::Compact => b"COMPACT",
         Candidate::Checkpoint => b"CHECKPOINT",
         Candidate::Resume => b"RESUME",
+        Candidate::Lock => b"LOCK",
+        Candidate::Unlock => b"UNLOCK",
+        Candidate::To => b"TO",
     }
 }

@@ -85,8 +85,8 @@ fn may_stand(front: &[u8], candidate: Candidate) -> bool
 }
 
 // Adds a candidate where it may stand there.
-fn put_where(stands: bool, next: &mut ArrayVec<Candidate, 26>, candidate: Candidate)
-    requires { length next.old.items < 26 }
+fn put_where(stands: bool, next: &mut ArrayVec<Candidate, 29>, candidate: Candidate)
+    requires { length next.old.items < 29 }
     ensures items { next.new.items ≡ (if stands then next.old.items ++ candidate ∷ [] else next.old.items) }
     ensures short { length next.new.items ≤ length next.old.items + 1 }
 {
@@ -96,7 +96,7 @@ fn put_where(stands: bool, next: &mut ArrayVec<Candidate, 26>, candidate: Candid
 }
 
 /// Returns the candidates that may stand behind the bytes of a text before a place, in their order.
-pub fn next_at(text: &[u8], at: u16) -> ArrayVec<Candidate, 26>
+pub fn next_at(text: &[u8], at: u16) -> ArrayVec<Candidate, 29>
     requires { length text.now ≤ 1024 }
     ensures { AreNext (take at text.now) all result.items }
 {

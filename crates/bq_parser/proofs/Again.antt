@@ -3,8 +3,8 @@ use Rattle.std.proofs.Common.{◌≡◌, ℕ, ◌<◌, ◌⊎◌, Bool, true, fa
 use Rattle.std.specs.List.{AllByRecursion}
 use Rattle.bq_text.specs.declared.key.Key.TheVariants.{CreateKey, QueryKey, AsKey, SelectKey, FromKey, AndKey}
 use Rattle.bq_parser.specs.declared.transitions.State.{State}
-use Rattle.bq_parser.specs.declared.transitions.State.TheVariants.{Start, AfterCompact, ColumnName, QuerySelect, FirstSelected, SelectedStream, AfterSelected, FromName, AfterFrom, AtomLeft, AfterAtom, AfterValue, Complete, Ended}
-use Rattle.bq_parser.specs.declared.transitions.Action.TheVariants.{BeginCompact, BeginSharedCompact}
+use Rattle.bq_parser.specs.declared.transitions.State.TheVariants.{Start, AfterLock, AfterLockKey, LockStream, AfterLockStream, UnlockKey, AfterCompact, ColumnName, QuerySelect, FirstSelected, SelectedStream, AfterSelected, FromName, AfterFrom, AtomLeft, AfterAtom, AfterValue, Complete, Ended}
+use Rattle.bq_parser.specs.declared.transitions.Action.TheVariants.{BeginCompact, BeginSharedCompact, BeginLock, BeginTo, BeginUnlock}
 use Rattle.bq_schema.specs.declared.column.ColumnDef.{ColumnDef}
 use Rattle.bq_parser.specs.declared.tree.ColumnAst.{ColumnAst}
 use Rattle.bq_parser.specs.declared.tree.OperandAst.{OperandAst}
@@ -13,10 +13,11 @@ use Rattle.bq_parser.specs.declared.tree.AtomAst.{AtomAst}
 use Rattle.bq_parser.specs.declared.tree.Statement.{Statement}
 use Rattle.bq_model.specs.declared.atom.Op.{Op}
 use Rattle.bq_model.specs.declared.atom.Op.TheVariants.{Lt, Eq, Gt, Le, Ge, Ne}
-use Rattle.bq_parser.specs.Grammar.{Lexeme, word, number, key, comma, closing, semicolon, separated, name_tokens, coldef_tokens, column_tokens, atom_tokens, where_tokens, distinct_tokens, shared_tokens, compact_tokens, tokens_with, is_compact, IsColumn, HasColumn, IsWhole, Spells}
+use Rattle.bq_parser.specs.Grammar.{Lexeme, word, number, key, comma, closing, semicolon, separated, name_tokens, coldef_tokens, column_tokens, atom_tokens, where_tokens, distinct_tokens, shared_tokens, compact_tokens, FreeWords, tokens_with, written, capitals, is_compact, is_unlock, is_to, IsSpelling, IsColumn, HasColumn, IsWhole, Spells}
 use Rattle.bq_parser.specs.declared.draft.Form.TheVariants as forms
 use Rattle.bq_parser.specs.Reading.{Parts, no_parts, built, finished, walk, walk_on}
-use Rattle.bq_parser.specs.declared.tree.Statement.TheVariants.{CreateStream, CreateQuery, Explain, DropQuery, Checkpoint, ResumeRows, ResumeGiven, ResumeCell, ResumeTuple}
+use Rattle.bq_parser.specs.declared.tree.Statement.TheVariants.{CreateStream, CreateQuery, Explain, DropQuery, Checkpoint, ResumeRows, ResumeGiven, ResumeCell, ResumeTuple, Lock, Unlock}
+use Rattle.bq_parser.proofs.Compact.{no_lock}
 use Rattle.bq_parser.proofs.WalkLaws.{walk_append}
 
 -- the parts q are those of p with these columns, and what is left of the last one
@@ -113,22 +114,22 @@ atoms_walk p a (b ∷ atoms) h =
     )
 
 -- the tokens lead to a place where the statement may end, and where a semicolon may stand
-pub record IsRead (w : List ℕ) (s : Statement) : Type 0 where
+pub record IsRead (w : FreeWords (List ℕ)) (s : Statement) : Type 0 where
   pub to : State
   pub parts : Parts
-  pub read : walk Start no_parts (tokens_with (word w ∷ []) s) ≡ Ok (to, parts)
+  pub read : walk Start no_parts (tokens_with (written w) s) ≡ Ok (to, parts)
   pub finished_there : finished to parts ≡ Some s
   pub ends : walk to parts (semicolon ∷ []) ≡ Ok (Ended, parts)
   pub finished_behind : finished Ended parts ≡ Some s
 
-stream_read : (w name : List ℕ) (c : ColumnDef) (cs : List ColumnDef) → IsRead w (CreateStream name (record { items = c ∷ cs }))
+stream_read : (w : FreeWords (List ℕ)) (name : List ℕ) (c : ColumnDef) (cs : List ColumnDef) → IsRead w (CreateStream name (record { items = c ∷ cs }))
 stream_read w name c cs =
     let read = columns_walk (record no_parts { form = forms.Stream; name = name }) c cs in
     record { to = Complete; parts = read.0; read = read.1; finished_there = ap (λ m. Some (built m.form m)) read.2; ends = refl; finished_behind = ap (λ m. Some (built m.form m)) read.2 }
 
 -- the parts behind AS
 abbrev pub query_named : List ℕ → List ℕ → Bool → Bool → Parts
-query_named w name shared k = record no_parts { form = forms.Query; name = name; shared = shared; compact = k; spelling = cond k w (codes "COMPACT") }
+query_named w name shared k = record no_parts { form = forms.Query; name = name; shared = shared; compact = k; spelling = record capitals { compact = cond k w (codes "COMPACT") } }
 
 -- the tokens up to AS
 query_head : (w name : List ℕ) (shared k : Bool) (more : List Lexeme) → is_compact w ≡ true → walk Start no_parts (key CreateKey ∷ shared_tokens shared ++ compact_tokens (word w ∷ []) k ++ key QueryKey ∷ word name ∷ key AsKey ∷ more) ≡ walk QuerySelect (query_named w name shared k) more
@@ -166,18 +167,18 @@ query_front w name shared k d c cs n ns more =
           ∙ walk_append FromName p2 (separated comma name_tokens (n ∷ ns)) more AfterFrom (record p2 { from = n ∷ ns }) (from_walk p2 n ns),
     )
 
-query_read : (w name : List ℕ) (shared k d : Bool) (c : ColumnAst) (cs : List ColumnAst) (n : List ℕ) (ns : List (List ℕ)) (atoms : List AtomAst) → is_compact w ≡ true → AllByRecursion HasColumn atoms → IsRead w (CreateQuery name (record { compact = k; distinct = d; select = record { items = c ∷ cs }; from = record { items = n ∷ ns }; atoms = record { items = atoms } }) shared)
+query_read : (w : FreeWords (List ℕ)) (name : List ℕ) (shared k d : Bool) (c : ColumnAst) (cs : List ColumnAst) (n : List ℕ) (ns : List (List ℕ)) (atoms : List AtomAst) → IsSpelling w → AllByRecursion HasColumn atoms → IsRead w (CreateQuery name (record { compact = k; distinct = d; select = record { items = c ∷ cs }; from = record { items = n ∷ ns }; atoms = record { items = atoms } }) shared)
 query_read w name shared k d c cs n ns [] is h =
-    let front = query_front w name shared k d c cs n ns [] in
-    record { to = AfterFrom; parts = record (query_named w name shared k) { distinct = d; select = c ∷ cs; from = n ∷ ns; stream = front.0 }; read = query_head w name shared k _ is ∙ front.1; finished_there = refl; ends = refl; finished_behind = refl }
+    let front = query_front w.compact name shared k d c cs n ns [] in
+    record { to = AfterFrom; parts = record (query_named w.compact name shared k) { distinct = d; select = c ∷ cs; from = n ∷ ns; stream = front.0 }; read = query_head w.compact name shared k _ is.compact ∙ front.1; finished_there = refl; ends = refl; finished_behind = refl }
 query_read w name shared k d c cs n ns (a ∷ atoms) is h =
-    let front = query_front w name shared k d c cs n ns (where_tokens (a ∷ atoms)) in
-    let p : Parts = record (query_named w name shared k) { distinct = d; select = c ∷ cs; from = n ∷ ns; stream = front.0 } in
+    let front = query_front w.compact name shared k d c cs n ns (where_tokens (a ∷ atoms)) in
+    let p : Parts = record (query_named w.compact name shared k) { distinct = d; select = c ∷ cs; from = n ∷ ns; stream = front.0 } in
     let last = atoms_walk p a atoms h in
     record {
       to = AfterAtom;
       parts = last.0;
-      read = query_head w name shared k _ is ∙ front.1 ∙ last.1;
+      read = query_head w.compact name shared k _ is.compact ∙ front.1 ∙ last.1;
       finished_there = ap (λ m. Some (built forms.Query m)) last.2;
       ends = refl;
       finished_behind = ap (λ m. Some (built m.form m)) last.2;
@@ -192,7 +193,7 @@ values_walk p (z ∷ values) = values_walk (record p { values = p.values ++ z �
 abbrev tuple_named : List ℕ → Parts
 tuple_named name = record no_parts { form = forms.Tuple; name = name }
 
-tuple_read : (w name : List ℕ) (z : ℤ) (values : List ℤ) → IsRead w (ResumeTuple name (record { items = z ∷ values }))
+tuple_read : (w : FreeWords (List ℕ)) (name : List ℕ) (z : ℤ) (values : List ℤ) → IsRead w (ResumeTuple name (record { items = z ∷ values }))
 tuple_read w name z values = record {
   to = AfterValue;
   parts = record (tuple_named name) { values = z ∷ values };
@@ -202,21 +203,79 @@ tuple_read w name z values = record {
   finished_behind = refl;
 }
 
-tuple_items : (w name : List ℕ) (values : List ℤ) → 0 < length values → IsRead w (ResumeTuple name (record { items = values }))
+tuple_items : (w : FreeWords (List ℕ)) (name : List ℕ) (values : List ℤ) → 0 < length values → IsRead w (ResumeTuple name (record { items = values }))
 tuple_items w name [] h = absurd (omega arith)
 tuple_items w name (z ∷ values) h = tuple_read w name z values
 
-stream_items : (w name : List ℕ) (columns : List ColumnDef) → 0 < length columns → IsRead w (CreateStream name (record { items = columns }))
+-- the streams behind TO
+lock_walk : (p : Parts) (c : List ℕ) (cs : List (List ℕ)) → walk LockStream p (separated comma name_tokens (c ∷ cs)) ≡ Ok (AfterLockStream, record p { lock_streams = p.lock_streams ++ c ∷ cs })
+lock_walk p c [] = refl
+lock_walk p c (d ∷ cs) =
+    lock_walk (record p { lock_streams = p.lock_streams ++ c ∷ [] }) d cs ∙ ap (λ xs. Ok (AfterLockStream, record p { lock_streams = xs })) (append_assoc p.lock_streams (c ∷ []) (d ∷ cs))
+
+-- the parts behind LOCK and its key
+abbrev lock_named : FreeWords (List ℕ) → Option ℤ → Parts
+lock_named w k = record no_parts { form = forms.Lock; lock_key = k; spelling = record capitals { lock = w.lock } }
+
+abbrev lock_to : FreeWords (List ℕ) → Option ℤ → Parts
+lock_to w k = record (lock_named w k) { spelling = record capitals { lock = w.lock; to = w.to } }
+
+-- the word LOCK
+lock_first : (w : FreeWords (List ℕ)) (ls : List Lexeme) → IsSpelling w → walk Start no_parts (word w.lock ∷ ls) ≡ walk AfterLock (lock_named w None) ls
+lock_first w ls is = ap (λ b. walk_on (cond b (Some (AfterLock, BeginLock)) (cond (is_unlock w.lock) (Some (UnlockKey, BeginUnlock)) None)) no_parts (word w.lock) ls (λ pl r. walk pl r ls)) is.lock
+
+-- the word TO, and the streams behind it
+to_first : (w : FreeWords (List ℕ)) (place : State) (p : Parts) (ls : List Lexeme) → is_to w.to ≡ true → walk_on (cond (is_to w.to) (Some (LockStream, BeginTo)) None) p (word w.to) ls (λ pl r. walk pl r ls) ≡ walk LockStream (record p { spelling = record p.spelling { to = w.to } }) ls
+to_first w place p ls h = ap (λ b. walk_on (cond b (Some (LockStream, BeginTo)) None) p (word w.to) ls (λ pl r. walk pl r ls)) h
+
+lock_read : (w : FreeWords (List ℕ)) (k : Option ℤ) (streams : List (List ℕ)) → IsSpelling w → IsRead w (Lock k (record { items = streams }))
+lock_read w None [] is = record { to = AfterLock; parts = lock_named w None; read = lock_first w [] is; finished_there = refl; ends = refl; finished_behind = refl }
+lock_read w (Some z) [] is = record { to = AfterLockKey; parts = lock_named w (Some z); read = lock_first w (number z ∷ []) is; finished_there = refl; ends = refl; finished_behind = refl }
+lock_read w None (n ∷ ns) is =
+    let behind = separated comma name_tokens (n ∷ ns) in
+    record {
+      to = AfterLockStream;
+      parts = record (lock_to w None) { lock_streams = n ∷ ns };
+      read = lock_first w (word w.to ∷ behind) is ∙ to_first w AfterLock (lock_named w None) behind is.to ∙ lock_walk (lock_to w None) n ns;
+      finished_there = refl;
+      ends = refl;
+      finished_behind = refl;
+    }
+lock_read w (Some z) (n ∷ ns) is =
+    let behind = separated comma name_tokens (n ∷ ns) in
+    record {
+      to = AfterLockStream;
+      parts = record (lock_to w (Some z)) { lock_streams = n ∷ ns };
+      read = lock_first w (number z ∷ word w.to ∷ behind) is ∙ to_first w AfterLockKey (lock_named w (Some z)) behind is.to ∙ lock_walk (lock_to w (Some z)) n ns;
+      finished_there = refl;
+      ends = refl;
+      finished_behind = refl;
+    }
+
+unlock_read : (w : FreeWords (List ℕ)) (k : ℤ) → IsSpelling w → IsRead w (Unlock k)
+unlock_read w k is =
+    let ls = number k ∷ [] in
+    record {
+      to = Complete;
+      parts = record no_parts { form = forms.Unlock; count = k; spelling = record capitals { unlock = w.unlock } };
+      read = ap (λ b. walk_on (cond b (Some (AfterLock, BeginLock)) (cond (is_unlock w.unlock) (Some (UnlockKey, BeginUnlock)) None)) no_parts (word w.unlock) ls (λ pl r. walk pl r ls)) (no_lock w.unlock is.unlock)
+          ∙ ap (λ b. walk_on (cond b (Some (UnlockKey, BeginUnlock)) None) no_parts (word w.unlock) ls (λ pl r. walk pl r ls)) is.unlock;
+      finished_there = refl;
+      ends = refl;
+      finished_behind = refl;
+    }
+
+stream_items : (w : FreeWords (List ℕ)) (name : List ℕ) (columns : List ColumnDef) → 0 < length columns → IsRead w (CreateStream name (record { items = columns }))
 stream_items w name [] h = absurd (omega arith)
 stream_items w name (c ∷ cs) h = stream_read w name c cs
 
-query_items : (w name : List ℕ) (shared k d : Bool) (select : List ColumnAst) (from : List (List ℕ)) (atoms : List AtomAst) → is_compact w ≡ true → 0 < length select → 0 < length from → AllByRecursion HasColumn atoms → IsRead w (CreateQuery name (record { compact = k; distinct = d; select = record { items = select }; from = record { items = from }; atoms = record { items = atoms } }) shared)
+query_items : (w : FreeWords (List ℕ)) (name : List ℕ) (shared k d : Bool) (select : List ColumnAst) (from : List (List ℕ)) (atoms : List AtomAst) → IsSpelling w → 0 < length select → 0 < length from → AllByRecursion HasColumn atoms → IsRead w (CreateQuery name (record { compact = k; distinct = d; select = record { items = select }; from = record { items = from }; atoms = record { items = atoms } }) shared)
 query_items w name shared k d [] from atoms is h l a = absurd (omega arith)
 query_items w name shared k d (c ∷ cs) [] atoms is h l a = absurd (omega arith)
 query_items w name shared k d (c ∷ cs) (n ∷ ns) atoms is h l a = query_read w name shared k d c cs n ns atoms is a
 
 -- each whole statement is read from its tokens
-pub is_read : (w : List ℕ) (s : Statement) → is_compact w ≡ true → IsWhole s → IsRead w s
+pub is_read : (w : FreeWords (List ℕ)) (s : Statement) → IsSpelling w → IsWhole s → IsRead w s
 is_read w (CreateStream name columns) is h = stream_items w name columns.items h
 is_read w (CreateQuery name select shared) is h = query_items w name shared select.compact select.distinct select.select.items select.from.items select.atoms.items is h.0 h.1 h.2
 is_read w (Explain name) is h = record { to = Complete; parts = record no_parts { form = forms.Explain; name = name }; read = refl; finished_there = refl; ends = refl; finished_behind = refl }
@@ -226,6 +285,8 @@ is_read w (ResumeRows rows) is h = record { to = Complete; parts = record no_par
 is_read w (ResumeGiven name rows) is h = record { to = Complete; parts = record no_parts { form = forms.Given; name = name; count = rows }; read = refl; finished_there = refl; ends = refl; finished_behind = refl }
 is_read w (ResumeCell name index content) is h = record { to = Complete; parts = record no_parts { form = forms.Cell; name = name; index = index; count = content }; read = refl; finished_there = refl; ends = refl; finished_behind = refl }
 is_read w (ResumeTuple name values) is h = tuple_items w name values.items h
+is_read w (Lock k streams) is h = lock_read w k streams.items is
+is_read w (Unlock k) is h = unlock_read w k is
 
 -- what a spelled statement is read as
 pub record ReadAs (ts : List Lexeme) (s : Statement) : Type 0 where
@@ -239,5 +300,5 @@ spelled_read ts s (whole, w, is, spelled) =
     let r = is_read w s is whole in
     elim spelled [
       | inl e ↦ record { to = r.to; parts = r.parts; read = ap (walk Start no_parts) e ∙ r.read; finished_there = r.finished_there }
-      | inr e ↦ record { to = Ended; parts = r.parts; read = ap (walk Start no_parts) e ∙ walk_append Start no_parts (tokens_with (word w ∷ []) s) (semicolon ∷ []) r.to r.parts r.read ∙ r.ends; finished_there = r.finished_behind }
+      | inr e ↦ record { to = Ended; parts = r.parts; read = ap (walk Start no_parts) e ∙ walk_append Start no_parts (tokens_with (written w) s) (semicolon ∷ []) r.to r.parts r.read ∙ r.ends; finished_there = r.finished_behind }
     ]

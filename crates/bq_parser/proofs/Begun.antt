@@ -2,7 +2,7 @@
 use Rattle.std.proofs.Common.{◌≡◌, pos, List, [], ◌∷◌, ◌++◌, refl, ap, sym, ◌∙◌, append_assoc, append-nil, subst}
 use Rattle.bq_text.specs.declared.key.Key.TheVariants.{CreateKey, StreamKey, QueryKey, AsKey, SelectKey, FromKey}
 use Rattle.bq_parser.specs.declared.transitions.State.{State}
-use Rattle.bq_parser.specs.declared.transitions.State.TheVariants.{Start, AfterCreate, AfterShared, AfterCompact, StreamName, OpenColumns, ColumnName, AfterColumn, DomainLow, FirstPoint, SecondPoint, DomainHigh, AfterDomain, QueryName, QueryAs, QuerySelect, FirstSelected, SelectedStream, SelectedPoint, SelectedColumn, AfterSelected, FromName, AfterFrom, AtomLeft, LeftPoint, LeftColumn, ColumnOp, RightAny, IntegerOp, RightStream, RightPoint, RightColumn, AfterAtom, ExplainName, AfterDrop, DropName, AfterResume, ResumeWhat, GivenRows, CellIndex, CellContent, TupleValue, AfterValue, Complete, Ended}
+use Rattle.bq_parser.specs.declared.transitions.State.TheVariants.{Start, AfterCreate, AfterShared, AfterCompact, StreamName, OpenColumns, ColumnName, AfterColumn, DomainLow, FirstPoint, SecondPoint, DomainHigh, AfterDomain, QueryName, QueryAs, QuerySelect, FirstSelected, SelectedStream, SelectedPoint, SelectedColumn, AfterSelected, FromName, AfterFrom, AtomLeft, LeftPoint, LeftColumn, ColumnOp, RightAny, IntegerOp, RightStream, RightPoint, RightColumn, AfterAtom, ExplainName, AfterDrop, DropName, AfterResume, ResumeWhat, GivenRows, CellIndex, CellContent, TupleValue, AfterValue, AfterLock, AfterLockKey, LockStream, AfterLockStream, UnlockKey, Complete, Ended}
 use Rattle.bq_parser.specs.declared.tree.Statement.{Statement}
 use Rattle.bq_parser.specs.Grammar.{Lexeme, word, number, key, point, opening, closing, less, Spells, Begins}
 use Rattle.bq_parser.specs.declared.draft.Form.TheVariants as forms
@@ -152,6 +152,21 @@ begun_ResumeWhat p f h = let next = told_step ResumeWhat p (key AsKey) f in begu
 begun_AfterResume : (p : Parts) → Fine AfterResume p → IsSpelt p → Begins (told AfterResume p)
 begun_AfterResume p f h = let next = told_step AfterResume p (number (pos 0)) f in begun_by (told AfterResume p) _ (number (pos 0)) next.0 (begun_Complete (act actions.RowsAre (number (pos 0)) p) next.1 h)
 
+begun_AfterLock : (p : Parts) → Fine AfterLock p → IsSpelt p → Begins (told AfterLock p)
+begun_AfterLock p f h = begun_whole (told AfterLock p) (built forms.Lock p) (finished_spells AfterLock p (built forms.Lock p) f h refl)
+
+begun_AfterLockKey : (p : Parts) → Fine AfterLockKey p → IsSpelt p → Begins (told AfterLockKey p)
+begun_AfterLockKey p f h = begun_whole (told AfterLockKey p) (built forms.Lock p) (finished_spells AfterLockKey p (built forms.Lock p) f h refl)
+
+begun_AfterLockStream : (p : Parts) → Fine AfterLockStream p → IsSpelt p → Begins (told AfterLockStream p)
+begun_AfterLockStream p f h = begun_whole (told AfterLockStream p) (built forms.Lock p) (finished_spells AfterLockStream p (built forms.Lock p) f h refl)
+
+begun_LockStream : (p : Parts) → Fine LockStream p → IsSpelt p → Begins (told LockStream p)
+begun_LockStream p f h = let next = told_step LockStream p (word (97 ∷ [])) f in begun_by (told LockStream p) _ (word (97 ∷ [])) next.0 (begun_AfterLockStream (act actions.AddLockStream (word (97 ∷ [])) p) next.1 h)
+
+begun_UnlockKey : (p : Parts) → Fine UnlockKey p → IsSpelt p → Begins (told UnlockKey p)
+begun_UnlockKey p f h = let next = told_step UnlockKey p (number (pos 0)) f in begun_by (told UnlockKey p) _ (number (pos 0)) next.0 (begun_Complete (act actions.CountIs (number (pos 0)) p) next.1 h)
+
 begun_Start : (p : Parts) → Fine Start p → IsSpelt p → Begins (told Start p)
 begun_Start p f h = let next = told_step Start p (key CreateKey) f in begun_by (told Start p) _ (key CreateKey) next.0 (begun_AfterCreate (act actions.Nothing (key CreateKey) p) next.1 h)
 
@@ -200,5 +215,10 @@ begun CellIndex p f h = begun_CellIndex p f h
 begun CellContent p f h = begun_CellContent p f h
 begun TupleValue p f h = begun_TupleValue p f h
 begun AfterValue p f h = begun_AfterValue p f h
+begun AfterLock p f h = begun_AfterLock p f h
+begun AfterLockKey p f h = begun_AfterLockKey p f h
+begun LockStream p f h = begun_LockStream p f h
+begun AfterLockStream p f h = begun_AfterLockStream p f h
+begun UnlockKey p f h = begun_UnlockKey p f h
 begun Complete p f h = begun_Complete p f h
 begun Ended p f h = begun_Ended p f h

@@ -6,12 +6,13 @@ use Rattle.bq_text.specs.declared.key.Key.TheVariants.{CreateKey, StreamKey, Que
 use Rattle.bq_lexer.specs.declared.token.TokenKind.{TokenKind}
 use Rattle.bq_lexer.specs.declared.token.TokenKind.TheVariants as kinds
 use Rattle.bq_parser.specs.declared.transitions.State.{State}
-use Rattle.bq_parser.specs.declared.transitions.State.TheVariants.{Start, AfterCreate, AfterShared, AfterCompact, StreamName, OpenColumns, ColumnName, AfterColumn, DomainLow, FirstPoint, SecondPoint, DomainHigh, AfterDomain, QueryName, QueryAs, QuerySelect, FirstSelected, SelectedStream, SelectedPoint, SelectedColumn, AfterSelected, FromName, AfterFrom, AtomLeft, LeftPoint, LeftColumn, ColumnOp, RightAny, IntegerOp, RightStream, RightPoint, RightColumn, AfterAtom, ExplainName, AfterDrop, DropName, AfterResume, ResumeWhat, GivenRows, CellIndex, CellContent, TupleValue, AfterValue, Complete, Ended}
+use Rattle.bq_parser.specs.declared.transitions.State.TheVariants.{Start, AfterCreate, AfterShared, AfterCompact, StreamName, OpenColumns, ColumnName, AfterColumn, DomainLow, FirstPoint, SecondPoint, DomainHigh, AfterDomain, QueryName, QueryAs, QuerySelect, FirstSelected, SelectedStream, SelectedPoint, SelectedColumn, AfterSelected, FromName, AfterFrom, AtomLeft, LeftPoint, LeftColumn, ColumnOp, RightAny, IntegerOp, RightStream, RightPoint, RightColumn, AfterAtom, ExplainName, AfterDrop, DropName, AfterResume, ResumeWhat, GivenRows, CellIndex, CellContent, TupleValue, AfterValue, AfterLock, AfterLockKey, LockStream, AfterLockStream, UnlockKey, Complete, Ended}
 use Rattle.bq_parser.specs.Steps.{step_of}
-use Rattle.bq_parser.specs.Grammar.{is_compact}
+use Rattle.bq_parser.specs.Grammar.{is_compact, is_lock, is_unlock, is_to}
 use Rattle.bq_parser.specs.Syntax.{lexeme_as, lexeme_of, lexemes}
 use Rattle.bq_parser.proofs.WalkLaws.{walk_append}
 use Rattle.bq_parser.proofs.Verdict.{step_same}
+use Rattle.bq_parser.proofs.Compact.{where_either}
 use Rattle.bq_parser.proofs.Told.{where_some}
 use Rattle.bq_lexer.specs.declared.token.Token.{Token}
 use Rattle.bq_lexer.proofs.TextKinds.{integer_text}
@@ -110,6 +111,11 @@ kept_act actions.BeginCell l w p e = refl
 kept_act actions.IndexIs l w p e = ap (λ z. record (kept_parts p) { index = z }) e
 kept_act actions.CountIs l w p e = ap (λ z. record (kept_parts p) { count = z }) e
 kept_act actions.BeginTuple l w p e = refl
+kept_act actions.BeginLock l w p e = refl
+kept_act actions.LockKeyIs l w p e = ap (λ z. record (kept_parts p) { lock_key = Some z }) e
+kept_act actions.BeginTo l w p e = refl
+kept_act actions.AddLockStream l w p e = ap (λ x. record (kept_parts p) { lock_streams = put 16 (kept x) (keep kept 16 p.lock_streams) }) e ∙ ap (λ k. record (kept_parts p) { lock_streams = k }) (put_last kept 16 p.lock_streams (text_of l))
+kept_act actions.BeginUnlock l w p e = refl
 kept_act actions.AddValue l w p e = ap (λ z. record (kept_parts p) { values = put 8 z (keep kept_number 8 p.values) }) e ∙ ap (λ k. record (kept_parts p) { values = k }) (put_last kept_number 8 p.values (number_of l))
 
 -- the text of each token says what its action takes
@@ -132,6 +138,16 @@ says CellIndex kinds.Integer w h = says_value w (h refl)
 says CellContent kinds.Integer w h = says_value w (h refl)
 says TupleValue kinds.Integer w h = says_value w (h refl)
 says AfterValue kinds.Integer w h = says_value w (h refl)
+says AfterLock kinds.Integer w h = says_value w (h refl)
+says UnlockKey kinds.Integer w h = says_value w (h refl)
+says LockStream kinds.Word w h = refl
+says Start kinds.Word w h = where_either (is_lock w) (is_unlock w) (AfterLock, actions.BeginLock) (UnlockKey, actions.BeginUnlock) (λ m. SaysFor m.1 (lexeme_as kinds.Word w) w) (λ e. tt) (λ e. tt)
+says AfterLock kinds.Word w h = where_some (is_to w) (LockStream, actions.BeginTo) (λ m. SaysFor m.1 (lexeme_as kinds.Word w) w) tt
+says AfterLockKey kinds.Word w h = where_some (is_to w) (LockStream, actions.BeginTo) (λ m. SaysFor m.1 (lexeme_as kinds.Word w) w) tt
+says AfterLock kinds.Semi w h = tt
+says AfterLockKey kinds.Semi w h = tt
+says AfterLockStream kinds.Comma w h = tt
+says AfterLockStream kinds.Semi w h = tt
 says AfterResume kinds.Word w h = refl
 says StreamName kinds.Word w h = refl
 says ColumnName kinds.Word w h = refl

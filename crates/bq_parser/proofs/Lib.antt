@@ -18,3 +18,4 @@ pub mod Within
 pub mod NamedAttrs
 pub mod NamedAgain
 pub mod Prefixes
+pub mod Unlocks

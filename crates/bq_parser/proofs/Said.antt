@@ -23,7 +23,7 @@ use Rattle.bq_parser.specs.declared.tree.OperandAst.{OperandAst}
 use Rattle.bq_parser.specs.declared.tree.OperandAst.TheVariants.{Column, Integer}
 use Rattle.bq_parser.specs.declared.tree.AtomAst.{AtomAst}
 use Rattle.bq_parser.specs.declared.tree.SelectAst.{SelectAst}
-use Rattle.bq_parser.specs.Grammar.{Lexeme, word, number, key, comma, semicolon, separated, name_tokens, domain_tokens, coldef_tokens, column_tokens, operand_tokens, op_token, atom_tokens, where_tokens, distinct_tokens, select_tokens, tokens_with}
+use Rattle.bq_parser.specs.Grammar.{Lexeme, word, number, key, comma, semicolon, separated, name_tokens, domain_tokens, coldef_tokens, column_tokens, operand_tokens, op_token, atom_tokens, where_tokens, distinct_tokens, select_tokens, FreeWords, tokens_with, written}
 use Rattle.bq_parser.specs.Syntax.{lexeme_as, lexeme_of, lexemes}
 use Rattle.bq_parser.specs.declared.tree.Statement.TheVariants.{CreateQuery}
 use Rattle.bq_parser.specs.Limits.{word_in, number_in, integers_of, integer_in, integers_in, is_long, is_wide}
@@ -281,5 +281,5 @@ all_behind P w false true more h = h.1.1.1
 all_behind P w false false more h = h.1.1
 
 -- what holds of each token of a query holds of its name, and of those from SELECT on
-pub all_query : (P : Lexeme → Type 0) (w name : List ℕ) (s : SelectAst) (shared : Bool) → AllByRecursion P (tokens_with (word w ∷ []) (CreateQuery name s shared)) → P (word name) × AllByRecursion P (select_tokens s)
-all_query P w name s shared h = let behind = all_behind P w shared s.compact (word name ∷ key AsKey ∷ select_tokens s) h in (behind.0, behind.1.1)
+pub all_query : (P : Lexeme → Type 0) (w : FreeWords (List ℕ)) (name : List ℕ) (s : SelectAst) (shared : Bool) → AllByRecursion P (tokens_with (written w) (CreateQuery name s shared)) → P (word name) × AllByRecursion P (select_tokens s)
+all_query P w name s shared h = let behind = all_behind P w.compact shared s.compact (word name ∷ key AsKey ∷ select_tokens s) h in (behind.0, behind.1.1)

@@ -1,20 +1,21 @@
 -- The tokens that lead to a place, and each step adds one.
-use Rattle.std.proofs.Common.{◌≡◌, ◌<◌, Bool, true, false, cond, List, [], ◌∷◌, ◌++◌, length, map, Option, Some, None, ℤ, IfSome, refl, ap, sym, ◌∙◌, append_assoc, arith, inl, inr, length-append, append-nil, subst}
+use Rattle.std.proofs.Common.{◌≡◌, ℕ, ◌<◌, Bool, true, false, cond, List, [], ◌∷◌, ◌++◌, length, map, Option, Some, None, ℤ, IfSome, refl, ap, sym, ◌∙◌, append_assoc, arith, inl, inr, length-append, append-nil, subst}
 use Rattle.std.specs.List.{AllByRecursion}
 use Rattle.std.proofs.lemmas.List.{map-append}
 use Rattle.bq_text.specs.declared.key.Key.TheVariants.{CreateKey, StreamKey, QueryKey, AsKey, SelectKey, DistinctKey, FromKey, WhereKey, AndKey, ExplainKey, DropKey, InKey, SharedKey, CheckpointKey, ResumeKey}
 use Rattle.bq_parser.specs.declared.transitions.State.{State}
-use Rattle.bq_parser.specs.declared.transitions.State.TheVariants.{Start, AfterCreate, AfterShared, AfterCompact, StreamName, OpenColumns, ColumnName, AfterColumn, DomainLow, FirstPoint, SecondPoint, DomainHigh, AfterDomain, QueryName, QueryAs, QuerySelect, FirstSelected, SelectedStream, SelectedPoint, SelectedColumn, AfterSelected, FromName, AfterFrom, AtomLeft, LeftPoint, LeftColumn, ColumnOp, RightAny, IntegerOp, RightStream, RightPoint, RightColumn, AfterAtom, ExplainName, AfterDrop, DropName, AfterResume, ResumeWhat, GivenRows, CellIndex, CellContent, TupleValue, AfterValue, Complete, Ended}
-use Rattle.bq_parser.specs.declared.transitions.Action.TheVariants.{BeginCompact, BeginSharedCompact}
+use Rattle.bq_parser.specs.declared.transitions.State.TheVariants.{Start, AfterCreate, AfterShared, AfterCompact, StreamName, OpenColumns, ColumnName, AfterColumn, DomainLow, FirstPoint, SecondPoint, DomainHigh, AfterDomain, QueryName, QueryAs, QuerySelect, FirstSelected, SelectedStream, SelectedPoint, SelectedColumn, AfterSelected, FromName, AfterFrom, AtomLeft, LeftPoint, LeftColumn, ColumnOp, RightAny, IntegerOp, RightStream, RightPoint, RightColumn, AfterAtom, ExplainName, AfterDrop, DropName, AfterResume, ResumeWhat, GivenRows, CellIndex, CellContent, TupleValue, AfterValue, AfterLock, AfterLockKey, LockStream, AfterLockStream, UnlockKey, Complete, Ended}
+use Rattle.bq_parser.specs.declared.transitions.Action.TheVariants.{BeginCompact, BeginSharedCompact, BeginLock, BeginTo, BeginUnlock}
 use Rattle.bq_schema.specs.declared.column.ColumnDef.{ColumnDef}
 use Rattle.bq_parser.specs.declared.tree.OperandAst.TheVariants.{Column, Integer}
 use Rattle.bq_parser.specs.declared.tree.AtomAst.{AtomAst}
 use Rattle.bq_parser.specs.declared.tree.SelectAst.{SelectAst}
 use Rattle.bq_parser.specs.Steps.{step_of}
-use Rattle.bq_parser.specs.Grammar.{Lexeme, word, number, key, comma, point, opening, closing, less, equal, greater, less_equal, greater_equal, unequal, semicolon, separated, name_tokens, coldef_tokens, column_tokens, operand_tokens, op_token, atom_tokens, where_tokens, distinct_tokens, shared_tokens, compact_tokens, tokens_with, is_compact, IsColumn, HasColumn, IsWhole}
+use Rattle.bq_parser.specs.Grammar.{Lexeme, word, number, key, comma, point, opening, closing, less, equal, greater, less_equal, greater_equal, unequal, semicolon, separated, name_tokens, coldef_tokens, column_tokens, operand_tokens, op_token, atom_tokens, where_tokens, distinct_tokens, shared_tokens, compact_tokens, key_tokens, to_tokens, tokens_with, written, is_compact, is_lock, is_unlock, is_to, IsColumn, HasColumn, IsWhole}
 use Rattle.bq_parser.specs.declared.draft.Form.{Form}
 use Rattle.bq_parser.specs.declared.draft.Form.TheVariants as forms
 use Rattle.bq_parser.specs.Reading.{Parts, act, text_of, kind_at, built}
+use Rattle.bq_parser.proofs.Compact.{where_either}
 use Rattle.bq_parser.proofs.Said.{select_grouped}
 
 -- each of xs as its tokens, and a separator behind each
@@ -43,7 +44,7 @@ abbrev pub stream_head : Parts → List Lexeme
 stream_head p = key CreateKey ∷ key StreamKey ∷ word p.name ∷ opening ∷ []
 
 abbrev pub create_head : Parts → List Lexeme
-create_head p = key CreateKey ∷ shared_tokens p.shared ++ compact_tokens (word p.spelling ∷ []) p.compact
+create_head p = key CreateKey ∷ shared_tokens p.shared ++ compact_tokens (word p.spelling.compact ∷ []) p.compact
 
 abbrev pub query_head : Parts → List Lexeme
 query_head p = create_head p ++ key QueryKey ∷ word p.name ∷ key AsKey ∷ key SelectKey ∷ distinct_tokens p.distinct
@@ -59,6 +60,12 @@ where_all p = from_head p ++ separated comma name_tokens p.from ++ where_tokens 
 
 abbrev pub tuple_head : Parts → List Lexeme
 tuple_head p = key ResumeKey ∷ word p.name ∷ key SelectKey ∷ []
+
+abbrev pub lock_head : Parts → List Lexeme
+lock_head p = word p.spelling.lock ∷ key_tokens p.lock_key
+
+abbrev pub to_head : Parts → List Lexeme
+to_head p = lock_head p ++ word p.spelling.to ∷ []
 
 -- the tokens before a place
 abbrev pub told : State → Parts → List Lexeme
@@ -105,8 +112,13 @@ told CellIndex p = key ResumeKey ∷ word p.name ∷ key FromKey ∷ []
 told CellContent p = key ResumeKey ∷ word p.name ∷ key FromKey ∷ number p.index ∷ []
 told TupleValue p = tuple_head p
 told AfterValue p = tuple_head p ++ map number p.values
-told Complete p = tokens_with (word p.spelling ∷ []) (built p.form p)
-told Ended p = tokens_with (word p.spelling ∷ []) (built p.form p) ++ semicolon ∷ []
+told AfterLock p = word p.spelling.lock ∷ []
+told AfterLockKey p = lock_head p
+told LockStream p = to_head p ++ ended_by comma name_tokens p.lock_streams
+told AfterLockStream p = to_head p ++ separated comma name_tokens p.lock_streams
+told UnlockKey p = word p.spelling.unlock ∷ []
+told Complete p = tokens_with (written p.spelling) (built p.form p)
+told Ended p = tokens_with (written p.spelling) (built p.form p) ++ semicolon ∷ []
 
 -- what holds of the parts at a place
 pub record Selected (p : Parts) : Type 0 where
@@ -137,6 +149,11 @@ Fine CellIndex p = p.form ≡ forms.Cell
 Fine CellContent p = p.form ≡ forms.Cell
 Fine TupleValue p = (p.form ≡ forms.Tuple) × (p.values ≡ [])
 Fine AfterValue p = (p.form ≡ forms.Tuple) × (0 < length p.values)
+Fine AfterLock p = (p.form ≡ forms.Lock) × (p.lock_key ≡ None) × (p.lock_streams ≡ [])
+Fine AfterLockKey p = (p.form ≡ forms.Lock) × (p.lock_streams ≡ [])
+Fine LockStream p = p.form ≡ forms.Lock
+Fine AfterLockStream p = (p.form ≡ forms.Lock) × (0 < length p.lock_streams)
+Fine UnlockKey p = p.form ≡ forms.Unlock
 Fine Complete p = IsWhole (built p.form p)
 Fine Ended p = IsWhole (built p.form p)
 Fine AfterCompact p = p.form ≡ forms.Query
@@ -182,14 +199,14 @@ more_than_none xs x = omega (arith, length-append xs (x ∷ []))
 regroup : (a b c d e f g : List Lexeme) → a ++ (b ++ (c ++ (d ++ (e ++ (f ++ g))))) ≡ ((((a ++ (b ++ c)) ++ d) ++ e) ++ f) ++ g
 regroup a b c d e f g = simp append_assoc
 
-pub query_spelled : (p : Parts) → tokens_with (word p.spelling ∷ []) (built forms.Query p) ≡ where_all p
+pub query_spelled : (p : Parts) → tokens_with (written p.spelling) (built forms.Query p) ≡ where_all p
 query_spelled p =
     let s : SelectAst = record { compact = p.compact; distinct = p.distinct; select = record { items = p.select }; from = record { items = p.from }; atoms = record { items = p.atoms } } in
     ap (λ ls. create_head p ++ (key QueryKey ∷ word p.name ∷ key AsKey ∷ ls)) (select_grouped s)
     ∙ regroup (create_head p) (key QueryKey ∷ word p.name ∷ key AsKey ∷ key SelectKey ∷ []) (distinct_tokens p.distinct) (separated comma column_tokens p.select) (key FromKey ∷ []) (separated comma name_tokens p.from) (where_tokens p.atoms)
 
-pub query_told : (p : Parts) → p.form ≡ forms.Query → tokens_with (word p.spelling ∷ []) (built p.form p) ≡ where_all p
-query_told p f = ap (λ m. tokens_with (word p.spelling ∷ []) (built m p)) f ∙ query_spelled p
+pub query_told : (p : Parts) → p.form ≡ forms.Query → tokens_with (written p.spelling) (built p.form p) ≡ where_all p
+query_told p f = ap (λ m. tokens_with (written p.spelling) (built m p)) f ∙ query_spelled p
 
 pub none_told : (p : Parts) → p.atoms ≡ [] → where_all p ≡ from_head p ++ separated comma name_tokens p.from
 none_told p e = ap (λ atoms. from_head p ++ separated comma name_tokens p.from ++ where_tokens atoms) e ∙ append-nil (from_head p ++ separated comma name_tokens p.from)
@@ -205,25 +222,47 @@ abbrev pub column_of : Parts → Option (ℤ × ℤ) → ColumnDef
 column_of p domain = record { name = p.column; domain = domain }
 
 -- a stream whose columns are all there
-stream_told : (p : Parts) (columns : List ColumnDef) → p.form ≡ forms.Stream → tokens_with (word p.spelling ∷ []) (built p.form (record p { columns = columns })) ≡ stream_head p ++ (separated comma coldef_tokens columns ++ closing ∷ [])
-stream_told p columns f = ap (λ m. tokens_with (word p.spelling ∷ []) (built m (record p { columns = columns }))) f
+stream_told : (p : Parts) (columns : List ColumnDef) → p.form ≡ forms.Stream → tokens_with (written p.spelling) (built p.form (record p { columns = columns })) ≡ stream_head p ++ (separated comma coldef_tokens columns ++ closing ∷ [])
+stream_told p columns f = ap (λ m. tokens_with (written p.spelling) (built m (record p { columns = columns }))) f
 
 whole_stream : (p : Parts) (columns : List ColumnDef) → p.form ≡ forms.Stream → 0 < length columns → IsWhole (built p.form (record p { columns = columns }))
 whole_stream p columns f some = let P : Form → Type 0 = λ m. IsWhole (built m (record p { columns = columns })) in subst P (sym f) some
 
 -- a line of a checkpoint with one integer, or with two
-given_told : (p : Parts) (z : ℤ) → p.form ≡ forms.Given → (tokens_with (word p.spelling ∷ []) (built p.form (record p { count = z })) ≡ key ResumeKey ∷ word p.name ∷ key AsKey ∷ number z ∷ []) × IsWhole (built p.form (record p { count = z }))
-given_told p z f = let P : Form → Type 0 = λ m. IsWhole (built m (record p { count = z })) in (ap (λ m. tokens_with (word p.spelling ∷ []) (built m (record p { count = z }))) f, subst P (sym f) tt)
+given_told : (p : Parts) (z : ℤ) → p.form ≡ forms.Given → (tokens_with (written p.spelling) (built p.form (record p { count = z })) ≡ key ResumeKey ∷ word p.name ∷ key AsKey ∷ number z ∷ []) × IsWhole (built p.form (record p { count = z }))
+given_told p z f = let P : Form → Type 0 = λ m. IsWhole (built m (record p { count = z })) in (ap (λ m. tokens_with (written p.spelling) (built m (record p { count = z }))) f, subst P (sym f) tt)
 
-cell_told : (p : Parts) (z : ℤ) → p.form ≡ forms.Cell → (tokens_with (word p.spelling ∷ []) (built p.form (record p { count = z })) ≡ key ResumeKey ∷ word p.name ∷ key FromKey ∷ number p.index ∷ number z ∷ []) × IsWhole (built p.form (record p { count = z }))
-cell_told p z f = let P : Form → Type 0 = λ m. IsWhole (built m (record p { count = z })) in (ap (λ m. tokens_with (word p.spelling ∷ []) (built m (record p { count = z }))) f, subst P (sym f) tt)
+cell_told : (p : Parts) (z : ℤ) → p.form ≡ forms.Cell → (tokens_with (written p.spelling) (built p.form (record p { count = z })) ≡ key ResumeKey ∷ word p.name ∷ key FromKey ∷ number p.index ∷ number z ∷ []) × IsWhole (built p.form (record p { count = z }))
+cell_told p z f = let P : Form → Type 0 = λ m. IsWhole (built m (record p { count = z })) in (ap (λ m. tokens_with (written p.spelling) (built m (record p { count = z }))) f, subst P (sym f) tt)
 
 -- the tuple of a checkpoint
-pub tuple_told : (p : Parts) → p.form ≡ forms.Tuple → tokens_with (word p.spelling ∷ []) (built p.form p) ≡ tuple_head p ++ map number p.values
-tuple_told p f = ap (λ m. tokens_with (word p.spelling ∷ []) (built m p)) f
+pub tuple_told : (p : Parts) → p.form ≡ forms.Tuple → tokens_with (written p.spelling) (built p.form p) ≡ tuple_head p ++ map number p.values
+tuple_told p f = ap (λ m. tokens_with (written p.spelling) (built m p)) f
 
 pub whole_tuple : (p : Parts) → p.form ≡ forms.Tuple → 0 < length p.values → IsWhole (built p.form p)
 whole_tuple p f some = let P : Form → Type 0 = λ m. IsWhole (built m p) in subst P (sym f) some
+
+-- a lock with its key and streams
+lock_grouped : (p : Parts) (names : List (List ℕ)) → 0 < length names → lock_head p ++ to_tokens (word p.spelling.to ∷ []) names ≡ to_head p ++ separated comma name_tokens names
+lock_grouped p [] h = absurd (omega arith)
+lock_grouped p (n ∷ ns) h = sym (append_assoc (lock_head p) (word p.spelling.to ∷ []) (separated comma name_tokens (n ∷ ns)))
+
+pub lock_spelled : (p : Parts) → 0 < length p.lock_streams → tokens_with (written p.spelling) (built forms.Lock p) ≡ to_head p ++ separated comma name_tokens p.lock_streams
+lock_spelled p h = lock_grouped p p.lock_streams h
+
+-- a lock without streams
+pub keyed_spelled : (p : Parts) → p.lock_streams ≡ [] → tokens_with (written p.spelling) (built forms.Lock p) ≡ lock_head p
+keyed_spelled p e = ap (λ names. lock_head p ++ to_tokens (word p.spelling.to ∷ []) names) e ∙ append-nil (lock_head p)
+
+-- a lock of neither
+pub bare_spelled : (p : Parts) → p.lock_key ≡ None → p.lock_streams ≡ [] → tokens_with (written p.spelling) (built forms.Lock p) ≡ word p.spelling.lock ∷ []
+bare_spelled p k e = keyed_spelled p e ∙ ap (λ o. word p.spelling.lock ∷ key_tokens o) k
+
+lock_ended : (p : Parts) (ls : List Lexeme) → p.form ≡ forms.Lock → tokens_with (written p.spelling) (built forms.Lock p) ≡ ls → (tokens_with (written p.spelling) (built p.form p) ++ semicolon ∷ [] ≡ ls ++ semicolon ∷ []) × IsWhole (built p.form p)
+lock_ended p ls f e = let P : Form → Type 0 = λ m. IsWhole (built m p) in (ap (λ m. tokens_with (written p.spelling) (built m p) ++ semicolon ∷ []) f ∙ ap (λ r. r ++ semicolon ∷ []) e, subst P (sym f) tt)
+
+unlock_told : (p : Parts) (z : ℤ) → p.form ≡ forms.Unlock → (tokens_with (written p.spelling) (built p.form (record p { count = z })) ≡ word p.spelling.unlock ∷ number z ∷ []) × IsWhole (built p.form (record p { count = z }))
+unlock_told p z f = let P : Form → Type 0 = λ m. IsWhole (built m (record p { count = z })) in (ap (λ m. tokens_with (written p.spelling) (built m (record p { count = z }))) f, subst P (sym f) tt)
 
 -- what may be found holds where it is found
 pub where_some : {X : Type 0} (b : Bool) (x : X) (P : X → Type 0) → P x → IfSome (cond b (Some x) None) P
@@ -325,9 +364,9 @@ told_step RightColumn p (word w) f =
     )
 told_step AfterAtom p (key AndKey) f = (ap (λ r. from_head p ++ separated comma name_tokens p.from ++ r) (sym (where_last p.atoms f.1)) ∙ simp append_assoc, f.0)
 told_step AfterAtom p semicolon f = (ap (λ r. r ++ semicolon ∷ []) (query_told p f.0.form), whole_query p f.0)
-told_step ExplainName p (word w) f = (ap (λ m. tokens_with (word p.spelling ∷ []) (built m (record p { name = w }))) f, (let P : Form → Type 0 = λ m. IsWhole (built m (record p { name = w })) in subst P (sym f) tt))
+told_step ExplainName p (word w) f = (ap (λ m. tokens_with (written p.spelling) (built m (record p { name = w }))) f, (let P : Form → Type 0 = λ m. IsWhole (built m (record p { name = w })) in subst P (sym f) tt))
 told_step AfterDrop p (key QueryKey) f = (refl, f)
-told_step DropName p (word w) f = (ap (λ m. tokens_with (word p.spelling ∷ []) (built m (record p { name = w }))) f, (let P : Form → Type 0 = λ m. IsWhole (built m (record p { name = w })) in subst P (sym f) tt))
+told_step DropName p (word w) f = (ap (λ m. tokens_with (written p.spelling) (built m (record p { name = w }))) f, (let P : Form → Type 0 = λ m. IsWhole (built m (record p { name = w })) in subst P (sym f) tt))
 told_step AfterResume p (number z) f = (refl, tt)
 told_step AfterResume p (word w) f = (refl, tt)
 told_step ResumeWhat p (key AsKey) f = (refl, refl)
@@ -339,6 +378,27 @@ told_step CellContent p (number z) f = cell_told p z f
 told_step TupleValue p (number z) f = (ap (λ zs. tuple_head p ++ map number (zs ++ z ∷ [])) f.1, (f.0, more_than_none p.values z))
 told_step AfterValue p (number z) f = (ap (λ ls. tuple_head p ++ ls) (map-append number p.values (z ∷ [])), (f.0, more_than_none p.values z))
 told_step AfterValue p semicolon f = (ap (λ ls. ls ++ semicolon ∷ []) (tuple_told p f.0), whole_tuple p f.0 f.1)
+told_step Start p (word w) f =
+    where_either (is_lock w) (is_unlock w) (AfterLock, BeginLock) (UnlockKey, BeginUnlock) (λ m. (told m.0 (act m.1 (word w) p) ≡ told Start p ++ word w ∷ []) × Fine m.0 (act m.1 (word w) p)) (λ e. (refl, (refl, refl, refl))) (λ e. (refl, refl))
+told_step AfterLock p (number z) f = (refl, (f.0, f.2))
+told_step AfterLock p (word w) f =
+    where_some (is_to w) (LockStream, BeginTo) (λ m. (told m.0 (act m.1 (word w) p) ≡ told AfterLock p ++ word w ∷ []) × Fine m.0 (act m.1 (word w) p))
+    (ap (λ o. ((word p.spelling.lock ∷ key_tokens o) ++ word w ∷ []) ++ ended_by comma name_tokens p.lock_streams) f.1 ∙ ap (λ names. (word p.spelling.lock ∷ word w ∷ []) ++ ended_by comma name_tokens names) f.2, f.0)
+told_step AfterLock p semicolon f = lock_ended p (told AfterLock p) f.0 (bare_spelled p f.1 f.2)
+told_step AfterLockKey p (word w) f =
+    where_some (is_to w) (LockStream, BeginTo) (λ m. (told m.0 (act m.1 (word w) p) ≡ told AfterLockKey p ++ word w ∷ []) × Fine m.0 (act m.1 (word w) p))
+    (ap (λ names. (lock_head p ++ word w ∷ []) ++ ended_by comma name_tokens names) f.1 ∙ append-nil (lock_head p ++ word w ∷ []), f.0)
+told_step AfterLockKey p semicolon f = lock_ended p (told AfterLockKey p) f.0 (keyed_spelled p f.1)
+told_step LockStream p (word w) f = (
+  ap (λ r. to_head p ++ r) (separated_more comma name_tokens p.lock_streams w) ∙ sym (append_assoc (to_head p) (ended_by comma name_tokens p.lock_streams) (word w ∷ [])),
+  (f, more_than_none p.lock_streams w),
+)
+told_step AfterLockStream p comma f = (
+  ap (λ r. to_head p ++ r) (sym (ended_last comma name_tokens p.lock_streams f.1)) ∙ sym (append_assoc (to_head p) (separated comma name_tokens p.lock_streams) (comma ∷ [])),
+  f.0,
+)
+told_step AfterLockStream p semicolon f = lock_ended p (told AfterLockStream p) f.0 (lock_spelled p f.1)
+told_step UnlockKey p (number z) f = unlock_told p z f
 told_step Complete p semicolon f = (refl, f)
 told_step Ended p (word w) f = tt
 told_step _ _ _ _ = tt

@@ -4,7 +4,7 @@ use Rattle.bq_lexer.specs.declared.token.TokenKind.{TokenKind}
 use Rattle.bq_lexer.specs.declared.token.TokenKind.TheVariants.{Word, Reserved, Integer, Comma, Point, Open, Close, Less, Equal, Greater, LessEqual, GreaterEqual, Unequal, Semi}
 use Rattle.bq_lexer.specs.declared.token.Token.{Token}
 use Rattle.bq_parser.specs.declared.transitions.State.{State}
-use Rattle.bq_parser.specs.declared.transitions.State.TheVariants.{Start, AfterFrom, AfterAtom, AfterValue, Complete, Ended}
+use Rattle.bq_parser.specs.declared.transitions.State.TheVariants.{Start, AfterFrom, AfterAtom, AfterValue, AfterLock, AfterLockKey, AfterLockStream, Complete, Ended}
 use Rattle.bq_parser.specs.declared.transitions.Action.{Action}
 use Rattle.bq_parser.specs.declared.tree.Statement.{Statement}
 use Rattle.std.specs.Prelude.{slice_range}
@@ -13,7 +13,7 @@ use Rattle.bq_parser.specs.Grammar.{Lexeme, Spells, Begins}
 use Rattle.bq_parser.specs.declared.draft.Form.TheVariants as forms
 use Rattle.bq_parser.specs.Reading.{Parts, no_parts, act, text_of, kind_at, built, finished, walk, walk_on, may_end}
 use Rattle.bq_parser.specs.Syntax.{lexeme_as, lexeme_of, lexemes, StopsAt, EndsEarly, after_step, state_after}
-use Rattle.bq_parser.proofs.Compact.{capitals, spelt_walk}
+use Rattle.bq_parser.proofs.Compact.{in_capitals, spelt_walk}
 use Rattle.bq_parser.proofs.WalkLaws.{walk_told, stopped_always}
 use Rattle.bq_parser.proofs.Begun.{begun}
 use Rattle.bq_parser.proofs.Again.{spelled_read}
@@ -70,7 +70,7 @@ stops line place p (t ∷ ts) at e = stops_on line place p t ts at (step_of plac
 
 -- what is read so far begins a statement
 pub begins_read : (ts : List Lexeme) (to : State) (q : Parts) → walk Start no_parts ts ≡ Ok (to, q) → Begins ts
-begins_read ts to q e = let t = walk_told Start no_parts ts to q tt e in subst Begins t.0 (begun to q t.1 (spelt_walk Start no_parts ts to q capitals e))
+begins_read ts to q e = let t = walk_told Start no_parts ts to q tt e in subst Begins t.0 (begun to q t.1 (spelt_walk Start no_parts ts to q in_capitals e))
 
 stopped_begins : (front : List Lexeme) (stop : Lexeme) (to : State) (q : Parts) → walk Start no_parts front ≡ Ok (to, q) → step_of to (kind_at stop) (text_of stop) ≡ None → Begins (front ++ stop ∷ []) → ⊥
 stopped_begins front stop to q read none (more, s, spells) =
@@ -96,6 +96,9 @@ not_finished : (place : State) (p : Parts) → may_end place ≡ false → finis
 not_finished AfterFrom p e = cc
 not_finished AfterAtom p e = cc
 not_finished AfterValue p e = cc
+not_finished AfterLock p e = cc
+not_finished AfterLockKey p e = cc
+not_finished AfterLockStream p e = cc
 not_finished Complete p e = cc
 not_finished Ended p e = cc
 not_finished _ p e = refl
@@ -104,6 +107,9 @@ pub is_finished : (place : State) (p : Parts) → may_end place ≡ true → (s 
 is_finished AfterFrom p e = (built forms.Query p, refl)
 is_finished AfterAtom p e = (built forms.Query p, refl)
 is_finished AfterValue p e = (built forms.Tuple p, refl)
+is_finished AfterLock p e = (built forms.Lock p, refl)
+is_finished AfterLockKey p e = (built forms.Lock p, refl)
+is_finished AfterLockStream p e = (built forms.Lock p, refl)
 is_finished Complete p e = (built p.form p, refl)
 is_finished Ended p e = (built p.form p, refl)
 is_finished _ p e = cc

@@ -1,7 +1,7 @@
 -- What reading tells of the grammar.
 use Rattle.std.proofs.Common.{◌≡◌, List, [], ◌∷◌, ◌++◌, Option, Some, None, IfSome, refl, ap, sym, ◌∙◌, append_assoc, inl, inr, append-nil, subst, Ok, Err}
 use Rattle.bq_parser.specs.declared.transitions.State.{State}
-use Rattle.bq_parser.specs.declared.transitions.State.TheVariants.{AfterFrom, AfterAtom, AfterValue, Complete, Ended}
+use Rattle.bq_parser.specs.declared.transitions.State.TheVariants.{AfterFrom, AfterAtom, AfterValue, AfterLock, AfterLockKey, AfterLockStream, Complete, Ended}
 use Rattle.bq_parser.specs.declared.tree.Statement.{Statement}
 use Rattle.bq_parser.specs.Steps.{step_of}
 use Rattle.bq_parser.specs.Grammar.{Lexeme, Spells}
@@ -9,7 +9,7 @@ use Rattle.bq_parser.specs.declared.draft.Form.TheVariants as forms
 use Rattle.bq_parser.specs.Reading.{Parts, act, text_of, kind_at, built, finished, walk, walk_on}
 use Rattle.bq_parser.specs.declared.transitions.Action.{Action}
 use Rattle.bq_parser.proofs.Compact.{IsSpelt}
-use Rattle.bq_parser.proofs.Told.{told, Fine, told_step, none_told, query_spelled, no_atoms}
+use Rattle.bq_parser.proofs.Told.{told, Fine, told_step, none_told, query_spelled, no_atoms, lock_spelled, keyed_spelled, bare_spelled}
 
 -- what one step and the rest of a walk tell
 abbrev pub WalkTold : State → Parts → List Lexeme → State → Parts → Type 0
@@ -90,6 +90,18 @@ finished_spells AfterValue p s f h e =
     let same : built forms.Tuple p ≡ s = cc in
     let P : Statement → Type 0 = λ s. Spells (told AfterValue p) s in
     subst P same (f.1, p.spelling, h, inl refl)
+finished_spells AfterLock p s f h e =
+    let same : built forms.Lock p ≡ s = cc in
+    let P : Statement → Type 0 = λ s. Spells (told AfterLock p) s in
+    subst P same (tt, p.spelling, h, inl (sym (bare_spelled p f.1 f.2)))
+finished_spells AfterLockKey p s f h e =
+    let same : built forms.Lock p ≡ s = cc in
+    let P : Statement → Type 0 = λ s. Spells (told AfterLockKey p) s in
+    subst P same (tt, p.spelling, h, inl (sym (keyed_spelled p f.1)))
+finished_spells AfterLockStream p s f h e =
+    let same : built forms.Lock p ≡ s = cc in
+    let P : Statement → Type 0 = λ s. Spells (told AfterLockStream p) s in
+    subst P same (tt, p.spelling, h, inl (sym (lock_spelled p f.1)))
 finished_spells Complete p s f h e =
     let same : built p.form p ≡ s = cc in
     let P : Statement → Type 0 = λ s. Spells (told Complete p) s in

@@ -12,7 +12,7 @@ use Rattle.bq_lexer.specs.Tokens.{tokens}
 use Rattle.bq_lexer.specs.Standing.{StandFrom}
 use Rattle.bq_model.specs.Query.{is_soft}
 use Rattle.bq_parser.specs.declared.transitions.State.{State}
-use Rattle.bq_parser.specs.declared.transitions.State.TheVariants.{Start, AfterFrom, AfterAtom, AfterValue, Complete, Ended}
+use Rattle.bq_parser.specs.declared.transitions.State.TheVariants.{Start, AfterFrom, AfterAtom, AfterValue, AfterLock, AfterLockKey, AfterLockStream, Complete, Ended}
 use Rattle.bq_schema.specs.declared.column.ColumnDef.{ColumnDef}
 use Rattle.bq_parser.specs.declared.tree.ColumnAst.{ColumnAst}
 use Rattle.bq_parser.specs.declared.tree.OperandAst.{OperandAst}
@@ -20,7 +20,7 @@ use Rattle.bq_parser.specs.declared.tree.OperandAst.TheVariants.{Column, Integer
 use Rattle.bq_parser.specs.declared.tree.AtomAst.{AtomAst}
 use Rattle.bq_parser.specs.declared.tree.SelectAst.{SelectAst}
 use Rattle.bq_parser.specs.declared.tree.Statement.{Statement}
-use Rattle.bq_parser.specs.declared.tree.Statement.TheVariants.{CreateStream, CreateQuery, Explain, DropQuery, Checkpoint, ResumeRows, ResumeGiven, ResumeCell, ResumeTuple}
+use Rattle.bq_parser.specs.declared.tree.Statement.TheVariants.{CreateStream, CreateQuery, Explain, DropQuery, Checkpoint, ResumeRows, ResumeGiven, ResumeCell, ResumeTuple, Lock, Unlock}
 use Rattle.bq_parser.specs.declared.draft.Draft.{Draft}
 use Rattle.bq_parser.specs.declared.draft.Form.{Form}
 use Rattle.bq_parser.specs.declared.draft.Form.TheVariants as forms
@@ -28,12 +28,12 @@ use Rattle.bq_parser.specs.declared.parsing.What.{What}
 use Rattle.bq_parser.specs.declared.parsing.What.TheVariants as limits
 use Rattle.bq_parser.specs.DraftSteps.{kept, statement_by, statement_of}
 use Rattle.bq_parser.specs.DraftLimits.{is_long_token, is_wide_token, ends_in, limit_in_atoms, limit_in_columns, limit_by, limit_in}
-use Rattle.bq_parser.specs.Grammar.{Lexeme, word, number, key, comma, closing, semicolon, separated, name_tokens, coldef_tokens, column_tokens, operand_tokens, op_token, atom_tokens, where_tokens, distinct_tokens, select_tokens, tokens_with, Spells}
+use Rattle.bq_parser.specs.Grammar.{Lexeme, word, number, key, comma, closing, semicolon, separated, name_tokens, coldef_tokens, column_tokens, operand_tokens, op_token, atom_tokens, where_tokens, distinct_tokens, select_tokens, to_tokens, FreeWords, tokens_with, written, Spells}
 use Rattle.bq_parser.specs.Reading.{Parts, no_parts, built, finished, may_end}
 use Rattle.bq_parser.specs.Syntax.{lexemes, IsStatement}
-use Rattle.bq_parser.specs.Keeping.{kept_column, kept_number, kept_domain, kept_def, kept_operand, kept_atom, kept_parts, IsRead}
-use Rattle.bq_parser.specs.Limits.{word_in, number_in, names_of, integers_of, columns_of, selected_by, streams_of, atoms_of, soft_in, column_in, columns_in, integer_in, integers_in, same_column, number_of_different, is_long, is_far, is_wide, is_beyond, values_of, is_reversed, limit_of}
-use Rattle.bq_parser.proofs.Compact.{capitals, spelt_walk, long_with, numbers_with}
+use Rattle.bq_parser.specs.Keeping.{kept_column, kept_number, kept_domain, kept_key, kept_def, kept_operand, kept_atom, kept_parts, IsRead}
+use Rattle.bq_parser.specs.Limits.{word_in, number_in, names_of, integers_of, columns_of, selected_by, streams_of, atoms_of, soft_in, column_in, columns_in, integer_in, integers_in, same_column, number_of_different, is_long, is_far, is_wide, is_beyond, values_of, opened_by, is_reversed, limit_of}
+use Rattle.bq_parser.proofs.Compact.{in_capitals, spelt_walk, long_with, numbers_with}
 use Rattle.bq_parser.proofs.Told.{Fine}
 use Rattle.bq_parser.proofs.WalkLaws.{walk_told, finished_spells}
 use Rattle.bq_parser.proofs.Verdict.{is_finished}
@@ -265,9 +265,10 @@ limit_of_lists s =
     (cond (list_any (is_beyond s) (integers_of s)) (Some limits.Value)
     (cond (nat_lt 6 (number_of_different int_eq (integers_in (atoms_of s)))) (Some limits.Consts)
     (cond (list_any (λ c. is_reversed c.domain) (columns_of s)) (Some limits.Domain)
-    (cond (nat_lt 8 (length (values_of s))) (Some limits.Tuple) None)))))))))
+    (cond (nat_lt 8 (length (values_of s))) (Some limits.Tuple)
+    (cond (nat_lt 16 (length (opened_by s))) (Some limits.Streams) None))))))))))
 
-same_limit : (w : List ℕ) (m : Form) (p : Parts) (wide : Bool) → wide ≡ list_any is_wide (integers_of (built m p)) → AllByRecursion IsNamed (tokens_with (word w ∷ []) (built m p)) → limit_by wide m (kept_parts p) ≡ limit_of_lists (built m p)
+same_limit : (w : FreeWords (List ℕ)) (m : Form) (p : Parts) (wide : Bool) → wide ≡ list_any is_wide (integers_of (built m p)) → AllByRecursion IsNamed (tokens_with (written w) (built m p)) → limit_by wide m (kept_parts p) ≡ limit_of_lists (built m p)
 same_limit w forms.Stream p wide e h =
     unless (nat_lt 8 (length p.columns)) (Some limits.Columns) _ _ (λ columns.
     kept_columns_limit p.columns (few (length p.columns) 8 columns)
@@ -288,6 +289,8 @@ same_limit w forms.Rows p wide e h = ap (λ b. cond b (Some limits.Value) None) 
 same_limit w forms.Given p wide e h = ap (λ b. cond b (Some limits.Value) None) e
 same_limit w forms.Cell p wide e h = ap (λ b. cond b (Some limits.Value) None) e
 same_limit w forms.Tuple p wide e h = ap (λ b. cond b (Some limits.Value) (cond (nat_lt 8 (length p.values)) (Some limits.Tuple) None)) e
+same_limit w forms.Lock p wide e h = ap (λ b. cond b (Some limits.Value) (cond (nat_lt 16 (length p.lock_streams)) (Some limits.Streams) None)) e
+same_limit w forms.Unlock p wide e h = ap (λ b. cond b (Some limits.Value) None) e
 
 -- no limit is passed, so none of the first ones is
 not_passed : {X : Type 0} (b : Bool) (x : X) (r : Option X) → cond b (Some x) r ≡ None → (b ≡ false) × (r ≡ None)
@@ -322,7 +325,20 @@ all_fits_kept (z ∷ zs) h = ap (λ y. y ∷ map kept_number zs) (fits_kept z (o
 kept_list : {X : Type 0} (f : X → X) (n : ℕ) (xs : List X) → nat_lt n (length xs) ≡ false → map f xs ≡ xs → take n (map f xs) ≡ xs
 kept_list f n xs short same = ap (take n) same ∙ take_all n xs (few (length xs) n short)
 
-same_statement : (w : List ℕ) (m : Form) (p : Parts) → p.form ≡ m → AllByRecursion IsNamed (tokens_with (word w ∷ []) (built m p)) → limit_of_lists (built m p) ≡ None → statement_by m (kept_parts p) ≡ built m p
+-- the key of a lock, and the streams behind TO
+key_kept : (k : Option ℤ) (streams : List (List ℕ)) → list_any is_wide (integers_of (Lock k (record { items = streams }))) ≡ false → kept_key k ≡ k
+key_kept None streams h = refl
+key_kept (Some z) streams h = ap Some (fits_kept z (or_left (is_wide z) _ h))
+
+names_behind : (w : FreeWords (List ℕ)) (k : Option ℤ) (streams : List (List ℕ)) → AllByRecursion IsNamed (tokens_with (written w) (Lock k (record { items = streams }))) → AllByRecursion IsNamed (to_tokens (word w.to ∷ []) streams)
+names_behind w None streams h = h.1
+names_behind w (Some z) streams h = h.1.1
+
+streams_kept : (w : FreeWords (List ℕ)) (streams : List (List ℕ)) → AllByRecursion IsNamed (to_tokens (word w.to ∷ []) streams) → map kept streams ≡ streams
+streams_kept w [] h = refl
+streams_kept w (n ∷ ns) h = kept_names (n ∷ ns) (all_separated IsNamed comma name_tokens (n ∷ ns) h.1)
+
+same_statement : (w : FreeWords (List ℕ)) (m : Form) (p : Parts) → p.form ≡ m → AllByRecursion IsNamed (tokens_with (written w) (built m p)) → limit_of_lists (built m p) ≡ None → statement_by m (kept_parts p) ≡ built m p
 same_statement w forms.Stream p f h e =
     let names = h.1.1 in
     let cs = not_passed (nat_lt 8 (length p.columns)) limits.Columns _ e in
@@ -363,6 +379,14 @@ same_statement w forms.Tuple p f h e =
     let few_values = not_passed (nat_lt 8 (length p.values)) limits.Tuple _ fits.1 in
     ap (λ w. ResumeTuple w (record { items = take 8 (map kept_number p.values) })) (kept_name p.name h.1.0)
     ∙ ap (λ zs. ResumeTuple p.name (record { items = zs })) (kept_list kept_number 8 p.values few_values.0 (all_fits_kept p.values (ap (list_any is_wide) (sym (numbers_tuple p.values)) ∙ fits.0)))
+same_statement w forms.Lock p f h e =
+    let fits = not_passed (list_any is_wide (integers_of (Lock p.lock_key (record { items = p.lock_streams })))) limits.Value _ e in
+    let few_streams = not_passed (nat_lt 16 (length p.lock_streams)) limits.Streams _ fits.1 in
+    ap (λ k. Lock k (record { items = take 16 (map kept p.lock_streams) })) (key_kept p.lock_key p.lock_streams fits.0)
+    ∙ ap (λ names. Lock p.lock_key (record { items = names })) (kept_list kept 16 p.lock_streams few_streams.0 (streams_kept w p.lock_streams (names_behind w p.lock_key p.lock_streams h)))
+same_statement w forms.Unlock p f h e =
+    let fits = not_passed (list_any is_wide (p.count ∷ [])) limits.Value _ e in
+    ap Unlock (fits_kept p.count (or_left (is_wide p.count) false fits.0))
 
 same_some : {X : Type 0} (a b : X) → Some a ≡ Some b → a ≡ b
 same_some a b e = cc
@@ -372,6 +396,9 @@ form_there : (place : State) (p : Parts) (s : Statement) → Fine place p → fi
 form_there AfterFrom p s f e = same_some s (built forms.Query p) (sym e) ∙ ap (λ m. built m p) (sym f.0.form)
 form_there AfterAtom p s f e = same_some s (built forms.Query p) (sym e) ∙ ap (λ m. built m p) (sym f.0.form)
 form_there AfterValue p s f e = same_some s (built forms.Tuple p) (sym e) ∙ ap (λ m. built m p) (sym f.0)
+form_there AfterLock p s f e = same_some s (built forms.Lock p) (sym e) ∙ ap (λ m. built m p) (sym f.0)
+form_there AfterLockKey p s f e = same_some s (built forms.Lock p) (sym e) ∙ ap (λ m. built m p) (sym f.0)
+form_there AfterLockStream p s f e = same_some s (built forms.Lock p) (sym e) ∙ ap (λ m. built m p) (sym f.0)
 form_there Complete p s f e = same_some s (built p.form p) (sym e)
 form_there Ended p s f e = same_some s (built p.form p) (sym e)
 form_there _ p s f e = cc
@@ -386,16 +413,16 @@ pub record Judged (line : List ℕ) (ts : List Token) (d : Draft) : Type 0 where
 -- a name of a spelled statement is too long where one of its tokens is
 long_spelled : (ls : List Lexeme) (s : Statement) → Spells ls s → list_any is_long (flat_map word_in ls) ≡ list_any is_long (names_of s)
 long_spelled ls s (whole, w, is, inl e) = ap (λ r. list_any is_long (flat_map word_in r)) e ∙ long_with w s is
-long_spelled ls s (whole, w, is, inr e) = ap (λ r. list_any is_long (flat_map word_in r)) e ∙ ap (list_any is_long) (without_semicolon (tokens_with (word w ∷ []) s)) ∙ long_with w s is
+long_spelled ls s (whole, w, is, inr e) = ap (λ r. list_any is_long (flat_map word_in r)) e ∙ ap (list_any is_long) (without_semicolon (tokens_with (written w) s)) ∙ long_with w s is
 
 -- the integers of a spelled statement are those of its tokens
 pub integers_spelled : (ls : List Lexeme) (s : Statement) → Spells ls s → flat_map number_in ls ≡ integers_of s
 integers_spelled ls s (whole, w, is, inl e) = ap (flat_map number_in) e ∙ numbers_with w s
-integers_spelled ls s (whole, w, is, inr e) = ap (flat_map number_in) e ∙ integers_but_semicolon (tokens_with (word w ∷ []) s) ∙ numbers_with w s
+integers_spelled ls s (whole, w, is, inr e) = ap (flat_map number_in) e ∙ integers_but_semicolon (tokens_with (written w) s) ∙ numbers_with w s
 
-named_spelled : (ls : List Lexeme) (s : Statement) (t : Spells ls s) → AllByRecursion IsNamed ls → AllByRecursion IsNamed (tokens_with (word t.1 ∷ []) s)
+named_spelled : (ls : List Lexeme) (s : Statement) (t : Spells ls s) → AllByRecursion IsNamed ls → AllByRecursion IsNamed (tokens_with (written t.1) s)
 named_spelled ls s (whole, w, is, inl e) h = let P : List Lexeme → Type 0 = λ r. AllByRecursion IsNamed r in subst P e h
-named_spelled ls s (whole, w, is, inr e) h = let P : List Lexeme → Type 0 = λ r. AllByRecursion IsNamed r in all_left IsNamed (tokens_with (word w ∷ []) s) (semicolon ∷ []) (subst P e h)
+named_spelled ls s (whole, w, is, inr e) h = let P : List Lexeme → Type 0 = λ r. AllByRecursion IsNamed r in all_left IsNamed (tokens_with (written w) s) (semicolon ∷ []) (subst P e h)
 
 judged_parts : (line : List ℕ) (ts : List Token) (p : Parts) → IsStatement line (built p.form p) → Spells (lexemes line ts) (built p.form p) → StandFrom line 0 ts → Judged line ts (kept_parts p)
 judged_parts line ts p is spells stand =
@@ -403,7 +430,7 @@ judged_parts line ts p is spells stand =
     let cuts = cut_at line 0 ts stand in
     let long : list_any is_long_token ts ≡ list_any is_long (names_of s) = long_names line ts cuts ∙ long_spelled (lexemes line ts) s spells in
     let wide : list_any (is_wide_token line) ts ≡ list_any is_wide (integers_of s) = wide_numbers line ts cuts ∙ ap (list_any is_wide) (integers_spelled (lexemes line ts) s spells) in
-    let named : list_any is_long (names_of s) ≡ false → AllByRecursion IsNamed (tokens_with (word spells.1 ∷ []) s) = λ short. named_spelled (lexemes line ts) s spells (all_named line ts cuts (sym (long_names line ts cuts) ∙ long ∙ short)) in
+    let named : list_any is_long (names_of s) ≡ false → AllByRecursion IsNamed (tokens_with (written spells.1) s) = λ short. named_spelled (lexemes line ts) s spells (all_named line ts cuts (sym (long_names line ts cuts) ∙ long ∙ short)) in
     record {
       statement = s;
       is = is;
@@ -421,7 +448,7 @@ judged line ts place d lexed stand r ends =
     let P : List Lexeme → Type 0 = λ ls. Spells ls f.0 in
     let Q : Statement → Type 0 = λ s. Spells (lexemes line ts) s in
     let form = form_there place r.parts f.0 t.1 f.1 in
-    let spells = subst Q form (subst P t.0 (finished_spells place r.parts f.0 t.1 (spelt_walk Start no_parts (lexemes line ts) place r.parts capitals r.read) f.1)) in
+    let spells = subst Q form (subst P t.0 (finished_spells place r.parts f.0 t.1 (spelt_walk Start no_parts (lexemes line ts) place r.parts in_capitals r.read) f.1)) in
     let D : Draft → Type 0 = λ x. Judged line ts x in
     subst D (sym r.keeps) (judged_parts line ts r.parts (record { its_tokens = ts; lexed = lexed; spelled = spells }) spells stand)
 
@@ -438,6 +465,8 @@ beyond_wide (ResumeRows rows) z h = h
 beyond_wide (ResumeGiven name rows) z h = h
 beyond_wide (ResumeCell name index content) z h = h
 beyond_wide (ResumeTuple name values) z h = h
+beyond_wide (Lock k streams) z h = h
+beyond_wide (Unlock k) z h = h
 beyond_wide (CreateStream name columns) z h = ap not (near_fits z h)
 beyond_wide (CreateQuery name select shared) z h = ap not (near_fits z h)
 beyond_wide (Explain name) z h = ap not (near_fits z h)

@@ -56,6 +56,10 @@ limit_in_columns columns =
 abbrev pub limit_in_values : Bool → Bool → Option What
 limit_in_values wide over = if wide then Some limits.Value else (if over then Some limits.Tuple else None)
 
+-- the same for the integer of a lock, and its streams
+abbrev pub limit_in_lock : Bool → Bool → Option What
+limit_in_lock wide over = if wide then Some limits.Value else (if over then Some limits.Streams else None)
+
 -- the first limit that the lists of a draft pass, by its form and by whether an integer of its line has more than 64 bits
 abbrev pub limit_by : Bool → Form → Draft → Option What
 limit_by wide forms.Stream d = if d.columns.over then Some limits.Columns else limit_in_columns d.columns.list.items
@@ -70,6 +74,8 @@ limit_by wide forms.Rows d = limit_in_values wide false
 limit_by wide forms.Given d = limit_in_values wide false
 limit_by wide forms.Cell d = limit_in_values wide false
 limit_by wide forms.Tuple d = limit_in_values wide d.values.over
+limit_by wide forms.Lock d = limit_in_lock wide d.lock_streams.over
+limit_by wide forms.Unlock d = limit_in_values wide false
 
 -- the first limit that is passed
 abbrev pub limit_in : List ℕ → List Token → Draft → Option What

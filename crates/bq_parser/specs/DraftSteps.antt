@@ -10,7 +10,7 @@ use Rattle.bq_parser.specs.declared.tree.OperandAst.{OperandAst}
 use Rattle.bq_parser.specs.declared.tree.OperandAst.TheVariants.{Column, Integer}
 use Rattle.bq_parser.specs.declared.tree.AtomAst.{AtomAst}
 use Rattle.bq_parser.specs.declared.tree.Statement.{Statement}
-use Rattle.bq_parser.specs.declared.tree.Statement.TheVariants.{CreateStream, CreateQuery, Explain, DropQuery, Checkpoint, ResumeRows, ResumeGiven, ResumeCell, ResumeTuple}
+use Rattle.bq_parser.specs.declared.tree.Statement.TheVariants.{CreateStream, CreateQuery, Explain, DropQuery, Checkpoint, ResumeRows, ResumeGiven, ResumeCell, ResumeTuple, Lock, Unlock}
 use Rattle.bq_parser.specs.declared.draft.Draft.{Draft}
 use Rattle.bq_parser.specs.declared.draft.DraftList.{DraftList}
 use Rattle.bq_parser.specs.declared.draft.Form.{Form}
@@ -81,6 +81,11 @@ drafted actions.IndexIs w d = record d { index = or_far (value_of w) }
 drafted actions.CountIs w d = record d { count = or_far (value_of w) }
 drafted actions.BeginTuple w d = record d { form = forms.Tuple; values = no_items }
 drafted actions.AddValue w d = record d { values = put 8 (or_far (value_of w)) d.values }
+drafted actions.BeginLock w d = record d { form = forms.Lock; lock_key = None; lock_streams = no_items }
+drafted actions.LockKeyIs w d = record d { lock_key = Some (or_far (value_of w)) }
+drafted actions.BeginTo w d = d
+drafted actions.AddLockStream w d = record d { lock_streams = put 16 (kept w) d.lock_streams }
+drafted actions.BeginUnlock w d = record d { form = forms.Unlock }
 
 -- the statement of a form that a draft is
 abbrev pub statement_by : Form → Draft → Statement
@@ -93,6 +98,8 @@ statement_by forms.Rows d = ResumeRows d.count
 statement_by forms.Given d = ResumeGiven d.name d.count
 statement_by forms.Cell d = ResumeCell d.name d.index d.count
 statement_by forms.Tuple d = ResumeTuple d.name d.values.list
+statement_by forms.Lock d = Lock d.lock_key d.lock_streams.list
+statement_by forms.Unlock d = Unlock d.count
 
 -- the statement that a whole draft is
 abbrev pub statement_of : Draft → Statement

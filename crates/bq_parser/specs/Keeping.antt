@@ -36,6 +36,11 @@ abbrev pub kept_domain : Option (ℤ × ℤ) → Option (ℤ × ℤ)
 kept_domain None = None
 kept_domain (Some ends) = Some (kept_number ends.0, kept_number ends.1)
 
+-- the key of a lock, as it is kept
+abbrev pub kept_key : Option ℤ → Option ℤ
+kept_key None = None
+kept_key (Some z) = Some (kept_number z)
+
 -- a column of a stream, as it is kept
 abbrev pub kept_def : ColumnDef → ColumnDef
 kept_def c = record { name = kept c.name; domain = kept_domain c.domain }
@@ -69,6 +74,8 @@ kept_parts p = record {
   index = kept_number p.index;
   count = kept_number p.count;
   values = keep kept_number 8 p.values;
+  lock_key = kept_key p.lock_key;
+  lock_streams = keep kept 16 p.lock_streams;
 }
 
 -- what the text of a token has to say for an action
@@ -79,6 +86,7 @@ SaysFor actions.RowsAre l w = or_far (value_of w) ≡ kept_number (number_of l)
 SaysFor actions.IndexIs l w = or_far (value_of w) ≡ kept_number (number_of l)
 SaysFor actions.CountIs l w = or_far (value_of w) ≡ kept_number (number_of l)
 SaysFor actions.AddValue l w = or_far (value_of w) ≡ kept_number (number_of l)
+SaysFor actions.LockKeyIs l w = or_far (value_of w) ≡ kept_number (number_of l)
 SaysFor actions.Named l w = w ≡ text_of l
 SaysFor actions.LowIs l w = or_far (value_of w) ≡ kept_number (number_of l)
 SaysFor actions.AddBounded l w = or_far (value_of w) ≡ kept_number (number_of l)
@@ -86,6 +94,7 @@ SaysFor actions.ColumnIs l w = w ≡ text_of l
 SaysFor actions.StreamIs l w = w ≡ text_of l
 SaysFor actions.AddSelected l w = w ≡ text_of l
 SaysFor actions.AddFrom l w = w ≡ text_of l
+SaysFor actions.AddLockStream l w = w ≡ text_of l
 SaysFor actions.LeftColumnIs l w = w ≡ text_of l
 SaysFor actions.AddColumnAtom l w = w ≡ text_of l
 SaysFor _ l w = Unit {0}

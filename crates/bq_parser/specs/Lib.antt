@@ -12,3 +12,4 @@ pub mod Resolution
 pub mod Sections
 pub mod Steps
 pub mod Syntax
+pub mod Unlocking

@@ -13,24 +13,24 @@ use Rattle.bq_parser.specs.declared.tree.OperandAst.{OperandAst}
 use Rattle.bq_parser.specs.declared.tree.OperandAst.TheVariants.{Column, Integer}
 use Rattle.bq_parser.specs.declared.tree.AtomAst.{AtomAst}
 use Rattle.bq_parser.specs.declared.tree.Statement.{Statement}
-use Rattle.bq_parser.specs.declared.tree.Statement.TheVariants.{CreateStream, CreateQuery, ResumeRows, ResumeGiven, ResumeCell, ResumeTuple}
-use Rattle.bq_parser.specs.Grammar.{Lexeme, word, number, tokens_with, statement_tokens}
+use Rattle.bq_parser.specs.declared.tree.Statement.TheVariants.{CreateStream, CreateQuery, ResumeRows, ResumeGiven, ResumeCell, ResumeTuple, Lock, Unlock}
+use Rattle.bq_parser.specs.Grammar.{Lexeme, word, number, no_words, tokens_with, statement_tokens}
 
 -- the word that a token is
 abbrev pub word_in : Lexeme → List (List ℕ)
 word_in (word w) = w ∷ []
 word_in _ = []
 
--- the names of a statement: the words among its tokens without COMPACT
+-- the names of a statement: the words among its tokens without COMPACT, LOCK, UNLOCK and TO
 abbrev pub names_of : Statement → List (List ℕ)
-names_of s = flat_map word_in (tokens_with [] s)
+names_of s = flat_map word_in (tokens_with no_words s)
 
 -- the integer that a token is
 abbrev pub number_in : Lexeme → List ℤ
 number_in (number z) = z ∷ []
 number_in _ = []
 
--- the integers of a statement: those that its atoms name, the ends of the domains, and those of a line of a checkpoint
+-- the integers of a statement: those that its atoms name, the ends of the domains, those of a line of a checkpoint, and the key of a lock
 abbrev pub integers_of : Statement → List ℤ
 integers_of s = flat_map number_in (statement_tokens s)
 
@@ -58,6 +58,11 @@ atoms_of _ = []
 abbrev pub values_of : Statement → List ℤ
 values_of (ResumeTuple name values) = values.items
 values_of _ = []
+
+-- the streams whose rows a lock lets
+abbrev pub opened_by : Statement → List (List ℕ)
+opened_by (Lock k streams) = streams.items
+opened_by _ = []
 
 -- the soft ones among atoms: those with `<=`, `>=` or `<>`
 abbrev pub soft_in : List AtomAst → List AtomAst
@@ -102,12 +107,14 @@ is_far z = int_lt z (neg_ℤ (pos 999999999999999)) || int_lt (pos 9999999999999
 abbrev pub is_wide : ℤ → Bool
 is_wide z = not (fits_i64 z)
 
--- an integer that the statement may not have: one of more than 64 bits in a line of a checkpoint, and one that is far elsewhere
+-- an integer that the statement may not have: one of more than 64 bits in a line of a checkpoint or a lock, and one that is far elsewhere
 abbrev pub is_beyond : Statement → ℤ → Bool
 is_beyond (ResumeRows rows) = is_wide
 is_beyond (ResumeGiven name rows) = is_wide
 is_beyond (ResumeCell name index content) = is_wide
 is_beyond (ResumeTuple name values) = is_wide
+is_beyond (Lock k streams) = is_wide
+is_beyond (Unlock k) = is_wide
 is_beyond _ = is_far
 
 -- a domain whose first integer is greater than its second
@@ -128,4 +135,5 @@ limit_of s =
     (if list_any (is_beyond s) (integers_of s) then Some limits.Value else
     (if nat_lt 6 (number_of_different int_eq (integers_in (atoms_of s))) then Some limits.Consts else
     (if list_any (λ c. is_reversed c.domain) (columns_of s) then Some limits.Domain else
-    (if nat_lt 8 (length (values_of s)) then Some limits.Tuple else None))))))))))
+    (if nat_lt 8 (length (values_of s)) then Some limits.Tuple else
+    (if nat_lt 16 (length (opened_by s)) then Some limits.Streams else None)))))))))))

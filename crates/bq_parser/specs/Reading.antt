@@ -1,5 +1,5 @@
 -- Reading from left to right: the state, and the parts of the statement so far.
-use Rattle.std.specs.Prelude.{ℕ, Bool, true, false, ℤ, pos, List, [], ◌∷◌, ◌++◌, codes, Option, Some, None, Result, Ok, Err}
+use Rattle.std.specs.Prelude.{ℕ, Bool, true, false, ℤ, pos, List, [], ◌∷◌, ◌++◌, Option, Some, None, Result, Ok, Err}
 use Rattle.bq_lexer.specs.declared.token.TokenKind.{TokenKind}
 use Rattle.bq_lexer.specs.declared.token.TokenKind.TheVariants as kinds
 use Rattle.bq_parser.specs.declared.transitions.State.{State}
@@ -14,13 +14,13 @@ use Rattle.bq_parser.specs.declared.tree.OperandAst.{OperandAst}
 use Rattle.bq_parser.specs.declared.tree.OperandAst.TheVariants.{Column, Integer}
 use Rattle.bq_parser.specs.declared.tree.AtomAst.{AtomAst}
 use Rattle.bq_parser.specs.declared.tree.Statement.{Statement}
-use Rattle.bq_parser.specs.declared.tree.Statement.TheVariants.{CreateStream, CreateQuery, Explain, DropQuery, Checkpoint, ResumeRows, ResumeGiven, ResumeCell, ResumeTuple}
+use Rattle.bq_parser.specs.declared.tree.Statement.TheVariants.{CreateStream, CreateQuery, Explain, DropQuery, Checkpoint, ResumeRows, ResumeGiven, ResumeCell, ResumeTuple, Lock, Unlock}
 use Rattle.bq_parser.specs.declared.draft.Form.{Form}
 use Rattle.bq_parser.specs.declared.draft.Form.TheVariants as forms
-use Rattle.bq_parser.specs.Grammar.{Lexeme, word, number, key, comma, point, opening, closing, less, equal, greater, less_equal, greater_equal, unequal, semicolon}
+use Rattle.bq_parser.specs.Grammar.{Lexeme, word, number, key, comma, point, opening, closing, less, equal, greater, less_equal, greater_equal, unequal, semicolon, FreeWords, capitals}
 use Rattle.bq_parser.specs.Steps.{step_of}
 
--- the statement so far, and the spelling of COMPACT in it
+-- the statement so far, and the spelling of the free words in it
 pub record Parts : Type 0 where
   pub form : Form
   pub name : List ℕ
@@ -29,7 +29,7 @@ pub record Parts : Type 0 where
   pub low : ℤ
   pub shared : Bool
   pub compact : Bool
-  pub spelling : List ℕ
+  pub spelling : FreeWords (List ℕ)
   pub distinct : Bool
   pub select : List ColumnAst
   pub from : List (List ℕ)
@@ -40,10 +40,12 @@ pub record Parts : Type 0 where
   pub index : ℤ
   pub count : ℤ
   pub values : List ℤ
+  pub lock_key : Option ℤ
+  pub lock_streams : List (List ℕ)
 
 -- nothing is read
 abbrev pub no_parts : Parts
-no_parts = record { form = forms.Explain; name = []; columns = []; column = []; low = pos 0; shared = false; compact = false; spelling = codes "COMPACT"; distinct = false; select = []; from = []; atoms = []; stream = []; left = Integer (pos 0); op = Lt; index = pos 0; count = pos 0; values = [] }
+no_parts = record { form = forms.Explain; name = []; columns = []; column = []; low = pos 0; shared = false; compact = false; spelling = capitals; distinct = false; select = []; from = []; atoms = []; stream = []; left = Integer (pos 0); op = Lt; index = pos 0; count = pos 0; values = []; lock_key = None; lock_streams = [] }
 
 -- the word that a token is
 abbrev pub text_of : Lexeme → List ℕ
@@ -84,8 +86,8 @@ act actions.BeginDrop l p = record p { form = forms.Drop }
 act actions.BeginStream l p = record p { form = forms.Stream }
 act actions.BeginQuery l p = record p { form = forms.Query; shared = false; compact = false }
 act actions.BeginShared l p = record p { form = forms.Query; shared = true; compact = false }
-act actions.BeginCompact l p = record p { form = forms.Query; shared = false; compact = true; spelling = text_of l }
-act actions.BeginSharedCompact l p = record p { form = forms.Query; shared = true; compact = true; spelling = text_of l }
+act actions.BeginCompact l p = record p { form = forms.Query; shared = false; compact = true; spelling = record p.spelling { compact = text_of l } }
+act actions.BeginSharedCompact l p = record p { form = forms.Query; shared = true; compact = true; spelling = record p.spelling { compact = text_of l } }
 act actions.Named l p = record p { name = text_of l }
 act actions.BeginColumns l p = record p { columns = [] }
 act actions.ColumnIs l p = record p { column = text_of l }
@@ -116,6 +118,11 @@ act actions.IndexIs l p = record p { index = number_of l }
 act actions.CountIs l p = record p { count = number_of l }
 act actions.BeginTuple l p = record p { form = forms.Tuple; values = [] }
 act actions.AddValue l p = record p { values = p.values ++ number_of l ∷ [] }
+act actions.BeginLock l p = record p { form = forms.Lock; lock_key = None; lock_streams = []; spelling = record p.spelling { lock = text_of l } }
+act actions.LockKeyIs l p = record p { lock_key = Some (number_of l) }
+act actions.BeginTo l p = record p { spelling = record p.spelling { to = text_of l } }
+act actions.AddLockStream l p = record p { lock_streams = p.lock_streams ++ text_of l ∷ [] }
+act actions.BeginUnlock l p = record p { form = forms.Unlock; spelling = record p.spelling { unlock = text_of l } }
 
 -- the statement of a form that the parts are
 abbrev pub built : Form → Parts → Statement
@@ -128,12 +135,17 @@ built forms.Rows p = ResumeRows p.count
 built forms.Given p = ResumeGiven p.name p.count
 built forms.Cell p = ResumeCell p.name p.index p.count
 built forms.Tuple p = ResumeTuple p.name (record { items = p.values })
+built forms.Lock p = Lock p.lock_key (record { items = p.lock_streams })
+built forms.Unlock p = Unlock p.count
 
 -- the statement, where one may end there
 abbrev pub finished : State → Parts → Option Statement
 finished states.AfterFrom p = Some (built forms.Query p)
 finished states.AfterAtom p = Some (built forms.Query p)
 finished states.AfterValue p = Some (built forms.Tuple p)
+finished states.AfterLock p = Some (built forms.Lock p)
+finished states.AfterLockKey p = Some (built forms.Lock p)
+finished states.AfterLockStream p = Some (built forms.Lock p)
 finished states.Complete p = Some (built p.form p)
 finished states.Ended p = Some (built p.form p)
 finished _ p = None
@@ -153,6 +165,9 @@ abbrev pub may_end : State → Bool
 may_end states.AfterFrom = true
 may_end states.AfterAtom = true
 may_end states.AfterValue = true
+may_end states.AfterLock = true
+may_end states.AfterLockKey = true
+may_end states.AfterLockStream = true
 may_end states.Complete = true
 may_end states.Ended = true
 may_end _ = false

@@ -1,7 +1,7 @@
 -- The sections of a statement: which states belong together.
 use Rattle.std.specs.Prelude.{Bool, true, false}
 use Rattle.bq_parser.specs.declared.transitions.State.{State}
-use Rattle.bq_parser.specs.declared.transitions.State.TheVariants.{Start, AfterCreate, AfterShared, AfterCompact, StreamName, OpenColumns, ColumnName, AfterColumn, DomainLow, FirstPoint, SecondPoint, DomainHigh, AfterDomain, QueryName, QueryAs, QuerySelect, FirstSelected, SelectedStream, SelectedPoint, SelectedColumn, AfterSelected, FromName, AfterFrom, AtomLeft, LeftPoint, LeftColumn, ColumnOp, IntegerOp, RightAny, RightStream, RightPoint, RightColumn, AfterAtom, AfterResume, ResumeWhat, GivenRows, CellIndex, CellContent, TupleValue, AfterValue, ExplainName, AfterDrop, DropName, Complete, Ended}
+use Rattle.bq_parser.specs.declared.transitions.State.TheVariants.{Start, AfterCreate, AfterShared, AfterCompact, StreamName, OpenColumns, ColumnName, AfterColumn, DomainLow, FirstPoint, SecondPoint, DomainHigh, AfterDomain, QueryName, QueryAs, QuerySelect, FirstSelected, SelectedStream, SelectedPoint, SelectedColumn, AfterSelected, FromName, AfterFrom, AtomLeft, LeftPoint, LeftColumn, ColumnOp, IntegerOp, RightAny, RightStream, RightPoint, RightColumn, AfterAtom, AfterResume, ResumeWhat, GivenRows, CellIndex, CellContent, TupleValue, AfterValue, AfterLock, AfterLockKey, LockStream, AfterLockStream, UnlockKey, ExplainName, AfterDrop, DropName, Complete, Ended}
 
 -- at the beginning of a statement
 abbrev pub is_begun : State → Bool
@@ -74,6 +74,15 @@ is_in_resume CellContent = true
 is_in_resume TupleValue = true
 is_in_resume AfterValue = true
 is_in_resume _ = false
+
+-- in LOCK and UNLOCK
+abbrev pub is_in_lock : State → Bool
+is_in_lock AfterLock = true
+is_in_lock AfterLockKey = true
+is_in_lock LockStream = true
+is_in_lock AfterLockStream = true
+is_in_lock UnlockKey = true
+is_in_lock _ = false
 
 -- in EXPLAIN and DROP, or at the end of a statement
 abbrev pub is_at_end : State → Bool

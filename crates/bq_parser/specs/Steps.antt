@@ -4,10 +4,10 @@ use Rattle.bq_text.specs.declared.key.Key.TheVariants.{CreateKey, StreamKey, Que
 use Rattle.bq_lexer.specs.declared.token.TokenKind.{TokenKind}
 use Rattle.bq_lexer.specs.declared.token.TokenKind.TheVariants.{Word, Reserved, Integer, Comma, Point, Open, Close, Less, Equal, Greater, LessEqual, GreaterEqual, Unequal, Semi}
 use Rattle.bq_parser.specs.declared.transitions.State.{State}
-use Rattle.bq_parser.specs.declared.transitions.State.TheVariants.{Start, AfterCreate, AfterShared, AfterCompact, StreamName, OpenColumns, ColumnName, AfterColumn, DomainLow, FirstPoint, SecondPoint, DomainHigh, AfterDomain, QueryName, QueryAs, QuerySelect, FirstSelected, SelectedStream, SelectedPoint, SelectedColumn, AfterSelected, FromName, AfterFrom, AtomLeft, LeftPoint, LeftColumn, ColumnOp, RightAny, IntegerOp, RightStream, RightPoint, RightColumn, AfterAtom, ExplainName, AfterDrop, DropName, AfterResume, ResumeWhat, GivenRows, CellIndex, CellContent, TupleValue, AfterValue, Complete, Ended}
+use Rattle.bq_parser.specs.declared.transitions.State.TheVariants.{Start, AfterCreate, AfterShared, AfterCompact, StreamName, OpenColumns, ColumnName, AfterColumn, DomainLow, FirstPoint, SecondPoint, DomainHigh, AfterDomain, QueryName, QueryAs, QuerySelect, FirstSelected, SelectedStream, SelectedPoint, SelectedColumn, AfterSelected, FromName, AfterFrom, AtomLeft, LeftPoint, LeftColumn, ColumnOp, RightAny, IntegerOp, RightStream, RightPoint, RightColumn, AfterAtom, ExplainName, AfterDrop, DropName, AfterResume, ResumeWhat, GivenRows, CellIndex, CellContent, TupleValue, AfterValue, AfterLock, AfterLockKey, LockStream, AfterLockStream, UnlockKey, Complete, Ended}
 use Rattle.bq_parser.specs.declared.transitions.Action.{Action}
-use Rattle.bq_parser.specs.declared.transitions.Action.TheVariants.{Nothing, BeginExplain, BeginDrop, BeginStream, BeginQuery, BeginShared, BeginCompact, BeginSharedCompact, Named, BeginColumns, ColumnIs, AddColumn, LowIs, AddBounded, BeginSelect, SetDistinct, StreamIs, AddSelected, BeginFrom, AddFrom, LeftInteger, LeftColumnIs, OpLess, OpEqual, OpGreater, OpLessEqual, OpGreaterEqual, OpUnequal, AddIntegerAtom, AddColumnAtom, BeginCheckpoint, RowsAre, BeginGiven, BeginCell, IndexIs, CountIs, BeginTuple, AddValue}
-use Rattle.bq_parser.specs.Grammar.{is_compact}
+use Rattle.bq_parser.specs.declared.transitions.Action.TheVariants.{Nothing, BeginExplain, BeginDrop, BeginStream, BeginQuery, BeginShared, BeginCompact, BeginSharedCompact, Named, BeginColumns, ColumnIs, AddColumn, LowIs, AddBounded, BeginSelect, SetDistinct, StreamIs, AddSelected, BeginFrom, AddFrom, LeftInteger, LeftColumnIs, OpLess, OpEqual, OpGreater, OpLessEqual, OpGreaterEqual, OpUnequal, AddIntegerAtom, AddColumnAtom, BeginCheckpoint, RowsAre, BeginGiven, BeginCell, IndexIs, CountIs, BeginTuple, AddValue, BeginLock, LockKeyIs, BeginTo, AddLockStream, BeginUnlock}
+use Rattle.bq_parser.specs.Grammar.{is_compact, is_lock, is_unlock, is_to}
 
 -- the state behind a token of this kind, and what the token adds; nothing, where no statement goes on so
 abbrev pub step : State → TokenKind → Option (State × Action)
@@ -84,11 +84,21 @@ step CellContent Integer = Some (Complete, CountIs)
 step TupleValue Integer = Some (AfterValue, AddValue)
 step AfterValue Integer = Some (AfterValue, AddValue)
 step AfterValue Semi = Some (Ended, Nothing)
+step AfterLock Integer = Some (AfterLockKey, LockKeyIs)
+step AfterLock Semi = Some (Ended, Nothing)
+step AfterLockKey Semi = Some (Ended, Nothing)
+step LockStream Word = Some (AfterLockStream, AddLockStream)
+step AfterLockStream Comma = Some (LockStream, Nothing)
+step AfterLockStream Semi = Some (Ended, Nothing)
+step UnlockKey Integer = Some (Complete, CountIs)
 step Complete Semi = Some (Ended, Nothing)
 step _ _ = None
 
--- the same for a word, which is COMPACT where that may stand
+-- the same for a word, which is LOCK, UNLOCK, TO or COMPACT where these may stand
 abbrev pub word_step : State → List ℕ → Option (State × Action)
+word_step Start w = if is_lock w then Some (AfterLock, BeginLock) else (if is_unlock w then Some (UnlockKey, BeginUnlock) else None)
+word_step AfterLock w = if is_to w then Some (LockStream, BeginTo) else None
+word_step AfterLockKey w = if is_to w then Some (LockStream, BeginTo) else None
 word_step AfterCreate w = if is_compact w then Some (AfterCompact, BeginCompact) else None
 word_step AfterShared w = if is_compact w then Some (AfterCompact, BeginSharedCompact) else None
 word_step place w = step place Word

@@ -3,7 +3,7 @@
 //! A draft goes on where a limit is passed, since the whole text is read before a limit is answered: a list keeps as many as it may
 //! have, and says whether there were more; a name that is too long is kept as `_`, and an integer of more than 64 bits as the
 //! greatest one.
-ghost use Rattle.std.specs.Prelude.{◌≡◌, ◌∷◌, [], false};
+ghost use Rattle.std.specs.Prelude.{◌≡◌, ◌∷◌, [], false, None};
 ghost use Rattle.bq_text.specs.Value.{value_of};
 ghost use Rattle.bq_parser.specs.Reading.{no_parts};
 ghost use Rattle.bq_parser.specs.Keeping.{kept_parts};
@@ -29,6 +29,8 @@ pub enum Form {
     Given,
     Cell,
     Tuple,
+    Lock,
+    Unlock,
 }
 
 /// A list so far: as many as it may have, and whether there were more.
@@ -58,6 +60,8 @@ pub struct Draft {
     pub index: i64,
     pub count: i64,
     pub values: DraftList<i64, 8>,
+    pub lock_key: Option<i64>,
+    pub lock_streams: DraftList<Name, 16>,
 }
 
 impl<T: Default + Drop, const N: usize> DraftList<T, N> {
@@ -158,6 +162,11 @@ impl Draft {
             Action::CountIs => self.count = kept_integer(text),
             Action::BeginTuple => self.begin_tuple(),
             Action::AddValue => self.values.put(kept_integer(text)),
+            Action::BeginLock => self.begin_lock(),
+            Action::LockKeyIs => self.lock_key = Some(kept_integer(text)),
+            Action::BeginTo => {}
+            Action::AddLockStream => self.lock_streams.put(kept_name(text)),
+            Action::BeginUnlock => self.form = Form::Unlock,
         }
     }
 
@@ -239,6 +248,15 @@ impl Draft {
         self.values = DraftList::none();
     }
 
+    // Begins a lock that has no key so far and lets the rows of all streams.
+    fn begin_lock(&mut self)
+        ensures { self.new ≡ record self.old { form = forms.Lock; lock_key = None; lock_streams = no_items } }
+    {
+        self.form = Form::Lock;
+        self.lock_key = None;
+        self.lock_streams = DraftList::none();
+    }
+
     /// Returns the statement, once it is whole and within its limits.
     pub fn finish(self) -> Statement
         ensures { result ≡ statement_of self }
@@ -276,6 +294,11 @@ impl Draft {
                 name: self.name,
                 values: self.values.list,
             },
+            Form::Lock => Statement::Lock {
+                key: self.lock_key,
+                streams: self.lock_streams.list,
+            },
+            Form::Unlock => Statement::Unlock { key: self.count },
         }
     }
 }
@@ -303,5 +326,7 @@ pub fn start() -> Draft
         index: 0,
         count: 0,
         values: DraftList::none(),
+        lock_key: None,
+        lock_streams: DraftList::none(),
     }
 }

@@ -15,8 +15,10 @@ mod reading;
 mod resolution;
 mod transitions;
 mod tree;
+mod unlocking;
 
 pub use line::{LineKind, classify, stripped};
 pub use parsing::{ParseError, What, parse};
 pub use resolution::{ResolveError, resolve};
 pub use tree::{AtomAst, ColumnAst, OperandAst, SelectAst, Statement};
+pub use unlocking::may_unlock;

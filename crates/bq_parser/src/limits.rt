@@ -4,7 +4,7 @@ ghost use Rattle.std.specs.List.{All, list_any};
 ghost use Rattle.std.specs.Ordering.{int_eq};
 ghost use Rattle.bq_parser.specs.Limits as limits;
 ghost use Rattle.bq_parser.specs.Limits.{soft_in, column_in, columns_in, integer_in, integers_in, number_of_different, is_reversed};
-ghost use Rattle.bq_parser.specs.DraftLimits.{is_long_token, is_wide_token, ends_in, limit_in_atoms, limit_in_columns, limit_in_values, limit_by, limit_in};
+ghost use Rattle.bq_parser.specs.DraftLimits.{is_long_token, is_wide_token, ends_in, limit_in_atoms, limit_in_columns, limit_in_values, limit_in_lock, limit_by, limit_in};
 ghost use Rattle.bq_parser.specs.Keeping.{IsCut};
 
 use crate::draft::{Draft, Form};
@@ -277,6 +277,20 @@ fn values_limit(line: &[u8], tokens: &[Token], over: bool) -> Option<What>
     }
 }
 
+// The first limit that the integer and the streams of a lock pass, which are too many or not.
+fn lock_limit(line: &[u8], tokens: &[Token], over: bool) -> Option<What>
+    requires { All (IsCut line.now) tokens.now }
+    ensures { result ≡ limit_in_lock (list_any (is_wide_token line.now) tokens.now) over }
+{
+    if has_wide(line, tokens) {
+        Some(What::Value)
+    } else if over {
+        Some(What::Streams)
+    } else {
+        None
+    }
+}
+
 // The first limit that the lists of a statement pass.
 fn lists_limit(line: &[u8], tokens: &[Token], draft: &Draft) -> Option<What>
     requires { All (IsCut line.now) tokens.now }
@@ -302,8 +316,9 @@ fn lists_limit(line: &[u8], tokens: &[Token], draft: &Draft) -> Option<What>
             }
         }
         Form::Explain | Form::Drop | Form::Checkpoint => None,
-        Form::Rows | Form::Given | Form::Cell => values_limit(line, tokens, false),
+        Form::Rows | Form::Given | Form::Cell | Form::Unlock => values_limit(line, tokens, false),
         Form::Tuple => values_limit(line, tokens, draft.values.over),
+        Form::Lock => lock_limit(line, tokens, draft.lock_streams.over),
     }
 }
 

@@ -26,6 +26,7 @@ pub enum What {
     Consts,
     Domain,
     Tuple,
+    Streams,
 }
 
 /// Why a line is no statement that is taken.
@@ -45,7 +46,14 @@ fn is_end(state: State) -> bool
 {
     matches!(
         state,
-        State::AfterFrom | State::AfterAtom | State::AfterValue | State::Complete | State::Ended
+        State::AfterFrom
+            | State::AfterAtom
+            | State::AfterValue
+            | State::AfterLock
+            | State::AfterLockKey
+            | State::AfterLockStream
+            | State::Complete
+            | State::Ended
     )
 }
 

@@ -1,9 +1,10 @@
 //! The states in which a statement is read, and the transition that each token makes.
 ghost use Rattle.std.specs.Prelude.{◌≡◌, Some, None, IsTrue, if◌then◌else◌};
 ghost use Rattle.bq_parser.specs.declared.transitions.State.TheVariants as states;
+ghost use Rattle.bq_parser.specs.declared.transitions.Action.TheVariants as actions;
 ghost use Rattle.bq_parser.specs.Grammar as grammar;
 ghost use Rattle.bq_parser.specs.Steps.{step, word_step, step_of};
-ghost use Rattle.bq_parser.specs.Sections.{is_of_query, is_begun, is_in_columns, is_in_domain, is_in_query, is_in_select, is_on_left, is_on_right, is_in_resume, is_at_end};
+ghost use Rattle.bq_parser.specs.Sections.{is_of_query, is_begun, is_in_columns, is_in_domain, is_in_query, is_in_select, is_on_left, is_on_right, is_in_resume, is_in_lock, is_at_end};
 
 use bq_lexer::TokenKind;
 use bq_text::Key;
@@ -54,6 +55,11 @@ pub enum State {
     CellContent,
     TupleValue,
     AfterValue,
+    AfterLock,
+    AfterLockKey,
+    LockStream,
+    AfterLockStream,
+    UnlockKey,
     Complete,
     Ended,
 }
@@ -99,6 +105,11 @@ pub enum Action {
     CountIs,
     BeginTuple,
     AddValue,
+    BeginLock,
+    LockKeyIs,
+    BeginTo,
+    AddLockStream,
+    BeginUnlock,
 }
 
 // What a token does by its kind at the beginning of a statement; nothing in any other state.
@@ -375,6 +386,37 @@ fn transition_in_resume(state: State, kind: TokenKind) -> Option<(State, Action)
     }
 }
 
+// What a token does by its kind in LOCK and UNLOCK; nothing in any other state.
+fn transition_in_lock(state: State, kind: TokenKind) -> Option<(State, Action)>
+    ensures { IsTrue (is_in_lock state) → result ≡ step state kind }
+{
+    match state {
+        State::AfterLock => match kind {
+            TokenKind::Integer => Some((State::AfterLockKey, Action::LockKeyIs)),
+            TokenKind::Semi => Some((State::Ended, Action::Nothing)),
+            _ => None,
+        },
+        State::AfterLockKey => match kind {
+            TokenKind::Semi => Some((State::Ended, Action::Nothing)),
+            _ => None,
+        },
+        State::LockStream => match kind {
+            TokenKind::Word => Some((State::AfterLockStream, Action::AddLockStream)),
+            _ => None,
+        },
+        State::AfterLockStream => match kind {
+            TokenKind::Comma => Some((State::LockStream, Action::Nothing)),
+            TokenKind::Semi => Some((State::Ended, Action::Nothing)),
+            _ => None,
+        },
+        State::UnlockKey => match kind {
+            TokenKind::Integer => Some((State::Complete, Action::CountIs)),
+            _ => None,
+        },
+        _ => None,
+    }
+}
+
 // What a token does by its kind in EXPLAIN and DROP, or at the end of a statement; nothing in any other state.
 fn transition_at_end(state: State, kind: TokenKind) -> Option<(State, Action)>
     ensures { IsTrue (is_at_end state) → result ≡ step state kind }
@@ -448,6 +490,11 @@ fn transition(state: State, kind: TokenKind) -> Option<(State, Action)>
         | State::CellContent
         | State::TupleValue
         | State::AfterValue => transition_in_resume(state, kind),
+        State::AfterLock
+        | State::AfterLockKey
+        | State::LockStream
+        | State::AfterLockStream
+        | State::UnlockKey => transition_in_lock(state, kind),
         State::ExplainName | State::AfterDrop | State::DropName | State::Complete | State::Ended =>
             transition_at_end(state, kind),
         _ => transition_of_query(state, kind),
@@ -473,11 +520,61 @@ fn transition_by_compact(word: &[u8], action: Action) -> Option<(State, Action)>
     }
 }
 
+// Whether a word is LOCK, in any case of letters.
+#[tactic(auto, unfolding(crate::specs::Grammar::is_lock))]
+fn is_lock(word: &[u8]) -> bool
+    ensures { result ≡ grammar.is_lock word.now }
+{
+    word.eq_ignore_ascii_case(b"LOCK")
+}
+
+/// Returns whether a word is UNLOCK, in any case of letters.
+#[tactic(auto, unfolding(crate::specs::Grammar::is_unlock))]
+pub fn is_unlock(word: &[u8]) -> bool
+    ensures { result ≡ grammar.is_unlock word.now }
+{
+    word.eq_ignore_ascii_case(b"UNLOCK")
+}
+
+// Whether a word is TO, in any case of letters.
+#[tactic(auto, unfolding(crate::specs::Grammar::is_to))]
+fn is_to(word: &[u8]) -> bool
+    ensures { result ≡ grammar.is_to word.now }
+{
+    word.eq_ignore_ascii_case(b"TO")
+}
+
+// What a word does at the beginning, where it may be LOCK or UNLOCK and nothing else.
+fn transition_by_lock(word: &[u8]) -> Option<(State, Action)>
+    ensures { result ≡ (if grammar.is_lock word.now then Some (states.AfterLock, actions.BeginLock) else (if grammar.is_unlock word.now then Some (states.UnlockKey, actions.BeginUnlock) else None)) }
+{
+    if is_lock(word) {
+        Some((State::AfterLock, Action::BeginLock))
+    } else if is_unlock(word) {
+        Some((State::UnlockKey, Action::BeginUnlock))
+    } else {
+        None
+    }
+}
+
+// What a word does where it may be TO and nothing else.
+fn transition_by_to(word: &[u8]) -> Option<(State, Action)>
+    ensures { result ≡ (if grammar.is_to word.now then Some (states.LockStream, actions.BeginTo) else None) }
+{
+    if is_to(word) {
+        Some((State::LockStream, Action::BeginTo))
+    } else {
+        None
+    }
+}
+
 // What a word does in a state.
 fn transition_by_word(state: State, word: &[u8]) -> Option<(State, Action)>
     ensures { result ≡ word_step state word.now }
 {
     match state {
+        State::Start => transition_by_lock(word),
+        State::AfterLock | State::AfterLockKey => transition_by_to(word),
         State::AfterCreate => transition_by_compact(word, Action::BeginCompact),
         State::AfterShared => transition_by_compact(word, Action::BeginSharedCompact),
         _ => transition(state, TokenKind::Word),

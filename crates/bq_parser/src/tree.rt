@@ -47,7 +47,8 @@ pub struct SelectAst {
 /// A statement; a query is shared where its parts keep their equal boxes of cells once.
 ///
 /// The lines of a checkpoint say how many rows were taken, how many were given to a query, what one of its cells holds, and one
-/// of the tuples that it has answered.
+/// of the tuples that it has answered. A lock names its key, where it has one, and the streams whose rows are let, or none where
+/// those of all streams are.
 #[derive(Drop)]
 pub enum Statement {
     CreateStream {
@@ -81,5 +82,12 @@ pub enum Statement {
     ResumeTuple {
         name: Name,
         values: ArrayVec<i64, 8>,
+    },
+    Lock {
+        key: Option<i64>,
+        streams: ArrayVec<Name, 16>,
+    },
+    Unlock {
+        key: i64,
     },
 }

@@ -8,3 +8,4 @@ pub mod Spaced
 pub mod TextSizes
 pub mod WritesBehind
 pub mod CompactSize
+pub mod OldForms

@@ -10,10 +10,10 @@ use Rattle.bq_parser.specs.declared.tree.OperandAst.{OperandAst}
 use Rattle.bq_parser.specs.declared.tree.OperandAst.TheVariants.{Column, Integer}
 use Rattle.bq_parser.specs.declared.tree.AtomAst.{AtomAst}
 use Rattle.bq_parser.specs.declared.tree.SelectAst.{SelectAst}
-use Rattle.bq_parser.specs.declared.tree.Statement.TheVariants.{CreateStream, CreateQuery, ResumeGiven, ResumeCell, ResumeTuple}
+use Rattle.bq_parser.specs.declared.tree.Statement.TheVariants.{CreateStream, CreateQuery, ResumeGiven, ResumeCell, ResumeTuple, Lock}
 use Rattle.bq_parser.specs.Grammar.{Lexeme, word, number, key, comma, opening, closing, less, equal, greater, less_equal, greater_equal, unequal, separated, name_tokens, domain_tokens, coldef_tokens, column_tokens, operand_tokens, op_token, atom_tokens, where_tokens, distinct_tokens, select_tokens}
 use Rattle.bq_print.specs.Printed.{text_for, joins_next, joins_last, joins, gap_by, printed, printed_form}
-use Rattle.bq_print.specs.PrintedParts.{each_behind, listed, name_text, operand_text, op_text, atom_text, names_text, columns_text, atoms_text, distinct_text, sources_text, selection_text, select_text, query_head_text, query_text, domain_text, coldef_text, coldefs_text, given_text, content_text, cell_text, values_text, tuple_text, stream_text}
+use Rattle.bq_print.specs.PrintedParts.{each_behind, listed, name_text, operand_text, op_text, atom_text, names_text, columns_text, atoms_text, distinct_text, sources_text, selection_text, select_text, query_head_text, query_text, domain_text, coldef_text, coldefs_text, given_text, content_text, cell_text, values_text, tuple_text, lock_head_text, lock_text, stream_text}
 use Rattle.bq_parser.specs.Naming.{column_text}
 use Rattle.bq_parser.proofs.Compact.{create_tokens}
 use Rattle.bq_parser.proofs.Said.{select_grouped}
@@ -190,6 +190,24 @@ tuple_printed name values =
     append_assoc (codes "RESUME ") name (values_text values)
     ∙ ap (λ bs. codes "RESUME " ++ (name ++ (codes " SELECT" ++ bs))) (sym (values_behind (key SelectKey) refl values))
     ∙ ap (λ bs. codes "RESUME " ++ (name ++ (32 ∷ bs))) (sym (printed_first (key SelectKey) (map number values)))
+
+-- the streams of a lock, which stand last
+to_behind : (l : Lexeme) → joins_next l ≡ false → (n : List ℕ) (ns : List (List ℕ)) → behind l (word (codes "TO") ∷ separated comma name_tokens (n ∷ ns)) ≡ names_text (codes " TO ") (n ∷ ns)
+to_behind l h n ns =
+    let names = separated comma name_tokens (n ∷ ns) in
+    ap (λ t. cond (t || false) [] (32 ∷ []) ++ printed (word (codes "TO") ∷ names)) h
+    ∙ ap (λ bs. 32 ∷ bs) (printed_first (word (codes "TO")) names)
+    ∙ ap (λ ls. codes " TO" ++ behind (word (codes "TO")) ls) (sym (append-nil names))
+    ∙ ap (λ bs. codes " TO" ++ bs) (list_behind (word (codes "TO")) comma name_tokens (codes " ") (codes ", ") name_text (λ m rest. ap (λ bs. 32 ∷ bs) (word_behind m rest)) name_behind_comma n ns [])
+    ∙ append-nil (codes " TO" ++ listed (codes " ") (codes ", ") name_text (n ∷ ns))
+
+pub lock_printed : (k : Option ℤ) (names : List (List ℕ)) → lock_text k names ≡ printed_form (Lock k (record { items = names }))
+lock_printed None [] = refl
+lock_printed (Some z) [] = append-nil (codes "LOCK " ++ signed_decimal z)
+lock_printed None (n ∷ ns) = sym (printed_first (word (codes "LOCK")) (word (codes "TO") ∷ separated comma name_tokens (n ∷ ns)) ∙ ap (λ bs. codes "LOCK" ++ bs) (to_behind (word (codes "LOCK")) refl n ns))
+lock_printed (Some z) (n ∷ ns) =
+    append_assoc (codes "LOCK ") (signed_decimal z) (names_text (codes " TO ") (n ∷ ns))
+    ∙ sym (ap (λ bs. codes "LOCK " ++ bs) (printed_first (number z) (word (codes "TO") ∷ separated comma name_tokens (n ∷ ns)) ∙ ap (λ bs. signed_decimal z ++ bs) (to_behind (number z) refl n ns)))
 
 -- columns of a stream
 domain_behind : (domain : Option (ℤ × ℤ)) (rest : List Lexeme) → behind_name (domain_tokens domain ++ rest) ≡ domain_text domain ++ behind_name rest

@@ -7,11 +7,11 @@ use Rattle.bq_text.specs.Word.{is_word_byte}
 use Rattle.bq_lexer.specs.declared.token.Token.{Token}
 use Rattle.bq_lexer.specs.Tokens.{tokens, tokens_from, with_first, front_pair}
 use Rattle.bq_lexer.proofs.TokenLists.{token_front, blank_front}
-use Rattle.bq_parser.specs.Grammar.{Lexeme, word, number, key, comma, point, opening, closing, less, equal, greater, less_equal, greater_equal, unequal, semicolon}
+use Rattle.bq_parser.specs.Grammar.{capitals, Lexeme, word, number, key, comma, point, opening, closing, less, equal, greater, less_equal, greater_equal, unequal, semicolon}
 use Rattle.bq_parser.specs.Reading.{kind_at}
 use Rattle.bq_parser.specs.Syntax.{lexeme_as, lexemes}
 use Rattle.bq_print.specs.Printed.{text_for, joins_last, gap_by, spaced_by, joins, printed}
-use Rattle.bq_parser.proofs.Compact.{capitals}
+use Rattle.bq_parser.proofs.Compact.{in_capitals}
 use Rattle.bq_print.proofs.Spaced.{IsSound, MayFollow, StopsFor, stops_digits, front, number_again}
 use Rattle.bq_parser.specs.declared.tree.Statement.{Statement}
 use Rattle.bq_parser.specs.declared.transitions.State.{State}
@@ -156,7 +156,7 @@ read_back close (l ∷ m ∷ ls) h a before =
 spaced_statement : (close : Lexeme → Lexeme → Bool) (s : Statement) → IsWhole s → AllByRecursion IsSound (statement_tokens s) → IsApart close (statement_tokens s) → IsStatement (spaced_by close (statement_tokens s)) s
 spaced_statement close s w sound apart =
     let r = read_back close (statement_tokens s) sound apart [] in
-    record { its_tokens = r.its_tokens; lexed = r.lexed; spelled = (w, codes "COMPACT", capitals, inl r.say) }
+    record { its_tokens = r.its_tokens; lexed = r.lexed; spelled = (w, capitals, in_capitals, inl r.say) }
 
 -- the printed form of a statement is this statement
 pub printed_statement : (s : Statement) → IsWhole s → AllByRecursion IsSound (statement_tokens s) → IsStatement (printed_form s) s

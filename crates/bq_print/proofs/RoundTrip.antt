@@ -6,13 +6,13 @@ use Rattle.bq_text.specs.Value.{fits_i64}
 use Rattle.bq_lexer.specs.declared.token.Token.{Token}
 use Rattle.bq_lexer.specs.Tokens.{tokens}
 use Rattle.bq_parser.specs.declared.tree.Statement.{Statement}
-use Rattle.bq_parser.specs.Grammar.{Lexeme, word, number, key, comma, point, opening, closing, less, equal, greater, less_equal, greater_equal, unequal, semicolon, tokens_with, statement_tokens, Spells}
+use Rattle.bq_parser.specs.Grammar.{Lexeme, word, number, key, comma, point, opening, closing, less, equal, greater, less_equal, greater_equal, unequal, semicolon, no_words, capitals, tokens_with, statement_tokens, Spells}
 use Rattle.bq_parser.specs.Syntax.{lexemes, lexeme_of, IsStatement, IsFaultOf, StopsAt}
 use Rattle.bq_parser.specs.Limits.{word_in, number_in, names_of, limit_of, is_wide}
 use Rattle.bq_print.specs.Laws.{PrintsBack, ShortReadsBack, CreatesAgain, CreateLinesFit, FaultsAreNone}
 use Rattle.bq_print.specs.Printed.{printed_form, short_form}
 use Rattle.bq_parser.specs.declared.tree.Statement.TheVariants.{CreateQuery}
-use Rattle.bq_parser.proofs.Compact.{is_a_name, all_with, numbers_without}
+use Rattle.bq_parser.proofs.Compact.{are_names, all_with, numbers_without}
 use Rattle.bq_print.proofs.ShortApart.{query_apart}
 use Rattle.bq_print.proofs.Shortest.{short_is_shortest}
 use Rattle.std.proofs.lemmas.Bool.Decides.{nat_tests}
@@ -50,7 +50,7 @@ sound (semicolon ∷ ls) n z = (tt, sound ls n z)
 
 -- and so are those of a statement
 all_sound : (s : Statement) → All (λ n. IsTrue (is_name n)) (names_of s) → limit_of s ≡ None → AllByRecursion IsSound (statement_tokens s)
-all_sound s names within = all_with IsSound (codes "COMPACT") s is_a_name (sound (tokens_with [] s) names (ap (list_any is_wide) (numbers_without s) ∙ all_fit s within))
+all_sound s names within = all_with IsSound capitals s are_names (sound (tokens_with no_words s) names (ap (list_any is_wide) (numbers_without s) ∙ all_fit s within))
 
 pub prints_back : PrintsBack
 prints_back s whole names within = printed_statement s whole (all_sound s names within)

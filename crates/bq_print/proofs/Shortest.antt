@@ -14,7 +14,7 @@ use Rattle.bq_lexer.specs.declared.token.TokenKind.TheVariants.{Integer}
 use Rattle.bq_lexer.specs.Tokens.{kind_of, word_kind, symbol_text}
 use Rattle.bq_lexer.specs.Standing.{IsNextToken, StandFrom}
 use Rattle.bq_lexer.proofs.Exactly as exactly
-use Rattle.bq_parser.specs.Grammar.{Lexeme, word, number, key, comma, point, opening, closing, less, equal, greater, less_equal, greater_equal, unequal, semicolon, tokens_with}
+use Rattle.bq_parser.specs.Grammar.{Lexeme, word, number, key, comma, point, opening, closing, less, equal, greater, less_equal, greater_equal, unequal, semicolon, tokens_with, written}
 use Rattle.bq_parser.specs.Limits.{number_in, is_wide}
 use Rattle.bq_print.specs.Printed.{text_for, is_any_word, goes_on, joins_short, gap_by, spaced_by}
 use Rattle.bq_parser.specs.Syntax.{lexeme_of, lexemes}
@@ -188,5 +188,5 @@ short_is_shortest line s is within =
     let same = size_with w s is.spelled.2 in
     elim is.spelled.3 [
       | inl e ↦ omega (arith, whole, same, ap (λ ls. length (spaced_by joins_short ls)) e)
-      | inr e ↦ omega (arith, whole, same, ap (λ ls. length (spaced_by joins_short ls)) e, front_room (tokens_with (word w ∷ []) s) semicolon)
+      | inr e ↦ omega (arith, whole, same, ap (λ ls. length (spaced_by joins_short ls)) e, front_room (tokens_with (written w) s) semicolon)
     ]

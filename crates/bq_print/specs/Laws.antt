@@ -1,9 +1,13 @@
 -- The laws of statements and their texts.
-use Rattle.std.specs.Prelude.{Bool, ◌≡◌, ◌≤◌, ℕ, List, length, None, IsTrue, All}
+use Rattle.std.specs.Prelude.{Bool, true, false, not, ◌≡◌, ◌≤◌, ℕ, List, [], ◌∷◌, length, None, IsTrue, All, Result, Ok, Err}
 use Rattle.bq_text.specs.Name.{is_name}
+use Rattle.bq_lexer.specs.declared.token.Token.{Token}
+use Rattle.bq_lexer.specs.declared.token.TokenKind.{TokenKind}
+use Rattle.bq_lexer.specs.declared.token.TokenKind.TheVariants.{Reserved}
+use Rattle.bq_lexer.specs.Tokens.{tokens}
 use Rattle.bq_parser.specs.declared.tree.SelectAst.{SelectAst}
 use Rattle.bq_parser.specs.declared.tree.Statement.{Statement}
-use Rattle.bq_parser.specs.declared.tree.Statement.TheVariants.{CreateQuery}
+use Rattle.bq_parser.specs.declared.tree.Statement.TheVariants.{CreateQuery, Lock, Unlock}
 use Rattle.bq_parser.specs.Grammar.{IsWhole}
 use Rattle.bq_parser.specs.Syntax.{IsStatement, IsFault}
 use Rattle.bq_parser.specs.Limits.{names_of, limit_of}
@@ -44,3 +48,24 @@ CreatesAgain =
 -- a statement within the limits that some line of at most 1,024 bytes spells has such a line to create it again
 abbrev pub CreateLinesFit : Type 0
 CreateLinesFit = (line : List ℕ) → (s : Statement) → IsStatement line s → limit_of s ≡ None → length line ≤ 1024 → length (create_line s) ≤ 1024
+
+-- whether a token is a reserved word
+abbrev pub is_reserved : TokenKind → Bool
+is_reserved (Reserved k) = true
+is_reserved _ = false
+
+-- whether the first of the tokens of a line is one
+abbrev pub begin_reserved : Result (List Token) ℕ → Bool
+begin_reserved (Ok []) = false
+begin_reserved (Ok (t ∷ ts)) = is_reserved t.kind
+begin_reserved (Err at) = false
+
+-- whether a statement locks or unlocks
+abbrev pub is_of_lock : Statement → Bool
+is_of_lock (Lock k streams) = true
+is_of_lock (Unlock k) = true
+is_of_lock _ = false
+
+-- a statement that locks or unlocks begins with no reserved word, and each other one with one: no text is read as both
+abbrev pub OldFormsStay : Type 0
+OldFormsStay = (line : List ℕ) → (s : Statement) → IsStatement line s → begin_reserved (tokens line) ≡ not (is_of_lock s)

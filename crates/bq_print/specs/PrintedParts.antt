@@ -135,6 +135,15 @@ values_text values = codes " SELECT" ++ each_behind (codes " ") signed_decimal v
 abbrev pub tuple_text : List ℕ → List ℤ → List ℕ
 tuple_text name values = resume_text name ++ values_text values
 
+-- LOCK, and its key where it has one
+abbrev pub lock_head_text : Option ℤ → List ℕ
+lock_head_text None = codes "LOCK"
+lock_head_text (Some k) = codes "LOCK " ++ signed_decimal k
+
+-- LOCK, and the streams behind TO where there are any
+abbrev pub lock_text : Option ℤ → List (List ℕ) → List ℕ
+lock_text k names = lock_head_text k ++ names_text (codes " TO ") names
+
 -- CREATE STREAM
 abbrev pub stream_text : List ℕ → List ColumnDef → List ℕ
 stream_text name columns = stream_head_text name ++ (coldefs_text columns ++ codes ")")

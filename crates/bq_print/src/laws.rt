@@ -1,5 +1,5 @@
 //! Laws of the definitions, as public functions without a body: the clause is the law.
-ghost use Rattle.bq_print.specs.Laws.{OneReading, FaultsAreNone, PrintsBack, ShortIsShortest, ShortReadsBack, CreatesAgain, CreateLinesFit};
+ghost use Rattle.bq_print.specs.Laws.{OneReading, FaultsAreNone, PrintsBack, ShortIsShortest, ShortReadsBack, CreatesAgain, CreateLinesFit, OldFormsStay};
 
 /// No line can be read as two statements.
 pub fn one_reading()
@@ -34,4 +34,10 @@ pub fn creates_again()
 /// The line that creates a query again has at most 1,024 bytes where some line of at most 1,024 bytes is read as this query.
 pub fn create_lines_fit()
     ensures { CreateLinesFit }
+{}
+
+/// A text that is a statement locks or unlocks exactly where its first token is no reserved word, so no text that is another statement
+/// is read as one of these two.
+pub fn old_forms_stay()
+    ensures { OldFormsStay }
 {}

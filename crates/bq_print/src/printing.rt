@@ -390,6 +390,26 @@ fn put_tuple<O: Sink>(out: &mut O, name: &Name, values: &[i64]) -> Result<(), Wr
     }
 }
 
+// LOCK, and its key where it has one.
+fn put_lock_head<O: Sink>(out: &mut O, key: &Option<i64>) -> Result<(), WriteFault>
+    ensures { Writes result (O.seen out.old) (O.seen out.new) (parts.lock_head_text key.now) }
+{
+    match key {
+        Some(key) => put_integer(out, b"LOCK ", key),
+        None => write_all(out, b"LOCK"),
+    }
+}
+
+// LOCK, and the streams behind TO where there are any.
+fn put_lock<O: Sink>(out: &mut O, key: &Option<i64>, streams: &[Name]) -> Result<(), WriteFault>
+    ensures { Writes result (O.seen out.old) (O.seen out.new) (parts.lock_text key.now streams.now) }
+{
+    match put_lock_head(out, key) {
+        Ok(()) => put_names(out, b" TO ", streams),
+        Err(fault) => Err(fault),
+    }
+}
+
 /// Writes a statement in its printed form. Where the sink fails, a front of it was written.
 pub fn print<O: Sink>(statement: &Statement, out: &mut O) -> Result<(), WriteFault>
     ensures { Writes result (O.seen out.old) (O.seen out.new) (printed_form statement.now) }
@@ -412,5 +432,7 @@ pub fn print<O: Sink>(statement: &Statement, out: &mut O) -> Result<(), WriteFau
             content,
         } => put_cell(out, name, index, content),
         Statement::ResumeTuple { name, values } => put_tuple(out, name, values.as_slice()),
+        Statement::Lock { key, streams } => put_lock(out, key, streams.as_slice()),
+        Statement::Unlock { key } => put_integer(out, b"UNLOCK ", key),
     }
 }

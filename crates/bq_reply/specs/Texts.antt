@@ -14,10 +14,11 @@ use Rattle.bq_model.specs.Verdict.{Verdict}
 use Rattle.bq_model.specs.Verdict as verdicts
 use Rattle.bq_parser.specs.Naming.{column_text}
 use Rattle.bq_reply.specs.declared.refusal.Refusal.{Refusal}
-use Rattle.bq_reply.specs.declared.refusal.Refusal.TheVariants.{LineTooLong, Syntax, Limit, Duplicate, TooMany, UnknownStream, UnknownColumn, SelfJoin, UnknownQuery, Late, Arity, Value, Domain, RowLimit}
+use Rattle.bq_reply.specs.declared.refusal.Refusal.TheVariants.{LineTooLong, Locked, Syntax, Limit, Duplicate, TooMany, UnknownStream, UnknownColumn, SelfJoin, UnknownQuery, Late, Arity, Value, Domain, RowLimit}
 
 abbrev pub word_text : Refusal → List ℕ
 word_text LineTooLong = codes "LineTooLong"
+word_text Locked = codes "Locked"
 word_text Syntax = codes "Syntax"
 word_text Limit = codes "Limit"
 word_text Duplicate = codes "Duplicate"
@@ -43,6 +44,14 @@ which_text Parts = codes "parts"
 which_text Cells = codes "cells"
 which_text Answers = codes "answers"
 which_text Work = codes "work"
+
+-- the reply to a lock
+abbrev pub locked_text : List ℕ
+locked_text = codes "ok lock" ++ 10 ∷ []
+
+-- the reply to the line that unlocks
+abbrev pub unlocked_text : List ℕ
+unlocked_text = codes "ok unlock" ++ 10 ∷ []
 
 -- the reply with the numbers that are announced
 abbrev pub numbers_text : List ℕ → Numbers → List ℕ

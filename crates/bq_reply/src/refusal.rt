@@ -10,11 +10,13 @@ use bq_schema::{RowError, StreamError};
 pub enum Refusal {
     /// The line has more than 1,024 bytes.
     LineTooLong,
+    /// The session is locked, and the line is none that the lock lets.
+    Locked,
     /// A statement is outside the grammar, or a row begins with a reserved word.
     Syntax,
     /// A statement passes a limit, or the first word of a row has more than 24 bytes.
     Limit,
-    /// A stream or a query of this name is there, or two columns have one name.
+    /// A stream or a query of this name is there, two columns have one name, or a lock names a stream twice.
     Duplicate,
     /// There are 16 streams.
     TooMany,
@@ -30,7 +32,7 @@ pub enum Refusal {
     Late,
     /// The number of fields of a row is not the number of columns, or that of a tuple not the number of selected columns.
     Arity,
-    /// A field of a row is no integer of 64 bits, or a line tells what is not so.
+    /// A field of a row is no integer of 64 bits, a line tells what is not so, or no lock has the number that is to unlock.
     Value,
     /// A value of a row lies outside the domain of its column.
     Domain,

@@ -2,10 +2,10 @@
 ghost use Rattle.std.specs.Prelude.{◌≡◌, ◌++◌, ◌∷◌, [], codes, decimal};
 ghost use Rattle.bq_io.specs.Sink.{Writes};
 ghost use Rattle.bq_parser.specs.Naming.{column_text};
-ghost use Rattle.bq_reply.specs.Texts.{word_text, which_text, condition_text, numbers_text};
+ghost use Rattle.bq_reply.specs.Texts.{word_text, which_text, condition_text, numbers_text, locked_text, unlocked_text};
 
 use crate::refusal::Refusal;
-use bq_io::{Sink, WriteFault, write_pieces};
+use bq_io::{Sink, WriteFault, write_all, write_pieces};
 use bq_model::{Condition, Numbers, Which};
 use bq_parser::ColumnAst;
 use bq_text::Name;
@@ -25,6 +25,20 @@ pub fn write_dropped<O: Sink>(out: &mut O, name: &Name) -> Result<(), WriteFault
 {
     let pieces: [&[u8]; 3] = [b"ok drop ", name.bytes(), b"\n"];
     write_pieces(out, &pieces)
+}
+
+/// Writes `ok lock`
+pub fn write_locked<O: Sink>(out: &mut O) -> Result<(), WriteFault>
+    ensures { Writes result (O.seen out.old) (O.seen out.new) locked_text }
+{
+    write_all(out, b"ok lock\n")
+}
+
+/// Writes `ok unlock`
+pub fn write_unlocked<O: Sink>(out: &mut O) -> Result<(), WriteFault>
+    ensures { Writes result (O.seen out.old) (O.seen out.new) unlocked_text }
+{
+    write_all(out, b"ok unlock\n")
 }
 
 /// Writes `refused q limit pool`
@@ -196,6 +210,7 @@ pub fn word_text(word: Refusal) -> &'static [u8]
 {
     match word {
         Refusal::LineTooLong => b"LineTooLong",
+        Refusal::Locked => b"Locked",
         Refusal::Syntax => b"Syntax",
         Refusal::Limit => b"Limit",
         Refusal::Duplicate => b"Duplicate",

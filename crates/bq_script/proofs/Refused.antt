@@ -10,7 +10,7 @@ use Rattle.bq_parser.specs.declared.parsing.ParseError.{ParseError}
 use Rattle.bq_parser.specs.declared.parsing.ParseError.TheVariants as parse_errors
 use Rattle.bq_parser.specs.declared.tree.Statement.{Statement}
 use Rattle.bq_parser.specs.declared.tree.Statement.TheVariants as statements
-use Rattle.bq_parser.specs.Grammar.{Lexeme, word, key, tokens_with, semicolon, Spells}
+use Rattle.bq_parser.specs.Grammar.{Lexeme, word, key, FreeWords, tokens_with, written, semicolon, Spells}
 use Rattle.bq_parser.specs.Syntax.{IsStatement, lexemes, lexeme_as}
 use Rattle.bq_parser.specs.Refusal.{IsRefusal}
 use Rattle.bq_print.proofs.RoundTrip.{faults_are_none}
@@ -54,11 +54,11 @@ tokens_say : (text : List ℕ) (ts : List Token) → begin_with_create (Ok ts) �
 tokens_say text [] = refl
 tokens_say text (t ∷ ts) = kind_says t.kind _
 
-statement_says : (w : List ℕ) (s : Statement) → first_says_create (tokens_with (word w ∷ []) s) ≡ creates s
+statement_says : (w : FreeWords (List ℕ)) (s : Statement) → first_says_create (tokens_with (written w) s) ≡ creates s
 statement_says w (statements.CreateStream name columns) = refl
 statement_says w _ = refl
 
-ended_says : (w : List ℕ) (s : Statement) → first_says_create (tokens_with (word w ∷ []) s ++ semicolon ∷ []) ≡ creates s
+ended_says : (w : FreeWords (List ℕ)) (s : Statement) → first_says_create (tokens_with (written w) s ++ semicolon ∷ []) ≡ creates s
 ended_says w (statements.CreateStream name columns) = refl
 ended_says w _ = refl
 

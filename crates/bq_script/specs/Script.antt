@@ -60,6 +60,8 @@ name_of (statements.ResumeRows rows) = []
 name_of (statements.ResumeGiven name rows) = name
 name_of (statements.ResumeCell name index content) = name
 name_of (statements.ResumeTuple name values) = name
+name_of (statements.Lock k streams) = []
+name_of (statements.Unlock k) = []
 
 -- What a text is that is read as a statement: no statement, or one that has no place, whether or not it passes a limit; one that passes a
 -- limit; or what the statement creates.

@@ -92,7 +92,9 @@ fn take_statement(catalog: &mut Catalog, statement: Statement) -> Result<Creatio
         | Statement::ResumeRows { .. }
         | Statement::ResumeGiven { .. }
         | Statement::ResumeCell { .. }
-        | Statement::ResumeTuple { .. } => Err(Refusal::Syntax),
+        | Statement::ResumeTuple { .. }
+        | Statement::Lock { .. }
+        | Statement::Unlock { .. } => Err(Refusal::Syntax),
     }
 }
 

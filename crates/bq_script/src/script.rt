@@ -40,7 +40,10 @@ pub fn name_of(statement: &Statement) -> &[u8]
         Statement::ResumeGiven { name, .. } => name.bytes(),
         Statement::ResumeCell { name, .. } => name.bytes(),
         Statement::ResumeTuple { name, .. } => name.bytes(),
-        Statement::Checkpoint | Statement::ResumeRows { .. } => b"",
+        Statement::Checkpoint
+        | Statement::ResumeRows { .. }
+        | Statement::Lock { .. }
+        | Statement::Unlock { .. } => b"",
     }
 }
 

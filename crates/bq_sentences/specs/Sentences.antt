@@ -36,6 +36,7 @@ limit_lead limits.Value = texts.LIMIT_VALUE.now
 limit_lead limits.Consts = texts.LIMIT_CONSTS.now
 limit_lead limits.Domain = texts.LIMIT_DOMAIN.now
 limit_lead limits.Tuple = texts.LIMIT_TUPLE.now
+limit_lead limits.Streams = texts.LIMIT_STREAMS.now
 
 -- and behind it
 abbrev pub limit_tail : What → List ℕ
@@ -227,6 +228,8 @@ name_sentence (faults.DuplicateColumn name) streams live = around texts.COLUMN_T
 name_sentence (faults.DuplicateQuery name) streams live = around texts.QUERY_LIVE.now name texts.QUERY_LIVE_TAIL.now
 name_sentence (faults.SelfJoin name) streams live = around texts.TWICE_IN_FROM.now name texts.TWICE_IN_FROM_TAIL.now
 name_sentence (faults.NoStream name) streams live = around texts.NO_STREAM.now name texts.NO_STREAM_TAIL.now ++ there_are_like name (stream_names streams)
+name_sentence (faults.LockTwice name) streams live = around texts.LOCK_TWICE.now name texts.LOCK_TWICE_TAIL.now
+name_sentence (faults.LockNoStream name) streams live = around texts.LOCK_NO_STREAM.now name texts.NO_STREAM_TAIL.now ++ there_are_like name (stream_names streams)
 name_sentence (faults.NotInFrom column) streams live = around [] (column_text column) texts.NOT_IN_FROM_TAIL.now
 name_sentence (faults.NoColumn column) streams live = column_fault streams column
 name_sentence (faults.NoQuery name) streams live = around texts.NO_QUERY.now name texts.NO_QUERY_TAIL.now ++ there_are_like name live
@@ -247,6 +250,8 @@ unfoldable pub sentence_text : List ℕ → Fault → List Shape → List (List 
 sentence_text text faults.LineTooLong streams live = texts.LONG_LINE.now
 sentence_text text (faults.Syntax at next) streams live = syntax_text text at next.items streams
 sentence_text text (faults.Limit what found) streams live = limit_text what found
+sentence_text text (faults.Locked line) streams live = around texts.LOCKED.now (decimal line) texts.LOCKED_TAIL.now
+sentence_text text faults.NoLock streams live = texts.NO_LOCK.now
 sentence_text text faults.TooManyStreams streams live = texts.MANY_STREAMS.now
 sentence_text text faults.TooManyQueries streams live = texts.MANY_QUERIES.now
 sentence_text text faults.RowKey streams live = row_sentence text faults.RowKey streams

@@ -118,18 +118,19 @@ pub fn write_row_stream<O: Sink>(
     write_streams(out, texts::ROW_STREAM, split_word(line).0, names.as_slice())
 }
 
-/// Writes that FROM names a stream that is not there, and which are.
-pub fn write_no_stream<O: Sink>(
+/// Writes, behind the words that lead, that a stream is named that is not there, and which are.
+pub fn write_no_stream<'a, O: Sink>(
     out: &mut O,
-    name: &Name,
+    lead: &'a [u8],
+    name: &'a Name,
     catalog: &Catalog,
 ) -> Result<(), WriteFault>
-    ensures { Writes result (O.seen out.old) (O.seen out.new) (sentences.around words.NO_STREAM.now name.now words.NO_STREAM_TAIL.now ++ sentences.there_are_like name.now (sentences.stream_names catalog.now)) }
+    ensures { Writes result (O.seen out.old) (O.seen out.new) (sentences.around lead.now name.now words.NO_STREAM_TAIL.now ++ sentences.there_are_like name.now (sentences.stream_names catalog.now)) }
 {
     let names = names_of_streams(catalog);
     write_around_names(
         out,
-        texts::NO_STREAM,
+        lead,
         name.bytes(),
         texts::NO_STREAM_TAIL,
         names.as_slice(),
@@ -203,6 +204,19 @@ pub fn write_long_name<O: Sink>(out: &mut O, bytes: u16) -> Result<(), WriteFaul
 {
     let mut buffer = Buffer::new();
     write_around(out, texts::ROW_NAME, buffer.format(bytes).as_bytes(), b"")
+}
+
+/// Writes in which line the session was locked.
+pub fn write_locked<O: Sink>(out: &mut O, line: u64) -> Result<(), WriteFault>
+    ensures { Writes result (O.seen out.old) (O.seen out.new) (sentences.around words.LOCKED.now (decimal line) words.LOCKED_TAIL.now) }
+{
+    let mut buffer = Buffer::new();
+    write_around(
+        out,
+        texts::LOCKED,
+        buffer.format(line).as_bytes(),
+        texts::LOCKED_TAIL,
+    )
 }
 
 // How many fields a row wants and has, by the name of its stream and both numbers.

@@ -7,7 +7,7 @@ ghost use Rattle.bq_sentences.specs.Sentences as sentences;
 use crate::lists::write_may_stand;
 use crate::sayings::{
     write_arity, write_around, write_around_names, write_column, write_domain, write_example,
-    write_long_name, write_no_column, write_no_stream, write_row_stream, write_value,
+    write_locked, write_long_name, write_no_column, write_no_stream, write_row_stream, write_value,
 };
 use crate::texts;
 use bq_diagnosis::{Fault, Known};
@@ -33,6 +33,7 @@ fn limit_lead(what: What) -> &'static [u8]
         What::Consts => texts::LIMIT_CONSTS,
         What::Domain => texts::LIMIT_DOMAIN,
         What::Tuple => texts::LIMIT_TUPLE,
+        What::Streams => texts::LIMIT_STREAMS,
     }
 }
 
@@ -223,7 +224,13 @@ fn write_name_sentence<O: Sink>(
                 texts::TWICE_IN_FROM_TAIL,
             )
         }
-        Fault::NoStream { name } => write_no_stream(out, name, known.catalog),
+        Fault::NoStream { name } => write_no_stream(out, texts::NO_STREAM, name, known.catalog),
+        Fault::LockTwice { name } => {
+            write_around(out, texts::LOCK_TWICE, name.bytes(), texts::LOCK_TWICE_TAIL)
+        }
+        Fault::LockNoStream { name } => {
+            write_no_stream(out, texts::LOCK_NO_STREAM, name, known.catalog)
+        }
         Fault::NotInFrom { column } => write_column(out, b"", column, texts::NOT_IN_FROM_TAIL),
         Fault::NoColumn { column } => write_no_column(out, column, known.catalog),
         Fault::NoQuery { name } => write_around_names(
@@ -276,6 +283,8 @@ pub fn write_sentence<O: Sink>(
         Fault::LineTooLong => write_all(out, texts::LONG_LINE),
         Fault::Syntax { at, next } => write_syntax(out, text, *at, next.as_slice(), known.catalog),
         Fault::Limit { what, found } => write_limit(out, *what, *found),
+        Fault::Locked { line } => write_locked(out, *line),
+        Fault::NoLock => write_all(out, texts::NO_LOCK),
         Fault::TooManyStreams => write_all(out, texts::MANY_STREAMS),
         Fault::TooManyQueries => write_all(out, texts::MANY_QUERIES),
         Fault::RowKey
@@ -291,6 +300,8 @@ pub fn write_sentence<O: Sink>(
         | Fault::NoStream { .. }
         | Fault::NotInFrom { .. }
         | Fault::NoColumn { .. }
-        | Fault::NoQuery { .. } => write_name_sentence(out, fault, known),
+        | Fault::NoQuery { .. }
+        | Fault::LockTwice { .. }
+        | Fault::LockNoStream { .. } => write_name_sentence(out, fault, known),
     }
 }

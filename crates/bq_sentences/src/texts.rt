@@ -21,6 +21,8 @@ pub const MANY_QUERIES: &[u8] = b"64 queries are live, and that is the most: dro
 
 pub const NO_STREAM: &[u8] = b"FROM names ";
 
+pub const LOCK_NO_STREAM: &[u8] = b"TO names ";
+
 pub const NO_STREAM_TAIL: &[u8] = b", and there is no such stream; ";
 
 pub const NOT_IN_FROM_TAIL: &[u8] =
@@ -34,6 +36,16 @@ pub const TWICE_IN_FROM: &[u8] = b"FROM names ";
 
 pub const TWICE_IN_FROM_TAIL: &[u8] =
     b" twice: create a second stream with the same columns, and send it the same rows";
+
+pub const LOCK_TWICE: &[u8] = b"TO names ";
+
+pub const LOCK_TWICE_TAIL: &[u8] = b" twice: leave it out once";
+
+pub const LOCKED: &[u8] = b"the session was locked in line ";
+
+pub const LOCKED_TAIL: &[u8] = b"; lines like this stand before it";
+
+pub const NO_LOCK: &[u8] = b"no lock stands here";
 
 pub const NO_QUERY: &[u8] = b"no live query has the name ";
 
@@ -98,7 +110,7 @@ pub const LIMIT_ATTRS: &[u8] =
     b"the comparisons name at most 12 different columns, and here they name ";
 
 pub const LIMIT_VALUE: &[u8] =
-    b"an integer has at most 15 digits, and one of a line of a checkpoint at most 64 bits; one here has more";
+    b"an integer has at most 15 digits, and one of a line of a checkpoint or a lock at most 64 bits; one here has more";
 
 pub const LIMIT_CONSTS: &[u8] =
     b"the comparisons name at most 6 different integers, and here they name ";
@@ -108,10 +120,13 @@ pub const LIMIT_DOMAIN: &[u8] =
 
 pub const LIMIT_TUPLE: &[u8] = b"a tuple has at most 8 integers, and this has ";
 
+pub const LIMIT_STREAMS: &[u8] = b"a lock names at most 16 streams, and this names ";
+
 pub const HINT_BOM: &[u8] =
     b"a byte order mark stands here, which many editors do not show: save the file without one";
 
-pub const HINT_QUOTED: &[u8] = b"nothing is quoted: a name and an integer stand as they are";
+pub const HINT_QUOTED: &[u8] =
+    b"nothing is quoted: a name and an integer stand as they are; docs/DATA.md has a filter, tools/filters/names, that makes integers of texts";
 
 pub const HINT_UNEQUAL: &[u8] = b"unequal is written <>";
 
@@ -168,7 +183,8 @@ pub const HINT_NEGATION: &[u8] =
 pub const HINT_BETWEEN: &[u8] =
     b"BETWEEN is written as two comparisons with AND between them, one for each end";
 
-pub const HINT_PATTERN: &[u8] = b"there is no LIKE: each value is an integer";
+pub const HINT_PATTERN: &[u8] =
+    b"there is no LIKE: each value is an integer; docs/DATA.md has a filter, tools/filters/names, that makes integers of texts";
 
 pub const HINT_NULL: &[u8] = b"there is no NULL: a row has an integer for each column";
 

@@ -16,4 +16,4 @@ returns-in-Err-Syntax-clause-found c =
 pub returns-in-Err-Limit-clause-found : goal.returns-in-Err-Limit-clause-found
 returns-in-Err-Limit-clause-found c =
     let passed = rw c.in-Err-Limit.field-0-is at c.in-Err-Limit.ensures in
-    record { asked = limited passed.0 c.in-Err-Limit.what passed.1 passed.2 refl; facts = (passed.0, passed.1, (passed.2, c.found_of.ensures passed.0 passed.1 passed.2)) }
+    record { asked = limited passed.0 c.in-Err-Limit.what passed.1 passed.2 refl; facts = (passed.0, passed.1, passed.2, c.found_of.ensures passed.0 passed.1 passed.2) }

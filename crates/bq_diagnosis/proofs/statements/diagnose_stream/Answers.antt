@@ -1,10 +1,11 @@
-use Rattle.std.proofs.Common.{List, sym, ap, ◌∙◌, length, nat_lt}
+use Rattle.bq_parser.specs.declared.tree.Statement.TheVariants.{CreateStream}
+use Rattle.std.proofs.Common.{List, refl, sym, ap, ◌∙◌, length, nat_lt}
 use Rattle.bq_schema.specs.declared.column.ColumnDef.{ColumnDef}
 use Rattle.bq_schema.specs.Streams.{column_names}
 use Rattle.bq_diagnosis.specs.declared.fault.Asks.TheVariants as asks
 use Rattle.bq_diagnosis.specs.Asked.{stream_asked}
 use Rattle.bq_diagnosis.specs.Faults.{first_repeated}
-use Rattle.bq_diagnosis.proofs.StreamTests.{added_twice, added_beyond, added_last, not_true, not_false, at_least}
+use Rattle.bq_diagnosis.proofs.StreamTests.{added_twice, added_beyond, added_last, not_true, not_false, at_least, new_stream}
 use Rattle.bq_diagnosis.proofs.statements.diagnose_stream.Goals as goal
 
 pub returns-in-Some-clause-found : goal.returns-in-Some-clause-found
@@ -13,7 +14,7 @@ returns-in-Some-clause-found c =
     let twice = ap (λ (cs : List ColumnDef). first_repeated (column_names cs)) (sym c.as_slice.ensures.value) ∙ sym c.repeated_column.ensures ∙ c.in-Some.is in
     record {
       asked = sym (ap (stream_asked (asks.Stream c.args.name c.args.columns)) (added_twice streams c.args.name c.args.columns.items c.in-Some.name (sym c.has_stream.ensures ∙ c.if-has_stream.false) twice));
-      facts = twice;
+      facts = (new_stream streams c.args.name (CreateStream c.args.name c.args.columns) refl (sym c.has_stream.ensures ∙ c.if-has_stream.false), twice);
     }
 
 pub returns-then-is_full-clause-found : goal.returns-then-is_full-clause-found
@@ -23,7 +24,7 @@ returns-then-is_full-clause-found c =
     let full = not_true (nat_lt (length streams) 16) (sym c.is_full.ensures ∙ c.if-is_full.true) in
     record {
       asked = sym (ap (stream_asked (asks.Stream c.args.name c.args.columns)) (added_beyond streams c.args.name c.args.columns.items (sym c.has_stream.ensures ∙ c.if-has_stream.false) alone full));
-      facts = at_least (length streams) full;
+      facts = (new_stream streams c.args.name (CreateStream c.args.name c.args.columns) refl (sym c.has_stream.ensures ∙ c.if-has_stream.false), alone, at_least (length streams) full);
     }
 
 pub returns-clause-found : goal.returns-clause-found
