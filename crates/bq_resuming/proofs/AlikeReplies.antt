@@ -8,7 +8,7 @@ use Rattle.bq_explain.specs.Text.{explain_text}
 use Rattle.bq_registry.specs.Live.{LiveQuery, free_pages}
 use Rattle.bq_checkpoint.specs.Lines.{text_of_lines}
 use Rattle.bq_session.proofs.Alike.{one_checkpoint}
-use Rattle.bq_session.specs.Request.{Request, silent, created, asked, explained, dropped, taken, saved, resumed, based, refused}
+use Rattle.bq_session.specs.Request.{Request, silent, created, asked, explained, dropped, taken, saved, resumed, based, locked, unlocked, refused}
 use Rattle.bq_session.specs.Answer.{Answer, plain}
 use Rattle.bq_session.specs.Answers.{IsDecided, accepted, rejected, Settles}
 use Rattle.bq_session.specs.Restoring.{IsAlike, AreAllAlike, AreAlike}
@@ -27,12 +27,13 @@ pub record AreSoundAlike (s t : State) : Type 0 where
   pub pairs : Pairs s.streams s.taken s.queries t.queries
   pub small : s.limit ≤ 2 ^ 40
   pub within : s.taken ≤ s.limit
+  pub lock : s.lock ≡ t.lock
 
 pub queries_alike : (s t : State) → AreSoundAlike s t → AreAllAlike s.queries t.queries
 queries_alike s t a = all_are_alike s.streams s.taken s.queries t.queries a.pairs
 
 pub states_alike : (s t : State) → AreSoundAlike s t → AreAlike s t
-states_alike s t a = record { limit = a.limit; streams = a.streams; taken = a.taken; queries = queries_alike s t a }
+states_alike s t a = record { limit = a.limit; streams = a.streams; taken = a.taken; queries = queries_alike s t a; lock = a.lock }
 
 pub ask_alike : (s t : State) → AreSoundAlike s t → AskAlike s t
 ask_alike s t a = record {
@@ -40,6 +41,7 @@ ask_alike s t a = record {
   streams = a.streams;
   taken = a.taken;
   named = same_map (λ (q : LiveQuery). q.name) (λ q p e. e.name) s.queries t.queries (queries_alike s t a);
+  lock = a.lock;
 }
 
 -- as many pages are free
@@ -58,6 +60,8 @@ settles_alike s t (taken stream values) answer a e = e
 settles_alike s t saved answer a e = e
 settles_alike s t (resumed n) answer a e = e
 settles_alike s t (based name base) answer a e = e
+settles_alike s t (locked lock) answer a e = e
+settles_alike s t unlocked answer a e = e
 settles_alike s t (refused word) answer a e = e
 
 -- a query is explained the same
@@ -85,6 +89,8 @@ plain_reply_alike s t (taken stream values) a p =
 plain_reply_alike s t saved a p = ap text_of_lines (one_checkpoint s t (states_alike s t a))
 plain_reply_alike s t (resumed n) a p = absurd p
 plain_reply_alike s t (based name base) a p = absurd p
+plain_reply_alike s t (locked lock) a p = refl
+plain_reply_alike s t unlocked a p = refl
 plain_reply_alike s t (refused word) a p = refl
 
 told_alike : (s t : State) (r : Request) (answer : Answer) → AreSoundAlike s t → IsPlainIn s r → answer ≡ plain r → unnumbered_reply s answer ≡ unnumbered_reply t answer
@@ -106,4 +112,6 @@ replies_alike s t (taken stream values) answer a p e = told_alike s t (taken str
 replies_alike s t saved answer a p e = told_alike s t saved answer a p e
 replies_alike s t (resumed n) answer a p e = absurd p
 replies_alike s t (based name base) answer a p e = absurd p
+replies_alike s t (locked lock) answer a p e = told_alike s t (locked lock) answer a p e
+replies_alike s t unlocked answer a p e = told_alike s t unlocked answer a p e
 replies_alike s t (refused word) answer a p e = told_alike s t (refused word) answer a p e

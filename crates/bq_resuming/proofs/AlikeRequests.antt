@@ -22,8 +22,9 @@ use Rattle.bq_parser.specs.Syntax.{IsStatement}
 use Rattle.bq_registry.specs.Live.{LiveQuery, names}
 use Rattle.bq_reply.specs.declared.refusal.Refusal.{Refusal}
 use Rattle.bq_reply.specs.declared.refusal.Refusal.TheVariants.{UnknownQuery, Late}
-use Rattle.bq_session.specs.Request.{Request, silent, created, asked, explained, dropped, taken, saved, resumed, based, refused}
-use Rattle.bq_session.specs.Requests.{entry_request, row_request, stream_request, query_of, found_request, query_request, is_live, live_named, explain_request, drop_request, load_request, count_request, statement_request, IsStatementRequest, outside, limited, stated, IsTextRequest, IsRequest, too_long, fits}
+use Rattle.bq_session.specs.Request.{Request, silent, created, asked, explained, dropped, taken, saved, resumed, based, locked, unlocked, refused}
+use Rattle.bq_session.specs.Requests.{entry_request, row_request, stream_request, query_of, found_request, query_request, is_live, live_named, explain_request, drop_request, load_request, count_request, lock_request, unlock_request, opened_by, statement_request, IsStatementRequest, outside, limited, stated, IsTextRequest, IsRequest, too_long, barred, fits}
+use Rattle.bq_session.specs.Lock.{Lock, Lets}
 use Rattle.bq_session.specs.State.{State, has_room}
 use Rattle.bq_resuming.specs.Continuing.{is_resume, IsResumeLine}
 
@@ -38,14 +39,17 @@ IsPlainIn s (taken stream values) = KeepsDomains s.streams stream values × (s.t
 IsPlainIn s saved = Unit {0}
 IsPlainIn s (resumed n) = ⊥
 IsPlainIn s (based name base) = ⊥
+IsPlainIn s (locked lock) = Unit {0}
+IsPlainIn s unlocked = Unit {0}
 IsPlainIn s (refused word) = Unit {0}
 
--- row limit, streams, number of rows, and names of live queries are the same
+-- row limit, streams, number of rows, names of live queries, and lock are the same
 pub record AskAlike (s t : State) : Type 0 where
   pub limit : s.limit ≡ t.limit
   pub streams : s.streams ≡ t.streams
   pub taken : s.taken ≡ t.taken
   pub named : names s.queries ≡ names t.queries
+  pub lock : s.lock ≡ t.lock
 
 -- a row line was taken before, in both
 pub record HaveBegun (s t : State) : Type 0 where
@@ -87,6 +91,8 @@ statement_alike s t (statements.ResumeRows rows) a b =
 statement_alike s t (statements.ResumeGiven name rows) a b = late_alike s t name _ _ a (b refl)
 statement_alike s t (statements.ResumeCell name index content) a b = late_alike s t name _ _ a (b refl)
 statement_alike s t (statements.ResumeTuple name values) a b = late_alike s t name _ _ a (b refl)
+statement_alike s t (statements.Lock key streams) a b = (λ j. lock_request key (opened_by (a.streams j) streams.items))
+statement_alike s t (statements.Unlock key) a b = ap unlock_request a.lock
 
 text_alike : (s t : State) (text : List ℕ) (r : Request) → AskAlike s t → ((x : Statement) → IsStatement text x → IsTrue (is_resume x) → HaveBegun s t)
     → IsStatementRequest s text r → IsStatementRequest t text r
@@ -100,10 +106,14 @@ kind_alike s t kinds.Nothing text r a b e = e
 kind_alike s t kinds.RowLine text r a b e = e ∙ (λ j. row_request (a.streams j) (nat_lt (a.taken j) (a.limit j)) text)
 kind_alike s t kinds.StatementLine text r a b e = text_alike s t text r a b e
 
+lets_alike : (s t : State) (line : List ℕ) → s.lock ≡ t.lock → s.streams ≡ t.streams → Lets s.lock s.streams line → Lets t.lock t.streams line
+lets_alike s t line lock streams lets = subst (λ l. Lets l t.streams line) lock (subst (λ x. Lets s.lock x line) streams lets)
+
 pub asks_alike : (s t : State) (line : List ℕ) (r : Request) → AskAlike s t → (IsResumeLine line → HaveBegun s t) → IsRequest s line r → IsRequest t line r
 asks_alike s t line r a b (too_long n e) = too_long n e
-asks_alike s t line r a b (fits n is) =
-    fits n (kind_alike s t (kind_of_line (stripped line)) (stripped line) r a (λ x spells resumes. b (record { statement = x; spells = spells; resumes = resumes })) is)
+asks_alike s t line r a b (barred n none e) = barred n (λ lets. none (lets_alike t s line (sym a.lock) (sym a.streams) lets)) e
+asks_alike s t line r a b (fits n lets is) =
+    fits n (lets_alike s t line a.lock a.streams lets) (kind_alike s t (kind_of_line (stripped line)) (stripped line) r a (λ x spells resumes. b (record { statement = x; spells = spells; resumes = resumes })) is)
 
 -- the row that a line is keeps to the domains of its stream
 row_keeps : (streams : List Shape) (text : List ℕ) (e : Entry) → row_of streams text ≡ Ok e → KeepsDomains streams e.stream e.values
@@ -161,6 +171,14 @@ late_is_plain s false = tt
 load_is_plain : (s : State) (name : List ℕ) (load : LiveQuery → Request) → s.began ≡ true → IsPlainIn s (load_request s name load (live_named name s.queries))
 load_is_plain s name load b = subst (IsPlainIn s) (sym (late_load s name load b s.queries)) (late_is_plain s (is_live (names s.queries) name))
 
+lock_is_plain : (s : State) (key : Option ℤ) (o : Result (Option (List ℕ)) Refusal) → IsPlainIn s (lock_request key o)
+lock_is_plain s key (Ok opened) = tt
+lock_is_plain s key (Err word) = tt
+
+unlock_is_plain : (s : State) (o : Option Lock) → IsPlainIn s (unlock_request o)
+unlock_is_plain s None = tt
+unlock_is_plain s (Some lock) = tt
+
 statement_is_plain : (s : State) (statement : Statement) → (IsTrue (is_resume statement) → s.began ≡ true) → IsPlainIn s (statement_request s statement)
 statement_is_plain s (statements.CreateStream name columns) b = stream_is_plain s name columns.items (added s.streams (record { name = name; columns = columns.items }))
 statement_is_plain s (statements.CreateQuery name select shared) b = found_is_plain s name shared (query_of s.streams (names s.queries) name select)
@@ -171,6 +189,8 @@ statement_is_plain s (statements.ResumeRows rows) b = subst (IsPlainIn s) (sym (
 statement_is_plain s (statements.ResumeGiven name rows) b = load_is_plain s name _ (b refl)
 statement_is_plain s (statements.ResumeCell name index content) b = load_is_plain s name _ (b refl)
 statement_is_plain s (statements.ResumeTuple name values) b = load_is_plain s name _ (b refl)
+statement_is_plain s (statements.Lock key streams) b = lock_is_plain s key (opened_by s.streams streams.items)
+statement_is_plain s (statements.Unlock key) b = unlock_is_plain s s.lock
 
 text_is_plain : (s : State) (text : List ℕ) (r : Request) → ((x : Statement) → IsStatement text x → IsTrue (is_resume x) → s.began ≡ true) → IsStatementRequest s text r → IsPlainIn s r
 text_is_plain s text r b (outside n e) = subst (IsPlainIn s) (sym e) tt
@@ -185,5 +205,6 @@ kind_is_plain s kinds.StatementLine text r b e = text_is_plain s text r b e
 -- what a line asks for that is no RESUME line, or comes after a row line was taken
 pub asks_plainly : (s : State) (line : List ℕ) (r : Request) → (IsResumeLine line → s.began ≡ true) → IsRequest s line r → IsPlainIn s r
 asks_plainly s line r b (too_long n e) = subst (IsPlainIn s) (sym e) tt
-asks_plainly s line r b (fits n is) =
+asks_plainly s line r b (barred n none e) = subst (IsPlainIn s) (sym e) tt
+asks_plainly s line r b (fits n lets is) =
     kind_is_plain s (kind_of_line (stripped line)) (stripped line) r (λ x spells resumes. b (record { statement = x; spells = spells; resumes = resumes })) is

@@ -28,8 +28,9 @@ use Rattle.bq_parser.specs.LineKind.{stripped, kind_of_line}
 use Rattle.bq_registry.specs.Live.{LiveQuery, boxes_of, base_in, names, newly, without}
 use Rattle.bq_reply.specs.declared.refusal.Refusal.{Refusal}
 use Rattle.bq_reply.specs.declared.refusal.Refusal.TheVariants.{UnknownQuery, Late, Arity, Value, RowLimit}
-use Rattle.bq_session.specs.Request.{Request, silent, created, asked, explained, dropped, taken, saved, resumed, based, refused}
-use Rattle.bq_session.specs.Requests.{entry_request, stream_request, query_of, found_request, is_live, live_named, natural, natural_upto, loaded_request, load_request, statement_request, IsStatementRequest, outside, limited, stated, IsTextRequest, IsRequest, too_long, fits}
+use Rattle.bq_session.specs.Request.{Request, silent, created, asked, explained, dropped, taken, saved, resumed, based, locked, unlocked, refused}
+use Rattle.bq_session.specs.Requests.{entry_request, stream_request, query_of, found_request, is_live, live_named, natural, natural_upto, loaded_request, load_request, lock_request, unlock_request, opened_by, statement_request, IsStatementRequest, outside, limited, stated, IsTextRequest, IsRequest, too_long, barred, fits}
+use Rattle.bq_session.specs.Lock.{Lock}
 use Rattle.bq_session.specs.Answer.{Answer, plain}
 use Rattle.bq_session.specs.Answers.{IsDecided, accepted, rejected, Settles}
 use Rattle.bq_session.specs.State.{State, empty, has_room, from_base, set_base, next_by, next_of, after}
@@ -62,6 +63,8 @@ KeepsCells s (taken stream values) = Unit {0}
 KeepsCells s saved = Unit {0}
 KeepsCells s (resumed n) = Unit {0}
 KeepsCells s (based name base) = SetsCells s name base
+KeepsCells s (locked lock) = Unit {0}
+KeepsCells s unlocked = Unit {0}
 KeepsCells s (refused word) = Unit {0}
 
 loaded_keeps : (s : State) (name : List ℕ) (live : LiveQuery) (o : Option Base) → live_named name s.queries ≡ Some live → ((b : Base) → o ≡ Some b → length b.cells ≡ length (base_in live).cells)
@@ -141,6 +144,14 @@ count_keeps s n false true c = tt
 count_keeps s n false false true = tt
 count_keeps s n false false false = tt
 
+lock_keeps : (s : State) (key : Option ℤ) (o : Result (Option (List ℕ)) Refusal) → KeepsCells s (lock_request key o)
+lock_keeps s key (Ok opened) = tt
+lock_keeps s key (Err word) = tt
+
+unlock_keeps : (s : State) (o : Option Lock) → KeepsCells s (unlock_request o)
+unlock_keeps s None = tt
+unlock_keeps s (Some lock) = tt
+
 statement_keeps : (s : State) (x : Statement) → KeepsCells s (statement_request s x)
 statement_keeps s (statements.CreateStream name columns) = stream_keeps s name columns.items (added s.streams (record { name = name; columns = columns.items }))
 statement_keeps s (statements.CreateQuery name select shared) = found_keeps s name shared (query_of s.streams (names s.queries) name select)
@@ -154,6 +165,8 @@ statement_keeps s (statements.ResumeCell name index content) =
     load_keeps s name _ (live_named name s.queries) refl (λ live e. loaded_keeps s name live _ e (λ b f. cells_size (boxes_of live) content (base_in live) (natural index) b f))
 statement_keeps s (statements.ResumeTuple name values) =
     load_keeps s name _ (live_named name s.queries) refl (λ live e. tuple_keeps s name values.items live (nat_eq (length values.items) (length live.query.select)) e)
+statement_keeps s (statements.Lock key streams) = lock_keeps s key (opened_by s.streams streams.items)
+statement_keeps s (statements.Unlock key) = unlock_keeps s s.lock
 
 entry_keeps : (s : State) (room : Bool) (o : Result Entry RowError) → KeepsCells s (entry_request room o)
 entry_keeps s room (Err error) = tt
@@ -172,7 +185,8 @@ kind_keeps s kinds.StatementLine text r e = text_keeps s text r e
 
 line_keeps : (s : State) (line : List ℕ) (r : Request) → IsRequest s line r → KeepsCells s r
 line_keeps s line r (too_long n e) = subst (KeepsCells s) (sym e) tt
-line_keeps s line r (fits n is) = kind_keeps s (kind_of_line (stripped line)) (stripped line) r is
+line_keeps s line r (barred n none e) = subst (KeepsCells s) (sym e) tt
+line_keeps s line r (fits n lets is) = kind_keeps s (kind_of_line (stripped line)) (stripped line) r is
 
 -- the live queries after it
 with_base_set : (name : List ℕ) (base : Base) (live : LiveQuery) → length base.cells ≡ length (base_in live).cells → (qs : List LiveQuery) → AreAtBase qs → live_named name qs ≡ Some live
@@ -217,6 +231,8 @@ plain_at_base s r answer all keeps e = subst (λ (x : Answer). AtBaseUntilRows (
     by saved k = all
     by (resumed n) k = all
     by (based name base) k = λ b. with_base_set name base k.live k.size s.queries (all b) k.named
+    by (locked lock) k = all
+    by unlocked k = all
     by (refused word) k = all
 
 decided_at_base : (s : State) (name : List ℕ) (query : QueryValue) (shared : Bool) (free : ℕ) (answer : Answer) → AtBaseUntilRows s → IsDecided name query shared free answer
@@ -236,6 +252,8 @@ settled_at_base s (taken stream values) answer all k e = plain_at_base s (taken 
 settled_at_base s saved answer all k e = plain_at_base s saved answer all k e
 settled_at_base s (resumed n) answer all k e = plain_at_base s (resumed n) answer all k e
 settled_at_base s (based name base) answer all k e = plain_at_base s (based name base) answer all k e
+settled_at_base s (locked lock) answer all k e = plain_at_base s (locked lock) answer all k e
+settled_at_base s unlocked answer all k e = plain_at_base s unlocked answer all k e
 settled_at_base s (refused word) answer all k e = plain_at_base s (refused word) answer all k e
 
 lines_at_base : (s : State) (lines : List (List ℕ)) (answers : List Answer) → AtBaseUntilRows s → AreAnswers s lines answers → AtBaseUntilRows (after s answers)

@@ -1,7 +1,7 @@
 -- Lines that are given to states that are alike.
 use Rattle.std.proofs.Common.{◌≡◌, ℕ, Bool, true, false, List, [], ◌∷◌, refl, sym, subst, All}
 use Rattle.bq_schema.specs.Streams.{Shape}
-use Rattle.bq_session.specs.Request.{silent, created, asked, explained, dropped, taken, saved, resumed, based, refused}
+use Rattle.bq_session.specs.Request.{silent, created, asked, explained, dropped, taken, saved, resumed, based, locked, unlocked, refused}
 use Rattle.bq_session.specs.Answer.{Answer, plain, registered, decided}
 use Rattle.bq_session.specs.Answers.{IsAnswer}
 use Rattle.bq_session.specs.State.{State, next_of, after}
@@ -40,6 +40,8 @@ begun_after s (plain (taken stream values)) b = refl
 begun_after s (plain saved) b = b
 begun_after s (plain (resumed n)) b = b
 begun_after s (plain (based name base)) b = b
+begun_after s (plain (locked lock)) b = b
+begun_after s (plain unlocked) b = b
 begun_after s (plain (refused word)) b = b
 begun_after s (registered name query shared plan) b = b
 begun_after s (decided name query verdict) b = b
@@ -54,6 +56,8 @@ begun_by_row s (plain (taken stream values)) e = refl
 begun_by_row s (plain saved) e = absurd cc
 begun_by_row s (plain (resumed n)) e = absurd cc
 begun_by_row s (plain (based name base)) e = absurd cc
+begun_by_row s (plain (locked lock)) e = absurd cc
+begun_by_row s (plain unlocked) e = absurd cc
 begun_by_row s (plain (refused word)) e = absurd cc
 begun_by_row s (registered name query shared plan) e = absurd cc
 begun_by_row s (decided name query verdict) e = absurd cc
@@ -112,6 +116,7 @@ sound_alike s t p q a =
       pairs = pairs_of s.streams s.taken s.queries t.queries a.queries p.queries own;
       small = p.limit;
       within = p.within;
+      lock = a.lock;
     }
 
 pub continues_alike : ContinuesAlike

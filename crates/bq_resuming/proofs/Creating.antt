@@ -24,7 +24,7 @@ use Rattle.bq_parser.specs.declared.tree.ColumnAst.{ColumnAst}
 use Rattle.bq_parser.specs.declared.tree.SelectAst.{SelectAst}
 use Rattle.bq_parser.specs.declared.tree.Statement.{Statement}
 use Rattle.bq_parser.specs.declared.tree.Statement.TheVariants.{CreateQuery}
-use Rattle.bq_parser.specs.Grammar.{Lexeme, word, number, key, comma, point, opening, closing, less, equal, greater, less_equal, greater_equal, unequal, semicolon, separated, name_tokens, column_tokens, operand_tokens, op_token, atom_tokens, where_tokens, distinct_tokens, shared_tokens, compact_tokens, select_tokens, tokens_with, HasColumn, IsColumn, IsWhole}
+use Rattle.bq_parser.specs.Grammar.{Lexeme, word, number, key, comma, point, opening, closing, less, equal, greater, less_equal, greater_equal, unequal, semicolon, separated, name_tokens, column_tokens, operand_tokens, op_token, atom_tokens, where_tokens, distinct_tokens, shared_tokens, compact_tokens, select_tokens, tokens_with, no_words, HasColumn, IsColumn, IsWhole}
 use Rattle.bq_parser.specs.Limits.{word_in, names_of, limit_of, is_long, is_far, same_column, number_of_different, columns_in, column_in, integers_in, integer_in, integers_of, soft_in}
 use Rattle.bq_parser.specs.Resolution.{IsColumnOf, HasSide, HasSides, HasNamed, stream_named, column_named, operand_named, atom_named, named_select}
 use Rattle.bq_parser.proofs.Different.{put_all}
@@ -283,7 +283,7 @@ module _ (streams : List Shape) (catalog : IsCatalog streams) (q : LiveQuery) (o
   head_words false false ls h = (tt, h)
 
   names_named : AllByRecursion IsName (names_of statement)
-  names_named = words_named (tokens_with [] statement) (head_words q.shared s.compact (key QueryKey ∷ word q.name ∷ key AsKey ∷ select_tokens s) (tt, (own, (tt, select_words))))
+  names_named = words_named (tokens_with no_words statement) (head_words q.shared s.compact (key QueryKey ∷ word q.name ∷ key AsKey ∷ select_tokens s) (tt, (own, (tt, select_words))))
 
   -- the columns and integers that are named
   columns_side : (e : Element) → column_in (operand_named streams v.from e) ≡ map (column_named streams v.from) (attr_in e)

@@ -66,11 +66,11 @@ named_again name a live (q ∷ qs) h = by (bytes_eq q.name name) refl h (named_a
     by false e f rest = ap (λ c. cond c (Some q) (live_named name (set_base name a qs))) e ∙ rest f
 
 -- a line that asks for a base leads to it
-based_line : (t : State) (x : Statement) (name : List ℕ) (b : Base) → IsTold x → length (printed_form x) ≤ 1024 → statement_request t x ≡ based name b
+based_line : (t : State) (x : Statement) (name : List ℕ) (b : Base) → t.lock ≡ None → IsTold x → length (printed_form x) ≤ 1024 → statement_request t x ≡ based name b
     → LeadsTo t (printed_form x ∷ []) (next_by t (based name b))
-based_line t x name b told short e =
-    one_line t (next_by t (based name b)) (printed_form x) (plain (based name b)) told.text.whole
-    (record { request = based name b; asks = subst (IsRequest t (printed_form x)) e (line_asks t x (printed_form x) told.text told.is told.within short); settles = refl })
+based_line t x name b unlocked told short e =
+    one_line t (next_by t (based name b)) (printed_form x) (plain (based name b)) told.text.whole refl
+    (record { request = based name b; asks = subst (IsRequest t (printed_form x)) e (line_asks t x (printed_form x) unlocked told.text told.is told.within short); settles = refl })
     refl
 
 -- what the lines ask for
@@ -157,7 +157,7 @@ empty_again (Cell.Extreme z) e = absurd cc
 small : (n : ℕ) → n < 2 ^ 63 → fits_i64 (pos n) ≡ true
 small n h = grind (arith, nat_tests)
 
-module _ (s : State) (q : LiveQuery) (began : s.began ≡ false) (named : live_named q.name s.queries ≡ Some (newly q.name q.query q.shared q.plan))
+module _ (s : State) (q : LiveQuery) (began : s.began ≡ false) (unlocked : s.lock ≡ None) (named : live_named q.name s.queries ≡ Some (newly q.name q.query q.shared q.plan))
     (sound : IsSoundLive q) (has : HasShortLines s.streams q) where
   -- the query goes on from a base, after so many lines
   abbrev going : Base → ℕ → State
@@ -185,7 +185,7 @@ module _ (s : State) (q : LiveQuery) (began : s.began ≡ false) (named : live_n
       let sets : set_base q.name next (set_base q.name base s.queries) ≡ set_base q.name next s.queries = set_again q.name base next s.queries in
       let count : s.lines + n + 1 ≡ s.lines + (n + 1) = omega arith in
       let same : next_by (going base n) (based q.name next) ≡ going next (n + 1) = λ j. record s { queries = sets j; lines = count j } in
-      subst (LeadsTo (going base n) (printed_form x ∷ [])) same (based_line (going base n) x q.name next told short e)
+      subst (LeadsTo (going base n) (printed_form x ∷ [])) same (based_line (going base n) x q.name next unlocked told short e)
 
   -- one cell
   abbrev blank : ℕ → List Cell
@@ -308,7 +308,7 @@ module _ (s : State) (q : LiveQuery) (began : s.began ≡ false) (named : live_n
       let tuples : List Statement = printed_statements q.name q.query.distinct (base_in q).table in
       let number : fits_i64 (pos given) ≡ true = small given (let g = has.given in omega (arith, g)) in
       let one : LeadsTo s (printed_form line ∷ []) (going first 1)
-      = based_line s line q.name first (given_told q.name (pos given) has.name number) (given_within q.name given short_name has.given)
+      = based_line s line q.name first unlocked (given_told q.name (pos given) has.name number) (given_within q.name given short_name has.given)
       (given_asks s q.name given (newly q.name q.query q.shared q.plan) zero_base began named (kept_at zero_base size) few refl) in
       let whole : length (base_in q).cells ≡ sizes_in list = sound.whole in
       let two : LeadsTo (going first 1) (map printed_form cells) (going (record first { cells = (base_in q).cells }) (1 + length cells))
@@ -323,4 +323,4 @@ module _ (s : State) (q : LiveQuery) (began : s.began ≡ false) (named : live_n
       (joined s (going first 1) (going (base_in q) (1 + length cells + length tuples)) (printed_form line ∷ []) (map printed_form (cells ++ tuples)) one both)
 
 pub kept_is_restored : KeptIsRestored
-kept_is_restored s q began named sound has few without = all_kept s q began named sound has few without
+kept_is_restored s q began unlocked named sound has few without = all_kept s q began unlocked named sound has few without

@@ -14,26 +14,31 @@ use Rattle.bq_session.specs.Answer.{Answer}
 use Rattle.bq_session.specs.Answers.{IsAnswer}
 use Rattle.bq_session.specs.Replies.{AreAnswers}
 use Rattle.bq_session.specs.Requests.{statement_request, stated, IsTextRequest, IsRequest, fits}
+use Rattle.bq_session.specs.Lock.{Lets}
 use Rattle.bq_session.specs.State.{State, next_of, after}
 use Rattle.bq_session.proofs.ResumeTexts.{not_long}
-use Rattle.bq_resuming.specs.Restores.{IsOneLine, LeadsTo}
+use Rattle.bq_resuming.specs.Restores.{IsOneLine, LeadsTo, is_refused}
 use Rattle.bq_resuming.proofs.PrintedLines.{IsStatementText}
 
 -- what the line of a statement asks for
-pub line_asks : (s : State) (x : Statement) (line : List ℕ) → IsStatementText line → IsStatement line x → limit_of x ≡ None → length line ≤ 1024 → IsRequest s line (statement_request s x)
-line_asks s x line text is within short =
-    fits short
+pub line_asks : (s : State) (x : Statement) (line : List ℕ) → s.lock ≡ None → IsStatementText line → IsStatement line x → limit_of x ≡ None → length line ≤ 1024 → IsRequest s line (statement_request s x)
+line_asks s x line none text is within short =
+    fits short (subst (λ l. Lets l s.streams line) (sym none) tt)
     (subst (λ u. IsTextRequest s (kind_of_line u) u (statement_request s x)) (sym text.left)
     (subst (λ (k : LineKind). IsTextRequest s k line (statement_request s x)) (sym text.kind) (stated x is within refl)))
+
+-- the line is not refused
+abbrev IsTaken : Answer → Type 0
+IsTaken answer = is_refused answer ≡ false
 
 -- no line leads nowhere else
 pub no_line : (s : State) → LeadsTo s [] s
 unfolding after
-no_line s = record { answers = []; answered = tt; is = refl; whole = All-nil IsOneLine }
+no_line s = record { answers = []; answered = tt; is = refl; whole = All-nil IsOneLine; taken = All-nil IsTaken }
 
-pub one_line : (s t : State) (line : List ℕ) (answer : Answer) → IsOneLine line → IsAnswer s line answer → next_of s answer ≡ t → LeadsTo s (line ∷ []) t
+pub one_line : (s t : State) (line : List ℕ) (answer : Answer) → IsOneLine line → is_refused answer ≡ false → IsAnswer s line answer → next_of s answer ≡ t → LeadsTo s (line ∷ []) t
 unfolding after
-one_line s t line answer whole is e = record { answers = answer ∷ []; answered = (is, tt); is = e; whole = All-cons IsOneLine line [] whole (All-nil IsOneLine) }
+one_line s t line answer whole fine is e = record { answers = answer ∷ []; answered = (is, tt); is = e; whole = All-cons IsOneLine line [] whole (All-nil IsOneLine); taken = All-cons IsTaken answer [] fine (All-nil IsTaken) }
 
 -- lines, and then others
 pub answers_joined : (s : State) (a b : List (List ℕ)) (xs ys : List Answer) → AreAnswers s a xs → AreAnswers (after s xs) b ys → AreAnswers s (a ++ b) (xs ++ ys)
@@ -54,6 +59,7 @@ joined s t u a b first rest = record {
   answered = answers_joined s a b first.answers rest.answers first.answered (subst (λ (x : State). AreAnswers x b rest.answers) (sym first.is) rest.answered);
   is = after_joined s first.answers rest.answers ∙ ap (λ (x : State). after x rest.answers) first.is ∙ rest.is;
   whole = All-append IsOneLine a b first.whole rest.whole;
+  taken = All-append IsTaken first.answers rest.answers first.taken rest.taken;
 }
 
 -- the names among such tokens are short

@@ -26,11 +26,11 @@ use Rattle.bq_executor.specs.Executor.{IsAccepted}
 use Rattle.bq_parser.specs.declared.tree.Statement.{Statement}
 use Rattle.bq_parser.specs.declared.tree.SelectAst.{SelectAst}
 use Rattle.bq_parser.specs.declared.resolution.ResolveError.{ResolveError}
-use Rattle.bq_parser.specs.Grammar.{Lexeme, word, number, key, comma, point, opening, closing, less, equal, greater, less_equal, greater_equal, unequal, semicolon, shared_tokens, compact_tokens, select_tokens, tokens_with, statement_tokens}
+use Rattle.bq_parser.specs.Grammar.{Lexeme, word, number, key, comma, point, opening, closing, less, equal, greater, less_equal, greater_equal, unequal, semicolon, shared_tokens, compact_tokens, select_tokens, tokens_with, no_words, capitals, statement_tokens}
 use Rattle.bq_parser.specs.Limits.{word_in, number_in, names_of, limit_of, is_wide}
 use Rattle.bq_parser.specs.Resolution.{resolved, named_select}
 use Rattle.bq_parser.specs.Syntax.{IsStatement}
-use Rattle.bq_parser.proofs.Compact.{is_a_name, all_with, numbers_without}
+use Rattle.bq_parser.proofs.Compact.{are_names, all_with, numbers_without}
 use Rattle.bq_parser.proofs.Resolved.{resolves_back}
 use Rattle.bq_parser.proofs.Within.{all_fit}
 use Rattle.bq_print.specs.Printed.{printed_form, short_form, spaced_by, joins, joins_short}
@@ -79,7 +79,7 @@ tokens_sound (unequal ∷ ls) n z = (tt, tokens_sound ls n z)
 tokens_sound (semicolon ∷ ls) n z = (tt, tokens_sound ls n z)
 
 statement_sound : (x : Statement) → All (λ n. IsTrue (is_name n)) (names_of x) → limit_of x ≡ None → AllByRecursion IsSound (statement_tokens x)
-statement_sound x names within = all_with IsSound (codes "COMPACT") x is_a_name (tokens_sound (tokens_with [] x) names (ap (list_any is_wide) (numbers_without x) ∙ all_fit x within))
+statement_sound x names within = all_with IsSound capitals x are_names (tokens_sound (tokens_with no_words x) names (ap (list_any is_wide) (numbers_without x) ∙ all_fit x within))
 
 -- the line is a statement line, in either form
 module _ (close : Lexeme → Lexeme → Bool) (keys : (k : Key) → close (key CreateKey) (key k) ≡ false) (words : (w : List ℕ) → close (key CreateKey) (word w) ≡ false) where
@@ -141,7 +141,7 @@ below n h = grind (arith, nat_tests)
 abbrev pages_in : List LiveQuery → ℕ
 pages_in queries = sum_by (λ (q : LiveQuery). pages_of q.plan) queries
 
-module _ (s : State) (taken : ℕ) (catalog : IsCatalog s.streams) where
+module _ (s : State) (taken : ℕ) (unlocked : s.lock ≡ None) (catalog : IsCatalog s.streams) where
   -- these live queries are there, after so many lines
   abbrev having : List LiveQuery → ℕ → State
   having queries n = record s { queries = queries; lines = s.lines + n }
@@ -154,7 +154,7 @@ module _ (s : State) (taken : ℕ) (catalog : IsCatalog s.streams) where
       let line : List ℕ = query_line s.streams q in
       let can : IsCreatable s.streams q = creatable s.streams catalog q is.short.name is.sound.limits is.named in
       let c : IsCreation x line = creates s.streams q can in
-      let asks : IsRequest now line (statement_request now x) = line_asks now x line c.text c.is can.within is.short.created in
+      let asks : IsRequest now line (statement_request now x) = line_asks now x line unlocked c.text c.is can.within is.short.created in
       let same : statement_request now x ≡ asked q.name q.query q.shared
       = ap (λ b. found_request q.name q.shared (cond b (Err Duplicate) (cond (nat_le 64 (length (names done))) (Err TooMany) (query_named (resolved s.streams (named_select s.streams q.query)))))) (not_among (names done) q.name rest differ)
       ∙ ap (λ b. found_request q.name q.shared (cond b (Err TooMany) (query_named (resolved s.streams (named_select s.streams q.query))))) (ap (nat_le 64) (length-map done (λ (l : LiveQuery). l.name)) ∙ below (length done) few)
@@ -162,7 +162,7 @@ module _ (s : State) (taken : ℕ) (catalog : IsCatalog s.streams) where
       let answer : Answer = registered q.name q.query q.shared q.plan in
       let verdict : IsVerdict q.shared q.query (free_pages done) (acceptance q.plan) = verdict_again q.shared q.query q.plan (free_pages done) is.sound.accepted (omega (arith, fits)) in
       let count : s.lines + n + 1 ≡ s.lines + (n + 1) = omega arith in
-      one_line now (having (done ++ anew q ∷ []) (n + 1)) line answer c.text.whole
+      one_line now (having (done ++ anew q ∷ []) (n + 1)) line answer c.text.whole refl
       (record { request = asked q.name q.query q.shared; asks = subst (IsRequest now line) same asks; settles = accepted q.plan is.sound.accepted.plan verdict refl })
       (λ j. record s { queries = done ++ anew q ∷ []; lines = count j })
 
@@ -192,13 +192,13 @@ module _ (s : State) (taken : ℕ) (catalog : IsCatalog s.streams) where
       (joined (having done n) (having next (n + 1)) (having (next ++ map anew rest) (n + 1 + length rest)) (query_line s.streams q ∷ []) (map (query_line s.streams) rest) one others)
 
 pub queries_are_restored : QueriesAreRestored
-queries_are_restored s taken queries none catalog is fit =
+queries_are_restored s taken queries none unlocked catalog is fit =
     let count : s.lines + 0 ≡ s.lines = omega arith in
-    let from : having s taken catalog [] 0 ≡ s = λ j. record s { queries = sym none j; lines = count j } in
+    let from : having s taken unlocked catalog [] 0 ≡ s = λ j. record s { queries = sym none j; lines = count j } in
     let nothing : pages_in [] ≡ 0 = refl in
     let few = fit.few in
     let pages = fit.pages in
     let zero : s.lines + (0 + length queries) ≡ s.lines + length queries = omega arith in
     subst (λ n. LeadsTo s (map (query_line s.streams) queries) (record s { queries = map anew queries; lines = n })) zero
     (subst (λ (x : State). LeadsTo x (map (query_line s.streams) queries) (record s { queries = map anew queries; lines = s.lines + (0 + length queries) })) from
-    (all_queries s taken catalog [] queries 0 is fit.differ (omega (arith, few)) (omega (arith, nothing, pages))))
+    (all_queries s taken unlocked catalog [] queries 0 is fit.differ (omega (arith, few)) (omega (arith, nothing, pages))))

@@ -1,5 +1,5 @@
 -- The states that lines lead to from the first one.
-use Rattle.std.proofs.Common.{◌≡◌, ◌≢◌, ℕ, suc, ◌+◌, ◌<◌, ◌≤◌, ◌^◌, Bool, true, false, cond, not, ◌&&◌, ◌||◌, List, [], ◌∷◌, ◌++◌, map, length, Some, refl, sym, ap, ap₂, ◌∙◌, subst, arith, length-append}
+use Rattle.std.proofs.Common.{◌≡◌, ℕ, suc, ◌+◌, ◌<◌, ◌≤◌, ◌^◌, Bool, true, false, cond, not, ◌&&◌, ◌||◌, List, [], ◌∷◌, ◌++◌, map, length, Option, Some, None, refl, sym, ap, ap₂, ◌∙◌, subst, arith, length-append}
 use Rattle.std.specs.List.{list_any, sum_by, AllByRecursion}
 use Rattle.std.specs.Str.{bytes_eq}
 use Rattle.std.proofs.lemmas.List.{length-map, map-append}
@@ -11,10 +11,12 @@ use Rattle.bq_model.specs.Numbers.{pages_of}
 use Rattle.bq_model.specs.Bases.{Base}
 use Rattle.bq_laws.proofs.PlanTests.{not-true}
 use Rattle.bq_laws.proofs.Tests.{and-left, and-right, or-false}
+use Rattle.bq_text.specs.Blank.{trimmed}
 use Rattle.bq_schema.specs.Streams.{Shape, IsShape, KeepsDomains, all_differ}
 use Rattle.bq_registry.specs.Live.{LiveQuery, names, newly, with_row, without, free_pages}
-use Rattle.bq_session.specs.Request.{Request, silent, created, asked, explained, dropped, taken, saved, resumed, based, refused}
-use Rattle.bq_session.specs.Requests.{is_live, live_named, IsRequest}
+use Rattle.bq_session.specs.Request.{Request, silent, created, asked, explained, dropped, taken, saved, resumed, based, locked, unlocked, refused}
+use Rattle.bq_session.specs.Requests.{is_live, live_named, IsRequest, fits}
+use Rattle.bq_session.specs.Lock.{Lock, Lets}
 use Rattle.bq_session.specs.Answer.{Answer, plain}
 use Rattle.bq_session.specs.Answers.{IsDecided, accepted, rejected, Settles, IsAnswer}
 use Rattle.bq_session.specs.State.{State, empty, from_base, set_base, one_line_more, next_by, next_of, after}
@@ -26,7 +28,8 @@ use Rattle.bq_io.specs.Sink.{Wrote, BrokeOff}
 use Rattle.bq_resuming.proofs.Leading.{answers_joined, after_joined}
 use Rattle.bq_resuming.specs.Sound.{IsSoundIn}
 use Rattle.bq_resuming.specs.Restores.{IsRestorable}
-use Rattle.bq_resuming.specs.Reached.{IsReached, SessionsStandForReached, ReachedStatesAreRestorable, CheckpointOfReached, ReachedCheckpointsAreShort}
+use Rattle.bq_resuming.specs.Reached.{IsReached, SessionsStandForReached, ReachedStatesAreRestorable, CheckpointOfReached, ReachedCheckpointsAreShort, ReachedCheckpointsHaveFewLines}
+use Rattle.bq_session.proofs.FewLines.{few_lines}
 use Rattle.bq_resuming.proofs.ReachedQueries.{IsReachedIn, sound_in, restorable, reached_with_more, reached_upto, reached_after_row, reached_on_base, reached_anew, accepted_by}
 use Rattle.bq_resuming.proofs.ReachedRanges.{Fits}
 use Rattle.bq_resuming.proofs.ReachedRequests.{IsReachedState, IsNewQuery, IsBaseFor, IsRight, named_holds, asks_right}
@@ -237,6 +240,8 @@ after_plain s (resumed n) k r =
       pages = r.pages;
     })
 after_plain s (based name base) k r = after_base s name base k r
+after_plain s (locked lock) k r = record { limit = r.limit; within = r.within; catalog = r.catalog; queries = r.queries; few = r.few; differ = r.differ; pages = r.pages }
+after_plain s unlocked k r = record { limit = r.limit; within = r.within; catalog = r.catalog; queries = r.queries; few = r.few; differ = r.differ; pages = r.pages }
 after_plain s (refused word) k r = line_more s r
 
 after_told : (s : State) (x : Request) (answer : Answer) → IsRight s x → answer ≡ plain x → IsReachedState s → IsReachedState (next_of s answer)
@@ -277,6 +282,8 @@ after_settled s (taken stream values) answer k e r = after_told s (taken stream 
 after_settled s saved answer k e r = after_told s saved answer k e r
 after_settled s (resumed n) answer k e r = after_told s (resumed n) answer k e r
 after_settled s (based name base) answer k e r = after_told s (based name base) answer k e r
+after_settled s (locked lock) answer k e r = after_told s (locked lock) answer k e r
+after_settled s unlocked answer k e r = after_told s unlocked answer k e r
 after_settled s (refused word) answer k e r = after_told s (refused word) answer k e r
 
 -- after lines
@@ -322,13 +329,23 @@ after_given limit s line request new P is asks gives =
       gives.stands,
     )
 
+-- an empty line asks for nothing, whatever lock stands
+empty_let : (lock : Option Lock) (streams : List Shape) → Lets lock streams []
+unfolding trimmed
+empty_let None streams = tt
+empty_let (Some lock) streams = tt
+
+empty_asks : (s : State) → IsRequest s [] silent
+unfolding trimmed
+empty_asks s = fits (omega arith) (empty_let s.lock s.streams) refl
+
 pub sessions_stand_for_reached : SessionsStandForReached
-sessions_stand_for_reached limit s line outcome new written now is answered found = by outcome answered.does found
+sessions_stand_for_reached limit s line outcome new written now is answered = by outcome answered.does
   where
-    by : (o : LineOutcome) → Does o s answered.request new written now → o ≢ outcomes.Memory → (t : State) × IsReached limit t × StandsFor new t
-    by outcomes.Done does none = after_given limit s line answered.request new (Wrote written now) is answered.asks does
-    by outcomes.WriteFault does none = after_given limit s line answered.request new (BrokeOff written now) is answered.asks does
-    by outcomes.Memory does none = absurd (none refl)
+    by : (o : LineOutcome) → Does o s answered.request new written now → (t : State) × IsReached limit t × StandsFor new t
+    by outcomes.Done does = after_given limit s line answered.request new (Wrote written now) is answered.asks does
+    by outcomes.WriteFault does = after_given limit s line answered.request new (BrokeOff written now) is answered.asks does
+    by outcomes.Memory does = after_given limit s [] silent new (λ reply. reply ≡ []) is (empty_asks s) (record { answer = plain silent; settles = refl; stands = does.1; reply = refl })
 
 pub reached_states_are_restorable : ReachedStatesAreRestorable
 reached_states_are_restorable limit small s is =
@@ -347,9 +364,9 @@ reached_states_are_restorable limit small s is =
     )
 
 pub checkpoint_of_reached : CheckpointOfReached
-checkpoint_of_reached limit small s is =
+checkpoint_of_reached limit small s is none =
     let all = reached_states_are_restorable limit small s is in
-    checkpoint_goes_on s all.0 all.1 all.2 all.3
+    checkpoint_goes_on s none all.0 all.1 all.2 all.3
 
 pub reached_checkpoints_are_short : ReachedCheckpointsAreShort
 reached_checkpoints_are_short limit small s is =
@@ -357,3 +374,8 @@ reached_checkpoints_are_short limit small s is =
     let within = all.0.within in
     let most = all.0.limit in
     checkpoint_lines_are_short s all.1 (omega (arith, within, most)) (λ i d l. (all.2 i d l).sound) (λ i d l. (all.2 i d l).short)
+
+pub reached_checkpoints_have_few_lines : ReachedCheckpointsHaveFewLines
+reached_checkpoints_have_few_lines limit small s is =
+    let all = reached_states_are_restorable limit small s is in
+    few_lines s all.1.few all.3.few (λ i d l. (all.2 i d l).sound)

@@ -29,8 +29,9 @@ use Rattle.bq_registry.specs.Live.{LiveQuery, boxes_of, base_in, names}
 use Rattle.bq_reply.specs.declared.refusal.Refusal.{Refusal}
 use Rattle.bq_reply.specs.declared.refusal.Refusal.TheVariants.{Duplicate, TooMany, UnknownQuery, Late, Arity, Value, RowLimit}
 use Rattle.bq_reply.proofs.Stripped.{stripped-short}
-use Rattle.bq_session.specs.Request.{Request, silent, created, asked, explained, dropped, taken, saved, resumed, based, refused}
-use Rattle.bq_session.specs.Requests.{entry_request, stream_request, query_named, query_of, found_request, is_live, live_named, natural, loaded_request, load_request, statement_request, IsStatementRequest, outside, limited, stated, IsTextRequest, IsRequest, too_long, fits}
+use Rattle.bq_session.specs.Request.{Request, silent, created, asked, explained, dropped, taken, saved, resumed, based, locked, unlocked, refused}
+use Rattle.bq_session.specs.Requests.{entry_request, stream_request, query_named, query_of, found_request, is_live, live_named, natural, loaded_request, load_request, lock_request, unlock_request, opened_by, statement_request, IsStatementRequest, outside, limited, stated, IsTextRequest, IsRequest, too_long, barred, fits}
+use Rattle.bq_session.specs.Lock.{Lock}
 use Rattle.bq_session.specs.State.{State, has_room}
 use Rattle.bq_resuming.proofs.AlikeRequests.{row_is_plain}
 use Rattle.bq_resuming.proofs.ReachedBases.{IsKeptBase, given_is_kept, cell_is_kept, tuple_is_kept}
@@ -72,6 +73,8 @@ IsRight s (taken stream values) = KeepsDomains s.streams stream values × (s.tak
 IsRight s saved = Unit {0}
 IsRight s (resumed n) = (s.taken ≡ 0) × (n ≤ s.limit)
 IsRight s (based name base) = IsBaseFor s name base
+IsRight s (locked lock) = Unit {0}
+IsRight s unlocked = Unit {0}
 IsRight s (refused word) = Unit {0}
 
 -- the live query of a name is one of them
@@ -176,6 +179,14 @@ module _ (s : State) (reached : IsReachedState s) where
       let same = k.1 in
       (k.0, omega (arith, same, given)))
 
+  lock_right : (key : Option ℤ) (o : Result (Option (List ℕ)) Refusal) → IsRight s (lock_request key o)
+  lock_right key (Ok opened) = tt
+  lock_right key (Err word) = tt
+
+  unlock_right : (o : Option Lock) → IsRight s (unlock_request o)
+  unlock_right None = tt
+  unlock_right (Some lock) = tt
+
   statement_right : (text : List ℕ) (x : Statement) → IsStatement text x → limit_of x ≡ None → length text ≤ 1024 → IsRight s (statement_request s x)
   statement_right text (statements.CreateStream name columns) is within short =
       stream_right text name columns.items is within (added s.streams (record { name = name; columns = columns.items })) refl
@@ -191,6 +202,8 @@ module _ (s : State) (reached : IsReachedState s) where
       load_right name _ (live_named name s.queries) refl (λ live e. cell_right name live index content e (content_fits name index content within))
   statement_right text (statements.ResumeTuple name values) is within short =
       load_right name _ (live_named name s.queries) refl (λ live e. tuple_right name live values.items (nat_eq (length values.items) (length live.query.select)) e)
+  statement_right text (statements.Lock key streams) is within short = lock_right key (opened_by s.streams streams.items)
+  statement_right text (statements.Unlock key) is within short = unlock_right s.lock
 
   text_right : (text : List ℕ) (r : Request) → length text ≤ 1024 → IsStatementRequest s text r → IsRight s r
   text_right text r short (outside n e) = subst (IsRight s) (sym e) tt
@@ -204,4 +217,5 @@ module _ (s : State) (reached : IsReachedState s) where
 
   pub asks_right : (line : List ℕ) (r : Request) → IsRequest s line r → IsRight s r
   asks_right line r (too_long n e) = subst (IsRight s) (sym e) tt
-  asks_right line r (fits n is) = kind_right (kind_of_line (stripped line)) (stripped line) r (stripped-short line (stripped line) refl n) is
+  asks_right line r (barred n none e) = subst (IsRight s) (sym e) tt
+  asks_right line r (fits n lets is) = kind_right (kind_of_line (stripped line)) (stripped line) r (stripped-short line (stripped line) refl n) is

@@ -27,7 +27,7 @@ use Rattle.bq_parser.specs.declared.resolution.ResolveError.TheVariants as resol
 use Rattle.bq_parser.specs.declared.tree.SelectAst.{SelectAst}
 use Rattle.bq_parser.specs.declared.tree.Statement.{Statement}
 use Rattle.bq_parser.specs.declared.tree.Statement.TheVariants as statements
-use Rattle.bq_parser.specs.Grammar.{Lexeme, word, comma, closing, semicolon, separated, coldef_tokens, tokens_with, Spells}
+use Rattle.bq_parser.specs.Grammar.{Lexeme, comma, closing, semicolon, separated, coldef_tokens, tokens_with, written, Spells}
 use Rattle.bq_parser.specs.Limits.{names_of, limit_of, word_in, is_long, is_wide}
 use Rattle.bq_parser.specs.Resolution.{HasNamed, has_streams, has_columns, query_for, resolved}
 use Rattle.bq_parser.specs.Syntax.{IsStatement, lexemes}
@@ -57,13 +57,13 @@ is_false false h = absurd cc
 -- the words of a statement are names
 long_spelled : (ls : List Lexeme) (x : Statement) → Spells ls x → list_any is_long (flat_map word_in ls) ≡ list_any is_long (names_of x)
 long_spelled ls x (whole, w, is, inl e) = ap (λ r. list_any is_long (flat_map word_in r)) e ∙ long_with w x is
-long_spelled ls x (whole, w, is, inr e) = ap (λ r. list_any is_long (flat_map word_in r)) e ∙ ap (list_any is_long) (without_semicolon (tokens_with (word w ∷ []) x)) ∙ long_with w x is
+long_spelled ls x (whole, w, is, inr e) = ap (λ r. list_any is_long (flat_map word_in r)) e ∙ ap (list_any is_long) (without_semicolon (tokens_with (written w) x)) ∙ long_with w x is
 
-named_spelled : (ls : List Lexeme) (x : Statement) (t : Spells ls x) → AllByRecursion IsNamed ls → AllByRecursion IsNamed (tokens_with (word t.1 ∷ []) x)
+named_spelled : (ls : List Lexeme) (x : Statement) (t : Spells ls x) → AllByRecursion IsNamed ls → AllByRecursion IsNamed (tokens_with (written t.1) x)
 named_spelled ls x (whole, w, is, inl e) h = subst (λ (r : List Lexeme). AllByRecursion IsNamed r) e h
-named_spelled ls x (whole, w, is, inr e) h = all_left IsNamed (tokens_with (word w ∷ []) x) (semicolon ∷ []) (subst (λ (r : List Lexeme). AllByRecursion IsNamed r) e h)
+named_spelled ls x (whole, w, is, inr e) h = all_left IsNamed (tokens_with (written w) x) (semicolon ∷ []) (subst (λ (r : List Lexeme). AllByRecursion IsNamed r) e h)
 
-words_named : (text : List ℕ) (x : Statement) (is : IsStatement text x) → limit_of x ≡ None → AllByRecursion IsNamed (tokens_with (word is.spelled.1 ∷ []) x)
+words_named : (text : List ℕ) (x : Statement) (is : IsStatement text x) → limit_of x ≡ None → AllByRecursion IsNamed (tokens_with (written is.spelled.1) x)
 words_named text x is within =
     let ts : List Token = is.its_tokens in
     let stand = (exactly.standing_is_found text ts).0 is.lexed in
@@ -82,7 +82,7 @@ pub created_catalog : (streams : List Shape) (text name : List ℕ) (columns : L
     → limit_of (statements.CreateStream name (record { items = columns })) ≡ None → (place : ℕ) → added streams (shape_of name columns) ≡ Ok place → IsCatalog (streams ++ shape_of name columns ∷ [])
 created_catalog streams text name columns catalog is within place e = by (is_duplicate streams (shape_of name columns)) (nat_lt (length streams) 16) refl refl e
   where
-    words : AllByRecursion IsNamed (tokens_with (word is.spelled.1 ∷ []) (statements.CreateStream name (record { items = columns })))
+    words : AllByRecursion IsNamed (tokens_with (written is.spelled.1) (statements.CreateStream name (record { items = columns })))
     words = words_named text (statements.CreateStream name (record { items = columns })) is within
 
     few : length columns ≤ 8

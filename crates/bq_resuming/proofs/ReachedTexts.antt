@@ -48,8 +48,8 @@ replies_joined s [] ys = refl
 replies_joined s (x ∷ xs) ys = ap (λ (more : List (List ℕ)). unnumbered_reply s x ∷ more) (replies_joined (next_of s x) xs ys)
 
 pub checkpoint_continues_texts : CheckpointContinuesTexts
-checkpoint_continues_texts limit small s is rest answers answered none =
-    let all = checkpoint_of_reached limit small s is in
+checkpoint_continues_texts limit small s is unlocked rest answers answered none =
+    let all = checkpoint_of_reached limit small s is unlocked in
     let r : Restores s = all.0 in
     let told : List Answer = r.leads.answers in
     let goes = all.1 (lines rest) answers none answered in

@@ -1,5 +1,5 @@
 -- The lines of a checkpoint lead to a state that keeps the same.
-use Rattle.std.proofs.Common.{◌≡◌, ℕ, ◌+◌, ◌≤◌, ◌^◌, true, false, cond, int_lt, pos, nat_abs, List, [], ◌∷◌, ◌++◌, map, flat_map, length, Some, refl, sym, ap, ◌∙◌, subst, arith, append_assoc, length-append, All}
+use Rattle.std.proofs.Common.{◌≡◌, ℕ, ◌+◌, ◌≤◌, ◌^◌, true, false, cond, int_lt, pos, nat_abs, List, [], ◌∷◌, ◌++◌, map, flat_map, length, Some, None, refl, sym, ap, ◌∙◌, subst, arith, append_assoc, length-append, All}
 use Rattle.std.specs.Str.{bytes_eq}
 use Rattle.std.proofs.lemmas.Bool.Decides.{nat_tests}
 use Rattle.std.proofs.lemmas.Int.{ints}
@@ -61,10 +61,10 @@ not_negative n = grind (arith, ints)
 not_above : (n most : ℕ) → n ≤ most → int_lt (pos most) (pos n) ≡ false
 not_above n most h = grind (arith, ints)
 
-module _ (s : State) (sound : IsSoundState s) (catalog : IsCatalog s.streams) (is : All (IsRestorable s.streams s.taken) s.queries) (together : FitTogether s.queries) where
+module _ (s : State) (none : s.lock ≡ None) (sound : IsSoundState s) (catalog : IsCatalog s.streams) (is : All (IsRestorable s.streams s.taken) s.queries) (together : FitTogether s.queries) where
   -- with the streams, these live queries, and so many rows and lines
   abbrev with_queries : ℕ → List LiveQuery → ℕ → State
-  with_queries taken queries n = record { limit = s.limit; streams = s.streams; queries = queries; taken = taken; lines = n; began = false }
+  with_queries taken queries n = record { limit = s.limit; streams = s.streams; queries = queries; taken = taken; lines = n; began = false; lock = None }
 
   -- the number of rows
   few : s.taken ≤ 2 ^ 40
@@ -75,11 +75,11 @@ module _ (s : State) (sound : IsSoundState s) (catalog : IsCatalog s.streams) (i
       let now : State = with_queries 0 (map anew s.queries) n in
       let x : Statement = ResumeRows (pos s.taken) in
       let told : IsTold x = rows_told (pos s.taken) (small s.taken few) in
-      let asks : IsRequest now (printed_form x) (statement_request now x) = line_asks now x (printed_form x) told.text told.is told.within (rows_within s.taken few) in
+      let asks : IsRequest now (printed_form x) (statement_request now x) = line_asks now x (printed_form x) refl told.text told.is told.within (rows_within s.taken few) in
       let same : statement_request now x ≡ resumed s.taken
       = ap (λ b. cond b (refused Value) (cond (int_lt (pos s.limit) (pos s.taken)) (refused RowLimit) (resumed (nat_abs (pos s.taken))))) (not_negative s.taken)
       ∙ ap (λ b. cond b (refused RowLimit) (resumed (nat_abs (pos s.taken)))) (not_above s.taken s.limit sound.within) in
-      one_line now (with_queries s.taken (map anew s.queries) (n + 1)) (printed_form x) (plain (resumed s.taken)) told.text.whole
+      one_line now (with_queries s.taken (map anew s.queries) (n + 1)) (printed_form x) (plain (resumed s.taken)) told.text.whole refl
       (record { request = resumed s.taken; asks = subst (IsRequest now (printed_form x)) same asks; settles = refl })
       refl
 
@@ -96,11 +96,11 @@ module _ (s : State) (sound : IsSoundState s) (catalog : IsCatalog s.streams) (i
       let next : List LiveQuery = done ++ restored q ∷ [] in
       let here : List (List ℕ) = kept_lines q in
       let others : List (List ℕ) = flat_map kept_lines rest in
-      let none : is_live (names done) q.name ≡ false = not_among (names done) q.name (names rest) differ in
+      let apart : is_live (names done) q.name ≡ false = not_among (names done) q.name (names rest) differ in
       let set : set_base q.name (base_in q) (done ++ anew q ∷ map anew rest) ≡ next ++ map anew rest
-      = set_there q.name (base_in q) done (anew q) (map anew rest) none refl ∙ sym (append_assoc done (restored q ∷ []) (map anew rest)) in
+      = set_there q.name (base_in q) done (anew q) (map anew rest) apart refl ∙ sym (append_assoc done (restored q ∷ []) (map anew rest)) in
       let first : LeadsTo now here (record now { queries = set_base q.name (base_in q) (done ++ anew q ∷ map anew rest); lines = n + length here })
-      = kept_is_restored now q refl (named_there q.name done (anew q) (map anew rest) none refl) r.sound r.short r.given r.tuples in
+      = kept_is_restored now q refl refl (named_there q.name done (anew q) (map anew rest) apart refl) r.sound r.short r.given r.tuples in
       let one : LeadsTo now here (with_queries s.taken (next ++ map anew rest) (n + length here)) = subst (λ qs. LeadsTo now here (with_queries s.taken qs (n + length here))) set first in
       let named : names next ++ names rest ≡ names done ++ q.name ∷ names rest
       = ap (λ (ns : List (List ℕ)). ns ++ names rest) (map-append (λ (x : LiveQuery). x.name) done (restored q ∷ [])) ∙ append_assoc (names done) (q.name ∷ []) (names rest) in
@@ -128,7 +128,7 @@ module _ (s : State) (sound : IsSoundState s) (catalog : IsCatalog s.streams) (i
       let k : ℕ = m + 1 + length (flat_map kept_lines s.queries) in
       let streams : LeadsTo (empty s.limit) (map stream_line s.streams) (with_queries 0 [] n) = streams_are_restored s.limit s.streams catalog in
       let queries : LeadsTo (with_queries 0 [] n) (map (query_line s.streams) s.queries) (with_queries 0 (map anew s.queries) m)
-      = queries_are_restored (with_queries 0 [] n) s.taken s.queries refl catalog is together in
+      = queries_are_restored (with_queries 0 [] n) s.taken s.queries refl refl catalog is together in
       let rows : LeadsTo (with_queries 0 (map anew s.queries) m) (printed_form (ResumeRows (pos s.taken)) ∷ []) (with_queries s.taken (map anew s.queries) (m + 1)) = rows_line m in
       let kept : LeadsTo (with_queries s.taken (map anew s.queries) (m + 1)) (flat_map kept_lines s.queries) (with_queries s.taken (map restored s.queries) k)
       = all_kept [] s.queries (m + 1) is together.differ in
@@ -139,16 +139,16 @@ module _ (s : State) (sound : IsSoundState s) (catalog : IsCatalog s.streams) (i
         state = with_queries s.taken (map restored s.queries) k;
         leads = joined (empty s.limit) (with_queries 0 (map anew s.queries) m) (with_queries s.taken (map restored s.queries) k)
             (map stream_line s.streams ++ map (query_line s.streams) s.queries) (printed_form (ResumeRows (pos s.taken)) ∷ flat_map kept_lines s.queries) created told;
-        alike = record { limit = refl; streams = refl; taken = refl; queries = all_alike s.queries is };
+        alike = record { limit = refl; streams = refl; taken = refl; queries = all_alike s.queries is; lock = sym none };
         quiet = refl;
       }
 
 pub checkpoint_restores : CheckpointRestores
-checkpoint_restores s sound catalog is together = restores s sound catalog is together
+checkpoint_restores s none sound catalog is together = restores s none sound catalog is together
 
 pub checkpoint_goes_on : CheckpointGoesOn
-checkpoint_goes_on s sound catalog is together =
-    let r : Restores s = checkpoint_restores s sound catalog is together in
+checkpoint_goes_on s none sound catalog is together =
+    let r : Restores s = checkpoint_restores s none sound catalog is together in
     let from : IsResumed r.state = record { limit = s.limit; lines = checkpoint_lines s; answers = r.leads.answers; answered = r.leads.answered; is = r.leads.is; quiet = r.quiet } in
     let both = resumed_continues_alike s r.state sound from r.alike in
     (r, both.0, both.1)

@@ -53,6 +53,7 @@ sound_resumed s t sound is a = record {
   pairs = pairs_at_base s.streams s.taken s.queries t.queries a.queries sound.queries (resumed_at_base t is);
   small = sound.limit;
   within = sound.within;
+  lock = sym a.lock;
 }
 
 -- the same, the other way round
@@ -81,6 +82,7 @@ sound_turned s t a =
           (subst (λ n. Pairs s.streams n t.queries s.queries) a.taken (pairs_turned s.streams s.taken s.queries t.queries a.pairs));
       small = omega (arith, small, limit);
       within = omega (arith, within, limit, taken);
+      lock = sym a.lock;
     }
 
 go_on_alike : (s t : State) → AreSoundAlike s t → GoOnAlike s t

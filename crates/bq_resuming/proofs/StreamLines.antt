@@ -135,10 +135,10 @@ one_more limit done s rest is h most short =
     let sound = tokens_sound s is in
     let text = line_text joins CreateKey (key StreamKey) (word s.name ∷ opening ∷ separated comma coldef_tokens s.columns ++ closing ∷ []) tt refl tt sound in
     let request : Request = stream_request s.name s.columns (added done s) in
-    let asks : IsRequest now (stream_line s) request = line_asks now (told s) (stream_line s) text (printed_statement (told s) is.some sound) (stream_within s is) short in
+    let asks : IsRequest now (stream_line s) request = line_asks now (told s) (stream_line s) refl text (printed_statement (told s) is.some sound) (stream_within s is) short in
     let same : request ≡ created s.name s.columns = ap (stream_request s.name s.columns) (can_be_added done s rest is h most) in
     let n : length done + 1 ≡ length (done ++ s ∷ []) = sym (length-append done (s ∷ [])) in
-    one_line now (with_streams limit (done ++ s ∷ [])) (stream_line s) (plain (created s.name s.columns)) text.whole
+    one_line now (with_streams limit (done ++ s ∷ [])) (stream_line s) (plain (created s.name s.columns)) text.whole refl
     (record { request = created s.name s.columns; asks = subst (IsRequest now (stream_line s)) same asks; settles = refl })
     (λ j. record (empty limit) { streams = done ++ s ∷ []; lines = n j })
 

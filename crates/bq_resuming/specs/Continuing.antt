@@ -4,7 +4,7 @@ use Rattle.bq_parser.specs.declared.tree.Statement.{Statement}
 use Rattle.bq_parser.specs.declared.tree.Statement.TheVariants as statements
 use Rattle.bq_parser.specs.LineKind.{stripped}
 use Rattle.bq_parser.specs.Syntax.{IsStatement}
-use Rattle.bq_session.specs.Request.{Request, silent, created, asked, explained, dropped, taken, saved, resumed, based, refused}
+use Rattle.bq_session.specs.Request.{Request, silent, created, asked, explained, dropped, taken, saved, resumed, based, locked, unlocked, refused}
 use Rattle.bq_session.specs.Answer.{Answer, plain, registered, decided}
 use Rattle.bq_session.specs.State.{State, empty, next_of, after}
 use Rattle.bq_session.specs.Replies.{reply_by, reply_to, AreAnswers}
@@ -23,6 +23,8 @@ is_resume (statements.ResumeRows rows) = true
 is_resume (statements.ResumeGiven name rows) = true
 is_resume (statements.ResumeCell name index content) = true
 is_resume (statements.ResumeTuple name values) = true
+is_resume (statements.Lock key streams) = false
+is_resume (statements.Unlock key) = false
 
 -- the line is a RESUME line
 pub record IsResumeLine (line : List ℕ) : Type 0 where
@@ -41,6 +43,8 @@ takes_row (plain (taken stream values)) = true
 takes_row (plain saved) = false
 takes_row (plain (resumed n)) = false
 takes_row (plain (based name base)) = false
+takes_row (plain (locked lock)) = false
+takes_row (plain unlocked) = false
 takes_row (plain (refused word)) = false
 takes_row (registered name query shared plan) = false
 takes_row (decided name query verdict) = false
@@ -62,6 +66,8 @@ unnumbered_by s (taken stream values) = reply_by s (taken stream values)
 unnumbered_by s saved = reply_by s saved
 unnumbered_by s (resumed n) = reply_by s (resumed n)
 unnumbered_by s (based name base) = reply_by s (based name base)
+unnumbered_by s (locked lock) = reply_by s (locked lock)
+unnumbered_by s unlocked = reply_by s unlocked
 unnumbered_by s (refused word) = codes "error " ++ word_text word ++ 10 ∷ []
 
 -- the reply to a line that comes to this, where a refusal does not say which line it is

@@ -1,13 +1,13 @@
 -- The checkpoint of every state that a session reaches.
-use Rattle.std.specs.Prelude.{◌≡◌, ◌≢◌, ℕ, ◌≤◌, ◌^◌, List, ◌++◌, length, All}
+use Rattle.std.specs.Prelude.{◌≡◌, ℕ, ◌+◌, ◌≤◌, ◌^◌, List, ◌++◌, length, All, None}
 use Rattle.bq_text.specs.Lines.{lines}
 use Rattle.bq_io.specs.Sink.{SinkState}
 use Rattle.bq_schema.specs.Streams.{IsCatalog}
+use Rattle.bq_session.specs.Announced.{announced_by}
 use Rattle.bq_session.specs.Answer.{Answer}
 use Rattle.bq_session.specs.Checkpoint.{checkpoint_lines}
 use Rattle.bq_session.specs.Replies.{reply_by, AreAnswers}
 use Rattle.bq_session.specs.declared.outcome.LineOutcome.{LineOutcome}
-use Rattle.bq_session.specs.declared.outcome.LineOutcome.TheVariants.{Memory}
 use Rattle.bq_session.specs.Request.{saved}
 use Rattle.bq_session.specs.Session.{SessionValue, StandsFor, Answered}
 use Rattle.bq_session.specs.State.{State, empty, after}
@@ -22,10 +22,10 @@ pub record IsReached (limit : ℕ) (s : State) : Type 0 where
   pub answered : AreAnswers (empty limit) lines answers
   pub is : after (empty limit) answers ≡ s
 
--- after each line for which memory was found, a session that stood for such a state stands for such a state again
+-- after each line, a session that stood for such a state stands for such a state again
 abbrev pub SessionsStandForReached : Type 0
 SessionsStandForReached =
-    (limit : ℕ) (s : State) (line : List ℕ) (outcome : LineOutcome) (new : SessionValue) (written now : SinkState) → IsReached limit s → Answered outcome s line new written now → outcome ≢ Memory
+    (limit : ℕ) (s : State) (line : List ℕ) (outcome : LineOutcome) (new : SessionValue) (written now : SinkState) → IsReached limit s → Answered outcome s line new written now
     → (t : State) × IsReached limit t × StandsFor new t
 
 -- such a state is sound, its streams are those of a catalog, and its live queries can be restored, each and together
@@ -34,20 +34,26 @@ ReachedStatesAreRestorable =
     (limit : ℕ) → limit ≤ 2 ^ 40 → (s : State) → IsReached limit s
     → IsSoundState s × IsCatalog s.streams × All (IsRestorable s.streams s.taken) s.queries × FitTogether s.queries
 
--- so the lines of its checkpoint lead from the first state to one that keeps the same, which goes on as it does, and it as that one
+-- so, where no lock stands, the lines of its checkpoint lead from the first state to one that keeps the same, which goes on as it does, and
+-- it as that one
 abbrev pub CheckpointOfReached : Type 0
 CheckpointOfReached =
-    (limit : ℕ) → limit ≤ 2 ^ 40 → (s : State) → IsReached limit s → (r : Restores s) × GoOnAlike s r.state × GoOnAlike r.state s
+    (limit : ℕ) → limit ≤ 2 ^ 40 → (s : State) → IsReached limit s → s.lock ≡ None → (r : Restores s) × GoOnAlike s r.state × GoOnAlike r.state s
 
 -- each of these lines has at most 1,024 bytes
 abbrev pub ReachedCheckpointsAreShort : Type 0
 ReachedCheckpointsAreShort = (limit : ℕ) → limit ≤ 2 ^ 40 → (s : State) → IsReached limit s → All (λ line. length line ≤ 1024) (checkpoint_lines s)
 
--- A session that reads the reply to CHECKPOINT in such a state and then the rest of a text comes to the same answers to the rest, with the
+-- and they are at most the cells and answers that the live queries announce, and 200
+abbrev pub ReachedCheckpointsHaveFewLines : Type 0
+ReachedCheckpointsHaveFewLines =
+    (limit : ℕ) → limit ≤ 2 ^ 40 → (s : State) → IsReached limit s → length (checkpoint_lines s) ≤ (announced_by s.queries).cells + (announced_by s.queries).answers + 200
+
+-- A session that reads the reply to CHECKPOINT in such a state, in which no lock stands, and then the rest of a text comes to the same answers to the rest, with the
 -- same replies but for the numbers of refused lines: RESUME lines of the rest before its first taken row aside.
 abbrev pub CheckpointContinuesTexts : Type 0
 CheckpointContinuesTexts =
-    (limit : ℕ) → limit ≤ 2 ^ 40 → (s : State) → IsReached limit s → (rest : List ℕ) (answers : List Answer)
+    (limit : ℕ) → limit ≤ 2 ^ 40 → (s : State) → IsReached limit s → s.lock ≡ None → (rest : List ℕ) (answers : List Answer)
     → AreAnswers s (lines rest) answers → NoneResumesBeforeRows (lines rest) answers
     → (told : List Answer) × AreAnswers (empty s.limit) (lines (reply_by s saved ++ rest)) (told ++ answers)
     × (unnumbered_replies (empty s.limit) (told ++ answers) ≡ unnumbered_replies (empty s.limit) told ++ unnumbered_replies s answers)

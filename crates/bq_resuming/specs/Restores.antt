@@ -1,5 +1,5 @@
 -- What the lines of a checkpoint lead to.
-use Rattle.std.specs.Prelude.{◌≡◌, ℕ, ◌+◌, ◌≤◌, false, List, [], length, map, Some, IsTrue, IsFalse, All}
+use Rattle.std.specs.Prelude.{◌≡◌, ℕ, ◌+◌, ◌≤◌, Bool, true, false, List, [], length, map, Some, None, IsTrue, IsFalse, All}
 use Rattle.std.specs.List.{list_any, sum_by}
 use Rattle.bq_text.specs.Lines.{is_line_feed}
 use Rattle.bq_model.specs.Numbers.{pages_of}
@@ -7,9 +7,10 @@ use Rattle.bq_schema.specs.Streams.{Shape, IsCatalog, all_differ}
 use Rattle.bq_parser.specs.Resolution.{HasNamed}
 use Rattle.bq_registry.specs.Live.{LiveQuery, newly, base_in, names}
 use Rattle.bq_registry.specs.Sound.{IsSoundLive}
-use Rattle.bq_session.specs.Answer.{Answer}
+use Rattle.bq_session.specs.Answer.{Answer, plain, registered, decided}
 use Rattle.bq_session.specs.Checkpoint.{stream_line, query_line, kept_lines, checkpoint_lines}
 use Rattle.bq_session.specs.Replies.{AreAnswers}
+use Rattle.bq_session.specs.Request.{silent, created, asked, explained, dropped, taken, saved, resumed, based, locked, unlocked, refused}
 use Rattle.bq_session.specs.Requests.{live_named}
 use Rattle.bq_session.specs.Restoring.{AreAlike}
 use Rattle.bq_session.specs.State.{State, empty, set_base, after}
@@ -21,12 +22,30 @@ use Rattle.bq_resuming.specs.Continuing.{GoOnAlike}
 abbrev pub IsOneLine : List ℕ → Type 0
 IsOneLine line = IsFalse (list_any is_line_feed line)
 
--- lines, each without an LF, come to answers from one state on, and lead to another
+-- whether a line that comes to this is refused
+abbrev pub is_refused : Answer → Bool
+is_refused (plain silent) = false
+is_refused (plain (created name columns)) = false
+is_refused (plain (asked name query shared)) = false
+is_refused (plain (explained name)) = false
+is_refused (plain (dropped name)) = false
+is_refused (plain (taken stream values)) = false
+is_refused (plain saved) = false
+is_refused (plain (resumed n)) = false
+is_refused (plain (based name base)) = false
+is_refused (plain (locked lock)) = false
+is_refused (plain unlocked) = false
+is_refused (plain (refused word)) = true
+is_refused (registered name query shared plan) = false
+is_refused (decided name query verdict) = true
+
+-- lines, each without an LF, come to answers from one state on, none of which refuses its line, and lead to another
 pub record LeadsTo (s : State) (lines : List (List ℕ)) (t : State) : Type 0 where
   pub answers : List Answer
   pub answered : AreAnswers s lines answers
   pub is : after s answers ≡ t
   pub whole : All IsOneLine lines
+  pub taken : All (λ (answer : Answer). is_refused answer ≡ false) answers
 
 -- the lines of the streams of a catalog lead from the first state to one with these streams and nothing else
 abbrev pub StreamsAreRestored : Type 0
@@ -38,11 +57,11 @@ StreamsAreRestored =
 abbrev pub KeepsTuplesDistinct : LiveQuery → Type 0
 KeepsTuplesDistinct q = q.query.distinct ≡ false → (base_in q).table ≡ []
 
--- From a state in which a live query was just created, and no row was taken, the lines that tell what is kept of such a one lead to the
+-- From a state in which a live query was just created, no row was taken and no lock stands, the lines that tell what is kept of such a one lead to the
 -- state in which it goes on from that.
 abbrev pub KeptIsRestored : Type 0
 KeptIsRestored =
-    (s : State) (q : LiveQuery) → s.began ≡ false → live_named q.name s.queries ≡ Some (newly q.name q.query q.shared q.plan)
+    (s : State) (q : LiveQuery) → s.began ≡ false → s.lock ≡ None → live_named q.name s.queries ≡ Some (newly q.name q.query q.shared q.plan)
     → IsSoundLive q → HasShortLines s.streams q → (base_in q).given ≤ s.taken → KeepsTuplesDistinct q
     → LeadsTo s (kept_lines q) (record s { queries = set_base q.name (base_in q) s.queries; lines = s.lines + length (kept_lines q) })
 
@@ -65,10 +84,10 @@ pub record FitTogether (queries : List LiveQuery) : Type 0 where
 abbrev pub anew : LiveQuery → LiveQuery
 anew q = newly q.name q.query q.shared q.plan
 
--- From a state with no live query, the lines of live queries lead to one in which each was just created.
+-- From a state with no live query and no lock, the lines of live queries lead to one in which each was just created.
 abbrev pub QueriesAreRestored : Type 0
 QueriesAreRestored =
-    (s : State) (taken : ℕ) (queries : List LiveQuery) → s.queries ≡ [] → IsCatalog s.streams → All (IsRestorable s.streams taken) queries → FitTogether queries
+    (s : State) (taken : ℕ) (queries : List LiveQuery) → s.queries ≡ [] → s.lock ≡ None → IsCatalog s.streams → All (IsRestorable s.streams taken) queries → FitTogether queries
     → LeadsTo s (map (query_line s.streams) queries) (record s { queries = map anew queries; lines = s.lines + length queries })
 
 -- From the first state with the same row limit, the lines of its checkpoint lead to a state that is alike, and no row was taken.
@@ -78,12 +97,12 @@ pub record Restores (s : State) : Type 0 where
   pub alike : AreAlike state s
   pub quiet : state.began ≡ false
 
--- so it is with each sound state whose streams are those of a catalog
+-- so it is with each sound state without a lock whose streams are those of a catalog
 abbrev pub CheckpointRestores : Type 0
-CheckpointRestores = (s : State) → IsSoundState s → IsCatalog s.streams → All (IsRestorable s.streams s.taken) s.queries → FitTogether s.queries → Restores s
+CheckpointRestores = (s : State) → s.lock ≡ None → IsSoundState s → IsCatalog s.streams → All (IsRestorable s.streams s.taken) s.queries → FitTogether s.queries → Restores s
 
 -- and that state goes on as the one whose checkpoint was read, and that one as it does
 abbrev pub CheckpointGoesOn : Type 0
 CheckpointGoesOn =
-    (s : State) → IsSoundState s → IsCatalog s.streams → All (IsRestorable s.streams s.taken) s.queries → FitTogether s.queries
+    (s : State) → s.lock ≡ None → IsSoundState s → IsCatalog s.streams → All (IsRestorable s.streams s.taken) s.queries → FitTogether s.queries
     → (r : Restores s) × GoOnAlike s r.state × GoOnAlike r.state s

@@ -1,6 +1,6 @@
 //! States that keep the same are stood for and answered alike.
 ghost use Rattle.bq_resuming.specs.Continuing.{ContinuesAlike, ResumedContinuesAlike};
-ghost use Rattle.bq_resuming.specs.Reached.{SessionsStandForReached, ReachedStatesAreRestorable, CheckpointOfReached, ReachedCheckpointsAreShort, CheckpointContinuesTexts};
+ghost use Rattle.bq_resuming.specs.Reached.{SessionsStandForReached, ReachedStatesAreRestorable, CheckpointOfReached, ReachedCheckpointsAreShort, ReachedCheckpointsHaveFewLines, CheckpointContinuesTexts};
 ghost use Rattle.bq_resuming.specs.Restores.{StreamsAreRestored, KeptIsRestored, QueriesAreRestored, CheckpointRestores, CheckpointGoesOn};
 ghost use Rattle.bq_resuming.specs.Small.{CheckpointLinesAreShort};
 ghost use Rattle.bq_resuming.specs.Sound.{StatesAreSound};
@@ -42,7 +42,8 @@ pub fn queries_are_restored()
     ensures { QueriesAreRestored }
 {}
 
-/// From the first state on, the lines of a checkpoint lead to a state that keeps the same as the one that it tells of.
+/// From the first state on, the lines of a checkpoint lead to a state that keeps the same as the one that it tells of, where no lock stands; and
+/// none of them is refused.
 pub fn checkpoint_restores()
     ensures { CheckpointRestores }
 {}
@@ -52,8 +53,7 @@ pub fn checkpoint_goes_on()
     ensures { CheckpointGoesOn }
 {}
 
-/// After each line for which memory was found, a session that stood for a state that lines lead to from the first one stands for such a
-/// state again.
+/// After each line, a session that stood for a state that lines lead to from the first one stands for such a state again.
 pub fn sessions_stand_for_reached()
     ensures { SessionsStandForReached }
 {}
@@ -63,7 +63,7 @@ pub fn reached_states_are_restorable()
     ensures { ReachedStatesAreRestorable }
 {}
 
-/// From the first state on, the lines of the checkpoint of such a state lead to one that goes on as it does, and it as that one does.
+/// From the first state on, the lines of the checkpoint of such a state without a lock lead to one that goes on as it does, and it as that one does.
 pub fn checkpoint_of_reached()
     ensures { CheckpointOfReached }
 {}
@@ -73,7 +73,12 @@ pub fn reached_checkpoints_are_short()
     ensures { ReachedCheckpointsAreShort }
 {}
 
-/// A session that reads the reply to `CHECKPOINT` in such a state, and then the rest of a text, replies to the rest as that state does, but
+/// They are at most the cells and answers that the live queries announce, and 200.
+pub fn reached_checkpoints_have_few_lines()
+    ensures { ReachedCheckpointsHaveFewLines }
+{}
+
+/// A session that reads the reply to `CHECKPOINT` in such a state without a lock, and then the rest of a text, replies to the rest as that state does, but
 /// for the numbers of refused lines.
 pub fn checkpoint_continues_texts()
     ensures { CheckpointContinuesTexts }

@@ -1,6 +1,6 @@
 -- Rows of which the values are not formed.
 use Rattle.std.proofs.Common.{◌≡◌, ℕ, zero, suc, ℤ, pos, ◌+◌, ◌-◌, ◌^◌, ◌<◌, ◌≤◌, int_lt, not, true, Option, Some, None, List, [], ◌∷◌, ◌++◌, length, take, drop, get_or, length-append, length-drop, refl, ap, sym, ◌∙◌, subst, arith}
-use Rattle.std.specs.Prelude.{neg_ℤ, ⊤}
+use Rattle.std.specs.Prelude.{neg_ℤ, ⊤, IsTrue}
 use Rattle.std.specs.List.{All, prefix_len, slice_range, slice_split}
 use Rattle.std.proofs.lemmas.Int.{ints}
 use Rattle.std.proofs.lemmas.List.Sums.{prefix_len-le-length, prefix_len_passes}
@@ -14,6 +14,7 @@ use Rattle.bq_schema.specs.Rows.{is_comma}
 use Rattle.bq_schema.specs.Streams.{HasEnds, Shape, lies_within, lie_within, shape_at}
 use Rattle.bq_rows.specs.Ahead.{AddsAt, BeginsStream, EndsLine, FieldsTo, IsEnded}
 use Rattle.bq_rows.specs.Counted.{AreRowsAhead, HasFields, IsSomeInteger, IsSomeRowAhead, none, more}
+use Rattle.bq_rows.specs.Open.{is_open}
 use Rattle.bq_rows.proofs.FieldsAhead.{fields_begin, fields_last, fields_more, negative_at, short_at}
 use Rattle.bq_rows.proofs.NamesAhead.{some_ended}
 use Rattle.bq_rows.proofs.RowsAhead.{row_found}
@@ -122,9 +123,9 @@ keep_all columns n row values ends all is size = no_domain columns (take n row) 
 -- A row, and rows one after another.
 
 -- what was read of the first line of a text is a row, whatever its values are
-pub some_row : (streams : List Shape) (text : List ℕ) (stream start end len : ℕ) (columns : List ColumnDef) → columns ≡ (shape_at streams stream).columns → length columns ≤ 8 → BeginsStream streams text stream start
-    → ((values : List ℤ) → length values ≡ length columns → lie_within columns values ≡ true) → HasFields text start end (length columns) → EndsLine text end len → len + 1 < length text → IsSomeRowAhead streams text len
-some_row streams text stream start end len columns is few b all f e before =
+pub some_row : (streams : List Shape) (opened : Option (List ℕ)) (text : List ℕ) (stream start end len : ℕ) (columns : List ColumnDef) → columns ≡ (shape_at streams stream).columns → length columns ≤ 8 → BeginsStream streams text stream start
+    → ((values : List ℤ) → length values ≡ length columns → lie_within columns values ≡ true) → HasFields text start end (length columns) → EndsLine text end len → len + 1 < length text → IsTrue (is_open opened stream) → IsSomeRowAhead streams opened text len
+some_row streams opened text stream start end len columns is few b all f e before lets =
     let own = (shape_at streams stream).columns in
     let within : lie_within own f.values ≡ true = subst (λ cs. lie_within cs f.values ≡ true) is (all f.values f.count) in
     let fields = slice_split is_comma (slice_range text start end) in
@@ -133,18 +134,19 @@ some_row streams text stream start end len columns is few b all f e before =
       stream = stream;
       values = f.values;
       row = row_found streams text stream start end len f.values b f.are e before (omega (arith, f.count, few)) (whole_row stream own fields f.values f.are.values size within) (domains_kept streams stream f.values within);
+      opens = lets;
     }
 
 -- so many rows are ahead, and the text goes on behind them
-pub record RowsTo (streams : List Shape) (text : List ℕ) (count begin end : ℕ) : Type 0 where
-  pub are : AreRowsAhead streams text count begin end
+pub record RowsTo (streams : List Shape) (opened : Option (List ℕ)) (text : List ℕ) (count begin end : ℕ) : Type 0 where
+  pub are : AreRowsAhead streams opened text count begin end
   pub within : end < length text
 
-pub rows_begin : (streams : List Shape) (text : List ℕ) → IsEnded text → RowsTo streams text 0 0 0
-rows_begin streams text ended = record { are = none refl refl; within = some_ended text ended }
+pub rows_begin : (streams : List Shape) (opened : Option (List ℕ)) (text : List ℕ) → IsEnded text → RowsTo streams opened text 0 0 0
+rows_begin streams opened text ended = record { are = none refl refl; within = some_ended text ended }
 
-pub row_more : (streams : List Shape) (text : List ℕ) (count begin end len : ℕ) → RowsTo streams text count begin end → IsSomeRowAhead streams (drop end text) len → RowsTo streams text (count + 1) end (end + len + 1)
-row_more streams text count begin end len h row = record {
+pub row_more : (streams : List Shape) (opened : Option (List ℕ)) (text : List ℕ) (count begin end len : ℕ) → RowsTo streams opened text count begin end → IsSomeRowAhead streams opened (drop end text) len → RowsTo streams opened text (count + 1) end (end + len + 1)
+row_more streams opened text count begin end len h row = record {
   are = more count begin len h.are row refl refl;
   within = omega (arith, row.row.before, length-drop end text);
 }

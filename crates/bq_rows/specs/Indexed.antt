@@ -1,7 +1,14 @@
--- What is kept beside the streams of a catalog for their rows.
-use Rattle.std.specs.Prelude.{◌≡◌, ℕ, ℤ, ◌+◌, ◌*◌, ◌<◌, ◌≤◌, true, List, [], ◌∷◌, length, slice_index}
+-- What is kept beside the streams of a catalog for their rows, and which of them are open.
+use Rattle.std.specs.Prelude.{◌≡◌, ℕ, ℤ, ◌+◌, ◌*◌, ◌<◌, ◌≤◌, true, List, [], ◌∷◌, length, slice_index, IsTrue, Option}
 use Rattle.bq_schema.specs.Streams.{Shape, shape_at, lie_within}
+use Rattle.bq_rows.specs.declared.starts.Starts.{Starts}
 use Rattle.bq_rows.specs.declared.stream_tables.StreamTables.{StreamTables}
+use Rattle.bq_rows.specs.Open.{is_open}
+
+-- streams, and the numbers of those that are open, or None where all are
+pub record IndexedValue : Type 0 where
+  pub streams : List Shape
+  pub opened : Option (List ℕ)
 
 -- The tables tell of a stream, by its number: the byte that its name is, where they tell one below 256; how many columns it has; how many
 -- bytes of a text its rows with integers of at most 15 digits take at most, with the longest name, and with one byte behind them; and by 1,
@@ -16,3 +23,7 @@ pub record IsNoted (tables : StreamTables) (streams : List Shape) (stream : ℕ)
 pub record IsIndexed (tables : StreamTables) (streams : List Shape) : Type 0 where
   pub few : length streams ≤ 16
   pub noted : (stream : ℕ) → stream < length streams → IsNoted tables streams stream
+
+-- each stream that a byte leads to is open
+abbrev pub LeadToOpen : Starts → Option (List ℕ) → Type 0
+LeadToOpen starts opened = (byte : ℕ) → byte < 256 → slice_index starts.numbers byte < 16 → IsTrue (is_open opened (slice_index starts.numbers byte))

@@ -113,13 +113,13 @@ pub(crate) fn have_no_domain(columns: &Columns) -> bool
     columns.keep(&LEAST[..columns.as_slice().len()])
 }
 
-// The length of the first line of a text, where that line is a row of a stream of which no column has a domain, written
+// The length of the first line of a text, where that line is a row of an open stream of which no column has a domain, written
 // without blanks and plus signs, with at most 18 digits a value. One CR may stand at its end. The last byte of the text is LF, and is not the
 // one that ends the line.
 #[inline(always)]
 fn counted_row_ahead(streams: &IndexedCatalog, text: &[u8]) -> Option<usize>
     requires ended { IsEnded text.now }
-    ensures { IfSome result (λ len. IsSomeRowAhead streams.now text.now len) }
+    ensures { IfSome result (λ len. IsSomeRowAhead streams.now.streams streams.now.opened text.now len) }
 {
     let Some(found) = streams.stream_ahead(text) else {
         return None;
@@ -148,12 +148,12 @@ pub struct CountedRows {
     pub end: usize,
 }
 
-/// Returns the rows at the front of a text, so many at most, of streams of which no column has a domain, each written without blanks
+/// Returns the rows at the front of a text, so many at most, of open streams of which no column has a domain, each written without blanks
 /// and plus signs. The last byte of the text is LF, and is not the one that ends a row.
 #[inline(never)] // called once for many rows, and its loop then has all registers
 pub fn counted_rows_ahead(streams: &IndexedCatalog, text: &[u8], most: u64) -> CountedRows
     requires ended { IsEnded text.now }
-    ensures rows { AreRowsAhead streams.now text.now result.count result.begin result.end }
+    ensures rows { AreRowsAhead streams.now.streams streams.now.opened text.now result.count result.begin result.end }
     ensures few { result.count ≤ most }
 {
     let mut rows = CountedRows {

@@ -8,6 +8,7 @@ ghost use Rattle.bq_schema.specs.Rows.{entry, is_comma, row_with, values_of};
 ghost use Rattle.bq_schema.specs.Streams.{KeepsDomains, shape_at};
 ghost use Rattle.bq_text.specs.Value.{amount};
 ghost use Rattle.bq_text.specs.Word.{is_digit};
+ghost use Rattle.bq_rows.specs.Open.{is_open};
 ghost use Rattle.bq_rows.specs.Plain.{AddsInteger, IsPlain, IsPlainRow};
 
 use crate::indexed_catalog::IndexedCatalog;
@@ -206,13 +207,21 @@ fn read_plain_of(catalog: &Catalog, line: &[u8], row: &mut Row) -> Option<u8>
 }
 
 /// Puts the row that a line is into `row`, in place of what that holds, and gives the number of its stream, where the line is a row of
-/// a stream, each value in the domain of its column, written without blanks. One CR may stand at its end. Else `row` is left with any values.
+/// an open stream, each value in the domain of its column, written without blanks. One CR may stand at its end. Else `row` is left with any values.
 #[inline(always)] // into the loops over lines, with what it calls
 pub fn read_plain(streams: &IndexedCatalog, line: &[u8], row: &mut Row) -> Option<u8>
-    ensures { IfSome result (λ stream. IsPlainRow streams.now line.now stream row.new.items) }
+    ensures row { IfSome result (λ stream. IsPlainRow streams.now.streams line.now stream row.new.items) }
+    ensures opens { IfSome result (λ stream. IsTrue (is_open streams.now.opened stream)) }
 {
     if !streams.may_lead(line) {
         return None;
     }
-    read_plain_of(streams.all(), line, row)
+    match read_plain_of(streams.all(), line, row) {
+        Some(stream) => if streams.is_open(stream) {
+            Some(stream)
+        } else {
+            None
+        },
+        None => None,
+    }
 }

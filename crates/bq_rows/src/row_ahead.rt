@@ -7,6 +7,7 @@ ghost use Rattle.bq_schema.specs.Streams.{IsName, lie_within, shape_at};
 ghost use Rattle.bq_text.specs.Value.{amount};
 ghost use Rattle.bq_text.specs.Word.{is_digit};
 ghost use Rattle.bq_rows.specs.Ahead.{AddsAt, AddsNext, AreFields, BeginsStream, EndsLine, FieldsTo, IsEnded, IsRowAhead};
+ghost use Rattle.bq_rows.specs.Open.{is_open};
 ghost use Rattle.bq_rows.specs.ReadFields.{ReadsFields};
 
 use crate::fast_row::{above_zero, add_amount, add_any, add_opposite, begins_integer};
@@ -56,21 +57,33 @@ fn later_stream_ahead(catalog: &Catalog, first: u8, text: &[u8]) -> Option<u8>
     None
 }
 
-// The number of the stream with whose name and a comma a text begins, where that is this number or above, and where what stands behind that
-// comma begins.
+// The number of the stream with whose name and a comma a text begins, where that is this number, which is open, or an open one above; and
+// where what stands behind that comma begins.
 #[inline(always)]
-pub(crate) fn other_stream_ahead(catalog: &Catalog, first: u8, text: &[u8]) -> Option<(u8, usize)>
-    requires known { first < length catalog.now }
+pub(crate) fn other_stream_ahead(
+    streams: &IndexedCatalog,
+    first: u8,
+    text: &[u8],
+) -> Option<(u8, usize)>
+    requires known { first < length streams.now.streams }
+    requires opened { IsTrue (is_open streams.now.opened first) }
     requires ended { IsEnded text.now }
-    ensures { IfSome result (λ found. BeginsStream catalog.now text.now found.0 found.1) }
+    ensures begins { IfSome result (λ found. BeginsStream streams.now.streams text.now found.0 found.1) }
+    ensures opens { IfSome result (λ found. IsTrue (is_open streams.now.opened found.0)) }
 {
+    let catalog = streams.all();
     // No effect at run time. The proof reads from this call that the names differ.
     let _catalog = catalog.len();
     let name = catalog.stream_name(first).bytes();
     match named_len(text, name) {
         Some(len) => Some((first, len)),
         None => match later_stream_ahead(catalog, first, text) {
-            Some(later) => Some((later, catalog.stream_name(later).bytes().len() + 1)),
+            Some(later) => {
+                if !streams.is_open(later) {
+                    return None;
+                }
+                Some((later, catalog.stream_name(later).bytes().len() + 1))
+            }
             None => None,
         },
     }
@@ -298,10 +311,10 @@ fn read_rest_at(
     place: usize,
     row: &mut Row,
 ) -> Option<usize>
-    requires known { stream < length streams.now }
+    requires known { stream < length streams.now.streams }
     requires ended { IsEnded text.now }
     requires here { place < length text.now }
-    ensures { IfSome result (λ len. (start : ℕ) → BeginsStream streams.now text.now stream start → FieldsTo text.now start place row.old.items → IsRowAhead streams.now text.now stream len row.new.items) }
+    ensures { IfSome result (λ len. (start : ℕ) → BeginsStream streams.now.streams text.now stream start → FieldsTo text.now start place row.old.items → IsRowAhead streams.now.streams text.now stream len row.new.items) }
 {
     if !begins_integer(text[place]) {
         return None;
@@ -325,9 +338,9 @@ fn read_rest_at(
 // Whether each value of a row lies in the domain of its column, where one of them has a domain.
 #[inline(always)]
 fn is_kept(streams: &IndexedCatalog, stream: u8, row: &Row) -> bool
-    requires known { stream < length streams.now }
-    requires width { length row.now.items ≡ length (shape_at streams.now stream).columns }
-    ensures { IsTrue result → lie_within (shape_at streams.now stream).columns row.now.items ≡ true }
+    requires known { stream < length streams.now.streams }
+    requires width { length row.now.items ≡ length (shape_at streams.now.streams stream).columns }
+    ensures { IsTrue result → lie_within (shape_at streams.now.streams stream).columns row.now.items ≡ true }
 {
     if streams.is_free(stream) {
         return true;
@@ -345,9 +358,9 @@ fn read_row_at(
     row: &mut Row,
 ) -> Option<usize>
     requires empty { row.old.items ≡ [] }
-    requires begins { BeginsStream streams.now text.now stream start }
+    requires begins { BeginsStream streams.now.streams text.now stream start }
     requires ended { IsEnded text.now }
-    ensures { IfSome result (λ len. IsRowAhead streams.now text.now stream len row.new.items) }
+    ensures { IfSome result (λ len. IsRowAhead streams.now.streams text.now stream len row.new.items) }
 {
     if text.len() < streams.room(stream) {
         return read_rest_at(streams, stream, text, start, row);
@@ -365,13 +378,14 @@ fn read_row_at(
 }
 
 /// Puts the row that the first line of a text is into an empty `row`, and gives the number of its stream and the length of the line,
-/// where the line is a row of a stream, each value in the domain of its column, written without blanks. One CR may stand at its end. The
+/// where the line is a row of an open stream, each value in the domain of its column, written without blanks. One CR may stand at its end. The
 /// last byte of the text is LF, and is not the one that ends the line. Where it gives nothing, `row` is left with any values.
 #[inline(always)] // into the loops over lines, with what it calls
 pub fn read_row_ahead(streams: &IndexedCatalog, text: &[u8], row: &mut Row) -> Option<(u8, usize)>
     requires empty { row.old.items ≡ [] }
     requires ended { IsEnded text.now }
-    ensures { IfSome result (λ found. IsRowAhead streams.now text.now found.0 found.1 row.new.items) }
+    ensures row { IfSome result (λ found. IsRowAhead streams.now.streams text.now found.0 found.1 row.new.items) }
+    ensures opens { IfSome result (λ found. IsTrue (is_open streams.now.opened found.0)) }
 {
     let Some(found) = streams.stream_ahead(text) else {
         return None;

@@ -100,4 +100,5 @@ stands_alike k s t h a sound = record {
   taken = h.taken ∙ a.taken;
   lines = h.lines;
   began = h.began;
+  lock = h.lock ∙ a.lock;
 }

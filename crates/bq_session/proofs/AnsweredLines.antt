@@ -1,5 +1,5 @@
 -- Rows that are answered one after another, and given behind them.
-use Rattle.std.proofs.Common.{◌≡◌, ℕ, zero, suc, ℤ, ◌+◌, ◌-◌, ◌<◌, ◌≤◌, false, List, [], ◌∷◌, ◌++◌, length, take, drop, length-append, length-drop, length-take, refl, ap, sym, ◌∙◌, subst, arith}
+use Rattle.std.proofs.Common.{◌≡◌, ℕ, zero, suc, ℤ, ◌+◌, ◌-◌, ◌<◌, ◌≤◌, false, List, [], ◌∷◌, ◌++◌, length, take, drop, length-append, length-drop, length-take, refl, ap, sym, ◌∙◌, subst, arith, IsTrue}
 use Rattle.std.specs.Bool.{⊤}
 use Rattle.std.proofs.lemmas.List.{drop-append-le}
 use Rattle.bq_io.specs.Gathered.{gathered_seen}
@@ -9,6 +9,7 @@ use Rattle.bq_feed.specs.Reading.{AreLinesAhead, GivesAll, IsBuffered, Reading}
 use Rattle.bq_feed.specs.Reading as feed
 use Rattle.bq_rows.specs.Ahead.{IsRowAhead}
 use Rattle.bq_rows.specs.Counted.{IsSomeRowAhead}
+use Rattle.bq_rows.specs.Open.{is_open}
 use Rattle.bq_rows.specs.Plain.{IsPlainRow}
 use Rattle.bq_rows.proofs.LinesCounted.{stands}
 use Rattle.bq_rows.proofs.RowsAhead.{lies_ahead}
@@ -17,6 +18,7 @@ use Rattle.bq_session.specs.declared.one_turn.Turn.{Turn}
 use Rattle.bq_session.specs.declared.outcome.LineOutcome.TheVariants.{Done, Memory, WriteFault}
 use Rattle.bq_session.specs.AnsweredRows.{AnswersRows, AnswersText, AreAnswered, TurnedBehind, none, more, no_row, row_more}
 use Rattle.bq_session.specs.Fetched.{buffered}
+use Rattle.bq_session.specs.Lock.{open_in}
 use Rattle.bq_session.specs.Run.{HasState}
 use Rattle.bq_session.specs.Session.{Answered, SessionValue, StandsFor}
 use Rattle.bq_session.specs.State.{State, next_of}
@@ -43,7 +45,7 @@ lines_of : (ahead : List ℕ) (k : SessionValue) (below : SinkState) (held : Lis
     → AreAnswered (ahead ++ 10 ∷ []) k below held how count begin end kept after full → AreLinesAhead ahead count begin end
 lines_of ahead k below held how count begin end kept after full (none h c e a b d) = feed.none c e
 lines_of ahead k below held how count begin end kept after full (more before start len left between part h row t c e) =
-    let is = stands left.streams ahead begin len (within_ahead ahead k below held Done before start begin left between part h) row in
+    let is = stands left.streams (open_in left.lock) ahead begin len (within_ahead ahead k below held Done before start begin left between part h) row in
     feed.more before start len (lines_of ahead k below held Done before start begin left between part h) is.feed is.short c e
 
 -- so many rows were given and answered
@@ -65,14 +67,14 @@ one_line s how old new left kept source between after part full line b is t st =
 }
 
 one_more : (old : Reading) (k : SessionValue) (source : SourceState) (below : SinkState) (held : List ℕ) (how : LineOutcome) (before begin len : ℕ) (left kept : SessionValue) (between after : SinkState) (part full : List ℕ)
-    → HasRoom old (before + 1) → begin ≤ length old.ahead → Reached old k source below held Done before begin left between part → IsSomeRowAhead left.streams (drop begin (old.ahead ++ 10 ∷ [])) len
+    → HasRoom old (before + 1) → begin ≤ length old.ahead → Reached old k source below held Done before begin left between part → IsSomeRowAhead left.streams (open_in left.lock) (drop begin (old.ahead ++ 10 ∷ [])) len
     → AnswersText how left (take len (drop begin (old.ahead ++ 10 ∷ []))) kept between after part full
     → AnswersRows old k source below held how (reader_at old (before + 1) (begin + len + 1) (take len (drop begin old.ahead))) kept after full
 one_more old k source below held how before begin len left kept between after part full room inside h row t =
     let rest = drop begin old.ahead in
-    let is = stands left.streams old.ahead begin len inside row in
+    let is = stands left.streams (open_in left.lock) old.ahead begin len inside row in
     let same : take len (drop begin (old.ahead ++ 10 ∷ [])) ≡ take len rest = ap (λ (x : List ℕ). take len x) (drop-append-le begin old.ahead (10 ∷ []) inside) ∙ (lies_ahead rest len is.row.row.feed is.row.row.before).same in
-    let given = row_given old left.streams before begin len h.line room inside row in
+    let given = row_given old left.streams (open_in left.lock) before begin len h.line room inside row in
     row_more (reader_at old before begin h.line) left between part h.rows
     (λ s st. one_line s how (reader_at old before begin h.line) (reader_at old (before + 1) (begin + len + 1) (take len rest)) left kept source between after part full (take len (drop begin (old.ahead ++ 10 ∷ []))) given same t st)
 
@@ -175,12 +177,12 @@ rows_in old new given k source below held how how' count begin end kept after fu
 
 -- one row more was answered
 pub answered_more : (text : List ℕ) (k : SessionValue) (below : SinkState) (held : List ℕ) (how how' : LineOutcome) (count begin end len stream : ℕ) (values : List ℤ) (left kept : SessionValue) (between after : SinkState) (part full : List ℕ) (name name' : ℕ)
-    → how ≡ how' → AreAnswered text k below held Done count begin end left between part → IsRowAhead left.streams (drop end text) stream len values
+    → how ≡ how' → AreAnswered text k below held Done count begin end left between part → IsRowAhead left.streams (drop end text) stream len values → IsTrue (is_open (open_in left.lock) stream)
     → ((s : State) → (line : List ℕ) → length line ≤ 1024 → IsPlainRow left.streams line stream values → StandsFor left s → Answered how s line kept (gathered_seen between name part) (gathered_seen after name' full))
     → AreAnswered text k below held how' (count + 1) end (end + len + 1) kept after full
-answered_more text k below held how how' count begin end len stream values left kept between after part full name name' same h row reply =
+answered_more text k below held how how' count begin end len stream values left kept between after part full name name' same h row opens reply =
     subst (λ (o : LineOutcome). AreAnswered text k below held o (count + 1) end (end + len + 1) kept after full) same
-    (more count begin len left between part h (record { stream = stream; values = values; row = row })
+    (more count begin len left between part h (record { stream = stream; values = values; row = row; opens = opens })
     (record { name = name; name' = name'; answers = λ s st. reply s (take len (drop end text)) (omega (arith, length-take len (drop end text), row.short)) row.row st })
     refl refl)
 

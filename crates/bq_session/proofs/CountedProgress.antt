@@ -30,11 +30,12 @@ counted_line s line k kept seen short h row =
       taken = h.taken;
       lines = ap (λ n. n + 1) h.lines;
       began = h.began;
+      lock = h.lock;
     } in
     let does : Does outcome.Done s (entry_request (nat_lt k.taken k.limit) (Ok (entry row.stream row.values))) (one_row_more more_lines) seen seen = counted more_lines s row.stream row.values seen stands row.none room in
     record {
       request = entry_request (nat_lt k.taken k.limit) (Ok (entry row.stream row.values));
-      asks = plain_asks k s line row.stream row.values short h row.row;
+      asks = plain_asks k s line row.stream row.values short h row.row row.opens;
       does = subst (λ (x : SessionValue). Does outcome.Done s (entry_request (nat_lt k.taken k.limit) (Ok (entry row.stream row.values))) x seen seen) (sym row.kept) does;
     }
 

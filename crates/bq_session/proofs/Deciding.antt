@@ -61,6 +61,7 @@ takes written outcome s name q shared k r v before after o old tells reg w =
       taken = old.taken;
       lines = old.lines;
       began = old.began;
+      lock = old.lock;
     })
     (subst (λ t. Writes written before after t) (ap (acceptance_text name) reg.told ∙ same_text name reg.plan) w)
 
@@ -74,6 +75,7 @@ unchanged k r s u old = record {
   taken = old.taken;
   lines = old.lines;
   began = old.began;
+  lock = old.lock;
 }
 
 -- a number of the query is above its limit

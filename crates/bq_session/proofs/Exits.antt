@@ -1,5 +1,5 @@
 -- How a run ends, by how far it was.
-use Rattle.std.proofs.Common.{◌≡◌, ℕ, ◌≤◌, inl, inr, Bool, true, false, List, [], ◌∷◌, ◌++◌, refl, sym, ap, ◌∙◌, subst, append_assoc, append-nil, arith, IfSome}
+use Rattle.std.proofs.Common.{◌≡◌, ℕ, ◌-◌, ◌^◌, ◌≤◌, inl, inr, Bool, true, false, List, [], ◌∷◌, ◌++◌, refl, sym, ap, ◌∙◌, subst, append_assoc, append-nil, arith, IfSome}
 use Rattle.std.specs.Io.KnownBytes.{Appends}
 use Rattle.bq_io.specs.Source.{SourceState}
 use Rattle.bq_io.specs.Sink.{SinkState, Wrote}
@@ -18,13 +18,15 @@ use Rattle.bq_session.specs.declared.outcome.LineOutcome.TheVariants as outcome
 use Rattle.bq_session.specs.State.{State}
 use Rattle.bq_session.specs.Requests.{IsRequest}
 use Rattle.bq_session.specs.Answers.{IsAnswer}
-use Rattle.bq_session.specs.Replies.{reply_to}
-use Rattle.bq_session.specs.Session.{SessionValue, Answered}
+use Rattle.bq_session.specs.Replies.{reply_to, AreAnswers}
+use Rattle.bq_session.specs.Session.{SessionValue, Answered, StandsFor}
+use Rattle.bq_session.specs.declared.run.Ending.{Ending}
 use Rattle.bq_session.specs.declared.run.Ending.TheVariants as ending
 use Rattle.bq_session.specs.Events.{Event, lines_of}
 use Rattle.bq_session.specs.Events as events
 use Rattle.bq_session.specs.Fetched.{Read, StoppedHere}
-use Rattle.bq_session.specs.Run.{AreWhole, WroteText, AtLine, StopsAtLine, Ran}
+use Rattle.bq_session.specs.Run.{AreWhole, TookAll, WroteText, AnsweredText, AtLine, StopsAtLine, Ran}
+use Rattle.bq_session.specs.Uncounted.{CameUncounted, EndsUncounted}
 use Rattle.bq_session.specs.Turned.{AnsweredLine, LacksMemory, SinkFailed, ahead, reply, behind}
 use Rattle.bq_session.proofs.Passing.{IfSome-map}
 use Rattle.bq_session.proofs.Stops.{Stopped}
@@ -83,6 +85,32 @@ ends-done s source now now' old new session before below below' held kept p r =
       output_later = f.later;
     }
 
+-- and the session stands for the state after all lines
+pub ends-answered : (s : State) (source now now' : SourceState) (old new : Reading) (session : SessionValue) (before below below' : SinkState) (held kept : List ℕ)
+    → Progress s source now old session before below held → Read reads.End old new now now' below below' held kept → TookAll source now' (λ (text : List ℕ). AnsweredText s text before below' session)
+ends-answered s source now now' old new session before below below' held kept p r =
+    let all = p.answered ++ p.pending in
+    let a = all-given source now now' old new p.given.front (lines_of 1 (events_of p.answered ++ events_of p.pending)) p.given.given r.next in
+    let listed : lines p.given.front ≡ lines_of 1 (events_of all) = a.are ∙ ap (lines_of 1) (sym (events_of-append p.answered p.pending)) in
+    let only = only-append p.answered p.pending p.only.0 p.only.1 in
+    record {
+      text = p.given.front;
+      all = a.all;
+      few = a.few;
+      holds = record {
+        answers = answers_of all;
+        are = subst (λ ls. AreAnswers s ls (answers_of all)) (sym listed) (are-answers s all only p.has.are);
+        written = subst (λ x. Appends before.written below'.written x) (only-replied s all only) (held-all s p.answered p.pending before below below' held p.has r.wrote.bytes);
+        stands = subst (λ u. StandsFor session u) (at-after s all) p.stands;
+      };
+    }
+
+-- the same, where nothing came between
+pub ends-as : (s : State) (source now now' : SourceState) (old new : Reading) (session session' : SessionValue) (before below below' : SinkState) (held kept : List ℕ)
+    → Progress s source now old session before below held → Read reads.End old new now now' below below' held kept → session' ≡ session → TookAll source now' (λ (text : List ℕ). AnsweredText s text before below' session')
+ends-as s source now now' old new session session' before below below' held kept p r same =
+    subst (λ (k : SessionValue). TookAll source now' (λ (text : List ℕ). AnsweredText s text before below' k)) (sym same) (ends-answered s source now now' old new session before below below' held kept p r)
+
 -- the source failed
 pub ends-read_fault : (s : State) (source now now' : SourceState) (old new : Reading) (session : SessionValue) (before below below' : SinkState) (held kept : List ℕ)
     → Progress s source now old session before below held → Read reads.ReadFault old new now now' below below' held kept → Ran ending.ReadFault s source now' before below'
@@ -110,7 +138,7 @@ ends-byte_limit s source now now' old new session before below below' held kept 
     let text = last-text reads.ByteLimit old new now now' g.front r.next in
     let u = last-given reads.ByteLimit source now now' old new g.front given g.given r.next t.0 t.1 t.2 in
     record {
-      ends = record { text = text; taken = u.taken; holds = (sym u.count ∙ t.3, f.wrote (ended_part text) u.are) };
+      ends = record { text = text; taken = u.taken; holds = inl (sym u.count ∙ t.3, f.wrote (ended_part text) u.are) };
       input_later = u.later;
       output_later = f.later;
     }
@@ -329,3 +357,67 @@ ends-memory s source now now' old new session session' before below below'' held
       input_later = a.given.given.later;
       output_later = omega (arith, still.later, m.flushes.later.faults);
     }
+
+-- a line came that is not answered, since no line more can be counted, and all that was held was written
+pub ends-uncounted : (s : State) (source now now' : SourceState) (old new : Reading) (session : SessionValue) (before below below'' : SinkState) (held : List ℕ)
+    → (p : Progress s source now old session before below held) → 2 ^ 64 - 2 ≤ session.lines → CameUncounted old new now now' below held (λ lower full. Wrote lower below'' full) → Ran ending.ByteLimit s source now' before below''
+ends-uncounted s source now now' old new session before below below'' held p full m =
+    let w = waits 1 m.long s source now now' old new before below m.between held m.left p.answered p.pending p.has p.given m.came in
+    let only = only-moved p.answered p.pending w.answered w.pending w.moves p.only.0 p.only.1 in
+    let all = w.answered ++ w.pending in
+    let same = ap (λ ts. (at s ts).lines) (moves-all p.answered p.pending w.answered w.pending w.moves) in
+    let state = ap (λ (u : State). u.lines) (at-after s all) in
+    record {
+      ends = record {
+        text = w.given.front ++ new.ahead;
+        taken = w.given.given.taken;
+        holds = inr record {
+          at_line = at-line s source now' new w.answered w.pending (events_of w.pending ++ events.line 1 w.text ∷ []) w.text [] w.given refl only.0 only.1 w.has.are;
+          counted = omega (arith, full, p.stands.lines, same, state);
+          written = subst (λ r. Appends before.written below''.written r) (only-replied s all (only-append w.answered w.pending only.0 only.1)) (held-all s w.answered w.pending before m.between below'' m.left w.has m.flushes.bytes);
+        };
+      };
+      input_later = w.given.given.later;
+      output_later = omega (arith, w.has.later, m.flushes.later.faults);
+    }
+
+-- and the sink failed in what was held
+ends-held : (s : State) (source now now' : SourceState) (old new : Reading) (session : SessionValue) (before below below'' : SinkState) (held kept : List ℕ)
+    → (p : Progress s source now old session before below held) → CameUncounted old new now now' below held (λ lower full. StaysHeld lower below'' full kept) → Ran ending.WriteFault s source now' before below''
+ends-held s source now now' old new session before below below'' held kept p m =
+    let w = waits 1 m.long s source now now' old new before below m.between held m.left p.answered p.pending p.has p.given m.came in
+    let only = only-moved p.answered p.pending w.answered w.pending w.moves p.only.0 p.only.1 in
+    record {
+      ends = (
+        Rose-earlier _ _ _ w.has.later m.flushes.rose,
+        record {
+          text = w.given.front ++ new.ahead;
+          taken = w.given.given.taken;
+          holds = IfSome-map before.written (λ _. Stopped s w.answered w.pending before below'') (λ _. StopsAtLine s source now' (w.given.front ++ new.ahead) before below'')
+              (λ _ q. stops-at s source now' new w.answered w.pending (events.line 1 w.text ∷ []) before below'' w.given only.0 only.1 w.has.are q)
+              (held-stopped s w.answered w.pending before m.between below'' m.left kept w.has m.flushes);
+        },
+      );
+      input_later = w.given.given.later;
+      output_later = omega (arith, w.has.later, m.flushes.wrote.later.faults);
+    }
+
+-- how a run ends where no line more can be counted
+pub ends-full : (how : Ending) (s : State) (source now now' : SourceState) (old new : Reading) (session : SessionValue) (before below below' : SinkState) (held kept : List ℕ)
+    → Progress s source now old session before below held → 2 ^ 64 - 2 ≤ session.lines → EndsUncounted how old new now now' below below' held kept → Ran how s source now' before below'
+ends-full ending.Done s source now now' old new session before below below' held kept p full e = ends-done s source now now' old new session before below below' held kept p e
+ends-full ending.ReadFault s source now now' old new session before below below' held kept p full e = ends-read_fault s source now now' old new session before below below' held kept p e
+ends-full ending.WriteFault s source now now' old new session before below below' held kept p full (inl e) = ends-before s source now now' old new session before below below' held kept p e
+ends-full ending.WriteFault s source now now' old new session before below below' held kept p full (inr m) = ends-held s source now now' old new session before below below' held kept p m
+ends-full ending.Memory s source now now' old new session before below below' held kept p full e = absurd e
+ends-full ending.ByteLimit s source now now' old new session before below below' held kept p full (inl e) = ends-byte_limit s source now now' old new session before below below' held kept p e
+ends-full ending.ByteLimit s source now now' old new session before below below' held kept p full (inr m) = ends-uncounted s source now now' old new session before below below' held p full m
+
+-- where it was read to its end, nothing is held, and the session stands for the state after all lines
+pub full-answered : (how : Ending) (s : State) (source now now' : SourceState) (old new : Reading) (session : SessionValue) (before below below' : SinkState) (held kept : List ℕ) → how ≡ ending.Done
+    → Progress s source now old session before below held → EndsUncounted how old new now now' below below' held kept → TookAll source now' (λ (text : List ℕ). AnsweredText s text before below' session)
+full-answered how s source now now' old new session before below below' held kept done p e =
+    ends-answered s source now now' old new session before below below' held kept p (subst (λ h. EndsUncounted h old new now now' below below' held kept) done e)
+
+pub full-flushed : (how : Ending) (old new : Reading) (now now' : SourceState) (below below' : SinkState) (held kept : List ℕ) → how ≡ ending.Done → EndsUncounted how old new now now' below below' held kept → kept ≡ []
+full-flushed how old new now now' below below' held kept done e = (subst (λ h. EndsUncounted h old new now now' below below' held kept) done e).none

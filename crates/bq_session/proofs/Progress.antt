@@ -124,26 +124,21 @@ pub record Progress (s : State) (source now : SourceState) (reader : Reading) (s
   pub given : Given 1 source now reader (events_of answered) (events_of pending)
   pub stands : StandsFor session (at s (answered ++ pending))
   pub only : OnlyLines answered × OnlyLines pending
-  pub numbers : session.lines ≡ reader.lines
 
 -- nothing was taken
-pub begins : (s : State) (source : SourceState) (reader : Reading) (session : SessionValue) (before : SinkState) (held : List ℕ) → reader ≡ fresh → session.lines ≡ 0 → held ≡ [] → StandsFor session s
+pub begins : (s : State) (source : SourceState) (reader : Reading) (session : SessionValue) (before : SinkState) (held : List ℕ) → reader ≡ fresh → held ≡ [] → StandsFor session s
     → Progress s source source reader session before before held
-begins s source reader session before held new none empty stands = record {
+begins s source reader session before held new empty stands = record {
   answered = [];
   pending = [];
   has = held-none s before held empty;
   given = given-begins 1 source reader new;
   stands = subst (λ u. StandsFor session u) (sym (at-none s)) stands;
   only = (tt, tt);
-  numbers = none ∙ sym (ap (λ (r : Reading). r.lines) new);
 }
 
 pub has-state : (s : State) (source now : SourceState) (reader : Reading) (session : SessionValue) (before below : SinkState) (held : List ℕ) → Progress s source now reader session before below held → HasState session
 has-state s source now reader session before below held p = record { state = at s (p.answered ++ p.pending); stands = p.stands }
-
-pub numbered : (s : State) (source now : SourceState) (reader : Reading) (session : SessionValue) (before below : SinkState) (held : List ℕ) → Progress s source now reader session before below held → session.lines ≤ reader.lines
-numbered s source now reader session before below held p = omega (arith, p.numbers)
 
 -- one more line was answered, and is pending
 pub progress-line : (s : State) (source now now' : SourceState) (old new : Reading) (session session' : SessionValue) (before below below' : SinkState) (held held' : List ℕ)
@@ -159,5 +154,4 @@ progress-line s source now now' old new session session' before below below' hel
       given = q.given;
       stands = q.stands;
       only = (only.0, only-append q.pending (told.line 1 q.text q.answer ∷ []) only.1 (refl, tt));
-      numbers = omega (arith, q.counted, p.numbers, (counted line.long old new now now' below line.between held line.left line.came).lines);
     }

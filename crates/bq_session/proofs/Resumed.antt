@@ -32,7 +32,7 @@ rows_resumed : (k : SessionValue) (s : State) (n : ℕ) (before : SinkState) →
 rows_resumed k s n before h = record {
   answer = plain (resumed n);
   settles = refl;
-  stands = record { limit = h.limit; streams = h.streams; queries = h.queries; quiet = h.quiet; taken = refl; lines = h.lines; began = h.began };
+  stands = record { limit = h.limit; streams = h.streams; queries = h.queries; quiet = h.quiet; taken = refl; lines = h.lines; began = h.began; lock = h.lock };
   reply = Wrote-nil before;
 }
 
@@ -60,6 +60,7 @@ based_settled k r s name base h quiet stands = (
     taken = h.taken;
     lines = h.lines;
     began = h.began;
+    lock = h.lock;
   },
 )
 

@@ -45,6 +45,7 @@ counted k s stream values before h none room =
         taken = ap (λ n. n + 1) h.taken;
         lines = h.lines;
         began = refl;
+        lock = h.lock;
       };
       reply = subst (λ t. Wrote before before t) (sym (no_text r s.queries (sym h.queries.size ∙ none))) (Wrote-nil before);
     })

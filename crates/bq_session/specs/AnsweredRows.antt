@@ -9,6 +9,7 @@ use Rattle.bq_session.specs.declared.one_turn.Turn.{Turn}
 use Rattle.bq_session.specs.declared.outcome.LineOutcome.{LineOutcome}
 use Rattle.bq_session.specs.declared.outcome.LineOutcome.TheVariants.{Done}
 use Rattle.bq_session.specs.Session.{Answered, SessionValue, StandsFor}
+use Rattle.bq_session.specs.Lock.{open_in}
 use Rattle.bq_session.specs.State.{State}
 use Rattle.bq_session.specs.Turned.{AnsweredLine, Turned}
 
@@ -18,13 +19,13 @@ pub record AnswersText (how : LineOutcome) (old : SessionValue) (line : List ℕ
   pub name' : ℕ
   pub answers : (s : State) → StandsFor old s → Answered how s line new (gathered_seen below name held) (gathered_seen after name' kept)
 
--- So many rows stand one after another at the front of a text, the last from this place on, and end at that one. They were answered one after
+-- So many rows of open streams stand one after another at the front of a text, the last from this place on, and end at that one. They were answered one after
 -- another: the last so, and each one before it done.
 pub data AreAnswered (text : List ℕ) (session : SessionValue) (below : SinkState) (held : List ℕ) : LineOutcome → ℕ → ℕ → ℕ → SessionValue → SinkState → List ℕ → Type 0 where
   none : {how : LineOutcome} {count begin end : ℕ} {kept : SessionValue} {after : SinkState} {full : List ℕ} → how ≡ Done → count ≡ 0 → end ≡ 0 → kept ≡ session → after ≡ below → full ≡ held
       → AreAnswered text session below held how count begin end kept after full
   more : {how : LineOutcome} {count begin end : ℕ} {kept : SessionValue} {after : SinkState} {full : List ℕ} → (before start len : ℕ) → (left : SessionValue) → (between : SinkState) → (part : List ℕ)
-      → AreAnswered text session below held Done before start begin left between part → IsSomeRowAhead left.streams (drop begin text) len → AnswersText how left (take len (drop begin text)) kept between after part full
+      → AreAnswered text session below held Done before start begin left between part → IsSomeRowAhead left.streams (open_in left.lock) (drop begin text) len → AnswersText how left (take len (drop begin text)) kept between after part full
       → count ≡ before + 1 → end ≡ begin + len + 1 → AreAnswered text session below held how count begin end kept after full
 
 -- Lines came one after another and were answered, the last so, and each one before it done. The source was not read.

@@ -29,6 +29,7 @@ pub record AreAlike (s t : State) : Type 0 where
   pub streams : s.streams ≡ t.streams
   pub taken : s.taken ≡ t.taken
   pub queries : AreAllAlike s.queries t.queries
+  pub lock : s.lock ≡ t.lock
 
 -- states that are alike have one checkpoint
 abbrev pub AlikeStatesHaveOneCheckpoint : Type 0

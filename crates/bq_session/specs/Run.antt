@@ -43,6 +43,13 @@ pub record WroteText (s : State) (text : List ℕ) (before now : SinkState) : Ty
   pub is_text : AreReplies s text replied
   pub written : Appends before.written now.written replied
 
+-- The replies to all lines of a text were written, and the session stands for the state after them.
+pub record AnsweredText (s : State) (text : List ℕ) (before now : SinkState) (new : SessionValue) : Type 0 where
+  pub answers : List Answer
+  pub are : AreAnswers s (lines text) answers
+  pub written : Appends before.written now.written (replies s answers)
+  pub stands : StandsFor new (after s answers)
+
 -- These lines are whole: each with its LF, they begin the text that was taken, or that is all there is.
 abbrev pub AreWhole : SourceState → SourceState → List ℕ → List (List ℕ) → Type 0
 AreWhole source now text front = ((rest : List ℕ) × (text ≡ text_of front ++ rest)) ⊎ TakesAll source now text
@@ -78,6 +85,12 @@ pub record StopsAtCreate (s : State) (source source' : SourceState) (text : List
   pub creates : IsTrue (creates request)
   pub written : Appends before.written now.written (replies s at_line.answers)
 
+-- The replies to the lines before one line were written, and nothing else: as many lines were read as can be counted.
+pub record StopsAtCount (s : State) (source source' : SourceState) (text : List ℕ) (before now : SinkState) : Type 0 where
+  pub at_line : AtLine s source source' text
+  pub counted : 2 ^ 64 - 2 ≤ (after s at_line.answers).lines
+  pub written : Appends before.written now.written (replies s at_line.answers)
+
 -- How a run from a state on ends, by the bytes that were taken and those that were written. A sink that does not tell its
 -- bytes does not show at which line it failed.
 abbrev pub Streams : Ending → State → SourceState → SourceState → SinkState → SinkState → Type 0
@@ -85,7 +98,7 @@ Streams Done s source source' sink sink' = TookAll source source' (λ text. Wrot
 Streams ReadFault s source source' sink sink' = Rose source.faults source'.faults × Took source source' (λ text. WroteText s (ended_part text) sink sink')
 Streams WriteFault s source source' sink sink' = Rose sink.faults sink'.faults × Took source source' (λ text. IfSome sink.written (λ _. StopsAtLine s source source' text sink sink'))
 Streams Memory s source source' sink sink' = Took source source' (λ text. StopsAtCreate s source source' text sink sink')
-Streams ByteLimit s source source' sink sink' = Took source source' (λ text. (length text ≡ 2 ^ 64 - 1) × WroteText s (ended_part text) sink sink')
+Streams ByteLimit s source source' sink sink' = Took source source' (λ text. ((length text ≡ 2 ^ 64 - 1) × WroteText s (ended_part text) sink sink') ⊎ StopsAtCount s source source' text sink sink')
 
 -- a run ends so, and the counts of faults did not fall
 pub record Ran (ending : Ending) (s : State) (source source' : SourceState) (sink sink' : SinkState) : Type 0 where

@@ -1,5 +1,5 @@
 //! One turn of a source: its next line, answered before the source is read again.
-ghost use Rattle.std.specs.Prelude.{◌≡◌, ◌⊎◌, ℕ, ◌+◌, ◌<◌, ◌≤◌, ◌^◌, List, length, false, IsTrue};
+ghost use Rattle.std.specs.Prelude.{◌≡◌, ◌≢◌, ◌⊎◌, ℕ, ◌+◌, ◌<◌, ◌≤◌, ◌^◌, List, length, false, IsTrue, IsFalse};
 ghost use Rattle.bq_io.specs.Gathered.{gathered_seen};
 ghost use Rattle.bq_io.specs.Sink.{SinkState};
 ghost use Rattle.bq_io.specs.Source.{SourceState};
@@ -142,7 +142,7 @@ fn unasked_turn<I: Source, O: Sink, L: Ledger>(
     steps: &mut Steps<L>,
 ) -> Turn
     requires stands { HasState session.old }
-    requires room { (session.old.lines + 1 < 2 ^ 64) ⊎ (session.old.lines ≤ reader.old.lines) }
+    requires room { session.old.lines + 1 < 2 ^ 64 }
     ensures turned { (s : State) → StandsFor session.old s → Turned result s reader.old reader.new (I.seen input.old) (I.seen input.new) session.old session.new (O.seen output.old.sink.now) (O.seen output.new.sink.now) output.old.held.items output.new.held.items }
     ensures same_reference { output.new.sink.ghost_name ≡ output.old.sink.ghost_name }
 {
@@ -158,7 +158,8 @@ struct AnsweredRows {
 
 // Whether the reply to a line was written.
 fn is_done(outcome: LineOutcome) -> bool
-    ensures { IsTrue result → outcome ≡ outcomes.Done }
+    ensures done { IsTrue result → outcome ≡ outcomes.Done }
+    ensures other { IsFalse result → outcome ≢ outcomes.Done }
 {
     match outcome {
         LineOutcome::Done => true,
@@ -179,6 +180,7 @@ fn answer_rows<O: Sink, L: Ledger>(
     requires ended { IsEnded text.now }
     requires room { session.old.lines + length text.now < 2 ^ 64 }
     ensures rows { AreAnswered text.now session.old (O.seen output.old.sink.now) output.old.held.items result.outcome result.rows.count result.rows.begin result.rows.end session.new (O.seen output.new.sink.now) output.new.held.items }
+    ensures room { result.outcome ≡ outcomes.Done → session.new.lines + 1 < 2 ^ 64 }
     ensures same_reference { output.new.sink.ghost_name ≡ output.old.sink.ghost_name }
 {
     let mut rows = CountedRows {
@@ -237,11 +239,11 @@ fn asked_turns<I: Source, O: Sink, L: Ledger>(
     steps: &mut Steps<L>,
 ) -> Turn
     requires stands { HasState session.old }
-    requires numbered { session.old.lines ≤ reader.old.lines }
+    requires room { session.old.lines + 1 < 2 ^ 64 }
     ensures turned { TurnedBehind result reader.old reader.new (I.seen input.old) (I.seen input.new) session.old session.new (O.seen output.old.sink.now) (O.seen output.new.sink.now) output.old.held.items output.new.held.items }
     ensures same_reference { output.new.sink.ghost_name ≡ output.old.sink.ghost_name }
 {
-    if !can_count(reader.lines(), reader.ahead_and_feed()) {
+    if !can_count(session.lines(), reader.ahead_and_feed()) {
         return any_turn(reader, session, input, output, steps);
     }
     let answered = answer_rows(session, reader.ahead_and_feed(), output, steps);
@@ -263,7 +265,7 @@ pub(crate) fn next_turn<I: Source, O: Sink, L: Ledger>(
     steps: &mut Steps<L>,
 ) -> Turn
     requires stands { HasState session.old }
-    requires numbered { session.old.lines ≤ reader.old.lines }
+    requires room { session.old.lines + 1 < 2 ^ 64 }
     ensures turned { TurnedBehind result reader.old reader.new (I.seen input.old) (I.seen input.new) session.old session.new (O.seen output.old.sink.now) (O.seen output.new.sink.now) output.old.held.items output.new.held.items }
     ensures same_reference { output.new.sink.ghost_name ≡ output.old.sink.ghost_name }
 {
@@ -278,7 +280,6 @@ pub(crate) fn next_turn<I: Source, O: Sink, L: Ledger>(
 /// these are not formed. It takes nothing from a source and writes nothing. In a pause that an earlier try in vain began it does nothing.
 #[inline(always)]
 pub fn count_rows(reader: &mut LineReader, session: &mut Session, pause: &mut Pause)
-    requires { session.old.lines ≤ reader.old.lines }
     ensures { CountsRows reader.old session.old reader.new session.new }
 {
     if !session.has_no_query() {

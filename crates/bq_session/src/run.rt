@@ -1,10 +1,13 @@
 //! The lines of a source, each answered before the source is read again.
-ghost use Rattle.std.specs.Prelude.{◌≡◌, []};
+ghost use Rattle.std.specs.Prelude.{◌≡◌, [], List, ℕ};
 ghost use Rattle.bq_feed.specs.Reading.{fresh};
 ghost use Rattle.bq_session.specs.State.{State};
 ghost use Rattle.bq_session.specs.Session.{StandsFor};
-ghost use Rattle.bq_session.specs.Run.{HasState, Ran};
+ghost use Rattle.bq_session.specs.Run.{HasState, Ran, TookAll, AnsweredText};
+ghost use Rattle.bq_session.specs.Uncounted.{EndsUncounted};
+ghost use Rattle.bq_session.specs.declared.run.Ending.TheVariants as endings;
 
+use crate::fetch::{Fetched, fetch};
 use crate::one_turn::{Turn, count_rows, next_turn};
 use crate::pause::Pause;
 use crate::session::Session;
@@ -24,11 +27,36 @@ pub enum Ending {
     WriteFault,
     /// No memory was found for what a line creates.
     Memory,
-    /// The source has more bytes than can be counted.
+    /// The source has more bytes, or the session was given more lines, than can be counted.
     ByteLimit,
 }
 
-/// Answers the lines of a source, one after another, from the state that the session stands for.
+// How a run ends where no line more can be counted: all that is held is written, and no line is answered.
+#[cold]
+#[inline(never)]
+fn end_uncounted<I: Source, O: Sink>(
+    reader: &mut LineReader,
+    input: &mut I,
+    output: &mut Gathered<'_, O>,
+) -> Ending
+    ensures ends { EndsUncounted result reader.old reader.new (I.seen input.old) (I.seen input.new)
+        (O.seen output.old.sink.now) (O.seen output.new.sink.now) output.old.held.items output.new.held.items }
+    ensures same_reference { output.new.sink.ghost_name ≡ output.old.sink.ghost_name }
+{
+    match fetch(reader, input, output) {
+        Fetched::Given(_long) => match output.flush() {
+            Ok(()) => Ending::ByteLimit,
+            Err(_) => Ending::WriteFault,
+        },
+        Fetched::Ended => Ending::Done,
+        Fetched::Failed => Ending::ReadFault,
+        Fetched::Full => Ending::ByteLimit,
+        Fetched::Stopped => Ending::WriteFault,
+    }
+}
+
+/// Answers the lines of a source, one after another, from the state that the session stands for. Behind the last line nothing is held, and the
+/// session stands for the state after all lines.
 pub fn run_lines<I: Source, O: Sink, L: Ledger>(
     reader: &mut LineReader,
     session: &mut Session,
@@ -38,15 +66,20 @@ pub fn run_lines<I: Source, O: Sink, L: Ledger>(
 ) -> Ending
     requires reader { reader.old ≡ fresh }
     requires stands { HasState session.old }
-    requires lines { session.old.lines ≡ 0 }
     requires held { output.old.held.items ≡ [] }
     ensures streams { (s : State) → StandsFor session.old s
         → Ran result s (I.seen input.old) (I.seen input.new) (O.seen output.old.sink.now) (O.seen output.new.sink.now) }
+    ensures done { result ≡ endings.Done → (s : State) → StandsFor session.old s
+        → TookAll (I.seen input.old) (I.seen input.new) (λ (text : List ℕ). AnsweredText s text (O.seen output.old.sink.now) (O.seen output.new.sink.now) session.new) }
+    ensures flushed { result ≡ endings.Done → output.new.held.items ≡ [] }
     ensures same_reference { output.new.sink.ghost_name ≡ output.old.sink.ghost_name }
 {
     let mut pause = Pause::default();
     'answering: loop {
         count_rows(reader, session, &mut pause);
+        if session.is_full() {
+            return end_uncounted(reader, input, output);
+        }
         match next_turn(reader, session, input, output, steps) {
             Turn::Answered => {}
             Turn::Ended => return Ending::Done,

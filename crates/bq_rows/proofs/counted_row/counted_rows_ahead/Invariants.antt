@@ -4,7 +4,7 @@ use Rattle.bq_rows.proofs.counted_row.counted_rows_ahead.Given as goal
 
 abbrev pub invariant-counting : goal.invariant-counting
 invariant-counting l = record {
-  rows : RowsTo l.streams l.text l.rows.count l.rows.begin l.rows.end;
+  rows : RowsTo l.streams.streams l.streams.opened l.text l.rows.count l.rows.begin l.rows.end;
   few : l.rows.count ≤ l.most;
 }
 

@@ -1,4 +1,4 @@
-use Rattle.std.proofs.Common.{refl, inr, arith}
+use Rattle.std.proofs.Common.{refl, inl}
 use Rattle.bq_session.specs.AnsweredRows.{no_row}
 use Rattle.bq_session.specs.Turned.{reply}
 use Rattle.bq_session.proofs.AnsweredLines.{lines_in, rows_in, rows_leave, turned_behind}
@@ -23,10 +23,7 @@ any_turn-requires-in-Done-clause-stands g c =
     (rows_in c.args.reader.now c.give_rows.new.reader _ _ (g.I.Source.seen c.args.input.now) _ _ _ _ _ _ _ _ _ _ c.in-Done.is c.ahead_and_feed-2.ensures c.answer_rows-answered.ensures.rows c.give_rows.ensures.some c.give_rows.ensures.none)).state
 
 pub any_turn-requires-in-Done-clause-room : goal.any_turn-requires-in-Done-clause-room
-any_turn-requires-in-Done-clause-room g c =
-    let leaves = rows_leave _ _ _ _ _ _ _ _ _ c.requires.stands
-    (rows_in c.args.reader.now c.give_rows.new.reader _ _ (g.I.Source.seen c.args.input.now) _ _ _ _ _ _ _ _ _ _ c.in-Done.is c.ahead_and_feed-2.ensures c.answer_rows-answered.ensures.rows c.give_rows.ensures.some c.give_rows.ensures.none) in
-    inr (omega (arith, leaves.lines, c.requires.numbered))
+any_turn-requires-in-Done-clause-room g c = inl (c.answer_rows-answered.ensures.room c.in-Done.is)
 
 pub returns-in-Done-clause-turned : goal.returns-in-Done-clause-turned
 returns-in-Done-clause-turned g c = record {

@@ -1,32 +1,24 @@
-use Rattle.std.proofs.Common.{◌++◌, ◌∙◌, refl, arith}
+use Rattle.std.proofs.Common.{◌++◌, ◌∙◌, List, ℕ, refl, sym, subst, arith}
+use Rattle.bq_session.specs.Run.{TookAll, AnsweredText}
+use Rattle.bq_session.specs.Session.{SessionValue}
 use Rattle.bq_session.proofs.ToldEvents.{at}
 use Rattle.bq_session.proofs.AnsweredLines.{rows_leave}
 use Rattle.bq_session.proofs.AnsweredProgress.{progress-answered}
-use Rattle.bq_session.proofs.Progress.{begins, counted, progress-line, has-state, numbered}
+use Rattle.bq_session.proofs.Progress.{begins, counted, progress-line, has-state}
 use Rattle.bq_session.proofs.CountedProgress.{lines-grow, progress-rows}
-use Rattle.bq_session.proofs.Exits.{ends-done, ends-read_fault, ends-byte_limit, ends-stopped, ends-memory}
+use Rattle.bq_session.proofs.Exits.{ends-as, ends-done, ends-full, full-answered, full-flushed, ends-read_fault, ends-byte_limit, ends-stopped, ends-memory}
 use Rattle.bq_session.proofs.run.run_lines.Goals as goal
 
 pub answering-init : goal.answering-init
 answering-init g c = record {
-  progress = λ s stands. begins s _ _ _ _ _ c.requires.reader c.requires.lines c.requires.held stands;
+  progress = λ s stands. begins s _ _ _ _ _ c.requires.reader c.requires.held stands;
   same = refl;
 }
-
-pub count_rows-requires : goal.count_rows-requires
-count_rows-requires g c =
-    let known = c.requires.stands in
-    numbered known.state _ _ _ _ _ _ _ (c.answering.invariant.progress known.state known.stands)
 
 pub next_turn-requires-clause-stands : goal.next_turn-requires-clause-stands
 next_turn-requires-clause-stands g c =
     let known = c.requires.stands in
     has-state known.state _ _ _ _ _ _ _ (progress-rows known.state _ _ _ _ _ _ _ _ _ (c.answering.invariant.progress known.state known.stands) c.count_rows.ensures)
-
-pub next_turn-requires-clause-numbered : goal.next_turn-requires-clause-numbered
-next_turn-requires-clause-numbered g c =
-    let known = c.requires.stands in
-    numbered known.state _ _ _ _ _ _ _ (progress-rows known.state _ _ _ _ _ _ _ _ _ (c.answering.invariant.progress known.state known.stands) c.count_rows.ensures)
 
 pub answering-preserved : goal.answering-preserved
 answering-preserved g c = record {
@@ -54,6 +46,35 @@ returns-in-Ended-clause-streams g c = λ s stands.
     let turn = c.in-Ended.ensures.turned in
     let q = progress-answered s _ _ _ _ _ _ _ _ _ _ _ p turn.rows in
     ends-done s _ _ _ _ _ _ _ _ _ _ _ q (turn.turned (at s (q.answered ++ q.pending)) q.stands).0
+
+pub returns-in-Ended-clause-done : goal.returns-in-Ended-clause-done
+returns-in-Ended-clause-done g c = λ done s stands.
+    let p = progress-rows s _ _ _ _ _ _ _ _ _ (c.answering.invariant.progress s stands) c.count_rows.ensures in
+    let turn = c.in-Ended.ensures.turned in
+    let q = progress-answered s _ _ _ _ _ _ _ _ _ _ _ p turn.rows in
+    let ended = turn.turned (at s (q.answered ++ q.pending)) q.stands in
+    ends-as s _ _ _ _ _ _ _ _ _ _ _ _ q ended.0 ended.1
+
+pub returns-in-Ended-clause-flushed : goal.returns-in-Ended-clause-flushed
+returns-in-Ended-clause-flushed g c = λ done.
+    let known = c.requires.stands in
+    let p = progress-rows known.state _ _ _ _ _ _ _ _ _ (c.answering.invariant.progress known.state known.stands) c.count_rows.ensures in
+    let turn = c.in-Ended.ensures.turned in
+    let q = progress-answered known.state _ _ _ _ _ _ _ _ _ _ _ p turn.rows in
+    (turn.turned (at known.state (q.answered ++ q.pending)) q.stands).0.none
+
+pub returns-then-is_full-clause-streams : goal.returns-then-is_full-clause-streams
+returns-then-is_full-clause-streams g c = λ s stands.
+    let p = progress-rows s _ _ _ _ _ _ _ _ _ (c.answering.invariant.progress s stands) c.count_rows.ensures in
+    ends-full _ s _ _ _ _ _ _ _ _ _ _ _ p (c.if-is_full.ensures.full refl) c.end_uncounted.ensures.ends
+
+pub returns-then-is_full-clause-done : goal.returns-then-is_full-clause-done
+returns-then-is_full-clause-done g c = λ done s stands.
+    let p = progress-rows s _ _ _ _ _ _ _ _ _ (c.answering.invariant.progress s stands) c.count_rows.ensures in
+    full-answered _ s _ _ _ _ _ _ _ _ _ _ _ done p c.end_uncounted.ensures.ends
+
+pub returns-then-is_full-clause-flushed : goal.returns-then-is_full-clause-flushed
+returns-then-is_full-clause-flushed g c = λ done. full-flushed _ _ _ _ _ _ _ _ _ done c.end_uncounted.ensures.ends
 
 pub returns-in-Failed-clause-streams : goal.returns-in-Failed-clause-streams
 returns-in-Failed-clause-streams g c = λ s stands.

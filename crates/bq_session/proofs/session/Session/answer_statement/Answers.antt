@@ -1,9 +1,10 @@
-use Rattle.std.proofs.Common.{◌≡◌, None, rules, w64, to_z, of_z, ap, sym, ◌∙◌, subst}
+use Rattle.std.proofs.Common.{◌≡◌, ℕ, List, None, rules, w64, to_z, of_z, ap, sym, ◌∙◌, subst}
 use Rattle.std.proofs.lemmas.Int.{to_z-of_z}
 use Rattle.bq_parser.specs.declared.tree.Statement.{Statement}
 use Rattle.bq_parser.specs.Limits.{limit_of}
 use Rattle.bq_parser.proofs.Taken.{domains_have_ends}
-use Rattle.bq_session.specs.Requests.{query_request, explain_request, drop_request, cell_request, statement_request}
+use Rattle.bq_schema.specs.Streams.{Shape}
+use Rattle.bq_session.specs.Requests.{query_request, explain_request, drop_request, cell_request, lock_request, unlock_request, opened_by, statement_request}
 use Rattle.bq_session.specs.Session.{names_in}
 use Rattle.bq_session.specs.State.{one_line_more}
 use Rattle.bq_session.proofs.Resumed.{same_request}
@@ -36,3 +37,14 @@ returns-in-ResumeCell-clause-reply g c = λ s stands.
     (ap (λ x. cell_request s c.in-ResumeCell.name x (to_z w64 (of_z w64 c.in-ResumeCell.content))) (to_z-of_z w64 c.in-ResumeCell.index (search rules))
     ∙ ap (λ x. cell_request s c.in-ResumeCell.name c.in-ResumeCell.index x) (to_z-of_z w64 c.in-ResumeCell.content (search rules))
     ∙ ap (statement_request s) (sym c.in-ResumeCell.is)) (c.resume_cell.ensures.reply s stands)
+
+pub returns-in-Lock-clause-reply : goal.returns-in-Lock-clause-reply
+returns-in-Lock-clause-reply g c = λ s stands.
+    same_request c.lock_to.result s _ _ _ _ _
+    (ap (λ (names : List (List ℕ)). lock_request c.in-Lock.key (opened_by c.args.self.now.streams names)) c.as_slice-in-Lock.ensures.value
+    ∙ ap (λ (x : List Shape). lock_request c.in-Lock.key (opened_by x c.in-Lock.streams.items)) stands.streams
+    ∙ ap (statement_request s) (sym c.in-Lock.is)) (c.lock_to.ensures s stands)
+
+pub returns-in-Unlock-clause-reply : goal.returns-in-Unlock-clause-reply
+returns-in-Unlock-clause-reply g c = λ s stands.
+    same_request c.unlock.result s _ _ _ _ _ (ap unlock_request stands.lock ∙ ap (statement_request s) (sym c.in-Unlock.is)) (c.unlock.ensures s stands)

@@ -25,20 +25,22 @@ less n m t = grind (arith, nat_tests)
 
 pub row-requires-clause-keeps : goal.row-requires-clause-keeps
 row-requires-clause-keeps g c =
-    keeps_to_each c.self.inside.catalog c.args.stream c.args.row.now.items c.self.inside.registry.live c.self.invariant.named
+    keeps_to_each c.self.inside.catalog.streams c.args.stream c.args.row.now.items c.self.inside.registry.live c.self.invariant.0.named
     (subst (λ (k : SessionValue). KeepsDomains k.streams c.args.stream c.args.row.now.items) (sym c.self.view_is) c.requires)
 
 pub invariant_of-self : goal.invariant_of-self
-invariant_of-self g c =
-    record {
-      within = less c.self.inside.taken c.self.inside.limit (ap (λ (k : SessionValue). nat_lt k.taken k.limit) c.self.view_is ∙ sym c.has_room.ensures ∙ c.if-not-has_room.false);
-      limit = c.self.invariant.limit;
-      given = c.emit.ensures.given (c.self.inside.taken + 1) (c.row.ensures.given c.self.inside.taken c.self.invariant.given);
-      named = named_kept c.self.inside.catalog c.row.new.self.live c.emit.new.self.live
-          (named_kept c.self.inside.catalog c.self.inside.registry.live c.row.new.self.live c.self.invariant.named c.row.ensures.queries) c.emit.ensures.queries;
-      short = short_kept c.self.inside.catalog c.row.new.self.live c.emit.new.self.live
-          (short_kept c.self.inside.catalog c.self.inside.registry.live c.row.new.self.live c.self.invariant.short c.row.ensures.queries) c.emit.ensures.queries;
-    }
+invariant_of-self g c = (
+  record {
+    within = less c.self.inside.taken c.self.inside.limit (ap (λ (k : SessionValue). nat_lt k.taken k.limit) c.self.view_is ∙ sym c.has_room.ensures ∙ c.if-not-has_room.false);
+    limit = c.self.invariant.0.limit;
+    given = c.emit.ensures.given (c.self.inside.taken + 1) (c.row.ensures.given c.self.inside.taken c.self.invariant.0.given);
+    named = named_kept c.self.inside.catalog.streams c.row.new.self.live c.emit.new.self.live
+        (named_kept c.self.inside.catalog.streams c.self.inside.registry.live c.row.new.self.live c.self.invariant.0.named c.row.ensures.queries) c.emit.ensures.queries;
+    short = short_kept c.self.inside.catalog.streams c.row.new.self.live c.emit.new.self.live
+        (short_kept c.self.inside.catalog.streams c.self.inside.registry.live c.row.new.self.live c.self.invariant.0.short c.row.ensures.queries) c.emit.ensures.queries;
+  },
+  c.self.invariant.1,
+)
 
 pub returns-clause-reply : goal.returns-clause-reply
 returns-clause-reply g c = λ s stands.
@@ -57,5 +59,6 @@ returns-clause-reply g c = λ s stands.
       taken = ap (λ n. n + 1) old.taken;
       lines = old.lines;
       began = refl;
+      lock = old.lock;
     })
     (subst (λ t. Writes c.emit.result (g.O.Sink.seen c.args.out.now) (g.O.Sink.seen c.emit.new.out) t) (row_reply c.row.new.self.pool c.row.new.self.live s.queries r stood (c.row.ensures.waits s.queries old.queries)) c.emit.ensures.written)

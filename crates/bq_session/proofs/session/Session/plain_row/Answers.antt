@@ -1,5 +1,7 @@
-use Rattle.std.proofs.Common.{sym, ap, subst, ◌+◌}
+use Rattle.std.proofs.Common.{sym, ap, subst, ◌+◌, IsTrue}
+use Rattle.bq_rows.specs.Open.{is_open}
 use Rattle.bq_rows.specs.Plain.{IsPlainRow}
+use Rattle.bq_session.specs.Lock.{open_in}
 use Rattle.bq_session.specs.Session.{SessionValue, StandsFor}
 use Rattle.bq_session.proofs.Standing.{plain_asks}
 use Rattle.bq_session.proofs.session.Session.plain_row.Goals as goal
@@ -7,10 +9,11 @@ use Rattle.bq_session.proofs.session.Session.plain_row.Goals as goal
 pub returns-then-asked-clause-reply : goal.returns-then-asked-clause-reply
 returns-then-asked-clause-reply g c = λ s line short row stands.
     let old = subst (λ (k : SessionValue). StandsFor k s) (sym c.self.view_is) stands in
+    let opens = subst (λ (k : SessionValue). IsTrue (is_open (open_in k.lock) c.args.stream)) (sym c.self.view_is) c.requires.opens in
     let is = subst (λ (k : SessionValue). IsPlainRow k.streams line c.args.stream c.args.row.now.items) (sym c.self.view_is) row in
     record {
       request = _;
-      asks = plain_asks _ s line c.args.stream c.args.row.now.items short old is;
+      asks = plain_asks _ s line c.args.stream c.args.row.now.items short old is opens;
       does = c.ask_row.ensures.reply s (record {
         limit = old.limit;
         streams = old.streams;
@@ -19,16 +22,18 @@ returns-then-asked-clause-reply g c = λ s line short row stands.
         taken = old.taken;
         lines = ap (λ n. n + 1) old.lines;
         began = old.began;
+        lock = old.lock;
       });
     }
 
 pub returns-clause-reply : goal.returns-clause-reply
 returns-clause-reply g c = λ s line short row stands.
     let old = subst (λ (k : SessionValue). StandsFor k s) (sym c.self.view_is) stands in
+    let opens = subst (λ (k : SessionValue). IsTrue (is_open (open_in k.lock) c.args.stream)) (sym c.self.view_is) c.requires.opens in
     let is = subst (λ (k : SessionValue). IsPlainRow k.streams line c.args.stream c.args.row.now.items) (sym c.self.view_is) row in
     record {
       request = _;
-      asks = plain_asks _ s line c.args.stream c.args.row.now.items short old is;
+      asks = plain_asks _ s line c.args.stream c.args.row.now.items short old is opens;
       does = c.take_row.ensures.reply s (record {
         limit = old.limit;
         streams = old.streams;
@@ -37,5 +42,6 @@ returns-clause-reply g c = λ s line short row stands.
         taken = old.taken;
         lines = ap (λ n. n + 1) old.lines;
         began = old.began;
+        lock = old.lock;
       });
     }

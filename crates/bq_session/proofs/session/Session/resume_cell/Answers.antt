@@ -9,13 +9,16 @@ use Rattle.bq_session.proofs.Short.{short_kept}
 use Rattle.bq_session.proofs.session.Session.resume_cell.Goals as goal
 
 pub invariant_of-self : goal.invariant_of-self
-invariant_of-self g c = record {
-  within = c.self.invariant.within;
-  limit = c.self.invariant.limit;
-  given = c.set_cell-set.ensures.given c.self.inside.taken c.self.invariant.given;
-  named = named_kept c.self.inside.catalog c.self.inside.registry.live c.set_cell-set.new.registry.live c.self.invariant.named c.set_cell-set.ensures.queries;
-  short = short_kept c.self.inside.catalog c.self.inside.registry.live c.set_cell-set.new.registry.live c.self.invariant.short c.set_cell-set.ensures.queries;
-}
+invariant_of-self g c = (
+  record {
+    within = c.self.invariant.0.within;
+    limit = c.self.invariant.0.limit;
+    given = c.set_cell-set.ensures.given c.self.inside.taken c.self.invariant.0.given;
+    named = named_kept c.self.inside.catalog.streams c.self.inside.registry.live c.set_cell-set.new.registry.live c.self.invariant.0.named c.set_cell-set.ensures.queries;
+    short = short_kept c.self.inside.catalog.streams c.self.inside.registry.live c.set_cell-set.new.registry.live c.self.invariant.0.short c.set_cell-set.ensures.queries;
+  },
+  c.self.invariant.1,
+)
 
 pub returns-clause-reply : goal.returns-clause-reply
 returns-clause-reply g c = λ s stands.

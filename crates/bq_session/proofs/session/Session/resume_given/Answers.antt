@@ -9,13 +9,16 @@ use Rattle.bq_session.proofs.Short.{short_kept}
 use Rattle.bq_session.proofs.session.Session.resume_given.Goals as goal
 
 pub invariant_of-self : goal.invariant_of-self
-invariant_of-self g c = record {
-  within = c.self.invariant.within;
-  limit = c.self.invariant.limit;
-  given = c.set_given-set.ensures.given c.self.invariant.given;
-  named = named_kept c.self.inside.catalog c.self.inside.registry.live c.set_given-set.new.registry.live c.self.invariant.named c.set_given-set.ensures.queries;
-  short = short_kept c.self.inside.catalog c.self.inside.registry.live c.set_given-set.new.registry.live c.self.invariant.short c.set_given-set.ensures.queries;
-}
+invariant_of-self g c = (
+  record {
+    within = c.self.invariant.0.within;
+    limit = c.self.invariant.0.limit;
+    given = c.set_given-set.ensures.given c.self.invariant.0.given;
+    named = named_kept c.self.inside.catalog.streams c.self.inside.registry.live c.set_given-set.new.registry.live c.self.invariant.0.named c.set_given-set.ensures.queries;
+    short = short_kept c.self.inside.catalog.streams c.self.inside.registry.live c.set_given-set.new.registry.live c.self.invariant.0.short c.set_given-set.ensures.queries;
+  },
+  c.self.invariant.1,
+)
 
 pub returns : goal.returns
 returns g c = λ s stands.
