@@ -1,11 +1,15 @@
-//! The program `bq`: standard input, or feeds that its words name, to standard output.
+//! The program `bq`: standard input, and files that its words name, to standard output.
 #![tactic(auto)]
 
+mod errors;
 mod top;
 
+use crate::errors::tell_usage;
 use crate::top::serve;
-use bq_feeds::feeds_of;
+use bq_feeds::{feeds_of, file_in};
 use bq_io::{FileSource, Status, StdSink, StdSource};
+use bq_top::name_file;
+use std::alloc::AllocError;
 use std::env;
 use std::io::ErrorKind;
 use std::process::ExitCode;
@@ -30,31 +34,67 @@ fn words(rt: &HostRuntime) -> Result<Vec<String>, Status> {
     Ok(words)
 }
 
-// A file for each feed that the words name, and none where they ask for something else. No file is opened here.
+// A file for each of those that the words name, FILE or the script first. No file is opened here.
 fn files<'a>(
     rt: &'a HostRuntime,
     words: &'a [String],
-) -> Result<Vec<FileSource<'a, HostRuntime>>, Status> {
+) -> Result<Vec<FileSource<'a, HostRuntime>>, AllocError> {
     let mut files = Vec::new(rt.alloc());
-    if let Some(found) = feeds_of(words) {
-        for name in &words[found.first..] {
-            if files.push(FileSource::new(rt, name.as_str())).is_err() {
-                return Err(Status::Memory);
+    match feeds_of(words) {
+        Some(found) => {
+            if let Some(place) = found.script {
+                if let Some(name) = words.get(place) {
+                    push_file(rt, name.as_str(), &mut files)?;
+                }
+            }
+            for word in &words[found.first..] {
+                push_file(
+                    rt,
+                    file_in(word.as_str(), found.script.is_some()),
+                    &mut files,
+                )?;
+            }
+        }
+        None => {
+            if name_file(words) {
+                if let Some(name) = words.last() {
+                    push_file(rt, name.as_str(), &mut files)?;
+                }
             }
         }
     }
     Ok(files)
 }
 
-// How the program over the process's words, feeds, input and output ended.
+// One file more.
+fn push_file<'a>(
+    rt: &'a HostRuntime,
+    name: &'a str,
+    files: &mut Vec<FileSource<'a, HostRuntime>>,
+) -> Result<(), AllocError> {
+    if files.push(FileSource::new(rt, name)).is_err() {
+        return Err(AllocError);
+    }
+    Ok(())
+}
+
+// How the program over the process's words, files, input and output ended.
 fn run_words(rt: &HostRuntime, words: &[String]) -> Status {
     match files(rt, words) {
-        Ok(mut feeds) => {
+        Ok(mut files) => {
             let mut input = StdSource::new(rt.stdin());
             let mut output = StdSink::new(rt.stdout());
-            serve(rt.alloc(), words, &mut input, &mut feeds, &mut output)
+            let mut errors = StdSink::new(rt.stderr());
+            serve(
+                rt.alloc(),
+                words,
+                &mut input,
+                &mut files,
+                &mut output,
+                &mut errors,
+            )
         }
-        Err(status) => status,
+        Err(_) => Status::Memory,
     }
 }
 
@@ -62,6 +102,10 @@ fn run_words(rt: &HostRuntime, words: &[String]) -> Status {
 fn status(rt: &HostRuntime) -> Status {
     match words(rt) {
         Ok(words) => run_words(rt, &words),
+        Err(Status::Usage) => {
+            tell_usage(&mut StdSink::new(rt.stderr()));
+            Status::Usage
+        }
         Err(status) => status,
     }
 }

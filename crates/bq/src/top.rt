@@ -3,13 +3,15 @@ ghost use Rattle.std.specs.Prelude.{◌≡◌, ◌≤◌, map};
 ghost use Rattle.std.specs.String.{string_bytes};
 ghost use Rattle.bq_io.specs.Counts.{Rose};
 ghost use Rattle.bq_session.specs.Run.{IsNoFault};
-ghost use Rattle.bq_feeds.specs.FeedsEnd.{NoneFell, SomeRose};
-ghost use Rattle.bq.specs.Serve.{asks_feeds, Serves};
+ghost use Rattle.bq_feeds.specs.FeedsEnd.{FeedsEnd};
+ghost use Rattle.bq_top.specs.Files.{NoneFell, SomeRose};
+ghost use Rattle.bq.specs.Serve.{asks_feeds, file_name, file_place, Served, Serves};
 
+use crate::errors::tell;
 use bq_feeds::run_feeds;
 use bq_io::{Sink, Source, Status};
 use bq_session::is_word;
-use bq_top::run;
+use bq_top::{Ended, run};
 use std::alloc::Global;
 
 // Whether the first word is `feeds`.
@@ -22,17 +24,93 @@ fn asks_feeds(words: &[String]) -> bool
     }
 }
 
-/// Does all that the program does over the words after its name. Where the first word is `feeds` it runs a session over the feeds, as
-/// `run_feeds`, and does not touch the input; otherwise it does what `run` does, and does not touch the feeds.
-pub fn serve<I: Source, F: Source, O: Sink>(
+// The place of the word that names the file which is read first, where the words name one: the script of feeds, or the last word.
+fn file_place(words: &[String]) -> usize
+    ensures { result ≡ file_place (map string_bytes words.now) }
+{
+    match words {
+        [first, option, ..] => {
+            if !is_word(first, "feeds") {
+                words.len() - 1
+            } else if is_word(option, "--script") {
+                2
+            } else {
+                4
+            }
+        }
+        [first] => { if is_word(first, "feeds") { 4 } else { 0 } }
+        [] => 0,
+    }
+}
+
+// The name of the file that is read first, where the words name one.
+fn file_name(words: &[String]) -> &[u8]
+    ensures { result.now ≡ file_name (map string_bytes words.now) }
+{
+    match words.get(file_place(words)) {
+        Some(word) => word.as_bytes(),
+        None => b"",
+    }
+}
+
+// How a session over the feeds ended.
+fn run_on_feeds<F: Source, O: Sink>(
+    alloc: Global,
+    words: &[String],
+    feeds: &mut [F],
+    output: &mut O,
+) -> Ended
+    ensures ends { FeedsEnd result.status result.file_failed words.now (map F.seen feeds.old) (map F.seen feeds.new) (O.seen output.old) (O.seen output.new) }
+    ensures complete { ¬ (SomeRose (map F.seen feeds.old) (map F.seen feeds.new)) → ¬ (Rose (O.seen output.old).faults (O.seen output.new).faults) → IsNoFault result.status }
+    ensures feeds_later { NoneFell (map F.seen feeds.old) (map F.seen feeds.new) }
+    ensures output_later { (O.seen output.old).faults ≤ (O.seen output.new).faults }
+{
+    let ending = run_feeds(alloc, words, feeds, output);
+    Ended {
+        status: ending.status,
+        file_failed: ending.script_failed,
+    }
+}
+
+// Does what the words ask for, and says how that ended.
+fn end_words<I: Source, F: Source, O: Sink>(
     alloc: Global,
     words: &[String],
     input: &mut I,
     feeds: &mut [F],
     output: &mut O,
+) -> Ended
+    ensures serves { Serves (asks_feeds (map string_bytes words.now)) result.status result.file_failed words.now (I.seen input.old) (I.seen input.new)
+        (map F.seen feeds.old) (map F.seen feeds.new) (O.seen output.old) (O.seen output.new) }
+    ensures complete { ¬ (Rose (I.seen input.old).faults (I.seen input.new).faults) → ¬ (SomeRose (map F.seen feeds.old) (map F.seen feeds.new))
+        → ¬ (Rose (O.seen output.old).faults (O.seen output.new).faults) → IsNoFault result.status }
+    ensures input_later { (I.seen input.old).faults ≤ (I.seen input.new).faults }
+    ensures feeds_later { NoneFell (map F.seen feeds.old) (map F.seen feeds.new) }
+    ensures output_later { (O.seen output.old).faults ≤ (O.seen output.new).faults }
+{
+    if asks_feeds(words) {
+        run_on_feeds(alloc, words, feeds, output)
+    } else {
+        run(alloc, words, input, feeds, output)
+    }
+}
+
+/// Does all that the program does over the words after its name. Where the first word is `feeds` it runs a session over the feeds, as
+/// `run_feeds`, and does not touch the input; otherwise it does what `run` does. `feeds` has the files that the words name: FILE, or the script,
+/// first.
+///
+/// Two texts are written to `errors`, and nothing else: two lines where the words are none of the forms, and one line where FILE or the script
+/// failed. Where `errors` fails, a front of them was written, and all else is the same.
+pub fn serve<I: Source, F: Source, O: Sink, E: Sink>(
+    alloc: Global,
+    words: &[String],
+    input: &mut I,
+    feeds: &mut [F],
+    output: &mut O,
+    errors: &mut E,
 ) -> Status
-    ensures serves { Serves (asks_feeds (map string_bytes words.now)) result words.now (I.seen input.old) (I.seen input.new) (map F.seen feeds.old) (map F.seen feeds.new)
-        (O.seen output.old) (O.seen output.new) }
+    ensures serves { Served result words.now (I.seen input.old) (I.seen input.new) (map F.seen feeds.old) (map F.seen feeds.new)
+        (O.seen output.old) (O.seen output.new) (E.seen errors.old) (E.seen errors.new) }
 
     // Where neither the input nor a feed nor the output fails, the status is Done, Invalid, Memory, ByteLimit or Usage.
     ensures complete { ¬ (Rose (I.seen input.old).faults (I.seen input.new).faults) → ¬ (SomeRose (map F.seen feeds.old) (map F.seen feeds.new))
@@ -41,9 +119,7 @@ pub fn serve<I: Source, F: Source, O: Sink>(
     ensures feeds_later { NoneFell (map F.seen feeds.old) (map F.seen feeds.new) }
     ensures output_later { (O.seen output.old).faults ≤ (O.seen output.new).faults }
 {
-    if asks_feeds(words) {
-        run_feeds(alloc, words, feeds, output)
-    } else {
-        run(alloc, words, input, output)
-    }
+    let ended = end_words(alloc, words, input, feeds, output);
+    tell(ended, file_name(words), errors);
+    ended.status
 }

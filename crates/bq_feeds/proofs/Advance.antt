@@ -5,6 +5,8 @@ use Rattle.bq_io.specs.Source.{SourceState}
 use Rattle.bq_io.specs.Sink.{SinkState, Wrote}
 use Rattle.bq_feed.specs.declared.reader.LineAnswer.TheVariants as reads
 use Rattle.bq_feed.proofs.GivenEnds.{all-given, last-text, last-given, rose-given}
+use Rattle.std.specs.declared.option.Option.{Option}
+use Rattle.bq_session.specs.Lock.{Lock}
 use Rattle.bq_session.specs.State.{State}
 use Rattle.bq_session.specs.declared.outcome.LineOutcome.TheVariants as outcome
 use Rattle.bq_feed.specs.GivenLines.{GivenLines}
@@ -12,11 +14,10 @@ use Rattle.bq_feed.specs.Reading.{NextLine}
 use Rattle.bq_session.specs.Session.{SessionValue, StandsFor}
 use Rattle.bq_session.specs.Events.{Event, line, fault, lines_of}
 use Rattle.bq_session.specs.Fetched.{Read}
-use Rattle.bq_session.proofs.ToldEvents.{Told, at, events_of, event_of, events_of-append, at-push, lines_of-append, lines_of-here}
+use Rattle.bq_session.proofs.ToldEvents.{Told, events_of, events_of-append, lines_of-append, lines_of-here}
 use Rattle.bq_session.proofs.ToldEvents as told
-use Rattle.bq_session.proofs.Held.{Moves, sink, moves-all, held-flushed, held-more}
+use Rattle.bq_session.proofs.Held.{Moves, sink, moves-all}
 use Rattle.bq_session.proofs.GivenAmong.{Given}
-use Rattle.bq_session.proofs.Progress.{pushed}
 use Rattle.bq_session.specs.Turned.{AnsweredLine}
 use Rattle.bq_feeds.specs.declared.stage.Lane.{Lane}
 use Rattle.bq_feeds.specs.declared.stage.Stage.TheVariants as stage
@@ -24,10 +25,14 @@ use Rattle.bq_feeds.specs.Lanes.{is_open, FaultMet}
 use Rattle.bq_feeds.specs.Turns.{Feed}
 use Rattle.bq_feeds.specs.Turns as turns
 use Rattle.bq_feeds.specs.FeedsRead.{told_in, line_count}
+use Rattle.bq_feeds.specs.Gates.{under}
 use Rattle.bq_feeds.specs.Visited.{new_lane, no_source, slot}
 use Rattle.bq_feeds.proofs.Rounds.{event-past, event-ended, event-fault, event-grown, event-here, told-set, told-round}
 use Rattle.bq_feeds.proofs.Rows.{Row, each-at, each-set, each-round, feeds_of, map-set, map-at, map-kept, set-same}
-use Rattle.bq_feeds.proofs.Around.{Stands, gives, done, broken, other-line, stands-moved, stands-pushed, Standing, Around, no_row, line_count-append}
+use Rattle.bq_feeds.proofs.Around.{Stands, gives, done, broken, other-line, stands-moved, stands-pushed, Standing, Course, Around, Inside, around-inside, no_row, line_count-append}
+use Rattle.bq_feeds.proofs.Held.{held-flushed, held-more}
+use Rattle.bq_feeds.proofs.Pushed.{pushed}
+use Rattle.bq_feeds.proofs.Told.{at, at-push}
 
 length-map : (rs : List Row) → length (feeds_of rs) ≡ length rs
 length-map [] = refl
@@ -165,14 +170,14 @@ standing-fault starts ends all answered pending round place lane source z l o fa
     (ap (λ es. es ++ fault n ∷ []) (events_of-append answered pending) ∙ ap (λ es. (A ++ P) ++ es) (sym (event-fault n round later.feed o.size refl)))
 
 -- the feed of a place, which has not ended, in the session
-pub record Here (s : State) (starts ends : List SourceState) (all : List Lane) (session : SessionValue) (before below : SinkState) (held : List ℕ) (lines round place : ℕ) (i : Around s starts ends all session before below held lines round place) : Type 0 where
+pub record Here (gates : List (Option Lock)) (s : State) (starts ends : List SourceState) (all : List Lane) (before below : SinkState) (held : List ℕ) (lines round place : ℕ) (i : Course gates s starts ends all before below held lines round place) : Type 0 where
   pub lane : slot all place new_lane ≡ (slot i.standing.rows place no_row).lane
   pub now : slot ends place no_source ≡ (slot i.standing.rows place no_row).now
   pub yet-open : Opened (events_of i.answered) (events_of i.pending) (1 + place) round (slot i.standing.rows place no_row)
 
-pub around-here : (s : State) (starts ends : List SourceState) (all : List Lane) (session : SessionValue) (before below : SinkState) (held : List ℕ) (lines round place : ℕ) → (i : Around s starts ends all session before below held lines round place)
-    → place < length i.standing.rows → is_open (slot all place new_lane).stage ≡ true → Here s starts ends all session before below held lines round place i
-around-here s starts ends all session before below held lines round place i l yet =
+pub around-here : (gates : List (Option Lock)) (s : State) (starts ends : List SourceState) (all : List Lane) (before below : SinkState) (held : List ℕ) (lines round place : ℕ) → (i : Course gates s starts ends all before below held lines round place)
+    → place < length i.standing.rows → is_open (slot all place new_lane).stage ≡ true → Here gates s starts ends all before below held lines round place i
+around-here gates s starts ends all before below held lines round place i l yet =
     let a = standing-at starts ends all (events_of i.answered) (events_of i.pending) round place i.standing l in
     record {
       lane = a.lane;
@@ -180,28 +185,28 @@ around-here s starts ends all session before below held lines round place i l ye
       yet-open = opened (events_of i.answered) (events_of i.pending) (1 + place) round (slot i.standing.rows place no_row) a.known (sym (ap (λ (x : Lane). is_open x.stage) a.lane) ∙ yet);
     }
 
-pub around-skip : (s : State) (starts ends : List SourceState) (all : List Lane) (session : SessionValue) (before below : SinkState) (held : List ℕ) (lines round place : ℕ)
-    → (i : Around s starts ends all session before below held lines round place) → place < length i.standing.rows → is_open (slot all place new_lane).stage ≡ false
-    → Around s starts ends all session before below held lines round (suc place)
-around-skip s starts ends all session before below held lines round place i l closed = record {
-  answered = i.answered;
-  pending = i.pending;
-  has = i.has;
-  stands = i.stands;
-  standing = standing-skip starts ends all (events_of i.answered) (events_of i.pending) round place i.standing l closed;
-  counted = i.counted;
-  many = i.many;
-}
+pub around-skip : (gates : List (Option Lock)) (s : State) (starts ends : List SourceState) (all : List Lane) (session : SessionValue) (before below : SinkState) (held : List ℕ) (lines round place : ℕ)
+    → (i : Course gates s starts ends all before below held lines round place) → Inside gates s i.answered i.pending session lines place → place < length i.standing.rows → is_open (slot all place new_lane).stage ≡ false
+    → Around gates s starts ends all session before below held lines round (suc place)
+around-skip gates s starts ends all session before below held lines round place i inside l closed = around-inside gates s starts ends all session before below held lines round (suc place) place
+    (record {
+      answered = i.answered;
+      pending = i.pending;
+      has = i.has;
+      standing = standing-skip starts ends all (events_of i.answered) (events_of i.pending) round place i.standing l closed;
+      many = i.many;
+    }) (at gates s (i.answered ++ i.pending)) refl inside.stands inside.counted
 
 -- the feed of a place gave a line, which was answered
-pub around-line : (s : State) (starts ends : List SourceState) (all : List Lane) (session session' : SessionValue) (before below below' : SinkState) (held held' : List ℕ) (lines round place : ℕ) (lane : Lane) (source : SourceState)
-    → (i : Around s starts ends all session before below held lines round place) → place < length i.standing.rows → (h : Here s starts ends all session before below held lines round place i) → lane.stage ≡ stage.Open
-    → AnsweredLine outcome.Done (at s (i.answered ++ i.pending)) (slot i.standing.rows place no_row).lane.reader lane.reader (slot i.standing.rows place no_row).now source session' below below' held held'
-    → Around s starts (slice_set ends place source) (slice_set all place lane) session' before below' held' (lines + 1) round (suc place)
-around-line s starts ends all session session' before below below' held held' lines round place lane source i l h yet-open answer =
+pub around-line : (gates : List (Option Lock)) (s : State) (starts ends : List SourceState) (all : List Lane) (session session' : SessionValue) (before below below' : SinkState) (held held' : List ℕ) (lines round place : ℕ) (lane : Lane) (source : SourceState)
+    → (i : Course gates s starts ends all before below held lines round place) → Inside gates s i.answered i.pending session lines place → place < length i.standing.rows → (h : Here gates s starts ends all before below held lines round place i)
+    → lane.stage ≡ stage.Open
+    → AnsweredLine outcome.Done (under gates (1 + place) (at gates s (i.answered ++ i.pending))) (slot i.standing.rows place no_row).lane.reader lane.reader (slot i.standing.rows place no_row).now source session' below below' held held'
+    → Around gates s starts (slice_set ends place source) (slice_set all place lane) session' before below' held' (lines + 1) round (suc place)
+around-line gates s starts ends all session session' before below below' held held' lines round place lane source i inside l h yet-open answer =
     let row = slot i.standing.rows place no_row in
     let n = 1 + place in
-    let q = pushed n s row.source row.now source row.lane.reader lane.reader session session' before below below' held held' i.answered i.pending i.has h.yet-open.given i.stands answer in
+    let q = pushed gates n s row.source row.now source row.lane.reader lane.reader session session' before below below' held held' i.answered i.pending i.has h.yet-open.given inside.stands answer in
     let t = told.line n q.text q.answer in
     let pushed-events : events_of (q.pending ++ t ∷ []) ≡ events_of q.pending ++ line n q.text ∷ [] = events_of-append q.pending (t ∷ []) in
     let z = standing-line starts ends all i.answered i.pending q.answered q.pending round place lane source q.text i.standing l h.yet-open q.moves yet-open
@@ -210,73 +215,86 @@ around-line s starts ends all session session' before below below' held held' li
     sym (events_of-append q.answered (q.pending ++ t ∷ []))
     ∙ ap events_of (sym (append_assoc q.answered q.pending (t ∷ [])) ∙ ap (λ ts. ts ++ t ∷ []) (moves-all i.answered i.pending q.answered q.pending q.moves))
     ∙ events_of-append (i.answered ++ i.pending) (t ∷ []) ∙ ap (λ es. es ++ line n q.text ∷ []) (events_of-append i.answered i.pending) in
+    let one-more : line_count (events_of q.answered ++ events_of (q.pending ++ t ∷ [])) ≡ line_count (events_of i.answered ++ events_of i.pending) + 1 =
+    ap line_count all-told ∙ line_count-append (events_of i.answered ++ events_of i.pending) (line n q.text ∷ []) in
     record {
-      answered = q.answered;
-      pending = q.pending ++ t ∷ [];
-      has = q.has;
+      course = record {
+        answered = q.answered;
+        pending = q.pending ++ t ∷ [];
+        has = q.has;
+        standing = subst (λ es. Standing starts (slice_set ends place source) (slice_set all place lane) (events_of q.answered) es round (suc place)) (sym pushed-events) z;
+        many = omega (arith, one-more, i.many);
+      };
+      kept = at gates s (q.answered ++ (q.pending ++ t ∷ []));
       stands = q.stands;
-      standing = subst (λ es. Standing starts (slice_set ends place source) (slice_set all place lane) (events_of q.answered) es round (suc place)) (sym pushed-events) z;
-      counted = q.counted ∙ ap (λ (k : ℕ). k + 1) i.counted;
-      many = ap line_count all-told ∙ line_count-append (events_of i.answered ++ events_of i.pending) (line n q.text ∷ []) ∙ ap (λ (k : ℕ). k + 1) i.many;
+      follows = λ m. refl;
+      counted = q.counted ∙ ap (λ (k : ℕ). k + 1) inside.counted;
     }
 
 -- the feed of a place is at its end
-pub around-ended : (s : State) (starts ends : List SourceState) (all : List Lane) (session session' : SessionValue) (before below below' : SinkState) (held held' : List ℕ) (lines round place : ℕ) (lane : Lane) (source : SourceState)
-    → (i : Around s starts ends all session before below held lines round place) → place < length i.standing.rows → (h : Here s starts ends all session before below held lines round place i) → lane.stage ≡ stage.Ended → session' ≡ session
+pub around-ended : (gates : List (Option Lock)) (s : State) (starts ends : List SourceState) (all : List Lane) (session session' : SessionValue) (before below below' : SinkState) (held held' : List ℕ) (lines round place : ℕ) (lane : Lane) (source : SourceState)
+    → (i : Course gates s starts ends all before below held lines round place) → Inside gates s i.answered i.pending session lines place → place < length i.standing.rows → (h : Here gates s starts ends all before below held lines round place i)
+    → lane.stage ≡ stage.Ended → session' ≡ session
     → Read reads.End (slot i.standing.rows place no_row).lane.reader lane.reader (slot i.standing.rows place no_row).now source below below' held held'
-    → Around s starts (slice_set ends place source) (slice_set all place lane) session' before below' held' lines round (suc place)
-around-ended s starts ends all session session' before below below' held held' lines round place lane source i l h ended kept r =
+    → Around gates s starts (slice_set ends place source) (slice_set all place lane) session' before below' held' lines round (suc place)
+around-ended gates s starts ends all session session' before below below' held held' lines round place lane source i inside l h ended kept r =
     let sunk = i.answered ++ i.pending in
-    let same : sunk ++ [] ≡ sunk = append-nil sunk in
-    record {
+    around-inside gates s starts (slice_set ends place source) (slice_set all place lane) session' before below' held' lines round (suc place) place
+    (record {
       answered = sunk;
       pending = [];
-      has = held-flushed s i.answered i.pending before below below' held held' i.has r.wrote r.none;
-      stands = subst (λ k. StandsFor k (at s (sunk ++ []))) (sym kept) (subst (λ ts. StandsFor session (at s ts)) (sym same) i.stands);
+      has = held-flushed gates s i.answered i.pending before below below' held held' i.has r.wrote r.none;
       standing = standing-ended starts ends all i.answered i.pending round place lane source i.standing l h.yet-open ended r.next;
-      counted = ap (λ (k : SessionValue). k.lines) kept ∙ i.counted;
-      many = ap line_count (append-nil (events_of sunk) ∙ events_of-append i.answered i.pending) ∙ i.many;
-    }
+      many = ap (λ (es : List Event). s.lines + line_count es) (append-nil (events_of sunk) ∙ events_of-append i.answered i.pending) ∙ i.many;
+    }) (at gates s sunk) (ap (at gates s) (sym (append-nil sunk)))
+    (subst (λ k. StandsFor k (under gates (1 + place) (at gates s sunk))) (sym kept) inside.stands) (ap (λ (k : SessionValue). k.lines) kept ∙ inside.counted)
 
 -- the source of the feed of a place failed, and that was written
-pub around-fault : (s : State) (starts ends : List SourceState) (all : List Lane) (session session' : SessionValue) (before below below' : SinkState) (held held' : List ℕ) (lines round place : ℕ) (lane : Lane) (source : SourceState)
-    → (i : Around s starts ends all session before below held lines round place) → place < length i.standing.rows → (h : Here s starts ends all session before below held lines round place i) → lane.stage ≡ stage.Failed → session' ≡ session
+pub around-fault : (gates : List (Option Lock)) (s : State) (starts ends : List SourceState) (all : List Lane) (session session' : SessionValue) (before below below' : SinkState) (held held' : List ℕ) (lines round place : ℕ) (lane : Lane) (source : SourceState)
+    → (i : Course gates s starts ends all before below held lines round place) → Inside gates s i.answered i.pending session lines place → place < length i.standing.rows → (h : Here gates s starts ends all before below held lines round place i)
+    → lane.stage ≡ stage.Failed → session' ≡ session
     → FaultMet (1 + place) (slot i.standing.rows place no_row).lane.reader lane.reader (slot i.standing.rows place no_row).now source below below' held held' Wrote
-    → Around s starts (slice_set ends place source) (slice_set all place lane) session' before below' held' lines round (suc place)
-around-fault s starts ends all session session' before below below' held held' lines round place lane source i l h failed kept f =
+    → Around gates s starts (slice_set ends place source) (slice_set all place lane) session' before below' held' lines round (suc place)
+around-fault gates s starts ends all session session' before below below' held held' lines round place lane source i inside l h failed kept f =
     let n = 1 + place in
     let r = f.met in
     let sunk = i.answered ++ i.pending in
     let t = told.fault n in
-    let flushed = held-flushed s i.answered i.pending before below f.between held f.left i.has r.wrote r.none in
-    record {
+    let flushed = held-flushed gates s i.answered i.pending before below f.between held f.left i.has r.wrote r.none in
+    let none-more : line_count (events_of sunk ++ fault n ∷ []) ≡ line_count (events_of sunk) + 0 = line_count-append (events_of sunk) (fault n ∷ []) in
+    let size : line_count (events_of sunk) ≡ line_count (events_of i.answered ++ events_of i.pending) = ap line_count (events_of-append i.answered i.pending) in
+    around-inside gates s starts (slice_set ends place source) (slice_set all place lane) session' before below' held' lines round (suc place) place
+    (record {
       answered = sunk;
       pending = t ∷ [];
-      has = held-more s sunk [] before f.between below' f.left held' f.name f.name' t flushed tt f.told;
-      stands = subst (λ k. StandsFor k (at s (sunk ++ t ∷ []))) (sym kept) (subst (λ u. StandsFor session u) (sym (at-push s sunk t)) i.stands);
+      has = held-more gates s sunk [] before f.between below' f.left held' f.name f.name' t flushed tt f.told;
       standing = standing-fault starts ends all i.answered i.pending round place lane source i.standing l h.yet-open failed r.next;
-      counted = ap (λ (k : SessionValue). k.lines) kept ∙ i.counted;
-      many =
-          line_count-append (events_of sunk) (fault n ∷ []) ∙ (let z : line_count (events_of sunk) + 0 ≡ line_count (events_of sunk) = omega arith in z)
-          ∙ ap line_count (events_of-append i.answered i.pending) ∙ i.many;
-    }
+      many = omega (arith, none-more, size, i.many);
+    }) (at gates s sunk) (sym (at-push gates s sunk t))
+    (subst (λ k. StandsFor k (under gates (1 + place) (at gates s sunk))) (sym kept) inside.stands) (ap (λ (k : SessionValue). k.lines) kept ∙ inside.counted)
 
 -- a round is over
-pub around-round : (s : State) (starts ends : List SourceState) (all : List Lane) (session : SessionValue) (before below : SinkState) (held : List ℕ) (lines round place : ℕ)
-    → (i : Around s starts ends all session before below held lines round place) → place ≡ length i.standing.rows → Around s starts ends all session before below held lines (round + 1) 0
-around-round s starts ends all session before below held lines round place i over = record {
-  answered = i.answered;
-  pending = i.pending;
-  has = i.has;
-  stands = i.stands;
-  standing = record {
-    rows = i.standing.rows;
-    sources = i.standing.sources;
-    nows = i.standing.nows;
-    lanes = i.standing.lanes;
-    each = each-round (Stands (events_of i.answered) (events_of i.pending)) 1 round place i.standing.rows over i.standing.each;
-    events = i.standing.events ∙ ap (λ (k : ℕ). told_in round k (feeds_of i.standing.rows)) (over ∙ sym (length-map i.standing.rows)) ∙ told-round round (feeds_of i.standing.rows);
-  };
-  counted = i.counted;
-  many = i.many;
-}
+pub around-round : (gates : List (Option Lock)) (s : State) (starts ends : List SourceState) (all : List Lane) (session : SessionValue) (before below : SinkState) (held : List ℕ) (lines round place : ℕ)
+    → (i : Around gates s starts ends all session before below held lines round place) → place ≡ length i.course.standing.rows → Around gates s starts ends all session before below held lines (round + 1) 0
+around-round gates s starts ends all session before below held lines round place i over =
+    let c = i.course in
+    record {
+      course = record {
+        answered = c.answered;
+        pending = c.pending;
+        has = c.has;
+        standing = record {
+          rows = c.standing.rows;
+          sources = c.standing.sources;
+          nows = c.standing.nows;
+          lanes = c.standing.lanes;
+          each = each-round (Stands (events_of c.answered) (events_of c.pending)) 1 round place c.standing.rows over c.standing.each;
+          events = c.standing.events ∙ ap (λ (k : ℕ). told_in round k (feeds_of c.standing.rows)) (over ∙ sym (length-map c.standing.rows)) ∙ told-round round (feeds_of c.standing.rows);
+        };
+        many = c.many;
+      };
+      kept = i.kept;
+      stands = i.stands;
+      follows = i.follows;
+      counted = i.counted;
+    }

@@ -5,17 +5,22 @@ use Rattle.bq_io.specs.Counts.{Rose}
 use Rattle.bq_io.specs.Source.{SourceState}
 use Rattle.bq_io.specs.Sink.{SinkState}
 use Rattle.bq_feed.specs.GivenLines.{AllGiven, LastGiven}
+use Rattle.std.specs.declared.option.Option.{Option}
+use Rattle.bq_session.specs.Lock.{Lock}
 use Rattle.bq_session.specs.State.{State}
 use Rattle.bq_session.specs.Session.{SessionValue, StandsFor}
 use Rattle.bq_session.specs.Events.{Event, line, fault, lines_of}
-use Rattle.bq_session.proofs.ToldEvents.{Told, at, events_of, events_of-append, lines_of-append}
-use Rattle.bq_session.proofs.Held.{Held, Moves, stay, sink}
+use Rattle.bq_session.proofs.ToldEvents.{Told, events_of, events_of-append, lines_of-append}
+use Rattle.bq_session.proofs.Held.{Moves, stay, sink}
 use Rattle.bq_session.proofs.GivenAmong.{Given, given-sunk, given-other}
 use Rattle.bq_feeds.specs.declared.stage.Lane.{Lane}
 use Rattle.bq_feeds.specs.declared.stage.Stage.TheVariants as stage
 use Rattle.bq_feeds.specs.FeedsRead.{told_in, line_count}
+use Rattle.bq_feeds.specs.Gates.{under}
 use Rattle.bq_feeds.specs.Visited.{new_lane, no_source}
+use Rattle.bq_feeds.proofs.Held.{Held}
 use Rattle.bq_feeds.proofs.Rows.{Row, Each, feeds_of, lanes_of, nows_of, sources_of}
+use Rattle.bq_feeds.proofs.Told.{at, under-over, under-lines}
 
 -- What is known of a feed, by how far it is, in the turn that it takes next: it has given a line in each turn before, or ended in one of them.
 pub data Stands (answered pending : List Event) (number turn : ℕ) (row : Row) : Type 0 where
@@ -60,15 +65,49 @@ pub record Standing (starts ends : List SourceState) (all : List Lane) (answered
   pub each : Each (Stands answered pending) 1 round place rows
   pub events : answered ++ pending ≡ told_in round place (feeds_of rows)
 
--- A session over feeds, before the turn of the feed of a place, in a round.
-pub record Around (s : State) (starts ends : List SourceState) (all : List Lane) (session : SessionValue) (before below : SinkState) (held : List ℕ) (lines round place : ℕ) : Type 0 where
+-- The events of a session over feeds, before the turn of the feed of a place, in a round. So many lines were answered with them, and before.
+pub record Course (gates : List (Option Lock)) (s : State) (starts ends : List SourceState) (all : List Lane) (before below : SinkState) (held : List ℕ) (lines round place : ℕ) : Type 0 where
   pub answered : List Told
   pub pending : List Told
-  pub has : Held s answered pending before below held
-  pub stands : StandsFor session (at s (answered ++ pending))
+  pub has : Held gates s answered pending before below held
   pub standing : Standing starts ends all (events_of answered) (events_of pending) round place
+  pub many : s.lines + line_count (events_of answered ++ events_of pending) ≡ lines
+
+-- A session over feeds then. It stands for a state that becomes, under the lock of any feed, what the state behind the events becomes.
+pub record Around (gates : List (Option Lock)) (s : State) (starts ends : List SourceState) (all : List Lane) (session : SessionValue) (before below : SinkState) (held : List ℕ) (lines round place : ℕ) : Type 0 where
+  pub course : Course gates s starts ends all before below held lines round place
+  pub kept : State
+  pub stands : StandsFor session kept
+  pub follows : (n : ℕ) → under gates n kept ≡ under gates n (at gates s (course.answered ++ course.pending))
   pub counted : session.lines ≡ lines
-  pub many : line_count (events_of answered ++ events_of pending) ≡ lines
+
+-- the session takes the turn of the feed of a place: it stands for the state behind the events under the lock of that feed
+pub record Inside (gates : List (Option Lock)) (s : State) (answered pending : List Told) (session : SessionValue) (lines place : ℕ) : Type 0 where
+  pub stands : StandsFor session (under gates (1 + place) (at gates s (answered ++ pending)))
+  pub counted : session.lines ≡ lines
+
+-- the lock of the feed of a place was set
+pub around-enter : (gates : List (Option Lock)) (s : State) (starts ends : List SourceState) (all : List Lane) (session session' : SessionValue) (before below : SinkState) (held : List ℕ) (lines round place : ℕ)
+    → (i : Around gates s starts ends all session before below held lines round place) → ((u : State) → StandsFor session u → StandsFor session' (under gates (place + 1) u))
+    → Inside gates s i.course.answered i.course.pending session' lines place
+around-enter gates s starts ends all session session' before below held lines round place i enters =
+    let set = subst (λ (n : ℕ). StandsFor session' (under gates n i.kept)) (let z : place + 1 ≡ 1 + place = omega arith in z) (enters i.kept i.stands) in
+    record {
+      stands = subst (λ u. StandsFor session' u) (i.follows (1 + place)) set;
+      counted = set.lines ∙ under-lines gates (1 + place) i.kept ∙ sym i.stands.lines ∙ i.counted;
+    }
+
+-- behind a turn without an event
+pub around-inside : (gates : List (Option Lock)) (s : State) (starts ends : List SourceState) (all : List Lane) (session : SessionValue) (before below : SinkState) (held : List ℕ) (lines round place here : ℕ)
+    → (c : Course gates s starts ends all before below held lines round place) → (u : State) → u ≡ at gates s (c.answered ++ c.pending) → StandsFor session (under gates (1 + here) u) → session.lines ≡ lines
+    → Around gates s starts ends all session before below held lines round place
+around-inside gates s starts ends all session before below held lines round place here c u same stands counted = record {
+  course = c;
+  kept = under gates (1 + here) u;
+  stands = stands;
+  follows = λ n. under-over gates n (1 + here) u ∙ ap (under gates n) same;
+  counted = counted;
+}
 
 abbrev pub no_row : Row
 no_row = record { source = no_source; now = no_source; lane = new_lane; feed = record { lines = []; failed = false } }

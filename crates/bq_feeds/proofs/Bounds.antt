@@ -1,14 +1,15 @@
 -- Where a session over feeds begins, and where all feeds have ended.
-use Rattle.std.proofs.Common.{◌≡◌, ℕ, zero, suc, ◌+◌, ◌<◌, ◌≤◌, Bool, true, false, ◌||◌, nat_eq, cond, List, [], ◌∷◌, ◌++◌, map, length, replicate, refl, sym, ap, ◌∙◌, subst, arith}
+use Rattle.std.proofs.Common.{◌≡◌, ℕ, zero, suc, ◌+◌, ◌<◌, ◌≤◌, Bool, true, false, ◌||◌, nat_eq, cond, List, [], ◌∷◌, ◌++◌, map, length, replicate, refl, sym, ap, ◌∙◌, arith}
 use Rattle.std.specs.List.{list_any}
 use Rattle.bq_io.specs.Source.{SourceState}
 use Rattle.bq_io.specs.Sink.{SinkState}
+use Rattle.std.specs.declared.option.Option.{Option}
+use Rattle.bq_session.specs.Lock.{Lock}
 use Rattle.bq_session.specs.State.{State}
 use Rattle.bq_session.specs.Session.{SessionValue, StandsFor}
 use Rattle.bq_session.specs.Run.{HasState}
 use Rattle.bq_session.specs.Events.{Event, line, fault, lines_of}
-use Rattle.bq_session.proofs.ToldEvents.{at, at-none, events_of}
-use Rattle.bq_session.proofs.Held.{held-none}
+use Rattle.bq_session.proofs.ToldEvents.{Told, events_of}
 use Rattle.bq_session.proofs.GivenAmong.{given-begins}
 use Rattle.bq_feeds.specs.declared.stage.Lane.{Lane}
 use Rattle.bq_feeds.specs.declared.stage.Stage.{Stage}
@@ -16,9 +17,12 @@ use Rattle.bq_feeds.specs.declared.stage.Stage.TheVariants as stage
 use Rattle.std.proofs.lemmas.Bool.{false≢true}
 use Rattle.bq_feeds.specs.Lanes.{is_open}
 use Rattle.bq_feeds.specs.FeedsRead.{line_count}
+use Rattle.bq_feeds.specs.Gates.{under}
 use Rattle.bq_feeds.specs.Visited.{new_lane}
 use Rattle.bq_feeds.proofs.Rows.{Row, Each, lanes_of, nows_of, sources_of}
-use Rattle.bq_feeds.proofs.Around.{Stands, gives, done, broken, Around}
+use Rattle.bq_feeds.proofs.Around.{Stands, gives, done, broken, Course, Around, Inside}
+use Rattle.bq_feeds.proofs.Held.{held-none}
+use Rattle.bq_feeds.proofs.Told.{at, at-none}
 
 -- a feed of which nothing was taken
 abbrev new_row : SourceState → Row
@@ -44,35 +48,42 @@ each-new number [] = tt
 each-new number (x ∷ starts) = (gives refl (given-begins number x new_lane.reader refl) refl refl refl, each-new (number + 1) starts)
 
 -- nothing was taken of any feed
-pub around-begins : (s : State) (starts : List SourceState) (all : List Lane) (session : SessionValue) (before : SinkState) (held : List ℕ) → all ≡ replicate (length starts) new_lane → session.lines ≡ 0 → held ≡ [] → StandsFor session s
-    → Around s starts starts all session before before held 0 0 0
-around-begins s starts all session before held lanes none empty stands = record {
-  answered = [];
-  pending = [];
-  has = held-none s before held empty;
-  stands = subst (λ u. StandsFor session u) (sym (at-none s)) stands;
-  standing = record {
-    rows = new_rows starts;
-    sources = sources-new starts;
-    nows = nows-new starts;
-    lanes = lanes-new starts ∙ sym lanes;
-    each = each-new 1 starts;
-    events = refl;
+pub around-begins : (gates : List (Option Lock)) (s : State) (starts : List SourceState) (all : List Lane) (session : SessionValue) (before : SinkState) (held : List ℕ) (lines : ℕ) → all ≡ replicate (length starts) new_lane → lines ≡ session.lines → held ≡ [] → StandsFor session s
+    → Around gates s starts starts all session before before held lines 0 0
+around-begins gates s starts all session before held lines lanes counted empty stands = record {
+  course = record {
+    answered = [];
+    pending = [];
+    has = held-none gates s before held empty;
+    standing = record {
+      rows = new_rows starts;
+      sources = sources-new starts;
+      nows = nows-new starts;
+      lanes = lanes-new starts ∙ sym lanes;
+      each = each-new 1 starts;
+      events = refl;
+    };
+    many = omega (arith, counted, stands.lines);
   };
-  counted = none;
-  many = refl;
+  kept = s;
+  stands = stands;
+  follows = λ n. ap (under gates n) (sym (at-none gates s));
+  counted = sym counted;
 }
 
 length-lanes : (rows : List Row) → length (lanes_of rows) ≡ length rows
 length-lanes [] = refl
 length-lanes (r ∷ rows) = ap suc (length-lanes rows)
 
-pub rows-size : (s : State) (starts ends : List SourceState) (all : List Lane) (session : SessionValue) (before below : SinkState) (held : List ℕ) (lines round place : ℕ) → (i : Around s starts ends all session before below held lines round place)
+pub rows-size : (gates : List (Option Lock)) (s : State) (starts ends : List SourceState) (all : List Lane) (before below : SinkState) (held : List ℕ) (lines round place : ℕ) → (i : Course gates s starts ends all before below held lines round place)
     → length i.standing.rows ≡ length all
-rows-size s starts ends all session before below held lines round place i = sym (length-lanes i.standing.rows) ∙ ap (length {A = Lane}) i.standing.lanes
+rows-size gates s starts ends all before below held lines round place i = sym (length-lanes i.standing.rows) ∙ ap (length {A = Lane}) i.standing.lanes
 
-pub around-state : (s : State) (starts ends : List SourceState) (all : List Lane) (session : SessionValue) (before below : SinkState) (held : List ℕ) (lines round place : ℕ) → Around s starts ends all session before below held lines round place → HasState session
-around-state s starts ends all session before below held lines round place i = record { state = at s (i.answered ++ i.pending); stands = i.stands }
+pub around-state : (gates : List (Option Lock)) (s : State) (starts ends : List SourceState) (all : List Lane) (session : SessionValue) (before below : SinkState) (held : List ℕ) (lines round place : ℕ) → Around gates s starts ends all session before below held lines round place → HasState session
+around-state gates s starts ends all session before below held lines round place i = record { state = i.kept; stands = i.stands }
+
+pub inside-state : (gates : List (Option Lock)) (s : State) (answered pending : List Told) (session : SessionValue) (lines place : ℕ) → Inside gates s answered pending session lines place → HasState session
+inside-state gates s answered pending session lines place i = record { state = under gates (1 + place) (at gates s (answered ++ pending)); stands = i.stands }
 
 -- a feed has no more lines than there are
 few-lines : (number : ℕ) (events : List Event) → length (lines_of number events) ≤ line_count events
@@ -98,9 +109,9 @@ closed-lanes answered pending number round (row ∷ rows) l p =
     ap (λ b. b || list_any (λ (lane : Lane). is_open lane.stage) (lanes_of rows)) (closed-lane answered pending number round row l p.0) ∙ closed-lanes answered pending (number + 1) round rows l p.1
 
 -- behind as many rounds as a session takes lines, all feeds have ended
-pub all-closed : (s : State) (starts ends : List SourceState) (all : List Lane) (session : SessionValue) (before below : SinkState) (held : List ℕ) (lines round : ℕ) → (i : Around s starts ends all session before below held lines round 0) → lines < round
+pub all-closed : (gates : List (Option Lock)) (s : State) (starts ends : List SourceState) (all : List Lane) (before below : SinkState) (held : List ℕ) (lines round : ℕ) → (i : Course gates s starts ends all before below held lines round 0) → lines < round
     → list_any (λ (lane : Lane). is_open lane.stage) all ≡ false
-all-closed s starts ends all session before below held lines round i l =
+all-closed gates s starts ends all before below held lines round i l =
     ap (list_any (λ (lane : Lane). is_open lane.stage)) (sym i.standing.lanes) ∙ closed-lanes (events_of i.answered) (events_of i.pending) 1 round i.standing.rows (omega (arith, l, i.many)) i.standing.each
 
 pub open-of : (x : Stage) → is_open x ≡ true → x ≡ stage.Open

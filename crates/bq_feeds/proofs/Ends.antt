@@ -9,45 +9,34 @@ use Rattle.bq_io.specs.Gathered.{StaysHeld}
 use Rattle.bq_io.proofs.Writing.{Rose-earlier}
 use Rattle.bq_io.specs.declared.status.Status.{Status}
 use Rattle.bq_io.specs.declared.status.Status.TheVariants as status
-use Rattle.bq_session.specs.State.{State, next_of}
-use Rattle.bq_session.specs.Replies.{reply_to}
-use Rattle.bq_session.specs.Session.{SessionValue}
-use Rattle.bq_session.specs.Events.{Event, fault_text, lines_of, IsClose}
+use Rattle.std.specs.declared.option.Option.{Option}
+use Rattle.bq_session.specs.Lock.{Lock}
+use Rattle.bq_session.specs.State.{State}
+use Rattle.bq_session.specs.Events.{Event, lines_of, IsClose}
 use Rattle.bq_session.proofs.Passing.{IfSome-map}
-use Rattle.bq_session.proofs.Stops.{Stopped}
-use Rattle.bq_session.proofs.ToldEvents.{Told, at, replied, answers_of, events_of, event_of, events_of-append, at-after, AreTold, AreTold-front, IsTold}
+use Rattle.bq_session.proofs.ToldEvents.{Told, answers_of, events_of, event_of, events_of-append}
 use Rattle.bq_session.proofs.ToldEvents as told
-use Rattle.bq_session.proofs.Held.{held-all, held-stopped}
 use Rattle.bq_feeds.specs.declared.stage.Lane.{Lane}
 use Rattle.bq_feeds.specs.declared.stage.Stage.{Stage}
 use Rattle.bq_feeds.specs.declared.stage.Stage.TheVariants as stage
 use Rattle.bq_feeds.specs.Lanes.{is_open, is_failed}
 use Rattle.bq_feeds.specs.Turns.{turns}
 use Rattle.bq_feeds.specs.FeedsRead.{TakenFeed, feed_of, OfEach, FeedsTaken, WroteEvents, IsEventText, StopsAtEvent, told_in, line_count}
-use Rattle.bq_feeds.specs.FeedsText.{AreEvents, event_replies}
 use Rattle.bq_feeds.specs.FeedsEnd.{SomeFailed, HasRoom, RanLater}
 use Rattle.bq_feeds.specs.Visited.{Finished, well, faulty, unwritten}
 use Rattle.bq_feeds.proofs.Rounds.{told-agrees, told-all, told-front, AllPast}
 use Rattle.bq_feeds.proofs.Rows.{Row, Each, each-map, feeds_of, lanes_of}
-use Rattle.bq_feeds.proofs.Around.{Stands, gives, done, broken, Standing, Around}
+use Rattle.bq_feeds.proofs.Around.{Stands, gives, done, broken, Standing, Course}
+use Rattle.bq_feeds.proofs.Held.{held-all, held-stopped}
+use Rattle.bq_feeds.proofs.Stops.{Stopped}
+use Rattle.bq_feeds.proofs.Told.{at, replied, reply, IsTold, AreTold, AreTold-front, at-behind, are-events, replied-events}
 use Rattle.bq_feeds.proofs.Grown.{NearEach, Grown, grown, NoneOpen, AllGrown, all-grown, of-each-map}
 
--- what was told, as answers
-pub are-events : (s : State) (ts : List Told) → AreTold s ts → AreEvents s (events_of ts) (answers_of ts)
-are-events s [] p = tt
-are-events s (told.line number text answer ∷ ts) p = (p.0, are-events (next_of s answer) ts p.1)
-are-events s (told.fault number ∷ ts) p = are-events s ts p.1
-
-pub replied-events : (s : State) (ts : List Told) → replied s ts ≡ event_replies s (events_of ts) (answers_of ts)
-unfolding replied
-replied-events s [] = refl
-replied-events s (told.line number text answer ∷ ts) = ap (λ l. reply_to s answer ++ l) (replied-events (next_of s answer) ts)
-replied-events s (told.fault number ∷ ts) = ap (λ l. fault_text number ++ l) (replied-events s ts)
-
-pub wrote-events : (s : State) (ts : List Told) (events : List Event) (before now : SinkState) → events_of ts ≡ events → AreTold s ts → Appends before.written now.written (replied s ts) → WroteEvents s events before now
-wrote-events s ts events before now e are w = subst (λ es. WroteEvents s es before now) e (record {
-  text = replied s ts;
-  is_text = record { answers = answers_of ts; are = are-events s ts are; replied = replied-events s ts };
+-- what belongs to the events was written
+pub wrote-events : (gates : List (Option Lock)) (s : State) (ts : List Told) (events : List Event) (before now : SinkState) → events_of ts ≡ events → AreTold gates s ts → Appends before.written now.written (replied gates s ts) → WroteEvents gates s events before now
+wrote-events gates s ts events before now e are w = subst (λ es. WroteEvents gates s es before now) e (record {
+  text = replied gates s ts;
+  is_text = record { answers = answers_of ts; are = are-events gates s ts are; replied = replied-events gates s ts };
   written = w;
 })
 
@@ -79,12 +68,12 @@ cut-standing starts ends all answered pending round place z =
     (all-grown (NearEach answered pending) 1 round place z.rows (each-map (Stands answered pending) (Grown (NearEach answered pending)) 1 round place z.rows (grown answered pending) z.each))
 
 -- The sink failed in the text of one of the pending events. More of them may wait behind those.
-pub stops-cut : (s : State) (starts ends : List SourceState) (before below : SinkState) (round place : ℕ) (answered pending : List Told) (waiting : List Event)
+pub stops-cut : (gates : List (Option Lock)) (s : State) (starts ends : List SourceState) (before below : SinkState) (round place : ℕ) (answered pending : List Told) (waiting : List Event)
     → (c : Cut (NearEach (events_of answered) (events_of pending ++ waiting)) starts ends (events_of answered ++ (events_of pending ++ waiting)) round place)
-    → AreTold s (answered ++ pending) → Stopped s answered pending before below → StopsAtEvent s c.f before below
-stops-cut s starts ends before below round place answered pending waiting c are st =
+    → AreTold gates s (answered ++ pending) → Stopped gates s answered pending before below → StopsAtEvent gates s c.f before below
+stops-cut gates s starts ends before below round place answered pending waiting c are st =
     let split : answered ++ pending ≡ (answered ++ st.done) ++ st.here ∷ st.others = ap (λ ts. answered ++ ts) st.whole ∙ sym (append_assoc answered st.done (st.here ∷ st.others)) in
-    let front = AreTold-front s (answered ++ st.done) st.here st.others (subst (AreTold s) split are) in
+    let front = AreTold-front gates s (answered ++ st.done) st.here st.others (subst (AreTold gates s) split are) in
     let told = events_of (answered ++ st.done) in
     let cut-here : events_of pending ++ waiting ≡ events_of st.done ++ event_of st.here ∷ (events_of st.others ++ waiting) =
     ap (λ ts. events_of ts ++ waiting) st.whole ∙ ap (λ es. es ++ waiting) (events_of-append st.done (st.here ∷ st.others)) ∙ append_assoc (events_of st.done) (event_of st.here ∷ events_of st.others) waiting in
@@ -103,22 +92,22 @@ stops-cut s starts ends before below round place answered pending waiting c are 
         near = of-each-map (NearEach (events_of answered) (events_of pending ++ waiting)) (λ number t. t.stage ≡ stage.Open → IsClose t.text (lines_of number (told ++ event_of st.here ∷ [])) t.now.last) 1 c.f.taken
             (λ number t near yet. subst (λ es. IsClose t.text (lines_of number es) t.now.last) joined (near yet (events_of st.done) (event_of st.here) (events_of st.others ++ waiting) cut-here)) c.hold;
         answers = answers_of (answered ++ st.done);
-        are = are-events s (answered ++ st.done) front.0;
+        are = are-events gates s (answered ++ st.done) front.0;
       };
       front = st.front;
       rest = st.rest;
-      part = subst (λ u. IsEventText u (event_of st.here) (st.front ++ st.rest)) (at-after s (answered ++ st.done)) (text-of (at s (answered ++ st.done)) st.here (st.front ++ st.rest) front.1 (sym st.part));
-      written = subst (λ r. Appends before.written below.written (r ++ st.front)) (replied-events s (answered ++ st.done)) st.written;
+      part = subst (λ u. IsEventText gates u (event_of st.here) (st.front ++ st.rest)) (at-behind gates s (answered ++ st.done)) (text-of (at gates s (answered ++ st.done)) st.here (st.front ++ st.rest) front.1 (sym st.part));
+      written = subst (λ r. Appends before.written below.written (r ++ st.front)) (replied-events gates s (answered ++ st.done)) st.written;
     }
   where
-    text-of : (u : State) (t : Told) (text : List ℕ) → IsTold u t → text ≡ told.reply u t → IsEventText u (event_of t) text
+    text-of : (u : State) (t : Told) (text : List ℕ) → IsTold gates u t → text ≡ reply gates u t → IsEventText gates u (event_of t) text
     text-of u (told.line number l answer) text is e = (answer, is, e)
     text-of u (told.fault number) text is e = e
 
 -- the sink failed while what was held was written
-pub ends-blocked : (s : State) (starts ends : List SourceState) (all : List Lane) (session : SessionValue) (before below below' : SinkState) (held held' : List ℕ) (lines round place : ℕ) → (i : Around s starts ends all session before below held lines round place)
-    → StaysHeld below below' held held' → RanLater status.WriteFault s starts ends before below'
-ends-blocked s starts ends all session before below below' held held' lines round place i stays =
+pub ends-blocked : (gates : List (Option Lock)) (s : State) (starts ends : List SourceState) (all : List Lane) (before below below' : SinkState) (held held' : List ℕ) (lines round place : ℕ) → (i : Course gates s starts ends all before below held lines round place)
+    → StaysHeld below below' held held' → RanLater status.WriteFault gates s starts ends before below'
+ends-blocked gates s starts ends all before below below' held held' lines round place i stays =
     let A = events_of i.answered in
     let P = events_of i.pending in
     let c = subst (λ es. Cut (NearEach A es) starts ends (A ++ es) round place) (sym (append-nil P)) (cut-standing starts ends all A P round place i.standing) in
@@ -126,9 +115,9 @@ ends-blocked s starts ends all session before below below' held held' lines roun
       ends = (
         Rose-earlier _ _ _ i.has.later stays.rose,
         c.f,
-        IfSome-map before.written (λ _. Stopped s i.answered i.pending before below') (λ _. StopsAtEvent s c.f before below')
-            (λ _ q. stops-cut s starts ends before below' round place i.answered i.pending [] c i.has.are q)
-            (held-stopped s i.answered i.pending before below below' held held' i.has stays),
+        IfSome-map before.written (λ _. Stopped gates s i.answered i.pending before below') (λ _. StopsAtEvent gates s c.f before below')
+            (λ _ q. stops-cut gates s starts ends before below' round place i.answered i.pending [] c i.has.are q)
+            (held-stopped gates s i.answered i.pending before below below' held held' i.has stays),
       );
       later = omega (arith, i.has.later, stays.wrote.later.faults);
     }
@@ -205,17 +194,17 @@ some-failed (t ∷ taken) (row ∷ rows) e any = by_head (is_failed row.lane.sta
     by_head false h any rest = inr (rest any)
 
 -- All feeds have ended, and what was told is all their turns.
-record AllOver (s : State) (starts ends : List SourceState) (all : List Lane) (before below : SinkState) : Type 0 where
+record AllOver (gates : List (Option Lock)) (s : State) (starts ends : List SourceState) (all : List Lane) (before below : SinkState) : Type 0 where
   pub f : FeedsTaken starts ends
   pub closed : OfEach (λ m t. t.stage ≡ stage.Open → ⊥) 1 f.taken
   pub well : list_any (λ (lane : Lane). is_failed lane.stage) all ≡ false → OfEach (λ m t. t.stage ≡ stage.Ended) 1 f.taken
   pub faulty : list_any (λ (lane : Lane). is_failed lane.stage) all ≡ true → SomeFailed f.taken
-  pub wrote : WroteEvents s (turns (map feed_of f.taken)) before below
-  pub room : HasRoom (turns (map feed_of f.taken))
+  pub wrote : WroteEvents gates s (turns (map feed_of f.taken)) before below
+  pub room : HasRoom s (turns (map feed_of f.taken))
 
-all-over : (s : State) (starts ends : List SourceState) (all : List Lane) (session : SessionValue) (before below below' : SinkState) (held : List ℕ) (lines round : ℕ) → (i : Around s starts ends all session before below held lines round 0)
-    → lines ≤ 2 ^ 64 - 2 → list_any (λ (lane : Lane). is_open lane.stage) all ≡ false → Wrote below below' held → AllOver s starts ends all before below'
-all-over s starts ends all session before below below' held lines round i few closed wrote =
+all-over : (gates : List (Option Lock)) (s : State) (starts ends : List SourceState) (all : List Lane) (before below below' : SinkState) (held : List ℕ) (lines round : ℕ) → (i : Course gates s starts ends all before below held lines round 0)
+    → lines ≤ 2 ^ 64 - 2 → list_any (λ (lane : Lane). is_open lane.stage) all ≡ false → Wrote below below' held → AllOver gates s starts ends all before below'
+all-over gates s starts ends all before below below' held lines round i few closed wrote =
     let A = events_of i.answered in
     let P = events_of i.pending in
     let z = i.standing in
@@ -223,24 +212,24 @@ all-over s starts ends all session before below below' held lines round i few cl
     let a = all-grown (NearEach A P) 1 round 0 z.rows (each-map (Stands A P) (Grown (NearEach A P)) 1 round 0 z.rows (grown A P) z.each) in
     let whole : events_of (i.answered ++ i.pending) ≡ turns (map feed_of a.taken) =
     events_of-append i.answered i.pending ∙ z.events ∙ told-all round (feeds_of z.rows) (all-past A P 1 round z.rows none z.each) ∙ ap turns (sym (a.same none)) in
-    let size : line_count (turns (map feed_of a.taken)) ≡ lines = ap line_count (sym whole ∙ events_of-append i.answered i.pending) ∙ i.many in
+    let size : s.lines + line_count (turns (map feed_of a.taken)) ≡ lines = ap (λ (es : List Event). s.lines + line_count es) (sym whole ∙ events_of-append i.answered i.pending) ∙ i.many in
     record {
       f = record { taken = a.taken; before = a.sources ∙ z.sources; after = a.nows ∙ z.nows; are = a.are };
       closed = closed-each 1 a.taken z.rows a.stages none;
       well = λ any. ended-each 1 a.taken z.rows a.stages none (ap (list_any (λ (lane : Lane). is_failed lane.stage)) z.lanes ∙ any);
       faulty = λ any. some-failed a.taken z.rows a.stages (ap (list_any (λ (lane : Lane). is_failed lane.stage)) z.lanes ∙ any);
-      wrote = wrote-events s (i.answered ++ i.pending) (turns (map feed_of a.taken)) before below' whole i.has.are (held-all s i.answered i.pending before below below' held i.has wrote.bytes);
+      wrote = wrote-events gates s (i.answered ++ i.pending) (turns (map feed_of a.taken)) before below' whole i.has.are (held-all gates s i.answered i.pending before below below' held i.has wrote.bytes);
       room = omega (arith, size, few);
     }
 
 -- all feeds have ended
-pub ends-finished : (result : Status) (s : State) (starts ends : List SourceState) (all : List Lane) (session : SessionValue) (before below below' : SinkState) (held held' : List ℕ) (lines round : ℕ) → (i : Around s starts ends all session before below held lines round 0)
-    → lines ≤ 2 ^ 64 - 2 → list_any (λ (lane : Lane). is_open lane.stage) all ≡ false → Finished result all below below' held held' → RanLater result s starts ends before below'
-ends-finished result s starts ends all session before below below' held held' lines round i few closed (well e none wrote) =
-    let o = all-over s starts ends all session before below below' held lines round i few closed wrote in
+pub ends-finished : (result : Status) (gates : List (Option Lock)) (s : State) (starts ends : List SourceState) (all : List Lane) (before below below' : SinkState) (held held' : List ℕ) (lines round : ℕ) → (i : Course gates s starts ends all before below held lines round 0)
+    → lines ≤ 2 ^ 64 - 2 → list_any (λ (lane : Lane). is_open lane.stage) all ≡ false → Finished result all below below' held held' → RanLater result gates s starts ends before below'
+ends-finished result gates s starts ends all before below below' held held' lines round i few closed (well e none wrote) =
+    let o = all-over gates s starts ends all before below below' held lines round i few closed wrote in
     rw e (record { ends = (o.f, o.well none, o.wrote, o.room); later = omega (arith, i.has.later, wrote.later.faults) })
-ends-finished result s starts ends all session before below below' held held' lines round i few closed (faulty e some wrote) =
-    let o = all-over s starts ends all session before below below' held lines round i few closed wrote in
+ends-finished result gates s starts ends all before below below' held held' lines round i few closed (faulty e some wrote) =
+    let o = all-over gates s starts ends all before below below' held lines round i few closed wrote in
     rw e (record { ends = (o.f, o.closed, o.faulty some, o.wrote, o.room); later = omega (arith, i.has.later, wrote.later.faults) })
-ends-finished result s starts ends all session before below below' held held' lines round i few closed (unwritten e stays) =
-    rw e (ends-blocked s starts ends all session before below below' held held' lines round 0 i stays)
+ends-finished result gates s starts ends all before below below' held held' lines round i few closed (unwritten e stays) =
+    rw e (ends-blocked gates s starts ends all before below below' held held' lines round 0 i stays)

@@ -14,18 +14,18 @@ use Rattle.bq_feed.proofs.GivenLines.{step-read}
 use Rattle.bq_session.specs.declared.outcome.LineOutcome.{LineOutcome}
 use Rattle.bq_session.specs.declared.outcome.LineOutcome.TheVariants as outcome
 use Rattle.bq_session.specs.Requests.{IsRequest}
+use Rattle.std.specs.declared.option.Option.{Option}
+use Rattle.bq_session.specs.Lock.{Lock}
 use Rattle.bq_session.specs.State.{State}
 use Rattle.bq_session.specs.Session.{SessionValue, Answered}
 use Rattle.bq_session.specs.Events.{Event, line, fault, lines_of, IsClose}
 use Rattle.bq_session.specs.Fetched.{Read}
 use Rattle.bq_session.specs.Turned.{AnsweredLine, LacksMemory, SinkFailed, ahead, reply, behind}
 use Rattle.bq_session.proofs.Passing.{IfSome-map}
-use Rattle.bq_session.proofs.Stops.{Stopped}
-use Rattle.bq_session.proofs.ToldEvents.{Told, at, events_of, answers_of, replied, events_of-append, at-after, AreTold, AreTold-push, IsTold}
+use Rattle.bq_session.proofs.ToldEvents.{Told, events_of, answers_of, events_of-append}
 use Rattle.bq_session.proofs.ToldEvents as told
 use Rattle.bq_session.proofs.GivenAmong.{Given, given-read}
-use Rattle.bq_session.proofs.Held.{Held, sink, moves-all, held-all, held-still, held-flushed, held-stopped, held-broke}
-use Rattle.bq_session.proofs.Progress.{waits}
+use Rattle.bq_session.proofs.Held.{sink, moves-all}
 use Rattle.bq_feeds.specs.declared.stage.Lane.{Lane}
 use Rattle.bq_feeds.specs.declared.stage.Stage.TheVariants as stage
 use Rattle.bq_feeds.specs.Lanes.{FaultMet}
@@ -33,13 +33,18 @@ use Rattle.bq_feeds.specs.Turns.{Feed}
 use Rattle.bq_feeds.specs.Turns as turns
 use Rattle.bq_feeds.specs.FeedsRead.{TakenFeed, feed_of, OfEach, StopsAtEvent, told_in, line_count}
 use Rattle.bq_feeds.specs.FeedsEnd.{IsFullAt, RanLater}
+use Rattle.bq_feeds.specs.Gates.{under}
 use Rattle.bq_feeds.specs.Visited.{no_source, slot}
 use Rattle.bq_feeds.proofs.Rounds.{told-put}
 use Rattle.bq_feeds.proofs.Rows.{Row, each-put, feeds_of, map-set, map-at, map-kept, set-same}
-use Rattle.bq_feeds.proofs.Around.{Stands, Standing, Around, no_row}
+use Rattle.bq_feeds.proofs.Around.{Stands, Standing, Course, no_row}
 use Rattle.bq_feeds.proofs.Advance.{Here, standing-line, standing-fault}
 use Rattle.bq_feeds.proofs.Grown.{NearEach, Grown, grown, all-grown, of-each-map}
-use Rattle.bq_feeds.proofs.Ends.{Cut, cut, cut-standing, stops-cut, wrote-events, are-events, replied-events, ends-blocked}
+use Rattle.bq_feeds.proofs.Ends.{Cut, cut, cut-standing, stops-cut, wrote-events, ends-blocked}
+use Rattle.bq_feeds.proofs.Held.{Held, held-all, held-still, held-flushed, held-stopped, held-broke}
+use Rattle.bq_feeds.proofs.Pushed.{waits}
+use Rattle.bq_feeds.proofs.Stops.{Stopped}
+use Rattle.bq_feeds.proofs.Told.{at, at-behind, AreTold, AreTold-push, IsTold, are-events, replied-events}
 
 -- as many bytes were taken of the feed of this number as can be counted, and its lines were given in the rounds before
 abbrev FullAt : ℕ → ℕ → ℕ → TakenFeed → Type 0
@@ -65,11 +70,11 @@ length-set (r ∷ rows) zero row = refl
 length-set (r ∷ rows) (suc place) row = ap suc (length-set rows place row)
 
 -- the feed of a place has more bytes than can be counted
-pub ends-full : (s : State) (starts ends : List SourceState) (all : List Lane) (session : SessionValue) (before below below' : SinkState) (held held' : List ℕ) (lines round place : ℕ) (lane : Lane) (source : SourceState)
-    → (i : Around s starts ends all session before below held lines round place) → place < length i.standing.rows → (h : Here s starts ends all session before below held lines round place i) → lane.stage ≡ stage.Open
+pub ends-full : (gates : List (Option Lock)) (s : State) (starts ends : List SourceState) (all : List Lane) (before below below' : SinkState) (held held' : List ℕ) (lines round place : ℕ) (lane : Lane) (source : SourceState)
+    → (i : Course gates s starts ends all before below held lines round place) → place < length i.standing.rows → (h : Here gates s starts ends all before below held lines round place i) → lane.stage ≡ stage.Open
     → Read reads.ByteLimit (slot i.standing.rows place no_row).lane.reader lane.reader (slot i.standing.rows place no_row).now source below below' held held'
-    → RanLater status.ByteLimit s starts (slice_set ends place source) before below'
-ends-full s starts ends all session before below below' held held' lines round place lane source i l h yet-open r =
+    → RanLater status.ByteLimit gates s starts (slice_set ends place source) before below'
+ends-full gates s starts ends all before below below' held held' lines round place lane source i l h yet-open r =
     let z = i.standing in
     let row = slot z.rows place no_row in
     let n = 1 + place in
@@ -108,18 +113,18 @@ ends-full s starts ends all session before below below' held held' lines round p
           round = round;
           place = place;
           full = full-at n round 1 place c.f.taken refl size c.hold;
-          wrote = wrote-events s (i.answered ++ i.pending) (told_in round place (map feed_of c.f.taken)) before below' (events_of-append i.answered i.pending ∙ c.told) i.has.are (held-all s i.answered i.pending before below below' held i.has r.wrote.bytes);
+          wrote = wrote-events gates s (i.answered ++ i.pending) (told_in round place (map feed_of c.f.taken)) before below' (events_of-append i.answered i.pending ∙ c.told) i.has.are (held-all gates s i.answered i.pending before below below' held i.has r.wrote.bytes);
         }),
       );
       later = omega (arith, i.has.later, r.wrote.later.faults);
     }
 
 -- the feed of a place has another line, and the session takes no more
-pub ends-more : (s : State) (starts ends : List SourceState) (all : List Lane) (session : SessionValue) (before below below' : SinkState) (held held' : List ℕ) (lines round place : ℕ) (lane : Lane) (source : SourceState) (long : Bool)
-    → (i : Around s starts ends all session before below held lines round place) → place < length i.standing.rows → (h : Here s starts ends all session before below held lines round place i) → lane.stage ≡ stage.Open
+pub ends-more : (gates : List (Option Lock)) (s : State) (starts ends : List SourceState) (all : List Lane) (before below below' : SinkState) (held held' : List ℕ) (lines round place : ℕ) (lane : Lane) (source : SourceState) (long : Bool)
+    → (i : Course gates s starts ends all before below held lines round place) → place < length i.standing.rows → (h : Here gates s starts ends all before below held lines round place i) → lane.stage ≡ stage.Open
     → lines ≡ 2 ^ 64 - 2 → Read (answer_to long) (slot i.standing.rows place no_row).lane.reader lane.reader (slot i.standing.rows place no_row).now source below below' held held'
-    → RanLater status.ByteLimit s starts (slice_set ends place source) before below'
-ends-more s starts ends all session before below below' held held' lines round place lane source long i l h yet-open many r =
+    → RanLater status.ByteLimit gates s starts (slice_set ends place source) before below'
+ends-more gates s starts ends all before below below' held held' lines round place lane source long i l h yet-open many r =
     let row = slot i.standing.rows place no_row in
     let n = 1 + place in
     let ts = i.answered ++ i.pending in
@@ -142,56 +147,56 @@ ends-more s starts ends all session before below below' held held' lines round p
             near = of-each-map (NearEach (events_of ts) (e ∷ [])) (λ number t. t.stage ≡ stage.Open → IsClose t.text (lines_of number (events_of ts ++ e ∷ [])) t.now.last) 1 c.f.taken
                 (λ number t near yet. near yet [] e [] refl) c.hold;
             answers = answers_of ts;
-            are = are-events s ts i.has.are;
+            are = are-events gates s ts i.has.are;
           };
           number = n;
           text = step.line;
           is_line = refl;
-          many = ap line_count (events_of-append i.answered i.pending) ∙ i.many ∙ many;
-          written = subst (λ t. Appends before.written below'.written t) (replied-events s ts) (held-all s i.answered i.pending before below below' held i.has r.wrote.bytes);
+          many = ap (λ (es : List Event). s.lines + line_count es) (events_of-append i.answered i.pending) ∙ i.many ∙ many;
+          written = subst (λ t. Appends before.written below'.written t) (replied-events gates s ts) (held-all gates s i.answered i.pending before below below' held i.has r.wrote.bytes);
         }),
       );
       later = omega (arith, i.has.later, r.wrote.later.faults);
     }
 
 -- A line of the feed of a place came, which was answered so: where it waits, and what is known of the feeds then.
-record Asked (how : LineOutcome) (s : State) (starts ends : List SourceState) (all : List Lane) (session : SessionValue) (before between below : SinkState) (left held : List ℕ) (name name' round place : ℕ) : Type 0 where
+record Asked (how : LineOutcome) (gates : List (Option Lock)) (s : State) (starts ends : List SourceState) (all : List Lane) (session : SessionValue) (before between below : SinkState) (left held : List ℕ) (name name' round place : ℕ) : Type 0 where
   pub answered : List Told
   pub pending : List Told
-  pub has : Held s answered pending before between left
+  pub has : Held gates s answered pending before between left
   pub text : List ℕ
-  pub does : Answered how (at s (answered ++ pending)) text session (gathered_seen between name left) (gathered_seen below name' held)
+  pub does : Answered how (under gates (1 + place) (at gates s (answered ++ pending))) text session (gathered_seen between name left) (gathered_seen below name' held)
   pub standing : Standing starts ends all (events_of answered) (events_of pending ++ line (1 + place) text ∷ []) round (suc place)
 
-asked : (how : LineOutcome) (s : State) (starts ends : List SourceState) (all : List Lane) (session session' : SessionValue) (before below below' : SinkState) (held held' : List ℕ) (lines round place : ℕ) (lane : Lane) (source : SourceState)
-    → (i : Around s starts ends all session before below held lines round place) → place < length i.standing.rows → (h : Here s starts ends all session before below held lines round place i) → lane.stage ≡ stage.Open
-    → (answer : AnsweredLine how (at s (i.answered ++ i.pending)) (slot i.standing.rows place no_row).lane.reader lane.reader (slot i.standing.rows place no_row).now source session' below below' held held')
-    → Asked how s starts (slice_set ends place source) (slice_set all place lane) session' before answer.between below' answer.left held' answer.name answer.name' round place
-asked how s starts ends all session session' before below below' held held' lines round place lane source i l h yet-open answer =
+asked : (how : LineOutcome) (gates : List (Option Lock)) (s : State) (starts ends : List SourceState) (all : List Lane) (session' : SessionValue) (before below below' : SinkState) (held held' : List ℕ) (lines round place : ℕ) (lane : Lane) (source : SourceState)
+    → (i : Course gates s starts ends all before below held lines round place) → place < length i.standing.rows → (h : Here gates s starts ends all before below held lines round place i) → lane.stage ≡ stage.Open
+    → (answer : AnsweredLine how (under gates (1 + place) (at gates s (i.answered ++ i.pending))) (slot i.standing.rows place no_row).lane.reader lane.reader (slot i.standing.rows place no_row).now source session' below below' held held')
+    → Asked how gates s starts (slice_set ends place source) (slice_set all place lane) session' before answer.between below' answer.left held' answer.name answer.name' round place
+asked how gates s starts ends all session' before below below' held held' lines round place lane source i l h yet-open answer =
     let row = slot i.standing.rows place no_row in
     let n = 1 + place in
-    let w = waits n answer.long s row.source row.now source row.lane.reader lane.reader before below answer.between held answer.left i.answered i.pending i.has h.yet-open.given answer.came in
+    let w = waits gates n answer.long s row.source row.now source row.lane.reader lane.reader before below answer.between held answer.left i.answered i.pending i.has h.yet-open.given answer.came in
     record {
       answered = w.answered;
       pending = w.pending;
       has = w.has;
       text = w.text;
       does = subst (λ u. Answered how u w.text session' (gathered_seen answer.between answer.name answer.left) (gathered_seen below' answer.name' held'))
-          (ap (at s) (sym (moves-all i.answered i.pending w.answered w.pending w.moves))) (answer.answers w.text w.begun);
+          (ap (λ ts. under gates n (at gates s ts)) (sym (moves-all i.answered i.pending w.answered w.pending w.moves))) (answer.answers w.text w.begun);
       standing = standing-line starts ends all i.answered i.pending w.answered w.pending round place lane source w.text i.standing l h.yet-open w.moves yet-open w.given;
     }
 
 -- the sink failed in the reply to a line, or in an earlier text that was held
-ends-reply : (s : State) (starts ends : List SourceState) (all : List Lane) (session session' : SessionValue) (before below below' : SinkState) (held held' : List ℕ) (lines round place : ℕ) (lane : Lane) (source : SourceState)
-    → (i : Around s starts ends all session before below held lines round place) → place < length i.standing.rows → (h : Here s starts ends all session before below held lines round place i) → lane.stage ≡ stage.Open
-    → AnsweredLine outcome.WriteFault (at s (i.answered ++ i.pending)) (slot i.standing.rows place no_row).lane.reader lane.reader (slot i.standing.rows place no_row).now source session' below below' held held'
-    → RanLater status.WriteFault s starts (slice_set ends place source) before below'
-ends-reply s starts ends all session session' before below below' held held' lines round place lane source i l h yet-open answer =
-    let a = asked outcome.WriteFault s starts ends all session session' before below below' held held' lines round place lane source i l h yet-open answer in
+ends-reply : (gates : List (Option Lock)) (s : State) (starts ends : List SourceState) (all : List Lane) (session' : SessionValue) (before below below' : SinkState) (held held' : List ℕ) (lines round place : ℕ) (lane : Lane) (source : SourceState)
+    → (i : Course gates s starts ends all before below held lines round place) → place < length i.standing.rows → (h : Here gates s starts ends all before below held lines round place i) → lane.stage ≡ stage.Open
+    → AnsweredLine outcome.WriteFault (under gates (1 + place) (at gates s (i.answered ++ i.pending))) (slot i.standing.rows place no_row).lane.reader lane.reader (slot i.standing.rows place no_row).now source session' below below' held held'
+    → RanLater status.WriteFault gates s starts (slice_set ends place source) before below'
+ends-reply gates s starts ends all session' before below below' held held' lines round place lane source i l h yet-open answer =
+    let a = asked outcome.WriteFault gates s starts ends all session' before below below' held held' lines round place lane source i l h yet-open answer in
     let n = 1 + place in
     let broke = a.does.does.reply in
     let t = told.line n a.text a.does.does.answer in
-    let is-told : IsTold (at s (a.answered ++ a.pending)) t = record { request = a.does.request; asks = a.does.asks; settles = a.does.does.settles } in
+    let is-told : IsTold gates (at gates s (a.answered ++ a.pending)) t = record { request = a.does.request; asks = a.does.asks; settles = a.does.does.settles } in
     let pushed = a.pending ++ t ∷ [] in
     let A = events_of a.answered in
     let c = subst (λ es. Cut (NearEach A es) starts (slice_set ends place source) (A ++ es) round (suc place)) (sym (events_of-append a.pending (t ∷ [])) ∙ sym (append-nil (events_of pushed)))
@@ -200,84 +205,84 @@ ends-reply s starts ends all session session' before below below' held held' lin
       ends = (
         Rose-earlier _ _ _ a.has.later broke.rose,
         c.f,
-        IfSome-map before.written (λ _. Stopped s a.answered pushed before below') (λ _. StopsAtEvent s c.f before below')
-            (λ _ q. stops-cut s starts (slice_set ends place source) before below' round (suc place) a.answered pushed [] c
-            (subst (AreTold s) (append_assoc a.answered a.pending (t ∷ [])) (AreTold-push s (a.answered ++ a.pending) t a.has.are is-told)) q)
-            (held-broke s a.answered a.pending before answer.between below' answer.left held' answer.name answer.name' t a.has broke),
+        IfSome-map before.written (λ _. Stopped gates s a.answered pushed before below') (λ _. StopsAtEvent gates s c.f before below')
+            (λ _ q. stops-cut gates s starts (slice_set ends place source) before below' round (suc place) a.answered pushed [] c
+            (subst (AreTold gates s) (append_assoc a.answered a.pending (t ∷ [])) (AreTold-push gates s (a.answered ++ a.pending) t a.has.are is-told)) q)
+            (held-broke gates s a.answered a.pending before answer.between below' answer.left held' answer.name answer.name' t a.has broke),
       );
       later = omega (arith, a.has.later, broke.wrote.later.faults);
     }
 
 -- no memory was found for a line, and the sink failed in an earlier text that was held
-ends-behind : (s : State) (starts ends : List SourceState) (all : List Lane) (session session' : SessionValue) (before below below' below'' : SinkState) (held held' kept : List ℕ) (lines round place : ℕ) (lane : Lane) (source : SourceState)
-    → (i : Around s starts ends all session before below held lines round place) → place < length i.standing.rows → (h : Here s starts ends all session before below held lines round place i) → lane.stage ≡ stage.Open
-    → AnsweredLine outcome.Memory (at s (i.answered ++ i.pending)) (slot i.standing.rows place no_row).lane.reader lane.reader (slot i.standing.rows place no_row).now source session' below below' held held'
-    → StaysHeld below' below'' held' kept → RanLater status.WriteFault s starts (slice_set ends place source) before below''
-ends-behind s starts ends all session session' before below below' below'' held held' kept lines round place lane source i l h yet-open answer stays =
-    let a = asked outcome.Memory s starts ends all session session' before below below' held held' lines round place lane source i l h yet-open answer in
+ends-behind : (gates : List (Option Lock)) (s : State) (starts ends : List SourceState) (all : List Lane) (session' : SessionValue) (before below below' below'' : SinkState) (held held' kept : List ℕ) (lines round place : ℕ) (lane : Lane) (source : SourceState)
+    → (i : Course gates s starts ends all before below held lines round place) → place < length i.standing.rows → (h : Here gates s starts ends all before below held lines round place i) → lane.stage ≡ stage.Open
+    → AnsweredLine outcome.Memory (under gates (1 + place) (at gates s (i.answered ++ i.pending))) (slot i.standing.rows place no_row).lane.reader lane.reader (slot i.standing.rows place no_row).now source session' below below' held held'
+    → StaysHeld below' below'' held' kept → RanLater status.WriteFault gates s starts (slice_set ends place source) before below''
+ends-behind gates s starts ends all session' before below below' below'' held held' kept lines round place lane source i l h yet-open answer stays =
+    let a = asked outcome.Memory gates s starts ends all session' before below below' held held' lines round place lane source i l h yet-open answer in
     let n = 1 + place in
-    let still = held-still s a.answered a.pending before answer.between below' answer.left held' answer.name answer.name' a.has a.does.does.2 in
+    let still = held-still gates s a.answered a.pending before answer.between below' answer.left held' answer.name answer.name' a.has a.does.does.2 in
     let c = cut-standing starts (slice_set ends place source) (slice_set all place lane) (events_of a.answered) (events_of a.pending ++ line n a.text ∷ []) round (suc place) a.standing in
     record {
       ends = (
         Rose-earlier _ _ _ still.later stays.rose,
         c.f,
-        IfSome-map before.written (λ _. Stopped s a.answered a.pending before below'') (λ _. StopsAtEvent s c.f before below'')
-            (λ _ q. stops-cut s starts (slice_set ends place source) before below'' round (suc place) a.answered a.pending (line n a.text ∷ []) c a.has.are q)
-            (held-stopped s a.answered a.pending before below' below'' held' kept still stays),
+        IfSome-map before.written (λ _. Stopped gates s a.answered a.pending before below'') (λ _. StopsAtEvent gates s c.f before below'')
+            (λ _ q. stops-cut gates s starts (slice_set ends place source) before below'' round (suc place) a.answered a.pending (line n a.text ∷ []) c a.has.are q)
+            (held-stopped gates s a.answered a.pending before below' below'' held' kept still stays),
       );
       later = omega (arith, still.later, stays.wrote.later.faults);
     }
 
 -- the sink failed in the turn of a feed
-pub ends-stopped : (s : State) (starts ends : List SourceState) (all : List Lane) (session session' : SessionValue) (before below below' : SinkState) (held held' : List ℕ) (lines round place : ℕ) (lane : Lane) (source : SourceState)
-    → (i : Around s starts ends all session before below held lines round place) → place < length i.standing.rows → (h : Here s starts ends all session before below held lines round place i) → lane.stage ≡ stage.Open
-    → SinkFailed (at s (i.answered ++ i.pending)) (slot i.standing.rows place no_row).lane.reader lane.reader (slot i.standing.rows place no_row).now source session session' below below' held held'
-    → RanLater status.WriteFault s starts (slice_set ends place source) before below'
-ends-stopped s starts ends all session session' before below below' held held' lines round place lane source i l h yet-open (ahead r same) =
-    subst (λ (ns : List SourceState). RanLater status.WriteFault s starts ns before below') (sym (ap (slice_set ends place) (r.left ∙ sym h.now) ∙ set-same ends place no_source))
-    (ends-blocked s starts ends all session before below below' held held' lines round place i r.stays)
-ends-stopped s starts ends all session session' before below below' held held' lines round place lane source i l h yet-open (reply answer) =
-    ends-reply s starts ends all session session' before below below' held held' lines round place lane source i l h yet-open answer
-ends-stopped s starts ends all session session' before below below' held held' lines round place lane source i l h yet-open (behind m) =
-    ends-behind s starts ends all session session' before below m.sink below' held m.full held' lines round place lane source i l h yet-open m.lacks m.flushes
+pub ends-stopped : (gates : List (Option Lock)) (s : State) (starts ends : List SourceState) (all : List Lane) (session session' : SessionValue) (before below below' : SinkState) (held held' : List ℕ) (lines round place : ℕ) (lane : Lane) (source : SourceState)
+    → (i : Course gates s starts ends all before below held lines round place) → place < length i.standing.rows → (h : Here gates s starts ends all before below held lines round place i) → lane.stage ≡ stage.Open
+    → SinkFailed (under gates (1 + place) (at gates s (i.answered ++ i.pending))) (slot i.standing.rows place no_row).lane.reader lane.reader (slot i.standing.rows place no_row).now source session session' below below' held held'
+    → RanLater status.WriteFault gates s starts (slice_set ends place source) before below'
+ends-stopped gates s starts ends all session session' before below below' held held' lines round place lane source i l h yet-open (ahead r same) =
+    subst (λ (ns : List SourceState). RanLater status.WriteFault gates s starts ns before below') (sym (ap (slice_set ends place) (r.left ∙ sym h.now) ∙ set-same ends place no_source))
+    (ends-blocked gates s starts ends all before below below' held held' lines round place i r.stays)
+ends-stopped gates s starts ends all session session' before below below' held held' lines round place lane source i l h yet-open (reply answer) =
+    ends-reply gates s starts ends all session' before below below' held held' lines round place lane source i l h yet-open answer
+ends-stopped gates s starts ends all session session' before below below' held held' lines round place lane source i l h yet-open (behind m) =
+    ends-behind gates s starts ends all session' before below m.sink below' held m.full held' lines round place lane source i l h yet-open m.lacks m.flushes
 
 -- the sink failed in the line of a fault, or in an earlier text that was held
-pub ends-untold : (s : State) (starts ends : List SourceState) (all : List Lane) (session : SessionValue) (before below below' : SinkState) (held held' : List ℕ) (lines round place : ℕ) (lane : Lane) (source : SourceState)
-    → (i : Around s starts ends all session before below held lines round place) → place < length i.standing.rows → (h : Here s starts ends all session before below held lines round place i) → lane.stage ≡ stage.Failed
+pub ends-untold : (gates : List (Option Lock)) (s : State) (starts ends : List SourceState) (all : List Lane) (before below below' : SinkState) (held held' : List ℕ) (lines round place : ℕ) (lane : Lane) (source : SourceState)
+    → (i : Course gates s starts ends all before below held lines round place) → place < length i.standing.rows → (h : Here gates s starts ends all before below held lines round place i) → lane.stage ≡ stage.Failed
     → FaultMet (1 + place) (slot i.standing.rows place no_row).lane.reader lane.reader (slot i.standing.rows place no_row).now source below below' held held' BrokeOff
-    → RanLater status.WriteFault s starts (slice_set ends place source) before below'
-ends-untold s starts ends all session before below below' held held' lines round place lane source i l h failed f =
+    → RanLater status.WriteFault gates s starts (slice_set ends place source) before below'
+ends-untold gates s starts ends all before below below' held held' lines round place lane source i l h failed f =
     let n = 1 + place in
     let r = f.met in
     let sunk = i.answered ++ i.pending in
     let t = told.fault n in
-    let flushed = held-flushed s i.answered i.pending before below f.between held f.left i.has r.wrote r.none in
+    let flushed = held-flushed gates s i.answered i.pending before below f.between held f.left i.has r.wrote r.none in
     let z = standing-fault starts ends all i.answered i.pending round place lane source i.standing l h.yet-open failed r.next in
     let c = cut-standing starts (slice_set ends place source) (slice_set all place lane) (events_of sunk) (fault n ∷ []) round (suc place) z in
-    let are : AreTold s (sunk ++ t ∷ []) = AreTold-push s sunk t i.has.are tt in
+    let are : AreTold gates s (sunk ++ t ∷ []) = AreTold-push gates s sunk t i.has.are tt in
     record {
       ends = (
         Rose-earlier _ _ _ flushed.later f.told.rose,
         c.f,
-        IfSome-map before.written (λ _. Stopped s sunk (t ∷ []) before below') (λ _. StopsAtEvent s c.f before below')
-            (λ _ q. stops-cut s starts (slice_set ends place source) before below' round (suc place) sunk (t ∷ []) [] c are q)
-            (held-broke s sunk [] before f.between below' f.left held' f.name f.name' t flushed f.told),
+        IfSome-map before.written (λ _. Stopped gates s sunk (t ∷ []) before below') (λ _. StopsAtEvent gates s c.f before below')
+            (λ _ q. stops-cut gates s starts (slice_set ends place source) before below' round (suc place) sunk (t ∷ []) [] c are q)
+            (held-broke gates s sunk [] before f.between below' f.left held' f.name f.name' t flushed f.told),
       );
       later = omega (arith, flushed.later, f.told.wrote.later.faults);
     }
 
 -- no memory was found for a line, and all that was held was written
-pub ends-memory : (s : State) (starts ends : List SourceState) (all : List Lane) (session session' : SessionValue) (before below below'' : SinkState) (held : List ℕ) (lines round place : ℕ) (lane : Lane) (source : SourceState)
-    → (i : Around s starts ends all session before below held lines round place) → place < length i.standing.rows → (h : Here s starts ends all session before below held lines round place i) → lane.stage ≡ stage.Open
-    → LacksMemory (at s (i.answered ++ i.pending)) (slot i.standing.rows place no_row).lane.reader lane.reader (slot i.standing.rows place no_row).now source session' below held (λ lower full. Wrote lower below'' full)
-    → RanLater status.Memory s starts (slice_set ends place source) before below''
-ends-memory s starts ends all session session' before below below'' held lines round place lane source i l h yet-open m =
+pub ends-memory : (gates : List (Option Lock)) (s : State) (starts ends : List SourceState) (all : List Lane) (session' : SessionValue) (before below below'' : SinkState) (held : List ℕ) (lines round place : ℕ) (lane : Lane) (source : SourceState)
+    → (i : Course gates s starts ends all before below held lines round place) → place < length i.standing.rows → (h : Here gates s starts ends all before below held lines round place i) → lane.stage ≡ stage.Open
+    → LacksMemory (under gates (1 + place) (at gates s (i.answered ++ i.pending))) (slot i.standing.rows place no_row).lane.reader lane.reader (slot i.standing.rows place no_row).now source session' below held (λ lower full. Wrote lower below'' full)
+    → RanLater status.Memory gates s starts (slice_set ends place source) before below''
+ends-memory gates s starts ends all session' before below below'' held lines round place lane source i l h yet-open m =
     let answer = m.lacks in
-    let a = asked outcome.Memory s starts ends all session session' before below m.sink held m.full lines round place lane source i l h yet-open answer in
+    let a = asked outcome.Memory gates s starts ends all session' before below m.sink held m.full lines round place lane source i l h yet-open answer in
     let n = 1 + place in
     let ends' = slice_set ends place source in
-    let still = held-still s a.answered a.pending before answer.between m.sink answer.left m.full answer.name answer.name' a.has a.does.does.2 in
+    let still = held-still gates s a.answered a.pending before answer.between m.sink answer.left m.full answer.name answer.name' a.has a.does.does.2 in
     let ts = a.answered ++ a.pending in
     let e = line n a.text in
     let A = events_of a.answered in
@@ -296,15 +301,15 @@ ends-memory s starts ends all session session' before below below'' held lines r
             near = of-each-map (NearEach A (P ++ e ∷ [])) (λ number t. t.stage ≡ stage.Open → IsClose t.text (lines_of number (events_of ts ++ e ∷ [])) t.now.last) 1 c.f.taken
                 (λ number t near yet. subst (λ es. IsClose t.text (lines_of number es) t.now.last) joined (near yet P e [] refl)) c.hold;
             answers = answers_of ts;
-            are = are-events s ts a.has.are;
+            are = are-events gates s ts a.has.are;
           };
           number = n;
           text = a.text;
           is_line = refl;
           request = a.does.request;
-          asks = subst (λ u. IsRequest u a.text a.does.request) (at-after s ts) a.does.asks;
+          asks = subst (λ u. IsRequest (under gates n u) a.text a.does.request) (at-behind gates s ts) a.does.asks;
           creates = a.does.does.0;
-          written = subst (λ r. Appends before.written below''.written r) (replied-events s ts) (held-all s a.answered a.pending before m.sink below'' m.full still m.flushes.bytes);
+          written = subst (λ r. Appends before.written below''.written r) (replied-events gates s ts) (held-all gates s a.answered a.pending before m.sink below'' m.full still m.flushes.bytes);
         },
       );
       later = omega (arith, still.later, m.flushes.later.faults);

@@ -1,5 +1,5 @@
 -- What was taken of the feeds of a call, and what was written over them.
-use Rattle.std.specs.Prelude.{◌≡◌, ◌⊎◌, ℕ, ◌+◌, ◌-◌, ◌^◌, ◌<◌, ◌≤◌, ⊤, IfSome, IsTrue, List, [], ◌∷◌, ◌++◌, map, length, take}
+use Rattle.std.specs.Prelude.{Option, ◌≡◌, ◌⊎◌, ℕ, ◌+◌, ◌-◌, ◌^◌, ◌<◌, ◌≤◌, ⊤, IfSome, IsTrue, List, [], ◌∷◌, ◌++◌, map, length, take}
 use Rattle.std.specs.List.{flat_map, range_with_len}
 use Rattle.std.specs.Io.KnownBytes.{Consumes, Appends}
 use Rattle.bq_io.specs.Counts.{Rose}
@@ -12,14 +12,16 @@ use Rattle.bq_session.specs.Answers.{IsAnswer}
 use Rattle.bq_session.specs.Request.{Request}
 use Rattle.bq_session.specs.Requests.{IsRequest}
 use Rattle.bq_session.specs.Session.{creates}
-use Rattle.bq_session.specs.State.{State, after}
+use Rattle.bq_session.specs.Lock.{Lock}
+use Rattle.bq_session.specs.State.{State}
 use Rattle.bq_session.specs.Replies.{reply_to}
 use Rattle.bq_session.specs.Events.{Event, line, fault, fault_text, lines_of, IsClose}
 use Rattle.bq_feeds.specs.declared.stage.Stage.{Stage}
 use Rattle.bq_feeds.specs.declared.stage.Stage.TheVariants.{Open, Ended, Failed}
 use Rattle.bq_feeds.specs.Lanes.{is_failed}
 use Rattle.bq_feeds.specs.Turns.{Feed, round_of, turns}
-use Rattle.bq_feeds.specs.FeedsText.{AreEvents, event_replies, AreEventReplies}
+use Rattle.bq_feeds.specs.Gates.{under}
+use Rattle.bq_feeds.specs.FeedsText.{AreEvents, event_replies, state_behind, AreEventReplies}
 
 -- A feed of a call: its source before and after the call, how far it is, the bytes that were taken from it, and its lines.
 pub record TakenFeed : Type 0 where
@@ -66,46 +68,46 @@ abbrev pub feeds_of : {sources nows : List SourceState} → FeedsTaken sources n
 feeds_of f = map feed_of f.taken
 
 -- what belongs to these events was written, from a state on
-pub record WroteEvents (s : State) (events : List Event) (before now : SinkState) : Type 0 where
+pub record WroteEvents (gates : List (Option Lock)) (s : State) (events : List Event) (before now : SinkState) : Type 0 where
   pub text : List ℕ
-  pub is_text : AreEventReplies s events text
+  pub is_text : AreEventReplies gates s events text
   pub written : Appends before.written now.written text
 
 -- One event of the turns, and what those before it came to. Of each feed that has not ended little was taken beyond its lines up to that
 -- event.
-pub record AtEvent {sources nows : List SourceState} (s : State) (f : FeedsTaken sources nows) : Type 0 where
+pub record AtEvent {sources nows : List SourceState} (gates : List (Option Lock)) (s : State) (f : FeedsTaken sources nows) : Type 0 where
   pub told : List Event
   pub event : Event
   pub others : List Event
   pub whole : turns (feeds_of f) ≡ told ++ event ∷ others
   pub near : OfEach (λ number t. t.stage ≡ Open → IsClose t.text (lines_of number (told ++ event ∷ [])) t.now.last) 1 f.taken
   pub answers : List Answer
-  pub are : AreEvents s told answers
+  pub are : AreEvents gates s told answers
 
 -- the text of an event in a state: the reply to its line, or the line of its fault
-abbrev pub IsEventText : State → Event → List ℕ → Type 0
-IsEventText s (line number text) reply = (answer : Answer) × IsAnswer s text answer × (reply ≡ reply_to s answer)
-IsEventText s (fault number) reply = reply ≡ fault_text number
+abbrev pub IsEventText : List (Option Lock) → State → Event → List ℕ → Type 0
+IsEventText gates s (line number text) reply = (answer : Answer) × IsAnswer (under gates number s) text answer × (reply ≡ reply_to (under gates number s) answer)
+IsEventText gates s (fault number) reply = reply ≡ fault_text number
 
 -- The texts of the events before one event were written, and a front of its text.
-pub record StopsAtEvent {sources nows : List SourceState} (s : State) (f : FeedsTaken sources nows) (before now : SinkState) : Type 0 where
-  pub at_event : AtEvent s f
+pub record StopsAtEvent {sources nows : List SourceState} (gates : List (Option Lock)) (s : State) (f : FeedsTaken sources nows) (before now : SinkState) : Type 0 where
+  pub at_event : AtEvent gates s f
   pub front : List ℕ
   pub rest : List ℕ
-  pub part : IsEventText (after s at_event.answers) at_event.event (front ++ rest)
-  pub written : Appends before.written now.written (event_replies s at_event.told at_event.answers ++ front)
+  pub part : IsEventText gates (state_behind gates s at_event.told at_event.answers) at_event.event (front ++ rest)
+  pub written : Appends before.written now.written (event_replies gates s at_event.told at_event.answers ++ front)
 
 -- The texts of the events before one event were written, and nothing else. That event is a line that asks for a stream or a query, and no
 -- word refuses it; no memory was found for it.
-pub record StopsAtCreate {sources nows : List SourceState} (s : State) (f : FeedsTaken sources nows) (before now : SinkState) : Type 0 where
-  pub at_event : AtEvent s f
+pub record StopsAtCreate {sources nows : List SourceState} (gates : List (Option Lock)) (s : State) (f : FeedsTaken sources nows) (before now : SinkState) : Type 0 where
+  pub at_event : AtEvent gates s f
   pub number : ℕ
   pub text : List ℕ
   pub is_line : at_event.event ≡ line number text
   pub request : Request
-  pub asks : IsRequest (after s at_event.answers) text request
+  pub asks : IsRequest (under gates number (state_behind gates s at_event.told at_event.answers)) text request
   pub creates : IsTrue (creates request)
-  pub written : Appends before.written now.written (event_replies s at_event.told at_event.answers)
+  pub written : Appends before.written now.written (event_replies gates s at_event.told at_event.answers)
 
 -- the events before the turn of the feed of this place, from 0, in a round
 abbrev pub told_in : ℕ → ℕ → List Feed → List Event

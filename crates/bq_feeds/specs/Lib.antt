@@ -1,7 +1,9 @@
 pub mod FeedsEnd
 pub mod FeedsText
+pub mod Gates
 pub mod Lanes
 pub mod Laws
+pub mod FeedWord
 pub mod FeedsRead
 pub mod Turns
 pub mod Visited

@@ -1,8 +1,10 @@
 //! How far a feed is.
-ghost use Rattle.std.specs.Prelude.{◌≡◌};
+ghost use Rattle.std.specs.Prelude.{◌≡◌, replicate, IfOk};
 ghost use Rattle.bq_feeds.specs.Lanes.{is_open, is_failed};
+ghost use Rattle.bq_feeds.specs.Visited.{new_lane};
 
 use bq_feed::LineReader;
+use std::alloc::{AllocError, Global};
 
 /// How far a feed is.
 #[derive(Clone, Copy, Debug, PartialEq, Eq)]
@@ -44,4 +46,21 @@ impl Stage {
             Stage::Failed => true,
         }
     }
+}
+
+/// Returns lanes of so many feeds, of which nothing was taken.
+pub fn open_lanes(alloc: Global, count: usize) -> Result<Vec<Lane>, AllocError>
+    ensures { IfOk result (λ lanes. lanes.items ≡ replicate count new_lane) }
+{
+    let mut lanes = Vec::new(alloc);
+    for _ in 0..count {
+        let lane = Lane {
+            reader: LineReader::new(alloc)?,
+            stage: Stage::Open,
+        };
+        if lanes.push(lane).is_err() {
+            return Err(AllocError);
+        }
+    }
+    Ok(lanes)
 }

@@ -1,5 +1,5 @@
 //! The turns of feeds, each answered before the next one.
-ghost use Rattle.std.specs.Prelude.{◌≡◌, ◌≢◌, ℕ, ◌+◌, ◌<◌, ◌≤◌, ◌-◌, ◌^◌, [], true, false, length, map, nat_lt, replicate};
+ghost use Rattle.std.specs.Prelude.{◌≡◌, ◌≢◌, ℕ, suc, ◌+◌, ◌<◌, ◌≤◌, ◌-◌, ◌^◌, [], true, false, length, map, nat_lt, replicate};
 ghost use Rattle.std.specs.List.{list_any};
 ghost use Rattle.bq_io.specs.Sink.{Writes};
 ghost use Rattle.bq_io.specs.Source.{SourceState};
@@ -11,12 +11,13 @@ ghost use Rattle.bq_session.specs.Run.{HasState};
 ghost use Rattle.bq_feeds.specs.Lanes.{is_open, is_failed, Looked, TurnedWith, LaneTurned};
 ghost use Rattle.bq_feeds.specs.Visited.{new_lane, status_after, lines_after, slot, FeedTurned, Visited, Finished};
 ghost use Rattle.bq_feeds.specs.FeedsEnd.{RanLater};
+ghost use Rattle.bq_feeds.specs.Gates.{gate, under};
 
 use crate::stage::{Lane, Stage};
 use bq_feed::{LineAnswer, LineReader};
 use bq_io::{Gathered, Sink, Source, Status, WriteFault, write_pieces};
 use bq_pool::Steps;
-use bq_session::{Session, Turn, take_turn};
+use bq_session::{Lock, OpenStreams, Session, Turn, take_turn};
 use itoa::Buffer;
 use std::sync::ledger::Ledger;
 
@@ -219,6 +220,36 @@ fn visit<I: Source, O: Sink, L: Ledger>(
     status_after(turn)
 }
 
+// The same lock, or none.
+fn copied(lock: &Option<Lock>) -> Option<Lock>
+    ensures { result ≡ lock.now }
+{
+    match lock {
+        Some(lock) => Some(lock.copied()),
+        None => None,
+    }
+}
+
+// The lock of the feed of a place, from 0; where there is none, one that lets no row.
+fn gate_at(gates: &[Option<Lock>], place: usize) -> Option<Lock>
+    ensures { result ≡ gate gates.now (suc place) }
+{
+    match gates.get(place) {
+        Some(lock) => copied(lock),
+        None => Some(Lock::narrowed(&None, &OpenStreams::none())),
+    }
+}
+
+// Puts the lock of the feed of a place, from 0, into the session, where feeds have locks.
+fn set_gate(gates: &[Option<Lock>], place: usize, session: &mut Session)
+    ensures { (s : State) → StandsFor session.old s → StandsFor session.new (under gates.now (place + 1) s) }
+{
+    if gates.is_empty() {
+        return;
+    }
+    session.set_lock(gate_at(gates, place));
+}
+
 // Whether some feed has not ended.
 fn any_open(lanes: &[Lane]) -> bool
     ensures { result ≡ list_any (λ lane. is_open lane.stage) lanes.now }
@@ -250,11 +281,12 @@ fn finish<O: Sink>(lanes: &[Lane], output: &mut Gathered<'_, O>) -> Status
     }
 }
 
-/// Lets feeds take turns in a session until all of them have ended, or the session can not go on. A session takes fewer lines than
-/// there are rounds.
+/// Lets feeds take turns in a session until all of them have ended, or the session can not go on, each line under the lock of its feed, where
+/// feeds have locks. A session takes fewer lines than there are rounds.
 pub fn take_turns<I: Source, O: Sink, L: Ledger>(
     lanes: &mut [Lane],
     feeds: &mut [I],
+    gates: &[Option<Lock>],
     session: &mut Session,
     output: &mut Gathered<'_, O>,
     steps: &mut Steps<L>,
@@ -262,18 +294,19 @@ pub fn take_turns<I: Source, O: Sink, L: Ledger>(
     requires new { lanes.old ≡ replicate (length feeds.old) new_lane }
     requires few { length feeds.old ≤ 8 }
     requires stands { HasState session.old }
-    requires lines { session.old.lines ≡ 0 }
+    requires room { session.old.lines ≤ 2 ^ 64 - 2 }
     requires held { output.old.held.items ≡ [] }
     ensures ran { (s : State) → StandsFor session.old s
-        → RanLater result s (map I.seen feeds.old) (map I.seen feeds.new) (O.seen output.old.sink.now) (O.seen output.new.sink.now) }
+        → RanLater result gates.now s (map I.seen feeds.old) (map I.seen feeds.new) (O.seen output.old.sink.now) (O.seen output.new.sink.now) }
     ensures same_reference { output.new.sink.ghost_name ≡ output.old.sink.ghost_name }
 {
-    let mut lines = 0;
+    let mut lines = session.lines();
     'rounds: for round in 0..u64::MAX {
         if !any_open(lanes) {
             return finish(lanes, output);
         }
         'visits: for place in 0..lanes.len() {
+            set_gate(gates, place, session);
             match visit(place, lanes, feeds, session, output, steps, &mut lines) {
                 None => {}
                 Some(status) => return status,

@@ -57,7 +57,13 @@ fn comments_are_answered_with_nothing(rt: HostRuntime) -> Result<(), Fail> {
         last: 0,
     };
     let mut output = MemSink::new(rt.alloc(), 4096, &[])?;
-    let status = bq_top::run(rt.alloc(), &words, &mut input, &mut output);
+    let status = bq_top::run::<_, SureSource, _>(
+        rt.alloc(),
+        &words,
+        &mut input,
+        &mut [],
+        &mut output,
+    ).status;
     assert_eq!(rt; status, Status::Done);
     assert_eq!(rt; output.bytes(), replies.as_slice());
     Ok(())

@@ -158,7 +158,13 @@ fn family_text(alloc: Global, case: Case) -> Result<(Status, MemSink), AllocErro
     words.push(String::from_str(alloc, "3")?)?;
     let mut input = SureSource::new(alloc, script_of(case))?;
     let mut output = MemSink::new(alloc, 4096, &[])?;
-    let status = bq_top::run(alloc, &words, &mut input, &mut output);
+    let status = bq_top::run::<_, SureSource, _>(
+        alloc,
+        &words,
+        &mut input,
+        &mut [],
+        &mut output,
+    ).status;
     Ok((status, output))
 }
 

@@ -50,7 +50,7 @@ fn feeds_over(alloc: Global, names: usize, given: Feeds) -> Result<(Status, MemS
     feeds.push(MemSource::new(alloc, &first, 7, given.first_fails)?)?;
     feeds.push(MemSource::new(alloc, given.second, 7, given.second_fails)?)?;
     let mut output = MemSink::new(alloc, given.most, given.write_fails)?;
-    let status = bq_feeds::run_feeds(alloc, &words, &mut feeds, &mut output);
+    let status = bq_feeds::run_feeds(alloc, &words, &mut feeds, &mut output).status;
     Ok((status, output))
 }
 

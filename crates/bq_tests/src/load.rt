@@ -20,7 +20,13 @@ fn load_over(
     let words = load_words(alloc, number)?;
     let mut input = MemSource::new(alloc, b"CREATE STREAM S (a)", 1, &[1, 2, 3, 4])?;
     let mut output = MemSink::new(alloc, 16, write_fails)?;
-    let status = bq_top::run(alloc, &words, &mut input, &mut output);
+    let status = bq_top::run::<_, MemSource, _>(
+        alloc,
+        &words,
+        &mut input,
+        &mut [],
+        &mut output,
+    ).status;
     Ok((status, output))
 }
 

@@ -187,7 +187,13 @@ fn each_row_has_the_answers_of_the_plain_evaluators(rt: HostRuntime) -> Result<(
     let words = words(rt.alloc(), "run")?;
     let mut input = SureSource::new(rt.alloc(), text.as_slice())?;
     let mut output = MemSink::new(rt.alloc(), 4096, &[])?;
-    let status = bq_top::run(rt.alloc(), &words, &mut input, &mut output);
+    let status = bq_top::run::<_, SureSource, _>(
+        rt.alloc(),
+        &words,
+        &mut input,
+        &mut [],
+        &mut output,
+    ).status;
     assert_eq!(rt; status, Status::Done);
     assert_eq!(rt; output.bytes(), wanted.as_slice());
     assert_eq!(rt; wanted.iter().filter(|b| **b == b'\n').count(), 212);

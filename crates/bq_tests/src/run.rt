@@ -44,7 +44,13 @@ pub fn command_over(
     let words = words(alloc, word)?;
     let mut input = MemSource::new(alloc, script, edges.piece, edges.read_fails)?;
     let mut output = MemSink::new(alloc, edges.most, edges.write_fails)?;
-    let status = bq_top::run(alloc, &words, &mut input, &mut output);
+    let status = bq_top::run::<_, MemSource, _>(
+        alloc,
+        &words,
+        &mut input,
+        &mut [],
+        &mut output,
+    ).status;
     Ok((status, output))
 }
 

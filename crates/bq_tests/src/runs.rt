@@ -88,7 +88,13 @@ fn other_words_are_wrong_usage(rt: HostRuntime) -> Result<(), Fail> {
         let words = words(rt.alloc(), word)?;
         let mut input = SureSource::new(rt.alloc(), SCRIPT)?;
         let mut output = MemSink::new(rt.alloc(), 1, &[])?;
-        let status = bq_top::run(rt.alloc(), &words, &mut input, &mut output);
+        let status = bq_top::run::<_, SureSource, _>(
+            rt.alloc(),
+            &words,
+            &mut input,
+            &mut [],
+            &mut output,
+        ).status;
         assert_eq!(rt; status, Status::Usage);
         assert_eq!(rt; status.number(), 2);
         assert_eq!(rt; output.bytes(), b"".as_slice());

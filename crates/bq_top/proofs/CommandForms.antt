@@ -7,18 +7,19 @@ use Rattle.bq_top.specs.declared.command.Command.TheVariants.{Run, Load, Lower, 
 use Rattle.bq_top.specs.Words.{AreRun}
 use Rattle.bq_top.specs.LoadWords.{AreLoad}
 use Rattle.bq_top.specs.LowerWords.{AreLower}
-use Rattle.bq_top.specs.CertificateWords.{AreCertify, AreCheck, AreAdvise, ScriptCommand}
+use Rattle.bq_top.specs.CertificateWords.{AreNoScript, ScriptCommand}
+use Rattle.bq_top.specs.declared.words.RunForm.{RunForm}
 use Rattle.bq_top.specs.HelpWords.{AreHelp, AreVersion, HelpCommand}
 use Rattle.bq_top.specs.Commands.{Asks, IsAllowed}
 
 -- the words are none of the forms
-no_command : (words : List (String Global)) → ((n : ℕ) → AreRun words n → ⊥) → ((n : ℕ) → AreLoad words n → ⊥) → ((n : ℕ) → AreLower words n → ⊥) → (¬ AreCertify words) × (¬ AreCheck words) × (¬ AreAdvise words) → (¬ AreHelp words) × (¬ AreVersion words) → (command : Command) → Asks words command → ⊥
+no_command : (words : List (String Global)) → ((form : RunForm) → AreRun words form → ⊥) → ((n : ℕ) → AreLoad words n → ⊥) → ((n : ℕ) → AreLower words n → ⊥) → AreNoScript words → (¬ AreHelp words) × (¬ AreVersion words) → (command : Command) → Asks words command → ⊥
 no_command words no_run no_load no_lower other none (Run n) asks = no_run n asks
 no_command words no_run no_load no_lower other none (Load n) asks = no_load n asks
 no_command words no_run no_load no_lower other none (Lower n) asks = no_lower n asks
 no_command words no_run no_load no_lower other none Certify asks = other.0 asks
 no_command words no_run no_load no_lower other none Check asks = other.1 asks
-no_command words no_run no_load no_lower other none Advise asks = other.2 asks
+no_command words no_run no_load no_lower other none (Advise file) asks = other.2 file asks
 no_command words no_run no_load no_lower other none Help asks = none.0 asks
 no_command words no_run no_load no_lower other none Version asks = none.1 asks
 
@@ -29,7 +30,7 @@ asked_script words (Load n) h = absurd h
 asked_script words (Lower n) h = absurd h
 asked_script words Certify h = h
 asked_script words Check h = h
-asked_script words Advise h = h
+asked_script words (Advise file) h = h
 asked_script words Help h = absurd h
 asked_script words Version h = absurd h
 
@@ -39,12 +40,12 @@ allowed_script words (Load n) h = absurd h
 allowed_script words (Lower n) h = absurd h
 allowed_script words Certify h = tt
 allowed_script words Check h = tt
-allowed_script words Advise h = tt
+allowed_script words (Advise file) h = tt
 allowed_script words Help h = absurd h
 allowed_script words Version h = absurd h
 
 -- help or the version is asked for, or nothing
-pub asked_help : (words : List (String Global)) (r : Option Command) → ((n : ℕ) → AreRun words n → ⊥) → ((n : ℕ) → AreLoad words n → ⊥) → ((n : ℕ) → AreLower words n → ⊥) → (¬ AreCertify words) × (¬ AreCheck words) × (¬ AreAdvise words) → HelpCommand words r
+pub asked_help : (words : List (String Global)) (r : Option Command) → ((form : RunForm) → AreRun words form → ⊥) → ((n : ℕ) → AreLoad words n → ⊥) → ((n : ℕ) → AreLower words n → ⊥) → AreNoScript words → HelpCommand words r
     → MatchOption r ((command : Command) → Asks words command → ⊥) (λ command. Asks words command)
 asked_help words None no_run no_load no_lower other h = no_command words no_run no_load no_lower other h
 asked_help words (Some (Run n)) no_run no_load no_lower other h = absurd h
@@ -52,7 +53,7 @@ asked_help words (Some (Load n)) no_run no_load no_lower other h = absurd h
 asked_help words (Some (Lower n)) no_run no_load no_lower other h = absurd h
 asked_help words (Some Certify) no_run no_load no_lower other h = absurd h
 asked_help words (Some Check) no_run no_load no_lower other h = absurd h
-asked_help words (Some Advise) no_run no_load no_lower other h = absurd h
+asked_help words (Some (Advise file)) no_run no_load no_lower other h = absurd h
 asked_help words (Some Help) no_run no_load no_lower other h = h
 asked_help words (Some Version) no_run no_load no_lower other h = h
 
@@ -63,6 +64,6 @@ allowed_help words (Some (Load n)) h = absurd h
 allowed_help words (Some (Lower n)) h = absurd h
 allowed_help words (Some Certify) h = absurd h
 allowed_help words (Some Check) h = absurd h
-allowed_help words (Some Advise) h = absurd h
+allowed_help words (Some (Advise file)) h = absurd h
 allowed_help words (Some Help) h = tt
 allowed_help words (Some Version) h = tt

@@ -1,7 +1,11 @@
+pub mod BehindFile
 pub mod CommandForms
-pub mod Endings
+pub mod CommandsEnded
 pub mod LoadForms
 pub mod LoadSteps
 pub mod LowerForms
 pub mod OneCommand
+pub mod ScriptForms
+pub mod Sessions
+pub mod WholeLines
 pub mod WordForms

@@ -1,9 +1,10 @@
 -- The words of the commands over a script that take no number.
-use Rattle.std.specs.Prelude.{◌≡◌, List, String, [], ◌∷◌, map, codes}
+use Rattle.std.specs.Prelude.{◌≡◌, ℕ, Bool, List, String, [], ◌∷◌, map, codes}
 use Rattle.std.specs.String.{string_bytes}
 use Rattle.std.specs.declared.alloc.Global.{Global}
 use Rattle.std.specs.declared.option.Option.{Option}
 use Rattle.std.specs.declared.option.Option.TheVariants.{None, Some}
+use Rattle.bq_top.specs.Words.{AreLast}
 use Rattle.bq_top.specs.declared.command.Command.{Command}
 use Rattle.bq_top.specs.declared.command.Command.TheVariants.{Run, Load, Lower, Certify, Check, Advise, Help, Version}
 
@@ -15,18 +16,28 @@ AreCertify words = map string_bytes words ≡ codes "certify" ∷ []
 abbrev pub AreCheck : List (String Global) → Type 0
 AreCheck words = map string_bytes words ≡ codes "check" ∷ []
 
--- the one word `advise`
-abbrev pub AreAdvise : List (String Global) → Type 0
-AreAdvise words = map string_bytes words ≡ codes "advise" ∷ []
+-- `advise`, and behind it the name of a file that has the script, or nothing where the input has it
+pub record AreAdviseTexts (texts : List (List ℕ)) (file : Bool) : Type 0 where
+  pub others : List (List ℕ)
+  pub words : texts ≡ codes "advise" ∷ others
+  pub last : AreLast others file
+
+-- the words ask for advice
+abbrev pub AreAdvise : List (String Global) → Bool → Type 0
+AreAdvise words file = AreAdviseTexts (map string_bytes words) file
+
+-- the words are none of these
+abbrev pub AreNoScript : List (String Global) → Type 0
+AreNoScript words = (¬ AreCertify words) × (¬ AreCheck words) × ((file : Bool) → AreAdvise words file → ⊥)
 
 -- a command over a script that the words ask for, or none
 abbrev pub ScriptCommand : List (String Global) → Option Command → Type 0
-ScriptCommand words None = (¬ AreCertify words) × (¬ AreCheck words) × (¬ AreAdvise words)
-ScriptCommand words (Some (Run limit)) = ⊥
+ScriptCommand words None = AreNoScript words
+ScriptCommand words (Some (Run form)) = ⊥
 ScriptCommand words (Some (Load rows)) = ⊥
 ScriptCommand words (Some (Lower rows)) = ⊥
 ScriptCommand words (Some Certify) = AreCertify words
 ScriptCommand words (Some Check) = AreCheck words
-ScriptCommand words (Some Advise) = AreAdvise words
+ScriptCommand words (Some (Advise file)) = AreAdvise words file
 ScriptCommand words (Some Help) = ⊥
 ScriptCommand words (Some Version) = ⊥

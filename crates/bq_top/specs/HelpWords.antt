@@ -18,11 +18,11 @@ AreVersion words = (map string_bytes words ≡ codes "--version" ∷ []) ⊎ (ma
 -- one of the two that the words ask for, or none
 abbrev pub HelpCommand : List (String Global) → Option Command → Type 0
 HelpCommand words None = (¬ AreHelp words) × (¬ AreVersion words)
-HelpCommand words (Some (Run limit)) = ⊥
+HelpCommand words (Some (Run form)) = ⊥
 HelpCommand words (Some (Load rows)) = ⊥
 HelpCommand words (Some (Lower rows)) = ⊥
 HelpCommand words (Some Certify) = ⊥
 HelpCommand words (Some Check) = ⊥
-HelpCommand words (Some Advise) = ⊥
+HelpCommand words (Some (Advise file)) = ⊥
 HelpCommand words (Some Help) = AreHelp words
 HelpCommand words (Some Version) = AreVersion words

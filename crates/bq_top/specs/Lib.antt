@@ -1,6 +1,9 @@
+pub mod Behind
 pub mod CertificateWords
 pub mod Commands
 pub mod Ends
+pub mod Files
+pub mod FrontWords
 pub mod Help
 pub mod HelpWords
 pub mod Laws
@@ -8,5 +11,6 @@ pub mod Load
 pub mod LoadWords
 pub mod LowerWords
 pub mod Loading
+pub mod Phases
 pub mod Run
 pub mod Words

@@ -1,19 +1,19 @@
 //! What the words ask for.
-ghost use Rattle.std.specs.Prelude.{MatchOption, IfSome};
+ghost use Rattle.std.specs.Prelude.{◌≡◌, ◌↔◌, MatchOption, IfSome, IsTrue};
 ghost use Rattle.bq_top.specs.declared.command.Command.{Command};
-ghost use Rattle.bq_top.specs.Commands.{Asks, IsAllowed};
+ghost use Rattle.bq_top.specs.Commands.{Asks, IsAllowed, NameFile, names_file};
 
 use crate::certificate_words::script_command;
 use crate::help_words::help_command;
 use crate::load_words::load_rows;
 use crate::lower_words::family_size;
-use crate::words::row_limit;
+use crate::words::{RunForm, run_form};
 
 /// What the words ask for.
 #[derive(Clone, Copy, Debug, PartialEq, Eq)]
 pub enum Command {
-    /// A session over the input, which may take so many rows: 1 to 2^40.
-    Run(u64),
+    /// A session over the lines of a file, where one is named, and of the input.
+    Run(RunForm),
     /// A session over a generated script of so many rows: 1 to 100,000.
     Load(u32),
     /// A family of so many rows for the query of a script: 1 to 1,000.
@@ -22,8 +22,8 @@ pub enum Command {
     Certify,
     /// The check of the certificate behind a script.
     Check,
-    /// Advice on each line of a script.
-    Advise,
+    /// Advice on each line of a script, which a file has, or the input.
+    Advise { file: bool },
     /// How the program is used.
     Help,
     /// Which version of the program this is.
@@ -35,8 +35,8 @@ pub fn command_of(words: &[String]) -> Option<Command>
     ensures asks { MatchOption result ((command : Command) → Asks words.now command → ⊥) (λ command. Asks words.now command) }
     ensures allowed { IfSome result (λ command. IsAllowed command) }
 {
-    match row_limit(words) {
-        Some(limit) => Some(Command::Run(limit)),
+    match run_form(words) {
+        Some(form) => Some(Command::Run(form)),
         None => match load_rows(words) {
             Some(rows) => Some(Command::Load(rows)),
             None => match family_size(words) {
@@ -47,5 +47,31 @@ pub fn command_of(words: &[String]) -> Option<Command>
                 },
             },
         },
+    }
+}
+
+/// Returns whether a command reads a file.
+pub fn names_file(command: Command) -> bool
+    ensures { result ≡ names_file command }
+{
+    match command {
+        Command::Run(form) => form.file,
+        Command::Advise { file } => file,
+        Command::Load(_) => false,
+        Command::Lower(_) => false,
+        Command::Certify => false,
+        Command::Check => false,
+        Command::Help => false,
+        Command::Version => false,
+    }
+}
+
+/// Returns whether the words ask for a command that reads a file. The last word is its name then.
+pub fn name_file(words: &[String]) -> bool
+    ensures { IsTrue result ↔ NameFile words.now }
+{
+    match command_of(words) {
+        Some(command) => names_file(command),
+        None => false,
     }
 }

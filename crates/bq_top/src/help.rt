@@ -8,21 +8,26 @@ use bq_io::{Sink, Status, write_all};
 const HELP: &str = "\
 bq answers select-project-join queries over endless streams, in fixed memory.
 
-bq run [--rows N]  read a script and rows on standard input, and answer each
-                   line at once; at most N rows are taken:
-                   bq run < examples/temperature-alert.bq
-bq feeds [--rows N] FILE FILE ..
+bq run [--rows N] [--each] [FILE]
+                   read a script from FILE, where one is named, and then more
+                   lines and rows from standard input, and answer each line
+                   at once; at most N rows are taken. --each writes one line
+                   for each line read, replies joined by a semicolon:
+                   bq run rooms.bq < rows
+bq feeds [--rows N] [--script FILE] FILE FILE ..
                    the same over 2 to 8 files or named pipes, a line of each
-                   in turn:                  bq feeds queries.bq rows.pipe
+                   in turn; behind a script feeds give rows alone, S,T@FILE
+                   rows of S and T alone:
+                   bq feeds --script rooms.bq Temp@temps Lim@limits
 bq certify         read a script of one query, and write it with a certificate
                    of the decision on it:    bq certify < script > certified
 bq check           read such a text, and write what its certificate shows:
                    bq certify < script | bq check
 bq lower N         read a script of one query, and write N rows that show why the
                    query is refused:         bq lower 3 < script
-bq advise          read a script to its end, and write what is wrong with its
+bq advise [FILE]   read a script to its end, and write what is wrong with its
                    lines, and what would mend or better its queries:
-                   bq advise < script && bq run < script
+                   bq advise rooms.bq && bq run rooms.bq < rows
 bq load N          answer N generated rows, and write one line of sums:
                    bq load 1000
 bq --help          write this text; also -h
@@ -40,14 +45,18 @@ The lines of a script; keywords are read in any case of letters:
   DROP QUERY q
   CHECKPOINT                        the lines from which a fresh session goes on
   RESUME ..                         one of these lines
+  LOCK 7 TO S, T                    from here on rows of S and T alone, up to
+                                    UNLOCK 7; both the number and TO may be
+                                    left out
   S,1,2                             a row of S: all new answers are written
 What cannot be taken is answered by error, the number of the line and a word.
 
 Status 0  done
        1  certify, check or lower refuses a line, or a certificate has a fault;
           advise finds a line at fault or a query that is refused
-       2  the words are none of these forms; nothing was read or written
-       4  the input failed, or one of the feeds
+       2  the words are none of these forms; nothing was read, and standard
+          error says so
+       4  the file, the input or one of the feeds failed
        5  the output failed
        6  no memory was found
        7  the input has more bytes than can be counted, 2^64 - 1 or more

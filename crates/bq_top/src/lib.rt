@@ -1,11 +1,12 @@
 //! The top call: all that the program does.
 //!
-//! `run` takes the words after the program's name, a source and a sink, and answers with a status. Its clauses say of each
-//! status what was read and written, and why it came.
+//! `run` takes the words after the program's name, the input, the file that the words name, where they name one, and a sink, and answers
+//! with a status. Its clauses say of each status what was read and written, and why it came.
 #![tactic(auto)]
 
 mod certificate_words;
 mod command;
+mod ended;
 mod help;
 mod help_words;
 pub mod laws;
@@ -13,8 +14,11 @@ mod load;
 mod load_words;
 mod lower_words;
 mod program;
+mod session;
 mod summary;
 mod words;
 
 pub use bq_io::Status;
+pub use command::name_file;
+pub use ended::Ended;
 pub use program::run;

@@ -1,111 +1,104 @@
-//! The program over its words, its input and its output.
-ghost use Rattle.std.specs.Prelude.{◌≡◌, ◌<◌, ◌≤◌, ◌^◌};
+//! The program over its words, its input, its files and its output.
+ghost use Rattle.std.specs.Prelude.{◌≤◌, ◌↔◌, IsTrue, map};
 ghost use Rattle.bq_io.specs.Counts.{Rose};
-ghost use Rattle.bq_feed.specs.Reading.{fresh};
-ghost use Rattle.bq_session.specs.State.{State, empty};
-ghost use Rattle.bq_session.specs.Session.{StandsFor};
-ghost use Rattle.bq_top.specs.Run.{SessionEnds, status_of};
-ghost use Rattle.bq_session.specs.Run.{HasState, Ran, IsNoFault};
-ghost use Rattle.bq_top.specs.Ends.{Ends};
+ghost use Rattle.bq_session.specs.Run.{IsNoFault};
+ghost use Rattle.bq_top.specs.Commands.{HasFile, IsAllowed, is_script, names_file};
+ghost use Rattle.bq_top.specs.Ends.{Ends, EndsOn, OverScript};
+ghost use Rattle.bq_top.specs.Files.{NoneFell, SomeRose};
 
-use crate::command::{Command, command_of};
+use crate::command::{Command, command_of, names_file};
+use crate::ended::Ended;
 use crate::help::{help, version};
 use crate::load::load;
+use crate::session::run_session;
 use bq_advice::advise_script;
 use bq_certify::{certify, check_script};
-use bq_feed::LineReader;
-use bq_io::{Gathered, Sink, Source, Status};
+use bq_io::{Sink, Source, Status};
 use bq_lowering::lower;
-use bq_pool::Steps;
-use bq_session::{Ending, Session, run_lines};
 use std::alloc::Global;
-use std::marker::Brand;
-use std::sync::ledger::{Blank, Ledger};
 
-// Answers the lines of a source, and gathers the replies before they go to the output.
-fn gather<I: Source, O: Sink, L: Ledger>(
-    reader: &mut LineReader,
-    session: &mut Session,
-    input: &mut I,
+// Does what a command over a script asks for, with the script in this source.
+fn over_script<I: Source, O: Sink>(
+    alloc: Global,
+    command: Command,
+    source: &mut I,
     output: &mut O,
-    blank: Blank,
-) -> Ending
-    requires reader { reader.old ≡ fresh }
-    requires stands { HasState session.old }
-    requires lines { session.old.lines ≡ 0 }
-    requires name { blank.name ≡ L.name }
-    requires parts { blank.parts ≡ L.parts }
-    requires two { 2 ≤ L.parts }
-    ensures { (s : State) → StandsFor session.old s → Ran result s (I.seen input.old) (I.seen input.new) (O.seen output.old) (O.seen output.new) }
+) -> Status
+    requires script { IsTrue (is_script command) }
+    ensures ends { OverScript result command (I.seen source.old) (I.seen source.new) (O.seen output.old) (O.seen output.new) }
+    ensures source_later { (I.seen source.old).faults ≤ (I.seen source.new).faults }
+    ensures output_later { (O.seen output.old).faults ≤ (O.seen output.new).faults }
 {
-    let mut steps = Steps::<L>::new(blank);
-    let mut gathered = Gathered::new(output);
-    let ending = run_lines(reader, session, input, &mut gathered, &mut steps);
-    let Gathered { sink, held: _held } = gathered;
-    // No effect at run time. The proof reads what the output holds from this use.
-    let _ = &*sink;
-    ending
-}
-
-// Answers the lines of a source in a fresh session, and counts no steps.
-fn answer_all<I: Source, O: Sink>(
-    reader: &mut LineReader,
-    session: &mut Session,
-    input: &mut I,
-    output: &mut O,
-) -> Ending
-    requires reader { reader.old ≡ fresh }
-    requires stands { HasState session.old }
-    requires lines { session.old.lines ≡ 0 }
-    ensures { (s : State) → StandsFor session.old s → Ran result s (I.seen input.old) (I.seen input.new) (O.seen output.old) (O.seen output.new) }
-{
-    gather::<I, O, Brand>(reader, session, input, output, Blank::new(2))
-}
-
-// The status that an ending leads to.
-fn status_of(ending: Ending) -> Status
-    ensures { result ≡ status_of ending }
-{
-    match ending {
-        Ending::Done => Status::Done,
-        Ending::ReadFault => Status::ReadFault,
-        Ending::WriteFault => Status::WriteFault,
-        Ending::Memory => Status::Memory,
-        Ending::ByteLimit => Status::ByteLimit,
+    match command {
+        Command::Lower(rows) => lower(alloc, rows, source, output),
+        Command::Certify => certify(alloc, source, output),
+        Command::Check => check_script(alloc, source, output),
+        Command::Advise { file: _ } => advise_script(alloc, source, output),
+        Command::Run(_) => unreachable!(),
+        Command::Load(_) => unreachable!(),
+        Command::Help => unreachable!(),
+        Command::Version => unreachable!(),
     }
 }
 
-// Opens a session that may take so many rows, and answers the lines of a source in it.
-fn run_session<I: Source, O: Sink>(
+// Does what a command over a script asks for, with the script in the first of the files, where one is named, and else in the input.
+fn run_script<F: Source, I: Source, O: Sink>(
     alloc: Global,
-    limit: u64,
+    command: Command,
+    files: &mut [F],
     input: &mut I,
     output: &mut O,
-) -> Status
-    requires some { 0 < limit }
-    requires few { limit ≤ 2 ^ 40 }
-    ensures ends { SessionEnds result limit (I.seen input.old) (I.seen input.new) (O.seen output.old) (O.seen output.new) }
+) -> Ended
+    requires script { IsTrue (is_script command) }
+    requires file { HasFile (names_file command) (map F.seen files.old) }
+    ensures ends { EndsOn (names_file command) result.status result.file_failed command (I.seen input.old) (I.seen input.new) (map F.seen files.old) (map F.seen files.new) (O.seen output.old) (O.seen output.new) }
     ensures input_later { (I.seen input.old).faults ≤ (I.seen input.new).faults }
+    ensures files_later { NoneFell (map F.seen files.old) (map F.seen files.new) }
     ensures output_later { (O.seen output.old).faults ≤ (O.seen output.new).faults }
 {
-    let Ok(mut reader) = LineReader::new(alloc) else {
-        return Status::Memory;
-    };
-    let Ok(mut session) = Session::new(alloc, limit) else {
-        return Status::Memory;
-    };
-    let ending = answer_all(&mut reader, &mut session, input, output);
-    session.close();
-    status_of(ending)
+    if names_file(command) {
+        Ended::in_file(over_script(alloc, command, &mut files[0], output))
+    } else {
+        Ended::by(over_script(alloc, command, input, output))
+    }
 }
 
-/// Does all that the program does over the words after its name.
+// Does what a command asks for, where there is a file for it if it reads one.
+fn run_command<F: Source, I: Source, O: Sink>(
+    alloc: Global,
+    command: Command,
+    files: &mut [F],
+    input: &mut I,
+    output: &mut O,
+) -> Ended
+    requires allowed { IsAllowed command }
+    requires file { HasFile (names_file command) (map F.seen files.old) }
+    ensures ends { EndsOn (names_file command) result.status result.file_failed command (I.seen input.old) (I.seen input.new) (map F.seen files.old) (map F.seen files.new) (O.seen output.old) (O.seen output.new) }
+    ensures input_later { (I.seen input.old).faults ≤ (I.seen input.new).faults }
+    ensures files_later { NoneFell (map F.seen files.old) (map F.seen files.new) }
+    ensures output_later { (O.seen output.old).faults ≤ (O.seen output.new).faults }
+{
+    match command {
+        Command::Run(form) => run_session(alloc, form, files, input, output),
+        Command::Load(rows) => Ended::by(load(alloc, rows, output)),
+        Command::Help => Ended::by(help(output)),
+        Command::Version => Ended::by(version(output)),
+        Command::Lower(_) => run_script(alloc, command, files, input, output),
+        Command::Certify => run_script(alloc, command, files, input, output),
+        Command::Check => run_script(alloc, command, files, input, output),
+        Command::Advise { file: _ } => run_script(alloc, command, files, input, output),
+    }
+}
+
+/// Does all that the program does over the words after its name. `files` has the file that the words name, where they name one.
 ///
-/// `run` and `run --rows N` answer each line of the input before they read on, without end, in buffers of fixed size. Replies are
-/// gathered, and written before each read, at the end and where 4,096 bytes are held. `Ends` says of each status what was read and
-/// written: for `Done` the whole input, and its session text; for `ReadFault` and `ByteLimit` the session text of the lines that
+/// `run [--rows N] [--each] [FILE]`, the options in any order, answers each line before it reads on, without end, in buffers of fixed size: the
+/// lines of FILE, where it is named, and then those of the input. They are one text: FILE's bytes, an LF where they do not end in one, and the
+/// bytes of the input. Nothing of the input is read before FILE was read to its end. Replies are gathered, and written before each read, at the
+/// end and where 4,096 bytes are held. With `--each` each reply is written as one line. `Ends` says of each status what was read and
+/// written: for `Done` all bytes, and their session text; for `ReadFault` and `ByteLimit` the session text of the lines that
 /// ended before; for `WriteFault` the replies to the lines before one line and a front of the reply to it; for `Memory` nothing, or
-/// the replies to the lines before a line that creates a stream or a query. Such a line ended in the last read of the input that
+/// the replies to the lines before a line that creates a stream or a query. Such a line ended in the last read of its source that
 /// gave some bytes, or it is the last line of all: each line that ended before that read was answered in full.
 ///
 /// `load N` answers the script of N generated rows, 1 to 100,000, reads nothing, and writes one line: N, how many lines the session
@@ -120,40 +113,50 @@ fn run_session<I: Source, O: Sink>(
 /// the N rows came before, the answers to the rows that ask tell the set. Where the query has no family, one line says so. It writes when all
 /// is known, and ends with `Invalid` where a line is refused. For `ReadFault`, `ByteLimit` and `Memory` nothing was written.
 ///
-/// `advise` reads a script to its end, and takes no row into any query. It writes what is wrong with each line that a session would refuse, why
+/// `advise [FILE]` reads a script to its end, and takes no row into any query. It writes what is wrong with each line that a session would refuse, why
 /// a query is refused and what would mend it, what a query of several parts costs, and at the end one line with what all lines came to. It writes
 /// when all is known, and ends with `Invalid` where a line is at fault or a query is refused. For `ReadFault`, `ByteLimit` and `Memory` nothing
-/// was written.
+/// was written. It reads FILE, where that is named, and does not touch the input then; else it reads the input.
 ///
 /// `--help` or `-h`, alone, writes how the program is used, and `--version` or `-V`, alone, its version. Nothing is read.
 ///
-/// `Usage` comes exactly where the words are none of these forms, and then nothing was read or written. `ReadFault` and `WriteFault`
-/// come only where the count of faults of that object rose in this call.
+/// `Usage` comes exactly where the words are none of these forms, or name a file and `files` is empty, and then nothing was read or written.
+/// `ReadFault` and `WriteFault` come only where the count of faults of that object rose in this call. `file_failed` tells a file that failed from an
+/// input that failed.
 ///
 /// No query outgrows what its line announced: that is the clause `within` of `Registry::row`, and of `Session::line`, whose clause
 /// `announced` bounds the reads and writes of each line.
-pub fn run<I: Source, O: Sink>(
+pub fn run<I: Source, F: Source, O: Sink>(
     alloc: Global,
     words: &[String],
     input: &mut I,
+    files: &mut [F],
     output: &mut O,
-) -> Status
-    ensures ends { Ends result words.now (I.seen input.old) (I.seen input.new) (O.seen output.old) (O.seen output.new) }
+) -> Ended
+    ensures ends { Ends result.status result.file_failed words.now (I.seen input.old) (I.seen input.new) (map F.seen files.old) (map F.seen files.new) (O.seen output.old) (O.seen output.new) }
 
-    // Where neither the source nor the sink fails, the status is Done, Invalid, Memory, ByteLimit or Usage.
-    ensures complete { ¬ (Rose (I.seen input.old).faults (I.seen input.new).faults) → ¬ (Rose (O.seen output.old).faults (O.seen output.new).faults) → IsNoFault result }
+    // Where neither the input nor a file nor the sink fails, the status is Done, Invalid, Memory, ByteLimit or Usage.
+    ensures complete { ¬ (Rose (I.seen input.old).faults (I.seen input.new).faults) → ¬ (SomeRose (map F.seen files.old) (map F.seen files.new))
+        → ¬ (Rose (O.seen output.old).faults (O.seen output.new).faults) → IsNoFault result.status }
     ensures input_later { (I.seen input.old).faults ≤ (I.seen input.new).faults }
+    ensures files_later { NoneFell (map F.seen files.old) (map F.seen files.new) }
     ensures output_later { (O.seen output.old).faults ≤ (O.seen output.new).faults }
 {
     match command_of(words) {
-        Some(Command::Run(limit)) => run_session(alloc, limit, input, output),
-        Some(Command::Load(rows)) => load(alloc, rows, output),
-        Some(Command::Lower(rows)) => lower(alloc, rows, input, output),
-        Some(Command::Certify) => certify(alloc, input, output),
-        Some(Command::Check) => check_script(alloc, input, output),
-        Some(Command::Advise) => advise_script(alloc, input, output),
-        Some(Command::Help) => help(output),
-        Some(Command::Version) => version(output),
-        None => Status::Usage,
+        Some(command) => {
+            if has_file(names_file(command), files) {
+                run_command(alloc, command, files, input, output)
+            } else {
+                Ended::by(Status::Usage)
+            }
+        }
+        None => Ended::by(Status::Usage),
     }
+}
+
+// Whether there is a file, where one is named.
+fn has_file<F: Source>(named: bool, files: &[F]) -> bool
+    ensures { IsTrue result ↔ HasFile named (map F.seen files.now) }
+{
+    !named || !files.is_empty()
 }

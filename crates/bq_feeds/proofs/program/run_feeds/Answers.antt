@@ -2,11 +2,11 @@ use Rattle.std.proofs.Common.{refl}
 use Rattle.bq_feeds.proofs.Outcomes.{same-later}
 use Rattle.bq_feeds.proofs.program.run_feeds.Goals as goal
 
-pub returns-else-found-feeds-clause-feeds_later : goal.returns-else-found-feeds-clause-feeds_later
-returns-else-found-feeds-clause-feeds_later g c = same-later _
+pub returns-else-sources-feeds-clause-feeds_later : goal.returns-else-sources-feeds-clause-feeds_later
+returns-else-sources-feeds-clause-feeds_later g c = same-later _
 
 pub returns-in-None-clause-feeds_later : goal.returns-in-None-clause-feeds_later
 returns-in-None-clause-feeds_later g c = same-later _
 
 pub returns-in-None-clause-ends : goal.returns-in-None-clause-ends
-returns-in-None-clause-ends g c = (λ limit are. c.in-None.ensures.found limit are.names are.are, (refl, refl))
+returns-in-None-clause-ends g c = (refl, λ limit script names are many. c.in-None.ensures limit script names are, (refl, refl))

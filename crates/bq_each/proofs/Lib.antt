@@ -1,0 +1,14 @@
+pub mod ClosedLines
+pub mod Closing
+pub mod Exchanging
+pub mod FormedEnds
+pub mod FormedExits
+pub mod FormedHeld
+pub mod FormedProgress
+pub mod FormedReplies
+pub mod FormedStops
+pub mod FormedTold
+pub mod LastBytes
+pub mod OneLineLaw
+pub mod OneLines
+pub mod ToJoined
