@@ -2,8 +2,10 @@
 
 The heads of its texts, its last line and its status must be those that follow from the replies of `run`
 to the same lines. Each change that it tells is written out and given to `run`: what mends a query leaves
-it with a part and breaking no condition, and the numbers of a change are those that `run` announces. That
-no change is left out is judged too: the sets of columns by the analysis, the comparisons by `run`. The
+it with a part and breaking no condition, and the numbers of a change are those that `run` announces. What
+bounds columns is written out with three pairs of integers: the widest, and two close together, below and
+above all integers of the query. Changes that keep every answer stand under one heading before those that
+leave rows out, which are told of refused queries alone. That no change is left out is judged too: the sets of columns by the analysis, the comparisons by `run`. The
 chains of the part that breaks a condition, the parts that keep the most cells, and whether a filter ever
 answers are those of the analysis.
 """
@@ -38,6 +40,8 @@ FAR_WIDTHS = [300, 700, 5000, 66000, 10**6, 10**12]
 LOOSE = [(0.5, 0.1), (0.3, 0.2), (0.15, 0.4), (0.05, 0.6), (0.02, 0.85), (0.02, 0.02)]
 FILLERS = [b"fill%d" % it for it in range(9)]
 LO, HI = -language.LARGEST_INTEGER, language.LARGEST_INTEGER
+# how far the ends that are close together lie from each other, and from the integers of a query
+APART = 13
 # what of a line of a checkpoint is not looked at: what it goes on from
 UNTOLD = {b"Late", b"Value", b"RowLimit", b"Arity"}
 
@@ -45,16 +49,18 @@ HEAD = re.compile(rb"line \d+: ")
 NUMBERS = re.compile(rb"ok query \w+ parts (\d+) cells (\d+) answers (\d+) work (\d+)\Z")
 DEAR = re.compile(rb"refused \w+ limit (cells|answers|work)\Z")
 MARK = re.compile(rb"  [ \t]*\^\Z")
-CHANGE = re.compile(rb"  with (COMPACT|SHARED|AND (?:.+)): parts (\d+) cells (\d+) answers (\d+) work (\d+)\Z")
-BOUNDS = re.compile(rb"  mended by((?: AND \w+\.\w+ > LO AND \w+\.\w+ < HI)+)\Z")
-DOMAINS = re.compile(rb"  mended at CREATE STREAM by((?: \w+\.\w+ IN LO\.\.HI)+)\Z")
+CHANGE = re.compile(rb"    with (COMPACT|SHARED|AND (?:.+)): parts (\d+) cells (\d+) answers (\d+) work (\d+)\Z")
+BOUNDS = re.compile(rb"    mended by((?: AND \w+\.\w+ > LO AND \w+\.\w+ < HI)+)\Z")
+DOMAINS = re.compile(rb"    mended at CREATE STREAM by((?: \w+\.\w+ IN LO\.\.HI)+)\Z")
 ITEM = re.compile(rb" (\w+)\.(\w+) IN LO\.\.HI")
 COLUMN = re.compile(rb"\w+\.\w+")
 MORE_SIGNS, MORE_INTEGERS = [b"<", b">", b"<", b">", b"="], [-7, 9, 40, 500]
-DISTINCT = b"  mended by DISTINCT"
-ENDS = (b"  LO and HI are two integers of your own for all columns: -999999999999999 and 999999999999999"
-        b" were tried; the numbers may still pass a limit, so write yours and then ask again for the numbers")
-LEAVES_OUT = b"  a comparison leaves out all other rows: take one that every row that counts meets"
+DISTINCT = b"    mended by DISTINCT, with which each answer comes once"
+ENDS = (b"    LO and HI are two integers of your own for all columns: -999999999999999 and 999999999999999"
+        b" were tried, and two close together, below and above all integers of the query; the numbers may still"
+        b" pass a limit, so write yours and then ask again for the numbers")
+SAME_ANSWERS = b"  the same answers:"
+LEAVES_OUT = b"  leaves rows out, so take one that every row that counts meets:"
 NOTHING = b"  nothing that was tried mends it"
 NOTHING_LIFTS = b"  nothing that was tried lifts it"
 NOT_LIFTED = NOTHING_LIFTS + b": add COMPACT, if it is not there, and ask again what it lacks then"
@@ -380,6 +386,7 @@ class Trial:
     def __init__(self, part, program, session, due):
         self.part, self.program, self.session = part, program, session
         self.head = due.head.split(b": ")[0].decode()
+        self.is_refused = b" is refused: " in due.head
         self.statement, self.query, self.verdict = due.asked
         self.plain = self.statement._replace(name=b"m")
 
@@ -388,8 +395,8 @@ class Trial:
 
     # giving changes to `run`
 
-    def streams(self, domains=()):
-        """The lines that create the streams of the query, with some more domains."""
+    def streams(self, domains=(), pair=(LO, HI)):
+        """The lines that create the streams of the query, with some more domains between two ends."""
         lines = []
         for name in self.statement.streams:
             columns, ends = self.session.streams[name], list(self.session.domains[name])
@@ -398,13 +405,13 @@ class Trial:
                     place = columns.index(column)
                     if ends[place]:
                         self.fail(f"{column!r} has a domain already")
-                    ends[place] = LO, HI
+                    ends[place] = pair
             lines.append(language.print_statement(CreateStream(name, columns, ends)))
         return lines
 
-    def replies(self, creates, domains=()):
+    def replies(self, creates, domains=(), pair=(LO, HI)):
         """The replies of `run` to queries, each created in the place of the one before."""
-        streams = self.streams(domains)
+        streams = self.streams(domains, pair)
         lines = streams + [it for create in creates for it in (create, b"DROP QUERY m")]
         output, status, noise = run_program(self.program, ["run"], b"\n".join(lines) + b"\n")
         self.part.count("runs")
@@ -428,8 +435,8 @@ class Trial:
     def with_words(self, **words):
         return language.print_line(self.plain._replace(**words))
 
-    def with_bounds(self, text):
-        return self.with_text(text.replace(b"LO", b"%d" % LO).replace(b"HI", b"%d" % HI))
+    def with_bounds(self, text, pair=(LO, HI)):
+        return self.with_text(text.replace(b"LO", b"%d" % pair[0]).replace(b"HI", b"%d" % pair[1]))
 
     # numbers
 
@@ -449,7 +456,7 @@ class Trial:
         if self.verdict.verdict[0] != "violation" and not self.statement.shared:
             found = self.numbered([b"SHARED"], [self.with_words(shared=True)])
             wanted += [it for it in found if self.is_better(it[1])]
-        wanted += self.best_comparisons()
+        wanted += self.best_comparisons() if self.is_refused else []
         if self.verdict.verdict[0] == "limit" and not wanted:
             wanted += self.best_halvings()
             self.part.count("queries with halved ranges", int(bool(wanted)))
@@ -563,30 +570,47 @@ class Trial:
         named = [self.session.column_name(self.statement.streams, it) for it in columns]
         return b"".join(b" %s IN LO..HI" % it for it in named)
 
+    def close_pairs(self):
+        """Two integers below all integers that the query names, and two above them."""
+        named = [0, *analysis.constants_of(self.query), *(end for it in self.query.domains for end in it[1:])]
+        least, most = min(named), max(named)
+        return [(max(LO, least - 2 * APART), max(LO, least - APART)), (min(HI, most + APART), min(HI, most + 2 * APART))]
+
+    def each_pair(self, stand):
+        """Whether the widest ends leave a query that stands, and the others one that breaks no condition."""
+        return stand((LO, HI), stands_by_reply, stands_by_analysis) and all(
+            stand(it, meets_by_reply, meets_by_analysis) for it in self.close_pairs())
+
     def bounds_stand(self, columns):
-        atoms = tuple(it for column in columns for it in ((column, ">", LO), (column, "<", HI)))
+        return self.each_pair(lambda pair, *tests: self.bounds_stand_with(columns, pair, *tests))
+
+    def bounds_stand_with(self, columns, pair, by_reply, by_analysis):
+        atoms = tuple(it for column in columns for it in ((column, ">", pair[0]), (column, "<", pair[1])))
         query = self.query._replace(atoms=self.query.atoms + atoms)
         if (len(query.atoms) > language.MOST_ATOMS or len(analysis.constants_of(query)) > language.MOST_CONSTANTS
                 or len(analysis.attributes_of(query)) > language.MOST_ATTRIBUTES):
             return False
-        return self.decided(query, lambda: [self.with_bounds(self.bounds_text(columns))])
+        text = self.bounds_text(columns)
+        return self.decided(by_analysis(query) if self.has_few_columns() else None,
+                            lambda: by_reply(self.replies([self.with_bounds(text, pair)])[0]))
 
     def domains_stand(self, columns):
-        more = tuple((it, LO, HI) for it in columns)
+        return self.each_pair(lambda pair, *tests: self.domains_stand_with(columns, pair, *tests))
+
+    def domains_stand_with(self, columns, pair, by_reply, by_analysis):
+        more = tuple((it, *pair) for it in columns)
         query = self.query._replace(domains=tuple(sorted(self.query.domains + more)))
         names = ITEM.findall(self.domains_text(columns))
-        return self.decided(query, lambda: [language.print_line(self.plain)], names)
+        return self.decided(by_analysis(query) if self.has_few_columns() else None,
+                            lambda: by_reply(self.replies([language.print_line(self.plain)], names, pair)[0]))
 
-    def decided(self, query, creates, domains=()):
-        """Whether a query breaks no condition and has a part, by the analysis where it has few parts,
-        and else by `run`.
-        """
-        stands = stands_by_analysis(query) if len(self.columns()) <= FEW_COLUMNS else None
-        if stands is None:
-            self.part.count("sets by run")
-            return stands_by_reply(self.replies(creates(), domains)[0])
-        self.part.count("sets by the analysis")
-        return stands
+    def has_few_columns(self):
+        return len(self.columns()) <= FEW_COLUMNS
+
+    def decided(self, by_analysis, by_run):
+        """What the analysis answers of a query of few parts, and else what `run` does."""
+        self.part.count("sets by run" if by_analysis is None else "sets by the analysis")
+        return by_run() if by_analysis is None else by_analysis
 
     def least_sets(self, stand):
         """The least sets of at most three columns that mend the query, the smaller ones first; of many
@@ -610,9 +634,10 @@ class Trial:
         domains = [it for it in rest if DOMAINS.match(it)]
         cut = [it for it in rest if it == CUT]
         ends = [ENDS] * bool(bounds or domains)
-        leaves = [LEAVES_OUT] * bool(comparisons)
-        nothing = [NOTHING] * (not (distinct or changes or bounds or domains))
-        if rest != chains + distinct + words + bounds + domains + ends + comparisons + leaves + nothing + cut:
+        same = [SAME_ANSWERS] * bool(words or distinct)
+        leaves = [LEAVES_OUT] * bool(bounds or domains or comparisons)
+        nothing = [NOTHING] * (not (same or leaves))
+        if rest != chains + same + words + distinct + leaves + bounds + domains + ends + comparisons + nothing + cut:
             self.fail(f"its lines are not those of mends in their order: {rest!r}")
         self.try_chains(chains)
         creates = [self.with_words(distinct=True)] * len(distinct)
@@ -632,8 +657,10 @@ class Trial:
         self.part.count("mended by " + kind)
 
     def try_distinct(self, distinct):
+        query = self.query._replace(distinct=True)
         wanted = not self.statement.distinct and self.decided(
-            self.query._replace(distinct=True), lambda: [self.with_words(distinct=True)])
+            stands_by_analysis(query) if self.has_few_columns() else None,
+            lambda: stands_by_reply(self.replies([self.with_words(distinct=True)])[0]))
         if bool(distinct) != wanted:
             self.fail(f"DISTINCT {'mends' if wanted else 'does not mend'} it")
 
@@ -644,21 +671,24 @@ class Trial:
             self.fail(f"that the search was cut short, with {many} columns: {bool(cut)}")
         self.part.count("queries whose sets were sought")
         self.part.count("searches cut short", int(is_cut))
-        for found, head, text, stand in ((bounds, b"  mended by", self.bounds_text, self.bounds_stand),
-                                         (domains, b"  mended at CREATE STREAM by", self.domains_text, self.domains_stand)):
+        for found, head, text, stand in ((bounds, b"    mended by", self.bounds_text, self.bounds_stand),
+                                         (domains, b"    mended at CREATE STREAM by", self.domains_text, self.domains_stand)):
             wanted = [head + text(it) for it in self.least_sets(stand)]
             if found != wanted:
                 self.fail(f"sets {found!r}, wanted {wanted!r}")
 
     def try_cost(self, rest):
-        """What a query costs, where a limit refuses it or it has several parts: each line is tried."""
+        """What a query costs, where a limit refuses it or it has several parts: each line is tried. Of an accepted one
+        the changes that keep every answer are told alone.
+        """
         dear = [it for it in rest if KEPT.match(it)]
         changes = [it for it in rest if CHANGE.match(it)]
-        leaves = [LEAVES_OUT] * bool(of_comparisons(changes))
+        words, comparisons = of_words(changes), of_comparisons(changes)
+        same, leaves = [SAME_ANSWERS] * bool(words), [LEAVES_OUT] * bool(comparisons)
         is_limit = self.verdict.verdict[0] == "limit"
         nothing = [NARROW if dear else NOT_LIFTED] * (is_limit and not changes)
         cut = [it for it in rest if it == CUT] if is_limit else []
-        if rest != dear + changes + leaves + nothing + cut:
+        if rest != dear + same + words + leaves + comparisons + nothing + cut:
             self.fail(f"its lines are not those of costs in their order: {rest!r}")
         self.part.count("queries that nothing lifts", len(nothing))
         self.try_dearest(dear)
@@ -677,11 +707,11 @@ class Trial:
 
 
 def of_comparisons(changes):
-    return [it for it in changes if it.startswith(b"  with AND ")]
+    return [it for it in changes if it.startswith(b"    with AND ")]
 
 
 def of_words(changes):
-    return [it for it in changes if not it.startswith(b"  with AND ")]
+    return [it for it in changes if not it.startswith(b"    with AND ")]
 
 
 def read_change(line):
@@ -696,18 +726,35 @@ def stands_by_reply(reply):
     return int(numbers.group(1)) > 0 if numbers else bool(DEAR.match(reply))
 
 
+def meets_by_reply(reply):
+    """Whether a created query breaks no condition, with a part or without one."""
+    return bool(NUMBERS.match(reply) or DEAR.match(reply))
+
+
 def stands_by_analysis(query):
     """Whether a query breaks no condition and has a part; None where it has more parts than are tried."""
+    parts = parts_by_analysis(query)
+    return None if parts is None else parts > 0
+
+
+def meets_by_analysis(query):
+    """Whether a query breaks no condition; None where it has more parts than are tried."""
+    parts = parts_by_analysis(query)
+    return None if parts is None else parts >= 0
+
+
+def parts_by_analysis(query):
+    """How many parts a query has, or -1 where one breaks a condition; None where it has more than are tried."""
     parts, length = 0, len(analysis.pairs_of(query))
     for signs, at in analysis.walk(query, MOST_PARTS):
         if len(signs) < length:
             continue
         parts += 1
         if analysis.violation_of(query, analysis.part_of(query, signs, at).facts):
-            return False
+            return -1
         if parts > FEW_PARTS:
             return None
-    return parts > 0
+    return parts
 
 
 def judge(part, program, writer, text):

@@ -1,11 +1,10 @@
 -- What taking a line comes to.
-use Rattle.std.proofs.Common.{◌≡◌, ℕ, ◌+◌, ◌<◌, ◌≤◌, Bool, true, false, if◌then◌else◌, List, [], ◌++◌, length, nat_lt, refl, sym, ap, ◌∙◌, subst, append-nil, arith, Ok, Err}
+use Rattle.std.proofs.Common.{◌≡◌, ℕ, ◌+◌, ◌<◌, ◌≤◌, Bool, true, false, if◌then◌else◌, List, [], ◌++◌, length, nat_lt, refl, sym, ap, ◌∙◌, subst, append-nil, arith, Option, Some, None, Ok, Err}
 use Rattle.std.specs.declared.result.Result.{Result}
 use Rattle.bq_diagnosis.specs.declared.fault.Asks.{Asks}
 use Rattle.bq_diagnosis.specs.declared.fault.Asks.TheVariants as asks
 use Rattle.bq_diagnosis.specs.declared.fault.Fault.{Fault}
 use Rattle.bq_diagnosis.specs.declared.fault.Fault.TheVariants.{LineTooLong}
-use Rattle.bq_diagnosis.specs.Faults.{IsDiagnosis}
 use Rattle.std.proofs.lemmas.Bool.Decides.{nat_tests}
 use Rattle.std.specs.Result.{OnOk}
 use Rattle.bq_io.specs.Memory.{MemSinkState, mem_sink_seen}
@@ -15,9 +14,11 @@ use Rattle.bq_schema.specs.Streams.{Shape}
 use Rattle.bq_mend.specs.declared.advising.QueryAdvice.{QueryAdvice}
 use Rattle.bq_mend.specs.Advised.{IsAdvice}
 use Rattle.bq_advice.specs.declared.advised.AdvisedQuery.{AdvisedQuery}
+use Rattle.bq_diagnosis.specs.Faults.{IsDiagnosis}
+use Rattle.bq_advice.specs.declared.state.StandingLock.{StandingLock}
 use Rattle.bq_advice.specs.Queries.{query_text}
 use Rattle.bq_advice.specs.State.{State, free_pages, one_fault_more, one_query_more}
-use Rattle.bq_advice.specs.Finding.{fine, fault, query, too_long, fits, ComesOf, advised, after, after_asks, shown, is_row_fault, told_text}
+use Rattle.bq_advice.specs.Finding.{fine, fault, query, too_long, fits, ComesOf, FoundBehind, IsFound, advised, after, after_asks, shown, is_row_fault, told_text}
 use Rattle.bq_advice.specs.LineSteps.{TookLine, TookFault, TookSilently, TookQuery, TookAsks, TookAdvised}
 
 short-test : (n : ℕ) → n ≤ 1024 → nat_lt 1024 n ≡ false
@@ -40,8 +41,22 @@ shown-whole line short = pick-else (nat_lt 1024 (length line)) [] line (short-te
 shown-none : (line : List ℕ) → 1024 < length line → shown line ≡ []
 shown-none line long = pick-then (nat_lt 1024 (length line)) [] line (long-test (length line) long)
 
+-- what is found for a line under the lock that stands
+pub found_locked : (s : State) (o : Option StandingLock) (lock : StandingLock) (streams : List Shape) (live : List (List ℕ)) (line : List ℕ) (r : Result Asks Fault) → o ≡ s.lock → o ≡ Some lock → streams ≡ s.streams → live ≡ s.live
+    → FoundBehind streams live (Some lock) line r → IsFound s line r
+found_locked s o lock streams live line r e f g h found =
+    subst (λ (z : Option StandingLock). FoundBehind s.streams s.live z line r) (sym f ∙ e)
+    (subst (λ (z : List Shape). FoundBehind z s.live (Some lock) line r) g (subst (λ (z : List (List ℕ)). FoundBehind streams z (Some lock) line r) h found))
+
+-- and where none stands
+pub found_open : (s : State) (o : Option StandingLock) (streams : List Shape) (live : List (List ℕ)) (line : List ℕ) (r : Result Asks Fault) → o ≡ s.lock → o ≡ None → streams ≡ s.streams → live ≡ s.live
+    → IsDiagnosis streams live line r → IsFound s line r
+found_open s o streams live line r e f g h found =
+    subst (λ (z : Option StandingLock). FoundBehind s.streams s.live z line r) (sym f ∙ e)
+    (subst (λ (z : List Shape). IsDiagnosis z s.live line r) g (subst (λ (z : List (List ℕ)). IsDiagnosis streams z line r) h found))
+
 -- a line of at most 1,024 bytes is at fault
-pub took_fault : (line : List ℕ) (wrong : Fault) (s t : State) (held now : List ℕ) → length line ≤ 1024 → IsDiagnosis s.streams s.live line (Err wrong) → TookFault line wrong s t held now → TookLine line s t held now
+pub took_fault : (line : List ℕ) (wrong : Fault) (s t : State) (held now : List ℕ) → length line ≤ 1024 → IsFound s line (Err wrong) → TookFault line wrong s t held now → TookLine line s t held now
 took_fault line wrong s t held now short is took = record {
   finding = fault wrong;
   is = fits short (Err wrong) is refl;
@@ -58,7 +73,7 @@ took_long line s t held now long took = record {
   text = took.text ∙ ap (λ l. held ++ told_text s l LineTooLong) (sym (shown-none line long));
 }
 
-silently : (line : List ℕ) (a : Asks) (s t : State) (held now : List ℕ) → length line ≤ 1024 → IsDiagnosis s.streams s.live line (Ok a) → ComesOf s (Ok a) (fine a) → TookSilently (after_asks s a) t held now → TookLine line s t held now
+silently : (line : List ℕ) (a : Asks) (s t : State) (held now : List ℕ) → length line ≤ 1024 → IsFound s line (Ok a) → ComesOf s (Ok a) (fine a) → TookSilently (after_asks s a) t held now → TookLine line s t held now
 silently line a s t held now short is comes took = record {
   finding = fine a;
   is = fits short (Ok a) is comes;
@@ -67,7 +82,7 @@ silently line a s t held now short is comes took = record {
 }
 
 -- a line of at most 1,024 bytes asks for this
-pub took_asks : (line : List ℕ) (a : Asks) (s t : State) (held now : List ℕ) → length line ≤ 1024 → IsDiagnosis s.streams s.live line (Ok a) → TookAsks a s t held now → TookLine line s t held now
+pub took_asks : (line : List ℕ) (a : Asks) (s t : State) (held now : List ℕ) → length line ≤ 1024 → IsFound s line (Ok a) → TookAsks a s t held now → TookLine line s t held now
 took_asks line asks.Nothing s t held now short is took = silently line asks.Nothing s t held now short is refl took
 took_asks line asks.Row s t held now short is took = silently line asks.Row s t held now short is refl took
 took_asks line (asks.Stream name columns) s t held now short is took = silently line (asks.Stream name columns) s t held now short is refl took
@@ -80,14 +95,16 @@ took_asks line (asks.Query name q shared) s t held now short is took = record {
 took_asks line asks.Explain s t held now short is took = silently line asks.Explain s t held now short is refl took
 took_asks line (asks.Drop name) s t held now short is took = silently line (asks.Drop name) s t held now short is refl took
 took_asks line asks.Other s t held now short is took = silently line asks.Other s t held now short is refl took
+took_asks line (asks.Lock key streams) s t held now short is took = silently line (asks.Lock key streams) s t held now short is refl took
+took_asks line asks.Unlock s t held now short is took = silently line asks.Unlock s t held now short is refl took
 
 -- the same where taking succeeds
-pub fault_taken : {E : Type 0} (r : Result Unit E) (line : List ℕ) (wrong : Fault) (s t : State) (held now : List ℕ) → length line ≤ 1024 → IsDiagnosis s.streams s.live line (Err wrong) → OnOk r (TookFault line wrong s t held now)
+pub fault_taken : {E : Type 0} (r : Result Unit E) (line : List ℕ) (wrong : Fault) (s t : State) (held now : List ℕ) → length line ≤ 1024 → IsFound s line (Err wrong) → OnOk r (TookFault line wrong s t held now)
     → OnOk r (TookLine line s t held now)
 fault_taken (Ok done) line wrong s t held now short is took = took_fault line wrong s t held now short is took
 fault_taken (Err e) line wrong s t held now short is took = tt
 
-pub asks_taken : {E : Type 0} (r : Result Unit E) (line : List ℕ) (a : Asks) (s t : State) (held now : List ℕ) → length line ≤ 1024 → IsDiagnosis s.streams s.live line (Ok a) → OnOk r (TookAsks a s t held now)
+pub asks_taken : {E : Type 0} (r : Result Unit E) (line : List ℕ) (a : Asks) (s t : State) (held now : List ℕ) → length line ≤ 1024 → IsFound s line (Ok a) → OnOk r (TookAsks a s t held now)
     → OnOk r (TookLine line s t held now)
 asks_taken (Ok done) line a s t held now short is took = took_asks line a s t held now short is took
 asks_taken (Err e) line a s t held now short is took = tt
@@ -113,6 +130,6 @@ advised_taken (Ok done) a s t streams before after e wrote is = record {
 advised_taken (Err x) a s t streams before after e wrote is = tt
 
 -- what is said of a line at fault was put behind what is held, and the line was counted
-pub fault_told : (line : List ℕ) (wrong : Fault) (s t : State) (before after : MemSinkState) → Wrote (mem_sink_seen before) (mem_sink_seen after) (told_text s line wrong) → (row : Bool) → row ≡ is_row_fault wrong → t ≡ one_fault_more s row
+pub fault_told : (line : List ℕ) (wrong : Fault) (s t : State) (before after : MemSinkState) → Wrote (mem_sink_seen before) (mem_sink_seen after) (told_text s line wrong) → (row : Bool) → row ≡ is_row_fault line wrong → t ≡ one_fault_more s row
     → TookFault line wrong s t before.bytes after.bytes
 fault_told line wrong s t before after wrote row e is = record { state = is ∙ ap (one_fault_more s) e; text = wrote.bytes }

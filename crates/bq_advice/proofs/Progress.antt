@@ -52,15 +52,17 @@ lines-asks s (asks.Query name q shared) = refl
 lines-asks s asks.Explain = refl
 lines-asks s (asks.Drop name) = refl
 lines-asks s asks.Other = refl
+lines-asks s (asks.Lock key streams) = refl
+lines-asks s asks.Unlock = refl
 
-lines-after : (s : State) (f : Finding) → (after s f).lines ≡ s.lines + 1
-lines-after s (fine a) = lines-asks s a
-lines-after s (fault wrong) = refl
-lines-after s (query a) = lines-query s a.name a.advice.judgement
+lines-after : (s : State) (line : List ℕ) (f : Finding) → (after s line f).lines ≡ s.lines + 1
+lines-after s line (fine a) = lines-asks s a
+lines-after s line (fault wrong) = refl
+lines-after s line (query a) = lines-query s a.name a.advice.judgement
 
 come-lines : {given : List (List ℕ)} {text : List ℕ} {s : State} → ComeTo given text s → s.lines ≡ length given
 come-lines none = refl
-come-lines (one_more come line f is) = lines-after _ f ∙ ap (λ n. n + 1) (come-lines come) ∙ sym (length-append _ (line ∷ []))
+come-lines (one_more come line f is) = lines-after _ line f ∙ ap (λ n. n + 1) (come-lines come) ∙ sym (length-append _ (line ∷ []))
 
 -- one more line was given
 more : (long : Bool) (source now now' : SourceState) (old new : Reading) (text : List ℕ) (s : State) (p : Progress source now old text s) → (step : Step long old new now now')

@@ -9,7 +9,7 @@ use Rattle.bq_advice.specs.Finding.{Finding, IsFinding, after, finding_text}
 pub data ComeTo : List (List ℕ) → List ℕ → State → Type 0 where
   none : ComeTo [] [] empty
   one_more : {lines : List (List ℕ)} {text : List ℕ} {s : State} → ComeTo lines text s → (line : List ℕ) → (finding : Finding) → IsFinding s line finding
-      → ComeTo (lines ++ line ∷ []) (text ++ finding_text s line finding) (after s finding)
+      → ComeTo (lines ++ line ∷ []) (text ++ finding_text s line finding) (after s line finding)
 
 -- what is said of all lines, and then what they came to
 abbrev pub outcome_of : List ℕ → State → Outcome

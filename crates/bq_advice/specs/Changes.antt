@@ -1,4 +1,4 @@
--- What is said of the changes that make a query cheaper, or lift a limit.
+-- What is said of the changes that make a query cheaper, or lift a limit: first those that keep every answer, and then those that leave rows out.
 use Rattle.std.specs.Prelude.{ℕ, Bool, true, false, not, if◌then◌else◌, List, [], ◌∷◌, ◌++◌, codes}
 use Rattle.std.specs.List.{flat_map}
 use Rattle.std.specs.declared.option.Option.{Option}
@@ -9,7 +9,7 @@ use Rattle.bq_mend.specs.declared.comparing.Cheaper.{Cheaper}
 use Rattle.bq_mend.specs.declared.advising.QueryAdvice.{QueryAdvice}
 use Rattle.bq_advice_lines.specs.Lines.{text_if}
 use Rattle.bq_advice_lines.specs.Items.{change_line, comparison_line}
-use Rattle.bq_advice.specs.declared.changes.TheConstants.{LEAVES_OUT}
+use Rattle.bq_advice.specs.declared.changes.TheConstants.{SAME_ANSWERS, LEAVES_OUT, BY_DISTINCT}
 
 -- whether there is none
 abbrev pub is_empty : {A : Type 0} → List A → Bool
@@ -29,18 +29,30 @@ cheaper_line streams from c = comparison_line streams from c.atom c.numbers
 abbrev pub has_comparisons : QueryAdvice → Bool
 has_comparisons advice = if is_empty advice.cheaper.items then not (is_empty advice.narrowed.items) else true
 
--- with one comparison that narrows a column, and what a comparison does to the question
-abbrev pub narrowed_text : List Shape → List ℕ → QueryAdvice → List ℕ
-narrowed_text streams from advice = flat_map (cheaper_line streams from) advice.narrowed.items ++ text_if (has_comparisons advice) LEAVES_OUT.now
+-- whether a change is told that keeps every answer
+abbrev pub keeps_answers : QueryAdvice → Bool
+keeps_answers advice = if is_told advice.compact then true else (if is_told advice.shared then true else advice.distinct)
+
+-- with shared cells, and by DISTINCT, with which each answer comes once
+abbrev pub shared_text : QueryAdvice → List ℕ
+shared_text advice = change_line (codes "SHARED") advice.shared ++ text_if advice.distinct BY_DISTINCT.now
+
+-- the changes that keep every answer: COMPACT, shared cells, and DISTINCT
+abbrev pub kept_text : QueryAdvice → List ℕ
+kept_text advice = change_line (codes "COMPACT") advice.compact ++ shared_text advice
+
+-- these under their heading, where there are some
+abbrev pub same_text : QueryAdvice → List ℕ
+same_text advice = text_if (keeps_answers advice) SAME_ANSWERS.now ++ kept_text advice
 
 -- with one comparison more, of both kinds
 abbrev pub compared_text : List Shape → List ℕ → QueryAdvice → List ℕ
-compared_text streams from advice = flat_map (cheaper_line streams from) advice.cheaper.items ++ narrowed_text streams from advice
+compared_text streams from advice = flat_map (cheaper_line streams from) advice.cheaper.items ++ flat_map (cheaper_line streams from) advice.narrowed.items
 
--- with shared cells, and then with one comparison more
-abbrev pub shared_text : List Shape → List ℕ → QueryAdvice → List ℕ
-shared_text streams from advice = change_line (codes "SHARED") advice.shared ++ compared_text streams from advice
+-- these under their heading, where there are some
+abbrev pub fewer_text : List Shape → List ℕ → QueryAdvice → List ℕ
+fewer_text streams from advice = text_if (has_comparisons advice) LEAVES_OUT.now ++ compared_text streams from advice
 
--- what makes a query cheaper: COMPACT, shared cells, and one comparison more, each with the numbers of the query that has it
+-- what makes a query cheaper or lifts a limit: COMPACT, shared cells, and one comparison more, each with the numbers of the query that has it
 abbrev pub changes_text : List Shape → List ℕ → QueryAdvice → List ℕ
-changes_text streams from advice = change_line (codes "COMPACT") advice.compact ++ shared_text streams from advice
+changes_text streams from advice = same_text advice ++ fewer_text streams from advice

@@ -1,5 +1,5 @@
 -- What a line of a script comes to.
-use Rattle.std.specs.Prelude.{◌≡◌, ℕ, ◌+◌, ◌<◌, ◌≤◌, nat_lt, nat_eq, Bool, true, false, if◌then◌else◌, List, [], ◌∷◌, length, decimal}
+use Rattle.std.specs.Prelude.{◌≡◌, ℕ, ◌+◌, ◌<◌, ◌≤◌, nat_lt, nat_eq, Bool, true, false, if◌then◌else◌, List, [], ◌∷◌, length, decimal, Option, Some, None}
 use Rattle.std.specs.declared.result.Result.{Result}
 use Rattle.std.specs.declared.result.Result.TheVariants.{Ok, Err}
 use Rattle.bq_model.specs.Query.{QueryValue}
@@ -8,13 +8,19 @@ use Rattle.bq_diagnosis.specs.declared.fault.Asks.TheVariants as asks
 use Rattle.bq_diagnosis.specs.declared.fault.Fault.{Fault}
 use Rattle.bq_diagnosis.specs.declared.fault.Fault.TheVariants.{LineTooLong}
 use Rattle.bq_diagnosis.specs.declared.fault.Fault.TheVariants as faults
+use Rattle.bq_parser.specs.declared.line.LineKind.{LineKind}
+use Rattle.bq_parser.specs.declared.line.LineKind.TheVariants as kinds
+use Rattle.bq_parser.specs.LineKind.{stripped, kind_of_line}
+use Rattle.bq_schema.specs.Streams.{Shape}
 use Rattle.bq_diagnosis.specs.Faults.{IsDiagnosis}
+use Rattle.bq_diagnosis.specs.Locked.{IsLockedDiagnosis}
+use Rattle.bq_advice.specs.declared.state.StandingLock.{StandingLock}
 use Rattle.bq_sentences.specs.Texts.{fault_text}
 use Rattle.bq_mend.specs.declared.advising.QueryAdvice.{QueryAdvice}
 use Rattle.bq_mend.specs.Advised.{IsAdvice}
 use Rattle.bq_advice_lines.specs.Lines.{text_of}
 use Rattle.bq_advice.specs.declared.advised.AdvisedQuery.{AdvisedQuery}
-use Rattle.bq_advice.specs.State.{State, free_pages, one_line_more, one_fault_more, one_stream_more, one_query_less, one_query_more}
+use Rattle.bq_advice.specs.State.{State, free_pages, one_line_more, one_fault_more, one_stream_more, one_query_less, one_query_more, one_lock_more, one_lock_less}
 use Rattle.bq_advice.specs.declared.faults.TheConstants.{MOST_ROWS, COUNTED, COUNTED_TAIL}
 use Rattle.bq_advice.specs.Queries.{query_text}
 
@@ -44,11 +50,22 @@ ComesOf s (Ok (asks.Stream name columns)) finding = finding ≡ fine (asks.Strea
 ComesOf s (Ok asks.Explain) finding = finding ≡ fine asks.Explain
 ComesOf s (Ok (asks.Drop name)) finding = finding ≡ fine (asks.Drop name)
 ComesOf s (Ok asks.Other) finding = finding ≡ fine asks.Other
+ComesOf s (Ok (asks.Lock key streams)) finding = finding ≡ fine (asks.Lock key streams)
+ComesOf s (Ok asks.Unlock) finding = finding ≡ fine asks.Unlock
+
+-- what is found by looking at a line over these streams and live queries, by whether a lock stands
+abbrev pub FoundBehind : List Shape → List (List ℕ) → Option StandingLock → List ℕ → Result Asks Fault → Type 0
+FoundBehind streams live None line result = IsDiagnosis streams live line result
+FoundBehind streams live (Some lock) line result = IsLockedDiagnosis streams live lock.line lock.key lock.streams.items line result
+
+-- the same behind lines that came to a state
+abbrev pub IsFound : State → List ℕ → Result Asks Fault → Type 0
+IsFound s line result = FoundBehind s.streams s.live s.lock line result
 
 -- What a line comes to behind lines that came to a state: it is too long, or it comes to what is found by looking at it.
 pub data IsFinding (s : State) (line : List ℕ) (finding : Finding) : Type 0 where
   too_long : 1024 < length line → finding ≡ fault LineTooLong → IsFinding s line finding
-  fits : length line ≤ 1024 → (result : Result Asks Fault) → IsDiagnosis s.streams s.live line result → ComesOf s result finding → IsFinding s line finding
+  fits : length line ≤ 1024 → (result : Result Asks Fault) → IsFound s line result → ComesOf s result finding → IsFinding s line finding
 
 -- the state behind a line that asks for this, of which nothing is to be said
 abbrev pub after_asks : State → Asks → State
@@ -59,22 +76,31 @@ after_asks s (asks.Query name q shared) = one_line_more s
 after_asks s asks.Explain = one_line_more s
 after_asks s (asks.Drop name) = one_query_less s name
 after_asks s asks.Other = one_line_more s
+after_asks s (asks.Lock key streams) = one_lock_more s key streams
+after_asks s asks.Unlock = one_lock_less s
 
--- whether a fault is one of a row
-abbrev pub is_row_fault : Fault → Bool
-is_row_fault faults.RowKey = true
-is_row_fault (faults.RowName bytes) = true
-is_row_fault faults.RowStream = true
-is_row_fault (faults.Arity stream wanted found) = true
-is_row_fault (faults.Value field) = true
-is_row_fault (faults.Domain stream field) = true
-is_row_fault _ = false
+-- whether a line is a row
+abbrev pub is_row_kind : LineKind → Bool
+is_row_kind kinds.RowLine = true
+is_row_kind kinds.StatementLine = false
+is_row_kind kinds.Nothing = false
+
+-- whether a fault of a line is one of a row: where a lock does not let the line, where it is one
+abbrev pub is_row_fault : List ℕ → Fault → Bool
+is_row_fault line faults.RowKey = true
+is_row_fault line (faults.RowName bytes) = true
+is_row_fault line faults.RowStream = true
+is_row_fault line (faults.Arity stream wanted found) = true
+is_row_fault line (faults.Value field) = true
+is_row_fault line (faults.Domain stream field) = true
+is_row_fault line (faults.Locked number) = is_row_kind (kind_of_line (stripped line))
+is_row_fault line _ = false
 
 -- the state behind a line that comes to this
-abbrev pub after : State → Finding → State
-after s (fine asks) = after_asks s asks
-after s (fault wrong) = one_fault_more s (is_row_fault wrong)
-after s (query a) = one_query_more s a.name a.advice.judgement
+abbrev pub after : State → List ℕ → Finding → State
+after s line (fine asks) = after_asks s asks
+after s line (fault wrong) = one_fault_more s (is_row_fault line wrong)
+after s line (query a) = one_query_more s a.name a.advice.judgement
 
 -- of a line that is too long nothing is shown
 abbrev pub shown : List ℕ → List ℕ
@@ -92,7 +118,7 @@ row_text s line wrong =
 
 -- what is said of a line that is at fault
 abbrev pub told_text : State → List ℕ → Fault → List ℕ
-told_text s line wrong = if is_row_fault wrong then row_text s line wrong else fault_text (s.lines + 1) line wrong s.streams s.live
+told_text s line wrong = if is_row_fault line wrong then row_text s line wrong else fault_text (s.lines + 1) line wrong s.streams s.live
 
 -- what is said of a line that comes to this
 abbrev pub finding_text : State → List ℕ → Finding → List ℕ

@@ -6,12 +6,12 @@ use Rattle.bq_mend.specs.declared.advising.QueryAdvice.{QueryAdvice}
 use Rattle.bq_advice_lines.specs.Lines.{text_if}
 use Rattle.bq_advice.specs.declared.limits.TheConstants.{NARROW, NOT_LIFTED}
 use Rattle.bq_advice.specs.declared.mends.TheConstants.{CUT_SHORT}
-use Rattle.bq_advice.specs.Changes.{is_empty, is_told, has_comparisons, changes_text}
+use Rattle.bq_advice.specs.Changes.{is_empty, keeps_answers, has_comparisons, same_text, changes_text}
 use Rattle.bq_advice.specs.Dearest.{kept_line}
 
 -- whether any change is told
 abbrev pub has_change : QueryAdvice → Bool
-has_change advice = if is_told advice.compact then true else (if is_told advice.shared then true else has_comparisons advice)
+has_change advice = if keeps_answers advice then true else has_comparisons advice
 
 -- that no change lifts the limit, by whether ranges are named
 abbrev pub not_lifted : QueryAdvice → List ℕ
@@ -29,6 +29,10 @@ lifting_text streams from advice = changes_text streams from advice ++ last_text
 abbrev pub limit_text : List Shape → List ℕ → QueryAdvice → List ℕ
 limit_text streams from advice = flat_map (kept_line streams from) advice.dearest.items ++ lifting_text streams from advice
 
--- the parts that keep the most cells, and what makes the query cheaper
+-- the parts that keep the most cells, and what takes fewer pages
+abbrev pub pages_text : List Shape → List ℕ → QueryAdvice → List ℕ
+pages_text streams from advice = flat_map (kept_line streams from) advice.dearest.items ++ changes_text streams from advice
+
+-- the parts that keep the most cells, and what makes the query cheaper and keeps every answer
 abbrev pub cost_text : List Shape → List ℕ → QueryAdvice → List ℕ
-cost_text streams from advice = flat_map (kept_line streams from) advice.dearest.items ++ changes_text streams from advice
+cost_text streams from advice = flat_map (kept_line streams from) advice.dearest.items ++ same_text advice

@@ -8,7 +8,7 @@ use Rattle.bq_diagnosis.specs.declared.fault.Fault.TheVariants.{LineTooLong}
 use Rattle.bq_mend.specs.declared.advising.QueryAdvice.{QueryAdvice}
 use Rattle.bq_mend.specs.Advised.{IsAdvice}
 use Rattle.bq_advice.specs.declared.advised.AdvisedQuery.{AdvisedQuery}
-use Rattle.bq_advice.specs.State.{State, one_line_more, one_fault_more, one_stream_more, one_query_less, one_query_more}
+use Rattle.bq_advice.specs.State.{State, one_line_more, one_fault_more, one_stream_more, one_query_less, one_query_more, one_lock_more, one_lock_less}
 use Rattle.bq_advice.specs.Queries.{query_text}
 use Rattle.bq_advice.specs.Finding.{Finding, IsFinding, advised, after, is_row_fault, told_text, finding_text}
 
@@ -16,12 +16,12 @@ use Rattle.bq_advice.specs.Finding.{Finding, IsFinding, advised, after, is_row_f
 pub record TookLine (line : List ℕ) (s t : State) (held now : List ℕ) : Type 0 where
   pub finding : Finding
   pub is : IsFinding s line finding
-  pub state : t ≡ after s finding
+  pub state : t ≡ after s line finding
   pub text : now ≡ held ++ finding_text s line finding
 
 -- a line that is at fault, of which so much is shown
 pub record TookFault (shown : List ℕ) (fault : Fault) (s t : State) (held now : List ℕ) : Type 0 where
-  pub state : t ≡ one_fault_more s (is_row_fault fault)
+  pub state : t ≡ one_fault_more s (is_row_fault shown fault)
   pub text : now ≡ held ++ told_text s shown fault
 
 -- a query that was advised on
@@ -49,6 +49,8 @@ TookAsks (asks.Query name q shared) s t held now = TookQuery name q shared s t h
 TookAsks asks.Explain s t held now = TookSilently (one_line_more s) t held now
 TookAsks (asks.Drop name) s t held now = TookSilently (one_query_less s name) t held now
 TookAsks asks.Other s t held now = TookSilently (one_line_more s) t held now
+TookAsks (asks.Lock key streams) s t held now = TookSilently (one_lock_more s key streams) t held now
+TookAsks asks.Unlock s t held now = TookSilently (one_lock_less s) t held now
 
 -- a line, of which nothing is shown where it is too long
 abbrev pub TookGiven : Bool → List ℕ → State → State → List ℕ → List ℕ → Type 0

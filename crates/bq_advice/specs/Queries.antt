@@ -14,12 +14,16 @@ use Rattle.bq_advice.specs.declared.advised.AdvisedQuery.{AdvisedQuery}
 use Rattle.bq_advice_lines.specs.Lines.{numbers_text, query_line, pool_line, above_line, violation_line}
 use Rattle.bq_advice.specs.declared.queries.TheConstants.{NEVER, NO_ROW, MANY, NO_MORE}
 use Rattle.bq_advice.specs.Chains.{chain_line}
-use Rattle.bq_advice.specs.Limits.{cost_text, limit_text}
+use Rattle.bq_advice.specs.Limits.{cost_text, pages_text, limit_text}
 use Rattle.bq_advice.specs.Mends.{mends_text}
 
--- the parts that keep the most cells, and what makes the query cheaper
+-- the parts that keep the most cells, and what makes the query cheaper and keeps every answer
 abbrev pub cost_of : List Shape → AdvisedQuery → List ℕ
 cost_of streams a = cost_text streams a.query.from a.advice
+
+-- the parts that keep the most cells, and what takes fewer pages
+abbrev pub pages_of : List Shape → AdvisedQuery → List ℕ
+pages_of streams a = pages_text streams a.query.from a.advice
 
 -- the parts that keep the most cells, and what lifts the limit that refuses the query
 abbrev pub limit_of : List Shape → AdvisedQuery → List ℕ
@@ -29,7 +33,7 @@ limit_of streams a = limit_text streams a.query.from a.advice
 abbrev pub behind_head : List Shape → AdvisedQuery → Numbers → List ℕ
 behind_head streams a numbers = numbers_text numbers ++ cost_of streams a
 
--- what is said of a query of several parts that is accepted: its numbers, the parts that keep the most cells, and what makes it cheaper
+-- what is said of a query of several parts that is accepted: its numbers, the parts that keep the most cells, and what makes it cheaper and keeps every answer
 abbrev pub parts_text : List Shape → AdvisedQuery → Numbers → List ℕ
 parts_text streams a numbers = query_line a.number a.name NO_MORE.now ++ behind_head streams a numbers
 
@@ -39,7 +43,7 @@ within_text streams a numbers = if nat_eq numbers.parts 0 then query_line a.numb
 
 -- what is said of a query that is within the limits and needs more pages than are free
 abbrev pub pool_text : List Shape → AdvisedQuery → ℕ → List ℕ
-pool_text streams a needed = pool_line a.number a.name needed a.free ++ cost_of streams a
+pool_text streams a needed = pool_line a.number a.name needed a.free ++ pages_of streams a
 
 -- what is said of a query that is within the limits, by whether its pages are free
 abbrev pub accepted_text : List Shape → AdvisedQuery → Numbers → List ℕ

@@ -1,16 +1,18 @@
 -- What the lines of a script have made, and how many of them came to what.
-use Rattle.std.specs.Prelude.{ℕ, ◌+◌, ◌-◌, Bool, not, nat_lt, nat_eq, true, false, if◌then◌else◌, List, [], ◌∷◌, ◌++◌, sum, Option, Some, None}
+use Rattle.std.specs.Prelude.{ℕ, ℤ, ◌+◌, ◌-◌, Bool, not, nat_lt, nat_eq, true, false, if◌then◌else◌, List, [], ◌∷◌, ◌++◌, sum, Option, Some, None}
 use Rattle.std.specs.List.{position, remove}
 use Rattle.std.specs.Str.{bytes_eq}
+use Rattle.arrayvec.specs.ArrayVec.{ArrayVec}
 use Rattle.bq_io.specs.declared.status.Status.{Status}
 use Rattle.bq_io.specs.declared.status.Status.TheVariants.{Done, Invalid}
 use Rattle.bq_model.specs.Numbers.{page_count}
 use Rattle.bq_schema.specs.Streams.{Shape, with_stream}
 use Rattle.bq_mend.specs.declared.judging.Judgement.{Judgement}
 use Rattle.bq_mend.specs.declared.judging.Judgement.TheVariants as judgement
+use Rattle.bq_advice.specs.declared.state.StandingLock.{StandingLock}
 
 -- The streams; the names of the live queries, in the order of their lines, and the pages of the pool that each has; how many lines were read,
--- how many queries were accepted and refused, how many lines are at fault, and how many of these are rows.
+-- how many queries were accepted and refused, how many lines are at fault, and how many of these are rows; and the lock that stands, if one does.
 pub record State : Type 0 where
   pub streams : List Shape
   pub live : List (List ℕ)
@@ -20,10 +22,11 @@ pub record State : Type 0 where
   pub refused : ℕ
   pub at_fault : ℕ
   pub rows : ℕ
+  pub lock : Option StandingLock
 
 -- before the first line
 abbrev pub empty : State
-empty = record { streams = []; live = []; pages = []; lines = 0; accepted = 0; refused = 0; at_fault = 0; rows = 0 }
+empty = record { streams = []; live = []; pages = []; lines = 0; accepted = 0; refused = 0; at_fault = 0; rows = 0; lock = None }
 
 -- the pages that are free beside those of the live queries
 abbrev pub free_pages : State → ℕ
@@ -48,6 +51,14 @@ is_accepted free judgement.ManyParts = false
 -- one line more
 abbrev pub one_line_more : State → State
 one_line_more s = record s { lines = s.lines + 1 }
+
+-- one line more, by which a lock stands
+abbrev pub one_lock_more : State → Option ℤ → ArrayVec (List ℕ) → State
+one_lock_more s key streams = record s { lines = s.lines + 1; lock = Some (record { line = s.lines + 1; key = key; streams = streams }) }
+
+-- one line more, by which none stands
+abbrev pub one_lock_less : State → State
+one_lock_less s = record s { lines = s.lines + 1; lock = None }
 
 -- one line more, which is at fault, and may be a row
 abbrev pub one_fault_more : State → Bool → State

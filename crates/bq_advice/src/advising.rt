@@ -70,8 +70,8 @@ fn end_told<O: Sink>(told: &Told, output: &mut O) -> Status
 
 /// Reads a script to the end of the source, looks at each line behind those before it, and writes what is to be said of it: what is wrong with a line
 /// that a session would refuse, why a query is refused and what would mend it, what an accepted one of several parts costs and what would make it cheaper;
-/// and at the end one line with what all lines came to. A query that is accepted is live until its line of DROP, and takes its pages; no row
-/// is taken into any query. `Done` where every line is taken and every query accepted, `Invalid` where one is not.
+/// and at the end one line with what all lines came to. A query that is accepted is live until its line of DROP, and takes its pages; a lock stands until its
+/// UNLOCK; no row is taken into any query. `Done` where every line is taken and every query accepted, `Invalid` where one is not.
 ///
 /// Nothing is written before all lines are read, so nothing is where the source fails or has more bytes than can be counted, and for want
 /// of memory. Where the sink fails, a front of the text was written.

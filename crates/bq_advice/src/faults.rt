@@ -1,13 +1,15 @@
 //! What is said of a line that is at fault. Of rows that are wrong the first are told, and those behind them are counted alone: a stream that could not be created,
-//! or a column in another unit, makes all rows wrong.
+//! a column in another unit, or a lock makes all rows wrong.
 ghost use Rattle.std.specs.Prelude.{◌≡◌, ◌+◌, ◌-◌, ◌^◌, ◌<◌};
 ghost use Rattle.bq_io.specs.Sink.{Writes};
+ghost use Rattle.bq_parser.specs.LineKind.{stripped, kind_of_line};
 ghost use Rattle.bq_sentences.specs.Texts.{fault_text};
 ghost use Rattle.bq_advice.specs.Finding as finding;
 
 use crate::state::Advising;
 use bq_diagnosis::{Fault, Known};
 use bq_io::{Sink, WriteFault, write_pieces};
+use bq_parser::{LineKind, classify};
 use bq_sentences::write_fault;
 use itoa::Buffer;
 
@@ -21,19 +23,31 @@ const COUNTED: &[u8] = b"line ";
 const COUNTED_TAIL: &[u8] =
     b": 20 wrong rows are told above; this one is wrong too, and from here on such rows are counted alone\n";
 
-/// Returns whether a fault is one of a row.
-pub fn is_row_fault(fault: &Fault) -> bool
-    ensures { result ≡ finding.is_row_fault fault.now }
+// Whether a line is a row.
+fn is_row(line: &[u8]) -> bool
+    ensures { result ≡ finding.is_row_kind (kind_of_line (stripped line.now)) }
 {
-    matches!(
-        fault,
+    let (kind, _text) = classify(line);
+    match kind {
+        LineKind::RowLine => true,
+        LineKind::StatementLine | LineKind::Nothing => false,
+    }
+}
+
+/// Returns whether a fault of a line is one of a row. Where a lock does not let the line, that is where it is one.
+pub fn is_row_fault(line: &[u8], fault: &Fault) -> bool
+    ensures { result ≡ finding.is_row_fault line.now fault.now }
+{
+    match fault {
+        Fault::Locked { .. } => is_row(line),
         Fault::RowKey
-            | Fault::RowName { .. }
-            | Fault::RowStream
-            | Fault::Arity { .. }
-            | Fault::Value { .. }
-            | Fault::Domain { .. }
-    )
+        | Fault::RowName { .. }
+        | Fault::RowStream
+        | Fault::Arity { .. }
+        | Fault::Value { .. }
+        | Fault::Domain { .. } => true,
+        _ => false,
+    }
 }
 
 // What is wrong with the next line.
@@ -92,7 +106,7 @@ pub fn tell_fault<O: Sink>(
     requires { state.now.lines < 2 ^ 64 - 1 }
     ensures { Writes result (O.seen out.old) (O.seen out.new) (finding.told_text state.now line.now fault.now) }
 {
-    if is_row_fault(fault) {
+    if is_row_fault(line, fault) {
         write_row(state, line, fault, out)
     } else {
         write_wrong(state, line, fault, out)

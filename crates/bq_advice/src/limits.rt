@@ -3,7 +3,7 @@ ghost use Rattle.std.specs.Prelude.{◌≡◌};
 ghost use Rattle.bq_io.specs.Sink.{Writes};
 ghost use Rattle.bq_advice.specs.Limits as limits;
 
-use crate::changes::{has_comparisons, write_changes};
+use crate::changes::{has_comparisons, keeps_answers, write_changes, write_same};
 use crate::dearest::write_dearest;
 use crate::mends::CUT_SHORT;
 use bq_advice_lines::write_if;
@@ -23,9 +23,7 @@ const NOT_LIFTED: &[u8] =
 fn has_change(advice: &QueryAdvice) -> bool
     ensures { result ≡ limits.has_change advice.now }
 {
-    if advice.compact.is_some() {
-        true
-    } else if advice.shared.is_some() {
+    if keeps_answers(advice) {
         true
     } else {
         has_comparisons(advice)
@@ -88,7 +86,23 @@ pub fn write_lifting<O: Sink>(
     }
 }
 
-/// Writes which parts keep the most cells, and what makes the query cheaper, each in a line.
+/// Writes which parts keep the most cells, and what takes fewer pages, each in a line.
+#[tactic(auto, using(crate::proofs::Texts::writes_behind))]
+pub fn write_pages<O: Sink>(
+    out: &mut O,
+    advice: &QueryAdvice,
+    from: &[u8],
+    catalog: &Catalog,
+) -> Result<(), WriteFault>
+    ensures { Writes result (O.seen out.old) (O.seen out.new) (limits.pages_text catalog.now from.now advice.now) }
+{
+    match write_dearest(out, advice.dearest.as_slice(), from, catalog) {
+        Ok(()) => write_changes(out, advice, from, catalog),
+        Err(fault) => Err(fault),
+    }
+}
+
+/// Writes which parts keep the most cells, and what makes the query cheaper and keeps every answer, each in a line.
 #[tactic(auto, using(crate::proofs::Texts::writes_behind))]
 pub fn write_cheapening<O: Sink>(
     out: &mut O,
@@ -99,7 +113,7 @@ pub fn write_cheapening<O: Sink>(
     ensures { Writes result (O.seen out.old) (O.seen out.new) (limits.cost_text catalog.now from.now advice.now) }
 {
     match write_dearest(out, advice.dearest.as_slice(), from, catalog) {
-        Ok(()) => write_changes(out, advice, from, catalog),
+        Ok(()) => write_same(out, advice),
         Err(fault) => Err(fault),
     }
 }

@@ -5,24 +5,21 @@ ghost use Rattle.bq_io.specs.Sink.{Writes};
 ghost use Rattle.bq_advice_lines.specs.Items.{bounds_line, domains_line};
 ghost use Rattle.bq_advice.specs.Mends as mend;
 
-use crate::changes::{has_comparisons, write_compared};
-use bq_advice_lines::{write_bounds_line, write_change, write_domains_line, write_if};
+use crate::changes::{LEAVES_OUT, has_comparisons, keeps_answers, write_compared, write_same};
+use bq_advice_lines::{write_bounds_line, write_domains_line, write_if};
 use bq_io::{Sink, WriteFault};
 use bq_mend::{ColumnSet, QueryAdvice};
 use bq_schema::Catalog;
 
 /// Which integers were tried.
 const ENDS: &[u8] =
-    b"  LO and HI are two integers of your own for all columns: -999999999999999 and 999999999999999 were tried; the numbers may still pass a limit, so write yours and then ask again for the numbers\n";
+    b"    LO and HI are two integers of your own for all columns: -999999999999999 and 999999999999999 were tried, and two close together, below and above all integers of the query; the numbers may still pass a limit, so write yours and then ask again for the numbers\n";
 
 /// That there is no mend.
 const NOTHING: &[u8] = b"  nothing that was tried mends it\n";
 
 /// That not all was tried.
 pub const CUT_SHORT: &[u8] = b"  not all was tried\n";
-
-/// That DISTINCT mends the query.
-const BY_DISTINCT: &[u8] = b"  mended by DISTINCT\n";
 
 // That two comparisons on each column of a set mend the query.
 fn write_bounds<O: Sink>(
@@ -95,18 +92,25 @@ fn has_sets(advice: &QueryAdvice) -> bool
     }
 }
 
+// Whether a change mends it that leaves rows out.
+fn has_fewer(advice: &QueryAdvice) -> bool
+    ensures { result ≡ mend.has_fewer advice.now }
+{
+    if has_comparisons(advice) {
+        true
+    } else {
+        has_sets(advice)
+    }
+}
+
 // Whether anything mends the query.
 fn has_mend(advice: &QueryAdvice) -> bool
     ensures { result ≡ mend.has_mend advice.now }
 {
-    if advice.distinct {
-        true
-    } else if advice.compact.is_some() {
-        true
-    } else if has_comparisons(advice) {
+    if keeps_answers(advice) {
         true
     } else {
-        has_sets(advice)
+        has_fewer(advice)
     }
 }
 
@@ -185,23 +189,23 @@ fn write_from_bounds<O: Sink>(
     }
 }
 
-// COMPACT, where the query is accepted with it, and what comes behind.
+// The changes that leave rows out under their heading, and what is said behind them.
 #[tactic(auto, using(crate::proofs::Texts::writes_behind))]
-fn write_from_compact<O: Sink>(
+fn write_fewer<O: Sink>(
     out: &mut O,
     advice: &QueryAdvice,
     from: &[u8],
     catalog: &Catalog,
 ) -> Result<(), WriteFault>
-    ensures { Writes result (O.seen out.old) (O.seen out.new) (mend.compact_text catalog.now from.now advice.now) }
+    ensures { Writes result (O.seen out.old) (O.seen out.new) (mend.fewer_text catalog.now from.now advice.now) }
 {
-    match write_change(out, b"COMPACT", advice.compact) {
+    match write_if(out, has_fewer(advice), LEAVES_OUT) {
         Ok(()) => write_from_bounds(out, advice, from, catalog),
         Err(fault) => Err(fault),
     }
 }
 
-/// Writes what mends a query, each change in a line.
+/// Writes what mends a query, each change in a line: first what keeps every answer, and then what leaves rows out.
 #[tactic(auto, using(crate::proofs::Texts::writes_behind))]
 pub fn write_mends<O: Sink>(
     out: &mut O,
@@ -211,8 +215,8 @@ pub fn write_mends<O: Sink>(
 ) -> Result<(), WriteFault>
     ensures { Writes result (O.seen out.old) (O.seen out.new) (mend.mends_text catalog.now from.now advice.now) }
 {
-    match write_if(out, advice.distinct, BY_DISTINCT) {
-        Ok(()) => write_from_compact(out, advice, from, catalog),
+    match write_same(out, advice) {
+        Ok(()) => write_fewer(out, advice, from, catalog),
         Err(fault) => Err(fault),
     }
 }

@@ -6,7 +6,7 @@ ghost use Rattle.bq_advice.specs.Queries as queries;
 
 use crate::advised::AdvisedQuery;
 use crate::chains::write_chains;
-use crate::limits::{write_cheapening, write_lifting};
+use crate::limits::{write_cheapening, write_lifting, write_pages};
 use crate::mends::write_mends;
 use bq_advice_lines::{
     names_of, write_above, write_numbers, write_pool, write_query_line, write_violation,
@@ -36,7 +36,7 @@ pub fn page_count(cells: u32) -> u32
     cells.div_ceil(64)
 }
 
-// The parts that keep the most cells, and what makes the query cheaper.
+// The parts that keep the most cells, and what makes the query cheaper and keeps every answer.
 fn write_cost<O: Sink>(
     out: &mut O,
     advised: &AdvisedQuery,
@@ -45,6 +45,17 @@ fn write_cost<O: Sink>(
     ensures { Writes result (O.seen out.old) (O.seen out.new) (queries.cost_of catalog.now advised.now) }
 {
     write_cheapening(out, &advised.advice, advised.query.from(), catalog)
+}
+
+// The parts that keep the most cells, and what takes fewer pages.
+fn write_pages_of<O: Sink>(
+    out: &mut O,
+    advised: &AdvisedQuery,
+    catalog: &Catalog,
+) -> Result<(), WriteFault>
+    ensures { Writes result (O.seen out.old) (O.seen out.new) (queries.pages_of catalog.now advised.now) }
+{
+    write_pages(out, &advised.advice, advised.query.from(), catalog)
 }
 
 // The parts that keep the most cells, and what lifts the limit that refuses the query.
@@ -58,7 +69,7 @@ fn write_limit<O: Sink>(
     write_lifting(out, &advised.advice, advised.query.from(), catalog)
 }
 
-// The numbers of a query, the parts that keep the most cells, and what makes it cheaper.
+// The numbers of a query, the parts that keep the most cells, and what makes it cheaper and keeps every answer.
 #[tactic(auto, using(crate::proofs::Texts::writes_behind))]
 fn write_behind_head<O: Sink>(
     out: &mut O,
@@ -119,7 +130,7 @@ fn write_without_pages<O: Sink>(
     ensures { Writes result (O.seen out.old) (O.seen out.new) (queries.pool_text catalog.now advised.now needed) }
 {
     match write_pool(out, advised.number, &advised.name, needed, advised.free) {
-        Ok(()) => write_cost(out, advised, catalog),
+        Ok(()) => write_pages_of(out, advised, catalog),
         Err(fault) => Err(fault),
     }
 }

@@ -3,8 +3,9 @@ ghost use Rattle.std.specs.Prelude.{◌≡◌, ◌+◌, ◌<◌, ◌≤◌, ◌-
 ghost use Rattle.std.specs.List.{All, position};
 ghost use Rattle.std.specs.Str.{bytes_eq};
 ghost use Rattle.bq_schema.specs.Streams.{HasEnds};
-ghost use Rattle.bq_advice.specs.State.{empty, free_pages, status_for, one_line_more, one_fault_more, one_stream_more, one_query_less};
+ghost use Rattle.bq_advice.specs.State.{empty, free_pages, status_for, one_line_more, one_fault_more, one_stream_more, one_query_less, one_lock_more, one_lock_less};
 
+use arrayvec::ArrayVec;
 use bq_io::Status;
 use bq_schema::{Catalog, ColumnDef};
 use bq_text::Name;
@@ -14,7 +15,18 @@ use std::marker::Model;
 /// The pages of the pool.
 const PAGES: u32 = 16_384;
 
-/// The streams and the live queries that the lines so far have made, and how many lines came to what.
+/// A lock.
+#[derive(Drop)]
+pub struct StandingLock {
+    /// The number of the line that set it, from 1.
+    pub line: u64,
+    /// The integer of the UNLOCK that opens it; without one nothing does.
+    pub key: Option<i64>,
+    /// The streams whose rows it lets; where there are none, those of all streams.
+    pub streams: ArrayVec<Name, 16>,
+}
+
+/// The streams, the live queries and the lock that the lines so far have made, and how many lines came to what.
 #[derive(Drop)]
 pub struct Advising {
     catalog: Catalog,
@@ -27,6 +39,7 @@ pub struct Advising {
     refused: u64,
     at_fault: u64,
     rows: u64,
+    lock: Option<StandingLock>,
 }
 
 impl Model for Advising {
@@ -35,7 +48,7 @@ impl Model for Advising {
 
     ghost Value = { State };
 
-    ghost view = { λ a. record { streams = a.catalog; live = a.live.items; pages = a.pages.items; lines = a.lines; accepted = a.accepted; refused = a.refused; at_fault = a.at_fault; rows = a.rows } };
+    ghost view = { λ a. record { streams = a.catalog; live = a.live.items; pages = a.pages.items; lines = a.lines; accepted = a.accepted; refused = a.refused; at_fault = a.at_fault; rows = a.rows; lock = a.lock } };
 
     ghost invariant = { λ a. (length a.live.items ≡ length a.pages.items) × (a.taken ≡ sum a.pages.items) × (a.taken ≤ 16384) × (a.accepted + a.refused + a.at_fault ≤ a.lines) × (a.rows ≤ a.at_fault) };
 }
@@ -62,6 +75,7 @@ impl Advising {
             refused: 0,
             at_fault: 0,
             rows: 0,
+            lock: None,
         })
     }
 
@@ -114,6 +128,13 @@ impl Advising {
         self.rows
     }
 
+    /// Returns the lock that stands, if one does.
+    pub fn lock(&self) -> &Option<StandingLock>
+        ensures { result.now ≡ self.now.lock }
+    {
+        &self.lock
+    }
+
     /// Returns how many pages are free.
     pub fn free(&self) -> u32
         ensures value { result ≡ free_pages self.now }
@@ -139,6 +160,28 @@ impl Advising {
         requires { self.old.lines < 2 ^ 64 - 1 }
         ensures { self.new ≡ one_line_more self.old }
     {
+        self.lines += 1;
+    }
+
+    /// Lets a lock stand with the number and the streams of the next line, and counts that line.
+    pub fn set_lock(&mut self, key: Option<i64>, streams: ArrayVec<Name, 16>)
+        requires { self.old.lines < 2 ^ 64 - 1 }
+        ensures { self.new ≡ one_lock_more self.old key streams }
+    {
+        self.lines += 1;
+        self.lock = Some(StandingLock {
+            line: self.lines,
+            key,
+            streams,
+        });
+    }
+
+    /// Lets no lock stand any more, and counts the line.
+    pub fn unlock(&mut self)
+        requires { self.old.lines < 2 ^ 64 - 1 }
+        ensures { self.new ≡ one_lock_less self.old }
+    {
+        self.lock = None;
         self.lines += 1;
     }
 

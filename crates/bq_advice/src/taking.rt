@@ -1,15 +1,16 @@
 //! One line of a script.
-ghost use Rattle.std.specs.Prelude.{◌≡◌, ◌+◌, ◌-◌, ◌^◌, ◌<◌, ◌≤◌, [], IfOk, OnOk, length};
+ghost use Rattle.std.specs.Prelude.{◌≡◌, ◌+◌, ◌-◌, ◌^◌, ◌<◌, ◌≤◌, Some, [], IfOk, OnOk, length};
 ghost use Rattle.bq_diagnosis.specs.declared.fault.Fault.TheVariants as faults;
-ghost use Rattle.bq_diagnosis.specs.Faults.{IsDiagnosis, IsReady};
+ghost use Rattle.bq_diagnosis.specs.Faults.{IsReady};
+ghost use Rattle.bq_advice.specs.Finding.{IsFound, FoundBehind};
 ghost use Rattle.bq_advice.specs.State.{is_accepted, pages_for, one_query_more};
 ghost use Rattle.bq_advice.specs.LineSteps.{TookLine, TookAsks, TookQuery, TookAdvised, TookFault};
 
 use crate::advised::AdvisedQuery;
 use crate::faults::{is_row_fault, tell_fault};
 use crate::queries::{page_count, write_query};
-use crate::state::Advising;
-use bq_diagnosis::{Asks, Fault, Known, diagnose};
+use crate::state::{Advising, StandingLock};
+use bq_diagnosis::{Asks, Fault, Known, Lock, diagnose, diagnose_locked};
 use bq_io::MemSink;
 use bq_mend::{Judgement, advise};
 use bq_model::Query;
@@ -40,17 +41,35 @@ fn is_accepted(free: u32, judgement: Judgement) -> bool
     }
 }
 
-// What is found by looking at a line.
+// What is found by looking at a line under a lock.
+fn look_locked(standing: &StandingLock, line: &[u8], known: &Known<'_>) -> Result<Asks, Fault>
+    requires { length line.now ≤ 1024 }
+    ensures found { FoundBehind known.now.catalog.now known.now.live.now (Some standing.now) line.now result }
+    ensures ready { IfOk result (IsReady known.now.catalog.now) }
+{
+    let lock = Lock {
+        line: standing.line,
+        key: standing.key,
+        streams: standing.streams.as_slice(),
+    };
+    diagnose_locked(line, known, &lock)
+}
+
+// What is found by looking at a line, as a session with the lock that stands reads it.
+#[tactic(auto, using(crate::proofs::LineLaws::found_locked, crate::proofs::LineLaws::found_open))]
 fn look_at(state: &Advising, line: &[u8]) -> Result<Asks, Fault>
     requires { length line.now ≤ 1024 }
-    ensures found { IsDiagnosis state.now.streams state.now.live line.now result }
+    ensures found { IsFound state.now line.now result }
     ensures ready { IfOk result (IsReady state.now.streams) }
 {
     let known = Known {
         catalog: state.catalog(),
         live: state.live(),
     };
-    diagnose(line, &known)
+    match state.lock() {
+        Some(standing) => look_locked(standing, line, &known),
+        None => diagnose(line, &known),
+    }
 }
 
 // Takes a line that is at fault: what is said of it is put behind what is held, and the line is counted.
@@ -66,7 +85,7 @@ fn take_fault(
 {
     match tell_fault(state, line, fault, held) {
         Ok(()) => {
-            state.count_fault(is_row_fault(fault));
+            state.count_fault(is_row_fault(line, fault));
             Ok(())
         }
         Err(_) => Err(AllocError),
@@ -149,6 +168,14 @@ fn take_asks(
         }
         Asks::Drop(name) => {
             state.drop_query(&name);
+            Ok(())
+        }
+        Asks::Lock { key, streams } => {
+            state.set_lock(key, streams);
+            Ok(())
+        }
+        Asks::Unlock => {
+            state.unlock();
             Ok(())
         }
         Asks::Nothing | Asks::Row | Asks::Explain | Asks::Other => {

@@ -12,6 +12,7 @@ use Rattle.bq_model.specs.declared.plan.Numbers.{Numbers}
 use Rattle.bq_schema.specs.Streams.{Shape}
 use Rattle.bq_parser.specs.Resolution.{column_named}
 use Rattle.bq_explain.specs.Text.{element_text}
+use Rattle.bq_advice_lines.specs.declared.comparisons.TheConstants.{WITH_AND}
 use Rattle.bq_advice_lines.specs.Lines.{numbers_text, op_text, change_head, bounds_item, domain_item, range_text}
 
 -- a column or an integer behind a text
@@ -34,7 +35,7 @@ comparison_rest streams from t numbers = behind streams from (op_text t.op) t.ri
 
 -- with one comparison more, written behind the others
 abbrev pub comparison_line : List Shape → List ℕ → Atom → Numbers → List ℕ
-comparison_line streams from t numbers = behind streams from (codes "  with AND ") t.left ++ comparison_rest streams from t numbers
+comparison_line streams from t numbers = behind streams from WITH_AND.now t.left ++ comparison_rest streams from t numbers
 
 -- two comparisons on a column
 abbrev pub bounded : List Shape → List ℕ → Attr → List ℕ
@@ -50,10 +51,10 @@ bounds_items streams from set = flat_map (bounded streams from) set
 
 -- how a line of comparisons and one of domains begin
 unfoldable pub bounds_head : List ℕ
-bounds_head = codes "  mended by"
+bounds_head = codes "    mended by"
 
 unfoldable pub domains_head : List ℕ
-domains_head = codes "  mended at CREATE STREAM by"
+domains_head = codes "    mended at CREATE STREAM by"
 
 -- mended by two comparisons on each column of a set
 abbrev pub bounds_line : List Shape → List ℕ → List Attr → List ℕ

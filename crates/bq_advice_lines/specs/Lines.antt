@@ -66,7 +66,7 @@ op_text op.Ne = codes " <> "
 
 -- a change that has a name
 unfoldable pub change_head : List ℕ → List ℕ
-change_head change = text_of (codes "  with " ∷ change ∷ [])
+change_head change = text_of (codes "    with " ∷ change ∷ [])
 
 -- a column between two integers
 unfoldable pub bounds_item : ColumnAst → List ℕ

@@ -8,6 +8,9 @@ use bq_io::{Sink, WriteFault};
 use bq_model::{Atom, Numbers};
 use bq_schema::Catalog;
 
+/// What stands before one comparison more.
+const WITH_AND: &[u8] = b"    with AND ";
+
 /// Writes a change that has a name, with the numbers of the query that has it, where they are told.
 #[tactic(auto, using(crate::proofs::Texts::writes_behind))]
 pub fn write_change<O: Sink>(
@@ -43,7 +46,7 @@ fn write_rest<O: Sink>(
     }
 }
 
-/// Writes one comparison more, with the numbers of the query that has it: `  with AND S.a < 9: parts 1 cells 8 answers 4 work 1`.
+/// Writes one comparison more, with the numbers of the query that has it: `    with AND S.a < 9: parts 1 cells 8 answers 4 work 1`.
 #[tactic(auto, using(crate::proofs::Texts::writes_behind))]
 pub fn write_comparison<O: Sink>(
     out: &mut O,
@@ -54,7 +57,7 @@ pub fn write_comparison<O: Sink>(
 ) -> Result<(), WriteFault>
     ensures { Writes result (O.seen out.old) (O.seen out.new) (item.comparison_line catalog.now from.now atom.now numbers) }
 {
-    match write_element(out, b"  with AND ", &atom.left, from, catalog) {
+    match write_element(out, WITH_AND, &atom.left, from, catalog) {
         Ok(()) => write_rest(out, atom, numbers, from, catalog),
         Err(fault) => Err(fault),
     }

@@ -319,12 +319,12 @@ pub fn op_text(op: Op) -> &'static [u8]
     }
 }
 
-/// Writes a change that has a name: `  with COMPACT`.
+/// Writes a change that has a name: `    with COMPACT`.
 #[tactic(auto, unfolding(crate::specs::Lines::change_head))]
 pub fn write_change_head<O: Sink>(out: &mut O, change: &[u8]) -> Result<(), WriteFault>
     ensures { Writes result (O.seen out.old) (O.seen out.new) (line.change_head change.now) }
 {
-    let pieces: [&[u8]; 2] = [b"  with ", change];
+    let pieces: [&[u8]; 2] = [b"    with ", change];
     write_pieces(out, &pieces)
 }
 

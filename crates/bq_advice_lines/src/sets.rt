@@ -14,7 +14,7 @@ use bq_schema::Catalog;
 fn write_bounds_head<O: Sink>(out: &mut O) -> Result<(), WriteFault>
     ensures { Writes result (O.seen out.old) (O.seen out.new) item.bounds_head }
 {
-    write_all(out, b"  mended by")
+    write_all(out, b"    mended by")
 }
 
 // How a line of domains begins.
@@ -22,7 +22,7 @@ fn write_bounds_head<O: Sink>(out: &mut O) -> Result<(), WriteFault>
 fn write_domains_head<O: Sink>(out: &mut O) -> Result<(), WriteFault>
     ensures { Writes result (O.seen out.old) (O.seen out.new) item.domains_head }
 {
-    write_all(out, b"  mended at CREATE STREAM by")
+    write_all(out, b"    mended at CREATE STREAM by")
 }
 
 // Two comparisons on a column.
@@ -117,7 +117,7 @@ fn write_domains_rest<O: Sink>(
     }
 }
 
-/// Writes that two comparisons on each column of a set mend the query: `  mended by AND S.a > LO AND S.a < HI`.
+/// Writes that two comparisons on each column of a set mend the query: `    mended by AND S.a > LO AND S.a < HI`.
 #[tactic(auto, using(crate::proofs::Texts::writes_behind))]
 pub fn write_bounds_line<O: Sink>(
     out: &mut O,
@@ -133,7 +133,7 @@ pub fn write_bounds_line<O: Sink>(
     }
 }
 
-/// Writes that a domain on each column of a set mends the query: `  mended at CREATE STREAM by S.a IN LO..HI`.
+/// Writes that a domain on each column of a set mends the query: `    mended at CREATE STREAM by S.a IN LO..HI`.
 #[tactic(auto, using(crate::proofs::Texts::writes_behind))]
 pub fn write_domains_line<O: Sink>(
     out: &mut O,

@@ -198,6 +198,7 @@ module _ (streams : List Shape) (q : QueryValue) (named : HasNamed streams q) (i
     local = h.local;
     family = h.family;
     taken = record { rows = λ i l. taken _ (h.like.rows i l); asking = λ i l r c. taken r (h.like.asking i l r c) };
+    like = h.like;
   }
   broken condition a n (Err why.Bounded) h = h
   broken condition a n (Err why.C2) h = h

@@ -1,5 +1,5 @@
 -- Texts that are written one behind another.
-use Rattle.std.proofs.Common.{List, ◌++◌, ◌∷◌, [], ◌≡◌, ℕ, zero, suc, ◌+◌, ◌<◌, ◌≤◌, ◌⊎◌, inl, inr, length, get_or, All, refl, sym, ap, ap₂, ◌∙◌, subst, arith, append_assoc, append-nil, ℤ, slice_index_or, Contains}
+use Rattle.std.proofs.Common.{List, ◌++◌, ◌∷◌, [], ◌≡◌, ℕ, zero, suc, ◌<◌, ◌≤◌, ◌⊎◌, inl, inr, length, get_or, All, refl, sym, ap, ap₂, ◌∙◌, subst, arith, append_assoc, append-nil, ℤ, slice_index_or, Contains}
 use Rattle.std.specs.List.{flat_map}
 use Rattle.std.proofs.lemmas.List.{length-map}
 use Rattle.std.proofs.lemmas.List.Concat.{flat_map-append}

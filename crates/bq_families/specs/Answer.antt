@@ -1,5 +1,5 @@
 -- What is answered where a family over the streams of a catalog is asked for.
-use Rattle.std.specs.Prelude.{◌≡◌, ℕ, ◌<◌, ⊤, List, length, All, Contains, FitsSigned, Result, Ok, Err}
+use Rattle.std.specs.Prelude.{◌≡◌, ℕ, ◌<◌, ⊤, List, length, map, All, Contains, FitsSigned, Result, Ok, Err}
 use Rattle.std.specs.Int.{w64}
 use Rattle.bq_model.specs.declared.atom.Attr.{Attr}
 use Rattle.bq_model.specs.declared.condition.Condition.{Condition}
@@ -13,7 +13,8 @@ use Rattle.bq_lower.specs.declared.error.LowerError.{LowerError}
 use Rattle.bq_lower.specs.declared.error.LowerError.TheVariants as why
 use Rattle.bq_lower.specs.Family.{FamilyValue, IsFamily, row_at, asking_at, as_arrival}
 use Rattle.bq_lower.specs.Laws.{AreLocalFor}
-use Rattle.bq_lower.specs.Lowered.{HasPairAcross}
+use Rattle.bq_lower.specs.Lowered.{HasPairAcross, AreLike}
+use Rattle.bq_families.specs.Blank.{blank_row}
 
 -- the arrival is a row of one of the streams, with a value of 64 bits for each of its columns, in the domains of the columns
 pub record IsTakenRow (streams : List Shape) (r : Arrival) : Type 0 where
@@ -27,11 +28,13 @@ pub record AreTakenRows (streams : List Shape) (n : ℕ) (f : FamilyValue) : Typ
   pub rows : (i : ℕ) → i < n → IsTakenRow streams (as_arrival f (row_at f i))
   pub asking : (i : ℕ) → i < n → (r : Arrival) → Contains (asking_at f i) r → IsTakenRow streams r
 
--- a family of so many rows that a session with the streams takes; for an unbounded equality no pair lies between streams
+-- A family of so many rows that a session with the streams takes; for an unbounded equality no pair lies between streams. A column that the query does not
+-- read has the least value of its domain, or 0.
 pub record HasFamilyOver (streams : List Shape) (q : QueryValue) (condition : Condition) (a : Attr) (n : ℕ) (f : FamilyValue) : Type 0 where
   pub local : AreLocalFor q condition
   pub family : IsFamily q condition a n f
   pub taken : AreTakenRows streams n f
+  pub like : AreLike q (map (blank_row streams) q.from) n f
 
 -- what is answered where a part breaks a condition at a column
 abbrev pub AnswersBroken : List Shape → QueryValue → Condition → Attr → ℕ → Result FamilyValue LowerError → Type 0

@@ -10,3 +10,4 @@ pub mod Never
 pub mod Breaking
 pub mod Halving
 pub mod Dear
+pub mod Spans

@@ -13,7 +13,8 @@ use Rattle.bq_model.proofs.Has.{Has, first, later, Contains-from_has, Has-append
 use Rattle.bq_model.proofs.Unique.{Ascends, more, ascends_from}
 use Rattle.bq_model.proofs.Ascending.{Ascends-with_new}
 use Rattle.bq_constraints.proofs.Joined.{All-from_has}
-use Rattle.bq_mend.specs.Mended.{widest, domain_lt, domains_with}
+use Rattle.bq_mend.specs.declared.mend.Ends.{Ends}
+use Rattle.bq_mend.specs.Mended.{AreEnds, widest, domain_on, domain_lt, domains_with}
 use Rattle.bq_mend.specs.Sublists.{IsSublist}
 use Rattle.bq_mend.specs.Sets.{has_domain, with_column, columns_with, open_columns}
 use Rattle.bq_mend.proofs.Sublists.{sublist-has, at_place}
@@ -40,11 +41,11 @@ with_new-longer {X = X} lt x (y ∷ ys) = by (lt x y) (lt y x) (with_new-longer 
   by false false h = omega arith
 
 -- one more column
-pub domains_step : (list new before : List Domain) (columns : List Attr) (i : ℕ) (d : Attr) → i < length columns → new ≡ with_new domain_lt (widest (slice_index_or columns i d)) list
-    → domains_with list (drop i columns) ≡ before → domains_with new (drop (i + 1) columns) ≡ before
-domains_step list new before columns i d l f g =
+pub domains_step : (ends : Ends) (list new before : List Domain) (columns : List Attr) (i : ℕ) (d : Attr) → i < length columns → new ≡ with_new domain_lt (domain_on ends (slice_index_or columns i d)) list
+    → domains_with ends list (drop i columns) ≡ before → domains_with ends new (drop (i + 1) columns) ≡ before
+domains_step ends list new before columns i d l f g =
     let next : drop i columns ≡ slice_index_or columns i d ∷ drop (i + 1) columns = drop_more columns i d l in
-    rw f (subst (λ z. domains_with list z ≡ before) next g)
+    rw f (subst (λ z. domains_with ends list z ≡ before) next g)
 
 pub columns_step : (list new before : List Attr) (others : List Attr) (i : ℕ) (d : Attr) → i < length others → new ≡ with_column list (slice_index_or others i d)
     → columns_with list (drop i others) ≡ before → columns_with new (drop (i + 1) others) ≡ before
@@ -81,25 +82,26 @@ new-before domains list place column d b e f t = record { other = d; new = inr (
 pub new-room : (domains : List Domain) (place : ℕ) (column : Attr) → place ≡ before domains column → IsNewAt domains place column → length domains < 23 → (place ≤ length domains) × (length domains < 23)
 new-room domains place column e w l = with_new-room domain_lt domain_lt-asymmetric (widest column) domains place w.other 23 e w.new (omega (arith, l, with_new-longer domain_lt (widest column) domains))
 
-pub new-inserts : (domains : List Domain) (place : ℕ) (column : Attr) → place ≡ before domains column → IsNewAt domains place column → insert domains place (widest column) ≡ with_new domain_lt (widest column) domains
-new-inserts domains place column e w = with_new-inserts domain_lt domain_lt-asymmetric (widest column) domains place w.other e w.new
+pub new-inserts : (ends : Ends) (domains : List Domain) (place : ℕ) (column : Attr) → place ≡ before domains column → IsNewAt domains place column
+    → insert domains place (domain_on ends column) ≡ with_new domain_lt (domain_on ends column) domains
+new-inserts ends domains place column e w = with_new-inserts domain_lt domain_lt-asymmetric (domain_on ends column) domains place w.other e w.new
 
-pub old-keeps : (domains list : List Domain) (place : ℕ) (column : Attr) (d : Domain) (b : Bool) → place ≡ before domains column → (place ≡ length domains → ⊥) → list ≡ domains
-    → b ≡ attr_lt column (slice_index_or list place d).attr → b ≡ false → domains ≡ with_new domain_lt (widest column) domains
-old-keeps domains list place column d b e n same f t =
-    with_new-keeps domain_lt domain_lt-asymmetric (widest column) domains place d e n (subst (λ (z : List Domain). attr_lt column (slice_index_or z place d).attr ≡ false) same (sym f ∙ t))
+pub old-keeps : (ends : Ends) (domains list : List Domain) (place : ℕ) (column : Attr) (d : Domain) (b : Bool) → place ≡ before domains column → (place ≡ length domains → ⊥) → list ≡ domains
+    → b ≡ attr_lt column (slice_index_or list place d).attr → b ≡ false → domains ≡ with_new domain_lt (domain_on ends column) domains
+old-keeps ends domains list place column d b e n same f t =
+    with_new-keeps domain_lt domain_lt-asymmetric (domain_on ends column) domains place d e n (subst (λ (z : List Domain). attr_lt column (slice_index_or z place d).attr ≡ false) same (sym f ∙ t))
 
 -- the order of domains goes along
 along : (a b c : Domain) → domain_lt a b ≡ true → domain_lt b c ≡ true → domain_lt a c ≡ true
 along a b c h k = grind (arith, nat_tests)
 
 -- with more columns the domains ascend
-domains_ascend : (domains : List Domain) (columns : List Attr) → Ascends domain_lt domains → Ascends domain_lt (domains_with domains columns)
-domains_ascend domains [] a = a
-domains_ascend domains (b ∷ others) a = domains_ascend (with_new domain_lt (widest b) domains) others (Ascends-with_new domain_lt along (widest b) domains a)
+domains_ascend : (ends : Ends) (domains : List Domain) (columns : List Attr) → Ascends domain_lt domains → Ascends domain_lt (domains_with ends domains columns)
+domains_ascend ends domains [] a = a
+domains_ascend ends domains (b ∷ others) a = domains_ascend ends (with_new domain_lt (domain_on ends b) domains) others (Ascends-with_new domain_lt along (domain_on ends b) domains a)
 
-pub domains-ascend : (domains : List Domain) (columns : List Attr) → AllPairs (λ d e. IsTrue (attr_lt d.attr e.attr)) domains → AllPairs (λ d e. IsTrue (attr_lt d.attr e.attr)) (domains_with domains columns)
-domains-ascend domains columns h = pairs_from domain_lt (domains_with domains columns) (domains_ascend domains columns (ascends_from domain_lt domains h))
+pub domains-ascend : (ends : Ends) (domains : List Domain) (columns : List Attr) → AllPairs (λ d e. IsTrue (attr_lt d.attr e.attr)) domains → AllPairs (λ d e. IsTrue (attr_lt d.attr e.attr)) (domains_with ends domains columns)
+domains-ascend ends domains columns h = pairs_from domain_lt (domains_with ends domains columns) (domains_ascend ends domains columns (ascends_from domain_lt domains h))
 
 -- what stands in a list with a new element is that one, or stood there
 put_from : (x : Domain) (ys : List Domain) (z : Domain) → Has (with_new domain_lt x ys) z → (x ≡ z) ⊎ Has ys z
@@ -119,17 +121,17 @@ put_from x (y ∷ ys) z h = by (domain_lt x y) (domain_lt y x) (with_new domain_
   by false true zs f i = one zs z f i
   by false false zs f i = inr i
 
--- a domain is an old one, or the widest one of a column
-pub data IsOldOrWidest (domains : List Domain) (columns : List Attr) (d : Domain) : Type 0 where
-  old : Has domains d → IsOldOrWidest domains columns d
-  wide : (a : Attr) → Has columns a → widest a ≡ d → IsOldOrWidest domains columns d
+-- a domain is an old one, or one of a column between the ends
+pub data IsOldOrNew (ends : Ends) (domains : List Domain) (columns : List Attr) (d : Domain) : Type 0 where
+  old : Has domains d → IsOldOrNew ends domains columns d
+  new : (a : Attr) → Has columns a → domain_on ends a ≡ d → IsOldOrNew ends domains columns d
 
-from_domains : (domains : List Domain) (columns : List Attr) (d : Domain) → Has (domains_with domains columns) d → IsOldOrWidest domains columns d
-from_domains domains [] d h = old h
-from_domains domains (b ∷ others) d h = by (from_domains (with_new domain_lt (widest b) domains) others d h) where
-  by : IsOldOrWidest (with_new domain_lt (widest b) domains) others d → IsOldOrWidest domains (b ∷ others) d
-  by (old k) = elim (put_from (widest b) domains d k) [ inl e ↦ wide b first e | inr j ↦ old j ]
-  by (wide a k e) = wide a (later k) e
+from_domains : (ends : Ends) (domains : List Domain) (columns : List Attr) (d : Domain) → Has (domains_with ends domains columns) d → IsOldOrNew ends domains columns d
+from_domains ends domains [] d h = old h
+from_domains ends domains (b ∷ others) d h = by (from_domains ends (with_new domain_lt (domain_on ends b) domains) others d h) where
+  by : IsOldOrNew ends (with_new domain_lt (domain_on ends b) domains) others d → IsOldOrNew ends domains (b ∷ others) d
+  by (old k) = elim (put_from (domain_on ends b) domains d k) [ inl e ↦ new b first e | inr j ↦ old j ]
+  by (new a k e) = new a (later k) e
 
 -- a column that may be given a domain is one that the query reads
 only_one : {x y : Attr} → Has (x ∷ []) y → x ≡ y
@@ -156,15 +158,15 @@ open_is_read q x h =
       | inr k ↦ inr (Contains-from_has q.select x k)
     ]
 
--- the widest domain of such a column is one of the query
-widest-is : (q : QueryValue) (a : Attr) → Contains (attrs_of q.atoms) a ⊎ Contains q.select a → IsDomain q (widest a)
-widest-is q a h = record { column = h; low = record { low = grind (arith, ints); high = grind (arith, ints) }; high = record { low = grind (arith, ints); high = grind (arith, ints) }; some = grind (arith, ints) }
+-- a domain of such a column is one of the query
+domain-is : (q : QueryValue) (ends : Ends) (a : Attr) → AreEnds ends → Contains (attrs_of q.atoms) a ⊎ Contains q.select a → IsDomain q (domain_on ends a)
+domain-is q ends a is h = record { column = h; low = is.low; high = is.high; some = is.some }
 
-pub domains-are : (q : QueryValue) (columns : List Attr) → IsSublist columns (open_columns q) → All (IsDomain q) q.domains → All (IsDomain q) (domains_with q.domains columns)
-domains-are q columns s h = All-from_has (IsDomain q) (domains_with q.domains columns) (λ d k. by d (from_domains q.domains columns d k)) where
-  by : (d : Domain) → IsOldOrWidest q.domains columns d → IsDomain q d
+pub domains-are : (q : QueryValue) (ends : Ends) (columns : List Attr) → AreEnds ends → IsSublist columns (open_columns q) → All (IsDomain q) q.domains → All (IsDomain q) (domains_with ends q.domains columns)
+domains-are q ends columns is s h = All-from_has (IsDomain q) (domains_with ends q.domains columns) (λ d k. by d (from_domains ends q.domains columns d k)) where
+  by : (d : Domain) → IsOldOrNew ends q.domains columns d → IsDomain q d
   by d (old k) = All-contains (IsDomain q) q.domains d h (Contains-from_has q.domains d k)
-  by d (wide a k e) = subst (IsDomain q) e (widest-is q a (open_is_read q a (sublist-has s k)))
+  by d (new a k e) = subst (IsDomain q) e (domain-is q ends a is (open_is_read q a (sublist-has s k)))
 
 -- the query with other domains, with DISTINCT or without, compact or not
 abbrev pub with_these : QueryValue → Bool → List Domain → Bool → QueryValue

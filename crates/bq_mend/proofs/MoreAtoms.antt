@@ -14,7 +14,8 @@ use Rattle.bq_model.specs.declared.atom.Element.TheVariants as element
 use Rattle.bq_model.specs.Query.{QueryValue, attr_lt, with_new, attrs_with, consts_with, attrs_of, consts_of, IsColumn, IsShort, IsDomain, HasAttr, IsWithinLimits}
 use Rattle.bq_constraints.proofs.Joined.{All-from_has}
 use Rattle.bq_laws.proofs.OnePartFits.{has_cases}
-use Rattle.bq_mend.specs.Mended.{compared, bounds_of, bounds_on, with_atoms, IsBound, Fit}
+use Rattle.bq_mend.specs.declared.mend.Ends.{Ends}
+use Rattle.bq_mend.specs.Mended.{AreEnds, compared, bounds_of, bounds_on, with_atoms, IsBound, Fit}
 use Rattle.bq_mend.specs.Sublists.{IsSublist}
 use Rattle.bq_mend.specs.Sets.{open_columns}
 use Rattle.bq_mend.proofs.Limits.{open_is_read}
@@ -167,17 +168,11 @@ fits-from q more w = record { comparisons = w.comparisons; few_soft = w.few_soft
 pub bound-is : (q : QueryValue) (a : Attr) (op : Op) (k : ℤ) → Contains (attrs_of q.atoms) a ⊎ Contains q.select a → IsShort k → IsBound q (compared a op k)
 bound-is q a op k h s = record { attr = a; value = k; left = refl; right = refl; reads = h; short = s }
 
-least_is_short : IsShort (neg_ℤ (pos 999999999999999))
-least_is_short = record { low = grind (arith, ints); high = grind (arith, ints) }
-
-greatest_is_short : IsShort (pos 999999999999999)
-greatest_is_short = record { low = grind (arith, ints); high = grind (arith, ints) }
-
--- so are the widest bounds on a set of columns
-pub bounds-are : (q : QueryValue) (columns : List Attr) → IsSublist columns (open_columns q) → All (IsBound q) (bounds_on columns)
-bounds-are q columns s = All-from_has (IsBound q) (bounds_on columns) (λ t h. let r = Has-flat_map_from bounds_of columns t h in one r.0 t r.1 r.2)
+-- so are the bounds on a set of columns
+pub bounds-are : (q : QueryValue) (ends : Ends) (columns : List Attr) → AreEnds ends → IsSublist columns (open_columns q) → All (IsBound q) (bounds_on ends columns)
+bounds-are q ends columns is s = All-from_has (IsBound q) (bounds_on ends columns) (λ t h. let r = Has-flat_map_from (bounds_of ends) columns t h in one r.0 t r.1 r.2)
   where
-    one : (a : Attr) (t : Atom) → Has columns a → Has (bounds_of a) t → IsBound q t
-    one a t h first = bound-is q a Gt (neg_ℤ (pos 999999999999999)) (open_is_read q a (sublist-has s h)) least_is_short
-    one a t h (later first) = bound-is q a Lt (pos 999999999999999) (open_is_read q a (sublist-has s h)) greatest_is_short
+    one : (a : Attr) (t : Atom) → Has columns a → Has (bounds_of ends a) t → IsBound q t
+    one a t h first = bound-is q a Gt ends.lo (open_is_read q a (sublist-has s h)) is.low
+    one a t h (later first) = bound-is q a Lt ends.hi (open_is_read q a (sublist-has s h)) is.high
     one a t h (later (later k)) = elim k [ ]

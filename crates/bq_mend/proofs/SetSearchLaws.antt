@@ -8,7 +8,7 @@ use Rattle.bq_model.specs.declared.atom.Attr.{Attr}
 use Rattle.bq_model.specs.Query.{QueryValue}
 use Rattle.bq_model.proofs.Has.{Has, first, later, Has-append_left, Has-append_right, Has-append_cases, Contains-from_has}
 use Rattle.bq_mend.specs.declared.mend.ChangeKind.{ChangeKind}
-use Rattle.bq_mend.specs.Mended.{on, Mends}
+use Rattle.bq_mend.specs.Ends.{MendsBy}
 use Rattle.bq_mend.specs.Sublists.{IsSublist}
 use Rattle.bq_mend.specs.Sets.{open_columns, sets_of, IsLeastSet, HasWithin, AreLeastAmong, AreLeastSets}
 use Rattle.bq_mend.specs.SetSearch.{Looks, passed, failed, found}
@@ -51,7 +51,7 @@ module _ (kind : ChangeKind) (q : QueryValue) where
 
   -- a set that contains none of those found, and mends the query, is a least one
   least_set : (i : ℕ) (d set : List Attr) (before : List (List Attr)) → i < length sets → set ≡ slice_index_or sets i d → Has sets set → AreLeastAmong kind q i before
-      → (HasWithin before set → ⊥) → Mends (on kind set) q → IsLeastSet kind q set
+      → (HasWithin before set → ⊥) → MendsBy kind set q → IsLeastSet kind q set
   least_set i d set before l e h are apart m = by_size (listed-is (open_columns q) set h) where
     by_size : IsOfSize (open_columns q) set → IsLeastSet kind q set
     by_size (sized s few) = record {
@@ -76,12 +76,12 @@ module _ (kind : ChangeKind) (q : QueryValue) where
     among : (other : List Attr) → Has (take (i + 1) sets) other → Has (take i sets) other ⊎ (set ≡ other)
     among other k = last_or_before (take i sets) set other (subst (λ z. Has z other) (take_more sets i d l ∙ ap (λ z. take i sets ++ z ∷ []) (sym e)) k)
 
-    stays : after ≡ before → (Mends (on kind set) q → HasWithin before set) → AreLeastAmong kind q (i + 1) after
+    stays : after ≡ before → (MendsBy kind set q → HasWithin before set) → AreLeastAmong kind q (i + 1) after
     stays same f = subst (AreLeastAmong kind q (i + 1)) (sym same) record {
       each = are.each;
       all = λ other k m. elim (among other k) [
         | inl j ↦ are.all other j m
-        | inr w ↦ subst (HasWithin before) w (f (subst (λ z. Mends (on kind z) q) (sym w) m))
+        | inr w ↦ subst (HasWithin before) w (f (subst (λ z. MendsBy kind z q) (sym w) m))
       ];
     }
 

@@ -1,5 +1,6 @@
 pub mod Meeting
 pub mod Mended
+pub mod Ends
 pub mod Sublists
 pub mod Sets
 pub mod SetSearch

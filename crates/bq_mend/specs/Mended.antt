@@ -1,5 +1,5 @@
 -- Changes to a query, and when one of them mends it.
-use Rattle.std.specs.Prelude.{◌≡◌, ◌≤◌, ℤ, Bool, true, pos, neg_ℤ, List, [], ◌∷◌, ◌++◌, filter, length, Contains, ◌⊎◌}
+use Rattle.std.specs.Prelude.{◌≡◌, ◌≤◌, ◌≤ℤ◌, ℤ, Bool, true, pos, neg_ℤ, List, [], ◌∷◌, ◌++◌, filter, length, Contains, ◌⊎◌}
 use Rattle.std.specs.List.{flat_map}
 use Rattle.std.specs.declared.option.Option.{Option}
 use Rattle.std.specs.declared.option.Option.TheVariants.{None, Some}
@@ -10,6 +10,7 @@ use Rattle.bq_model.specs.declared.atom.Element.TheVariants as element
 use Rattle.bq_model.specs.declared.atom.Op.{Op}
 use Rattle.bq_model.specs.declared.atom.Op.TheVariants.{Lt, Gt}
 use Rattle.bq_model.specs.Query.{QueryValue, attr_lt, attrs_of, consts_of, is_soft, with_new, IsShort, IsWithinLimits}
+use Rattle.bq_mend.specs.declared.mend.Ends.{Ends}
 use Rattle.bq_mend.specs.declared.mend.Mend.{Mend}
 use Rattle.bq_mend.specs.declared.mend.Mend.TheVariants.{Distinct, Domains, Bounds, Comparison, Compact, Shared}
 use Rattle.bq_mend.specs.declared.mend.ChangeKind.{ChangeKind}
@@ -20,26 +21,40 @@ use Rattle.bq_mend.specs.Meeting.{Stands}
 abbrev pub widest : Attr → Domain
 widest a = record { attr = a; lo = neg_ℤ (pos 999999999999999); hi = pos 999999999999999 }
 
+-- the ends of all these
+abbrev pub widest_ends : Ends
+widest_ends = record { lo = neg_ℤ (pos 999999999999999); hi = pos 999999999999999 }
+
+-- integers of at most 15 digits, of which the first is not greater
+pub record AreEnds (ends : Ends) : Type 0 where
+  pub low : IsShort ends.lo
+  pub high : IsShort ends.hi
+  pub some : ends.lo ≤ℤ ends.hi
+
+-- the integers between two ends, both included, as the domain of a column
+abbrev pub domain_on : Ends → Attr → Domain
+domain_on ends a = record { attr = a; lo = ends.lo; hi = ends.hi }
+
 -- domains are ordered by their columns
 abbrev pub domain_lt : Domain → Domain → Bool
 domain_lt d e = attr_lt d.attr e.attr
 
--- the domains, and the widest one for each of the columns that has none among them
-abbrev pub domains_with : List Domain → List Attr → List Domain
-domains_with domains [] = domains
-domains_with domains (a ∷ others) = domains_with (with_new domain_lt (widest a) domains) others
+-- the domains, and one between two ends for each of the columns that has none among them
+abbrev pub domains_with : Ends → List Domain → List Attr → List Domain
+domains_with ends domains [] = domains
+domains_with ends domains (a ∷ others) = domains_with ends (with_new domain_lt (domain_on ends a) domains) others
 
 -- a column compared with an integer
 abbrev pub compared : Attr → Op → ℤ → Atom
 compared a op k = record { left = element.Attr a; op = op; right = element.Const k }
 
--- a column above the least integer of 15 digits, and below the greatest
-abbrev pub bounds_of : Attr → List Atom
-bounds_of a = compared a Gt (neg_ℤ (pos 999999999999999)) ∷ compared a Lt (pos 999999999999999) ∷ []
+-- a column above the first of two integers, and below the second
+abbrev pub bounds_of : Ends → Attr → List Atom
+bounds_of ends a = compared a Gt ends.lo ∷ compared a Lt ends.hi ∷ []
 
 -- the same of each of some columns
-abbrev pub bounds_on : List Attr → List Atom
-bounds_on columns = flat_map bounds_of columns
+abbrev pub bounds_on : Ends → List Attr → List Atom
+bounds_on ends columns = flat_map (bounds_of ends) columns
 
 -- the query with more comparisons behind its own
 abbrev pub with_atoms : List Atom → QueryValue → QueryValue
@@ -49,16 +64,16 @@ with_atoms more q = record q { atoms = q.atoms ++ more }
 -- cells do not change it.
 abbrev pub mended : Mend → QueryValue → QueryValue
 mended Distinct q = record q { distinct = true }
-mended (Domains columns) q = record q { domains = domains_with q.domains columns }
-mended (Bounds columns) q = with_atoms (bounds_on columns) q
+mended (Domains columns ends) q = record q { domains = domains_with ends q.domains columns }
+mended (Bounds columns ends) q = with_atoms (bounds_on ends columns) q
 mended (Comparison t) q = with_atoms (t ∷ []) q
 mended Compact q = record q { compact = true }
 mended Shared q = q
 
 -- the columns of a set bounded in one of two ways
-abbrev pub on : ChangeKind → List Attr → Mend
-on kind.Bounds columns = Bounds columns
-on kind.Domains columns = Domains columns
+abbrev pub on : ChangeKind → Ends → List Attr → Mend
+on kind.Bounds ends columns = Bounds columns ends
+on kind.Domains ends columns = Domains columns ends
 
 -- a change mends a query where the query with it is within the limits of a statement, meets all conditions, and has a part
 pub record Mends (mend : Mend) (q : QueryValue) : Type 0 where

@@ -37,8 +37,8 @@ IsJudgement shared q judgement.ManyParts = IsFalse (is_filter q) × HasMoreParts
 -- whether boxes that are the same have their cells once, with a change
 abbrev pub shares : Mend → Bool → Bool
 shares Distinct shared = shared
-shares (Domains columns) shared = shared
-shares (Bounds columns) shared = shared
+shares (Domains columns ends) shared = shared
+shares (Bounds columns ends) shared = shared
 shares (Comparison t) shared = shared
 shares Compact shared = shared
 shares Shared shared = true

@@ -3,7 +3,7 @@ use Rattle.std.specs.Prelude.{◌≡◌, if◌then◌else◌, List, [], ◌∷�
 use Rattle.bq_model.specs.declared.atom.Attr.{Attr}
 use Rattle.bq_model.specs.Query.{QueryValue, attr_eq}
 use Rattle.bq_mend.specs.declared.mend.ChangeKind.{ChangeKind}
-use Rattle.bq_mend.specs.Mended.{on, Mends}
+use Rattle.bq_mend.specs.Ends.{MendsBy}
 use Rattle.bq_mend.specs.Sets.{HasWithin}
 
 -- the columns behind the first, where that is the column, and else all
@@ -14,5 +14,5 @@ behind column (first ∷ others) = if attr_eq first column then others else firs
 -- a set that contains one that was found is passed over, as is one that does not mend the query; any other is found
 pub data Looks (kind : ChangeKind) (q : QueryValue) (set : List Attr) (before after : List (List Attr)) : Type 0 where
   passed : HasWithin before set → after ≡ before → Looks kind q set before after
-  failed : ¬ Mends (on kind set) q → after ≡ before → Looks kind q set before after
-  found : ¬ HasWithin before set → Mends (on kind set) q → after ≡ before ++ set ∷ [] → Looks kind q set before after
+  failed : ¬ MendsBy kind set q → after ≡ before → Looks kind q set before after
+  found : ¬ HasWithin before set → MendsBy kind set q → after ≡ before ++ set ∷ [] → Looks kind q set before after

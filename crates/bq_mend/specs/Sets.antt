@@ -8,7 +8,8 @@ use Rattle.bq_model.specs.Query.{QueryValue, attrs_of, attr_eq}
 use Rattle.bq_mend.specs.declared.mend.Mend.{Mend}
 use Rattle.bq_mend.specs.declared.mend.Mend.TheVariants.{Distinct, Domains, Bounds, Comparison, Compact, Shared}
 use Rattle.bq_mend.specs.declared.mend.ChangeKind.{ChangeKind}
-use Rattle.bq_mend.specs.Mended.{on, IsBound, Mends}
+use Rattle.bq_mend.specs.Mended.{AreEnds, IsBound}
+use Rattle.bq_mend.specs.Ends.{MendsBy}
 use Rattle.bq_mend.specs.Sublists.{IsSublist}
 
 -- whether a column has a domain among these
@@ -31,8 +32,8 @@ open_columns q = filter (λ a. not (has_domain q.domains a)) (columns_with (attr
 -- the change is one of the query: a set is one of columns that have no domain, and a comparison is one of a column that it reads with an integer
 abbrev pub IsMendOf : QueryValue → Mend → Type 0
 IsMendOf q Distinct = ⊤
-IsMendOf q (Domains columns) = IsSublist columns (open_columns q)
-IsMendOf q (Bounds columns) = IsSublist columns (open_columns q)
+IsMendOf q (Domains columns ends) = IsSublist columns (open_columns q) × AreEnds ends
+IsMendOf q (Bounds columns ends) = IsSublist columns (open_columns q) × AreEnds ends
 IsMendOf q (Comparison t) = IsBound q t
 IsMendOf q Compact = ⊤
 IsMendOf q Shared = ⊤
@@ -51,8 +52,8 @@ sets_of columns = ((sets_with [] 0 columns ++ sets_with [] 1 columns) ++ sets_wi
 pub record IsLeastSet (kind : ChangeKind) (q : QueryValue) (set : List Attr) : Type 0 where
   pub columns : IsSublist set (open_columns q)
   pub few : length set ≤ 3
-  pub mends : Mends (on kind set) q
-  pub least : (fewer : List Attr) → IsSublist fewer set → fewer ≢ set → ¬ Mends (on kind fewer) q
+  pub mends : MendsBy kind set q
+  pub least : (fewer : List Attr) → IsSublist fewer set → fewer ≢ set → ¬ MendsBy kind fewer q
 
 -- one of these sets is contained in the set
 pub record HasWithin (sets : List (List Attr)) (set : List Attr) : Type 0 where
@@ -63,11 +64,11 @@ pub record HasWithin (sets : List (List Attr)) (set : List Attr) : Type 0 where
 -- each of the sets is a least one, and each of the first n sets of at most three columns that mends contains one of them
 pub record AreLeastAmong (kind : ChangeKind) (q : QueryValue) (n : ℕ) (sets : List (List Attr)) : Type 0 where
   pub each : (set : List Attr) → Has sets set → IsLeastSet kind q set
-  pub all : (set : List Attr) → Has (take n (sets_of (open_columns q))) set → Mends (on kind set) q → HasWithin sets set
+  pub all : (set : List Attr) → Has (take n (sets_of (open_columns q))) set → MendsBy kind set q → HasWithin sets set
 
 -- least sets that mend the query. Where the search was not cut short, each set of at most three columns that mends contains one of them; where it was,
 -- there are more such sets than might be looked at.
 pub record AreLeastSets (kind : ChangeKind) (q : QueryValue) (most : ℕ) (sets : List (List Attr)) (cut_short : Bool) : Type 0 where
   pub each : (set : List Attr) → Has sets set → IsLeastSet kind q set
-  pub all : IsFalse cut_short → (set : List Attr) → IsSublist set (open_columns q) → length set ≤ 3 → Mends (on kind set) q → HasWithin sets set
+  pub all : IsFalse cut_short → (set : List Attr) → IsSublist set (open_columns q) → length set ≤ 3 → MendsBy kind set q → HasWithin sets set
   pub cut : IsTrue cut_short ↔ most < length (sets_of (open_columns q))

@@ -86,8 +86,11 @@ fn shares(mend: &Mend, shared: bool) -> bool
 {
     match mend {
         Mend::Shared => true,
-        Mend::Distinct | Mend::Domains(_) | Mend::Bounds(_) | Mend::Comparison(_) | Mend::Compact =>
-            shared,
+        Mend::Distinct
+        | Mend::Domains(_, _)
+        | Mend::Bounds(_, _)
+        | Mend::Comparison(_)
+        | Mend::Compact => shared,
     }
 }
 

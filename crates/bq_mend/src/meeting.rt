@@ -32,6 +32,18 @@ fn parts_stand(query: &Query, parts: &[Part]) -> bool
     parts_meet(query, parts)
 }
 
+/// Returns whether the query meets all conditions: a filter does, and else it has at most 4,096 parts, and none of them breaks one. `AllocError` where the list of
+/// parts finds no memory.
+pub fn meets(alloc: Global, query: &Query) -> Result<bool, AllocError>
+    ensures { IfOk result (λ meets. IsTrue meets ↔ Meets query.now) }
+{
+    match split(alloc, query) {
+        Ok(parts) => Ok(parts_meet(query, &parts)),
+        Err(SplitError::TooManyParts) => Ok(query.is_filter()),
+        Err(SplitError::Memory) => Err(AllocError),
+    }
+}
+
 /// Returns whether the query has a part and meets all conditions: a filter does meet them, and else it has at most 4,096 parts, and none of them breaks one.
 /// `AllocError` where the list of parts finds no memory.
 pub fn stands(alloc: Global, query: &Query) -> Result<bool, AllocError>

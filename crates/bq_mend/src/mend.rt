@@ -2,15 +2,22 @@
 use crate::columns::ColumnSet;
 use bq_model::Atom;
 
+/// Two integers between which columns are bounded.
+#[derive(Clone, Copy, Debug, PartialEq, Eq)]
+pub struct Ends {
+    pub lo: i64,
+    pub hi: i64,
+}
+
 /// A change that would mend a query or make it cheaper.
 #[derive(Drop)]
 pub enum Mend {
     /// An answer counts once.
     Distinct,
-    /// Each of these columns has the widest domain, where it has none.
-    Domains(ColumnSet),
-    /// Each of these columns is above the least integer of 15 digits and below the greatest, by two comparisons.
-    Bounds(ColumnSet),
+    /// Each of these columns has a domain with these ends, where it has none.
+    Domains(ColumnSet, Ends),
+    /// Each of these columns is above the first of two integers and below the second, by two comparisons.
+    Bounds(ColumnSet, Ends),
     /// One comparison more, of a column with an integer.
     Comparison(Atom),
     /// It is read by the groups of its columns.

@@ -6,8 +6,9 @@ ghost use Rattle.bq_mend.specs.Mended.{compared, IsBound};
 ghost use Rattle.bq_mend.specs.Narrowed.{turned, from_on, up_to, cut, cut_by, domain_or, range_of, is_enclosed, halvings_from, halvings_of, IsFirst, PutsFirst, AreNarrowings, AreShortSides};
 
 use crate::comparing::{Cheaper, put, tried};
+use crate::ends::{GREATEST, widest};
 use crate::judging::Judgement;
-use crate::writing::{GREATEST, compared, widest};
+use crate::writing::compared;
 use arrayvec::ArrayVec;
 use bq_model::{Atom, Attr, Domain, Element, Op, Query, is_same};
 use std::alloc::{AllocError, Global};

@@ -1,14 +1,16 @@
 //! The search for least sets of columns.
 ghost use Rattle.std.specs.Prelude.{◌≡◌, ◌↔◌, ◌<◌, ◌≤◌, length, min, IsTrue, OnOk, IfOk};
-ghost use Rattle.bq_mend.specs.Mended.{on, Mends};
+ghost use Rattle.bq_mend.specs.Mended.{AreEnds, on, widest_ends, Mends};
+ghost use Rattle.bq_mend.specs.Ends.{span, below, above, StaysMet, MendsBy};
 ghost use Rattle.bq_mend.specs.Sublists.{IsSublist};
 ghost use Rattle.bq_mend.specs.Sets.{HasWithin, AreLeastAmong, AreLeastSets, open_columns, sets_of};
 ghost use Rattle.bq_mend.specs.SetSearch.{behind, Looks};
 
 use crate::columns::ColumnSet;
-use crate::mend::{ChangeKind, Mend};
+use crate::ends::{above, below, span, widest_ends};
+use crate::mend::{ChangeKind, Ends, Mend};
 use crate::sets::{open_columns, sets_of};
-use crate::writing::mends;
+use crate::writing::{mends, stays_met};
 use bq_model::{Attr, Query, is_same};
 use std::alloc::{AllocError, Global};
 
@@ -57,18 +59,63 @@ fn has_within(sets: &[ColumnSet], columns: &[Attr]) -> bool
     false
 }
 
-// The change that bounds the columns of a set in one of two ways.
-fn on(kind: ChangeKind, set: &ColumnSet) -> Mend
-    ensures { result ≡ on kind set.now }
+// The change that bounds the columns of a set in one of two ways, between two ends.
+fn on(kind: ChangeKind, ends: Ends, set: &ColumnSet) -> Mend
+    ensures { result ≡ on kind ends set.now }
 {
     let columns = ColumnSet::of(set.columns());
     match kind {
-        ChangeKind::Bounds => Mend::Bounds(columns),
-        ChangeKind::Domains => Mend::Domains(columns),
+        ChangeKind::Bounds => Mend::Bounds(columns, ends),
+        ChangeKind::Domains => Mend::Domains(columns, ends),
     }
 }
 
-// Whether bounds or domains on the columns of a set mend the query.
+// Whether no condition refuses the query where the columns of a set are between two ends.
+fn meets_between(
+    alloc: Global,
+    query: &Query,
+    kind: ChangeKind,
+    ends: Ends,
+    set: &ColumnSet,
+) -> Result<bool, AllocError>
+    requires columns { IsSublist set.now (open_columns query.now) }
+    requires ends { AreEnds ends }
+    ensures { IfOk result (λ is. IsTrue is ↔ StaysMet (on kind ends set.now) query.now) }
+{
+    stays_met(alloc, query, &on(kind, ends, set))
+}
+
+// Whether no condition refuses the query where they are between two ends close together, below all integers that it names and above them.
+fn meets_close(
+    alloc: Global,
+    query: &Query,
+    kind: ChangeKind,
+    set: &ColumnSet,
+) -> Result<bool, AllocError>
+    requires { IsSublist set.now (open_columns query.now) }
+    ensures { IfOk result (λ is. IsTrue is ↔ (StaysMet (on kind (below (span query.now)) set.now) query.now × StaysMet (on kind (above (span query.now)) set.now) query.now)) }
+{
+    let span = span(query);
+    if !meets_between(alloc, query, kind, below(&span), set)? {
+        return Ok(false);
+    }
+    meets_between(alloc, query, kind, above(&span), set)
+}
+
+// Whether the columns of a set between the widest ends mend the query.
+fn mends_widest(
+    alloc: Global,
+    query: &Query,
+    kind: ChangeKind,
+    set: &ColumnSet,
+) -> Result<bool, AllocError>
+    requires { IsSublist set.now (open_columns query.now) }
+    ensures { IfOk result (λ is. IsTrue is ↔ Mends (on kind widest_ends set.now) query.now) }
+{
+    mends(alloc, query, &on(kind, widest_ends(), set))
+}
+
+// Whether bounds or domains on the columns of a set mend the query, with each pair of ends that is tried.
 fn set_mends(
     alloc: Global,
     query: &Query,
@@ -76,9 +123,12 @@ fn set_mends(
     set: &ColumnSet,
 ) -> Result<bool, AllocError>
     requires { IsSublist set.now (open_columns query.now) }
-    ensures { IfOk result (λ is. IsTrue is ↔ Mends (on kind set.now) query.now) }
+    ensures { IfOk result (λ is. IsTrue is ↔ MendsBy kind set.now query.now) }
 {
-    mends(alloc, query, &on(kind, set))
+    if !mends_widest(alloc, query, kind, set)? {
+        return Ok(false);
+    }
+    meets_close(alloc, query, kind, set)
 }
 
 // Adds a set to those that were found, where it contains none of them and mends the query.
@@ -123,8 +173,8 @@ fn look_through(
 }
 
 /// Returns the least sets of at most three columns such that the query is mended with each of them bounded, by two comparisons or by a domain, among the first sets,
-/// so many as may be looked at, in the order of their sizes. A set is looked at by the decision on the query with the change, but one that contains a set
-/// that was found is passed over. Where the search is cut short, larger sets may be missing. `AllocError` where a list finds no memory.
+/// so many as may be looked at, in the order of their sizes. A set is looked at by the decision on the query with the change, with the widest ends and with two
+/// pairs close together, below and above all integers that the query names; but one that contains a set that was found is passed over. Where the search is cut short, larger sets may be missing. `AllocError` where a list finds no memory.
 pub fn least_sets(
     alloc: Global,
     query: &Query,

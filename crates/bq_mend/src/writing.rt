@@ -1,33 +1,31 @@
 //! A query with a change.
-ghost use Rattle.std.specs.Prelude.{◌≡◌, ◌↔◌, ◌+◌, ◌*◌, ◌<◌, ◌≤◌, ◌++◌, ◌∷◌, [], length, take_while, true, pos, neg_ℤ, All, AllPairs, IsTrue, IfOk};
+ghost use Rattle.std.specs.Prelude.{◌≡◌, ◌↔◌, ◌+◌, ◌*◌, ◌<◌, ◌≤◌, ◌++◌, ◌∷◌, [], length, take_while, true, All, AllPairs, IsTrue, IfOk};
 ghost use Rattle.bq_model.specs.Query.{attr_lt, with_new, IsDomain};
 ghost use Rattle.bq_model.specs.declared.atom.Op.TheVariants as op;
-ghost use Rattle.bq_mend.specs.Mended.{mended, widest, domain_lt, domains_with, compared, bounds_of, bounds_on, with_atoms, IsBound, Mends, IsWritten, IsWrittenAs};
+ghost use Rattle.bq_mend.specs.Mended.{AreEnds, mended, domain_on, domain_lt, domains_with, compared, bounds_of, bounds_on, with_atoms, IsBound, Mends, IsWritten, IsWrittenAs};
 ghost use Rattle.bq_mend.specs.declared.mend.Mend.TheVariants as changes;
+ghost use Rattle.bq_mend.specs.Ends.{StaysMet};
 ghost use Rattle.bq_mend.specs.Sublists.{IsSublist};
 ghost use Rattle.bq_mend.specs.Sets.{IsMendOf, open_columns};
 
-use crate::meeting::stands;
-use crate::mend::Mend;
+use crate::meeting::{meets, stands};
+use crate::mend::{Ends, Mend};
 use crate::naming::fit;
 use arrayvec::ArrayVec;
 use bq_model::{Atom, Attr, Domain, Element, Op, Query, is_before};
 use std::alloc::{AllocError, Global};
 
-/// The greatest integer of 15 digits.
-pub(crate) const GREATEST: i64 = 999_999_999_999_999;
-
 /// The most domains that a query may have.
 const MOST_DOMAINS: usize = 20;
 
-// All integers of at most 15 digits, as the domain of a column.
-pub(crate) fn widest(column: Attr) -> Domain
-    ensures { result ≡ widest column }
+// The integers between two ends, both included, as the domain of a column.
+fn domain_on(column: Attr, ends: Ends) -> Domain
+    ensures { result ≡ domain_on ends column }
 {
     Domain {
         attr: column,
-        lo: -GREATEST,
-        hi: GREATEST,
+        lo: ends.lo,
+        hi: ends.hi,
     }
 }
 
@@ -41,28 +39,28 @@ fn domains_before(domains: &[Domain], column: Attr) -> usize
         .count()
 }
 
-// Puts the widest domain of a column among ascending domains, where the column has none.
-fn put(domains: &mut ArrayVec<Domain, 23>, column: Attr)
+// Puts a domain of a column among ascending domains, where the column has none.
+fn put(domains: &mut ArrayVec<Domain, 23>, column: Attr, ends: Ends)
     requires { length domains.old.items < 23 }
-    ensures { domains.new.items ≡ with_new domain_lt (widest column) domains.old.items }
+    ensures { domains.new.items ≡ with_new domain_lt (domain_on ends column) domains.old.items }
 {
     let place = domains_before(domains.as_slice(), column);
     if place == domains.len() || is_before(column, domains.as_slice()[place].attr) {
-        domains.insert(place, widest(column));
+        domains.insert(place, domain_on(column, ends));
     }
 }
 
-// The domains, with the widest one for each of the columns that has none.
-fn domains_with(domains: &[Domain], columns: &[Attr]) -> ArrayVec<Domain, 23>
+// The domains, with one between two ends for each of the columns that has none.
+fn domains_with(domains: &[Domain], columns: &[Attr], ends: Ends) -> ArrayVec<Domain, 23>
     requires { length domains.now + length columns.now ≤ 23 }
-    ensures { result.items ≡ domains_with domains.now columns.now }
+    ensures { result.items ≡ domains_with ends domains.now columns.now }
 {
     let mut list = match ArrayVec::try_from(domains) {
         Ok(list) => list,
         Err(_) => unreachable!(),
     };
     'columns: for column in columns {
-        put(&mut list, *column);
+        put(&mut list, *column, ends);
     }
     list
 }
@@ -85,12 +83,13 @@ fn like(query: &Query, distinct: bool, domains: &[Domain], compact: bool) -> Que
 }
 
 // The query with a domain on each of some columns.
-fn with_domains(query: &Query, columns: &[Attr]) -> Option<Query>
+fn with_domains(query: &Query, columns: &[Attr], ends: Ends) -> Option<Query>
     requires few { length columns.now ≤ 3 }
     requires columns { IsSublist columns.now (open_columns query.now) }
-    ensures { IsWritten (changes.Domains columns.now) query.now result }
+    requires ends { AreEnds ends }
+    ensures { IsWritten (changes.Domains columns.now ends) query.now result }
 {
-    let domains = domains_with(query.domains(), columns);
+    let domains = domains_with(query.domains(), columns, ends);
     if domains.len() > MOST_DOMAINS {
         return None;
     }
@@ -123,23 +122,23 @@ pub(crate) fn compared(column: Attr, op: Op, value: i64) -> Atom
     }
 }
 
-// Adds a column above the least integer of 15 digits, and below the greatest.
-fn add_bounds(list: &mut ArrayVec<Atom, 6>, column: Attr)
+// Adds a column above the first of two integers, and below the second.
+fn add_bounds(list: &mut ArrayVec<Atom, 6>, column: Attr, ends: Ends)
     requires { length list.old.items + 2 ≤ 6 }
-    ensures { list.new.items ≡ list.old.items ++ bounds_of column }
+    ensures { list.new.items ≡ list.old.items ++ bounds_of ends column }
 {
-    list.push(compared(column, Op::Gt, -GREATEST));
-    list.push(compared(column, Op::Lt, GREATEST));
+    list.push(compared(column, Op::Gt, ends.lo));
+    list.push(compared(column, Op::Lt, ends.hi));
 }
 
-// Each of some columns above the least integer of 15 digits, and below the greatest.
-fn bounds_on(columns: &[Attr]) -> ArrayVec<Atom, 6>
+// Each of some columns above the first of two integers, and below the second.
+fn bounds_on(columns: &[Attr], ends: Ends) -> ArrayVec<Atom, 6>
     requires { length columns.now ≤ 3 }
-    ensures { result.items ≡ bounds_on columns.now }
+    ensures { result.items ≡ bounds_on ends columns.now }
 {
     let mut list = ArrayVec::new();
     'columns: for column in columns {
-        add_bounds(&mut list, *column);
+        add_bounds(&mut list, *column, ends);
     }
     list
 }
@@ -165,12 +164,13 @@ fn with_atoms(query: &Query, more: &[Atom]) -> Option<Query>
 }
 
 // The query with two comparisons of each of some columns.
-fn with_bounds(query: &Query, columns: &[Attr]) -> Option<Query>
+fn with_bounds(query: &Query, columns: &[Attr], ends: Ends) -> Option<Query>
     requires few { length columns.now ≤ 3 }
     requires columns { IsSublist columns.now (open_columns query.now) }
-    ensures { IsWritten (changes.Bounds columns.now) query.now result }
+    requires ends { AreEnds ends }
+    ensures { IsWritten (changes.Bounds columns.now ends) query.now result }
 {
-    let bounds = bounds_on(columns);
+    let bounds = bounds_on(columns, ends);
     with_atoms(query, bounds.as_slice())
 }
 
@@ -189,11 +189,23 @@ pub fn written(query: &Query, mend: &Mend) -> Option<Query>
 {
     match mend {
         Mend::Distinct => Some(like(query, true, query.domains(), query.compact())),
-        Mend::Domains(set) => with_domains(query, set.columns()),
-        Mend::Bounds(set) => with_bounds(query, set.columns()),
+        Mend::Domains(set, ends) => with_domains(query, set.columns(), *ends),
+        Mend::Bounds(set, ends) => with_bounds(query, set.columns(), *ends),
         Mend::Comparison(atom) => with_comparison(query, *atom),
         Mend::Compact => Some(like(query, query.distinct(), query.domains(), true)),
         Mend::Shared => Some(like(query, query.distinct(), query.domains(), query.compact())),
+    }
+}
+
+/// Returns whether the query with a change is within the limits of a statement and meets all conditions, with a part or without one. `AllocError` where the
+/// decision finds no memory.
+pub fn stays_met(alloc: Global, query: &Query, mend: &Mend) -> Result<bool, AllocError>
+    requires { IsMendOf query.now mend.now }
+    ensures { IfOk result (λ is. IsTrue is ↔ StaysMet mend.now query.now) }
+{
+    match written(query, mend) {
+        Some(other) => meets(alloc, &other),
+        None => Ok(false),
     }
 }
 

@@ -5,6 +5,6 @@ use Rattle.bq_mend.proofs.writing.bounds_on.Given as goal
 
 abbrev pub invariant-columns : goal.invariant-columns
 invariant-columns l = record {
-  is : l.list.items ≡ flat_map bounds_of (take l.column-index l.columns);
+  is : l.list.items ≡ flat_map (bounds_of l.ends) (take l.column-index l.columns);
   few : length l.list.items ≡ 2 * l.column-index;
 }

@@ -7,6 +7,6 @@ put-requires c = omega (arith, c.columns.invariant.few, c.columns-test.true, c.r
 
 pub columns-preserved : goal.columns-preserved
 columns-preserved c = record {
-  is = domains_step c.columns.list.items c.put.new.domains.items _ c.args.columns.now c.columns.column-index _ c.columns-test.true c.put.ensures c.columns.invariant.is;
+  is = domains_step c.args.ends c.columns.list.items c.put.new.domains.items _ c.args.columns.now c.columns.column-index _ c.columns-test.true c.put.ensures c.columns.invariant.is;
   few = omega (arith, domains-longer c.columns.list.items c.put.new.domains.items _ c.put.ensures, c.columns.invariant.few);
 }
