@@ -1,26 +1,31 @@
-"""tools/keep, killed at random moments: what it wrote is what a session that was never killed writes.
+"""tools/keep, killed at random moments: what its reader has is what a session that was never stopped writes, byte for byte.
 
-A session with joins that count, queries with DISTINCT, shared and compact ones, and wrong lines among the rows
-runs under tools/keep, which is killed (or its bq is, or it is told to end) and started again until the input is at
-its end; now and then its newest checkpoint was damaged meanwhile. With files for input and output the output is then the whole one: nothing is lost, and nothing comes twice.
-Over pipes the producer sends what `tools/keep --where` says, and what was written behind the newest checkpoint comes
-again, the same: the output of each run is cut where the next one goes on, and what was cut off must be what comes next.
+Trials over files for input and output; the same on a small disk that is full at some write, which only root can try; a file that is followed
+while a producer renames it again and again; and pipes, with a consumer that tells what it has made durable, by a file or by a named pipe. In
+each the keeper, its bq, both, or the consumer are killed, or the keeper is told to end or to take a checkpoint, and is begun again until all
+was answered; an operator may create and drop queries meanwhile. Then checkpoints are changed at random: each must be refused by a sentence, or be passed by for the one before it. What is
+wanted comes from one `bq run` over the same lines, and for the small inputs of pipes from the evaluator too, never from the keeper.
 """
 import os
+import random as random_numbers
+import re
+import shutil
 import signal
 import subprocess
+import sys
 import tempfile
 import threading
 import time
+from concurrent.futures import ThreadPoolExecutor
 
 from common import Part, first_other_line, run as run_program, scaled
 from evaluator import session_text
 from language import CHECKPOINT_SHARE, COMPACT_SHARE
 
-KILLS = 200
-LINES = {"files": 60_000, "pipes": 1_500}
-PATIENCE = 300
-KEEP = os.path.join(os.path.dirname(os.path.dirname(os.path.abspath(__file__))), "tools", "keep")
+KILLS, MUTATIONS, AT_ONCE = 1000, 2000, 3
+LINES = {"files": 60_000, "changes": 100_000, "full disk": 30_000, "follow": 20_000, "pipes": 1_500, "named pipes": 1_500}
+PATIENCE = 120
+KEEP = os.environ.get("KEEP") or os.path.join(os.path.dirname(os.path.dirname(os.path.abspath(__file__))), "tools", "keep")
 HOT = b"SELECT DISTINCT R.room, R.celsius FROM R, L WHERE R.room = L.room AND R.celsius > L.celsius" \
       b" AND R.room > 0 AND R.room < 40 AND R.celsius > -5 AND R.celsius < 10\n"
 SCRIPT = b"CREATE STREAM R (room, celsius)\nCREATE STREAM L (room, celsius)\nCREATE STREAM D (day IN 1..6, room)\n" \
@@ -32,13 +37,34 @@ SCRIPT = b"CREATE STREAM R (room, celsius)\nCREATE STREAM L (room, celsius)\nCRE
          b" AND R.celsius >= 0 AND R.celsius <= 30\n"
 if COMPACT_SHARE:
     SCRIPT += b"CREATE COMPACT QUERY hot AS " + HOT
+# it appends what it reads to the file of its first word, and then tells in the second how much stands there
+CONSUMER = """
+import os, random, sys, time
+durable = os.open(sys.argv[1], os.O_WRONLY | os.O_CREAT | os.O_APPEND)
+# a named pipe is open when the keeper has opened it too
+pipe = os.open(sys.argv[2], os.O_WRONLY) if sys.argv[3] == "fifo" else None
+def tell():
+    size = os.fstat(durable).st_size
+    if pipe:
+        os.write(pipe, b"%d\\n" % size)
+    else:
+        with open(sys.argv[2] + ".new", "w") as ack:
+            ack.write(f"{size}\\n")
+        os.rename(sys.argv[2] + ".new", sys.argv[2])
+tell()
+while piece := os.read(0, random.choice([1, 100, 4096])):
+    os.write(durable, piece)
+    if random.random() < 0.3:
+        tell()
+tell()
+"""
 
 
 def one_line(random):
-    """A row of one of the streams; now and then one that is refused, a comment, or nothing."""
+    """A row of one of the streams; now and then one that is refused, a comment, a statement, a mark, or nothing."""
     kind = random.random()
-    if kind < 0.02:
-        return random.choice([b"", b"-- x", b"R,1", b"R,1,x", b"nobody,1", b"D,7,1", b"EXPLAIN cold", b";"])
+    if kind < 0.03:
+        return random.choice([b"", b"-- x", b"R,1", b"R,1,x", b"nobody,1", b"D,7,1", b"R,1," + b"1" * 1500, b"--@ %d" % random.randrange(10**6), b" \t\r"])
     if kind < 0.5:
         return b"R,%d,%d" % (random.randint(-2, 60), random.choice([random.randint(-9, 9), random.randint(9, 10**6)]))
     if kind < 0.9:
@@ -46,188 +72,452 @@ def one_line(random):
     return b"D,%d,%d" % (random.randint(1, 6), random.randint(0, 300))
 
 
+def wanted_of(program, text, by_reckoning):
+    """What a session that is not stopped writes behind the replies to the script, its lines counted from the input."""
+    count, begins = SCRIPT.count(b"\n"), session_text(SCRIPT)
+    said = run_program(program, ["run"], SCRIPT + text)[0]
+    if by_reckoning and said != session_text(SCRIPT + text):
+        raise ValueError("bq and the evaluator differ")
+    return re.sub(rb"(?m)^error (\d+)", lambda it: b"error %d" % (int(it[1]) - count), said[len(begins):])
+
+
+def children_of(process):
+    try:
+        with open(f"/proc/{process.pid}/task/{process.pid}/children", encoding="ascii") as file:
+            return [int(it) for it in file.read().split()]
+    except OSError:
+        return []
+
+
+def kill(*pids):
+    for pid in pids:
+        try:
+            os.kill(pid, signal.SIGKILL)
+        except OSError:
+            pass
+
+
 class Trial:
     """One input that is taken under tools/keep, in its own folder."""
 
-    def __init__(self, part, program, kind, folder):
-        self.part, self.program, self.kind, self.folder = part, program, kind, folder
-        self.random = part.random
+    hows = ["keep", "keep", "bq", "both", "end", "checkpoint"]
+
+    def __init__(self, part, program, kind, number, kills):
+        self.part, self.program, self.kind, self.kills = part, program, kind, kills
+        self.random = random_numbers.Random(f"{part.seed} {kind} {number}")
+        self.folder = tempfile.mkdtemp(prefix="bq-keep-")
+        self.make_room(1 << 24)
         self.text = b"".join(one_line(self.random) + b"\n" for _ in range(LINES[kind]))
-        self.wanted = self.replies()
-        for name, text in (("script", SCRIPT), ("input", self.text)):
-            with open(self.path(name), "wb") as file:
-                file.write(text)
-        # what runs before wrote as far as a checkpoint has it, and what came behind that
-        self.settled, self.behind, self.written = b"", b"", bytearray()
+        self.wanted = wanted_of(program, self.text, "pipes" in kind)
+        self.write("script", SCRIPT)
+        self.said = []
+        self.prepare()
 
     def path(self, name):
-        return os.path.join(self.folder, name)
+        return f"{self.folder}.said" if name == "said" else os.path.join(self.folder, name)
 
-    def replies(self):
-        """What a session that is not killed writes behind the replies to the script, its lines counted from the input."""
-        begins = session_text(SCRIPT)
-        whole = SCRIPT + self.text
-        said = session_text(whole) if self.kind == "pipes" else run_program(self.program, ["run"], whole)[0]
-        count, lines = SCRIPT.count(b"\n"), []
-        for line in said[len(begins):].splitlines(keepends=True):
-            if line.startswith(b"error "):
-                word, number, rest = line.split(b" ")
-                line = b" ".join([word, b"%d" % (int(number) - count), rest])
-            lines.append(line)
-        return b"".join(lines)
+    def make_room(self, size):
+        """Has the folder hold so many bytes, where a kind minds it."""
 
-    def spoil(self):
-        """Now and then damages the newest of two checkpoints: the one before it serves."""
-        folder = self.path("kept")
-        names = sorted(it for it in os.listdir(folder) if it.endswith(".bq")) if os.path.isdir(folder) else []
-        if len(names) == 2 and self.random.random() < 0.15:
-            path = os.path.join(folder, names[1])
-            with open(path, "rb+") as file:
-                if self.random.random() < 0.5:
-                    file.truncate(self.random.randrange(os.path.getsize(path)))
-                else:
-                    file.seek(self.random.randrange(os.path.getsize(path)))
-                    file.write(b"#")
-            self.part.count("damaged checkpoints")
+    def write(self, name, text):
+        with open(self.path(name), "wb") as file:
+            file.write(text)
+
+    def read(self, name):
+        with open(self.path(name), "rb") as file:
+            return file.read()
+
+    def size(self):
+        return os.path.getsize(self.path("output")) if os.path.exists(self.path("output")) else 0
+
+    def words(self):
+        """Those that all kinds share."""
+        return [sys.executable, KEEP, "--program", self.program, "--every", str(self.random.choice([1, 100, 1000, 5000])),
+                "--seconds", str(self.random.choice([0.05, 0.3, 10])), "--grace", "20"]
+
+    def prepare(self):
+        self.write("input", self.text)
 
     def start(self):
-        self.spoil()
-        words = [KEEP, "--program", self.program, "--every", str(self.random.choice([100, 1000, 5000])),
-                 "--seconds", str(self.random.choice([0.05, 0.3, 10]))]
-        if self.kind == "files":
-            words += ["--input", self.path("input"), "--output", self.path("output")]
-            return subprocess.Popen([*words, self.path("kept"), self.path("script")], stdin=subprocess.DEVNULL,
-                                    stderr=subprocess.PIPE)
-        where = self.where()
-        self.settle(where)
-        process = subprocess.Popen([*words, self.path("kept"), self.path("script")], stdin=subprocess.PIPE,
-                                   stdout=subprocess.PIPE, stderr=subprocess.PIPE, bufsize=0)
-        self.feeding = threading.Thread(target=self.feed, args=(process, where["bytes"]), daemon=True)
-        self.reading = threading.Thread(target=self.read, args=(process,), daemon=True)
+        return self.begin(["--input", self.path("input"), "--output", self.path("output")], stdin=subprocess.DEVNULL)
+
+    def begin(self, more, **how):
+        self.said.append(open(self.path("said"), "ab"))
+        self.part.count("starts")
+        return subprocess.Popen([*self.words(), *more, self.path("kept"), self.path("script")], stderr=self.said[-1], **how)
+
+    def is_at_end(self):
+        return self.size() >= len(self.wanted)
+
+    def hit(self, process, how):
+        """Kills what `how` says, or tells the keeper."""
+        self.part.count({"keep": "killed", "bq": "whose bq was killed", "both": "killed with bq", "end": "told to end", "checkpoint": "told to take a checkpoint",
+                         "consumer": "whose consumer was killed"}[how])
+        if how == "end":
+            process.terminate()
+        elif how == "checkpoint":
+            process.send_signal(signal.SIGHUP)
+        else:
+            kill(*(children_of(process) if how in ("bq", "both") else []), *([process.pid] if how in ("keep", "both") else []))
+
+    def go_on(self):
+        """Starts it, and hits it at random moments until it ends or is at the end; whether it ended by itself with all done."""
+        process, until = self.start(), time.monotonic() + PATIENCE
+        how = None
+        while self.kills > 0 and process.poll() is None and how in (None, "bq", "checkpoint", "change"):
+            target = self.size() + self.random.choice([0, 0.01, 0.05, 0.2]) * (len(self.wanted) - self.size()) * self.random.random()
+            while process.poll() is None and self.size() < target and time.monotonic() < until:
+                time.sleep(0.002)
+            time.sleep(self.random.choice([0, 0.05, 0.3, 0.8 if self.kind in ("files", "follow") else 0.1]) * self.random.random())
+            if process.poll() is None:
+                how = self.random.choice(self.hows)
+                self.hit(process, how)
+                self.kills -= how in ("keep", "bq", "both", "consumer")
+        self.until_end(process, until)
+        try:
+            process.wait(PATIENCE)
+        except subprocess.TimeoutExpired:
+            self.part.differs(f"{self.kind}: no end in {PATIENCE} seconds after {how}: {self.tail()}", self.text)
+            kill(*children_of(process), process.pid)
+            process.wait()
+            return True
+        self.finish()
+        allowed = {None: [0], "bq": [0], "change": [0], "checkpoint": [0, -1], "keep": [-9], "both": [-9], "end": [0, -15], "consumer": [0, 1, -9]}[how]
+        if how == "end" and "bq ended by itself" in self.tail():
+            # it was told to end while it had no bq, so there was no last checkpoint
+            allowed.append(1)
+        allowed += self.more_allowed()
+        # a program may be hit before it minds signals, or when it is at its end
+        if process.returncode not in [*allowed, 0, -15, -1]:
+            at_start = process.returncode == 1 and how == "bq" and "before" in self.tail()
+            if not at_start:
+                self.part.differs(f"{self.kind}: status {process.returncode} after {how}: {self.tail()}", self.text)
+                return True
+        return process.returncode in (0, -15) and self.is_at_end() and (process.returncode == 0 or self.kills <= 0)
+
+    def tail(self):
+        return self.read("said")[-400:].decode(errors="replace")
+
+    def more_allowed(self):
+        """Statuses that are right besides."""
+        return []
+
+    def until_end(self, process, until):
+        """Has a keeper end that does not end by itself."""
+
+    def finish(self):
+        self.said.pop().close()
+
+    def run(self):
+        ends = 0
+        while not self.go_on():
+            ends += 1
+            if ends > 400:
+                self.part.differs(f"{self.kind}: no end", self.text)
+                break
+        self.part.count(f"inputs over {self.kind}")
+        self.part.count("bytes of replies", len(self.wanted))
+        got = self.read("output")
+        if got != self.wanted:
+            self.part.differs(f"{self.kind}: {first_other_line(got, self.wanted)}: {self.tail()}", self.text)
+        said = self.read("said")
+        if b"is cut there" in said or b"were sent" in said or b"Traceback" in said:
+            self.part.differs(f"{self.kind}: it said {self.tail()}")
+        self.make_room(0)
+        shutil.rmtree(self.folder)
+        os.remove(self.path("said"))
+
+
+class Changed(Trial):
+    """An operator creates and drops queries meanwhile. What is wanted is one session in which each statement stands where the list of changes says."""
+
+    hows = ["keep", "bq", "both", "change", "change", "change"]
+
+    def hit(self, process, how):
+        if how != "change":
+            return super().hit(process, how)
+        name = self.random.randrange(6)
+        statement = self.random.choice([b"CREATE QUERY c%d AS SELECT R.room FROM R WHERE R.celsius = %d\n", b"DROP QUERY c%d\n--%d"]) % (name, name)
+        while process.poll() is None:
+            try:
+                pipe = os.open(self.path("kept/control"), os.O_WRONLY | os.O_NONBLOCK)
+                break
+            except OSError:
+                time.sleep(0.01)
+        else:
+            return None
+        os.write(pipe, statement.split(b"\n")[0] + b"\n")
+        os.close(pipe)
+        self.part.count("statements of the operator")
+        return None
+
+    def is_at_end(self):
+        ran = subprocess.run([sys.executable, KEEP, "--where", self.path("kept")], capture_output=True, timeout=PATIENCE)
+        if int(ran.stdout.split()[5]) < len(self.text):
+            return False
+        self.wanted = self.wanted_with(self.read("kept/changes"))
+        return True
+
+    def wanted_with(self, changes):
+        lines, begins = self.text.splitlines(keepends=True), session_text(SCRIPT)
+        placed = [it.split(b" ", 1) for it in changes.splitlines(keepends=True) if it[:1].isdigit()]
+        self.part.count("of them taken", len(placed))
+        text, numbers, done = [], {}, 0
+        for place, statement in [*placed, (b"%d" % len(lines), b"")]:
+            for line in lines[done:int(place)]:
+                text.append(line)
+                numbers[SCRIPT.count(b"\n") + len(text)] = len(numbers) + 1
+            done = int(place)
+            text.append(statement)
+        said = run_program(self.program, ["run"], SCRIPT + b"".join(text))[0][len(begins):]
+        kept = []
+        for line in said.splitlines(keepends=True):
+            if line.startswith(b"error "):
+                number = int(line.split()[1])
+                if number not in numbers:
+                    continue
+                line = b"error %d %s\n" % (numbers[number], line.split()[2])
+            elif line.startswith(b"ok "):
+                continue
+            kept.append(line)
+        return b"".join(kept)
+
+
+class Follow(Trial):
+    """A producer appends to a file and renames it, whether the keeper runs or not."""
+
+    def prepare(self):
+        self.write("rows", b"")
+        self.producer = threading.Thread(target=self.produce, daemon=True)
+        self.producer.start()
+
+    def produce(self):
+        random, place = random_numbers.Random(str(self.part.seed)), 0
+        # a session begins with the file that is there; over each later renaming it goes on
+        while not os.path.exists(os.path.join(self.path("kept"), "checkpoint-00000001.bq")):
+            time.sleep(0.01)
+        while place < len(self.text):
+            with open(self.path("rows"), "ab", buffering=0) as file:
+                for _ in range(random.randint(1, 60)):
+                    length = random.choice([1, 30, 2000])
+                    file.write(self.text[place:place + length])
+                    place += length
+                    time.sleep(random.choice([0, 0.001, 0.03]))
+                # a file ends with a line
+                end = self.text.find(b"\n", place - 1) + 1 if 0 < place < len(self.text) else place
+                file.write(self.text[place:end])
+                place = max(place, end)
+            if place < len(self.text):
+                for number in range(40, 0, -1):
+                    if os.path.exists(self.path(f"rows.{number}")):
+                        os.rename(self.path(f"rows.{number}"), self.path(f"rows.{number + 1}"))
+                os.rename(self.path("rows"), self.path("rows.1"))
+                time.sleep(random.choice([0, 0.01, 0.3]))
+                self.write("rows", b"")
+                self.part.count("renamings")
+
+    def start(self):
+        return self.begin(["--follow", self.path("rows"), "--output", self.path("output")], stdin=subprocess.DEVNULL)
+
+    def until_end(self, process, until):
+        while process.poll() is None and self.kills <= 0 and time.monotonic() < until:
+            if self.is_at_end() and not self.producer.is_alive():
+                time.sleep(0.1)
+                process.terminate()
+                break
+            time.sleep(0.01)
+
+    def is_at_end(self):
+        return super().is_at_end() and not self.producer.is_alive()
+
+
+class FullDisk(Trial):
+    """The folder is a small disk that is full at some write: of a checkpoint, or of replies. It is given more room now and then."""
+
+    hows = ["keep", "both", "checkpoint", "checkpoint", "checkpoint"]
+
+    def make_room(self, size):
+        is_first = not os.path.ismount(self.folder)
+        if size:
+            subprocess.run(["mount", "-t", "tmpfs", "-o", f"{'' if is_first else 'remount,'}size={size}", "tmpfs", self.folder], check=True)
+        else:
+            subprocess.run(["umount", self.folder], check=True)
+
+    def start(self):
+        room = os.statvfs(self.folder)
+        used = (room.f_blocks - room.f_bfree) * room.f_frsize
+        # behind the last trial there is room for all
+        self.make_room(used + self.random.choice([8192, 20_000, 60_000, 200_000]) if self.kills > 0 else 1 << 24)
+        return super().start()
+
+    def more_allowed(self):
+        if "No space left" not in self.tail():
+            return []
+        self.part.count("ended by a full disk")
+        self.kills -= 1
+        return [1]
+
+
+class Pipes(Trial):
+    """A producer that sends what `--where` says, and a consumer that tells what it has made durable."""
+
+    hows = [*Trial.hows, "consumer", "consumer"]
+
+    def prepare(self):
+        self.consumer = None
+        if self.kind == "named pipes":
+            os.mkfifo(self.path("ack"))
+
+    def start(self):
+        size = self.size()
+        if self.kind == "pipes":
+            # a consumer tells what it has before a run begins
+            self.write("ack", b"%d\n" % size)
+        ran = subprocess.run([sys.executable, KEEP, "--where", "--ack", self.path("ack"), self.path("kept")], capture_output=True, timeout=PATIENCE)
+        place = int(ran.stdout.split()[5])
+        process = self.begin(["--ack", self.path("ack"), "--from", str(place)], stdin=subprocess.PIPE, stdout=subprocess.PIPE, bufsize=0)
+        self.consumer = subprocess.Popen([sys.executable, "-c", CONSUMER, self.path("output"), self.path("ack"), "fifo" if self.kind == "named pipes" else "file"],
+                                         stdin=process.stdout, stderr=subprocess.DEVNULL)
+        process.stdout.close()
+        self.feeding = threading.Thread(target=self.feed, args=(process, place), daemon=True)
         self.feeding.start()
-        self.reading.start()
         return process
 
-    def where(self):
-        ran = subprocess.run([KEEP, "--where", self.path("kept")], capture_output=True, timeout=PATIENCE)
-        words = ran.stdout.split()
-        return {word.decode(): int(number) for word, number in zip(words[::2], words[1::2])}
-
-    def settle(self, where):
-        """Cuts what was written to where the next run goes on; what is cut off must come again."""
-        whole = self.settled + bytes(self.written)
-        self.settled, self.behind = whole[:where["output"]], whole[where["output"]:]
-        self.part.count("bytes that came again", len(self.behind))
-        if not self.wanted[len(self.settled):].startswith(self.behind):
-            self.part.differs("what came behind the checkpoint is not what comes", self.text)
-        self.written = bytearray()
-
     def feed(self, process, place):
-        """Sends the rest of the input in pieces, with pauses."""
+        random = random_numbers.Random(place)
         try:
             while place < len(self.text):
-                length = self.random.choice([1, 100, 3000])
+                length = random.choice([1, 100, 800])
                 process.stdin.write(self.text[place:place + length])
                 place += length
-                if self.random.random() < 0.2:
-                    time.sleep(0.002)
+                time.sleep(0.005)
             process.stdin.close()
         except OSError:
             pass
 
-    def read(self, process):
-        while piece := os.read(process.stdout.fileno(), 1 << 16):
-            self.written += piece
+    def hit(self, process, how):
+        super().hit(process, how)
+        if how == "consumer":
+            kill(self.consumer.pid)
+            self.consumer.wait()
+            # it is seen with the next reply
+            time.sleep(0.2)
+            if process.poll() is None:
+                kill(process.pid)
 
-    def size(self):
-        """How many bytes of replies stand."""
-        if self.kind == "files":
-            return os.path.getsize(self.path("output")) if os.path.exists(self.path("output")) else 0
-        return len(self.settled) + len(self.written)
-
-    def go_on(self, may_kill):
-        """Starts it, and kills it at a random moment; whether it came to its end, and whether it was killed."""
-        process = self.start()
-        share = self.random.choice([0, 0.01, 0.05, 0.2, 0.5, 1.2]) if may_kill else 2
-        target = self.size() + share * (len(self.wanted) - self.size()) * self.random.random()
-        until = time.monotonic() + PATIENCE
-        while process.poll() is None and self.size() < target and time.monotonic() < until:
-            time.sleep(0.001)
-        if may_kill:
-            time.sleep(self.random.choice([0, 0, 0.01, 0.1]) * self.random.random())
-        how = self.kill(process) if may_kill and process.poll() is None else None
+    def finish(self):
         try:
-            said = process.communicate(timeout=PATIENCE)[1] if self.kind == "files" else self.finish(process)
+            self.consumer.wait(5)
         except subprocess.TimeoutExpired:
-            process.kill()
-            self.part.differs(f"no end in {PATIENCE} seconds", self.text)
-            return True, False
-        # a signal may come before the program has begun, or when it has ended
-        wanted = {None: [0], "kill": [-9, 0], "bq": [0, 1], "end": [0, -15]}[how]
-        if process.returncode not in wanted:
-            self.part.differs(f"status {process.returncode} after {how}: {said[-300:]!r}", self.text)
-            return True, False
-        return how is None, how is not None
-
-    def finish(self, process):
-        process.wait(PATIENCE)
+            # it waits for a keeper that was killed before it opened the named pipe
+            kill(self.consumer.pid)
+            self.consumer.wait()
         self.feeding.join(PATIENCE)
-        self.reading.join(PATIENCE)
-        said = process.stderr.read()
-        for pipe in (process.stdin, process.stdout, process.stderr):
-            try:
-                pipe.close()
-            except OSError:
-                pass
-        return said
+        super().finish()
 
-    def kill(self, process):
-        """Kills the program or its bq, or tells it to end; how that was done."""
-        how = self.random.choice(["kill", "kill", "kill", "bq", "end"])
-        self.part.count({"kill": "killed", "bq": "whose bq was killed", "end": "told to end"}[how])
-        if how == "bq":
-            try:
-                with open(f"/proc/{process.pid}/task/{process.pid}/children", encoding="ascii") as file:
-                    for child in file.read().split():
-                        os.kill(int(child), signal.SIGKILL)
-            except OSError:
-                pass
-        else:
-            process.send_signal(signal.SIGKILL if how == "kill" else signal.SIGTERM)
-        return how
 
-    def judge(self):
-        if self.kind == "files":
-            with open(self.path("output"), "rb") as file:
+def mutated(random, text):
+    """A checkpoint that was changed by a byte, a line, or a number."""
+    kind = random.randrange(6)
+    lines = text.splitlines(keepends=True)
+    at = random.randrange(len(lines))
+    if kind == 0:
+        return text[:random.randrange(len(text))]
+    if kind == 1:
+        place = random.randrange(len(text))
+        return text[:place] + bytes([text[place] ^ 1 << random.randrange(8)]) + text[place + 1:]
+    if kind == 2:
+        return b"".join(lines[:at] + lines[at + 1:])
+    if kind == 3:
+        return b"".join(lines[:at] + [lines[at]] + lines[at:])
+    if kind == 4:
+        numbers = list(re.finditer(rb"\d+", text))
+        one = random.choice(numbers)
+        return text[:one.start()] + b"%d" % (int(one[0]) + random.choice([1, -1, 40])) + text[one.end():]
+    other = random.randrange(len(lines))
+    lines[at], lines[other] = lines[other], lines[at]
+    return b"".join(lines)
+
+
+class Mutations:
+    """Sessions that were stopped half-way, and go on from a changed checkpoint: it is refused by a sentence, or the one before it is gone on from."""
+
+    def __init__(self, part, program):
+        self.part, self.program, self.folder = part, program, tempfile.mkdtemp(prefix="bq-keep-")
+        random = random_numbers.Random(f"{part.seed} mutations")
+        self.text = b"".join(one_line(random) + b"\n" for _ in range(300))
+        self.wanted = wanted_of(program, self.text, True)
+        self.put(self.folder, "script", SCRIPT)
+        self.put(self.folder, "input", self.text[:self.text.index(b"\n", len(self.text) // 2) + 1])
+        ran = self.keep(self.folder)
+        if ran.returncode:
+            part.differs(f"status {ran.returncode}: {ran.stderr!r}")
+
+    @staticmethod
+    def put(folder, name, text):
+        with open(os.path.join(folder, name), "wb") as file:
+            file.write(text)
+
+    def keep(self, folder):
+        named = [os.path.join(folder, it) for it in ("input", "output", "kept", "script")]
+        return subprocess.run([sys.executable, KEEP, "--program", self.program, "--input", named[0], "--output", *named[1:]], capture_output=True, timeout=PATIENCE)
+
+    def one(self, number):
+        random = random_numbers.Random(f"{self.part.seed} mutation {number}")
+        with tempfile.TemporaryDirectory(prefix="bq-keep-") as top:
+            folder = os.path.join(top, "one")
+            # the named pipe for the operator is made anew
+            shutil.copytree(self.folder, folder, ignore=shutil.ignore_patterns("control"))
+            names = sorted(it for it in os.listdir(os.path.join(folder, "kept")) if re.fullmatch(r"checkpoint-\d+\.bq", it))
+            # with one alone there is none to go on from
+            is_alone = random.random() < 0.8
+            for name in names[:-1] if is_alone else []:
+                os.remove(os.path.join(folder, "kept", name))
+            with open(os.path.join(folder, "kept", names[-1]), "rb") as file:
+                whole = file.read()
+            changed = mutated(random, whole)
+            self.put(os.path.join(folder, "kept"), names[-1], changed)
+            self.put(folder, "input", self.text)
+            ran = self.keep(folder)
+            with open(os.path.join(folder, "output"), "rb") as file:
                 got = file.read()
-        else:
-            got = self.settled + bytes(self.written)
-        if got != self.wanted:
-            self.part.differs(f"{self.kind}: {first_other_line(got, self.wanted)}", self.text)
-        where = self.where()
-        if where["bytes"] != len(self.text) or where["output"] != len(self.wanted):
-            self.part.differs(f"{self.kind}: at the end it stands at {where}", self.text)
+        is_refused = ran.returncode == 1 and b"whole" in ran.stderr and self.wanted.startswith(got)
+        is_same = ran.returncode == 0 and got == self.wanted and (changed == whole or not is_alone and b"is passed by" in ran.stderr)
+        self.part.count("changed checkpoints")
+        self.part.count("of them refused", is_refused)
+        if not (is_refused and is_alone or is_same) or b"Traceback" in ran.stderr:
+            self.part.differs(f"a changed checkpoint: status {ran.returncode}, {first_other_line(got, self.wanted)}, {ran.stderr[-300:]!r}", changed)
+
+    def end(self):
+        shutil.rmtree(self.folder)
 
 
-def one_trial(part, program, kind, kills):
-    """Takes one input under tools/keep, with so many kills at most; how many there were."""
-    with tempfile.TemporaryDirectory(prefix="bq-keep-") as folder:
-        trial, killed, ended = Trial(part, program, kind, folder), 0, False
-        while not ended:
-            ended, was_killed = trial.go_on(killed < kills)
-            killed += was_killed
-            part.count("starts")
-        part.count(f"inputs over {kind}")
-        part.count("bytes of replies", len(trial.wanted))
-        trial.judge()
-    return killed
+KINDS = {"files": Trial, "changes": Changed, "follow": Follow, "pipes": Pipes, "named pipes": Pipes, **({"full disk": FullDisk} if os.geteuid() == 0 and shutil.which("mount") else {})}
+
+
+def guarded(part, function, *words):
+    try:
+        function(*words)
+    except Exception as fault:  # a trial that breaks is a difference, and the others go on
+        part.differs(f"{type(fault).__name__}: {fault}")
 
 
 def run(program, seed, scale):
     part = Part("keep", seed)
     part.count("starts", 0)
-    left = scaled(KILLS, scale) if CHECKPOINT_SHARE else 0
-    while left > 0:
-        for kind in ("files", "pipes"):
-            left -= one_trial(part, program, kind, min(max(left, 1), 12))
+    if not CHECKPOINT_SHARE:
+        return part
+    kills, mutations = scaled(KILLS, scale), scaled(MUTATIONS, scale)
+    with ThreadPoolExecutor(AT_ONCE) as pool:
+        number = 0
+        while kills > 0:
+            for kind, trial in KINDS.items():
+                share, number = min(kills, 12), number + 1
+                if share > 0:
+                    pool.submit(guarded, part, lambda trial, *words: trial(*words).run(), trial, part, program, kind, number, share)
+                kills -= share
+        changed = Mutations(part, program)
+        for number in range(mutations):
+            pool.submit(guarded, part, changed.one, number)
+    changed.end()
     return part

@@ -1,0 +1,1 @@
+"""The keeper of a session of bq: tools/keep is its command."""

@@ -1,0 +1,459 @@
+"""What goes wrong in production, each as a test over the command: the environment names the program as BQ, and the command as KEEP.
+
+What is wanted comes from one `bq run` over the same lines that nothing interrupts, or is written down here.
+"""
+import os
+import re
+import resource
+import select
+import signal
+import socket
+import subprocess
+import sys
+import tempfile
+import time
+import unittest
+
+TOOLS = os.path.dirname(os.path.dirname(os.path.dirname(os.path.abspath(__file__))))
+KEEP, BQ = os.environ.get("KEEP") or os.path.join(TOOLS, "keep"), os.environ.get("BQ", "bq")
+PATIENCE = 60
+SCRIPT = b"CREATE STREAM Temp (room, val)\nCREATE STREAM Lim (room, val)\nCREATE COMPACT QUERY hot AS SELECT DISTINCT Temp.room FROM Temp, Lim" \
+         b" WHERE Temp.room = Lim.room AND Temp.val > Lim.val AND Temp.room > 0 AND Temp.room < 40\n"
+FLAT = b"CREATE STREAM S (a)\nCREATE QUERY q AS SELECT S.a FROM S\n"
+
+
+def rows(*numbers):
+    return b"".join(b"S,%d\n" % it for it in numbers)
+
+
+def answers(*numbers):
+    return b"".join(b"q,%d\n" % it for it in numbers)
+
+
+class Faults(unittest.TestCase):
+    def setUp(self):
+        self.folder = tempfile.TemporaryDirectory(prefix="keeper-test-")
+        self.addCleanup(self.folder.cleanup)
+        self.put("script", FLAT)
+        self.running = []
+        self.addCleanup(self.end_all)
+
+    def end_all(self):
+        for process in self.running:
+            for child in self.children(process):
+                os.kill(child, signal.SIGKILL)
+            process.kill()
+            process.wait()
+            for pipe in (process.stdin, process.stdout, process.stderr):
+                if pipe:
+                    pipe.close()
+
+    @staticmethod
+    def children(process):
+        try:
+            with open(f"/proc/{process.pid}/task/{process.pid}/children", encoding="ascii") as file:
+                return [int(it) for it in file.read().split()]
+        except OSError:
+            return []
+
+    def path(self, name):
+        return os.path.join(self.folder.name, name)
+
+    def put(self, name, text, how="wb"):
+        with open(self.path(name), how) as file:
+            file.write(text)
+
+    def get(self, name):
+        try:
+            with open(self.path(name), "rb") as file:
+                return file.read()
+        except FileNotFoundError:
+            return b""
+
+    def words(self, *more, folder="kept", script="script"):
+        return [sys.executable, KEEP, "--program", BQ, *more, self.path(folder), *([self.path(script)] if script else [])]
+
+    def keep(self, *more, given=b"", **how):
+        """Runs it to its end."""
+        return subprocess.run(self.words(*more, **how), input=given, capture_output=True, timeout=PATIENCE, check=False)
+
+    def start(self, *more, stdin=subprocess.DEVNULL, stdout=subprocess.DEVNULL, **how):
+        """Has it run beside the test; what it says stands in the file `said`."""
+        with open(self.path("said"), "ab") as said:
+            process = subprocess.Popen(self.words(*more), stdin=stdin, stdout=stdout, stderr=said, bufsize=0, **how)
+        self.running.append(process)
+        return process
+
+    def until(self, what, seconds=PATIENCE):
+        until = time.monotonic() + seconds
+        while not what():
+            if time.monotonic() > until:
+                self.fail(f"it did not come in {seconds} s; it said {self.get('said')[-600:]!r}")
+            time.sleep(0.01)
+
+    def end(self, process, status=0):
+        process.terminate()
+        self.assertEqual(process.wait(PATIENCE), status, self.get("said"))
+
+    def kill(self, process):
+        process.kill()
+        process.wait()
+
+    def checkpoints(self):
+        return sorted(it for it in os.listdir(self.path("kept")) if it.endswith(".bq"))
+
+    def newest(self):
+        return self.path("kept/" + self.checkpoints()[-1])
+
+    def has_bytes(self, number):
+        """Whether the newest checkpoint is behind so many bytes of the input."""
+        try:
+            with open(self.newest(), "rb") as file:
+                return b" bytes %d " % number in file.read()
+        except (FileNotFoundError, IndexError):
+            return False
+
+
+class Input(Faults):
+    def test_rows_behind_a_renaming_are_read(self):
+        self.put("rows", rows(1, 2))
+        process = self.start("--follow", self.path("rows"), "--output", self.path("out"))
+        self.until(lambda: self.get("out") == answers(1, 2))
+        os.rename(self.path("rows"), self.path("rows.1"))
+        self.put("rows", b"")
+        self.end(process)
+        self.put("rows", rows(3, 4, 5, 6, 7, 8, 9))
+        process = self.start("--follow", self.path("rows"), "--output", self.path("out"))
+        self.until(lambda: self.get("out") == answers(*range(1, 10)))
+        self.end(process)
+
+    def test_a_file_that_was_cut_is_refused(self):
+        self.put("rows", rows(1, 2))
+        self.assertEqual(self.keep("--input", self.path("rows"), "--output", self.path("out")).returncode, 0)
+        self.put("rows", rows(7, 8, 9, 10, 11))
+        ran = self.keep("--input", self.path("rows"), "--output", self.path("out"))
+        self.assertEqual((ran.returncode, self.get("out")), (1, answers(1, 2)))
+        self.assertIn(b"is not the file that was read", ran.stderr)
+
+    def test_the_mark_of_a_producer_is_told(self):
+        self.keep(given=b"--@ partition 3 offset 17\nS,1\n--@ partition 3 offset 18\n")
+        ran = self.keep("--where", script=None)
+        self.assertEqual(ran.stdout, b"rows 1 lines 3 bytes 56 output 4 token partition 3 offset 18\n")
+
+    def test_a_line_without_an_end_takes_no_memory(self):
+        process = self.start("--output", self.path("out"), stdin=subprocess.PIPE)
+        began, piece = time.monotonic(), b"x" * (1 << 20)
+        for _ in range(64):
+            process.stdin.write(piece)
+        process.stdin.write(b"\nS,1\n")
+        self.until(lambda: self.get("out").endswith(answers(1)))
+        self.assertLess(time.monotonic() - began, 30)
+        with open(f"/proc/{process.pid}/status", encoding="ascii") as file:
+            self.assertLess(int(re.search(r"VmHWM:\s+(\d+)", file.read())[1]), 60_000)
+        self.assertEqual(self.get("out"), b"error 1 LineTooLong\n" + answers(1))
+        process.stdin.close()
+        self.assertEqual(process.wait(PATIENCE), 0)
+
+    def test_statements_among_the_rows_are_locked(self):
+        ran = self.keep(given=b"S,1\nDROP QUERY q\nCREATE STREAM T (a)\nCHECKPOINT\nRESUME 7\nUNLOCK 1\nS,2\n")
+        self.assertEqual(ran.stdout, answers(1) + b"".join(b"error %d Locked\n" % it for it in range(2, 7)) + answers(2))
+
+    def test_rows_of_other_streams_are_locked(self):
+        self.put("script", b"CREATE STREAM T (b)\n" + FLAT)
+        self.assertEqual(self.keep("--to", "S", given=b"S,1\nT,1\n").stdout, answers(1) + b"error 2 Locked\n")
+
+    def test_a_named_pipe_that_is_followed_stays_open(self):
+        os.mkfifo(self.path("rows"))
+        process = self.start("--follow", self.path("rows"), "--output", self.path("out"))
+        for number in (1, 2, 3):
+            with open(self.path("rows"), "wb") as file:
+                file.write(rows(number))
+            self.until(lambda: self.get("out") == answers(*range(1, number + 1)))
+        self.end(process)
+
+
+class Output(Faults):
+    def test_what_a_reader_saw_is_never_cut(self):
+        self.put("rows", rows(*range(1, 9)))
+        words = ["--every", "1000000", "--seconds", "1000", "--follow", self.path("rows"), "--output", self.path("out")]
+        process = self.start(*words)
+        self.until(lambda: self.get("out") == answers(*range(1, 9)))
+        self.kill(process)
+        self.put("rows", rows(9), "ab")
+        with open(self.path("out"), "rb") as reader:
+            process, seen, is_cut = self.start(*words), b"", False
+            until = time.monotonic() + PATIENCE
+            while not seen.endswith(answers(9)) and time.monotonic() < until:
+                # as tail -F does it
+                if os.fstat(reader.fileno()).st_size < reader.tell():
+                    is_cut = True
+                    reader.seek(0)
+                seen += reader.read()
+        self.assertEqual((seen, is_cut), (answers(*range(1, 10)), False))
+        self.end(process)
+
+    def test_a_torn_output_is_mended_and_told(self):
+        self.put("rows", rows(1, 2, 3))
+        words = ["--seconds", "1000", "--follow", self.path("rows"), "--output", self.path("out")]
+        process = self.start(*words)
+        self.until(lambda: self.get("out") == answers(1, 2, 3))
+        self.kill(process)
+        self.put("out", answers(1) + b"\0\0\0\0\0")
+        process = self.start(*words)
+        self.until(lambda: self.get("out") == answers(1, 2, 3))
+        self.end(process)
+        self.assertIn(b"is cut there", self.get("said"))
+
+    def test_replies_that_were_not_made_durable_come_again(self):
+        """Both sides of a pipe are killed; the consumer has the replies to 5 of 20 rows, and a checkpoint was taken behind each."""
+        source, durable = rows(*range(1, 21)), b""
+        self.put("ack", b"0\n")
+        process = self.start("--every", "1", "--ack", self.path("ack"), stdin=subprocess.PIPE, stdout=subprocess.PIPE)
+        for line in source.splitlines(keepends=True):
+            process.stdin.write(line)
+            time.sleep(0.01)
+        self.until(lambda: self.has_bytes(len(source)))
+        while len(durable) < len(answers(*range(1, 6))):
+            durable += os.read(process.stdout.fileno(), 4)
+        self.kill(process)
+        self.put("ack", b"%d\n" % len(durable))
+        ran = self.keep("--where", "--ack", self.path("ack"), script=None)
+        place = int(ran.stdout.split()[5])
+        ran = self.keep("--ack", self.path("ack"), "--from", str(place), given=source[place:])
+        self.assertEqual((durable + ran.stdout, ran.returncode), (answers(*range(1, 21)), 0))
+
+    def test_two_runs_have_neither_one_folder_nor_one_output(self):
+        os.mkfifo(self.path("rows"))
+        words = ["--follow", self.path("rows"), "--output", self.path("out")]
+        process = self.start(*words)
+        self.until(lambda: os.path.isdir(self.path("kept")) and self.checkpoints())
+        for ran in (self.keep(*words), self.keep(*words, folder="other"), self.keep("--where", script=None)):
+            self.assertEqual(ran.returncode, 3, ran.stderr)
+            self.assertIn(b"another run has", ran.stderr)
+        self.end(process)
+        self.assertEqual(self.keep("--where", script=None).returncode, 0)
+
+    def test_a_producer_that_begins_at_another_byte_is_refused(self):
+        self.keep(given=rows(1, 2))
+        self.assertEqual(self.keep("--from", "4", given=rows(2)).returncode, 1)
+        self.assertEqual(self.keep("--from", "8", given=rows(3)).stdout, answers(3))
+
+    def test_a_full_disk_is_told_with_its_path(self):
+        """A file may have 2,000 bytes at most, so the output is full: what is there stays, and a run with more room goes on."""
+        numbers = range(1, 1000)
+        self.put("rows", rows(*numbers))
+        words = self.words("--input", self.path("rows"), "--output", self.path("out"))
+        ran = subprocess.run(words, capture_output=True, timeout=PATIENCE, preexec_fn=lambda: resource.setrlimit(resource.RLIMIT_FSIZE, (2000, 2000)))
+        self.assertEqual(ran.returncode, 1)
+        self.assertIn(self.path("out").encode(), ran.stderr)
+        self.assertEqual(self.get("out"), answers(*numbers)[:2000])
+        self.assertEqual(subprocess.run(words, capture_output=True, timeout=PATIENCE).returncode, 0)
+        self.assertEqual(self.get("out"), answers(*numbers))
+
+    def test_a_checkpoint_that_cannot_be_written_is_told_and_the_session_goes_on(self):
+        self.put("script", SCRIPT)
+        process = self.start("--every", "1", "--output", self.path("out"), stdin=subprocess.PIPE, preexec_fn=lambda: resource.setrlimit(resource.RLIMIT_FSIZE, (1200, 1200)))
+        for room in range(1, 40):
+            process.stdin.write(b"Lim,%d,1\nTemp,%d,2\n" % (room, room))
+            self.until(lambda: self.get("out").endswith(b"hot,%d\n" % room))
+        self.until(lambda: b"no checkpoint could be written" in self.get("said"))
+        self.assertIn(self.path("kept").encode(), self.get("said"))
+        self.end(process, 1)
+        ran = self.keep("--output", self.path("out"), given=b"")
+        self.assertEqual((ran.returncode, self.get("out")), (0, b"".join(b"hot,%d\n" % it for it in range(1, 40))))
+
+
+class Checkpoints(Faults):
+    limits = b"Lim,7,40\nTemp,7,41\nLim,8,21\n"
+
+    def setUp(self):
+        super().setUp()
+        self.put("script", SCRIPT)
+
+    def test_a_changed_checkpoint_is_refused(self):
+        self.keep(given=self.limits)
+        for name in self.checkpoints()[:-1]:
+            os.remove(self.path("kept/" + name))
+        with open(self.newest(), "rb") as file:
+            whole = file.read()
+        lines = whole.splitlines(keepends=True)
+        for changed in (whole.replace(b"< 40", b"< 42"), b"".join(lines[:-2] + lines[-1:]), b"".join(lines[:-1])):
+            self.assertNotEqual(changed, whole)
+            self.put("kept/" + self.checkpoints()[-1], changed)
+            ran = self.keep(given=b"Temp,8,22\n")
+            self.assertEqual((ran.returncode, ran.stdout), (1, b""))
+            self.assertIn(b"whole", ran.stderr)
+
+    def test_a_program_that_keeps_a_query_otherwise_is_refused(self):
+        self.keep(given=self.limits)
+        other = self.path("other-bq")
+        self.put("other-bq", b"#!/bin/sh\n[ \"$1\" = --version ] && { echo bq 9; exit; }\nexec '%s' \"$@\" | sed -u 's/^dim \\|^  dim /&x/; s/^part/Part/'\n" % BQ.encode())
+        os.chmod(other, 0o755)
+        ran = self.keep("--program", other, given=b"Temp,8,22\n")
+        self.assertEqual((ran.returncode, ran.stdout), (1, b""))
+        self.assertIn(b"keeps hot otherwise", ran.stderr)
+
+    def test_a_changed_script_is_told(self):
+        self.keep(given=self.limits)
+        self.put("script", SCRIPT + b"CREATE QUERY more AS SELECT Temp.val FROM Temp\n")
+        ran = self.keep(given=b"Temp,8,22\n")
+        self.assertEqual((ran.returncode, ran.stdout), (0, b"hot,8\n"))
+        self.assertIn(b"was changed", ran.stderr)
+        self.assertIn(b"CREATE QUERY more", ran.stderr)
+        # the same statements in other words are no change
+        self.put("script", SCRIPT.replace(b"CREATE STREAM", b"create  stream"))
+        self.assertNotIn(b"was changed", self.keep(given=b"").stderr)
+
+    def test_a_script_that_locks_is_refused(self):
+        self.put("script", SCRIPT + b"LOCK 5\n")
+        ran = self.keep(given=self.limits)
+        self.assertEqual(ran.returncode, 1)
+        self.assertIn(b"LOCK", ran.stderr)
+
+    def test_a_clock_that_is_set_back(self):
+        self.put("sitecustomize.py", b"import itertools, time\ncount = itertools.count(2e9, -1e6)\ntime.time = lambda: next(count)\n")
+        text = self.limits + b"Temp,8,22\n"
+        ran = subprocess.run(self.words("--every", "1"), input=text, capture_output=True, timeout=PATIENCE, env={**os.environ, "PYTHONPATH": self.folder.name})
+        self.assertEqual((ran.stdout, ran.returncode), (b"hot,7\nhot,8\n", 0))
+
+
+class Control(Faults):
+    def test_what_the_operator_says_holds_over_a_kill(self):
+        os.mkfifo(self.path("rows"))
+        words = ["--seconds", "1000", "--follow", self.path("rows"), "--output", self.path("out")]
+        process, pipe = self.start(*words), os.open(self.path("rows"), os.O_RDWR)
+        self.addCleanup(os.close, pipe)
+        os.write(pipe, rows(1))
+        self.until(lambda: self.get("out") == answers(1))
+        self.put("change", b"-- two more\nCREATE QUERY r AS SELECT S.a FROM S\nCREATE QUERY q AS SELECT S.a FROM S\nEXPLAIN q\nDROP QUERY q\n")
+        ran = self.keep("--change", self.path("change"), script=None)
+        self.assertEqual((ran.stdout, ran.returncode), (b"ok query r filter\nerror Duplicate\nCREATE and DROP lines alone\nok drop q\n", 1))
+        os.write(pipe, rows(2))
+        self.until(lambda: self.get("out") == answers(1) + b"r,2\n")
+        self.kill(process)
+        process = self.start(*words)
+        os.write(pipe, rows(3))
+        self.until(lambda: self.get("out").endswith(b"r,3\n"))
+        self.assertNotIn(b"q,3", self.get("out"))
+        self.end(process)
+        self.assertEqual(self.keep("--change", self.path("change"), script=None).returncode, 1)
+
+    def test_a_change_is_made_once_more_at_its_place(self):
+        """With no checkpoint behind it: all but the first are taken away."""
+        self.put("rows", rows(1, 2))
+        words = ["--seconds", "1000", "--follow", self.path("rows"), "--output", self.path("out")]
+        process = self.start(*words)
+        self.until(lambda: self.get("out") == answers(1, 2))
+        first = self.get("kept/" + self.checkpoints()[0])
+        self.put("change", b"CREATE QUERY r AS SELECT S.a FROM S\n")
+        self.assertEqual(self.keep("--change", self.path("change"), script=None).stdout, b"ok query r filter\n")
+        self.put("rows", rows(3), "ab")
+        self.until(lambda: self.get("out") == answers(1, 2, 3) + b"r,3\n")
+        self.kill(process)
+        for name in self.checkpoints():
+            os.remove(self.path("kept/" + name))
+        self.put("kept/checkpoint-00000001.bq", first)
+        self.put("rows", rows(4), "ab")
+        process = self.start(*words)
+        self.until(lambda: self.get("out") == answers(1, 2, 3) + b"r,3\n" + answers(4) + b"r,4\n")
+        self.end(process)
+        self.assertNotIn(b"is cut there", self.get("said"))
+
+
+class Signals(Faults):
+    def test_it_ends_while_the_consumer_stalls(self):
+        process = self.start("--grace", "1", stdin=subprocess.PIPE, stdout=subprocess.PIPE)
+        self.until(lambda: b"begins anew" in self.get("said"))
+        os.set_blocking(process.stdin.fileno(), False)
+        text = rows(*range(1000)) * 4
+        until = time.monotonic() + 3
+        while time.monotonic() < until:
+            if select.select([], [process.stdin], [], 0.1)[1]:
+                process.stdin.write(text[:4096])
+        began = time.monotonic()
+        process.terminate()
+        self.assertEqual(process.wait(10), 1)
+        self.assertLess(time.monotonic() - began, 6)
+
+    def test_hup_and_usr1_do_not_end_it(self):
+        process = self.start("--seconds", "1000", "--output", self.path("out"), stdin=subprocess.PIPE)
+        process.stdin.write(rows(1, 2))
+        self.until(lambda: self.get("out") == answers(1, 2))
+        process.send_signal(signal.SIGHUP)
+        self.until(lambda: self.has_bytes(8))
+        process.send_signal(signal.SIGUSR1)
+        self.until(lambda: b"2 rows, " in self.get("said"))
+        self.end(process)
+
+    def test_a_dead_bq_is_begun_again(self):
+        for words, feeds in ((["--output", self.path("out")], True), (["--follow", self.path("rows"), "--output", self.path("out2")], False)):
+            self.put("rows", rows(1, 2))
+            process = self.start("--seconds", "1000", *words, stdin=subprocess.PIPE)
+            out = "out" if feeds else "out2"
+            if feeds:
+                process.stdin.write(rows(1, 2))
+            self.until(lambda: self.get(out) == answers(1, 2))
+            for child in self.children(process):
+                os.kill(child, signal.SIGKILL)
+            process.stdin.write(rows(3)) if feeds else self.put("rows", rows(3), "ab")
+            self.until(lambda: self.get(out) == answers(1, 2, 3))
+            self.assertIn(b"it is begun again", self.get("said"))
+            self.end(process)
+            for name in os.listdir(self.path("kept")):
+                os.remove(self.path("kept/" + name))
+
+    def test_a_stuck_bq_is_begun_again(self):
+        process = self.start("--stuck", "1", "--seconds", "0.2", "--output", self.path("out"), stdin=subprocess.PIPE)
+        process.stdin.write(rows(1))
+        self.until(lambda: self.get("out") == answers(1))
+        for child in self.children(process):
+            os.kill(child, signal.SIGSTOP)
+        process.stdin.write(rows(2))
+        self.until(lambda: self.get("out") == answers(1, 2))
+        self.assertIn(b"did not answer", self.get("said"))
+        self.end(process)
+
+
+class ToLookAt(Faults):
+    def test_numbers_words_and_a_page(self):
+        self.put("script", FLAT + SCRIPT)
+        with socket.socket(socket.AF_UNIX, socket.SOCK_DGRAM) as ear:
+            ear.bind(self.path("notify"))
+            ear.settimeout(PATIENCE)
+            process = self.start("--metrics", self.path("numbers"), "--log", self.path("log"), "--output", self.path("out"), stdin=subprocess.PIPE,
+                                 env={**os.environ, "NOTIFY_SOCKET": self.path("notify")})
+            said = b""
+            while b"READY=1" not in said:
+                said += ear.recv(4096) + b"\n"
+            process.stdin.write(b"S,1\nS\nS,x\n\nS,2\nTemp,1\n")
+            self.until(lambda: b"\nkeep_rows_total 2\n" in self.get("numbers"))
+            while b"WATCHDOG=1" not in said or b"STATUS=2 rows" not in said:
+                said += ear.recv(4096) + b"\n"
+        numbers = self.get("numbers").decode()
+        for line in ('keep_errors_total{word="Arity"} 1', 'keep_errors_total{word="Value"} 1', 'keep_errors_total{word="Locked"} 1', 'keep_answers_total{query="q"} 2',
+                     "keep_lines_total 6", "keep_up 1", "keep_restarts_total 0", "keep_pages_used 2"):
+            self.assertIn(line + "\n", numbers)
+        for name in ("rows_per_second", "lag_bytes", "checkpoint_age_seconds", "checkpoint_bytes", "checkpoint_seconds"):
+            self.assertRegex(numbers, rf"(?m)^keep_{name} \d")
+        self.assertRegex(self.get("log").decode(), r"\A\d{4}-\d\d-\d\dT\d\d:\d\d:\d\d\.\d{3}\+00:00 info begins anew")
+        page = self.keep("--status", script=None)
+        self.assertIn(b"a run has it", page.stdout)
+        self.assertRegex(page.stdout, rb"rows total +2\n")
+        self.end(process)
+        self.assertIn(b"no run has it", self.keep("--status", script=None).stdout)
+
+    def test_an_older_checkpoint_is_gone_on_from(self):
+        import hashlib
+        body = FLAT + b"RESUME 2\nRESUME q AS 2\n"
+        os.mkdir(self.path("kept"))
+        self.put("kept/checkpoint-00000005.bq", body + f"-- whole rows 2 lines 2 bytes 8 output 8 lines of this file 4 sum {hashlib.sha256(body).hexdigest()}\n".encode())
+        self.put("rows", rows(1, 2, 3))
+        self.put("out", answers(1, 2))
+        ran = self.keep("--input", self.path("rows"), "--output", self.path("out"))
+        self.assertEqual((ran.returncode, self.get("out")), (0, answers(1, 2, 3)), ran.stderr)
+        self.assertEqual(self.checkpoints()[-1], "checkpoint-00000006.bq")
+
+
+resource.setrlimit(resource.RLIMIT_CORE, (0, 0))
+if __name__ == "__main__":
+    unittest.main()
