@@ -1,0 +1,89 @@
+"""Rows in, each with the shard that it goes to."""
+import os
+import re
+
+BLOCK = 1 << 20
+INTEGER = re.compile(rb"\s*([+-]?\d+)\s*\r?$")
+MOST_KNOWN = 1 << 20
+
+
+class Router:
+    """Deals rows, as bytes without their LF, to shards."""
+
+    def __init__(self, script, keys, placing):
+        self.placing = placing
+        # Of each stream the place of its key among the pieces of a row, the stream's name being the first; None where its rows go to all shards.
+        self.places = {}
+        for name, column in keys.of_stream.items():
+            self.places[name.encode()] = None if column is None else list(script.streams[name].columns).index(column) + 1
+        # Of each stream that is dealt that place, and of its keys, as they were written, the shard.
+        self.known = {name: (place, {}) for name, place in self.places.items() if place is not None}
+        self.cuts = max(place for place, _ in self.known.values()) + 1
+
+    def deal(self, lines):
+        """The lines for each shard, in their order. A row whose key came before costs one split and two look-ups."""
+        piles = [[] for _ in range(self.placing.parts)]
+        adds, known, cuts = [pile.append for pile in piles], self.known, self.cuts
+        for line in lines:
+            pieces = line.split(b",", cuts)
+            try:
+                place, shards = known[pieces[0]]
+                adds[shards[pieces[place]]](line)
+            except (KeyError, IndexError):
+                for shard in self.shards_of(pieces):
+                    adds[shard](line)
+        return piles
+
+    def shards_of(self, pieces):
+        """The shards of a row whose key is new, whose stream is broadcast or is not there, or that is no row."""
+        stream = pieces[0].strip()
+        place = self.places.get(stream, -1)
+        if place is None:
+            return range(self.placing.parts)
+        if not 0 < place < len(pieces):
+            return [0]
+        shard, known = self.shard_of(pieces[place]), self.known[stream][1]
+        if len(known) >= MOST_KNOWN:
+            known.clear()
+        known[pieces[place]] = shard
+        return [shard]
+
+    def shard_of(self, field):
+        """The shard of a key as it is written; shard 0 answers for what is no integer of 64 bits."""
+        found = INTEGER.match(field)
+        value = int(found[1]) if found else None
+        return self.placing.of(value) if value is not None and -(1 << 63) <= value < 1 << 63 else 0
+
+
+def blocks_of(source):
+    """The lines of a descriptor, in lists; the last line may lack its LF."""
+    rest = b""
+    while True:
+        block = os.read(source, BLOCK)
+        if not block:
+            break
+        lines = (rest + block).split(b"\n")
+        rest = lines.pop()
+        yield lines
+    if rest:
+        yield [rest]
+
+
+def write_all(target, data):
+    """Writes all bytes to a descriptor."""
+    view = memoryview(data)
+    while view:
+        view = view[os.write(target, view):]
+
+
+def route(router, source, targets):
+    """Deals all lines of a descriptor; each shard has a descriptor of its own among the targets, or all go to one, numbered."""
+    for lines in blocks_of(source):
+        for shard, pile in enumerate(router.deal(lines)):
+            if not pile:
+                continue
+            if len(targets) == router.placing.parts and router.placing.parts > 1:
+                write_all(targets[shard], b"\n".join(pile) + b"\n")
+            else:
+                lead = b"%d\t" % shard
+                write_all(targets[0], lead + (b"\n" + lead).join(pile) + b"\n")
