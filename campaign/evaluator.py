@@ -11,8 +11,9 @@ from collections import Counter
 
 import analysis
 import language
-from language import (RESUMES, Checkpoint, CreateQuery, CreateStream, Explain, Refused, ResumeCell,
-                      ResumeGiven, ResumeRows)
+import lock
+from language import (RESUMES, Checkpoint, CreateQuery, CreateStream, Explain, Lock, Refused, ResumeCell,
+                      ResumeGiven, ResumeRows, Unlock)
 from synopsis import Synopsis
 
 MOST_STREAMS = 16
@@ -188,6 +189,8 @@ class Session:
         self.rows_taken = self.line_number = 0
         # whether a row line was taken: from then on no line of a checkpoint is
         self.began = False
+        # which lines are let, or None where all are
+        self.lock = None
 
     def reply(self, line):
         self.line_number += 1
@@ -200,6 +203,8 @@ class Session:
         if len(line) > language.LONGEST_LINE:
             raise Refused("LineTooLong")
         stripped = language.strip_line(line)
+        if self.lock and not lock.lets(self.lock, stripped):
+            raise Refused("Locked")
         if language.says_nothing(stripped):
             return b""
         if language.row_name(stripped):
@@ -213,6 +218,8 @@ class Session:
             return b"".join(it + b"\n" for it in self.checkpoint())
         if isinstance(statement, ResumeRows):
             return self.resume_rows(statement.rows)
+        if isinstance(statement, (Lock, Unlock)):
+            return self.turn_key(statement)
         if statement.name not in self.queries:
             raise Refused("UnknownQuery")
         if isinstance(statement, RESUMES):
@@ -221,6 +228,16 @@ class Session:
             return self.explain(statement.name)
         del self.queries[statement.name]
         return b"ok drop " + statement.name + b"\n"
+
+    def turn_key(self, statement):
+        """Locks the session, or unlocks it; under a lock no other line than its own UNLOCK comes here."""
+        if isinstance(statement, Lock):
+            self.lock = lock.locked_by(statement, self.streams)
+            return b"ok lock\n"
+        if self.lock is None:
+            raise Refused("Value")
+        self.lock = None
+        return b"ok unlock\n"
 
     def take_row(self, stream, row):
         if self.rows_taken >= self.most_rows:

@@ -6,7 +6,7 @@ The comparisons `<=`, `>=` and `<>` are called soft. CAMPAIGN_SOFT in the enviro
 of them in random queries. A column may have a domain, the integers from one to another, and a row
 outside it is refused. CAMPAIGN_DOMAINS is the share of columns with a domain in random streams. A
 query may be shared. CAMPAIGN_SHARED is the share of such ones among random queries. It may be
-compact: the word COMPACT is no reserved one, and is known before QUERY alone. CAMPAIGN_COMPACT is the
+compact: the word COMPACT is no reserved one, and is known before QUERY alone. Nor are LOCK, UNLOCK and TO. CAMPAIGN_COMPACT is the
 share of such ones. A session may be asked for a checkpoint and go on from one. CAMPAIGN_CHECKPOINTS is
 the share of random scripts in which that is done.
 """
@@ -23,6 +23,7 @@ MOST_ATOMS = 16
 MOST_SOFT = 8
 MOST_ATTRIBUTES = 12
 MOST_CONSTANTS = 6
+MOST_OPENED = 16
 LARGEST_INTEGER = 999_999_999_999_999
 LEAST_VALUE, GREATEST_VALUE = -(2**63), 2**63 - 1
 
@@ -65,6 +66,9 @@ ResumeGiven = namedtuple("ResumeGiven", "name rows")
 ResumeCell = namedtuple("ResumeCell", "name index content")
 ResumeTuple = namedtuple("ResumeTuple", "name values")
 RESUMES = ResumeRows, ResumeGiven, ResumeCell, ResumeTuple
+# A lock with its key, or None, and the names of the streams that stay open, of which there are none where all do.
+Lock = namedtuple("Lock", "key streams")
+Unlock = namedtuple("Unlock", "key")
 # A column is a pair of names; an operand is such a pair or an integer.
 Atom = namedtuple("Atom", "left operator right")
 
@@ -226,10 +230,20 @@ def read_resume(reader):
     return ResumeTuple(name, tuple(values))
 
 
+def read_lock(reader):
+    """A lock, after its first word."""
+    key = int(reader.take("integer")) if reader.kind() == "integer" else None
+    return Lock(key, reader.list_of(reader.name, ",") if reader.takes_word(b"TO") else [])
+
+
 def read_statement(reader):
     """One statement, with its semicolon where it has one, and nothing behind it."""
     if reader.takes("CREATE"):
         statement = read_stream(reader) if reader.kind() == "STREAM" else read_query(reader)
+    elif reader.takes_word(b"LOCK"):
+        statement = read_lock(reader)
+    elif reader.takes_word(b"UNLOCK"):
+        statement = Unlock(int(reader.take("integer")))
     elif reader.takes("EXPLAIN"):
         statement = Explain(reader.name())
     elif reader.takes("CHECKPOINT"):
@@ -277,6 +291,13 @@ def resume_passes_limit(resume):
             or not all(LEAST_VALUE <= it <= GREATEST_VALUE for it in integers))
 
 
+def lock_passes_limit(statement):
+    """Whether a LOCK or UNLOCK line has a number that is not of 64 bits, or too many streams."""
+    streams = statement.streams if isinstance(statement, Lock) else []
+    within = statement.key is None or LEAST_VALUE <= statement.key <= GREATEST_VALUE
+    return not within or len(streams) > MOST_OPENED
+
+
 def parse(stripped):
     """The statement that a stripped line spells; Refused with Syntax or Limit."""
     tokens = tokens_of(stripped)
@@ -288,6 +309,8 @@ def parse(stripped):
     if isinstance(statement, CreateQuery) and query_passes_limit(statement):
         raise Refused("Limit")
     if isinstance(statement, RESUMES) and resume_passes_limit(statement):
+        raise Refused("Limit")
+    if isinstance(statement, (Lock, Unlock)) and lock_passes_limit(statement):
         raise Refused("Limit")
     return statement
 
