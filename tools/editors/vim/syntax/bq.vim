@@ -8,6 +8,10 @@ syntax keyword bqStatement CREATE STREAM QUERY EXPLAIN DROP CHECKPOINT RESUME
 syntax keyword bqClause AS SELECT DISTINCT FROM WHERE AND IN SHARED
 " known before QUERY alone; elsewhere it is a name
 syntax match bqCompact /\<COMPACT\ze\s\+QUERY\>/
+" known at the front of a line alone, and not before a comma; TO behind LOCK and its number alone
+syntax match bqLock /^\s*\zs\(UN\)\?LOCK\>\ze\s*\($\|;\|[+-]\?\d\|TO\>\)/ nextgroup=bqLockNumber,bqTo skipwhite
+syntax match bqLockNumber /[+-]\?\d\+\>/ contained nextgroup=bqTo skipwhite
+syntax match bqTo /\<TO\>/ contained
 syntax case match
 
 " the word before a comma at the front of a line is the stream of a row
@@ -24,6 +28,9 @@ syntax match bqFault /==\|=<\|=>\|!=\|<<\|>>\|["'`*/%&|!]/
 highlight default link bqStatement Statement
 highlight default link bqClause Keyword
 highlight default link bqCompact Keyword
+highlight default link bqLock Statement
+highlight default link bqTo Keyword
+highlight default link bqLockNumber Number
 highlight default link bqRow Type
 highlight default link bqNumber Number
 highlight default link bqOperator Operator
