@@ -28,7 +28,7 @@ use bq_direct::determined_tuple;
 use bq_model::{Row, Tuple};
 use bq_narrow::PartAt;
 use bq_pool::{Pool, Steps};
-use bq_probe::{FirstLook, Probe, ProbeScratch, first_look, look_before_walk};
+use bq_probe::{FirstLook, Probe, ProbeScratch, first_look, is_nothing, look_before_walk};
 use bq_synopsis::{Admitted, OwnCell, own_cell, put_own};
 use std::sync::ledger::Ledger;
 
@@ -115,8 +115,12 @@ fn walk_all<L: Ledger>(
     ensures reads { steps.new.reads ≤ steps.old.reads + walk_reads part.now.plan.now at.now.pos }
     ensures writes { steps.new.writes ≡ steps.old.writes }
 {
+    let seen = room.look_along(pool, part, at, steps);
+    if is_nothing(seen) {
+        return;
+    }
     let (q, plan, prepared) = (part.q, part.plan, part.prepared);
-    let mut probe = Probe::new(q, plan, prepared, at.pos, at.row, room);
+    let mut probe = Probe::new_behind(q, plan, prepared, at.pos, at.row, room, seen);
     'walk: while let Some(count) = probe.next(pool, part.extent, q, plan, tuple, steps) {
         record_found(q.distinct(), tuple, count, table);
         probe.pass_repeats(q, plan, tuple);
@@ -142,8 +146,12 @@ fn answer_once<L: Ledger>(
     ensures reads { steps.new.reads ≤ steps.old.reads + walk_reads part.now.plan.now at.now.pos }
     ensures writes { steps.new.writes ≡ steps.old.writes }
 {
+    let seen = room.look_along(pool, part, at, steps);
+    if is_nothing(seen) {
+        return;
+    }
     let (q, plan, prepared) = (part.q, part.plan, part.prepared);
-    let mut probe = Probe::new(q, plan, prepared, at.pos, at.row, room);
+    let mut probe = Probe::new_behind(q, plan, prepared, at.pos, at.row, room, seen);
     match probe.next(pool, part.extent, q, plan, tuple, steps) {
         Some(count) => record_found(true, tuple, count, table),
         None => {}

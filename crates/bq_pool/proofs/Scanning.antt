@@ -9,7 +9,7 @@ use Rattle.bq_pool.specs.Places.{lent, cell_at, extents, IsSound}
 use Rattle.bq_pool.specs.Extents.{cells_of, IsLive}
 use Rattle.bq_pool.specs.Strides.{NoneOccupied, IsFirst, Scanned, HasPage}
 use Rattle.bq_pool.proofs.Cells.{get_or-slot_cells}
-use Rattle.bq_pool.proofs.Live.{has_slot, has_room, place_within}
+use Rattle.bq_pool.proofs.Live.{has_slot, slot_bounds, place_within}
 
 -- a run of empty cells behind empty ones
 pub empty_on : (at here : ℕ → Cell) (first from i k : ℕ)
@@ -70,15 +70,15 @@ pub record IsSeen (cells : List Cell) (page_table : List ℕ) (slots : List (Opt
   pub page : HasPage cells page_table e.slot i
   pub cell : cell_at cells page_table e.slot i ≡ get_or (cells_of (record { pages = pages; free = free; lent = lent page_table slots; extents = extents cells page_table slots }) e) i Empty
 
-pub is_seen : (cells : List Cell) (page_table : List ℕ) (slots : List (Option ℕ)) (free pages : ℕ) (e : Extent) (i : ℕ)
-    → IsSound cells page_table slots free pages
+pub is_seen : (cells : List Cell) (page_table spare : List ℕ) (slots : List (Option ℕ)) (free pages : ℕ) (e : Extent) (i : ℕ)
+    → IsSound cells page_table spare slots free pages
     → IsLive (record { pages = pages; free = free; lent = lent page_table slots; extents = extents cells page_table slots }) e
     → i < 64 * e.pages
     → IsSeen cells page_table slots free pages e i
-is_seen cells page_table slots free pages e i sound live hi =
+is_seen cells page_table spare slots free pages e i sound live hi =
     let has = has_slot cells page_table slots free pages e live in
-    let room = has_room cells page_table slots free pages e.slot e.pages sound has.slot in
-    let within = place_within cells page_table slots free pages e.slot e.pages i sound has.slot hi in
+    let room = slot_bounds cells page_table spare slots free pages e.slot e.pages sound has.slot in
+    let within = place_within cells page_table spare slots free pages e.slot e.pages i sound has.slot hi in
     let all = sound.all_cells in
     let small = room.small in
     record {

@@ -6,7 +6,7 @@ ghost use Rattle.bq_model.specs.declared.cell.Cell.{Cell};
 ghost use Rattle.bq_model.specs.declared.cell.Cell.TheVariants.{Empty as empty};
 
 use crate::marked::MarkedCells;
-use crate::pages::{clear_pages, copy_pages, vacant};
+use crate::pages::{add_pages, clear_pages, lend_pages, return_pages, vacant};
 use crate::scan::{Occupied, StridedCells, first_along, first_beside, first_marked};
 use crate::steps::Steps;
 use bq_model::Cell;
@@ -18,11 +18,11 @@ use thiserror::Error;
 /// The cells of a page.
 const CELLS_PER_PAGE: usize = 64;
 
+/// The slots: the most live extents.
+const SLOTS: usize = 64;
+
 /// The entries of the page table that a slot has: the most pages of an extent.
 const PAGES_PER_SLOT: usize = 4096;
-
-/// The place of the page table where the free pages begin, after those of 64 slots.
-const FIRST_FREE: usize = 262144;
 
 /// Why no extent was taken.
 #[derive(Clone, Copy, Debug, PartialEq, Eq, Error)]
@@ -38,12 +38,14 @@ pub struct Extent {
     pages: u16,
 }
 
-/// All pages, free and lent out. The numbers of the pages of slot s stand in `page_table` from 4096 * s on, the numbers of
-/// the free pages from 262144 on.
+/// All pages, free and lent out. The numbers of the pages of slot s stand in `page_table` from 4096 * s on, and those of the free pages
+/// that were lent before in `spare`. The other free pages have no cells and no number yet: room for all is taken once, and none of it is
+/// touched before it is needed.
 #[derive(Drop)]
 pub struct Pool {
     cells: MarkedCells,
     page_table: Vec<u16>,
+    spare: Vec<u16>,
     slots: Vec<Option<u16>>,
     free: u32,
     pages: u32,
@@ -54,26 +56,29 @@ impl Model for Pool {
 
     ghost Value = { PoolValue };
 
-    ghost use Rattle.bq_pool.specs.Places.{lent, extents, IsSound};
+    ghost use Rattle.std.specs.Prelude.{vec_capacity};
+    ghost use Rattle.bq_pool.specs.Places.{lent, extents, IsSound, HasRoom};
 
-    ghost view = { λ pool. record { pages = pool.pages; free = pool.free; lent = lent pool.page_table.items pool.slots.items; extents = extents pool.cells pool.page_table.items pool.slots.items } };
+    ghost view = { λ pool. record { pages = pool.pages; free = pool.free; lent = lent pool.page_table.items pool.slots.items; extents = extents pool.cells.cells pool.page_table.items pool.slots.items } };
 
-    ghost invariant = { λ pool. IsSound pool.cells pool.page_table.items pool.slots.items pool.free pool.pages };
+    ghost invariant = { λ pool. IsSound pool.cells.cells pool.page_table.items pool.spare.items pool.slots.items pool.free pool.pages × HasRoom pool.pages pool.cells.room (vec_capacity pool.page_table) (vec_capacity pool.spare) };
 }
 
 impl Pool {
     /// Returns a pool of at most 16,384 pages, all of them free, with 64 slots for extents. An error says that memory was not
-    /// found; no other call takes any.
+    /// found; no other call takes any. The room is taken and not touched: its size costs no time here.
     pub fn new(alloc: Global, pages: u16) -> Result<Pool, AllocError>
         requires { pages ≤ 16384 }
         ensures { IfOk result (λ pool. IsFresh pages pool) }
     {
-        let cells = MarkedCells::new(alloc, usize::from(pages))?;
-        let page_table = free_page_table(alloc, pages)?;
+        let cells = MarkedCells::with_capacity(alloc, usize::from(pages))?;
+        let page_table = Vec::with_capacity(alloc, SLOTS * PAGES_PER_SLOT)?;
+        let spare = Vec::with_capacity(alloc, usize::from(pages))?;
         let slots = no_slots(alloc)?;
         Ok(Pool {
             cells,
             page_table,
+            spare,
             slots,
             free: u32::from(pages),
             pages: u32::from(pages),
@@ -103,19 +108,15 @@ impl Pool {
                 free: self.free,
             });
         }
-        let rest = self.free - needed;
-        let slot = vacant(&self.slots);
         let count = usize::from(pages);
+        let fresh = count.saturating_sub(self.spare.len());
+        add_pages(&mut self.cells, &mut self.spare, fresh);
+        let slot = vacant(&self.slots);
         let first = slot * PAGES_PER_SLOT;
-        copy_pages(
-            &mut self.page_table,
-            FIRST_FREE + rest as usize,
-            first,
-            count,
-        );
-        clear_pages(&mut self.cells, &self.page_table, first, count);
+        lend_pages(&mut self.page_table, first, &mut self.spare, count);
+        clear_pages(&mut self.cells, &self.page_table, first, count - fresh);
         self.slots[slot] = Some(pages);
-        self.free = rest;
+        self.free -= needed;
         Ok(Extent {
             slot: slot as u8,
             pages,
@@ -231,11 +232,11 @@ impl Pool {
     {
         let Extent { slot, pages } = extent;
         let slot = usize::from(slot);
-        copy_pages(
-            &mut self.page_table,
+        return_pages(
+            &self.page_table,
             slot * PAGES_PER_SLOT,
-            FIRST_FREE + self.free as usize,
             usize::from(pages),
+            &mut self.spare,
         );
         self.slots[slot] = None;
         self.free += u32::from(pages);
@@ -247,21 +248,9 @@ fn no_slots(alloc: Global) -> Result<Vec<Option<u16>>, AllocError>
     ensures length { IfOk result (λ slots. length slots.items ≡ 64) }
     ensures none { IfOk result (λ slots. (s : ℕ) → slice_index_or slots.items s None ≡ None) }
 {
-    let mut slots = Vec::with_capacity(alloc, 64)?;
-    for i in 0..64usize {
+    let mut slots = Vec::with_capacity(alloc, SLOTS)?;
+    for i in 0..SLOTS {
         slots.push(None)?;
     }
     Ok(slots)
-}
-
-/// The page table of a pool in which no extent is live: each free page at the place of its number.
-fn free_page_table(alloc: Global, pages: u16) -> Result<Vec<u16>, AllocError>
-    ensures length { IfOk result (λ page_table. length page_table.items ≡ 262144 + pages) }
-    ensures pages { IfOk result (λ page_table. (k : ℕ) → k < pages → slice_index page_table.items (262144 + k) ≡ k) }
-{
-    let mut page_table = vec![in alloc; 0u16; FIRST_FREE + usize::from(pages)]?;
-    for k in 0..pages {
-        page_table[FIRST_FREE + usize::from(k)] = k;
-    }
-    Ok(page_table)
 }

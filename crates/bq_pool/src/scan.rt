@@ -65,8 +65,8 @@ fn cell_of<'a, L: Ledger>(
 ) -> &'a Cell
     requires slot { slot < 64 }
     requires small { number < 2 ^ 32 }
-    requires page { HasPage cells.now page_table.now slot number }
-    ensures cell { result.now ≡ cell_at cells.now page_table.now slot number }
+    requires page { HasPage cells.now.cells page_table.now slot number }
+    ensures cell { result.now ≡ cell_at cells.now.cells page_table.now slot number }
     ensures reads { steps.new.reads ≡ steps.old.reads + 1 }
     ensures writes { steps.new.writes ≡ steps.old.writes }
 {
@@ -87,8 +87,8 @@ pub fn first_beside<L: Ledger>(
     requires slot { slot < 64 }
     requires below { from ≤ to }
     requires fits { (i : ℕ) → i < to → first + i < 2 ^ 32 }
-    requires pages { (i : ℕ) → i < to → HasPage cells.now page_table.now slot (first + i) }
-    ensures reads { Scanned (λ i. cell_at cells.now page_table.now slot (first + i)) from to steps.old.reads result steps.new.reads }
+    requires pages { (i : ℕ) → i < to → HasPage cells.now.cells page_table.now slot (first + i) }
+    ensures reads { Scanned (λ i. cell_at cells.now.cells page_table.now slot (first + i)) from to steps.old.reads result steps.new.reads }
     ensures writes { steps.new.writes ≡ steps.old.writes }
 {
     let mut i = from;
@@ -124,8 +124,8 @@ pub fn first_along<L: Ledger>(
     requires slot { slot < 64 }
     requires below { from ≤ to }
     requires fits { (i : ℕ) → i < to → strided.first + i * strided.stride < 2 ^ 32 }
-    requires pages { (i : ℕ) → i < to → HasPage cells.now page_table.now slot (strided.first + i * strided.stride) }
-    ensures reads { Scanned (λ i. cell_at cells.now page_table.now slot (strided.first + i * strided.stride)) from to steps.old.reads result steps.new.reads }
+    requires pages { (i : ℕ) → i < to → HasPage cells.now.cells page_table.now slot (strided.first + i * strided.stride) }
+    ensures reads { Scanned (λ i. cell_at cells.now.cells page_table.now slot (strided.first + i * strided.stride)) from to steps.old.reads result steps.new.reads }
     ensures writes { steps.new.writes ≡ steps.old.writes }
 {
     let mut i = from;
@@ -160,8 +160,8 @@ pub fn first_marked<L: Ledger>(
 ) -> Option<Occupied>
     requires slot { slot < 64 }
     requires fits { (i : ℕ) → i < count → first + i < 2 ^ 32 }
-    requires pages { (i : ℕ) → i < count → HasPage cells.now page_table.now slot (first + i) }
-    ensures reads { Marked (λ i. cell_at cells.now page_table.now slot (first + i)) first count steps.old.reads result steps.new.reads }
+    requires pages { (i : ℕ) → i < count → HasPage cells.now.cells page_table.now slot (first + i) }
+    ensures reads { Marked (λ i. cell_at cells.now.cells page_table.now slot (first + i)) first count steps.old.reads result steps.new.reads }
     ensures writes { steps.new.writes ≡ steps.old.writes }
 {
     let mut i = 0;

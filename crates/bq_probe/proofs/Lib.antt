@@ -16,3 +16,5 @@ pub mod StepLaws
 pub mod UnderwayLaws
 pub mod WalkLaws
 pub mod JoinLaws
+pub mod AlongLaws
+pub mod BegunLaws

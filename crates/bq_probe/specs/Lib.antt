@@ -5,5 +5,6 @@ pub mod Costs
 pub mod Remaining
 pub mod Repeats
 pub mod Ahead
+pub mod Along
 pub mod Runs
 pub mod Joining

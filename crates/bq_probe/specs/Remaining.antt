@@ -11,7 +11,7 @@ use Rattle.bq_narrow.specs.declared.binding.Binding.{Binding}
 use Rattle.bq_probe.specs.declared.probe.Probe.{Probe}
 use Rattle.bq_synopsis.specs.Preparing.{IsPrepared}
 use Rattle.bq_narrow.specs.Values.{rows_in}
-use Rattle.bq_probe.specs.Choosing.{setting, chosen}
+use Rattle.bq_probe.specs.Choosing.{setting, chosen, start}
 use Rattle.bq_probe.specs.Walk.{left, outer}
 use Rattle.bq_narrow.specs.Narrowed.{narrowed_dims}
 use Rattle.bq_narrow.specs.Lined.{StandOn}
@@ -72,6 +72,15 @@ pub record IsPlaced (part : PartPlan) (p : Probe) : Type 0 where
   pub prepared : IsPrepared p.pairs.now.items part p.prepared.now
   pub sizes : AreSizes p.pairs.now.items part p.arriving p.row.now.items [] p.room.now.chosen.items p.room.now.sizes.items
   pub seen : p.level ≤ length p.room.now.chosen.items → TellsOf part p (take p.level p.room.now.chosen.items)
+
+-- a probe of these pairs, this place of FROM and this row, that has chosen nothing but the row itself
+pub record IsAtStart (ps : List Pair) (place : ℕ) (columns : List ℤ) (p : Probe) : Type 0 where
+  pub pairs : p.pairs.now.items ≡ ps
+  pub arriving : p.arriving ≡ place
+  pub row : p.row.now.items ≡ columns
+  pub chosen : p.room.now.chosen.items ≡ start place
+  pub next : p.next ≡ 0
+  pub over : p.over ≡ false
 
 -- a probe in the middle of a walk: it knows how many combinations of values there are at its level, and the dims and the line of its cells where some are left
 pub record IsUnderway (part : PartPlan) (p : Probe) : Type 0 where

@@ -10,6 +10,9 @@ ghost use Rattle.bq_model.specs.Probing.{found_beside};
 ghost use Rattle.bq_model.specs.declared.atom.Attr.{Attr};
 ghost use Rattle.bq_model.specs.declared.cell.Cell.TheVariants.{Present};
 ghost use Rattle.bq_pool.specs.Extents.{cells_of, IsLive};
+ghost use Rattle.bq_pool.specs.Strides.{IsFirst};
+ghost use Rattle.bq_probe.specs.Along.{tried_cell, SeenAlong, IsCandidate};
+ghost use Rattle.bq_probe.specs.declared.along.Along.TheVariants as along;
 ghost use Rattle.bq_probe.specs.Choosing.{start, chosen, cell_in, meets_links, tuple_of, product_of};
 ghost use Rattle.bq_narrow.specs.Narrowed.{dims_in};
 ghost use Rattle.bq_probe.specs.Costs.{read_at, walk_reads};
@@ -18,15 +21,16 @@ ghost use Rattle.bq_probe.specs.Repeats.{IsTold, ArePassed};
 ghost use Rattle.bq_synopsis.specs.Preparing.{IsPrepared};
 ghost use Rattle.bq_narrow.specs.Values.{rows_in};
 ghost use Rattle.bq_synopsis.specs.Premises.{IsWalked, IsReady, IsLaidOut, AreFitting};
-ghost use Rattle.bq_probe.specs.Remaining.{left_of, outer_of, reads_left, turns_left, limit, IsPlaced, IsUnderway, IsSameWalk, WentBack, HasOpened, HasEntered, dims_now, as_found};
+ghost use Rattle.bq_probe.specs.Remaining.{left_of, outer_of, reads_left, turns_left, limit, IsAtStart, IsPlaced, IsUnderway, IsSameWalk, WentBack, HasOpened, HasEntered, dims_now, as_found};
 
+use crate::along::Along;
 use crate::links::{meets_links, tuple_of};
 use crate::repeats::is_told;
 use crate::scratch::ProbeScratch;
 use arrayvec::ArrayVec;
 use bq_model::{Cell, Pair, PartPlan, Query, Row, Tuple, cell_index};
 use bq_narrow::{Binding, RowAt, is_empty, rows_in, values_of};
-use bq_pool::{Extent, Pool, Steps, StridedCells};
+use bq_pool::{Extent, Occupied, Pool, Steps, StridedCells};
 use bq_synopsis::{Prepared, stream_at};
 use std::sync::ledger::Ledger;
 
@@ -114,6 +118,7 @@ impl<'a> Probe<'a> {
         requires walked { IsWalked q.now part.now }
         requires prepared { IsPrepared (pairs q.now) part.now prepared.now }
         ensures underway { IsUnderway part.now result }
+        ensures starts { IsAtStart (pairs q.now) pos row.now.items result }
         ensures left { (read : Reading) → left_of q.now.select part.now read result ≡ found_beside q.now part.now read pos (by_column row.now.items) }
         ensures ones { (read : Reading) → AreFitting part.now read → q.now.distinct ≡ true → All (λ f. f.count ≡ 1) (left_of q.now.select part.now read result) }
         ensures reads { reads_left part.now result ≤ 3 * share part.now }
@@ -139,6 +144,63 @@ impl<'a> Probe<'a> {
         };
         probe.open(q, part);
         probe
+    }
+
+    /// Returns the walk for a row that arrives, behind a look along the cells that the links leave at its first place: it goes on from the first
+    /// of them that is not empty, where one was found.
+    #[inline(always)]
+    pub fn new_behind(
+        q: &'a Query,
+        part: &PartPlan,
+        prepared: &'a Prepared,
+        pos: u8,
+        row: &'a Row,
+        room: &'a mut ProbeScratch,
+        seen: Along,
+    ) -> Probe<'a>
+        requires here { pos < length q.now.from }
+        requires walked { IsWalked q.now part.now }
+        requires prepared { IsPrepared (pairs q.now) part.now prepared.now }
+        requires found { IsCandidate (pairs q.now) part.now pos row.now.items (start pos) seen }
+        requires some { seen ≡ along.Nothing → ⊥ }
+        ensures underway { IsUnderway part.now result }
+        ensures left { (read : Reading) (before after : ℕ) → SeenAlong (pairs q.now) part.now read pos row.now.items (start pos) before seen after → left_of q.now.select part.now read result ≡ found_beside q.now part.now read pos (by_column row.now.items) }
+        ensures reads { (read : Reading) (before after : ℕ) → SeenAlong (pairs q.now) part.now read pos row.now.items (start pos) before seen after → after + reads_left part.now result ≤ before + walk_reads part.now pos }
+    {
+        // Read for the proof alone: the calls tell how many streams there are.
+        let _from = q.from();
+        let _streams = part.streams.as_slice();
+        let mut probe = Probe::new(q, part, prepared, pos, row, room);
+        match seen {
+            Along::Unasked => probe,
+            Along::Nothing => probe,
+            Along::Found(filled) => {
+                probe.go_into(q, part, filled);
+                probe
+            }
+        }
+    }
+
+    // On in the cell of a candidate of this level that is not empty, past those before it.
+    #[inline(always)]
+    fn go_into(&mut self, q: &Query, part: &PartPlan, filled: Occupied)
+        requires walked { IsWalked q.now part.now }
+        requires underway { IsUnderway part.now self.old }
+        requires more { length self.old.room.now.chosen.items < length part.now.streams.items }
+        requires beside { length self.old.room.now.chosen.items ≢ self.old.arriving }
+        requires few { length part.now.streams.items ≤ 4 }
+        requires going { self.old.over ≡ false }
+        requires after { self.old.next ≤ filled.next }
+        requires below { filled.next < self.old.size }
+        requires light { rows_in filled.cell ≤ limit self.old.arriving (length self.old.room.now.chosen.items) }
+        ensures underway { IsUnderway part.now self.new }
+        ensures left { (read : Reading) → IsFirst (tried_cell self.old.pairs.now.items part.now read self.old.arriving self.old.row.now.items self.old.room.now.chosen.items) self.old.next self.old.size filled → left_of q.now.select part.now read self.new ≡ left_of q.now.select part.now read self.old }
+        ensures reads { reads_left part.now self.new + (filled.next - self.old.next) + 1 ≤ reads_left part.now self.old }
+        ensures turns { turns_left part.now self.new < turns_left part.now self.old }
+    {
+        self.next = filled.next;
+        self.enter(part, filled.cell);
+        self.open(q, part);
     }
 
     // Sees which values there are to try at this level, where nothing more is listed of it.
@@ -281,6 +343,7 @@ impl<'a> Probe<'a> {
         ensures start { self.new.next ≡ 0 }
         ensures going { self.new.over ≡ false }
         ensures same { IsSameWalk self.old self.new }
+        ensures first { self.old.room.now.chosen.items ≡ [] → self.new.room.now.chosen.items ≡ start self.old.arriving }
         ensures left { (select : List Attr) (read : Reading) → left_of select part.now read self.new ≡ left_of select part.now read self.old }
         ensures reads { reads_left part.now self.new ≤ reads_left part.now self.old }
         ensures turns { turns_left part.now self.new ≤ turns_left part.now self.old }
@@ -299,6 +362,7 @@ impl<'a> Probe<'a> {
         requires start { self.old.next ≡ 0 }
         requires going { self.old.over ≡ false }
         ensures underway { IsUnderway part.now self.new }
+        ensures first { self.old.room.now.chosen.items ≡ [] → IsAtStart self.old.pairs.now.items self.old.arriving self.old.row.now.items self.new }
         ensures left { (select : List Attr) (read : Reading) → left_of select part.now read self.new ≡ left_of select part.now read self.old }
         ensures reads { reads_left part.now self.new ≤ reads_left part.now self.old }
         ensures turns { turns_left part.now self.new ≤ turns_left part.now self.old }
@@ -375,11 +439,7 @@ impl<'a> Probe<'a> {
         ensures turns { turns_left part.now self.new < turns_left part.now self.old }
     {
         match pool.first_occupied(e, line, self.next, self.size, steps) {
-            Some(filled) => {
-                self.next = filled.next;
-                self.enter(part, filled.cell);
-                self.open(q, part);
-            }
+            Some(filled) => self.go_into(q, part, filled),
             None => {
                 self.next = self.size;
                 self.retreat(q, part);

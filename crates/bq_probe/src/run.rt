@@ -37,12 +37,12 @@ impl CellRun {
     }
 }
 
-// The place in a dim of the value of the known column that it equals, where that is one of its values.
-fn bound_place(at: &RowAt<'_>, known: &[Binding], dim: Dim, column: Attr) -> Option<u32>
+/// Returns the place in a dim of the value of the known column that it equals, where that is one of its values.
+pub fn bound_place(at: &RowAt<'_>, known: &[Binding], dim: Dim, column: Attr) -> Option<u32>
     requires prepared { IsPrepared at.now.pairs.now at.now.part.now at.now.prepared.now }
     requires few { dim_size dim < 2 ^ 32 }
     requires bound { binding_column at.now.arriving (length known.now) dim.attr at.now.part.now.equal.items ≡ Some column }
-    ensures { IfSome result (λ place. (place < dim_size dim) × ((v : ℤ) → (narrow at.now.arriving (length known.now) at.now.part.now.equal.items at.now.part.now.less.items (value_in at.now.pairs.now at.now.part.now at.now.arriving at.now.row.now known.now) dim).lo ≤ℤ v → v ≤ℤ (narrow at.now.arriving (length known.now) at.now.part.now.equal.items at.now.part.now.less.items (value_in at.now.pairs.now at.now.part.now at.now.arriving at.now.row.now known.now) dim).hi → nat_abs (v -ℤ dim.lo) ≡ place)) }
+    ensures { IfSome result (λ place. (place < dim_size dim) × ((v : ℤ) → (narrow at.now.arriving (length known.now) at.now.part.now.equal.items at.now.part.now.less.items (value_in at.now.pairs.now at.now.part.now at.now.arriving at.now.row.now known.now) dim).lo ≤ℤ v → v ≤ℤ (narrow at.now.arriving (length known.now) at.now.part.now.equal.items at.now.part.now.less.items (value_in at.now.pairs.now at.now.part.now at.now.arriving at.now.row.now known.now) dim).hi → nat_abs (v -ℤ dim.lo) ≡ place) × (dim_size (narrow at.now.arriving (length known.now) at.now.part.now.equal.items at.now.part.now.less.items (value_in at.now.pairs.now at.now.part.now at.now.arriving at.now.row.now known.now) dim) ≡ 1)) }
 {
     let value = value_in(at, known, column);
     if value < dim.lo {

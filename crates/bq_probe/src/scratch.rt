@@ -2,21 +2,26 @@
 ghost use Rattle.std.specs.Prelude.{◌≡◌, ◌≢◌, ◌⊎◌, ◌+◌, ◌*◌, ◌<◌, ◌≤◌, ◌^◌, length, [], ◌∷◌, ◌++◌, IfSome, map, true, false, Option, Some};
 ghost use Rattle.bq_model.specs.Boxes.{box_size, values_at, AreInside, AreNumbered};
 ghost use Rattle.bq_model.specs.Combinations.{Reading, read_from};
+ghost use Rattle.bq_model.specs.Meaning.{by_column};
 ghost use Rattle.bq_model.specs.Parts.{pairs};
 ghost use Rattle.bq_model.specs.Plan.{stream_at, dims_at};
+ghost use Rattle.bq_model.specs.Probing.{found_beside};
 ghost use Rattle.bq_pool.specs.Extents.{cells_of, IsLive};
 ghost use Rattle.bq_probe.specs.Ahead.{IsClearAhead};
+ghost use Rattle.bq_probe.specs.Along.{SeenAlong, IsCandidate};
+ghost use Rattle.bq_probe.specs.declared.along.Along.TheVariants as along;
 ghost use Rattle.bq_probe.specs.Beside.{last_beside, IsEmptyBeside};
 ghost use Rattle.bq_probe.specs.Choosing.{setting, start, both, chosen};
-ghost use Rattle.bq_probe.specs.Costs.{tried_size};
+ghost use Rattle.bq_probe.specs.Costs.{tried_size, walk_reads};
 ghost use Rattle.bq_probe.specs.Joining.{Tells};
 ghost use Rattle.bq_probe.specs.declared.join.FirstLook.TheVariants as look;
 ghost use Rattle.bq_probe.specs.Walk.{walk};
 ghost use Rattle.bq_narrow.specs.Lined.{StandOn, AreFixed};
 ghost use Rattle.bq_synopsis.specs.Preparing.{IsPrepared};
 ghost use Rattle.bq_narrow.specs.Narrowed.{narrowed_dims};
-ghost use Rattle.bq_synopsis.specs.Premises.{IsLaidOut};
+ghost use Rattle.bq_synopsis.specs.Premises.{IsLaidOut, IsReady};
 
+use crate::along::{Along, look_along};
 use crate::beside::leaves_nothing;
 use crate::join::FirstLook;
 use crate::links::{meets_links, tuple_of};
@@ -24,11 +29,11 @@ use crate::run::run_of;
 use crate::stack::Bindings;
 use bq_model::{Cell, Dim, PartPlan, Query, Tuple, size_of};
 use bq_narrow::{
-    Counts, Dims, RowAt, fixed_dims, is_empty, line_of, narrowed_dims, pinned_dims, rows_in,
-    single_dims,
+    Counts, Dims, PartAt, RowAt, fixed_dims, is_empty, line_of, narrowed_dims, pinned_dims,
+    rows_in, single_dims,
 };
 use bq_pool::{Extent, Pool, Steps, StridedCells};
-use bq_synopsis::{is_scan, may_look_up, stream_at};
+use bq_synopsis::{Admitted, is_scan, may_look_up, stream_at};
 use std::sync::ledger::Ledger;
 
 /// Room for a walk. What it holds between two walks means nothing.
@@ -280,6 +285,41 @@ impl ProbeScratch {
             return false;
         }
         pool.first_marked(e, run.first, run.count, steps).is_none()
+    }
+
+    /// Looks along the cells that the links leave where a walk begins, where they stand equally far apart: each that is seen is one read. Where all
+    /// are empty nothing is answered.
+    #[inline(always)]
+    pub fn look_along<L: Ledger>(
+        &mut self,
+        pool: &Pool,
+        part: &PartAt<'_>,
+        at: &Admitted<'_>,
+        steps: &mut Steps<L>,
+    ) -> Along
+        requires here { at.now.pos < length part.now.q.now.from }
+        requires ready { IsReady part.now.q.now part.now.plan.now pool.now part.now.extent.now }
+        requires prepared { IsPrepared (pairs part.now.q.now) part.now.plan.now part.now.prepared.now }
+        ensures seen { SeenAlong (pairs part.now.q.now) part.now.plan.now (read_from (cells_of pool.now part.now.extent.now)) at.now.pos at.now.row.now.items (start at.now.pos) steps.old.reads result steps.new.reads }
+        ensures found { IsCandidate (pairs part.now.q.now) part.now.plan.now at.now.pos at.now.row.now.items (start at.now.pos) result }
+        ensures nothing { result ≡ along.Nothing → found_beside part.now.q.now part.now.plan.now (read_from (cells_of pool.now part.now.extent.now)) at.now.pos (by_column at.now.row.now.items) ≡ [] }
+        ensures few { result ≡ along.Nothing → steps.new.reads ≤ steps.old.reads + walk_reads part.now.plan.now at.now.pos }
+        ensures writes { steps.new.writes ≡ steps.old.writes }
+    {
+        // Read for the proof alone: the call tells how many streams there are.
+        let _from = part.q.from();
+        self.begin(at.pos);
+        if self.chosen.len() >= part.plan.streams.as_slice().len() {
+            return Along::Unasked;
+        }
+        let row_at = RowAt {
+            pairs: part.q.pairs().as_slice(),
+            part: part.plan,
+            prepared: part.prepared,
+            arriving: at.pos,
+            row: at.row.as_slice(),
+        };
+        look_along(pool, part.extent, &row_at, self.chosen.as_slice(), steps)
     }
 
     /// Tells whether it is seen that the row's own columns leave no cell that holds anything at the last place that a walk comes to. Over

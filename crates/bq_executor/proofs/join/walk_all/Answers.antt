@@ -1,11 +1,12 @@
-use Rattle.std.proofs.Common.{◌≡◌, ◌∙◌, ap, arith, length, List, ◌∷◌}
+use Rattle.std.proofs.Common.{◌≡◌, ◌∙◌, ap, sym, subst, arith, length, List, ◌∷◌}
 use Rattle.bq_answers.specs.Entries.{TableValue, with_entries}
 use Rattle.bq_model.specs.Combinations.{read_from, Found}
 use Rattle.bq_model.specs.Meaning.{by_column}
 use Rattle.bq_model.specs.Probing.{found_beside}
 use Rattle.bq_pool.specs.Extents.{cells_of}
 use Rattle.bq_probe.specs.Remaining.{as_found, left_of}
-use Rattle.bq_executor.specs.FoundTable.{with_found, with_all}
+use Rattle.bq_executor.specs.FoundTable.{with_found, with_all, HaveRoom}
+use Rattle.bq_executor.proofs.InPart.{none_added}
 use Rattle.bq_executor.proofs.TableLaws.{taken_room, taken_table, taken_none, found_same}
 use Rattle.bq_executor.proofs.PassedRepeats.{passed_room, passed_table, passed_less}
 use Rattle.bq_executor.proofs.join.walk_all.Goals as goal
@@ -47,3 +48,20 @@ walk-smaller g c =
 pub returns-clause-table : goal.returns-clause-table
 returns-clause-table g c =
     taken_none c.args.part.now.q.now.distinct (left_of c.args.part.now.q.now.select c.args.part.now.plan.now (read_from (cells_of c.args.pool.now c.args.part.now.extent.now)) c.walk.probe) c.walk.table _ c.in_default.ensures.left.0 c.walk.invariant.table
+
+pub walk-init : goal.walk-init
+walk-init g c =
+    let d = c.args.part.now.q.now.distinct in
+    let read = read_from (cells_of c.args.pool.now c.args.part.now.extent.now) in
+    let seen = c.look_along-seen.ensures.seen in
+    let left = c.new_behind-probe.ensures.left read c.args.steps.now.reads c.look_along-seen.new.steps.reads seen in
+    record {
+      underway = c.new_behind-probe.ensures.underway;
+      room = subst (λ (fs : List Found). HaveRoom d fs c.args.table.now) (sym left) c.requires.room;
+      table = ap (λ (fs : List Found). with_entries c.args.table.now (with_all d fs c.args.table.now.entries)) left;
+      reads = c.new_behind-probe.ensures.reads read c.args.steps.now.reads c.look_along-seen.new.steps.reads seen;
+      writes = c.look_along-seen.ensures.writes;
+    }
+
+pub returns-then-is_nothing-clause-table : goal.returns-then-is_nothing-clause-table
+returns-then-is_nothing-clause-table g c = none_added c.args.part.now.q.now.distinct _ c.args.table.now (c.look_along-seen.ensures.nothing (c.is_nothing.ensures.yes c.if-is_nothing.true))

@@ -1,7 +1,7 @@
 use Rattle.std.proofs.Common.{◌≡◌, ◌∙◌, length, sym, ap, arith, ℤ, ◌-ℤ◌, nat_abs, to_z, of_z, w64}
 use Rattle.std.proofs.lemmas.Int.{ints, to_z-of_z}
 use Rattle.bq_narrow.specs.Values.{value_in}
-use Rattle.bq_probe.proofs.RunLaws.{bound-one}
+use Rattle.bq_probe.proofs.RunLaws.{bound-one, bound-size}
 use Rattle.bq_probe.proofs.run.bound_place.Goals as goal
 
 pub returns : goal.returns
@@ -13,4 +13,6 @@ returns c =
       c.offset.ensures.below,
       λ v h k. bound-one at.arriving (length c.args.known.now) at.part.now.equal.items at.part.now.less.items (value_in at.pairs.now at.part.now at.arriving at.row.now c.args.known.now) c.args.dim c.args.column x c.requires.bound c.value_in-value.ensures
           (let l = c.if-value-dim.false in omega (arith, ints, l)) (let l = c.if-dim-value.false in omega (arith, ints, l)) v h k ∙ ap (λ (z : ℤ). nat_abs (z -ℤ c.args.dim.lo)) (sym same) ∙ sym c.offset.ensures.value,
+      bound-size at.arriving (length c.args.known.now) at.part.now.equal.items at.part.now.less.items (value_in at.pairs.now at.part.now at.arriving at.row.now c.args.known.now) c.args.dim c.args.column x c.requires.bound c.value_in-value.ensures
+          (let l = c.if-value-dim.false in omega (arith, ints, l)) (let l = c.if-dim-value.false in omega (arith, ints, l)),
     )

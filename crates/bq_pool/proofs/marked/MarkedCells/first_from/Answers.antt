@@ -7,8 +7,8 @@ use Rattle.bq_pool.proofs.marked.MarkedCells.first_from.Goals as goal
 pub returns-in-Some-clause-first : goal.returns-in-Some-clause-first
 returns-in-Some-clause-first g c =
     let inside = rw (← c.self.view_is) at c.requires.inside in
-    let m = first_marked c.self.inside.cells.items c.self.inside.marks.items c.args.place c.args.count _ (Some c.in-Some.told.ahead) c.self.invariant inside c.requires.page c.index.ensures c.in-Some.ensures.first in
-    let pages = c.self.invariant.pages in
+    let m = first_marked c.self.inside.cells.items c.self.inside.marks.items c.args.place c.args.count _ (Some c.in-Some.told.ahead) c.self.invariant.0 inside c.requires.page c.index.ensures c.in-Some.ensures.first in
+    let pages = c.self.invariant.0.pages in
     let page = c.requires.page in
     let below = m.0 in
     let within : c.args.place + c.in-Some.told.ahead < length c.self.inside.cells.items = omega (arith, inside, pages, page, below) in
@@ -19,4 +19,4 @@ pub returns-in-None-clause-first : goal.returns-in-None-clause-first
 returns-in-None-clause-first g c =
     let inside = rw (← c.self.view_is) at c.requires.inside in
     rw (← c.self.view_is)
-    (first_marked c.self.inside.cells.items c.self.inside.marks.items c.args.place c.args.count _ None c.self.invariant inside c.requires.page c.index.ensures c.in-None.ensures.first)
+    (first_marked c.self.inside.cells.items c.self.inside.marks.items c.args.place c.args.count _ None c.self.invariant.0 inside c.requires.page c.index.ensures c.in-None.ensures.first)

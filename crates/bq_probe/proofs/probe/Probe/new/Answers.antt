@@ -44,3 +44,8 @@ returns-clause-whole c =
     let e = ap (λ ns. cost_left (reads c.args.part.now c.args.pos) (length c.args.part.now.streams.items) ns 0 false) c.clear-2.ensures in
     let m = c.open.ensures.reads in
     omega (arith, e, m)
+
+pub returns-clause-starts : goal.returns-clause-starts
+returns-clause-starts c =
+    let at = c.open.ensures.first c.clear.ensures in
+    record { pairs = at.pairs ∙ c.pairs.ensures; arriving = at.arriving; row = at.row; chosen = at.chosen; next = at.next; over = at.over }

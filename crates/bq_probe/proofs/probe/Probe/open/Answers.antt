@@ -1,4 +1,6 @@
-use Rattle.std.proofs.Common.{◌∙◌, length, ap, arith}
+use Rattle.std.proofs.Common.{◌∙◌, ℤ, Bor, length, ap, arith}
+use Rattle.arrayvec.specs.ArrayVec.{ArrayVec}
+use Rattle.bq_model.specs.declared.part.Pair.{Pair}
 use Rattle.bq_probe.specs.Costs.{reads, turns}
 use Rattle.bq_probe.proofs.UnderwayLaws.{laid-here, placed-underway, opened-underway, opened-left, opened-cost}
 use Rattle.bq_probe.proofs.probe.Probe.open.Goals as goal
@@ -27,3 +29,28 @@ returns-clause-reads c = let e = opened-cost c.args.part.now c.pass_own.new.self
 
 pub returns-clause-turns : goal.returns-clause-turns
 returns-clause-turns c = let e = opened-cost c.args.part.now c.pass_own.new.self c.look.new.self c.look.ensures (turns c.args.part.now) in let m = c.pass_own.ensures.turns in omega (arith, e, m)
+
+pub returns-then-len-as_slice-clause-first : goal.returns-then-len-as_slice-clause-first
+returns-then-len-as_slice-clause-first c empty =
+    let same = c.pass_own.ensures.same in
+    record {
+      pairs = ap (λ (ps : Bor (ArrayVec Pair)). ps.now.items) same.pairs;
+      arriving = same.arriving;
+      row = ap (λ (r : Bor (ArrayVec ℤ)). r.now.items) same.row;
+      chosen = c.pass_own.ensures.first empty;
+      next = c.pass_own.ensures.start;
+      over = c.pass_own.ensures.going;
+    }
+
+pub returns-clause-first : goal.returns-clause-first
+returns-clause-first c empty =
+    let same = c.pass_own.ensures.same in
+    let opened = c.look.ensures in
+    record {
+      pairs = ap (λ (ps : Bor (ArrayVec Pair)). ps.now.items) (opened.pairs ∙ same.pairs);
+      arriving = opened.arriving ∙ same.arriving;
+      row = ap (λ (r : Bor (ArrayVec ℤ)). r.now.items) (opened.row ∙ same.row);
+      chosen = opened.chosen ∙ c.pass_own.ensures.first empty;
+      next = opened.next ∙ c.pass_own.ensures.start;
+      over = opened.over ∙ c.pass_own.ensures.going;
+    }

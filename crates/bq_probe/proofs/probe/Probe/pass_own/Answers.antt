@@ -1,4 +1,7 @@
-use Rattle.std.proofs.Common.{◌≡◌, ◌∙◌, [], length, sym, ap, arith}
+use Rattle.std.proofs.Common.{◌≡◌, ◌∙◌, List, [], ◌∷◌, ◌++◌, length, sym, ap, arith}
+use Rattle.bq_narrow.specs.declared.binding.Binding.{Binding}
+use Rattle.bq_probe.specs.Choosing.{start, chosen}
+use Rattle.bq_probe.proofs.NothingLaws.{start-later}
 use Rattle.bq_model.specs.Boxes.{box_size, values_at}
 use Rattle.bq_model.specs.declared.cell.Cell.TheVariants.{Empty, Present}
 use Rattle.bq_probe.specs.Costs.{reads, turns, tried_size}
@@ -34,3 +37,15 @@ returns-then-len-self-clause-turns c =
     let same = ap (tried_size c.args.part.now p.arriving) c.requires.placed.same in
     let h = entered-cost (turns c.args.part.now) (length c.args.part.now.streams.items) p c.enter_own.new.self [] Present c.enter_own.ensures.entered c.requires.going (omega (arith, here, c.requires.placed.here, c.requires.placed.same)) (omega (arith, one, few, same, c.requires.start)) in
     omega (arith, h)
+
+pub returns-then-len-self-clause-first : goal.returns-then-len-self-clause-first
+returns-then-len-self-clause-first c empty =
+    let p = c.args.self.now in
+    let here : length p.room.now.chosen.items ≡ p.arriving = sym c.len.ensures.value ∙ c.if-len-self.true in
+    let none : p.arriving ≡ 0 = sym here ∙ ap length empty in
+    c.enter_own.ensures.entered.chosen ∙ ap (λ (cs : List Binding). cs ++ chosen [] Present ∷ []) empty ∙ ap start (sym none)
+
+pub returns-else-len-self-clause-first : goal.returns-else-len-self-clause-first
+returns-else-len-self-clause-first c empty =
+    let p = c.args.self.now in
+    empty ∙ start-later p.arriving (λ e. c.if-len-self.false (c.len.ensures.value ∙ ap length empty ∙ sym e))

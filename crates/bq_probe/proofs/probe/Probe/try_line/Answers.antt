@@ -13,8 +13,7 @@ use Rattle.bq_synopsis.specs.Premises.{IsLaidOut}
 use Rattle.bq_probe.specs.Remaining.{limit, dims_now}
 use Rattle.bq_synopsis.proofs.PlanLaws.{laid-beside}
 use Rattle.bq_narrow.proofs.DimLaws.{inside-narrowed}
-use Rattle.bq_probe.proofs.StepLaws.{light-cell, line-within, line-cell, passed-left, passed-cost, past-outer, entered-left, entered-long, entered-cost, few-candidates, read-beside}
-use Rattle.bq_probe.proofs.UnderwayLaws.{numbered}
+use Rattle.bq_probe.proofs.StepLaws.{light-cell, line-within, line-cell, passed-left, passed-cost, past-outer, few-candidates, read-beside}
 use Rattle.bq_probe.proofs.probe.Probe.try_line.Goals as goal
 
 pub first_occupied-requires-clause-within : goal.first_occupied-requires-clause-within
@@ -29,11 +28,8 @@ first_occupied-requires-clause-within g c i l =
     let r = (laid c.requires.on.0).room in
     omega (arith, w, r)
 
-pub enter-requires-clause-sound : goal.enter-requires-clause-sound
-enter-requires-clause-sound g c = numbered c.args.q.now c.args.part.now c.requires.ready.held.walked c.args.self.now.pairs.now.items c.args.self.now.arriving c.args.self.now.row.now.items c.args.self.now.room.now.chosen.items c.requires.underway.placed.here c.requires.more
-
-pub enter-requires-clause-light : goal.enter-requires-clause-light
-enter-requires-clause-light g c =
+pub go_into-requires-clause-light : goal.go_into-requires-clause-light
+go_into-requires-clause-light g c =
     let p = c.args.self.now in
     let part = c.args.part.now in
     let known = p.room.now.chosen.items in
@@ -49,6 +45,9 @@ enter-requires-clause-light g c =
     (inside-narrowed p.pairs.now.items part p.arriving p.row.now.items (64 * c.args.e.now.pages) known laid (values_at D i) (values-inside D i inside)) in
     subst (λ x. rows_in x ≤ limit p.arriving (length known)) (at i inside ∙ found.cell) w
 
+pub go_into-requires-clause-beside : goal.go_into-requires-clause-beside
+go_into-requires-clause-beside g c = c.requires.on.0
+
 pub returns-in-Some-clause-left : goal.returns-in-Some-clause-left
 returns-in-Some-clause-left g c =
     let p = c.args.self.now in
@@ -61,51 +60,13 @@ returns-in-Some-clause-left g c =
     let at = line-cell p.pairs.now.items part p.arriving p.row.now.items (64 * c.args.e.now.pages) known laid c.requires.on.0 c.args.line c.requires.on.1 contents in
     let found = c.in-Some.ensures.reads.0 in
     let inside : c.in-Some.filled.next < box_size D = omega (arith, found.below, size) in
-    let cell : cell_in part (read_from contents) p.arriving (length known) (values_at D c.in-Some.filled.next) ≡ c.in-Some.filled.cell = at c.in-Some.filled.next inside ∙ found.cell in
-    c.open.ensures.left c.args.q.now.select (read_from contents)
-    ∙ entered-left c.args.q.now.select part (read_from contents) _ c.enter.new.self _ _ c.enter.ensures.entered c.requires.going c.requires.underway.placed.same c.requires.more inside refl cell found.some
-    ∙ passed-left c.args.q.now.select part (read_from contents) p c.in-Some.filled.next c.requires.going c.requires.more found.after (omega (arith, inside))
-    (λ i a b. at i (omega (arith, b, inside)) ∙ found.before i a b)
-
-pub returns-in-Some-clause-reads : goal.returns-in-Some-clause-reads
-returns-in-Some-clause-reads g c =
-    let p = c.args.self.now in
-    let part = c.args.part.now in
-    let known = p.room.now.chosen.items in
-    let D : List Dim = dims_now part p in
-    let size = c.requires.underway.size c.requires.going c.requires.more in
-    let found = c.in-Some.ensures.reads.0 in
-    let inside : c.in-Some.filled.next < box_size D = omega (arith, found.below, size) in
-    let place = c.requires.underway.placed.same in
-    let few = few-candidates p.pairs.now.items part p.arriving p.row.now.items known in
-    let same = ap (tried_size part p.arriving) place in
-    let more : length p.room.now.numbers.items < length part.streams.items = omega (arith, place, c.requires.more) in
-    let one : read_at p.arriving (length p.room.now.numbers.items) ≡ 1 = read-beside p.arriving (length p.room.now.numbers.items) (λ h. c.requires.on.0 (place ∙ h)) in
-    let entered = entered-cost (reads part) (length part.streams.items) _ c.enter.new.self _ _ c.enter.ensures.entered c.requires.going more (omega (arith, inside, few, same)) in
-    let passed = passed-cost (reads part p.arriving) (length part.streams.items) p c.in-Some.filled.next c.requires.going more found.after (omega (arith, inside, few, same)) in
-    let each : (c.in-Some.filled.next - p.next) * read_at p.arriving (length p.room.now.numbers.items) ≡ c.in-Some.filled.next - p.next = ap (λ n. (c.in-Some.filled.next - p.next) * n) one ∙ (let e : (c.in-Some.filled.next - p.next) * 1 ≡ c.in-Some.filled.next - p.next = omega arith in e) in
-    let m = c.open.ensures.reads in
-    let s = c.in-Some.ensures.reads.1 in
-    omega (arith, entered, passed, each, one, m, s, found.after)
-
-pub returns-in-Some-clause-turns : goal.returns-in-Some-clause-turns
-returns-in-Some-clause-turns g c =
-    let p = c.args.self.now in
-    let part = c.args.part.now in
-    let known = p.room.now.chosen.items in
-    let D : List Dim = dims_now part p in
-    let size = c.requires.underway.size c.requires.going c.requires.more in
-    let found = c.in-Some.ensures.reads.0 in
-    let inside : c.in-Some.filled.next < box_size D = omega (arith, found.below, size) in
-    let place = c.requires.underway.placed.same in
-    let few = few-candidates p.pairs.now.items part p.arriving p.row.now.items known in
-    let same = ap (tried_size part p.arriving) place in
-    let more : length p.room.now.numbers.items < length part.streams.items = omega (arith, place, c.requires.more) in
-    let one : read_at p.arriving (length p.room.now.numbers.items) ≡ 1 = read-beside p.arriving (length p.room.now.numbers.items) (λ h. c.requires.on.0 (place ∙ h)) in
-    let entered = entered-cost (turns part) (length part.streams.items) _ c.enter.new.self _ _ c.enter.ensures.entered c.requires.going more (omega (arith, inside, few, same)) in
-    let passed = passed-cost (turns part p.arriving) (length part.streams.items) p c.in-Some.filled.next c.requires.going more found.after (omega (arith, inside, few, same)) in
-    let m = c.open.ensures.turns in
-    omega (arith, entered, passed, m)
+    c.go_into.ensures.left (read_from contents) (record {
+      after = found.after;
+      below = found.below;
+      before = λ i a b. at i (omega (arith, b, inside)) ∙ found.before i a b;
+      cell = at c.in-Some.filled.next inside ∙ found.cell;
+      some = found.some;
+    })
 
 pub returns-in-None-clause-left : goal.returns-in-None-clause-left
 returns-in-None-clause-left g c =
@@ -157,15 +118,3 @@ returns-in-None-clause-turns g c =
     let passed = passed-cost (turns part p.arriving) (length part.streams.items) p p.size c.requires.going more (omega (arith, c.requires.below)) (omega (arith, size, few, same)) in
     let m = c.retreat.ensures.turns in
     omega (arith, passed, m)
-
-pub open-requires-clause-apart : goal.open-requires-clause-apart
-open-requires-clause-apart g c e =
-    let level = c.requires.underway.level c.requires.going c.requires.more c.requires.below in
-    let long = entered-long _ c.enter.new.self _ _ c.enter.ensures.entered in
-    let same = c.enter.ensures.entered.level in
-    omega (arith, level, long, same, e)
-
-pub enter-requires-clause-apart : goal.enter-requires-clause-apart
-enter-requires-clause-apart g c e =
-    let level = c.requires.underway.level c.requires.going c.requires.more c.requires.below in
-    omega (arith, level, e)
