@@ -10,7 +10,7 @@ use Rattle.bq_schema.specs.Streams.{Shape, stream_number}
 use Rattle.bq_hints.specs.declared.candidates.Candidate.{Candidate}
 use Rattle.bq_hints.specs.Groups.{is_name, is_column, is_comparison, is_operand, is_behind_operand, is_interval, is_domain, is_where, is_comma, is_create}
 use Rattle.bq_hints.specs.declared.hints.Hint.{Hint}
-use Rattle.bq_hints.specs.declared.hints.Hint.TheVariants.{ByteOrderMark, Quoted, Unequal, Star, AtMost, AtLeast, Equal, Decimal, Or, BareColumn, ReservedName, BareRow, Comment, Interval, Arithmetic, Hyphen, CommaAtEnd, Function, Parenthesis, Negation, Between, Pattern, Null, Order, Join, Clause, Choice, BareQuery, Alias, Typed, Chained, Streamless}
+use Rattle.bq_hints.specs.declared.hints.Hint.TheVariants.{ByteOrderMark, Quoted, Unequal, Star, AtMost, AtLeast, Equal, Decimal, Or, BareColumn, ReservedName, BareRow, Comment, Interval, Arithmetic, Hyphen, CommaAtEnd, Function, Parenthesis, Negation, Between, Pattern, Null, Order, Join, Clause, Choice, BareQuery, Alias, Typed, Chained, Streamless, Exponent, DropStream, ExplainQuery, Replace, Show, Continued}
 use Rattle.bq_hints.specs.declared.hints.Standing.{Standing}
 use Rattle.bq_hints.specs.declared.hints.Standing.TheVariants as standing
 use Rattle.bq_hints.specs.Bytes.{byte_at, last_byte, is_digit, is_quote, is_sign, begins_integer}
@@ -175,15 +175,44 @@ begun_hint first second word streams = if begins_row word streams then Some Bare
 abbrev pub row_hint : List ℕ → List ℕ → List Shape → Option Hint
 row_hint front rest streams = if is_empty front then begun_hint (byte_at rest 0) (byte_at rest 1) (word_of rest) streams else None
 
+-- whether an integer has an exponent: a digit stands right before the place, and an E and a digit there
+abbrev pub is_exponent : ℕ → ℕ → ℕ → Bool
+is_exponent before first second = is_digit before && ((first == 101 || first == 69) && is_digit second)
+
+-- a word with which a statement goes on: FROM, WHERE or AND
+unfoldable pub goes_on_with : List ℕ → Bool
+goes_on_with w = is_word w (codes "FROM") || is_word w (codes "WHERE") || is_word w (codes "AND")
+
+-- what is meant by the first word of a line
+unfoldable pub first_hint : List ℕ → Option Hint
+first_hint w = if is_word w (codes "SHOW") then Some Show else (if goes_on_with w then Some Continued else None)
+
+-- what is meant by the second word of a line, behind the first
+unfoldable pub second_hint : List ℕ → List ℕ → Option Hint
+second_hint first w =
+    if is_word first (codes "DROP") && is_word w (codes "STREAM") then Some DropStream else
+    (if is_word first (codes "EXPLAIN") && is_word w (codes "SELECT") then Some ExplainQuery else
+    (if is_word first (codes "CREATE") && is_word w (codes "OR") then Some Replace else None))
+
+-- what is meant by a word, where nothing or one word stands before it in the line
+abbrev pub begun_by : List ℕ → List ℕ → Option Hint
+begun_by front w = if is_empty front then first_hint w else second_hint front w
+
+-- what is meant by words: the first two of a line, or else one by itself
+abbrev pub words_hint : List ℕ → List ℕ → List Candidate → Option Hint
+words_hint front w next = option_or (begun_by front w) (word_hint w (last_byte front) next)
+
 -- what is meant: by signs, by the streams, and by words
 abbrev pub placed_by : List ℕ → List ℕ → List Candidate → List Shape → Option Hint
 placed_by front rest next streams =
     option_or (sign_hint (last_byte (trimmed front)) (byte_at rest 0) (byte_at rest 1) next)
-    (option_or (row_hint front rest streams) (word_hint (word_of rest) (last_byte (trimmed front)) next))
+    (option_or (row_hint front rest streams) (words_hint (trimmed front) (word_of rest) next))
 
 -- what is meant, by what stands before the place and from there on, and by what may stand there
 abbrev pub hint_of : List ℕ → List ℕ → List Candidate → List Shape → Option Hint
-hint_of front rest next streams = if is_negated front next then Some Negation else placed_by front rest next streams
+hint_of front rest next streams =
+    if is_exponent (last_byte front) (byte_at rest 0) (byte_at rest 1) then Some Exponent else
+    (if is_negated front next then Some Negation else placed_by front rest next streams)
 
 -- what stands at the front of a text that is not empty, by its first two bytes and its word
 abbrev pub standing_by : ℕ → ℕ → List ℕ → Standing

@@ -82,6 +82,18 @@ pub enum Hint {
     Chained,
     /// A row without the name of its stream.
     Streamless,
+    /// An integer with an exponent.
+    Exponent,
+    /// DROP STREAM.
+    DropStream,
+    /// EXPLAIN before a query in place of its name.
+    ExplainQuery,
+    /// CREATE OR REPLACE.
+    Replace,
+    /// SHOW.
+    Show,
+    /// A line that goes on with a statement of the line before.
+    Continued,
 }
 
 /// What stands at a place of a statement.
@@ -506,6 +518,76 @@ fn row_hint(front: &[u8], rest: &[u8], catalog: &Catalog) -> Option<Hint>
     }
 }
 
+// Whether an integer has an exponent: a digit stands right before the place, and an E and a digit there.
+fn is_exponent(before: u8, first: u8, second: u8) -> bool
+    ensures { result ≡ hints.is_exponent before first second }
+{
+    is_digit(before) && ((first == b'e' || first == b'E') && is_digit(second))
+}
+
+// Whether a statement goes on with this word.
+#[tactic(auto, unfolding(crate::specs::Hints::goes_on_with))]
+fn goes_on_with(word: &[u8]) -> bool
+    ensures { result ≡ hints.goes_on_with word.now }
+{
+    word.eq_ignore_ascii_case(b"FROM")
+        || word.eq_ignore_ascii_case(b"WHERE")
+        || word.eq_ignore_ascii_case(b"AND")
+}
+
+// What is meant by the first word of a line.
+#[tactic(auto, unfolding(crate::specs::Hints::first_hint))]
+fn first_hint(word: &[u8]) -> Option<Hint>
+    ensures { result ≡ hints.first_hint word.now }
+{
+    if word.eq_ignore_ascii_case(b"SHOW") {
+        return Some(Hint::Show);
+    }
+    if goes_on_with(word) {
+        Some(Hint::Continued)
+    } else {
+        None
+    }
+}
+
+// What is meant by the second word of a line, behind the first.
+#[tactic(auto, unfolding(crate::specs::Hints::second_hint))]
+fn second_hint(first: &[u8], word: &[u8]) -> Option<Hint>
+    ensures { result ≡ hints.second_hint first.now word.now }
+{
+    if first.eq_ignore_ascii_case(b"DROP") && word.eq_ignore_ascii_case(b"STREAM") {
+        return Some(Hint::DropStream);
+    }
+    if first.eq_ignore_ascii_case(b"EXPLAIN") && word.eq_ignore_ascii_case(b"SELECT") {
+        return Some(Hint::ExplainQuery);
+    }
+    if first.eq_ignore_ascii_case(b"CREATE") && word.eq_ignore_ascii_case(b"OR") {
+        return Some(Hint::Replace);
+    }
+    None
+}
+
+// What is meant by a word, where nothing or one word stands before it in the line.
+fn begun_by(front: &[u8], word: &[u8]) -> Option<Hint>
+    ensures { result ≡ hints.begun_by front.now word.now }
+{
+    if front.is_empty() {
+        first_hint(word)
+    } else {
+        second_hint(front, word)
+    }
+}
+
+// What is meant by words: the first two of a line, or else one by itself.
+fn words_hint(front: &[u8], word: &[u8], next: &[Candidate]) -> Option<Hint>
+    ensures { result ≡ hints.words_hint front.now word.now next.now }
+{
+    if let Some(hint) = begun_by(front, word) {
+        return Some(hint);
+    }
+    word_hint(word, last_byte(front), next)
+}
+
 // What is meant, by signs, by the streams, and by words.
 fn placed_by(front: &[u8], rest: &[u8], next: &[Candidate], catalog: &Catalog) -> Option<Hint>
     ensures { result ≡ hints.placed_by front.now rest.now next.now catalog.now }
@@ -518,14 +600,16 @@ fn placed_by(front: &[u8], rest: &[u8], next: &[Candidate], catalog: &Catalog) -
     if let Some(hint) = row_hint(front, rest, catalog) {
         return Some(hint);
     }
-    word_hint(word, before, next)
+    words_hint(trim(front), word, next)
 }
 
 /// Returns what is meant, by what stands before the place and from there on, and by what may stand there.
 pub fn hint_of(front: &[u8], rest: &[u8], next: &[Candidate], catalog: &Catalog) -> Option<Hint>
     ensures { result ≡ hints.hint_of front.now rest.now next.now catalog.now }
 {
-    if is_negated(front, next) {
+    if is_exponent(last_byte(front), byte_at(rest, 0), byte_at(rest, 1)) {
+        Some(Hint::Exponent)
+    } else if is_negated(front, next) {
         Some(Hint::Negation)
     } else {
         placed_by(front, rest, next, catalog)

@@ -1,5 +1,6 @@
 pub mod Exactly
 pub mod Longest
+pub mod Next
 pub mod Standing
 pub mod TextKinds
 pub mod TokenLists

@@ -64,7 +64,7 @@ no_front bytes e = no_front_within bytes (length bytes) e
 behind_one : (line bs : List ℕ) (place b : ℕ) → drop place line ≡ b ∷ bs → drop (place + 1) line ≡ bs
 behind_one line bs place b e = sym (drop-drop 1 place line) ∙ ap (drop 1) e
 
-one_blank : (line bs : List ℕ) (place from b : ℕ) → drop place line ≡ b ∷ bs → is_blank b ≡ true → place + 1 ≤ from → list_all is_blank (slice_range line (place + 1) from) ≡ true → list_all is_blank (slice_range line place from) ≡ true
+pub one_blank : (line bs : List ℕ) (place from b : ℕ) → drop place line ≡ b ∷ bs → is_blank b ≡ true → place + 1 ≤ from → list_all is_blank (slice_range line (place + 1) from) ≡ true → list_all is_blank (slice_range line place from) ≡ true
 one_blank line bs place from b e blank le all =
     let n : from - place ≡ suc (from - (place + 1)) = omega arith in
     ap (λ xs. list_all is_blank (take (from - place) xs)) e
@@ -85,7 +85,7 @@ blank_before_end line bs place b end [] e blank s = (omega (arith, s.0), one_bla
 blank_before_end line bs place b end (t ∷ ts) e blank (n, s) =
     (record { behind = omega (arith, n.behind); blanks = one_blank line bs place t.from b e blank n.behind n.blanks; has_bytes = n.has_bytes; inside = n.inside; kind = n.kind; longest = n.longest }, s)
 
-found_next : (line bs : List ℕ) (place : ℕ) (found : TokenKind × ℕ) → drop place line ≡ bs → 0 < length bs → longest bs ≡ Some found → IsNextToken line place (record { kind = found.0; from = place; to = place + found.1 })
+pub found_next : (line bs : List ℕ) (place : ℕ) (found : TokenKind × ℕ) → drop place line ≡ bs → 0 < length bs → longest bs ≡ Some found → IsNextToken line place (record { kind = found.0; from = place; to = place + found.1 })
 found_next line bs place found e more is =
     let P : Option (TokenKind × ℕ) → Type 0 = λ o. IfSome o (λ f. (0 < f.1) × (f.1 ≤ length bs)) in
     let fits : (0 < found.1) × (found.1 ≤ length bs) = subst P is (longest_fits bs) in

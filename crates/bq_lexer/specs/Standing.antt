@@ -1,8 +1,9 @@
 -- Where the tokens of a line stand in it.
-use Rattle.std.specs.Prelude.{◌≡◌, ℕ, ◌<◌, ◌≤◌, true, false, List, [], ◌∷◌, length, drop, get_or, slice_range, Some, None}
+use Rattle.std.specs.Prelude.{◌≡◌, ℕ, ◌<◌, ◌≤◌, true, false, List, [], ◌∷◌, length, drop, get_or, slice_range, Option, Some, None, Result, Ok, Err}
 use Rattle.std.specs.List.{list_all}
 use Rattle.bq_lexer.specs.declared.token.Token.{Token}
-use Rattle.bq_lexer.specs.Tokens.{is_blank, kind_of}
+use Rattle.bq_lexer.specs.declared.token.LexError.{LexError}
+use Rattle.bq_lexer.specs.Tokens.{is_blank, kind_of, tokens_at, with_first}
 
 -- no text of the line that begins at `from` and ends behind `to` is a token
 abbrev pub IsLongest : List ℕ → ℕ → ℕ → Type 0
@@ -16,6 +17,12 @@ pub record IsNextToken (line : List ℕ) (place : ℕ) (t : Token) : Type 0 wher
   pub inside : t.to ≤ length line
   pub kind : kind_of (slice_range line t.from t.to) ≡ Some t.kind
   pub longest : IsLongest line t.from t.to
+
+-- what stands next from a place on: a token before those behind it, blanks alone, or what begins no token
+abbrev pub IsNext : List ℕ → ℕ → Result (Option Token) LexError → Type 0
+IsNext line place (Ok (Some t)) = IsNextToken line place t × (tokens_at line place ≡ with_first t (tokens_at line t.to))
+IsNext line place (Ok None) = tokens_at line place ≡ Ok []
+IsNext line place (Err fault) = tokens_at line place ≡ Err fault.at
 
 -- from a place on the tokens stand in order and without overlap, and blanks alone stand between them and behind the last
 abbrev pub StandFrom : List ℕ → ℕ → List Token → Type 0

@@ -1,6 +1,6 @@
 -- The tokens of a line: at each place the longest text that is a token.
 pub use Rattle.bq_text.specs.Blank.{is_blank}
-use Rattle.std.specs.Prelude.{ℕ, zero, suc, ◌+◌, ◌-◌, ◌==◌, ◌&&◌, if◌then◌else◌, List, [], ◌∷◌, length, take, Option, Some, None, Result, Ok, Err}
+use Rattle.std.specs.Prelude.{ℕ, zero, suc, ◌+◌, ◌-◌, ◌==◌, ◌&&◌, if◌then◌else◌, List, [], ◌∷◌, length, take, drop, Option, Some, None, Result, Ok, Err}
 use Rattle.bq_text.specs.Word.{is_word}
 use Rattle.bq_text.specs.Key.{key_of}
 use Rattle.bq_text.specs.Value.{is_integer}
@@ -80,6 +80,10 @@ abbrev pub tokens_from : ℕ → ℕ → List ℕ → Result (List Token) ℕ
 tokens_from inside place [] = Ok []
 tokens_from (suc inside) place (b ∷ bs) = tokens_from inside (place + 1) bs
 tokens_from zero place (b ∷ bs) = if is_blank b then tokens_from zero (place + 1) bs else token_then (longest (b ∷ bs)) place (λ inside. tokens_from inside (place + 1) bs)
+
+-- the tokens from a place of a line on
+abbrev pub tokens_at : List ℕ → ℕ → Result (List Token) ℕ
+tokens_at line place = tokens_from 0 place (drop place line)
 
 -- the tokens of a line
 abbrev pub tokens : List ℕ → Result (List Token) ℕ

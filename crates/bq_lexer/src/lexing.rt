@@ -1,9 +1,10 @@
 //! Lines, cut into tokens.
-ghost use Rattle.std.specs.Prelude.{◌≡◌, ◌≤◌, ◌<◌, ◌↔◌, ◌⊎◌, Option, Result, Ok, Err, Some, length, MatchResult, IfOk, IsTrue, IfSome};
+ghost use Rattle.std.specs.Prelude.{◌≡◌, ◌≤◌, ◌<◌, ◌↔◌, ◌⊎◌, Option, Result, Ok, Err, Some, false, length, get_or, MatchResult, IfOk, IsTrue, IfSome};
+ghost use Rattle.bq_text.specs.Blank.{is_blank};
 ghost use Rattle.std.specs.List.{prefix_len};
 ghost use Rattle.bq_text.specs.Word.{is_word_byte, is_digit};
 ghost use Rattle.bq_lexer.specs.Tokens.{longest, tokens, symbol_of, symbol_pair, front_pair, word_kind};
-ghost use Rattle.bq_lexer.specs.Standing.{StandFrom};
+ghost use Rattle.bq_lexer.specs.Standing.{StandFrom, IsNext};
 ghost use Rattle.bq_text.specs.Key.{key_of};
 
 use crate::token::{LexError, Token, TokenKind, Tokens};
@@ -112,6 +113,39 @@ fn first_token(bytes: &[u8]) -> Option<(TokenKind, usize)>
             None => None,
         },
     }
+}
+
+// The token that begins at a place at which no blank stands.
+fn token_at(line: &[u8], at: usize) -> Result<Option<Token>, LexError>
+    requires short { length line.now ≤ 1024 }
+    requires inside { at < length line.now }
+    requires solid { is_blank (get_or line.now at 0) ≡ false }
+    ensures { IsNext line.now at result }
+{
+    match first_token(line.split_at(at).1) {
+        None => Err(LexError { at: at as u16 }),
+        Some((kind, len)) => Ok(Some(Token {
+            kind,
+            from: at as u16,
+            to: (at + len) as u16,
+        })),
+    }
+}
+
+/// Returns the next token of a line from a place on, or `None` where blanks alone are left; or the place at which no token begins.
+pub fn next_token(line: &[u8], place: u16) -> Result<Option<Token>, LexError>
+    requires short { length line.now ≤ 1024 }
+    requires inside { place ≤ length line.now }
+    ensures { IsNext line.now place result }
+{
+    let mut at = usize::from(place);
+    while at < line.len() {
+        if !is_blank(line[at]) {
+            return token_at(line, at);
+        }
+        at += 1;
+    }
+    Ok(None)
 }
 
 /// Returns the tokens of a line, in order; or the first place at which no token begins.

@@ -9,5 +9,5 @@ mod lexing;
 mod token;
 
 pub use bq_text::Key;
-pub use lexing::lex;
+pub use lexing::{lex, next_token};
 pub use token::{LexError, Token, TokenKind, Tokens};

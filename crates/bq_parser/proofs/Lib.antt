@@ -6,6 +6,8 @@ pub mod DomainRows
 pub mod KeptLaw
 pub mod WalkLaws
 pub mod Names
+pub mod Outlining
+pub mod PlainRead
 pub mod Placed
 pub mod QueryDomains
 pub mod Resolved

@@ -72,7 +72,7 @@ stops line place p (t ∷ ts) at e = stops_on line place p t ts at (step_of plac
 pub begins_read : (ts : List Lexeme) (to : State) (q : Parts) → walk Start no_parts ts ≡ Ok (to, q) → Begins ts
 begins_read ts to q e = let t = walk_told Start no_parts ts to q tt e in subst Begins t.0 (begun to q t.1 (spelt_walk Start no_parts ts to q in_capitals e))
 
-stopped_begins : (front : List Lexeme) (stop : Lexeme) (to : State) (q : Parts) → walk Start no_parts front ≡ Ok (to, q) → step_of to (kind_at stop) (text_of stop) ≡ None → Begins (front ++ stop ∷ []) → ⊥
+pub stopped_begins : (front : List Lexeme) (stop : Lexeme) (to : State) (q : Parts) → walk Start no_parts front ≡ Ok (to, q) → step_of to (kind_at stop) (text_of stop) ≡ None → Begins (front ++ stop ∷ []) → ⊥
 stopped_begins front stop to q read none (more, s, spells) =
     let r = spelled_read ((front ++ stop ∷ []) ++ more) s spells in
     let stuck = ap (walk Start no_parts) (append_assoc front (stop ∷ []) more) ∙ stopped_always Start no_parts front stop more to q read none in

@@ -6,6 +6,7 @@ pub mod Laws
 pub mod Limits
 pub mod LineKind
 pub mod Naming
+pub mod Outlines
 pub mod Reading
 pub mod Refusal
 pub mod Resolution

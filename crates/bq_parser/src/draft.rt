@@ -87,9 +87,9 @@ impl<T: Default + Drop, const N: usize> DraftList<T, N> {
     }
 }
 
-// The name `_`.
+/// Returns the name `_`.
 #[tactic(auto, unfolding(bq_text::specs::Name::is_name, bq_text::specs::Key::key_of))]
-fn underscore() -> Name
+pub fn underscore() -> Name
     ensures { result ≡ 95 ∷ [] }
 {
     match Name::read(b"_") {
@@ -98,8 +98,8 @@ fn underscore() -> Name
     }
 }
 
-// The name that a word is, or `_` where it is too long for one.
-fn kept_name(text: &[u8]) -> Name
+/// Returns the name that a word is, or `_` where it is too long for one.
+pub fn kept_name(text: &[u8]) -> Name
     ensures { result ≡ kept text.now }
 {
     match Name::read(text) {
@@ -108,8 +108,8 @@ fn kept_name(text: &[u8]) -> Name
     }
 }
 
-// The integer that a text is, or the greatest one where it has more than 64 bits.
-fn kept_integer(text: &[u8]) -> i64
+/// Returns the integer that a text is, or the greatest one where it has more than 64 bits.
+pub fn kept_integer(text: &[u8]) -> i64
     ensures { result ≡ or_far (value_of text.now) }
 {
     match bq_text::read_i64(text) {

@@ -7,10 +7,13 @@
 
 mod domains;
 mod draft;
+mod head;
 pub mod laws;
 mod limits;
 mod line;
+mod outline;
 mod parsing;
+mod plain;
 mod reading;
 mod resolution;
 mod transitions;
@@ -19,6 +22,7 @@ mod unlocking;
 
 pub use line::{LineKind, classify, stripped};
 pub use parsing::{ParseError, What, parse};
+pub use plain::{PlainReading, PlainStatement, read_plain};
 pub use resolution::{ResolveError, resolve};
 pub use tree::{AtomAst, ColumnAst, OperandAst, SelectAst, Statement};
 pub use unlocking::may_unlock;

@@ -27,8 +27,8 @@ const MOST_ATTRS: usize = 12;
 /// The most integers that the atoms of a statement may name.
 const MOST_CONSTS: usize = 6;
 
-// Whether the token is a word that is too long for a name.
-fn is_long(token: &Token) -> bool
+/// Returns whether the token is a word that is too long for a name.
+pub fn is_long(token: &Token) -> bool
     ensures { result ≡ is_long_token token.now }
 {
     match token.kind {
@@ -44,8 +44,8 @@ fn has_long_name(tokens: &[Token]) -> bool
     tokens.iter().any(|token| is_long(token))
 }
 
-// Whether the token is an integer of more than 64 bits.
-fn is_wide(line: &[u8], token: &Token) -> bool
+/// Returns whether the token is an integer of more than 64 bits.
+pub fn is_wide(line: &[u8], token: &Token) -> bool
     requires { (token.now.from ≤ token.now.to) × (token.now.to ≤ length line.now) }
     ensures { result ≡ is_wide_token line.now token.now }
 {

@@ -6,6 +6,7 @@ ghost use Rattle.bq_parser.specs.Limits.{limit_of};
 ghost use Rattle.bq_parser.specs.Refusal.{IsRefusal};
 
 use crate::limits::limit_passed;
+use crate::plain::{PlainReading, read_plain};
 use crate::reading::read_parts;
 use crate::transitions::State;
 use crate::tree::Statement;
@@ -40,8 +41,8 @@ pub enum ParseError {
     Limit { what: What },
 }
 
-// Whether a statement may end in a state.
-fn is_end(state: State) -> bool
+/// Returns whether a statement may end in a state.
+pub fn is_end(state: State) -> bool
     ensures { result ≡ may_end state }
 {
     matches!(
@@ -57,8 +58,9 @@ fn is_end(state: State) -> bool
     )
 }
 
-/// Returns the statement that a line is.
-pub fn parse(line: &[u8]) -> Result<Statement, ParseError>
+// The statement that a line is, by its tokens in order and a draft of its lists.
+#[inline(never)]
+fn parse_lists(line: &[u8]) -> Result<Statement, ParseError>
     requires { length line.now ≤ 1024 }
     ensures { MatchResult result (λ s. IsStatement line.now s × (limit_of s ≡ None)) (λ e. IsRefusal line.now e) }
 {
@@ -78,5 +80,17 @@ pub fn parse(line: &[u8]) -> Result<Statement, ParseError>
     match limit_passed(line, tokens.as_slice(), &draft) {
         Some(what) => Err(ParseError::Limit { what }),
         None => Ok(draft.finish()),
+    }
+}
+
+/// Returns the statement that a line is.
+pub fn parse(line: &[u8]) -> Result<Statement, ParseError>
+    requires { length line.now ≤ 1024 }
+    ensures { MatchResult result (λ s. IsStatement line.now s × (limit_of s ≡ None)) (λ e. IsRefusal line.now e) }
+{
+    match read_plain(line) {
+        PlainReading::Plain(statement) => Ok(statement.whole()),
+        PlainReading::Listed => parse_lists(line),
+        PlainReading::Refused(error) => Err(error),
     }
 }

@@ -12,8 +12,8 @@ use crate::draft::{Draft, start};
 use crate::transitions::{State, transition_of};
 use bq_lexer::Token;
 
-// The bytes of a token.
-fn text_at<'a>(line: &'a [u8], token: &Token) -> &'a [u8]
+/// Returns the bytes of a token.
+pub fn text_at<'a>(line: &'a [u8], token: &Token) -> &'a [u8]
     requires { (token.now.from ≤ token.now.to) × (token.now.to ≤ length line.now) }
     ensures { result.now ≡ slice_range line.now token.now.from token.now.to }
 {

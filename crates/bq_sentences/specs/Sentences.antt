@@ -1,5 +1,5 @@
 -- The sentence of each fault.
-use Rattle.std.specs.Prelude.{ℕ, ◌+◌, ◌==◌, ℤ, Bool, true, false, List, [], ◌∷◌, ◌++◌, map, take, drop, if◌then◌else◌, decimal, codes, unwrap_or, Option, Some, None}
+use Rattle.std.specs.Prelude.{ℕ, ◌+◌, ◌==◌, ◌||◌, ℤ, Bool, true, false, List, [], ◌∷◌, ◌++◌, map, take, drop, if◌then◌else◌, decimal, codes, unwrap_or, Option, Some, None}
 use Rattle.std.specs.List.{find, flat_map, list_any, slice_index_or}
 use Rattle.std.specs.Str.{str_eq_ignore_ascii_case}
 use Rattle.std.specs.Fmt.{signed_decimal}
@@ -90,6 +90,12 @@ hint_text hints.Alias = texts.HINT_ALIAS.now
 hint_text hints.Typed = texts.HINT_TYPE.now
 hint_text hints.Chained = texts.HINT_CHAINED.now
 hint_text hints.Streamless = texts.HINT_STREAMLESS.now
+hint_text hints.Exponent = texts.HINT_EXPONENT.now
+hint_text hints.DropStream = texts.HINT_DROP_STREAM.now
+hint_text hints.ExplainQuery = texts.HINT_EXPLAIN_QUERY.now
+hint_text hints.Replace = texts.HINT_REPLACE.now
+hint_text hints.Show = texts.HINT_SHOW.now
+hint_text hints.Continued = texts.HINT_CONTINUED.now
 
 -- whether an example of a column stands behind it
 abbrev pub is_bare_column : Hint → Bool
@@ -176,13 +182,18 @@ meant_or None rest next streams = standing_text (standing_of rest) ++ next_text 
 abbrev pub syntax_text : List ℕ → ℕ → List Candidate → List Shape → List ℕ
 syntax_text text at next streams = meant_or (hint_of (take at text) (drop at text) next streams) (drop at text) next streams
 
+-- the letter before an exponent
+abbrev pub is_exponent_letter : ℕ → Bool
+is_exponent_letter b = b == 101 || b == 69
+
 -- why a field is no integer
 abbrev pub field_text : List ℕ → List ℕ
 field_text [] = texts.FIELD_EMPTY.now
 field_text (b ∷ bs) =
     if is_quote b then texts.FIELD_QUOTED.now else
     (if is_letter b then texts.FIELD_WORD.now else
-    (if list_any (λ c. c == 46) (b ∷ bs) then texts.FIELD_DECIMAL.now else texts.FIELD_OTHER.now))
+    (if list_any (λ c. c == 46) (b ∷ bs) then texts.FIELD_DECIMAL.now else
+    (if list_any is_exponent_letter (b ∷ bs) then texts.FIELD_EXPONENT.now else texts.FIELD_OTHER.now)))
 
 -- the field of a row line at a place, without the blanks at its ends
 abbrev pub field_at : List ℕ → ℕ → List ℕ
@@ -221,19 +232,23 @@ domain_text stream field streams = outside_text (decimal (field + 1)) (shape_at 
 abbrev pub column_fault : List Shape → ColumnAst → List ℕ
 column_fault streams c = around texts.NO_COLUMN.now (column_text c) texts.NO_COLUMN_TAIL.now ++ there_are_like c.column (column_names (shape_at streams (unwrap_or (stream_number streams c.stream) 255)).columns)
 
+-- the sentence of a fault of the name of a stream
+unfoldable pub stream_sentence : Fault → List Shape → List ℕ
+stream_sentence (faults.DuplicateStream name) streams = around texts.STREAM_THERE.now name texts.STREAM_THERE_TAIL.now
+stream_sentence (faults.SelfJoin name) streams = around texts.TWICE_IN_FROM.now name texts.TWICE_IN_FROM_TAIL.now
+stream_sentence (faults.NoStream name) streams = around texts.NO_STREAM.now name texts.NO_STREAM_TAIL.now ++ there_are_like name (stream_names streams)
+stream_sentence (faults.LockTwice name) streams = around texts.LOCK_TWICE.now name texts.LOCK_TWICE_TAIL.now
+stream_sentence (faults.LockNoStream name) streams = around texts.LOCK_NO_STREAM.now name texts.NO_STREAM_TAIL.now ++ there_are_like name (stream_names streams)
+stream_sentence _ streams = []
+
 -- the sentence of a fault of names
 unfoldable pub name_sentence : Fault → List Shape → List (List ℕ) → List ℕ
-name_sentence (faults.DuplicateStream name) streams live = around texts.STREAM_THERE.now name texts.STREAM_THERE_TAIL.now
 name_sentence (faults.DuplicateColumn name) streams live = around texts.COLUMN_TWICE.now name texts.COLUMN_TWICE_TAIL.now
 name_sentence (faults.DuplicateQuery name) streams live = around texts.QUERY_LIVE.now name texts.QUERY_LIVE_TAIL.now
-name_sentence (faults.SelfJoin name) streams live = around texts.TWICE_IN_FROM.now name texts.TWICE_IN_FROM_TAIL.now
-name_sentence (faults.NoStream name) streams live = around texts.NO_STREAM.now name texts.NO_STREAM_TAIL.now ++ there_are_like name (stream_names streams)
-name_sentence (faults.LockTwice name) streams live = around texts.LOCK_TWICE.now name texts.LOCK_TWICE_TAIL.now
-name_sentence (faults.LockNoStream name) streams live = around texts.LOCK_NO_STREAM.now name texts.NO_STREAM_TAIL.now ++ there_are_like name (stream_names streams)
 name_sentence (faults.NotInFrom column) streams live = around [] (column_text column) texts.NOT_IN_FROM_TAIL.now
 name_sentence (faults.NoColumn column) streams live = column_fault streams column
 name_sentence (faults.NoQuery name) streams live = around texts.NO_QUERY.now name texts.NO_QUERY_TAIL.now ++ there_are_like name live
-name_sentence _ streams live = []
+name_sentence fault streams live = stream_sentence fault streams
 
 -- the sentence of a fault of a row
 unfoldable pub row_sentence : List ℕ → Fault → List Shape → List ℕ

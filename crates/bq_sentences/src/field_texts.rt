@@ -40,6 +40,20 @@ fn has_point(text: &[u8]) -> bool
     text.iter().any(|byte| *byte == b'.')
 }
 
+// Whether a byte is the letter before an exponent.
+fn is_exponent_letter(byte: u8) -> bool
+    ensures { result ≡ sentences.is_exponent_letter byte }
+{
+    byte == b'e' || byte == b'E'
+}
+
+// Whether a letter stands in a text that may stand before an exponent.
+fn has_exponent(text: &[u8]) -> bool
+    ensures { result ≡ list_any sentences.is_exponent_letter text.now }
+{
+    text.iter().any(|byte| is_exponent_letter(*byte))
+}
+
 /// Returns why a field is no integer.
 pub fn field_text(field: &[u8]) -> &'static [u8]
     ensures { result.now ≡ sentences.field_text field.now }
@@ -53,6 +67,8 @@ pub fn field_text(field: &[u8]) -> &'static [u8]
                 texts::FIELD_WORD
             } else if has_point(field) {
                 texts::FIELD_DECIMAL
+            } else if has_exponent(field) {
+                texts::FIELD_EXPONENT
             } else {
                 texts::FIELD_OTHER
             }

@@ -102,6 +102,12 @@ fn hint_text(hint: Hint) -> &'static [u8]
         Hint::Typed => texts::HINT_TYPE,
         Hint::Chained => texts::HINT_CHAINED,
         Hint::Streamless => texts::HINT_STREAMLESS,
+        Hint::Exponent => texts::HINT_EXPONENT,
+        Hint::DropStream => texts::HINT_DROP_STREAM,
+        Hint::ExplainQuery => texts::HINT_EXPLAIN_QUERY,
+        Hint::Replace => texts::HINT_REPLACE,
+        Hint::Show => texts::HINT_SHOW,
+        Hint::Continued => texts::HINT_CONTINUED,
     }
 }
 
@@ -187,14 +193,14 @@ fn write_syntax<O: Sink>(
     }
 }
 
-// The sentence of a fault of names.
-#[tactic(auto, unfolding(crate::specs::Sentences::name_sentence))]
-fn write_name_sentence<O: Sink>(
+// The sentence of a fault of the name of a stream.
+#[tactic(auto, unfolding(crate::specs::Sentences::stream_sentence))]
+fn write_stream_sentence<O: Sink>(
     out: &mut O,
     fault: &Fault,
-    known: &Known<'_>,
+    catalog: &Catalog,
 ) -> Result<(), WriteFault>
-    ensures { Writes result (O.seen out.old) (O.seen out.new) (sentences.name_sentence fault.now known.now.catalog.now known.now.live.now) }
+    ensures { Writes result (O.seen out.old) (O.seen out.new) (sentences.stream_sentence fault.now catalog.now) }
 {
     match fault {
         Fault::DuplicateStream { name } => {
@@ -205,6 +211,33 @@ fn write_name_sentence<O: Sink>(
                 texts::STREAM_THERE_TAIL,
             )
         }
+        Fault::SelfJoin { name } => {
+            write_around(
+                out,
+                texts::TWICE_IN_FROM,
+                name.bytes(),
+                texts::TWICE_IN_FROM_TAIL,
+            )
+        }
+        Fault::NoStream { name } => write_no_stream(out, texts::NO_STREAM, name, catalog),
+        Fault::LockTwice { name } => {
+            write_around(out, texts::LOCK_TWICE, name.bytes(), texts::LOCK_TWICE_TAIL)
+        }
+        Fault::LockNoStream { name } => write_no_stream(out, texts::LOCK_NO_STREAM, name, catalog),
+        _ => Ok(()),
+    }
+}
+
+// The sentence of a fault of names.
+#[tactic(auto, unfolding(crate::specs::Sentences::name_sentence))]
+fn write_name_sentence<O: Sink>(
+    out: &mut O,
+    fault: &Fault,
+    known: &Known<'_>,
+) -> Result<(), WriteFault>
+    ensures { Writes result (O.seen out.old) (O.seen out.new) (sentences.name_sentence fault.now known.now.catalog.now known.now.live.now) }
+{
+    match fault {
         Fault::DuplicateColumn { name } => {
             write_around(
                 out,
@@ -216,21 +249,6 @@ fn write_name_sentence<O: Sink>(
         Fault::DuplicateQuery { name } => {
             write_around(out, texts::QUERY_LIVE, name.bytes(), texts::QUERY_LIVE_TAIL)
         }
-        Fault::SelfJoin { name } => {
-            write_around(
-                out,
-                texts::TWICE_IN_FROM,
-                name.bytes(),
-                texts::TWICE_IN_FROM_TAIL,
-            )
-        }
-        Fault::NoStream { name } => write_no_stream(out, texts::NO_STREAM, name, known.catalog),
-        Fault::LockTwice { name } => {
-            write_around(out, texts::LOCK_TWICE, name.bytes(), texts::LOCK_TWICE_TAIL)
-        }
-        Fault::LockNoStream { name } => {
-            write_no_stream(out, texts::LOCK_NO_STREAM, name, known.catalog)
-        }
         Fault::NotInFrom { column } => write_column(out, b"", column, texts::NOT_IN_FROM_TAIL),
         Fault::NoColumn { column } => write_no_column(out, column, known.catalog),
         Fault::NoQuery { name } => write_around_names(
@@ -240,7 +258,7 @@ fn write_name_sentence<O: Sink>(
             texts::NO_QUERY_TAIL,
             known.live,
         ),
-        _ => Ok(()),
+        _ => write_stream_sentence(out, fault, known.catalog),
     }
 }
 

@@ -83,6 +83,8 @@ pub const FIELD_DECIMAL: &[u8] = b" has a point: count in smaller units, as 125 
 pub const FIELD_WORD: &[u8] =
     b" is a word: a row has integers alone, and a line of headings is none";
 
+pub const FIELD_EXPONENT: &[u8] = b" has an exponent: write all digits, as 1000 for 1e3";
+
 pub const FIELD_OTHER: &[u8] =
     b" is no integer of 64 bits, from -9223372036854775808 to 9223372036854775807";
 
@@ -212,7 +214,25 @@ pub const HINT_CHAINED: &[u8] =
 
 pub const HINT_STREAMLESS: &[u8] = b"a row begins with the name of its stream, as Stream,1,2";
 
-pub const STANDS_END: &[u8] = b"the line ends here";
+pub const HINT_EXPONENT: &[u8] =
+    b"an integer has no exponent: write all digits, as 1000 for 1e3; docs/DATA.md tells of numbers";
+
+pub const HINT_DROP_STREAM: &[u8] =
+    b"a stream is not dropped: write DROP QUERY for each of its queries, and create a stream with another name; docs/QUERIES.md tells what may be said";
+
+pub const HINT_EXPLAIN_QUERY: &[u8] =
+    b"EXPLAIN stands before the name of a live query: create the query, and then write EXPLAIN and its name; docs/QUERIES.md tells of EXPLAIN";
+
+pub const HINT_REPLACE: &[u8] =
+    b"nothing is replaced: write DROP QUERY and CREATE QUERY, on a line each; docs/QUERIES.md tells what may be said";
+
+pub const HINT_SHOW: &[u8] =
+    b"there is no SHOW: EXPLAIN shows one live query, and CHECKPOINT all streams and queries; docs/OPERATING.md tells of CHECKPOINT";
+
+pub const HINT_CONTINUED: &[u8] =
+    b"a statement stands on one line: put this behind the line before; docs/QUERIES.md tells what may be said";
+
+pub const STANDS_END: &[u8] = b"a statement stands on one line, and the line ends here";
 
 pub const STANDS_WORD: &[u8] = b"a word stands here";
 

@@ -9,7 +9,7 @@ use Rattle.bq_parser.specs.Syntax.{state_after, IsFaultOf, IsStatement}
 use Rattle.bq_parser.proofs.Said.{cut_at, all_at}
 use Rattle.bq_parser.proofs.Verdict.{ends_early, stops_at}
 use Rattle.bq_parser.proofs.Within.{judged}
-use Rattle.bq_parser.proofs.parsing.parse.Goals as goal
+use Rattle.bq_parser.proofs.parsing.parse_lists.Goals as goal
 
 pub read_parts-requires : goal.read_parts-requires
 read_parts-requires c =

@@ -1,0 +1,213 @@
+-- The outline of the tokens so far.
+use Rattle.std.proofs.Common.{◌≡◌, ◌≢◌, ℕ, ◌≤◌, ◌<◌, Bool, true, false, ◌||◌, cond, List, [], ◌∷◌, ◌++◌, length, Option, Some, None, Result, Ok, Err, refl, ap, sym, ◌∙◌, subst, arith, inl, inr}
+use Rattle.std.specs.Prelude.{slice_range}
+use Rattle.std.specs.List.{list_any}
+use Rattle.std.proofs.lemmas.List.Folds.{list_any-append}
+use Rattle.bq_lexer.specs.declared.token.Token.{Token}
+use Rattle.bq_lexer.specs.Standing.{IsNextToken, IsNext}
+use Rattle.bq_lexer.specs.Tokens.{tokens, tokens_at, with_first}
+use Rattle.bq_lexer.proofs.Standing.{tokens_stand}
+use Rattle.bq_lexer.proofs.TokenLists.{after, after_one, after_end, after_err}
+use Rattle.bq_parser.specs.declared.draft.Draft.{Draft}
+use Rattle.bq_parser.specs.declared.draft.Form.{Form}
+use Rattle.bq_parser.specs.declared.draft.Form.TheVariants as forms
+use Rattle.bq_parser.specs.declared.head.Head.{Head}
+use Rattle.bq_parser.specs.declared.outline.Outline.{Outline}
+use Rattle.bq_parser.specs.declared.parsing.What.TheVariants as limits
+use Rattle.bq_parser.specs.declared.parsing.ParseError.TheVariants.{Limit}
+use Rattle.bq_parser.specs.declared.plain.PlainStatement.{PlainStatement}
+use Rattle.bq_parser.specs.declared.plain.PlainStatement.TheVariants as plain
+use Rattle.bq_parser.specs.declared.plain.PlainReading.TheVariants.{Plain, Listed, Refused}
+use Rattle.bq_parser.specs.declared.transitions.Action.{Action}
+use Rattle.bq_parser.specs.declared.transitions.Action.TheVariants as actions
+use Rattle.bq_parser.specs.declared.transitions.State.{State}
+use Rattle.bq_parser.specs.declared.transitions.State.TheVariants.{Start}
+use Rattle.bq_parser.specs.declared.tree.Statement.{Statement}
+use Rattle.bq_parser.specs.declared.tree.Statement.TheVariants.{CreateStream, CreateQuery, Explain, DropQuery, Checkpoint, ResumeRows, ResumeGiven, ResumeCell, ResumeTuple, Lock, Unlock}
+use Rattle.bq_parser.specs.DraftLimits.{is_long_token, is_wide_token, limit_in, limit_by}
+use Rattle.bq_parser.specs.DraftSteps.{drafted, statement_by}
+use Rattle.bq_parser.specs.Keeping.{IsCut, IsRead, kept_parts}
+use Rattle.bq_parser.specs.Limits.{limit_of}
+use Rattle.bq_parser.specs.Outlines.{head_in, headed, no_outline, outlined, fault_or, IsOutline, whole_of, reading_by, reading_in, IsReading}
+use Rattle.bq_parser.specs.Reading.{Parts, no_parts, finished, walk, may_end, kind_at, text_of}
+use Rattle.bq_parser.specs.Steps.{step_of}
+use Rattle.bq_parser.specs.Syntax.{lexemes, lexeme_of, IsStatement, IsFault, IsFaultOf, StopsAt}
+use Rattle.bq_parser.proofs.Again.{spelled_read}
+use Rattle.bq_parser.proofs.KeptLaw.{read_more}
+use Rattle.bq_parser.proofs.Verdict.{begins_read, stopped_begins, step_same, ends_early}
+use Rattle.bq_parser.proofs.Within.{judged}
+
+-- an action makes of the head of a draft what it makes of the draft
+head_drafted : (a : Action) (w : List ℕ) (d : Draft) → headed a w (head_in d) ≡ head_in (drafted a w d)
+head_drafted actions.Nothing w d = refl
+head_drafted actions.BeginExplain w d = refl
+head_drafted actions.BeginDrop w d = refl
+head_drafted actions.BeginStream w d = refl
+head_drafted actions.BeginQuery w d = refl
+head_drafted actions.BeginShared w d = refl
+head_drafted actions.BeginCompact w d = refl
+head_drafted actions.BeginSharedCompact w d = refl
+head_drafted actions.Named w d = refl
+head_drafted actions.BeginColumns w d = refl
+head_drafted actions.ColumnIs w d = refl
+head_drafted actions.AddColumn w d = refl
+head_drafted actions.LowIs w d = refl
+head_drafted actions.AddBounded w d = refl
+head_drafted actions.BeginSelect w d = refl
+head_drafted actions.SetDistinct w d = refl
+head_drafted actions.StreamIs w d = refl
+head_drafted actions.AddSelected w d = refl
+head_drafted actions.BeginFrom w d = refl
+head_drafted actions.AddFrom w d = refl
+head_drafted actions.LeftInteger w d = refl
+head_drafted actions.LeftColumnIs w d = refl
+head_drafted actions.OpLess w d = refl
+head_drafted actions.OpEqual w d = refl
+head_drafted actions.OpGreater w d = refl
+head_drafted actions.OpLessEqual w d = refl
+head_drafted actions.OpGreaterEqual w d = refl
+head_drafted actions.OpUnequal w d = refl
+head_drafted actions.AddIntegerAtom w d = refl
+head_drafted actions.AddColumnAtom w d = refl
+head_drafted actions.BeginCheckpoint w d = refl
+head_drafted actions.RowsAre w d = refl
+head_drafted actions.BeginGiven w d = refl
+head_drafted actions.BeginCell w d = refl
+head_drafted actions.IndexIs w d = refl
+head_drafted actions.CountIs w d = refl
+head_drafted actions.BeginTuple w d = refl
+head_drafted actions.AddValue w d = refl
+head_drafted actions.BeginLock w d = refl
+head_drafted actions.LockKeyIs w d = refl
+head_drafted actions.BeginTo w d = refl
+head_drafted actions.AddLockStream w d = refl
+head_drafted actions.BeginUnlock w d = refl
+
+-- any other action changes no head
+pub head_other : (a : Action) (w : List ℕ) (h : Head) → a ≢ actions.BeginExplain → a ≢ actions.BeginDrop → a ≢ actions.BeginStream → a ≢ actions.BeginQuery → a ≢ actions.BeginShared → a ≢ actions.BeginCompact → a ≢ actions.BeginSharedCompact → a ≢ actions.Named → a ≢ actions.BeginCheckpoint → a ≢ actions.RowsAre → a ≢ actions.BeginGiven → a ≢ actions.BeginCell → a ≢ actions.IndexIs → a ≢ actions.CountIs → a ≢ actions.BeginTuple → a ≢ actions.BeginLock → a ≢ actions.BeginUnlock → h ≡ headed a w h
+head_other actions.BeginExplain w h n0 n1 n2 n3 n4 n5 n6 n7 n8 n9 n10 n11 n12 n13 n14 n15 n16 = absurd (n0 refl)
+head_other actions.BeginDrop w h n0 n1 n2 n3 n4 n5 n6 n7 n8 n9 n10 n11 n12 n13 n14 n15 n16 = absurd (n1 refl)
+head_other actions.BeginStream w h n0 n1 n2 n3 n4 n5 n6 n7 n8 n9 n10 n11 n12 n13 n14 n15 n16 = absurd (n2 refl)
+head_other actions.BeginQuery w h n0 n1 n2 n3 n4 n5 n6 n7 n8 n9 n10 n11 n12 n13 n14 n15 n16 = absurd (n3 refl)
+head_other actions.BeginShared w h n0 n1 n2 n3 n4 n5 n6 n7 n8 n9 n10 n11 n12 n13 n14 n15 n16 = absurd (n4 refl)
+head_other actions.BeginCompact w h n0 n1 n2 n3 n4 n5 n6 n7 n8 n9 n10 n11 n12 n13 n14 n15 n16 = absurd (n5 refl)
+head_other actions.BeginSharedCompact w h n0 n1 n2 n3 n4 n5 n6 n7 n8 n9 n10 n11 n12 n13 n14 n15 n16 = absurd (n6 refl)
+head_other actions.Named w h n0 n1 n2 n3 n4 n5 n6 n7 n8 n9 n10 n11 n12 n13 n14 n15 n16 = absurd (n7 refl)
+head_other actions.BeginCheckpoint w h n0 n1 n2 n3 n4 n5 n6 n7 n8 n9 n10 n11 n12 n13 n14 n15 n16 = absurd (n8 refl)
+head_other actions.RowsAre w h n0 n1 n2 n3 n4 n5 n6 n7 n8 n9 n10 n11 n12 n13 n14 n15 n16 = absurd (n9 refl)
+head_other actions.BeginGiven w h n0 n1 n2 n3 n4 n5 n6 n7 n8 n9 n10 n11 n12 n13 n14 n15 n16 = absurd (n10 refl)
+head_other actions.BeginCell w h n0 n1 n2 n3 n4 n5 n6 n7 n8 n9 n10 n11 n12 n13 n14 n15 n16 = absurd (n11 refl)
+head_other actions.IndexIs w h n0 n1 n2 n3 n4 n5 n6 n7 n8 n9 n10 n11 n12 n13 n14 n15 n16 = absurd (n12 refl)
+head_other actions.CountIs w h n0 n1 n2 n3 n4 n5 n6 n7 n8 n9 n10 n11 n12 n13 n14 n15 n16 = absurd (n13 refl)
+head_other actions.BeginTuple w h n0 n1 n2 n3 n4 n5 n6 n7 n8 n9 n10 n11 n12 n13 n14 n15 n16 = absurd (n14 refl)
+head_other actions.BeginLock w h n0 n1 n2 n3 n4 n5 n6 n7 n8 n9 n10 n11 n12 n13 n14 n15 n16 = absurd (n15 refl)
+head_other actions.BeginUnlock w h n0 n1 n2 n3 n4 n5 n6 n7 n8 n9 n10 n11 n12 n13 n14 n15 n16 = absurd (n16 refl)
+head_other _ w h n0 n1 n2 n3 n4 n5 n6 n7 n8 n9 n10 n11 n12 n13 n14 n15 n16 = refl
+
+or_false : (b : Bool) → (b || false) ≡ b
+or_false true = refl
+or_false false = refl
+
+any_more : {X : Type 0} (f : X → Bool) (xs : List X) (x : X) (b : Bool) → b ≡ list_any f xs → (b || f x) ≡ list_any f (xs ++ x ∷ [])
+any_more f xs x b e = ap (λ c. c || f x) e ∙ ap (λ c. list_any f xs || c) (sym (or_false (f x))) ∙ sym (list_any-append f xs (x ∷ []))
+
+-- the tokens up to a place lead to the state, and the head and the tests are those of a draft of them
+pub record Outlined (line : List ℕ) (place : ℕ) (o : Outline) : Type 0 where
+  pub before : List Token
+  pub told : tokens line ≡ after before (tokens_at line place)
+  pub draft : Draft
+  pub read : IsRead line before o.state draft
+  pub head : o.head ≡ head_in draft
+  pub long : o.long ≡ list_any is_long_token before
+  pub wide : o.wide ≡ list_any (is_wide_token line) before
+
+pub outlined_none : (line : List ℕ) → Outlined line 0 no_outline
+outlined_none line = record {
+  before = [];
+  told = refl;
+  draft = kept_parts no_parts;
+  read = record { parts = no_parts; read = refl; keeps = refl };
+  head = refl;
+  long = refl;
+  wide = refl;
+}
+
+cut_of : (line : List ℕ) (place : ℕ) (t : Token) → IsNextToken line place t → IsCut line t
+cut_of line place t n = let lt : t.from < t.to = n.has_bytes in record { order = omega (arith, lt); inside = n.inside; kind = n.kind }
+
+-- one token more is read
+pub outlined_more : (line : List ℕ) (place : ℕ) (t : Token) (to : State) (a : Action) (o : Outline) → IsNextToken line place t → tokens_at line place ≡ with_first t (tokens_at line t.to)
+    → step_of o.state t.kind (slice_range line t.from t.to) ≡ Some (to, a) → Outlined line place o → Outlined line t.to (outlined line t to a o)
+outlined_more line place t to a o n e leads s =
+    let w = slice_range line t.from t.to in
+    record {
+      before = s.before ++ t ∷ [];
+      told = s.told ∙ ap (after s.before) e ∙ sym (after_one s.before t (tokens_at line t.to));
+      draft = drafted a w s.draft;
+      read = read_more line s.before t o.state to a s.draft w s.read leads refl (cut_of line place t n);
+      head = ap (headed a w) s.head ∙ head_drafted a w s.draft;
+      long = any_more is_long_token s.before t o.long s.long;
+      wide = any_more (is_wide_token line) s.before t o.wide s.wide;
+    }
+
+-- what stands next, where it is known to be a token or none
+pub token_there : (line : List ℕ) (place : ℕ) (o : Option Token) (t : Token) → o ≡ Some t → IsNext line place (Ok o) → IsNextToken line place t × (tokens_at line place ≡ with_first t (tokens_at line t.to))
+token_there line place o t e n =
+    let P : Option Token → Type 0 = λ x. IsNext line place (Ok x) in
+    subst P e n
+
+pub none_there : (line : List ℕ) (place : ℕ) (o : Option Token) → o ≡ None → IsNext line place (Ok o) → tokens_at line place ≡ Ok []
+none_there line place o e n =
+    let P : Option Token → Type 0 = λ x. IsNext line place (Ok x) in
+    subst P e n
+
+-- no token is left
+pub outlined_all : (line : List ℕ) (place : ℕ) (o : Outline) → tokens_at line place ≡ Ok [] → Outlined line place o → IsOutline line o
+outlined_all line place o e s = record {
+  its_tokens = s.before;
+  lexed = s.told ∙ ap (after s.before) e ∙ after_end s.before;
+  draft = s.draft;
+  read = s.read;
+  head = s.head;
+  long = s.long;
+  wide = s.wide;
+}
+
+-- no token begins
+pub outlined_stuck : (line : List ℕ) (place at : ℕ) (o : Outline) → tokens_at line place ≡ Err at → Outlined line place o → IsFault line at
+outlined_stuck line place at o e s =
+    let P : Result (List Token) ℕ → Type 0 = λ r. IsFaultOf line r at in
+    subst P (sym (s.told ∙ ap (after s.before) e ∙ after_err s.before at)) refl
+
+after_ok : (ts us : List Token) → after ts (Ok us) ≡ Ok (ts ++ us)
+after_ok [] us = refl
+after_ok (t ∷ ts) us = ap (with_first t) (after_ok ts us)
+
+stops_by : (line : List ℕ) (t : Token) (place : ℕ) (o : Outline) (s : Outlined line place o) (r : Result (List Token) ℕ) → step_of o.state t.kind (slice_range line t.from t.to) ≡ None → IsFaultOf line (after s.before (with_first t r)) (fault_or r t.from)
+stops_by line t place o s (Ok ts) none =
+    let P : Result (List Token) ℕ → Type 0 = λ r. IsFaultOf line r t.from in
+    let stuck : step_of o.state (kind_at (lexeme_of line t)) (text_of (lexeme_of line t)) ≡ None = step_same o.state t.kind (slice_range line t.from t.to) ∙ none in
+    let stop : StopsAt line (s.before ++ t ∷ ts) t.from = record {
+      front = s.before;
+      stop = t;
+      after = ts;
+      whole = refl;
+      place = refl;
+      begins = begins_read (lexemes line s.before) o.state s.read.parts s.read.read;
+      no_more = λ b. stopped_begins (lexemes line s.before) (lexeme_of line t) o.state s.read.parts s.read.read stuck b;
+    } in
+    subst P (sym (after_ok s.before (t ∷ ts))) (inl stop)
+stops_by line t place o s (Err at) none =
+    let P : Result (List Token) ℕ → Type 0 = λ r. IsFaultOf line r at in
+    subst P (sym (after_err s.before at)) refl
+
+-- a token goes on nowhere
+pub outlined_stops : (line : List ℕ) (place : ℕ) (t : Token) (o : Outline) → tokens_at line place ≡ with_first t (tokens_at line t.to) → step_of o.state t.kind (slice_range line t.from t.to) ≡ None → Outlined line place o → IsFault line (fault_or (tokens_at line t.to) t.from)
+outlined_stops line place t o e none s =
+    let P : Result (List Token) ℕ → Type 0 = λ r. IsFaultOf line r (fault_or (tokens_at line t.to) t.from) in
+    subst P (sym (s.told ∙ ap (after s.before) e)) (stops_by line t place o s (tokens_at line t.to) none)
+
+-- a token more before them changes no fault
+pub fault_first : (t : Token) (r : Result (List Token) ℕ) (at : ℕ) → fault_or (with_first t r) at ≡ fault_or r at
+fault_first t (Ok ts) at = refl
+fault_first t (Err place) at = refl
