@@ -12,3 +12,4 @@ pub mod LastBytes
 pub mod OneLineLaw
 pub mod OneLines
 pub mod ToJoined
+pub mod NoRow

@@ -28,8 +28,8 @@ fn exchanged(byte: u8) -> u8
 }
 
 // The bytes, exchanged.
-fn exchange_all(piece: &[u8]) -> ArrayVec<u8, 4096>
-    requires { length piece.now ≤ 4096 }
+fn exchange_all(piece: &[u8]) -> ArrayVec<u8, 256>
+    requires { length piece.now ≤ 256 }
     ensures { result.items ≡ map exchanged piece.now }
 {
     let mut bytes = ArrayVec::new();
@@ -56,7 +56,7 @@ impl<O: Sink, B: Base> Sink for Exchange<'_, O, B> {
     ghost seen = { λ e. exchanged_seen B.low (O.seen e.sink.now) e.sink.ghost_name };
 
     fn write(&mut self, piece: &[u8]) -> WriteAnswer {
-        let count = piece.len().min(4096);
+        let count = piece.len().min(256);
         let bytes = exchange_all(&piece[..count]);
         self.sink.write(bytes.as_slice())
     }

@@ -7,7 +7,7 @@ ghost use Rattle.bq_session.specs.Session.{Answered, SessionValue, StandsFor};
 ghost use Rattle.bq_session.specs.Run.{HasState, TookAll};
 ghost use Rattle.bq_session.specs.declared.run.Ending.TheVariants as endings;
 ghost use Rattle.bq_each.specs.Answered.{FormedAnswered};
-ghost use Rattle.bq_each.specs.Fetching.{Comes, EndsFlushed};
+ghost use Rattle.bq_each.specs.Fetching.{Comes, EndsFlushed, HasNoRow, HasRow, ToldRow};
 ghost use Rattle.bq_each.specs.declared.one_line.Last.TheVariants.{Nothing};
 ghost use Rattle.bq_each.specs.OneLine.{closed, joined, one_line_seen};
 ghost use Rattle.bq_each.specs.Run.{AnsweredFormed, FormedRan};
@@ -17,6 +17,7 @@ use crate::exchange::Exchange;
 use crate::one_line::OneLine;
 use bq_feed::{LineAnswer, LineReader};
 use bq_io::{Gathered, Sink, Source};
+use bq_model::Row;
 use bq_pool::Steps;
 use bq_session::{Ending, LineOutcome, Session};
 use std::marker::Brand;
@@ -25,30 +26,41 @@ use std::sync::ledger::Ledger;
 /// How the next line came, or why there is none.
 #[derive(Clone, Copy, Debug, PartialEq, Eq)]
 pub enum Next {
-    /// A line came, or one that is too long.
-    Given(bool),
+    /// A line came, or one that is too long. Where it was read as a row of an open stream, this is the number of that stream.
+    Given { long: bool, plain: Option<u8> },
     /// There is none, and the run ends so.
     Over(Ending),
 }
 
-// Gives the next line. A line that lies whole in what was read is given at once; else what is held is written first, so that no line waits
-// while the source is read.
-fn next_line<I: Source, O: Sink>(
+// Gives the next line, whatever it is. A line that lies whole in what was read is given at once; else what is held is written first, so that no
+// line waits while the source is read.
+#[inline(never)]
+fn any_line<I: Source, O: Sink>(
     reader: &mut LineReader,
     input: &mut I,
     output: &mut Gathered<'_, O>,
 ) -> Next
     ensures comes { Comes result reader.old reader.new (I.seen input.old) (I.seen input.new)
         (O.seen output.old.sink.now) (O.seen output.new.sink.now) output.old.held.items output.new.held.items }
+    ensures none { HasNoRow result }
     ensures same_reference { output.new.sink.ghost_name ≡ output.old.sink.ghost_name }
 {
     if reader.buffered_line() {
-        return Next::Given(false);
+        return Next::Given {
+            long: false,
+            plain: None,
+        };
     }
     match output.flush() {
         Ok(()) => match reader.next_line(input) {
-            LineAnswer::Line => Next::Given(false),
-            LineAnswer::TooLong => Next::Given(true),
+            LineAnswer::Line => Next::Given {
+                long: false,
+                plain: None,
+            },
+            LineAnswer::TooLong => Next::Given {
+                long: true,
+                plain: None,
+            },
             LineAnswer::End => Next::Over(Ending::Done),
             LineAnswer::ReadFault => Next::Over(Ending::ReadFault),
             LineAnswer::ByteLimit => Next::Over(Ending::ByteLimit),
@@ -57,22 +69,56 @@ fn next_line<I: Source, O: Sink>(
     }
 }
 
-// Answers the line that the reader gave last, or one that was too long.
+// Gives the next line, and puts it into an empty `row` where it is a row of an open stream that lies whole in what was read.
+#[inline(always)]
+fn next_line<I: Source, O: Sink>(
+    reader: &mut LineReader,
+    session: &Session,
+    row: &mut Row,
+    input: &mut I,
+    output: &mut Gathered<'_, O>,
+) -> Next
+    requires empty { row.old.items ≡ [] }
+    ensures comes { Comes result reader.old reader.new (I.seen input.old) (I.seen input.new)
+        (O.seen output.old.sink.now) (O.seen output.new.sink.now) output.old.held.items output.new.held.items }
+    ensures row { HasRow result session.now reader.new.line row.new.items }
+    ensures same_reference { output.new.sink.ghost_name ≡ output.old.sink.ghost_name }
+{
+    match session.row_ahead(reader.ahead_and_feed(), row) {
+        Some(found) => {
+            let (stream, len) = found;
+            reader.give_line(len);
+            Next::Given {
+                long: false,
+                plain: Some(stream),
+            }
+        }
+        None => any_line(reader, input, output),
+    }
+}
+
+// Answers the line that the reader gave last, or one that was too long, or the row that it was read as.
 fn answer_line<O: Sink, L: Ledger>(
     session: &mut Session,
     reader: &LineReader,
     long: bool,
+    plain: Option<u8>,
+    row: &Row,
     output: &mut O,
     steps: &mut Steps<L>,
 ) -> LineOutcome
     requires few { session.old.lines + 1 < 2 ^ 64 }
     requires short { long ≡ false → length reader.now.line ≤ 1024 }
+    requires row { ToldRow long plain session.old reader.now.line row.now.items }
     ensures { (s : State) → (line : List ℕ) → IsBegun long reader.now.line line → StandsFor session.old s → Answered result s line session.new (O.seen output.old) (O.seen output.new) }
 {
-    if long {
-        session.long_line(output)
-    } else {
-        session.line(reader.line(), output, steps)
+    match plain {
+        Some(stream) => session.plain_row(stream, row, false, output, steps),
+        None => if long {
+            session.long_line(output)
+        } else {
+            session.line(reader.line(), output, steps)
+        },
     }
 }
 
@@ -98,6 +144,8 @@ fn answer_closed<O: Sink, L: Ledger, B: Base>(
     session: &mut Session,
     reader: &LineReader,
     long: bool,
+    plain: Option<u8>,
+    row: &Row,
     output: &mut O,
     steps: &mut Steps<L>,
 ) -> LineOutcome
@@ -105,10 +153,11 @@ fn answer_closed<O: Sink, L: Ledger, B: Base>(
     requires low { (O.seen output.old).below ≡ B.low }
     requires few { session.old.lines + 1 < 2 ^ 64 }
     requires short { long ≡ false → length reader.now.line ≤ 1024 }
+    requires row { ToldRow long plain session.old reader.now.line row.now.items }
     ensures { (s : State) → (line : List ℕ) → IsBegun long reader.now.line line → StandsFor session.old s → FormedAnswered closed result s line session.new (O.seen output.old) (O.seen output.new) }
 {
     let mut one = OneLine::<O, B>::new(output);
-    let outcome = answer_line(session, reader, long, &mut one, steps);
+    let outcome = answer_line(session, reader, long, plain, row, &mut one, steps);
     let ended = end_reply(&mut one, outcome);
     let OneLine { sink, .. } = one;
     // No effect at run time. The proof reads what the output holds from this use.
@@ -121,14 +170,17 @@ fn answer_any<O: Sink, L: Ledger>(
     session: &mut Session,
     reader: &LineReader,
     long: bool,
+    plain: Option<u8>,
+    row: &Row,
     output: &mut O,
     steps: &mut Steps<L>,
 ) -> LineOutcome
     requires few { session.old.lines + 1 < 2 ^ 64 }
     requires short { long ≡ false → length reader.now.line ≤ 1024 }
+    requires row { ToldRow long plain session.old reader.now.line row.now.items }
     ensures { (s : State) → (line : List ℕ) → IsBegun long reader.now.line line → StandsFor session.old s → FormedAnswered closed result s line session.new (O.seen output.old) (O.seen output.new) }
 {
-    answer_closed::<O, L, Brand>(session, reader, long, output, steps)
+    answer_closed::<O, L, Brand>(session, reader, long, plain, row, output, steps)
 }
 
 // Answers the line that the reader gave last, or one that was too long, by one line.
@@ -136,16 +188,19 @@ fn answer_exchanged<O: Sink, L: Ledger, B: Base>(
     session: &mut Session,
     reader: &LineReader,
     long: bool,
+    plain: Option<u8>,
+    row: &Row,
     output: &mut O,
     steps: &mut Steps<L>,
 ) -> LineOutcome
     requires low { (O.seen output.old).below ≡ B.low }
     requires few { session.old.lines + 1 < 2 ^ 64 }
     requires short { long ≡ false → length reader.now.line ≤ 1024 }
+    requires row { ToldRow long plain session.old reader.now.line row.now.items }
     ensures { (s : State) → (line : List ℕ) → IsBegun long reader.now.line line → StandsFor session.old s → FormedAnswered joined result s line session.new (O.seen output.old) (O.seen output.new) }
 {
     let mut exchange = Exchange::<O, B>::new(output);
-    let outcome = answer_any(session, reader, long, &mut exchange, steps);
+    let outcome = answer_any(session, reader, long, plain, row, &mut exchange, steps);
     let Exchange { sink, .. } = exchange;
     // No effect at run time. The proof reads what the output holds from this use.
     let _ = &*sink;
@@ -157,14 +212,17 @@ fn answer<O: Sink, L: Ledger>(
     session: &mut Session,
     reader: &LineReader,
     long: bool,
+    plain: Option<u8>,
+    row: &Row,
     output: &mut O,
     steps: &mut Steps<L>,
 ) -> LineOutcome
     requires few { session.old.lines + 1 < 2 ^ 64 }
     requires short { long ≡ false → length reader.now.line ≤ 1024 }
+    requires row { ToldRow long plain session.old reader.now.line row.now.items }
     ensures { (s : State) → (line : List ℕ) → IsBegun long reader.now.line line → StandsFor session.old s → FormedAnswered joined result s line session.new (O.seen output.old) (O.seen output.new) }
 {
-    answer_exchanged::<O, L, Brand>(session, reader, long, output, steps)
+    answer_exchanged::<O, L, Brand>(session, reader, long, plain, row, output, steps)
 }
 
 // Whether as many lines were read as can be counted.
@@ -206,13 +264,14 @@ pub fn run_each<I: Source, O: Sink, L: Ledger>(
     ensures same_reference { output.new.sink.ghost_name ≡ output.old.sink.ghost_name }
 {
     'answering: loop {
-        match next_line(reader, input, output) {
+        let mut row = Row::new();
+        match next_line(reader, session, &mut row, input, output) {
             Next::Over(ending) => return ending,
-            Next::Given(long) => {
+            Next::Given { long, plain } => {
                 if is_full(session) {
                     return end_flushed(Ending::ByteLimit, output);
                 }
-                match answer(session, reader, long, output, steps) {
+                match answer(session, reader, long, plain, &row, output, steps) {
                     LineOutcome::Done => {}
                     LineOutcome::WriteFault => return Ending::WriteFault,
                     LineOutcome::Memory => return end_flushed(Ending::Memory, output),

@@ -74,7 +74,7 @@ pub record WroteEvents (gates : List (Option Lock)) (s : State) (events : List E
   pub written : Appends before.written now.written text
 
 -- One event of the turns, and what those before it came to. Of each feed that has not ended little was taken beyond its lines up to that
--- event.
+-- event, and it was not read behind that event.
 pub record AtEvent {sources nows : List SourceState} (gates : List (Option Lock)) (s : State) (f : FeedsTaken sources nows) : Type 0 where
   pub told : List Event
   pub event : Event

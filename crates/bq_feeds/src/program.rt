@@ -129,9 +129,9 @@ fn run_found<I: Source, O: Sink>(
 /// `FeedsEnd` says of each status what was taken of each source and what was written: for `Done` all bytes of all feeds, and their
 /// text behind that of the script; for `ReadFault` the same, where some feeds failed, each of which counted a fault in this call, or, where the ending
 /// says so, the text of the script's lines that ended, of which the source counted a fault, and no feed was touched; for `WriteFault` the texts
-/// of the events before one event and a front of its text; for `Memory` nothing, or the texts of the events before a line that
-/// creates a stream or a query; for `ByteLimit` the texts of the events before a turn of a source that has more bytes than can be
-/// counted, or that has another line where 2^64 - 2 lines were given. `Usage` comes exactly where the words are none of this form or
+/// of the events before one event and a front of its text, and no feed was read behind that event; for `Memory` nothing, or the texts of the
+/// events before a line that creates a stream or a query; for `ByteLimit` the texts of the events before a turn of a source that has more bytes
+/// than can be counted, or that has another line where 2^64 - 2 lines were given. `Usage` comes exactly where the words are none of this form or
 /// ask for another number of sources, and then nothing was read or written. `Invalid` does not come.
 pub fn run_feeds<I: Source, O: Sink>(
     alloc: Global,

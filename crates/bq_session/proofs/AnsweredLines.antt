@@ -7,6 +7,7 @@ use Rattle.bq_io.specs.Sink.{SinkState}
 use Rattle.bq_io.specs.Source.{SourceState}
 use Rattle.bq_feed.specs.Reading.{AreLinesAhead, GivesAll, IsBuffered, Reading}
 use Rattle.bq_feed.specs.Reading as feed
+use Rattle.bq_pool.specs.Counted.{StepsValue}
 use Rattle.bq_rows.specs.Ahead.{IsRowAhead}
 use Rattle.bq_rows.specs.Counted.{IsSomeRowAhead}
 use Rattle.bq_rows.specs.Open.{is_open}
@@ -20,7 +21,7 @@ use Rattle.bq_session.specs.AnsweredRows.{AnswersRows, AnswersText, AreAnswered,
 use Rattle.bq_session.specs.Fetched.{buffered}
 use Rattle.bq_session.specs.Lock.{open_in}
 use Rattle.bq_session.specs.Run.{HasState}
-use Rattle.bq_session.specs.Session.{Answered, SessionValue, StandsFor}
+use Rattle.bq_session.specs.Session.{Answered, SessionValue, StandsFor, TakesCells}
 use Rattle.bq_session.specs.State.{State, next_of}
 use Rattle.bq_session.specs.Turned.{AnsweredLine, Turned}
 use Rattle.bq_session.proofs.CountedLines.{HasRoom, reader_at, reading_is, row_given}
@@ -28,30 +29,30 @@ use Rattle.bq_session.proofs.LineRuns.{next_of-lines}
 use Rattle.bq_session.proofs.Progress.{came-begun, counted}
 
 -- rows end before the last LF of a text
-rows_within : (text : List ℕ) (k : SessionValue) (below : SinkState) (held : List ℕ) (how : LineOutcome) (count begin end : ℕ) (kept : SessionValue) (after : SinkState) (full : List ℕ) → 0 < length text
-    → AreAnswered text k below held how count begin end kept after full → end < length text
-rows_within text k below held how count begin end kept after full some (none h c e a b d) = omega (arith, e, some)
-rows_within text k below held how count begin end kept after full some (more before start len left between part h row t c e) = omega (arith, e, row.row.before, length-drop begin text)
+rows_within : (text : List ℕ) (k : SessionValue) (below : SinkState) (held : List ℕ) (steps : StepsValue) (how : LineOutcome) (count begin end : ℕ) (kept : SessionValue) (after : SinkState) (full : List ℕ) (now : StepsValue) → 0 < length text
+    → AreAnswered text k below held steps how count begin end kept after full now → end < length text
+rows_within text k below held steps how count begin end kept after full now some (none h c e a b d n) = omega (arith, e, some)
+rows_within text k below held steps how count begin end kept after full now some (more before start len left between part spent h row t w c e) = omega (arith, e, row.row.before, length-drop begin text)
 
 -- rows end in what is ahead, where one LF more stands behind that
-within_ahead : (ahead : List ℕ) (k : SessionValue) (below : SinkState) (held : List ℕ) (how : LineOutcome) (count begin end : ℕ) (kept : SessionValue) (after : SinkState) (full : List ℕ)
-    → AreAnswered (ahead ++ 10 ∷ []) k below held how count begin end kept after full → end ≤ length ahead
-within_ahead ahead k below held how count begin end kept after full h =
+within_ahead : (ahead : List ℕ) (k : SessionValue) (below : SinkState) (held : List ℕ) (steps : StepsValue) (how : LineOutcome) (count begin end : ℕ) (kept : SessionValue) (after : SinkState) (full : List ℕ) (now : StepsValue)
+    → AreAnswered (ahead ++ 10 ∷ []) k below held steps how count begin end kept after full now → end ≤ length ahead
+within_ahead ahead k below held steps how count begin end kept after full now h =
     let room : 0 < length (ahead ++ 10 ∷ []) = omega (arith, length-append ahead (10 ∷ [])) in
-    omega (arith, rows_within (ahead ++ 10 ∷ []) k below held how count begin end kept after full room h, length-append ahead (10 ∷ []))
+    omega (arith, rows_within (ahead ++ 10 ∷ []) k below held steps how count begin end kept after full now room h, length-append ahead (10 ∷ []))
 
 -- rows that are answered are lines
-lines_of : (ahead : List ℕ) (k : SessionValue) (below : SinkState) (held : List ℕ) (how : LineOutcome) (count begin end : ℕ) (kept : SessionValue) (after : SinkState) (full : List ℕ)
-    → AreAnswered (ahead ++ 10 ∷ []) k below held how count begin end kept after full → AreLinesAhead ahead count begin end
-lines_of ahead k below held how count begin end kept after full (none h c e a b d) = feed.none c e
-lines_of ahead k below held how count begin end kept after full (more before start len left between part h row t c e) =
-    let is = stands left.streams (open_in left.lock) ahead begin len (within_ahead ahead k below held Done before start begin left between part h) row in
-    feed.more before start len (lines_of ahead k below held Done before start begin left between part h) is.feed is.short c e
+lines_of : (ahead : List ℕ) (k : SessionValue) (below : SinkState) (held : List ℕ) (steps : StepsValue) (how : LineOutcome) (count begin end : ℕ) (kept : SessionValue) (after : SinkState) (full : List ℕ) (now : StepsValue)
+    → AreAnswered (ahead ++ 10 ∷ []) k below held steps how count begin end kept after full now → AreLinesAhead ahead count begin end
+lines_of ahead k below held steps how count begin end kept after full now (none h c e a b d n) = feed.none c e
+lines_of ahead k below held steps how count begin end kept after full now (more before start len left between part spent h row t w c e) =
+    let is = stands left.streams (open_in left.lock) ahead begin len (within_ahead ahead k below held steps Done before start begin left between part spent h) row in
+    feed.more before start len (lines_of ahead k below held steps Done before start begin left between part spent h) is.feed is.short c e
 
 -- so many rows were given and answered
-record Reached (old : Reading) (k : SessionValue) (source : SourceState) (below : SinkState) (held : List ℕ) (how : LineOutcome) (count end : ℕ) (kept : SessionValue) (after : SinkState) (full : List ℕ) : Type 0 where
+record Reached (old : Reading) (k : SessionValue) (source : SourceState) (below : SinkState) (held : List ℕ) (steps : StepsValue) (how : LineOutcome) (count end : ℕ) (kept : SessionValue) (after : SinkState) (full : List ℕ) (now : StepsValue) : Type 0 where
   line : List ℕ
-  rows : AnswersRows old k source below held how (reader_at old count end line) kept after full
+  rows : AnswersRows old k source below held steps how (reader_at old count end line) kept after full now
 
 -- a row that was given was answered
 one_line : (s : State) (how : LineOutcome) (old new : Reading) (left kept : SessionValue) (source : SourceState) (between after : SinkState) (part full line : List ℕ) → IsBuffered old new → line ≡ new.line
@@ -66,17 +67,18 @@ one_line s how old new left kept source between after part full line b is t st =
   answers = λ text begun. subst (λ (l : List ℕ). Answered how s l kept (gathered_seen between t.name part) (gathered_seen after t.name' full)) (is ∙ begun) (t.answers s st);
 }
 
-one_more : (old : Reading) (k : SessionValue) (source : SourceState) (below : SinkState) (held : List ℕ) (how : LineOutcome) (before begin len : ℕ) (left kept : SessionValue) (between after : SinkState) (part full : List ℕ)
-    → HasRoom old (before + 1) → begin ≤ length old.ahead → Reached old k source below held Done before begin left between part → IsSomeRowAhead left.streams (open_in left.lock) (drop begin (old.ahead ++ 10 ∷ [])) len
-    → AnswersText how left (take len (drop begin (old.ahead ++ 10 ∷ []))) kept between after part full
-    → AnswersRows old k source below held how (reader_at old (before + 1) (begin + len + 1) (take len (drop begin old.ahead))) kept after full
-one_more old k source below held how before begin len left kept between after part full room inside h row t =
+one_more : (old : Reading) (k : SessionValue) (source : SourceState) (below : SinkState) (held : List ℕ) (steps : StepsValue) (how : LineOutcome) (before begin len : ℕ) (left kept : SessionValue) (between after : SinkState) (part full : List ℕ) (spent now : StepsValue)
+    → HasRoom old (before + 1) → begin ≤ length old.ahead → Reached old k source below held steps Done before begin left between part spent → IsSomeRowAhead left.streams (open_in left.lock) (drop begin (old.ahead ++ 10 ∷ [])) len
+    → AnswersText how left (take len (drop begin (old.ahead ++ 10 ∷ []))) kept between after part full → TakesCells left.registry.live spent now
+    → AnswersRows old k source below held steps how (reader_at old (before + 1) (begin + len + 1) (take len (drop begin old.ahead))) kept after full now
+one_more old k source below held steps how before begin len left kept between after part full spent now room inside h row t w =
     let rest = drop begin old.ahead in
     let is = stands left.streams (open_in left.lock) old.ahead begin len inside row in
     let same : take len (drop begin (old.ahead ++ 10 ∷ [])) ≡ take len rest = ap (λ (x : List ℕ). take len x) (drop-append-le begin old.ahead (10 ∷ []) inside) ∙ (lies_ahead rest len is.row.row.feed is.row.row.before).same in
     let given = row_given old left.streams (open_in left.lock) before begin len h.line room inside row in
-    row_more (reader_at old before begin h.line) left between part h.rows
+    row_more (reader_at old before begin h.line) left between part spent h.rows
     (λ s st. one_line s how (reader_at old before begin h.line) (reader_at old (before + 1) (begin + len + 1) (take len rest)) left kept source between after part full (take len (drop begin (old.ahead ++ 10 ∷ []))) given same t st)
+    w
 
 less_room : (old : Reading) (before count : ℕ) → count ≡ before + 1 → HasRoom old count → HasRoom old before
 less_room old before count e h = record { counted = (omega (arith, e, h.counted.0), h.counted.1); ended = h.ended; unfailed = h.unfailed }
@@ -84,53 +86,53 @@ less_room old before count e h = record { counted = (omega (arith, e, h.counted.
 nothing_more : (n : ℕ) → n + 0 ≡ n
 nothing_more n = omega arith
 
-reached : (old : Reading) (k : SessionValue) (source : SourceState) (below : SinkState) (held : List ℕ) (how : LineOutcome) (count begin end : ℕ) (kept : SessionValue) (after : SinkState) (full : List ℕ) → HasRoom old count
-    → AreAnswered (old.ahead ++ 10 ∷ []) k below held how count begin end kept after full → Reached old k source below held how count end kept after full
-reached old k source below held how count begin end kept after full room (none h c e a b d) =
+reached : (old : Reading) (k : SessionValue) (source : SourceState) (below : SinkState) (held : List ℕ) (steps : StepsValue) (how : LineOutcome) (count begin end : ℕ) (kept : SessionValue) (after : SinkState) (full : List ℕ) (now : StepsValue) → HasRoom old count
+    → AreAnswered (old.ahead ++ 10 ∷ []) k below held steps how count begin end kept after full now → Reached old k source below held steps how count end kept after full now
+reached old k source below held steps how count begin end kept after full now room (none h c e a b d n) =
     let reader : reader_at old 0 0 old.line ≡ old = ap (λ (n : ℕ). record old { lines = n }) (nothing_more old.lines) in
-    let at_start : Reached old k source below held how 0 0 kept after full = record { line = old.line; rows = no_row h reader a b d } in
-    subst (λ n. Reached old k source below held how n end kept after full) (sym c) (subst (λ n. Reached old k source below held how 0 n kept after full) (sym e) at_start)
-reached old k source below held how count begin end kept after full room (more before start len left between part h row t c e) =
-    let inside = within_ahead old.ahead k below held Done before start begin left between part h in
-    let last : Reached old k source below held how (before + 1) (begin + len + 1) kept after full = record {
+    let at_start : Reached old k source below held steps how 0 0 kept after full now = record { line = old.line; rows = no_row h reader a b d n } in
+    subst (λ n. Reached old k source below held steps how n end kept after full now) (sym c) (subst (λ n. Reached old k source below held steps how 0 n kept after full now) (sym e) at_start)
+reached old k source below held steps how count begin end kept after full now room (more before start len left between part spent h row t w c e) =
+    let inside = within_ahead old.ahead k below held steps Done before start begin left between part spent h in
+    let last : Reached old k source below held steps how (before + 1) (begin + len + 1) kept after full now = record {
       line = take len (drop begin old.ahead);
-      rows = one_more old k source below held how before begin len left kept between after part full (subst (λ n. HasRoom old n) c room) inside
-          (reached old k source below held Done before start begin left between part (less_room old before count c room) h) row t;
+      rows = one_more old k source below held steps how before begin len left kept between after part full spent now (subst (λ n. HasRoom old n) c room) inside
+          (reached old k source below held steps Done before start begin left between part spent (less_room old before count c room) h) row t w;
     } in
-    subst (λ n. Reached old k source below held how n end kept after full) (sym c) (subst (λ n. Reached old k source below held how (before + 1) n kept after full) (sym e) last)
+    subst (λ n. Reached old k source below held steps how n end kept after full now) (sym c) (subst (λ n. Reached old k source below held steps how (before + 1) n kept after full now) (sym e) last)
 
 -- the rows at the front of what was ahead were answered, and then given
-some_given : (old new : Reading) (k : SessionValue) (source : SourceState) (below : SinkState) (held : List ℕ) (how : LineOutcome) (count begin end : ℕ) (kept : SessionValue) (after : SinkState) (full : List ℕ) → 0 < count
-    → AreAnswered (old.ahead ++ 10 ∷ []) k below held how count begin end kept after full → GivesAll old new count begin end → AnswersRows old k source below held how new kept after full
-some_given old new k source below held how count begin end kept after full some (none h c e a b d) gives = absurd (omega (arith, some, c))
-some_given old new k source below held how count begin end kept after full some (more before start len left between part h row t c e) gives =
+some_given : (old new : Reading) (k : SessionValue) (source : SourceState) (below : SinkState) (held : List ℕ) (steps : StepsValue) (how : LineOutcome) (count begin end : ℕ) (kept : SessionValue) (after : SinkState) (full : List ℕ) (now : StepsValue) → 0 < count
+    → AreAnswered (old.ahead ++ 10 ∷ []) k below held steps how count begin end kept after full now → GivesAll old new count begin end → AnswersRows old k source below held steps how new kept after full now
+some_given old new k source below held steps how count begin end kept after full now some (none h c e a b d n) gives = absurd (omega (arith, some, c))
+some_given old new k source below held steps how count begin end kept after full now some (more before start len left between part spent h row t w c e) gives =
     let room : HasRoom old count = record {
       counted = (omega (arith, gives.counted.0, gives.lines, gives.taken), omega (arith, gives.counted.1, gives.taken));
       ended = gives.ended.0;
       unfailed = gives.unfailed.0;
     } in
-    let inside = within_ahead old.ahead k below held Done before start begin left between part h in
-    let all = one_more old k source below held how before begin len left kept between after part full (subst (λ n. HasRoom old n) c room) inside
-    (reached old k source below held Done before start begin left between part (less_room old before count c room) h) row t in
+    let inside = within_ahead old.ahead k below held steps Done before start begin left between part spent h in
+    let all = one_more old k source below held steps how before begin len left kept between after part full spent now (subst (λ n. HasRoom old n) c room) inside
+    (reached old k source below held steps Done before start begin left between part spent (less_room old before count c room) h) row t w in
     let size : end - 1 - begin ≡ len = omega (arith, e) in
     let given : new ≡ reader_at old (before + 1) (begin + len + 1) (take len (drop begin old.ahead)) =
     reading_is new (reader_at old (before + 1) (begin + len + 1) (take len (drop begin old.ahead)))
     (gives.ahead ∙ ap (λ n. drop n old.ahead) e) (gives.line ∙ ap (λ n. take n (drop begin old.ahead)) size) gives.taken (gives.lines ∙ ap (λ n. old.lines + n) c)
     (gives.ended.1 ∙ sym gives.ended.0) (gives.unfailed.1 ∙ sym gives.unfailed.0) in
-    subst (λ r. AnswersRows old k source below held how r kept after full) (sym given) all
+    subst (λ r. AnswersRows old k source below held steps how r kept after full now) (sym given) all
 
-none_given : (old new : Reading) (k : SessionValue) (source : SourceState) (below : SinkState) (held : List ℕ) (how : LineOutcome) (count begin end : ℕ) (kept : SessionValue) (after : SinkState) (full : List ℕ) → count ≡ 0
-    → AreAnswered (old.ahead ++ 10 ∷ []) k below held how count begin end kept after full → new ≡ old → AnswersRows old k source below held how new kept after full
-none_given old new k source below held how count begin end kept after full nothing (none h c e a b d) same = no_row h same a b d
-none_given old new k source below held how count begin end kept after full nothing (more before start len left between part h row t c e) same = absurd (omega (arith, nothing, c))
+none_given : (old new : Reading) (k : SessionValue) (source : SourceState) (below : SinkState) (held : List ℕ) (steps : StepsValue) (how : LineOutcome) (count begin end : ℕ) (kept : SessionValue) (after : SinkState) (full : List ℕ) (now : StepsValue) → count ≡ 0
+    → AreAnswered (old.ahead ++ 10 ∷ []) k below held steps how count begin end kept after full now → new ≡ old → AnswersRows old k source below held steps how new kept after full now
+none_given old new k source below held steps how count begin end kept after full now nothing (none h c e a b d n) same = no_row h same a b d n
+none_given old new k source below held steps how count begin end kept after full now nothing (more before start len left between part spent h row t w c e) same = absurd (omega (arith, nothing, c))
 
-rows_given : (old new : Reading) (k : SessionValue) (source : SourceState) (below : SinkState) (held : List ℕ) (how : LineOutcome) (count begin end : ℕ) (kept : SessionValue) (after : SinkState) (full : List ℕ)
-    → AreAnswered (old.ahead ++ 10 ∷ []) k below held how count begin end kept after full → (0 < count → GivesAll old new count begin end) → (count ≡ 0 → new ≡ old) → AnswersRows old k source below held how new kept after full
-rows_given old new k source below held how count begin end kept after full h some nothing = by_count count refl
+rows_given : (old new : Reading) (k : SessionValue) (source : SourceState) (below : SinkState) (held : List ℕ) (steps : StepsValue) (how : LineOutcome) (count begin end : ℕ) (kept : SessionValue) (after : SinkState) (full : List ℕ) (now : StepsValue)
+    → AreAnswered (old.ahead ++ 10 ∷ []) k below held steps how count begin end kept after full now → (0 < count → GivesAll old new count begin end) → (count ≡ 0 → new ≡ old) → AnswersRows old k source below held steps how new kept after full now
+rows_given old new k source below held steps how count begin end kept after full now h some nothing = by_count count refl
   where
-    by_count : (n : ℕ) → n ≡ count → AnswersRows old k source below held how new kept after full
-    by_count zero e = none_given old new k source below held how count begin end kept after full (sym e) h (nothing (sym e))
-    by_count (suc n) e = let room : 0 < count = omega (arith, e) in some_given old new k source below held how count begin end kept after full room h (some room)
+    by_count : (n : ℕ) → n ≡ count → AnswersRows old k source below held steps how new kept after full now
+    by_count zero e = none_given old new k source below held steps how count begin end kept after full now (sym e) h (nothing (sym e))
+    by_count (suc n) e = let room : 0 < count = omega (arith, e) in some_given old new k source below held steps how count begin end kept after full now room h (some room)
 
 -- what rows leave that were answered and are done: the session stands for some state, and has answered as many lines as the reader gave
 pub record Leaves (old new : Reading) (k kept : SessionValue) : Type 0 where
@@ -150,41 +152,41 @@ one_left s old reader new k left kept source between after part full h stands li
       later = omega (arith, h.later, given.lines);
     }
 
-pub rows_leave : (old : Reading) (k : SessionValue) (source : SourceState) (below : SinkState) (held : List ℕ) (new : Reading) (kept : SessionValue) (after : SinkState) (full : List ℕ) → HasState k
-    → AnswersRows old k source below held Done new kept after full → Leaves old new k kept
-rows_leave old k source below held new kept after full known (no_row h reader session a b) =
+pub rows_leave : (old : Reading) (k : SessionValue) (source : SourceState) (below : SinkState) (held : List ℕ) (steps : StepsValue) (new : Reading) (kept : SessionValue) (after : SinkState) (full : List ℕ) (now : StepsValue) → HasState k
+    → AnswersRows old k source below held steps Done new kept after full now → Leaves old new k kept
+rows_leave old k source below held steps new kept after full now known (no_row h reader session a b n) =
     record {
       state = subst (λ (x : SessionValue). HasState x) (sym session) known;
       lines = omega (arith, ap (λ (r : Reading). r.lines) reader, ap (λ (x : SessionValue). x.lines) session);
       later = omega (arith, ap (λ (r : Reading). r.lines) reader);
     }
-rows_leave old k source below held new kept after full known (row_more reader left between part h line) =
-    let before = rows_leave old k source below held reader left between part known h in
+rows_leave old k source below held steps new kept after full now known (row_more reader left between part spent h line w) =
+    let before = rows_leave old k source below held steps reader left between part spent known h in
     one_left before.state.state old reader new k left kept source between after part full before before.state.stands (line before.state.state before.state.stands)
 
 -- The rows of a text that one LF more than what is ahead makes.
 
-pub lines_in : (ahead given : List ℕ) (k : SessionValue) (below : SinkState) (held : List ℕ) (how : LineOutcome) (count begin end : ℕ) (kept : SessionValue) (after : SinkState) (full : List ℕ) → given ≡ ahead ++ 10 ∷ []
-    → AreAnswered given k below held how count begin end kept after full → AreLinesAhead ahead count begin end
-lines_in ahead given k below held how count begin end kept after full is h =
-    lines_of ahead k below held how count begin end kept after full (subst (λ (t : List ℕ). AreAnswered t k below held how count begin end kept after full) is h)
+pub lines_in : (ahead given : List ℕ) (k : SessionValue) (below : SinkState) (held : List ℕ) (steps : StepsValue) (how : LineOutcome) (count begin end : ℕ) (kept : SessionValue) (after : SinkState) (full : List ℕ) (now : StepsValue) → given ≡ ahead ++ 10 ∷ []
+    → AreAnswered given k below held steps how count begin end kept after full now → AreLinesAhead ahead count begin end
+lines_in ahead given k below held steps how count begin end kept after full now is h =
+    lines_of ahead k below held steps how count begin end kept after full now (subst (λ (t : List ℕ). AreAnswered t k below held steps how count begin end kept after full now) is h)
 
-pub rows_in : (old new : Reading) (given : List ℕ) (k : SessionValue) (source : SourceState) (below : SinkState) (held : List ℕ) (how how' : LineOutcome) (count begin end : ℕ) (kept : SessionValue) (after : SinkState) (full : List ℕ) → how ≡ how'
-    → given ≡ old.ahead ++ 10 ∷ [] → AreAnswered given k below held how count begin end kept after full → (0 < count → GivesAll old new count begin end) → (count ≡ 0 → new ≡ old) → AnswersRows old k source below held how' new kept after full
-rows_in old new given k source below held how how' count begin end kept after full same is h some nothing =
-    subst (λ (o : LineOutcome). AnswersRows old k source below held o new kept after full) same
-    (rows_given old new k source below held how count begin end kept after full (subst (λ (t : List ℕ). AreAnswered t k below held how count begin end kept after full) is h) some nothing)
+pub rows_in : (old new : Reading) (given : List ℕ) (k : SessionValue) (source : SourceState) (below : SinkState) (held : List ℕ) (steps : StepsValue) (how how' : LineOutcome) (count begin end : ℕ) (kept : SessionValue) (after : SinkState) (full : List ℕ) (now : StepsValue) → how ≡ how'
+    → given ≡ old.ahead ++ 10 ∷ [] → AreAnswered given k below held steps how count begin end kept after full now → (0 < count → GivesAll old new count begin end) → (count ≡ 0 → new ≡ old) → AnswersRows old k source below held steps how' new kept after full now
+rows_in old new given k source below held steps how how' count begin end kept after full now same is h some nothing =
+    subst (λ (o : LineOutcome). AnswersRows old k source below held steps o new kept after full now) same
+    (rows_given old new k source below held steps how count begin end kept after full now (subst (λ (t : List ℕ). AreAnswered t k below held steps how count begin end kept after full now) is h) some nothing)
 
 -- one row more was answered
-pub answered_more : (text : List ℕ) (k : SessionValue) (below : SinkState) (held : List ℕ) (how how' : LineOutcome) (count begin end len stream : ℕ) (values : List ℤ) (left kept : SessionValue) (between after : SinkState) (part full : List ℕ) (name name' : ℕ)
-    → how ≡ how' → AreAnswered text k below held Done count begin end left between part → IsRowAhead left.streams (drop end text) stream len values → IsTrue (is_open (open_in left.lock) stream)
+pub answered_more : (text : List ℕ) (k : SessionValue) (below : SinkState) (held : List ℕ) (steps : StepsValue) (how how' : LineOutcome) (count begin end len stream : ℕ) (values : List ℤ) (left kept : SessionValue) (between after : SinkState) (part full : List ℕ) (name name' : ℕ) (spent now : StepsValue)
+    → how ≡ how' → AreAnswered text k below held steps Done count begin end left between part spent → IsRowAhead left.streams (drop end text) stream len values → IsTrue (is_open (open_in left.lock) stream)
     → ((s : State) → (line : List ℕ) → length line ≤ 1024 → IsPlainRow left.streams line stream values → StandsFor left s → Answered how s line kept (gathered_seen between name part) (gathered_seen after name' full))
-    → AreAnswered text k below held how' (count + 1) end (end + len + 1) kept after full
-answered_more text k below held how how' count begin end len stream values left kept between after part full name name' same h row opens reply =
-    subst (λ (o : LineOutcome). AreAnswered text k below held o (count + 1) end (end + len + 1) kept after full) same
-    (more count begin len left between part h (record { stream = stream; values = values; row = row; opens = opens })
+    → TakesCells left.registry.live spent now → AreAnswered text k below held steps how' (count + 1) end (end + len + 1) kept after full now
+answered_more text k below held steps how how' count begin end len stream values left kept between after part full name name' spent now same h row opens reply w =
+    subst (λ (o : LineOutcome). AreAnswered text k below held steps o (count + 1) end (end + len + 1) kept after full now) same
+    (more count begin len left between part spent h (record { stream = stream; values = values; row = row; opens = opens })
     (record { name = name; name' = name'; answers = λ s st. reply s (take len (drop end text)) (omega (arith, length-take len (drop end text), row.short)) row.row st })
-    refl refl)
+    w refl refl)
 
 -- what an answer that is done leaves
 pub answer_leaves : (how : LineOutcome) (s : State) (line : List ℕ) (left kept : SessionValue) (seen seen' : SinkState) → how ≡ Done → StandsFor left s → Answered how s line kept seen seen' → HasState kept × (kept.lines ≡ left.lines + 1)
@@ -199,9 +201,9 @@ IsFault WriteFault = ⊤
 IsFault Memory = ⊤
 
 -- a turn that the last row made, which is not done
-pub turned_behind : (how : LineOutcome) (turn : Turn) (old : Reading) (k : SessionValue) (source : SourceState) (below : SinkState) (held : List ℕ) (new : Reading) (kept : SessionValue) (after lower : SinkState) (full rest : List ℕ) → IsFault how
+pub turned_behind : (how : LineOutcome) (turn : Turn) (old : Reading) (k : SessionValue) (source : SourceState) (below : SinkState) (held : List ℕ) (steps : StepsValue) (new : Reading) (kept : SessionValue) (after lower : SinkState) (full rest : List ℕ) (now : StepsValue) → IsFault how
     → ((s : State) → (reader : Reading) → (left : SessionValue) → (between : SinkState) → (part : List ℕ) → AnsweredLine how s reader new source source kept between after part full → Turned turn s reader new source source left kept between lower part rest)
-    → AnswersRows old k source below held how new kept after full → TurnedBehind turn old new source source k kept below lower held rest
-turned_behind how turn old k source below held new kept after lower full rest fault turned (no_row h reader session a b) = absurd (subst IsFault h fault)
-turned_behind how turn old k source below held new kept after lower full rest fault turned (row_more reader left between part h line) =
-    record { reader = reader; left = left; between = between; part = part; rows = h; turned = λ s st. turned s reader left between part (line s st) }
+    → AnswersRows old k source below held steps how new kept after full now → TurnedBehind turn old new source source k kept below lower held rest steps now
+turned_behind how turn old k source below held steps new kept after lower full rest now fault turned (no_row h reader session a b n) = absurd (subst IsFault h fault)
+turned_behind how turn old k source below held steps new kept after lower full rest now fault turned (row_more reader left between part spent h line w) =
+    record { reader = reader; left = left; between = between; part = part; spent = spent; rows = h; turned = λ s st. turned s reader left between part (line s st); takes = w }

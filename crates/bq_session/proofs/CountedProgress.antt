@@ -4,6 +4,7 @@ use Rattle.bq_io.specs.Gathered.{gathered_seen}
 use Rattle.bq_io.specs.Sink.{SinkState}
 use Rattle.bq_io.specs.Source.{SourceState}
 use Rattle.bq_feed.specs.Reading.{IsBuffered, Reading}
+use Rattle.bq_pool.specs.Counted.{StepsValue}
 use Rattle.bq_schema.specs.Rows.{entry}
 use Rattle.bq_session.specs.declared.outcome.LineOutcome.TheVariants as outcome
 use Rattle.bq_session.specs.Counted.{CountsRow, CountsRows, none, more}
@@ -53,13 +54,13 @@ counted_turn s old new k kept source below held h b row = record {
 }
 
 -- rows more were counted, and are pending
-pub progress-rows : (s : State) (source now : SourceState) (old : Reading) (k : SessionValue) (before below : SinkState) (held : List ℕ) (new : Reading) (kept : SessionValue)
-    → Progress s source now old k before below held → CountsRows old k new kept → Progress s source now new kept before below held
-progress-rows s source now old k before below held new kept p (none reader session) =
-    subst (λ r. Progress s source now r kept before below held) (sym reader) (subst (λ x. Progress s source now old x before below held) (sym session) p)
-progress-rows s source now old k before below held new kept p (more reader left h b row) =
-    let q = progress-rows s source now old k before below held reader left p h in
-    progress-line s source now now reader new left kept before below below held held q (counted_turn (at s (q.answered ++ q.pending)) reader new left kept now below held q.stands b row)
+pub progress-rows : (s : State) (source now : SourceState) (old : Reading) (k : SessionValue) (before below : SinkState) (held : List ℕ) (new : Reading) (kept : SessionValue) (steps spent : StepsValue)
+    → Progress s source now old k before below held steps spent → CountsRows old k new kept → Progress s source now new kept before below held steps spent
+progress-rows s source now old k before below held new kept steps spent p (none reader session) =
+    subst (λ (r : Reading). Progress s source now r kept before below held steps spent) (sym reader) (subst (λ (x : SessionValue). Progress s source now old x before below held steps spent) (sym session) p)
+progress-rows s source now old k before below held new kept steps spent p (more reader left h b row) =
+    let q = progress-rows s source now old k before below held reader left steps spent p h in
+    progress-line s source now now reader new left kept before below below held held steps spent spent q (counted_turn (at s (q.answered ++ q.pending)) reader new left kept now below held q.stands b row) (omega arith, omega arith)
 
 -- no line less is given
 pub lines-grow : (old : Reading) (k : SessionValue) (new : Reading) (kept : SessionValue) → CountsRows old k new kept → old.lines ≤ new.lines

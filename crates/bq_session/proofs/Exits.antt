@@ -10,6 +10,7 @@ use Rattle.bq_feed.specs.declared.reader.LineAnswer.{LineAnswer}
 use Rattle.bq_feed.specs.declared.reader.LineAnswer.TheVariants as reads
 use Rattle.bq_feed.specs.Reading.{Reading}
 use Rattle.bq_feed.specs.Texts.{text_of, ended_part, IsNear}
+use Rattle.bq_pool.specs.Counted.{StepsValue}
 use Rattle.bq_feed.specs.GivenLines.{GivenLines}
 use Rattle.bq_feed.proofs.GivenEnds.{text-lines, all-given, last-text, last-given, rose-given}
 use Rattle.bq_feed.proofs.TextLines.{text_of-append, length-text_of-append}
@@ -65,8 +66,8 @@ record Flushed (s : State) (given : List (List ℕ)) (before below : SinkState) 
   pub wrote : (text : List ℕ) → lines text ≡ given → WroteText s text before below
   pub later : before.faults ≤ below.faults
 
-flushed : (answer : LineAnswer) (s : State) (source now now' : SourceState) (old new : Reading) (session : SessionValue) (before below below' : SinkState) (held kept : List ℕ)
-    → (p : Progress s source now old session before below held) → Read answer old new now now' below below' held kept → Flushed s (lines_of 1 (events_of p.answered ++ events_of p.pending)) before below'
+flushed : {steps spent : StepsValue} (answer : LineAnswer) (s : State) (source now now' : SourceState) (old new : Reading) (session : SessionValue) (before below below' : SinkState) (held kept : List ℕ)
+    → (p : Progress s source now old session before below held steps spent) → Read answer old new now now' below below' held kept → Flushed s (lines_of 1 (events_of p.answered ++ events_of p.pending)) before below'
 flushed answer s source now now' old new session before below below' held kept p r = record {
   wrote = λ text e. wrote-told s text (p.answered ++ p.pending) before below' (e ∙ ap (lines_of 1) (sym (events_of-append p.answered p.pending))) (only-append p.answered p.pending p.only.0 p.only.1)
       p.has.are (held-all s p.answered p.pending before below below' held p.has r.wrote.bytes);
@@ -74,8 +75,8 @@ flushed answer s source now now' old new session before below below' held kept p
 }
 
 -- the source is at its end, and all was given
-pub ends-done : (s : State) (source now now' : SourceState) (old new : Reading) (session : SessionValue) (before below below' : SinkState) (held kept : List ℕ)
-    → Progress s source now old session before below held → Read reads.End old new now now' below below' held kept → Ran ending.Done s source now' before below'
+pub ends-done : {steps spent : StepsValue} (s : State) (source now now' : SourceState) (old new : Reading) (session : SessionValue) (before below below' : SinkState) (held kept : List ℕ)
+    → Progress s source now old session before below held steps spent → Read reads.End old new now now' below below' held kept → Ran ending.Done s source now' before below'
 ends-done s source now now' old new session before below below' held kept p r =
     let f = flushed reads.End s source now now' old new session before below below' held kept p r in
     let a = all-given source now now' old new p.given.front (lines_of 1 (events_of p.answered ++ events_of p.pending)) p.given.given r.next in
@@ -86,8 +87,8 @@ ends-done s source now now' old new session before below below' held kept p r =
     }
 
 -- and the session stands for the state after all lines
-pub ends-answered : (s : State) (source now now' : SourceState) (old new : Reading) (session : SessionValue) (before below below' : SinkState) (held kept : List ℕ)
-    → Progress s source now old session before below held → Read reads.End old new now now' below below' held kept → TookAll source now' (λ (text : List ℕ). AnsweredText s text before below' session)
+pub ends-answered : {steps spent : StepsValue} (s : State) (source now now' : SourceState) (old new : Reading) (session : SessionValue) (before below below' : SinkState) (held kept : List ℕ)
+    → Progress s source now old session before below held steps spent → Read reads.End old new now now' below below' held kept → TookAll source now' (λ (text : List ℕ). AnsweredText s text before below' session)
 ends-answered s source now now' old new session before below below' held kept p r =
     let all = p.answered ++ p.pending in
     let a = all-given source now now' old new p.given.front (lines_of 1 (events_of p.answered ++ events_of p.pending)) p.given.given r.next in
@@ -106,14 +107,14 @@ ends-answered s source now now' old new session before below below' held kept p 
     }
 
 -- the same, where nothing came between
-pub ends-as : (s : State) (source now now' : SourceState) (old new : Reading) (session session' : SessionValue) (before below below' : SinkState) (held kept : List ℕ)
-    → Progress s source now old session before below held → Read reads.End old new now now' below below' held kept → session' ≡ session → TookAll source now' (λ (text : List ℕ). AnsweredText s text before below' session')
+pub ends-as : {steps spent : StepsValue} (s : State) (source now now' : SourceState) (old new : Reading) (session session' : SessionValue) (before below below' : SinkState) (held kept : List ℕ)
+    → Progress s source now old session before below held steps spent → Read reads.End old new now now' below below' held kept → session' ≡ session → TookAll source now' (λ (text : List ℕ). AnsweredText s text before below' session')
 ends-as s source now now' old new session session' before below below' held kept p r same =
     subst (λ (k : SessionValue). TookAll source now' (λ (text : List ℕ). AnsweredText s text before below' k)) (sym same) (ends-answered s source now now' old new session before below below' held kept p r)
 
 -- the source failed
-pub ends-read_fault : (s : State) (source now now' : SourceState) (old new : Reading) (session : SessionValue) (before below below' : SinkState) (held kept : List ℕ)
-    → Progress s source now old session before below held → Read reads.ReadFault old new now now' below below' held kept → Ran ending.ReadFault s source now' before below'
+pub ends-read_fault : {steps spent : StepsValue} (s : State) (source now now' : SourceState) (old new : Reading) (session : SessionValue) (before below below' : SinkState) (held kept : List ℕ)
+    → Progress s source now old session before below held steps spent → Read reads.ReadFault old new now now' below below' held kept → Ran ending.ReadFault s source now' before below'
 ends-read_fault s source now now' old new session before below below' held kept p r =
     let f = flushed reads.ReadFault s source now now' old new session before below below' held kept p r in
     let g = p.given in
@@ -128,8 +129,8 @@ ends-read_fault s source now now' old new session before below below' held kept 
     }
 
 -- as many bytes were taken as can be counted
-pub ends-byte_limit : (s : State) (source now now' : SourceState) (old new : Reading) (session : SessionValue) (before below below' : SinkState) (held kept : List ℕ)
-    → Progress s source now old session before below held → Read reads.ByteLimit old new now now' below below' held kept → Ran ending.ByteLimit s source now' before below'
+pub ends-byte_limit : {steps spent : StepsValue} (s : State) (source now now' : SourceState) (old new : Reading) (session : SessionValue) (before below below' : SinkState) (held kept : List ℕ)
+    → Progress s source now old session before below held steps spent → Read reads.ByteLimit old new now now' below below' held kept → Ran ending.ByteLimit s source now' before below'
 ends-byte_limit s source now now' old new session before below below' held kept p r =
     let f = flushed reads.ByteLimit s source now now' old new session before below below' held kept p r in
     let g = p.given in
@@ -231,8 +232,8 @@ stops-at s source now reader answered pending more before below g only-answered 
     }
 
 -- the sink failed before the source was read
-ends-before : (s : State) (source now now' : SourceState) (old new : Reading) (session : SessionValue) (before below below' : SinkState) (held kept : List ℕ)
-    → Progress s source now old session before below held → StoppedHere old new now now' below below' held kept → Ran ending.WriteFault s source now' before below'
+ends-before : {steps spent : StepsValue} (s : State) (source now now' : SourceState) (old new : Reading) (session : SessionValue) (before below below' : SinkState) (held kept : List ℕ)
+    → Progress s source now old session before below held steps spent → StoppedHere old new now now' below below' held kept → Ran ending.WriteFault s source now' before below'
 ends-before s source now now' old new session before below below' held kept p r =
     let g = subst (λ es. Given 1 source now old (events_of p.answered) es) (sym (append-nil (events_of p.pending))) p.given in
     rw r.left record {
@@ -260,8 +261,8 @@ record Asked (how : LineOutcome) (s : State) (source now : SourceState) (reader 
   pub given : Given 1 source now reader (events_of answered) (events_of pending ++ events.line 1 text ∷ [])
   pub does : Answered how (at s (answered ++ pending)) text session (gathered_seen between name left) (gathered_seen below name' held)
 
-asked : (how : LineOutcome) (s : State) (source now now' : SourceState) (old new : Reading) (session session' : SessionValue) (before below below' : SinkState) (held held' : List ℕ)
-    → (p : Progress s source now old session before below held) → (line : AnsweredLine how (at s (p.answered ++ p.pending)) old new now now' session' below below' held held')
+asked : {steps spent : StepsValue} (how : LineOutcome) (s : State) (source now now' : SourceState) (old new : Reading) (session session' : SessionValue) (before below below' : SinkState) (held held' : List ℕ)
+    → (p : Progress s source now old session before below held steps spent) → (line : AnsweredLine how (at s (p.answered ++ p.pending)) old new now now' session' below below' held held')
     → Asked how s source now' new session' before line.between below' line.left held' line.name line.name'
 asked how s source now now' old new session session' before below below' held held' p line =
     let w = waits 1 line.long s source now now' old new before below line.between held line.left p.answered p.pending p.has p.given line.came in
@@ -277,8 +278,8 @@ asked how s source now now' old new session session' before below below' held he
     }
 
 -- the sink failed in the reply to the waiting line, or in an earlier one that was held
-ends-reply : (s : State) (source now now' : SourceState) (old new : Reading) (session session' : SessionValue) (before below below' : SinkState) (held held' : List ℕ)
-    → (p : Progress s source now old session before below held) → AnsweredLine outcome.WriteFault (at s (p.answered ++ p.pending)) old new now now' session' below below' held held'
+ends-reply : {steps spent : StepsValue} (s : State) (source now now' : SourceState) (old new : Reading) (session session' : SessionValue) (before below below' : SinkState) (held held' : List ℕ)
+    → (p : Progress s source now old session before below held steps spent) → AnsweredLine outcome.WriteFault (at s (p.answered ++ p.pending)) old new now now' session' below below' held held'
     → Ran ending.WriteFault s source now' before below'
 ends-reply s source now now' old new session session' before below below' held held' p line =
     let a = asked outcome.WriteFault s source now now' old new session session' before below below' held held' p line in
@@ -304,8 +305,8 @@ ends-reply s source now now' old new session session' before below below' held h
     }
 
 -- no memory was found for the waiting line, and the sink failed in an earlier reply that was held
-ends-behind : (s : State) (source now now' : SourceState) (old new : Reading) (session session' : SessionValue) (before below below' below'' : SinkState) (held held' kept : List ℕ)
-    → (p : Progress s source now old session before below held) → AnsweredLine outcome.Memory (at s (p.answered ++ p.pending)) old new now now' session' below below' held held'
+ends-behind : {steps spent : StepsValue} (s : State) (source now now' : SourceState) (old new : Reading) (session session' : SessionValue) (before below below' below'' : SinkState) (held held' kept : List ℕ)
+    → (p : Progress s source now old session before below held steps spent) → AnsweredLine outcome.Memory (at s (p.answered ++ p.pending)) old new now now' session' below below' held held'
     → StaysHeld below' below'' held' kept → Ran ending.WriteFault s source now' before below''
 ends-behind s source now now' old new session session' before below below' below'' held held' kept p line stays =
     let a = asked outcome.Memory s source now now' old new session session' before below below' held held' p line in
@@ -326,15 +327,15 @@ ends-behind s source now now' old new session session' before below below' below
     }
 
 -- the sink failed
-pub ends-stopped : (s : State) (source now now' : SourceState) (old new : Reading) (session session' : SessionValue) (before below below' : SinkState) (held kept : List ℕ)
-    → (p : Progress s source now old session before below held) → SinkFailed (at s (p.answered ++ p.pending)) old new now now' session session' below below' held kept → Ran ending.WriteFault s source now' before below'
+pub ends-stopped : {steps spent : StepsValue} (s : State) (source now now' : SourceState) (old new : Reading) (session session' : SessionValue) (before below below' : SinkState) (held kept : List ℕ)
+    → (p : Progress s source now old session before below held steps spent) → SinkFailed (at s (p.answered ++ p.pending)) old new now now' session session' below below' held kept → Ran ending.WriteFault s source now' before below'
 ends-stopped s source now now' old new session session' before below below' held kept p (ahead r same) = ends-before s source now now' old new session before below below' held kept p r
 ends-stopped s source now now' old new session session' before below below' held kept p (reply line) = ends-reply s source now now' old new session session' before below below' held kept p line
 ends-stopped s source now now' old new session session' before below below' held kept p (behind m) = ends-behind s source now now' old new session session' before below m.sink below' held m.full kept p m.lacks m.flushes
 
 -- no memory was found for the waiting line, and all that was held was written
-pub ends-memory : (s : State) (source now now' : SourceState) (old new : Reading) (session session' : SessionValue) (before below below'' : SinkState) (held : List ℕ)
-    → (p : Progress s source now old session before below held) → LacksMemory (at s (p.answered ++ p.pending)) old new now now' session' below held (λ lower full. Wrote lower below'' full)
+pub ends-memory : {steps spent : StepsValue} (s : State) (source now now' : SourceState) (old new : Reading) (session session' : SessionValue) (before below below'' : SinkState) (held : List ℕ)
+    → (p : Progress s source now old session before below held steps spent) → LacksMemory (at s (p.answered ++ p.pending)) old new now now' session' below held (λ lower full. Wrote lower below'' full)
     → Ran ending.Memory s source now' before below''
 ends-memory s source now now' old new session session' before below below'' held p m =
     let line = m.lacks in
@@ -359,8 +360,8 @@ ends-memory s source now now' old new session session' before below below'' held
     }
 
 -- a line came that is not answered, since no line more can be counted, and all that was held was written
-pub ends-uncounted : (s : State) (source now now' : SourceState) (old new : Reading) (session : SessionValue) (before below below'' : SinkState) (held : List ℕ)
-    → (p : Progress s source now old session before below held) → 2 ^ 64 - 2 ≤ session.lines → CameUncounted old new now now' below held (λ lower full. Wrote lower below'' full) → Ran ending.ByteLimit s source now' before below''
+pub ends-uncounted : {steps spent : StepsValue} (s : State) (source now now' : SourceState) (old new : Reading) (session : SessionValue) (before below below'' : SinkState) (held : List ℕ)
+    → (p : Progress s source now old session before below held steps spent) → 2 ^ 64 - 2 ≤ session.lines → CameUncounted old new now now' below held (λ lower full. Wrote lower below'' full) → Ran ending.ByteLimit s source now' before below''
 ends-uncounted s source now now' old new session before below below'' held p full m =
     let w = waits 1 m.long s source now now' old new before below m.between held m.left p.answered p.pending p.has p.given m.came in
     let only = only-moved p.answered p.pending w.answered w.pending w.moves p.only.0 p.only.1 in
@@ -382,8 +383,8 @@ ends-uncounted s source now now' old new session before below below'' held p ful
     }
 
 -- and the sink failed in what was held
-ends-held : (s : State) (source now now' : SourceState) (old new : Reading) (session : SessionValue) (before below below'' : SinkState) (held kept : List ℕ)
-    → (p : Progress s source now old session before below held) → CameUncounted old new now now' below held (λ lower full. StaysHeld lower below'' full kept) → Ran ending.WriteFault s source now' before below''
+ends-held : {steps spent : StepsValue} (s : State) (source now now' : SourceState) (old new : Reading) (session : SessionValue) (before below below'' : SinkState) (held kept : List ℕ)
+    → (p : Progress s source now old session before below held steps spent) → CameUncounted old new now now' below held (λ lower full. StaysHeld lower below'' full kept) → Ran ending.WriteFault s source now' before below''
 ends-held s source now now' old new session before below below'' held kept p m =
     let w = waits 1 m.long s source now now' old new before below m.between held m.left p.answered p.pending p.has p.given m.came in
     let only = only-moved p.answered p.pending w.answered w.pending w.moves p.only.0 p.only.1 in
@@ -403,8 +404,8 @@ ends-held s source now now' old new session before below below'' held kept p m =
     }
 
 -- how a run ends where no line more can be counted
-pub ends-full : (how : Ending) (s : State) (source now now' : SourceState) (old new : Reading) (session : SessionValue) (before below below' : SinkState) (held kept : List ℕ)
-    → Progress s source now old session before below held → 2 ^ 64 - 2 ≤ session.lines → EndsUncounted how old new now now' below below' held kept → Ran how s source now' before below'
+pub ends-full : {steps spent : StepsValue} (how : Ending) (s : State) (source now now' : SourceState) (old new : Reading) (session : SessionValue) (before below below' : SinkState) (held kept : List ℕ)
+    → Progress s source now old session before below held steps spent → 2 ^ 64 - 2 ≤ session.lines → EndsUncounted how old new now now' below below' held kept → Ran how s source now' before below'
 ends-full ending.Done s source now now' old new session before below below' held kept p full e = ends-done s source now now' old new session before below below' held kept p e
 ends-full ending.ReadFault s source now now' old new session before below below' held kept p full e = ends-read_fault s source now now' old new session before below below' held kept p e
 ends-full ending.WriteFault s source now now' old new session before below below' held kept p full (inl e) = ends-before s source now now' old new session before below below' held kept p e
@@ -414,8 +415,8 @@ ends-full ending.ByteLimit s source now now' old new session before below below'
 ends-full ending.ByteLimit s source now now' old new session before below below' held kept p full (inr m) = ends-uncounted s source now now' old new session before below below' held p full m
 
 -- where it was read to its end, nothing is held, and the session stands for the state after all lines
-pub full-answered : (how : Ending) (s : State) (source now now' : SourceState) (old new : Reading) (session : SessionValue) (before below below' : SinkState) (held kept : List ℕ) → how ≡ ending.Done
-    → Progress s source now old session before below held → EndsUncounted how old new now now' below below' held kept → TookAll source now' (λ (text : List ℕ). AnsweredText s text before below' session)
+pub full-answered : {steps spent : StepsValue} (how : Ending) (s : State) (source now now' : SourceState) (old new : Reading) (session : SessionValue) (before below below' : SinkState) (held kept : List ℕ) → how ≡ ending.Done
+    → Progress s source now old session before below held steps spent → EndsUncounted how old new now now' below below' held kept → TookAll source now' (λ (text : List ℕ). AnsweredText s text before below' session)
 full-answered how s source now now' old new session before below below' held kept done p e =
     ends-answered s source now now' old new session before below below' held kept p (subst (λ h. EndsUncounted h old new now now' below below' held kept) done e)
 

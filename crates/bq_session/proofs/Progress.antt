@@ -3,10 +3,11 @@ use Rattle.std.proofs.Common.{◌≡◌, ℕ, ◌+◌, ◌^◌, ◌<◌, ◌≤�
 use Rattle.bq_io.specs.Source.{SourceState}
 use Rattle.bq_io.specs.Sink.{SinkState}
 use Rattle.bq_feed.specs.Reading.{Reading, fresh, IsBegun}
+use Rattle.bq_pool.specs.Counted.{StepsValue}
 use Rattle.bq_feed.proofs.GivenLines.{step-read}
 use Rattle.bq_session.specs.declared.outcome.LineOutcome.TheVariants as outcome
 use Rattle.bq_session.specs.State.{State}
-use Rattle.bq_session.specs.Session.{SessionValue, StandsFor, Answered}
+use Rattle.bq_session.specs.Session.{SessionValue, StandsFor, Answered, TakesCells}
 use Rattle.bq_session.specs.Answer.{Answer}
 use Rattle.bq_io.specs.Gathered.{gathered_seen}
 use Rattle.bq_session.proofs.LineRuns.{next_of-lines}
@@ -18,6 +19,7 @@ use Rattle.bq_session.specs.Turned.{AnsweredLine}
 use Rattle.bq_session.proofs.ToldEvents.{Told, at, events_of, OnlyLines, at-none, at-push, only-append, events_of-append}
 use Rattle.bq_session.proofs.ToldEvents as told
 use Rattle.bq_session.proofs.Held.{Held, Moves, stay, sink, moves-all, held-none, held-flushed, held-more}
+use Rattle.bq_session.proofs.SpentCells.{Spent, spent-none, spent-line}
 use Rattle.bq_session.proofs.GivenAmong.{Given, given-begins, given-buffered, given-read}
 
 -- what is known of a line that came, whatever state the session stands for
@@ -116,18 +118,19 @@ pushed number s source now now' old new session session' before below below' hel
     }
 
 -- The replies to the lines that were answered before the last read stand below. Those to the pending lines, which came in that
--- read, may be held.
-pub record Progress (s : State) (source now : SourceState) (reader : Reading) (session : SessionValue) (before below : SinkState) (held : List ℕ) : Type 0 where
+-- read, may be held. No line took more cells than it may.
+pub record Progress (s : State) (source now : SourceState) (reader : Reading) (session : SessionValue) (before below : SinkState) (held : List ℕ) (steps last : StepsValue) : Type 0 where
   pub answered : List Told
   pub pending : List Told
   pub has : Held s answered pending before below held
   pub given : Given 1 source now reader (events_of answered) (events_of pending)
   pub stands : StandsFor session (at s (answered ++ pending))
   pub only : OnlyLines answered × OnlyLines pending
+  pub spent : Spent s (answered ++ pending) steps last
 
 -- nothing was taken
-pub begins : (s : State) (source : SourceState) (reader : Reading) (session : SessionValue) (before : SinkState) (held : List ℕ) → reader ≡ fresh → held ≡ [] → StandsFor session s
-    → Progress s source source reader session before before held
+pub begins : {steps : StepsValue} (s : State) (source : SourceState) (reader : Reading) (session : SessionValue) (before : SinkState) (held : List ℕ) → reader ≡ fresh → held ≡ [] → StandsFor session s
+    → Progress s source source reader session before before held steps steps
 begins s source reader session before held new empty stands = record {
   answered = [];
   pending = [];
@@ -135,16 +138,17 @@ begins s source reader session before held new empty stands = record {
   given = given-begins 1 source reader new;
   stands = subst (λ u. StandsFor session u) (sym (at-none s)) stands;
   only = (tt, tt);
+  spent = spent-none s _;
 }
 
-pub has-state : (s : State) (source now : SourceState) (reader : Reading) (session : SessionValue) (before below : SinkState) (held : List ℕ) → Progress s source now reader session before below held → HasState session
+pub has-state : {steps spent : StepsValue} (s : State) (source now : SourceState) (reader : Reading) (session : SessionValue) (before below : SinkState) (held : List ℕ) → Progress s source now reader session before below held steps spent → HasState session
 has-state s source now reader session before below held p = record { state = at s (p.answered ++ p.pending); stands = p.stands }
 
 -- one more line was answered, and is pending
-pub progress-line : (s : State) (source now now' : SourceState) (old new : Reading) (session session' : SessionValue) (before below below' : SinkState) (held held' : List ℕ)
-    → (p : Progress s source now old session before below held) → AnsweredLine outcome.Done (at s (p.answered ++ p.pending)) old new now now' session' below below' held held'
-    → Progress s source now' new session' before below' held'
-progress-line s source now now' old new session session' before below below' held held' p line =
+pub progress-line : (s : State) (source now now' : SourceState) (old new : Reading) (session session' : SessionValue) (before below below' : SinkState) (held held' : List ℕ) (steps spent last : StepsValue)
+    → (p : Progress s source now old session before below held steps spent) → AnsweredLine outcome.Done (at s (p.answered ++ p.pending)) old new now now' session' below below' held held'
+    → TakesCells session.registry.live spent last → Progress s source now' new session' before below' held' steps last
+progress-line s source now now' old new session session' before below below' held held' steps spent last p line takes =
     let q = pushed 1 s source now now' old new session session' before below below' held held' p.answered p.pending p.has p.given p.stands line in
     let only = only-moved p.answered p.pending q.answered q.pending q.moves p.only.0 p.only.1 in
     record {
@@ -154,4 +158,7 @@ progress-line s source now now' old new session session' before below below' hel
       given = q.given;
       stands = q.stands;
       only = (only.0, only-append q.pending (told.line 1 q.text q.answer ∷ []) only.1 (refl, tt));
+      spent = subst (λ (ts : List Told). Spent s ts steps last)
+          (ap (λ ts. ts ++ told.line 1 q.text q.answer ∷ []) (sym (moves-all p.answered p.pending q.answered q.pending q.moves)) ∙ append_assoc q.answered q.pending (told.line 1 q.text q.answer ∷ []))
+          (spent-line s (p.answered ++ p.pending) session steps spent last 1 q.text q.answer p.spent p.stands takes);
     }

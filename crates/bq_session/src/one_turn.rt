@@ -7,7 +7,7 @@ ghost use Rattle.bq_feed.specs.Reading.{AreLinesAhead, GivesAll, IsBegun, Readin
 ghost use Rattle.bq_rows.specs.Ahead.{IsEnded};
 ghost use Rattle.bq_session.specs.declared.outcome.LineOutcome.TheVariants as outcomes;
 ghost use Rattle.bq_session.specs.State.{State};
-ghost use Rattle.bq_session.specs.Session.{StandsFor, Answered, SessionValue};
+ghost use Rattle.bq_session.specs.Session.{StandsFor, Answered, SessionValue, most_line_reads, most_line_writes, most_announced_reads, most_announced_writes};
 ghost use Rattle.bq_session.specs.Run.{HasState};
 ghost use Rattle.bq_session.specs.AnsweredRows.{AreAnswered, TurnedBehind};
 ghost use Rattle.bq_session.specs.Counted.{CountsRows};
@@ -51,7 +51,9 @@ fn answer<O: Sink, L: Ledger>(
 ) -> LineOutcome
     requires few { session.old.lines + 1 < 2 ^ 64 }
     requires short { long ≡ false → length reader.now.line ≤ 1024 }
-    ensures { (s : State) → (line : List ℕ) → IsBegun long reader.now.line line → StandsFor session.old s → Answered result s line session.new (gathered_seen (O.seen output.old.sink.now) output.old.sink.ghost_name output.old.held.items) (gathered_seen (O.seen output.new.sink.now) output.new.sink.ghost_name output.new.held.items) }
+    ensures reply { (s : State) → (line : List ℕ) → IsBegun long reader.now.line line → StandsFor session.old s → Answered result s line session.new (gathered_seen (O.seen output.old.sink.now) output.old.sink.ghost_name output.old.held.items) (gathered_seen (O.seen output.new.sink.now) output.new.sink.ghost_name output.new.held.items) }
+    ensures reads { steps.new.reads ≤ steps.old.reads + most_line_reads session.old.registry.live }
+    ensures writes { steps.new.writes ≤ steps.old.writes + most_line_writes session.old.registry.live }
 {
     if long {
         session.long_line(output)
@@ -89,6 +91,8 @@ fn any_turn<I: Source, O: Sink, L: Ledger>(
     requires room { (session.old.lines + 1 < 2 ^ 64) ⊎ (session.old.lines ≤ reader.old.lines) }
     ensures turned { (s : State) → StandsFor session.old s → Turned result s reader.old reader.new (I.seen input.old) (I.seen input.new) session.old session.new (O.seen output.old.sink.now) (O.seen output.new.sink.now) output.old.held.items output.new.held.items }
     ensures same_reference { output.new.sink.ghost_name ≡ output.old.sink.ghost_name }
+    ensures reads { steps.new.reads ≤ steps.old.reads + most_line_reads session.old.registry.live }
+    ensures writes { steps.new.writes ≤ steps.old.writes + most_line_writes session.old.registry.live }
 {
     match fetch(reader, input, output) {
         Fetched::Given(long) => {
@@ -119,6 +123,9 @@ pub fn take_turn<I: Source, O: Sink, L: Ledger>(
     requires room { (session.old.lines + 1 < 2 ^ 64) ⊎ (session.old.lines ≤ reader.old.lines) }
     ensures turned { (s : State) → StandsFor session.old s → Turned result s reader.old reader.new (I.seen input.old) (I.seen input.new) session.old session.new (O.seen output.old.sink.now) (O.seen output.new.sink.now) output.old.held.items output.new.held.items }
     ensures same_reference { output.new.sink.ghost_name ≡ output.old.sink.ghost_name }
+    ensures reads { steps.new.reads ≤ steps.old.reads + most_line_reads session.old.registry.live }
+    ensures writes { steps.new.writes ≤ steps.old.writes + most_line_writes session.old.registry.live }
+    ensures announced { (s : State) → StandsFor session.old s → (steps.new.reads ≤ steps.old.reads + most_announced_reads s.queries) × (steps.new.writes ≤ steps.old.writes + most_announced_writes s.queries) }
 {
     let mut row = Row::new();
     match session.row_ahead(reader.ahead_and_feed(), &mut row) {
@@ -145,6 +152,9 @@ fn unasked_turn<I: Source, O: Sink, L: Ledger>(
     requires room { session.old.lines + 1 < 2 ^ 64 }
     ensures turned { (s : State) → StandsFor session.old s → Turned result s reader.old reader.new (I.seen input.old) (I.seen input.new) session.old session.new (O.seen output.old.sink.now) (O.seen output.new.sink.now) output.old.held.items output.new.held.items }
     ensures same_reference { output.new.sink.ghost_name ≡ output.old.sink.ghost_name }
+    ensures reads { steps.new.reads ≤ steps.old.reads + most_line_reads session.old.registry.live }
+    ensures writes { steps.new.writes ≤ steps.old.writes + most_line_writes session.old.registry.live }
+    ensures announced { (s : State) → StandsFor session.old s → (steps.new.reads ≤ steps.old.reads + most_announced_reads s.queries) × (steps.new.writes ≤ steps.old.writes + most_announced_writes s.queries) }
 {
     take_turn(reader, session, input, output, steps)
 }
@@ -179,7 +189,7 @@ fn answer_rows<O: Sink, L: Ledger>(
     requires stands { HasState session.old }
     requires ended { IsEnded text.now }
     requires room { session.old.lines + length text.now < 2 ^ 64 }
-    ensures rows { AreAnswered text.now session.old (O.seen output.old.sink.now) output.old.held.items result.outcome result.rows.count result.rows.begin result.rows.end session.new (O.seen output.new.sink.now) output.new.held.items }
+    ensures rows { AreAnswered text.now session.old (O.seen output.old.sink.now) output.old.held.items steps.old result.outcome result.rows.count result.rows.begin result.rows.end session.new (O.seen output.new.sink.now) output.new.held.items steps.new }
     ensures room { result.outcome ≡ outcomes.Done → session.new.lines + 1 < 2 ^ 64 }
     ensures same_reference { output.new.sink.ghost_name ≡ output.old.sink.ghost_name }
 {
@@ -240,7 +250,7 @@ fn asked_turns<I: Source, O: Sink, L: Ledger>(
 ) -> Turn
     requires stands { HasState session.old }
     requires room { session.old.lines + 1 < 2 ^ 64 }
-    ensures turned { TurnedBehind result reader.old reader.new (I.seen input.old) (I.seen input.new) session.old session.new (O.seen output.old.sink.now) (O.seen output.new.sink.now) output.old.held.items output.new.held.items }
+    ensures turned { TurnedBehind result reader.old reader.new (I.seen input.old) (I.seen input.new) session.old session.new (O.seen output.old.sink.now) (O.seen output.new.sink.now) output.old.held.items output.new.held.items steps.old steps.new }
     ensures same_reference { output.new.sink.ghost_name ≡ output.old.sink.ghost_name }
 {
     if !can_count(session.lines(), reader.ahead_and_feed()) {
@@ -266,7 +276,7 @@ pub(crate) fn next_turn<I: Source, O: Sink, L: Ledger>(
 ) -> Turn
     requires stands { HasState session.old }
     requires room { session.old.lines + 1 < 2 ^ 64 }
-    ensures turned { TurnedBehind result reader.old reader.new (I.seen input.old) (I.seen input.new) session.old session.new (O.seen output.old.sink.now) (O.seen output.new.sink.now) output.old.held.items output.new.held.items }
+    ensures turned { TurnedBehind result reader.old reader.new (I.seen input.old) (I.seen input.new) session.old session.new (O.seen output.old.sink.now) (O.seen output.new.sink.now) output.old.held.items output.new.held.items steps.old steps.new }
     ensures same_reference { output.new.sink.ghost_name ≡ output.old.sink.ghost_name }
 {
     if session.has_no_query() {

@@ -3,7 +3,8 @@ ghost use Rattle.std.specs.Prelude.{◌≡◌, [], List, ℕ};
 ghost use Rattle.bq_feed.specs.Reading.{fresh};
 ghost use Rattle.bq_session.specs.State.{State};
 ghost use Rattle.bq_session.specs.Session.{StandsFor};
-ghost use Rattle.bq_session.specs.Run.{HasState, Ran, TookAll, AnsweredText};
+ghost use Rattle.bq_session.specs.Run.{HasState, Ran, Took, TookAll, AnsweredText};
+ghost use Rattle.bq_session.specs.Spent.{SpentOver};
 ghost use Rattle.bq_session.specs.Uncounted.{EndsUncounted};
 ghost use Rattle.bq_session.specs.declared.run.Ending.TheVariants as endings;
 
@@ -72,6 +73,9 @@ pub fn run_lines<I: Source, O: Sink, L: Ledger>(
     ensures done { result ≡ endings.Done → (s : State) → StandsFor session.old s
         → TookAll (I.seen input.old) (I.seen input.new) (λ (text : List ℕ). AnsweredText s text (O.seen output.old.sink.now) (O.seen output.new.sink.now) session.new) }
     ensures flushed { result ≡ endings.Done → output.new.held.items ≡ [] }
+
+    // Each line takes no more cells than the queries announce that are live before it.
+    ensures steps { (s : State) → StandsFor session.old s → Took (I.seen input.old) (I.seen input.new) (λ (text : List ℕ). SpentOver s text steps.old steps.new) }
     ensures same_reference { output.new.sink.ghost_name ≡ output.old.sink.ghost_name }
 {
     let mut pause = Pause::default();

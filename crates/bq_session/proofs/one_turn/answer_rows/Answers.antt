@@ -2,13 +2,14 @@ use Rattle.std.proofs.Common.{◌∙◌, List, ℕ, take, drop, length-drop, len
 use Rattle.bq_rows.proofs.NamesAhead.{some_ended}
 use Rattle.bq_rows.specs.Ahead.{IsRowAhead}
 use Rattle.bq_session.specs.AnsweredRows.{none}
+use Rattle.bq_session.proofs.MostSteps.{row_takes}
 use Rattle.bq_session.proofs.AnsweredLines.{answer_leaves, answered_more}
 use Rattle.bq_session.proofs.SameSink.{same_name}
 use Rattle.bq_session.proofs.one_turn.answer_rows.Goals as goal
 
 pub rows-init : goal.rows-init
 rows-init g c = record {
-  rows = none refl refl refl refl refl refl;
+  rows = none refl refl refl refl refl refl refl;
   within = some_ended c.args.text.now c.requires.ended;
   few = omega arith;
   lines = omega arith;
@@ -19,7 +20,7 @@ rows-init g c = record {
 pub returns-then-not-is_done-clause-rows : goal.returns-then-not-is_done-clause-rows
 returns-then-not-is_done-clause-rows g c =
     let row = subst (λ (t : List ℕ). IsRowAhead c.rows.session.streams t c.in-Some.found.0 c.in-Some.found.1 c.row_ahead.new.row.items) c.split_at.ensures.back c.in-Some.ensures.row in
-    answered_more _ _ _ _ _ _ _ _ _ _ _ _ _ _ _ _ _ _ _ _ refl c.rows.invariant.rows row c.in-Some.ensures.opens c.plain_row-outcome.ensures.reply
+    answered_more _ _ _ _ _ _ _ _ _ _ _ _ _ _ _ _ _ _ _ _ _ _ _ refl c.rows.invariant.rows row c.in-Some.ensures.opens c.plain_row-outcome.ensures.reply (row_takes c.rows.session.registry.live c.rows.steps c.plain_row-outcome.new.steps c.plain_row-outcome.ensures.reads c.plain_row-outcome.ensures.writes)
 
 pub returns-then-not-is_done-clause-same_reference : goal.returns-then-not-is_done-clause-same_reference
 returns-then-not-is_done-clause-same_reference g c =
@@ -36,7 +37,7 @@ rows-preserved g c =
     let done = c.if-not-is_done.ensures.done refl in
     let leaves = answer_leaves _ _ _ _ _ _ _ done known.stands told in
     record {
-      rows = answered_more _ _ _ _ _ _ _ _ _ _ _ _ _ _ _ _ _ _ _ _ done c.rows.invariant.rows row c.in-Some.ensures.opens c.plain_row-outcome.ensures.reply;
+      rows = answered_more _ _ _ _ _ _ _ _ _ _ _ _ _ _ _ _ _ _ _ _ _ _ _ done c.rows.invariant.rows row c.in-Some.ensures.opens c.plain_row-outcome.ensures.reply (row_takes c.rows.session.registry.live c.rows.steps c.plain_row-outcome.new.steps c.plain_row-outcome.ensures.reads c.plain_row-outcome.ensures.writes);
       within = omega (arith, row.before, length-drop c.rows.rows.end c.args.text.now);
       few = omega (arith, c.rows.invariant.few);
       lines = omega (arith, leaves.1, c.rows.invariant.lines);

@@ -6,7 +6,7 @@ use Rattle.bq_session.proofs.one_turn.answer_rows.Given as goal
 
 abbrev pub invariant-rows : goal.invariant-rows
 invariant-rows g l = record {
-  rows : AreAnswered l.text l.fn.session (g.O.Sink.seen l.fn.output.sink.now) l.fn.output.held.items Done l.rows.count l.rows.begin l.rows.end l.session (g.O.Sink.seen l.output.sink.now) l.output.held.items;
+  rows : AreAnswered l.text l.fn.session (g.O.Sink.seen l.fn.output.sink.now) l.fn.output.held.items l.fn.steps Done l.rows.count l.rows.begin l.rows.end l.session (g.O.Sink.seen l.output.sink.now) l.output.held.items l.steps;
   within : l.rows.end < length l.text;
   few : l.rows.count ≤ l.rows.end;
   lines : l.session.lines ≡ l.fn.session.lines + l.rows.count;

@@ -8,6 +8,8 @@ returns-then-has_no_query-clause-turned g c = record {
   left = _;
   between = _;
   part = _;
-  rows = no_row refl refl refl refl refl;
+  spent = _;
+  rows = no_row refl refl refl refl refl refl;
   turned = c.unasked_turn.ensures.turned;
+  takes = (c.unasked_turn.ensures.reads, c.unasked_turn.ensures.writes);
 }

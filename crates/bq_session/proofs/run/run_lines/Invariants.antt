@@ -7,7 +7,7 @@ use Rattle.bq_session.proofs.run.run_lines.Given as goal
 abbrev pub invariant-answering : goal.invariant-answering
 invariant-answering g l = record {
   progress : (s : State) → StandsFor l.fn.session s
-      → Progress s (g.I.Source.seen l.fn.input) (g.I.Source.seen l.input) l.reader l.session (g.O.Sink.seen l.fn.output.sink.now) (g.O.Sink.seen l.output.sink.now) l.output.held.items;
+      → Progress s (g.I.Source.seen l.fn.input) (g.I.Source.seen l.input) l.reader l.session (g.O.Sink.seen l.fn.output.sink.now) (g.O.Sink.seen l.output.sink.now) l.output.held.items l.fn.steps l.steps;
   same : l.output.sink.ghost_name ≡ l.fn.output.sink.ghost_name;
 }
 

@@ -3,7 +3,9 @@ use Rattle.bq_rows.specs.Open.{is_open}
 use Rattle.bq_rows.specs.Plain.{IsPlainRow}
 use Rattle.bq_session.specs.Lock.{open_in}
 use Rattle.bq_session.specs.Session.{SessionValue, StandsFor}
+use Rattle.bq_parser.specs.declared.line.LineKind.TheVariants as kinds
 use Rattle.bq_session.proofs.Standing.{plain_asks}
+use Rattle.bq_session.proofs.Resumed.{reads_at_most, writes_at_most}
 use Rattle.bq_session.proofs.session.Session.plain_row.Goals as goal
 
 pub returns-then-asked-clause-reply : goal.returns-then-asked-clause-reply
@@ -14,7 +16,7 @@ returns-then-asked-clause-reply g c = λ s line short row stands.
     record {
       request = _;
       asks = plain_asks _ s line c.args.stream c.args.row.now.items short old is opens;
-      does = c.ask_row.ensures.reply s (record {
+      does = c.ask_row-outcome.ensures.reply s (record {
         limit = old.limit;
         streams = old.streams;
         queries = old.queries;
@@ -34,7 +36,7 @@ returns-clause-reply g c = λ s line short row stands.
     record {
       request = _;
       asks = plain_asks _ s line c.args.stream c.args.row.now.items short old is opens;
-      does = c.take_row.ensures.reply s (record {
+      does = c.take_row-outcome.ensures.reply s (record {
         limit = old.limit;
         streams = old.streams;
         queries = old.queries;
@@ -45,3 +47,21 @@ returns-clause-reply g c = λ s line short row stands.
         lock = old.lock;
       });
     }
+
+pub returns-then-asked-clause-announced : goal.returns-then-asked-clause-announced
+returns-then-asked-clause-announced g c = λ s stands.
+    let old = subst (λ (k : SessionValue). StandsFor k s) (sym c.self.view_is) stands in
+    let pool = c.self.inside.registry.pool in
+    let live = c.self.inside.registry.live in (
+      reads_at_most kinds.RowLine pool live s.queries _ _ old.queries c.ask_row-outcome.ensures.reads,
+      writes_at_most kinds.RowLine pool live s.queries _ _ old.queries c.ask_row-outcome.ensures.writes,
+    )
+
+pub returns-clause-announced : goal.returns-clause-announced
+returns-clause-announced g c = λ s stands.
+    let old = subst (λ (k : SessionValue). StandsFor k s) (sym c.self.view_is) stands in
+    let pool = c.self.inside.registry.pool in
+    let live = c.self.inside.registry.live in (
+      reads_at_most kinds.RowLine pool live s.queries _ _ old.queries c.take_row-outcome.ensures.reads,
+      writes_at_most kinds.RowLine pool live s.queries _ _ old.queries c.take_row-outcome.ensures.writes,
+    )

@@ -1,0 +1,5 @@
+pub mod Inner
+pub mod ReplyNames
+pub mod PlanLines
+pub mod RepliesAreLines
+pub mod ComingApart
