@@ -140,7 +140,7 @@ kind_agrees s idle kinds.RowLine text a r p q = by_both s.streams a (row_asked (
 kind_agrees s idle kinds.StatementLine text a r p q = text_agrees s idle text a r p q
 
 -- in an open session each line is let
-all_let : (s : State) (line : List ℕ) → s.lock ≡ None → Lets s.lock s.streams line
+pub all_let : (s : State) (line : List ℕ) → s.lock ≡ None → Lets s.lock s.streams line
 all_let s line idle = subst (λ (lock : Option Lock). Lets lock s.streams line) (sym idle) tt
 
 pub finds_answers : FindsAnswers

@@ -1,0 +1,2 @@
+pub mod AdviseEnds
+pub mod Headlines

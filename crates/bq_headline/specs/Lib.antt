@@ -1,0 +1,3 @@
+pub mod Headline
+pub mod Plain
+pub mod Strict

@@ -1,0 +1,22 @@
+-- What becomes of a row where no query goes on from a checkpoint.
+use Rattle.std.specs.Prelude.{◌≡◌, ℕ, ℤ, List, All}
+use Rattle.std.specs.List.{flat_map}
+use Rattle.bq_text.specs.Tuple.{tuple_line}
+use Rattle.bq_model.specs.Meaning.{Arrival, new_answers}
+use Rattle.bq_registry.specs.Live.{LiveQuery}
+use Rattle.bq_resuming.specs.Continuing.{IsResumeLine}
+use Rattle.bq_session.specs.Request.{taken}
+use Rattle.bq_session.specs.Answer.{Answer, plain}
+use Rattle.bq_session.specs.State.{empty, after}
+use Rattle.bq_session.specs.Replies.{AreAnswers, reply_to}
+
+-- what live queries answer to a row: query by query in order of creation, a line for each new answer over all rows since it was created
+abbrev pub new_lines : Arrival → List LiveQuery → List ℕ
+new_lines r queries = flat_map (λ live. flat_map (tuple_line live.name) (new_answers live.query live.history r)) queries
+
+-- the reply to a row that is taken behind lines of which none is a RESUME line
+abbrev pub RowsAreAnswered : Type 0
+RowsAreAnswered =
+    (limit : ℕ) (front : List (List ℕ)) (answers : List Answer) → AreAnswers (empty limit) front answers → All (λ line. ¬ IsResumeLine line) front
+    → (stream : ℕ) (values : List ℤ)
+    → reply_to (after (empty limit) answers) (plain (taken stream values)) ≡ new_lines (record { stream = stream; values = values }) (after (empty limit) answers).queries
