@@ -1,0 +1,4 @@
+pub mod AllParts
+pub mod OneClass
+pub mod KeyPlaces
+pub mod Followed
