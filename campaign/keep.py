@@ -22,10 +22,14 @@ from common import Part, first_other_line, run as run_program, scaled
 from evaluator import session_text
 from language import CHECKPOINT_SHARE, COMPACT_SHARE
 
-KILLS, MUTATIONS, AT_ONCE = 1000, 2000, 3
+KILLS, MUTATIONS = 1000, 2000
+# how many trials run side by side: on a busy machine more, as each of them mostly waits
+AT_ONCE = int(os.environ.get("CAMPAIGN_AT_ONCE") or 3)
 LINES = {"files": 60_000, "changes": 100_000, "full disk": 30_000, "follow": 20_000, "pipes": 1_500, "named pipes": 1_500}
-PATIENCE = 120
-KEEP = os.environ.get("KEEP") or os.path.join(os.path.dirname(os.path.dirname(os.path.abspath(__file__))), "tools", "keep")
+# no trial waits for a time; this only ends one that would wait for ever
+PATIENCE = 900
+# the command, without what Python reads for other programs
+KEEP = [sys.executable, "-S", os.environ.get("KEEP") or os.path.join(os.path.dirname(os.path.dirname(os.path.abspath(__file__))), "tools", "keep")]
 HOT = b"SELECT DISTINCT R.room, R.celsius FROM R, L WHERE R.room = L.room AND R.celsius > L.celsius" \
       b" AND R.room > 0 AND R.room < 40 AND R.celsius > -5 AND R.celsius < 10\n"
 SCRIPT = b"CREATE STREAM R (room, celsius)\nCREATE STREAM L (room, celsius)\nCREATE STREAM D (day IN 1..6, room)\n" \
@@ -132,8 +136,8 @@ class Trial:
 
     def words(self):
         """Those that all kinds share."""
-        return [sys.executable, KEEP, "--program", self.program, "--every", str(self.random.choice([1, 100, 1000, 5000])),
-                "--seconds", str(self.random.choice([0.05, 0.3, 10])), "--grace", "20"]
+        return [*KEEP, "--program", self.program, "--every", str(self.random.choice([1, 100, 1000, 5000])),
+                "--seconds", str(self.random.choice([0.05, 0.3, 10])), "--grace", "600"]
 
     def prepare(self):
         self.write("input", self.text)
@@ -221,7 +225,7 @@ class Trial:
         if got != self.wanted:
             self.part.differs(f"{self.kind}: {first_other_line(got, self.wanted)}: {self.tail()}", self.text)
         said = self.read("said")
-        if b"is cut there" in said or b"were sent" in said or b"Traceback" in said:
+        if b"is cut there" in said or b"Traceback" in said:
             self.part.differs(f"{self.kind}: it said {self.tail()}")
         self.make_room(0)
         shutil.rmtree(self.folder)
@@ -252,7 +256,7 @@ class Changed(Trial):
         return None
 
     def is_at_end(self):
-        ran = subprocess.run([sys.executable, KEEP, "--where", self.path("kept")], capture_output=True, timeout=PATIENCE)
+        ran = subprocess.run([*KEEP, "--where", self.path("kept")], capture_output=True, timeout=PATIENCE)
         if int(ran.stdout.split()[5]) < len(self.text):
             return False
         self.wanted = self.wanted_with(self.read("kept/changes"))
@@ -373,7 +377,7 @@ class Pipes(Trial):
         if self.kind == "pipes":
             # a consumer tells what it has before a run begins
             self.write("ack", b"%d\n" % size)
-        ran = subprocess.run([sys.executable, KEEP, "--where", "--ack", self.path("ack"), self.path("kept")], capture_output=True, timeout=PATIENCE)
+        ran = subprocess.run([*KEEP, "--where", "--ack", self.path("ack"), self.path("kept")], capture_output=True, timeout=PATIENCE)
         place = int(ran.stdout.split()[5])
         process = self.begin(["--ack", self.path("ack"), "--from", str(place)], stdin=subprocess.PIPE, stdout=subprocess.PIPE, bufsize=0)
         self.consumer = subprocess.Popen([sys.executable, "-c", CONSUMER, self.path("output"), self.path("ack"), "fifo" if self.kind == "named pipes" else "file"],
@@ -407,7 +411,7 @@ class Pipes(Trial):
 
     def finish(self):
         try:
-            self.consumer.wait(5)
+            self.consumer.wait(60)
         except subprocess.TimeoutExpired:
             # it waits for a keeper that was killed before it opened the named pipe
             kill(self.consumer.pid)
@@ -460,7 +464,7 @@ class Mutations:
 
     def keep(self, folder):
         named = [os.path.join(folder, it) for it in ("input", "output", "kept", "script")]
-        return subprocess.run([sys.executable, KEEP, "--program", self.program, "--input", named[0], "--output", *named[1:]], capture_output=True, timeout=PATIENCE)
+        return subprocess.run([*KEEP, "--program", self.program, "--input", named[0], "--output", *named[1:]], capture_output=True, timeout=PATIENCE)
 
     def one(self, number):
         random = random_numbers.Random(f"{self.part.seed} mutation {number}")
@@ -509,10 +513,11 @@ def run(program, seed, scale):
         return part
     kills, mutations = scaled(KILLS, scale), scaled(MUTATIONS, scale)
     with ThreadPoolExecutor(AT_ONCE) as pool:
-        number = 0
+        # of few kills each kind has some too
+        number, most = 0, min(12, -(-kills // len(KINDS)))
         while kills > 0:
             for kind, trial in KINDS.items():
-                share, number = min(kills, 12), number + 1
+                share, number = min(kills, most), number + 1
                 if share > 0:
                     pool.submit(guarded, part, lambda trial, *words: trial(*words).run(), trial, part, program, kind, number, share)
                 kills -= share

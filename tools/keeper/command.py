@@ -1,15 +1,15 @@
 """The words of the command, and what each form of it does."""
 import argparse
+import logging
 import os
+import signal
 import sys
 
 from keeper import change, watch
 from keeper.checkpoint import Fault, Place
-from keeper.loop import Keeper
+from keeper.run import Run
 from keeper.sink import Acks
 from keeper.store import Busy, choose, lock_folder
-
-WHERE = "rows {0.rows} lines {0.lines} bytes {0.bytes} output {0.output}"
 
 
 def words(about):
@@ -17,36 +17,33 @@ def words(about):
     parser.add_argument("--every", type=int, default=100_000, metavar="LINES")
     for name, default in (("seconds", 10), ("grace", 10), ("stuck", 60)):
         parser.add_argument(f"--{name}", type=float, default=default, metavar="S")
-    for name in ("input", "follow", "output", "ack", "control", "metrics", "log", "change"):
-        parser.add_argument(f"--{name}", metavar="FILE")
+    for name in ("input", "follow", "output", "ack", "control", "metrics", "log", "change", "to", "rows"):
+        parser.add_argument(f"--{name}")
     parser.add_argument("--from", dest="begins", type=int, metavar="BYTE")
-    parser.add_argument("--input-anew", action="store_true")
-    parser.add_argument("--to", metavar="S,T")
-    parser.add_argument("--rows", metavar="N")
     parser.add_argument("--program", default="bq", metavar="BQ")
-    parser.add_argument("--where", action="store_true")
-    parser.add_argument("--status", action="store_true")
+    for name in ("input-anew", "where", "status"):
+        parser.add_argument(f"--{name}", action="store_true")
     parser.add_argument("folder", metavar="FOLDER")
     parser.add_argument("script", nargs="?", metavar="SCRIPT")
     options = parser.parse_args()
-    asks = options.where + options.status + bool(options.change)
-    is_over_pipe = not (options.input or options.follow)
+    asks, is_file = options.where + options.status + bool(options.change), options.input or options.follow
     if options.every < 1 or min(options.seconds, options.grace, options.stuck) <= 0 or asks > 1 or bool(options.script) == bool(asks):
         parser.error("wrong words")
-    if options.input and options.follow or options.output and options.ack or options.begins is not None and not is_over_pipe:
+    if options.input and options.follow or options.output and options.ack or options.begins is not None and is_file:
         parser.error("--input or --follow, --output or --ack, and --from where the input comes over a pipe")
     return options
 
 
-def where(options, say):
+def where(options):
     """Says where the next run goes on; no other run may have the folder."""
     place = Place()
     if os.path.isdir(options.folder):
         lock = lock_folder(options.folder)
-        found = choose(options.folder, say, Acks(options.ack, options.folder).recorded() if options.ack else None)
+        found = choose(options.folder, Acks(options.ack, options.folder).recorded() if options.ack else None)
         place = found.place if found else place
         os.close(lock)
-    print(WHERE.format(place) + (f" token {place.token.decode(errors='replace')}" if place.token else ""))
+    token = f" token {place.token.decode(errors='replace')}" if place.token else ""
+    print(f"rows {place.rows} lines {place.lines} bytes {place.bytes} output {place.output}{token}")
     return 0
 
 
@@ -62,17 +59,18 @@ def changed(options):
 
 
 def main(about):
+    """Gives the status."""
     options = words(about)
-    say = watch.Log(options.log)
+    # as a run begins, a signal ends it; later it minds them
+    signal.signal(signal.SIGINT, signal.SIG_DFL)
     try:
-        if options.where:
-            return where(options, say)
+        watch.begin_log(options.log)
         if options.status:
             print(watch.page(options.folder))
             return 0
-        return changed(options) if options.change else Keeper(options, say).run()
+        return where(options) if options.where else changed(options) if options.change else Run(options).run()
     except (Fault, OSError) as fault:
-        say(str(fault), "error")
+        logging.getLogger("keep").error("%s", fault)
         return 3 if isinstance(fault, Busy) else 1
     finally:
         sys.stdout.flush()

@@ -1,48 +1,46 @@
 """One bq behind two pipes: what is sent to it, and what its replies belong to.
 
-Behind the lines that begin the session it is locked by a random number, so what comes from producers can only be rows. The keeper's own
-statements stand between UNLOCK and LOCK. Only its own line is answered `ok unlock`, so what stands between that and `ok lock` is the reply.
+Behind the lines that begin the session it is locked by a random number, so what comes from producers can only be rows. The
+keeper's own statements stand between UNLOCK and LOCK. Only its own line is answered `ok unlock`, so what stands between that
+and `ok lock` is the reply.
 """
+import contextlib
 import fcntl
 import os
 import re
-import secrets
 import subprocess
-from collections import Counter, deque
+from collections import deque
 
 from keeper.checkpoint import Fault, Plan, creates_of, sum_of
+from keeper.source import waiting
 
-PIPE_SIZE = 1 << 20
+# F_SETPIPE_SZ of Linux, and the most that is allowed without more rights
+SET_SIZE, PIPE_SIZE = 1031, 1 << 20
 LOCKED, UNLOCKED = b"ok lock\n", b"ok unlock\n"
 ERROR = re.compile(rb"^error (\d+) (\w+)$", re.MULTILINE)
-ANSWER = re.compile(rb"^(\w+),", re.MULTILINE)
 REFUSED = re.compile(rb"^(?!ok (?:stream|query|drop) ).+", re.MULTILINE)
 LOCKS = re.compile(rb"^[ \t]*(?:UN)?LOCK\b(?![ \t]*,)", re.MULTILINE | re.IGNORECASE)
 QUERY = re.compile(rb"QUERY (\w+) AS ")
 
 
-class Gone(Exception):
-    """bq ended, or does not answer."""
-
-
 def asked(program, text):
-    """What a bq of its own answers to a script, and to nothing else."""
-    ran = subprocess.run([program, "run"], input=text, capture_output=True, timeout=300, check=False)
-    if ran.returncode:
-        raise Fault(f"{program} run ended with {ran.returncode}")
-    return ran.stdout
+    """What a bq of its own answers to a script, and to nothing else; one that is killed is asked again."""
+    for _ in range(5):
+        ran = subprocess.run([program, "run"], input=text, stdout=subprocess.PIPE, check=False)
+        if ran.returncode == 0:
+            return ran.stdout
+    raise Fault(f"{program} run ended with {ran.returncode}")
 
 
 def version_of(program):
-    return subprocess.run([program, "--version"], capture_output=True, timeout=60, check=False).stdout.split(b"\n")[0]
+    return subprocess.run([program, "--version"], stdout=subprocess.PIPE, check=False).stdout.split(b"\n")[0]
 
 
 def plan_of(program, creates):
-    """What a fresh session answers to CREATE lines, and how it would keep each query: a sum of EXPLAIN."""
-    names = QUERY.findall(creates)
-    said = asked(program, creates + b"".join(b"EXPLAIN %s\n" % it for it in names))
-    lines, explained = said.splitlines(keepends=True), []
-    replies, rest = lines[:creates.count(b"\n")], lines[creates.count(b"\n"):]
+    """What a fresh session answers to CREATE lines, and how it would keep each query."""
+    names, count = QUERY.findall(creates), creates.count(b"\n")
+    said = asked(program, creates + b"".join(b"EXPLAIN %s\n" % it for it in names)).splitlines(keepends=True)
+    replies, rest, explained = said[:count], said[count:], []
     for name in names:
         end = rest.index(b"end %s\n" % name) + 1 if b"end %s\n" % name in rest else 0
         explained.append((name, sum_of(b"".join(rest[:end]))))
@@ -64,56 +62,33 @@ def cut_at(text, line):
     return text[:at], True, text[at + len(line):]
 
 
-class Counts:
-    """Errors by word and answers by query. Replies are looked at many at once, not as each comes."""
-
-    def __init__(self, errors=(), answers=()):
-        self.errors, self.answers, self.unseen, self.size = Counter(errors), Counter(answers), [], 0
-
-    def see(self, text):
-        self.unseen.append(text)
-        self.size += len(text)
-        if self.size > PIPE_SIZE:
-            self.count()
-
-    def count(self):
-        self.answers.update(ANSWER.findall(b"".join(self.unseen)))
-        self.unseen, self.size = [], 0
-
-    def copy(self):
-        self.count()
-        return Counts(self.errors, self.answers)
-
-
 class Session:
     """bq, with the lines that were sent to it."""
 
-    def __init__(self, program, rows, streams, counts):
-        words = [program, "run", *(["--rows", rows] if rows else [])]
+    def __init__(self, words, streams):
         # a signal from the terminal is for the keeper alone
         self.process = subprocess.Popen(words, stdin=subprocess.PIPE, stdout=subprocess.PIPE, bufsize=0, start_new_session=True)
         self.to, self.of = self.process.stdin.fileno(), self.process.stdout.fileno()
         for fd in (self.to, self.of):
-            os.set_blocking(fd, False)
-            fcntl.fcntl(fd, fcntl.F_SETPIPE_SZ, PIPE_SIZE)
-        self.streams, self.counts = streams.encode() if streams else None, counts
-        self.pending, self.rest = bytearray(), b""
-        # of each group of the keeper's own statements: how many lines it has, and what is done with the replies
-        self.groups, self.open, self.collected = deque(), None, []
-        self.key, self.lines, self.is_begun, self.is_closed, self.moved = 0, 0, False, False, 0
-        # what is added to the number of a line for bq to have its number in the input
-        self.shift = 0
+            with contextlib.suppress(OSError):
+                fcntl.fcntl(fd, SET_SIZE, PIPE_SIZE)
+        self.streams = b" TO " + streams.encode() if streams else b""
+        # of each group of the keeper's own lines that is not answered: how many lines it has, and who takes the replies
+        self.groups = deque()
+        # `moved` grows with whatever goes in or out; `shift` makes the number of a line one of the input
+        self.key = self.moved = self.shift = 0
+        self.is_begun = self.is_closed = self.is_sending = False
 
     def lock(self):
-        self.key = secrets.randbits(62)
-        return b"LOCK %d%s\n" % (self.key, b" TO " + self.streams if self.streams else b"")
+        self.key = int.from_bytes(os.urandom(8), "big") >> 2
+        return b"LOCK %d%s\n" % (self.key, self.streams)
 
     def begin(self, text, lines_before, then):
-        """Sends what begins the session, locks it, and has `then` look at the replies."""
+        """Sends what begins the session, locks it, and has `then` take the replies."""
         if LOCKS.search(text):
             raise Fault("LOCK and UNLOCK are the keeper's own: leave them out of the script")
-        self.lines = text.count(b"\n") + 1
-        self.shift, self.open = lines_before, (self.lines, then)
+        self.shift = lines_before
+        self.groups.append((text.count(b"\n") + 1, then))
         self.send(text + self.lock())
 
     def ask(self, statement, then):
@@ -122,80 +97,64 @@ class Session:
         self.send(b"UNLOCK %d\n%s\n" % (self.key, statement) + self.lock())
 
     def send(self, text):
-        """Sends whole lines, as much as goes without waiting."""
-        if self.pending:
-            self.pending += text
-        else:
-            count = self.write(text)
-            if count < len(text):
-                self.pending += text[count:]
-
-    def write(self, text):
+        """Sends whole lines, and waits until they are taken; to a bq that has ended none are, which who reads replies finds."""
+        self.is_sending = True
         try:
-            count = os.write(self.to, text)
-        except BlockingIOError:
-            return 0
+            while text:
+                count = os.write(self.to, text)
+                self.moved += count
+                text = text[count:]
         except BrokenPipeError:
-            raise Gone("bq ended by itself") from None
-        self.moved += count
-        return count
-
-    def flush(self):
-        """Writes as much as goes without waiting."""
-        while self.pending and (count := self.write(self.pending)):
-            del self.pending[:count]
-
-    def take(self, put):
-        """Reads what bq wrote: replies to the input go to `put`, others to whom they belong."""
-        try:
-            text = os.read(self.of, PIPE_SIZE if self.open else 1 << 16)
-        except BlockingIOError:
-            return
-        if not text:
-            raise Gone("bq ended by itself")
-        self.moved += len(text)
-        if self.rest or not text.endswith(b"\n"):
-            text = self.rest + text
-            cut = text.rfind(b"\n") + 1
-            text, self.rest = text[:cut], text[cut:]
-        while text:
-            if self.open:
-                before, is_there, text = cut_at(text, LOCKED)
-                self.collected.append(before)
-                if not self.is_begun and (found := REFUSED.search(before)):
-                    is_lock = found[0] == b"error %d Syntax" % self.lines
-                    raise Fault("this bq knows no LOCK" if is_lock else f"bq does not take what begins the session: {found[0].decode()}")
-                if is_there:
-                    (count, then), self.open, self.collected, said = self.open, None, [], b"".join(self.collected)
-                    self.shift, self.is_begun = self.shift - count, True
-                    then(said)
-            elif self.groups:
-                before, is_there, text = cut_at(text, UNLOCKED)
-                put(self.counted(before))
-                if is_there:
-                    self.open = self.groups.popleft()
-            else:
-                put(self.counted(text))
-                return
-
-    def counted(self, text):
-        """Replies to the input, with the numbers of its lines."""
-        if b"error " in text:
-            text = ERROR.sub(self.renumbered, text)
-        self.counts.see(text)
-        return text
-
-    def renumbered(self, found):
-        self.counts.errors[found[2]] += 1
-        return b"error %d %s" % (int(found[1]) + self.shift, found[2])
+            pass
+        self.is_sending = False
 
     def close(self):
         """Tells bq that no more comes."""
         self.is_closed = True
         self.process.stdin.close()
 
-    def kill(self):
-        self.process.kill()
-        self.process.wait()
+    def release(self):
+        """Lets go of the pipes of a bq that has ended."""
         for pipe in (self.process.stdin, self.process.stdout):
             pipe.close()
+
+    def unread(self):
+        """How many bytes of replies wait."""
+        return waiting(self.of)
+
+    def replies(self, put):
+        """Gives replies to the input to `put`, and others to whom they belong, until bq ends; then its status."""
+        rest, own = b"", []
+        while piece := os.read(self.of, PIPE_SIZE):
+            self.moved += len(piece)
+            piece = rest + piece
+            cut = piece.rfind(b"\n") + 1
+            text, rest = piece[:cut], piece[cut:]
+            while text:
+                if own is None:
+                    before, is_there, text = cut_at(text, UNLOCKED) if self.groups else (text, False, b"")
+                    if before:
+                        put(ERROR.sub(self.renumbered, before) if b"error " in before else before)
+                    own = [] if is_there else None
+                else:
+                    before, is_there, text = cut_at(text, LOCKED)
+                    own.append(before)
+                    own = self.answered(own, is_there)
+        if not self.is_closed:
+            self.process.kill()
+        return self.process.wait()
+
+    def answered(self, own, is_whole):
+        """Takes replies to the keeper's own lines; gives what has come of them, or None where they are whole."""
+        if not self.is_begun and (found := REFUSED.search(own[-1])):
+            is_lock = found[0] == b"error %d Syntax" % self.groups[0][0]
+            raise Fault("this bq knows no LOCK" if is_lock else f"bq does not take what begins the session: {found[0].decode()}")
+        if not is_whole:
+            return own
+        count, then = self.groups.popleft()
+        self.shift, self.is_begun = self.shift - count, True
+        then(b"".join(own))
+        return None
+
+    def renumbered(self, found):
+        return b"error %d %s" % (int(found[1]) + self.shift, found[2])

@@ -1,16 +1,18 @@
 """The folder of checkpoints: which one is gone on from, how a new one comes to stand there, and which older ones may go."""
 import contextlib
 import fcntl
+import logging
 import os
-import queue
 import re
-import threading
-import time
-from dataclasses import replace
 
 from keeper.checkpoint import Fault, read, written
 
 NAME = re.compile(r"checkpoint-(\d{8,})\.bq\Z")
+log = logging.getLogger("keep")
+
+
+class Busy(Fault):
+    """Another run has the folder or the output."""
 
 
 def lock(path, handle, what):
@@ -21,14 +23,18 @@ def lock(path, handle, what):
         raise Busy(f"another run has {what} {path}") from None
 
 
-class Busy(Fault):
-    """Another run has the folder or the output."""
-
-
 def lock_folder(folder):
     handle = os.open(folder, os.O_RDONLY | os.O_DIRECTORY)
     lock(folder, handle, "the folder")
     return handle
+
+
+def is_free(folder):
+    """Whether no run has the folder."""
+    with contextlib.suppress(Busy):
+        os.close(lock_folder(folder))
+        return True
+    return False
 
 
 def path_of(folder, number):
@@ -41,35 +47,27 @@ def numbers_in(folder):
     return sorted((int(found[1]) for found in map(NAME.match, names) if found), reverse=True)
 
 
-def choose(folder, say, acked=None, begins=None):
-    """The newest whole checkpoint, of those whose replies are acknowledged and that stand at byte `begins` where these are given; or None."""
-    numbers, oldest, is_whole = numbers_in(folder), None, False
+def choose(folder, acked=None, begins=None):
+    """The newest whole checkpoint, of those whose replies are acknowledged and that stand at byte `begins`, where given."""
+    numbers, oldest = numbers_in(folder), None
     for number in numbers:
         with open(path_of(folder, number), "rb") as file:
             found = read(file.read(), number)
         if not found:
-            say(f"{path_of(folder, number)} is not whole, and is passed by", "warning")
+            log.warning("%s is not whole, and is passed by", path_of(folder, number))
             continue
-        is_whole, oldest = True, found.place
+        oldest = found.place
         if (acked is None or oldest.output <= acked) and begins in (None, oldest.bytes):
             return found
-    if numbers and not is_whole:
-        raise Fault(f"no checkpoint of {folder} is whole: take them away to begin anew")
-    if is_whole and begins is not None:
+    if oldest and begins is not None:
         raise Fault(f"no checkpoint of {folder} goes on from byte {begins} of the input: ask --where once more")
-    if is_whole:
-        raise Fault(f"the consumer has {acked} bytes of replies, and the oldest checkpoint of {folder} stands behind {oldest.output}: those between are gone")
+    if oldest:
+        raise Fault(f"the consumer has {acked} bytes of replies, and the oldest checkpoint of {folder} is behind {oldest.output}: those between are gone")
+    if numbers:
+        raise Fault(f"no checkpoint of {folder} is whole: take them away to begin anew")
+    if acked or begins:
+        raise Fault(f"{folder} has no checkpoint, and {acked or 0} bytes of replies are acknowledged, or the input begins at byte {begins or 0}")
     return None
-
-
-def set_aside(folder, chosen):
-    """Renames what a later run must not go on from: checkpoints that are newer than the chosen one, and what a run was writing when it was killed."""
-    for number in numbers_in(folder):
-        if chosen is None or number > chosen.number:
-            os.rename(path_of(folder, number), path_of(folder, number) + ".aside")
-    for name in os.listdir(folder):
-        if name.endswith(".new"):
-            os.remove(os.path.join(folder, name))
 
 
 def save(path, text):
@@ -80,58 +78,41 @@ def save(path, text):
             file.flush()
             os.fsync(file.fileno())
         os.rename(path + ".new", path)
-        handle = os.open(os.path.dirname(path) or ".", os.O_RDONLY)
+        folder = os.open(os.path.dirname(path) or ".", os.O_RDONLY)
         try:
-            os.fsync(handle)
+            os.fsync(folder)
         finally:
-            os.close(handle)
+            os.close(folder)
     except OSError as fault:
-        if os.path.exists(path + ".new"):
+        with contextlib.suppress(OSError):
             os.remove(path + ".new")
         raise OSError(fault.errno, fault.strerror, path) from None
 
 
-class Store(threading.Thread):
-    """Brings checkpoints to the disk beside the session, one after another, and tells `done` what became of each."""
+class Store:
+    """The checkpoints of a run, which goes on from the chosen one; what a later run must not go on from is renamed."""
 
-    def __init__(self, folder, chosen, plan_of, sink, acks, done):
-        super().__init__(daemon=True)
-        self.folder, self.plan_of, self.sink, self.acks, self.done = folder, plan_of, sink, acks, done
-        self.jobs, self.acked = queue.SimpleQueue(), float("inf")
-        self.number = max(numbers_in(folder), default=0)
-        # bytes of replies before each; those that an earlier run wrote are older than what it was gone on from
-        self.outputs = {number: chosen.place.output if chosen else 0 for number in numbers_in(folder)}
+    def __init__(self, folder, chosen, acks):
+        self.folder, self.acks = folder, acks
+        for number in numbers_in(folder):
+            if chosen is None or number > chosen.number:
+                os.rename(path_of(folder, number), path_of(folder, number) + ".aside")
+        # bytes of replies before each; those that an earlier run wrote are older than the chosen one
+        self.outputs = {number: chosen.place.output for number in numbers_in(folder)}
 
-    def put(self, checkpoint):
-        self.jobs.put(checkpoint)
-
-    def run(self):
-        while True:
-            checkpoint, began = self.jobs.get(), time.monotonic()
-            try:
-                stored, size = self.store(checkpoint)
-                self.done(stored, size, time.monotonic() - began)
-            except Exception as fault:  # whatever it is, the loop is told
-                self.done(fault, 0, 0)
-
-    def store(self, checkpoint):
-        # the replies before it must not be lost where the machine stops
-        self.sink.to_disk()
-        checkpoint = replace(checkpoint, number=self.number + 1, plan=self.plan_of(checkpoint.creates()), output_sum=self.sink.sum_at(checkpoint.place.output))
+    def add(self, checkpoint):
+        """Brings a checkpoint to the disk; gives it with its number, and its size."""
+        checkpoint = checkpoint._replace(number=max(self.outputs, default=0) + 1)
         text = written(checkpoint)
         save(path_of(self.folder, checkpoint.number), text)
-        self.number, self.outputs[self.number + 1] = checkpoint.number, checkpoint.place.output
-        self.remove_older()
-        return checkpoint, len(text)
-
-    def remove_older(self):
-        """Leaves the newest two whose replies are acknowledged, and all that are newer."""
-        acked = self.acked
+        self.outputs[checkpoint.number] = checkpoint.place.output
+        acked = self.acks.number if self.acks else float("inf")
         if self.acks:
             # who asks where to go on must find one that this number covers
             self.acks.record(acked)
-        covered = [it for it in sorted(self.outputs, reverse=True) if self.outputs[it] <= acked]
-        for number in covered[2:]:
+        # the newest two whose replies are acknowledged stay, and all that are newer
+        for number in [it for it in sorted(self.outputs, reverse=True) if self.outputs[it] <= acked][2:]:
             del self.outputs[number]
             with contextlib.suppress(FileNotFoundError):
                 os.remove(path_of(self.folder, number))
+        return checkpoint, len(text)

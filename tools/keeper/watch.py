@@ -1,40 +1,52 @@
 """What there is to look at: lines for a log, numbers for Prometheus, a page for people, and words for systemd."""
 import contextlib
-import datetime
+import logging
 import os
 import re
 import socket
 import sys
+import threading
 import time
+from collections import Counter, deque
 
-from keeper.store import Busy, lock_folder, numbers_in, path_of
+from keeper.store import is_free, numbers_in, path_of
 
 CELLS = re.compile(rb"ok query \w+ parts \d+ cells (\d+) ")
-CELLS_A_PAGE, PAGES = 64, 16384
+ERROR, ANSWER = re.compile(rb"^error \d+ (\w+)$", re.MULTILINE), re.compile(rb"^(\w+),", re.MULTILINE)
+CELLS_A_PAGE, FEW = 64, 1 << 12
 # of each number its kind and what it says
-NUMBERS = {
-    "up": "gauge: 1 where the session takes lines", "rows_total": "counter: rows taken, those of earlier runs too", "rows_per_second": "gauge: rows taken a second",
-    "lines_total": "counter: lines of the input", "output_bytes_total": "counter: bytes of replies", "lag_bytes": "gauge: bytes of the input that wait",
-    "unwritten_bytes": "gauge: bytes of replies that wait for who reads them", "checkpoint_age_seconds": "gauge: since the newest checkpoint of this run",
-    "checkpoint_bytes": "gauge: its size", "checkpoint_seconds": "gauge: how long the disk took for it", "checkpoint_failures_total": "counter: checkpoints that could not be written",
-    "pages_used": "gauge: pages of the pool that live queries take, of 16384", "restarts_total": "counter: how often bq was begun again in this run",
+KINDS = {
+    "up": "gauge 1 where the session takes lines",
+    "rows_total": "counter rows taken by the newest checkpoint, those of earlier runs too",
+    "rows_per_second": "gauge lines taken in the last second, without those in error",
+    "lines_total": "counter lines of the input",
+    "output_bytes_total": "counter bytes of replies",
+    "lag_bytes": "gauge bytes of the input that wait",
+    "unwritten_bytes": "gauge bytes of replies that wait for who reads them",
+    "checkpoint_age_seconds": "gauge since the newest checkpoint of this run",
+    "checkpoint_bytes": "gauge its size",
+    "checkpoint_seconds": "gauge how long the disk took for it",
+    "checkpoint_failures_total": "counter checkpoints that could not be written",
+    "pages_used": "gauge pages of the pool that live queries take, of 16384",
+    "restarts_total": "counter how often bq was begun again in this run",
+    "errors_total": "counter lines of the input in error",
+    "answers_total": "counter answers",
 }
+LABELS = {"errors_total": "word", "answers_total": "query"}
+log = logging.getLogger("keep")
 
 
-class Log:
-    """Sentences on standard error, and with time and level at the end of a file."""
-
-    def __init__(self, path=None):
-        self.path = path
-
-    def __call__(self, text, level="info"):
-        # that nothing can be said ends no session
-        with contextlib.suppress(OSError):
-            print(f"keep: {text}", file=sys.stderr, flush=True)
-        if self.path:
-            now = datetime.datetime.now(datetime.timezone.utc).isoformat(timespec="milliseconds")
-            with contextlib.suppress(OSError), open(self.path, "a", encoding="utf-8") as file:
-                file.write(f"{now} {level} {text}\n")
+def begin_log(path):
+    """Has what is logged be said on standard error, and stand with time and level at the end of a file."""
+    logging.raiseExceptions = False  # that nothing can be said ends no session
+    log.setLevel(logging.INFO)
+    handlers = {logging.StreamHandler(sys.stderr): "keep: %(message)s"}
+    if path:
+        handlers[logging.FileHandler(path)] = "%(asctime)s.%(msecs)03dZ %(levelname)s %(message)s"
+    for handler, form in handlers.items():
+        handler.setFormatter(logging.Formatter(form, "%Y-%m-%dT%H:%M:%S"))
+        handler.formatter.converter = time.gmtime
+        log.addHandler(handler)
 
 
 class Notify:
@@ -51,47 +63,85 @@ class Notify:
                 self.socket.sendto("\n".join(words).encode(), socket.MSG_DONTWAIT, self.address)
 
 
-def pages_of(replies):
-    """The pages that queries take by what was announced of them."""
-    return sum(-(-int(found[1]) // CELLS_A_PAGE) for found in map(CELLS.match, replies) if found)
+class Numbers:
+    """What a run counts, and what it shows once a second."""
+
+    def __init__(self, options, kept, lines):
+        self.paths = [os.path.join(options.folder, "metrics"), *([options.metrics] if options.metrics else [])]
+        self.errors, self.answers, self.restarts, self.unstored, self.notify = Counter(), Counter(), 0, 0, Notify()
+        self.rows, self.plan = (kept.place.rows, kept.plan) if kept else (0, None)
+        self.uncounted, self.counting, self.untold = deque(), threading.Lock(), set()
+        self.next_look = self.stored_at = self.looked_at = time.monotonic()
+        self.size, self.seconds, self.rate, self.good_lines = 0, 0.0, 0.0, lines
+
+    def see_replies(self, text):
+        """Has errors be counted by word and answers by query: few replies when there is time, so that no row waits for it."""
+        self.uncounted.append(text)
+        if len(text) > FEW:
+            self.count()
+
+    def count(self):
+        with self.counting:
+            while self.uncounted:
+                text = self.uncounted.popleft()
+                self.errors.update(ERROR.findall(text) if b"error " in text else ())
+                self.answers.update(ANSWER.findall(text))
+
+    def see_checkpoint(self, checkpoint, size, seconds):
+        self.plan, self.size, self.seconds, self.stored_at = checkpoint.plan, size, seconds, time.monotonic()
+
+    def show(self, run, now):
+        """Writes the numbers, and tells systemd that all is well."""
+        self.count()
+        good_lines = run.source.at.lines - sum(self.errors.values())
+        self.rate = (good_lines - self.good_lines) / max(0.1, now - self.looked_at)
+        self.good_lines, self.looked_at, self.next_look = good_lines, now, now + 1
+        values = self.values(run, now)
+        for path in self.paths:
+            try:
+                # it is seen whole or not at all; it need not outlive the machine
+                with open(path + ".tmp", "w", encoding="utf-8") as file:
+                    file.write(text_of(values))
+                os.replace(path + ".tmp", path)
+                self.untold.discard(path)
+            except OSError as fault:
+                if path not in self.untold:
+                    log.warning("no numbers in %s: %s", path, fault)
+                self.untold.add(path)
+        self.notify("WATCHDOG=1", f"STATUS={self.in_a_line(run, now)}")
+
+    def values(self, run, now):
+        cells = [int(found[1]) for found in map(CELLS.match, self.plan.replies if self.plan else ()) if found]
+        return dict(zip(KINDS, (
+            int(run.up.is_set()), self.rows, self.rate, run.source.at.lines, run.sink.total, run.source.lag(), run.session.unread() if run.session else 0,
+            now - self.stored_at, self.size, self.seconds, self.unstored, sum(-(-it // CELLS_A_PAGE) for it in cells), self.restarts, self.errors, self.answers)))
+
+    def in_a_line(self, run, now):
+        form = "{rows_total} rows, {rows_per_second:.0f} a second, {lag_bytes} bytes wait, checkpoint {checkpoint_age_seconds:.0f} s ago"
+        return form.format(**self.values(run, now))
 
 
-def metrics_text(numbers, counts):
+def text_of(values):
     """The text that Prometheus reads."""
     lines = []
-    for name, value in numbers.items():
-        kind, says = NUMBERS[name].split(": ", 1)
-        lines += [f"# HELP keep_{name} {says}", f"# TYPE keep_{name} {kind}", f"keep_{name} {value:.6g}" if isinstance(value, float) else f"keep_{name} {value}"]
-    for name, label, says, values in (("errors_total", "word", "lines of the input in error", counts.errors), ("answers_total", "query", "answers", counts.answers)):
-        lines += [f"# HELP keep_{name} {says}", f"# TYPE keep_{name} counter"]
-        lines += [f'keep_{name}{{{label}="{key.decode()}"}} {value}' for key, value in sorted(values.items())]
+    for name, value in values.items():
+        kind, says = KINDS[name].split(" ", 1)
+        lines += [f"# HELP keep_{name} {says}", f"# TYPE keep_{name} {kind}"]
+        if name in LABELS:
+            lines += [f'keep_{name}{{{LABELS[name]}="{key.decode()}"}} {count}' for key, count in sorted(value.items())]
+        else:
+            lines.append(f"keep_{name} {value:.10g}")
     return "\n".join(lines) + "\n"
-
-
-def write_whole(path, text):
-    """Writes a file that is seen whole or not at all; it need not outlive the machine."""
-    with open(path + ".tmp", "w", encoding="utf-8") as file:
-        file.write(text)
-    os.replace(path + ".tmp", path)
 
 
 def page(folder):
     """What a folder looks like, for people."""
-    try:
-        os.close(lock_folder(folder))
-        lines = [f"{folder}: no run has it"]
-    except Busy:
-        lines = [f"{folder}: a run has it"]
+    lines = [f"{folder}: {'no' if is_free(folder) else 'a'} run has it"]
     for number in numbers_in(folder):
         status = os.stat(path_of(folder, number))
         lines.append(f"  checkpoint {number}: {status.st_size} bytes, written {time.ctime(status.st_mtime)}")
-    path = os.path.join(folder, "metrics")
-    if not os.path.exists(path):
-        return "\n".join([*lines, "  no run has told its numbers yet"])
-    lines.append(f"  as of {time.ctime(os.stat(path).st_mtime)}:")
-    with open(path, encoding="utf-8") as file:
-        for line in file:
-            if not line.startswith("#"):
-                name, value = line.rstrip("\n").rsplit(" ", 1)
-                lines.append(f"    {name[5:].replace('_', ' '):<36}{value:>16}")
+    with contextlib.suppress(FileNotFoundError), open(os.path.join(folder, "metrics"), encoding="utf-8") as file:
+        lines.append(f"  as of {time.ctime(os.fstat(file.fileno()).st_mtime)}:")
+        for name, value in (line.rstrip("\n").rsplit(" ", 1) for line in file if not line.startswith("#")):
+            lines.append(f"    {name[5:].replace('_', ' '):<36}{value:>16}")
     return "\n".join(lines)

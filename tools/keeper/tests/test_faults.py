@@ -2,6 +2,7 @@
 
 What is wanted comes from one `bq run` over the same lines that nothing interrupts, or is written down here.
 """
+import hashlib
 import os
 import re
 import resource
@@ -16,7 +17,8 @@ import unittest
 
 TOOLS = os.path.dirname(os.path.dirname(os.path.dirname(os.path.abspath(__file__))))
 KEEP, BQ = os.environ.get("KEEP") or os.path.join(TOOLS, "keep"), os.environ.get("BQ", "bq")
-PATIENCE = 60
+# a test waits for an event; this only ends one that would wait for ever
+PATIENCE = 3600
 SCRIPT = b"CREATE STREAM Temp (room, val)\nCREATE STREAM Lim (room, val)\nCREATE COMPACT QUERY hot AS SELECT DISTINCT Temp.room FROM Temp, Lim" \
          b" WHERE Temp.room = Lim.room AND Temp.val > Lim.val AND Temp.room > 0 AND Temp.room < 40\n"
 FLAT = b"CREATE STREAM S (a)\nCREATE QUERY q AS SELECT S.a FROM S\n"
@@ -70,17 +72,19 @@ class Faults(unittest.TestCase):
         except FileNotFoundError:
             return b""
 
-    def words(self, *more, folder="kept", script="script"):
-        return [sys.executable, KEEP, "--program", BQ, *more, self.path(folder), *([self.path(script)] if script else [])]
+    def words(self, *more, folder="kept", script="script", flags=("-S",)):
+        # a busy machine may take its time for an end; who tests that says less behind it
+        return [sys.executable, *flags, KEEP, "--program", BQ, "--grace", "3600", *more, self.path(folder), *([self.path(script)] if script else [])]
 
     def keep(self, *more, given=b"", **how):
         """Runs it to its end."""
         return subprocess.run(self.words(*more, **how), input=given, capture_output=True, timeout=PATIENCE, check=False)
 
-    def start(self, *more, stdin=subprocess.DEVNULL, stdout=subprocess.DEVNULL, **how):
-        """Has it run beside the test; what it says stands in the file `said`."""
+    def start(self, *more, stdin=subprocess.DEVNULL, stdout=subprocess.DEVNULL, limit=None, **how):
+        """Has it run beside the test; what it says stands in the file `said`. No file gets more bytes than the limit."""
+        words = [*(["prlimit", f"--fsize={limit}:{limit}"] if limit else []), *self.words(*more)]
         with open(self.path("said"), "ab") as said:
-            process = subprocess.Popen(self.words(*more), stdin=stdin, stdout=stdout, stderr=said, bufsize=0, **how)
+            process = subprocess.Popen(words, stdin=stdin, stdout=stdout, stderr=said, bufsize=0, **how)
         self.running.append(process)
         return process
 
@@ -140,16 +144,19 @@ class Input(Faults):
         ran = self.keep("--where", script=None)
         self.assertEqual(ran.stdout, b"rows 1 lines 3 bytes 56 output 4 token partition 3 offset 18\n")
 
-    def test_a_line_without_an_end_takes_no_memory(self):
+    def test_a_line_without_an_end_takes_neither_memory_nor_time(self):
         process = self.start("--output", self.path("out"), stdin=subprocess.PIPE)
-        began, piece = time.monotonic(), b"x" * (1 << 20)
+        piece = b"x" * (1 << 20)
         for _ in range(64):
             process.stdin.write(piece)
         process.stdin.write(b"\nS,1\n")
         self.until(lambda: self.get("out").endswith(answers(1)))
-        self.assertLess(time.monotonic() - began, 30)
         with open(f"/proc/{process.pid}/status", encoding="ascii") as file:
             self.assertLess(int(re.search(r"VmHWM:\s+(\d+)", file.read())[1]), 60_000)
+        with open(f"/proc/{process.pid}/stat", encoding="ascii") as file:
+            ticks = sum(int(it) for it in file.read().rpartition(")")[2].split()[11:13])
+        # of the processor, however busy it is
+        self.assertLess(ticks / os.sysconf("SC_CLK_TCK"), 15)
         self.assertEqual(self.get("out"), b"error 1 LineTooLong\n" + answers(1))
         process.stdin.close()
         self.assertEqual(process.wait(PATIENCE), 0)
@@ -181,15 +188,18 @@ class Output(Faults):
         self.kill(process)
         self.put("rows", rows(9), "ab")
         with open(self.path("out"), "rb") as reader:
-            process, seen, is_cut = self.start(*words), b"", False
-            until = time.monotonic() + PATIENCE
-            while not seen.endswith(answers(9)) and time.monotonic() < until:
+            process, seen = self.start(*words), []
+
+            def tail():
                 # as tail -F does it
                 if os.fstat(reader.fileno()).st_size < reader.tell():
-                    is_cut = True
+                    seen.append(b"cut\n")
                     reader.seek(0)
-                seen += reader.read()
-        self.assertEqual((seen, is_cut), (answers(*range(1, 10)), False))
+                seen.append(reader.read())
+                return b"".join(seen).endswith(answers(9))
+
+            self.until(tail)
+        self.assertEqual(b"".join(seen), answers(*range(1, 10)))
         self.end(process)
 
     def test_a_torn_output_is_mended_and_told(self):
@@ -209,10 +219,11 @@ class Output(Faults):
         source, durable = rows(*range(1, 21)), b""
         self.put("ack", b"0\n")
         process = self.start("--every", "1", "--ack", self.path("ack"), stdin=subprocess.PIPE, stdout=subprocess.PIPE)
+        sent = 0
         for line in source.splitlines(keepends=True):
             process.stdin.write(line)
-            time.sleep(0.01)
-        self.until(lambda: self.has_bytes(len(source)))
+            sent += len(line)
+            self.until(lambda: self.has_bytes(sent))
         while len(durable) < len(answers(*range(1, 6))):
             durable += os.read(process.stdout.fileno(), 4)
         self.kill(process)
@@ -233,6 +244,13 @@ class Output(Faults):
         self.end(process)
         self.assertEqual(self.keep("--where", script=None).returncode, 0)
 
+    def test_a_session_that_begins_anew_goes_on_behind_what_stands_there(self):
+        self.put("out", b"of an older session\n")
+        self.put("rows", rows(1, 2))
+        for _ in range(2):
+            self.assertEqual(self.keep("--input", self.path("rows"), "--output", self.path("out")).returncode, 0)
+            self.assertEqual(self.get("out"), b"of an older session\n" + answers(1, 2))
+
     def test_a_producer_that_begins_at_another_byte_is_refused(self):
         self.keep(given=rows(1, 2))
         self.assertEqual(self.keep("--from", "4", given=rows(2)).returncode, 1)
@@ -243,16 +261,16 @@ class Output(Faults):
         numbers = range(1, 1000)
         self.put("rows", rows(*numbers))
         words = self.words("--input", self.path("rows"), "--output", self.path("out"))
-        ran = subprocess.run(words, capture_output=True, timeout=PATIENCE, preexec_fn=lambda: resource.setrlimit(resource.RLIMIT_FSIZE, (2000, 2000)))
+        ran = subprocess.run(["prlimit", "--fsize=2000:2000", *words], capture_output=True, timeout=PATIENCE, check=False)
         self.assertEqual(ran.returncode, 1)
         self.assertIn(self.path("out").encode(), ran.stderr)
         self.assertEqual(self.get("out"), answers(*numbers)[:2000])
-        self.assertEqual(subprocess.run(words, capture_output=True, timeout=PATIENCE).returncode, 0)
+        self.assertEqual(subprocess.run(words, capture_output=True, timeout=PATIENCE, check=False).returncode, 0)
         self.assertEqual(self.get("out"), answers(*numbers))
 
     def test_a_checkpoint_that_cannot_be_written_is_told_and_the_session_goes_on(self):
         self.put("script", SCRIPT)
-        process = self.start("--every", "1", "--output", self.path("out"), stdin=subprocess.PIPE, preexec_fn=lambda: resource.setrlimit(resource.RLIMIT_FSIZE, (1200, 1200)))
+        process = self.start("--every", "1", "--output", self.path("out"), stdin=subprocess.PIPE, limit=1200)
         for room in range(1, 40):
             process.stdin.write(b"Lim,%d,1\nTemp,%d,2\n" % (room, room))
             self.until(lambda: self.get("out").endswith(b"hot,%d\n" % room))
@@ -313,28 +331,25 @@ class Checkpoints(Faults):
     def test_a_clock_that_is_set_back(self):
         self.put("sitecustomize.py", b"import itertools, time\ncount = itertools.count(2e9, -1e6)\ntime.time = lambda: next(count)\n")
         text = self.limits + b"Temp,8,22\n"
-        ran = subprocess.run(self.words("--every", "1"), input=text, capture_output=True, timeout=PATIENCE, env={**os.environ, "PYTHONPATH": self.folder.name})
+        ran = subprocess.run(self.words("--every", "1", flags=()), input=text, capture_output=True, timeout=PATIENCE, env={**os.environ, "PYTHONPATH": self.folder.name})
         self.assertEqual((ran.stdout, ran.returncode), (b"hot,7\nhot,8\n", 0))
 
 
 class Control(Faults):
     def test_what_the_operator_says_holds_over_a_kill(self):
-        os.mkfifo(self.path("rows"))
+        self.put("rows", rows(1))
         words = ["--seconds", "1000", "--follow", self.path("rows"), "--output", self.path("out")]
-        process, pipe = self.start(*words), os.open(self.path("rows"), os.O_RDWR)
-        self.addCleanup(os.close, pipe)
-        os.write(pipe, rows(1))
+        process = self.start(*words)
         self.until(lambda: self.get("out") == answers(1))
         self.put("change", b"-- two more\nCREATE QUERY r AS SELECT S.a FROM S\nCREATE QUERY q AS SELECT S.a FROM S\nEXPLAIN q\nDROP QUERY q\n")
         ran = self.keep("--change", self.path("change"), script=None)
         self.assertEqual((ran.stdout, ran.returncode), (b"ok query r filter\nerror Duplicate\nCREATE and DROP lines alone\nok drop q\n", 1))
-        os.write(pipe, rows(2))
+        self.put("rows", rows(2), "ab")
         self.until(lambda: self.get("out") == answers(1) + b"r,2\n")
         self.kill(process)
         process = self.start(*words)
-        os.write(pipe, rows(3))
-        self.until(lambda: self.get("out").endswith(b"r,3\n"))
-        self.assertNotIn(b"q,3", self.get("out"))
+        self.put("rows", rows(3), "ab")
+        self.until(lambda: self.get("out") == answers(1) + b"r,2\nr,3\n")
         self.end(process)
         self.assertEqual(self.keep("--change", self.path("change"), script=None).returncode, 1)
 
@@ -366,14 +381,17 @@ class Signals(Faults):
         self.until(lambda: b"begins anew" in self.get("said"))
         os.set_blocking(process.stdin.fileno(), False)
         text = rows(*range(1000)) * 4
-        until = time.monotonic() + 3
-        while time.monotonic() < until:
-            if select.select([], [process.stdin], [], 0.1)[1]:
+
+        def stalls():
+            if select.select([], [process.stdin], [], 0)[1]:
                 process.stdin.write(text[:4096])
-        began = time.monotonic()
+            found = re.search(rb"\nkeep_unwritten_bytes (\d+)", self.get("kept/metrics"))
+            return found and int(found[1]) > 900_000
+
+        self.until(stalls)
         process.terminate()
-        self.assertEqual(process.wait(10), 1)
-        self.assertLess(time.monotonic() - began, 6)
+        self.assertEqual(process.wait(PATIENCE), 1)
+        self.assertIn(b"did not go on for 1 s", self.get("said"))
 
     def test_hup_and_usr1_do_not_end_it(self):
         process = self.start("--seconds", "1000", "--output", self.path("out"), stdin=subprocess.PIPE)
@@ -382,7 +400,7 @@ class Signals(Faults):
         process.send_signal(signal.SIGHUP)
         self.until(lambda: self.has_bytes(8))
         process.send_signal(signal.SIGUSR1)
-        self.until(lambda: b"2 rows, " in self.get("said"))
+        self.until(lambda: b" rows, " in self.get("said"))
         self.end(process)
 
     def test_a_dead_bq_is_begun_again(self):
@@ -403,7 +421,7 @@ class Signals(Faults):
                 os.remove(self.path("kept/" + name))
 
     def test_a_stuck_bq_is_begun_again(self):
-        process = self.start("--stuck", "1", "--seconds", "0.2", "--output", self.path("out"), stdin=subprocess.PIPE)
+        process = self.start("--stuck", "3", "--seconds", "0.2", "--output", self.path("out"), stdin=subprocess.PIPE)
         process.stdin.write(rows(1))
         self.until(lambda: self.get("out") == answers(1))
         for child in self.children(process):
@@ -420,7 +438,7 @@ class ToLookAt(Faults):
         with socket.socket(socket.AF_UNIX, socket.SOCK_DGRAM) as ear:
             ear.bind(self.path("notify"))
             ear.settimeout(PATIENCE)
-            process = self.start("--metrics", self.path("numbers"), "--log", self.path("log"), "--output", self.path("out"), stdin=subprocess.PIPE,
+            process = self.start("--seconds", "0.1", "--metrics", self.path("numbers"), "--log", self.path("log"), "--output", self.path("out"), stdin=subprocess.PIPE,
                                  env={**os.environ, "NOTIFY_SOCKET": self.path("notify")})
             said = b""
             while b"READY=1" not in said:
@@ -435,7 +453,7 @@ class ToLookAt(Faults):
             self.assertIn(line + "\n", numbers)
         for name in ("rows_per_second", "lag_bytes", "checkpoint_age_seconds", "checkpoint_bytes", "checkpoint_seconds"):
             self.assertRegex(numbers, rf"(?m)^keep_{name} \d")
-        self.assertRegex(self.get("log").decode(), r"\A\d{4}-\d\d-\d\dT\d\d:\d\d:\d\d\.\d{3}\+00:00 info begins anew")
+        self.assertRegex(self.get("log").decode(), r"\A\d{4}-\d\d-\d\dT\d\d:\d\d:\d\d\.\d{3}Z INFO begins anew")
         page = self.keep("--status", script=None)
         self.assertIn(b"a run has it", page.stdout)
         self.assertRegex(page.stdout, rb"rows total +2\n")
@@ -443,7 +461,6 @@ class ToLookAt(Faults):
         self.assertIn(b"no run has it", self.keep("--status", script=None).stdout)
 
     def test_an_older_checkpoint_is_gone_on_from(self):
-        import hashlib
         body = FLAT + b"RESUME 2\nRESUME q AS 2\n"
         os.mkdir(self.path("kept"))
         self.put("kept/checkpoint-00000005.bq", body + f"-- whole rows 2 lines 2 bytes 8 output 8 lines of this file 4 sum {hashlib.sha256(body).hexdigest()}\n".encode())

@@ -4,13 +4,15 @@ import random
 import sys
 import tempfile
 import unittest
+from unittest import mock
 
 sys.dont_write_bytecode = True
 sys.path.insert(0, os.path.dirname(os.path.dirname(os.path.dirname(os.path.abspath(__file__)))))
 
-from keeper.checkpoint import Checkpoint, Fault, Mark, Place, Plan, read, written  # noqa: E402
+from keeper import follow  # noqa: E402
+from keeper.checkpoint import Checkpoint, Fault, Mark, Place, Plan, read, sum_of, written  # noqa: E402
 from keeper.sink import Sink  # noqa: E402
-from keeper.source import LONGEST, TOO_LONG, Files, Lines  # noqa: E402
+from keeper.source import LONGEST, TOO_LONG, Lines  # noqa: E402
 from keeper.store import choose, path_of, save  # noqa: E402
 
 
@@ -39,8 +41,6 @@ class LinesAreCut(unittest.TestCase):
             wanted = plain_lines(text)
             self.assertEqual(sent, wanted)
             self.assertEqual((lines.lines, lines.bytes), (wanted.count(b"\n"), len(text)))
-            quiet = [it for it in wanted.split(b"\n")[:-1] if not it.rstrip(b"\r").strip(b" \t") or it.startswith(b"--")]
-            self.assertEqual(lines.quiet, len(quiet))
             self.assertEqual(lines.token, b"7 8" if b"--@ 7 8\n" in text else b"")
 
     def test_a_mark_has_200_bytes_at_most(self):
@@ -55,10 +55,6 @@ class InAFolder(unittest.TestCase):
     def setUp(self):
         self.folder = tempfile.TemporaryDirectory(prefix="keeper-test-")
         self.addCleanup(self.folder.cleanup)
-        self.said = []
-
-    def say(self, text, level="info"):
-        self.said.append((level, text))
 
     def path(self, name):
         return os.path.join(self.folder.name, name)
@@ -72,18 +68,28 @@ class InAFolder(unittest.TestCase):
             os.rename(self.path(new), self.path(old)) if os.path.exists(self.path(new)) else None
 
 
+class Rests(Exception):
+    """There is nothing to read."""
+
+
 class FilesAreFollowed(InAFolder):
     def read_all(self, source):
+        """What comes until the file rests, which ends the waiting here."""
         text = b""
-        for _ in range(20):
-            text += source.read()
-        return text
+        with mock.patch.object(follow.time, "sleep", side_effect=Rests):
+            while True:
+                try:
+                    text += source.take(source.wait())
+                except Rests:
+                    return text
 
     def follow(self, place=Place(), **how):
-        return Files(self.path("rows"), True, place, self.say, **how)
+        source = follow.Files(self.path("rows"), True, place, **how)
+        self.addCleanup(lambda: os.close(source.handle))
+        return source
 
     def place_of(self, source):
-        return Place(lines=source.at.lines, bytes=source.at.bytes, mark=source.mark())
+        return Place(lines=source.at.lines, bytes=source.at.bytes, mark=source.mark)
 
     def test_over_renamings_while_it_runs(self):
         self.put("rows.1", b"old\n")
@@ -109,7 +115,7 @@ class FilesAreFollowed(InAFolder):
             self.put("rows", b"a\nb\n")
             place = self.place_of(self.follow())
             source = self.follow(place)
-            self.assertEqual(source.read(), b"a\nb\n")
+            self.assertEqual(self.read_all(source), b"a\nb\n")
             place = self.place_of(source)
             os.rename(self.path("rows"), self.path(names[0]))
             for name, text in zip(names, (b"c\n", b"d\n", b"e\n", b"f\n")):
@@ -119,47 +125,47 @@ class FilesAreFollowed(InAFolder):
     def test_a_file_that_is_another_or_shorter_is_refused(self):
         self.put("rows", b"a\nb\n")
         source = self.follow()
-        source.read()
+        self.read_all(source)
         place = self.place_of(source)
         for text in (b"a\n", b"x\ny\n", b""):
             self.put("rows", text)
             self.assertRaises(Fault, self.follow, place)
         self.assertEqual(self.read_all(self.follow(place, begins_anew=True)), b"")
         self.put("rows", b"new\n")
-        self.assertEqual(self.follow(place, begins_anew=True).read(), b"new\n")
+        self.assertEqual(self.read_all(self.follow(place, begins_anew=True)), b"new\n")
 
     def test_a_file_that_becomes_shorter_is_refused(self):
         self.put("rows", b"a\nb\n")
         source = self.follow()
-        source.read()
+        self.read_all(source)
         self.put("rows", b"a\n")
-        self.assertRaises(Fault, source.read)
+        self.assertRaises(Fault, self.read_all, source)
 
     def test_a_copy_is_known_by_what_is_in_it(self):
         self.put("rows", b"a\nb\n")
         source = self.follow()
-        source.read()
+        self.read_all(source)
         place = self.place_of(source)
         self.put("copy", b"a\nb\nc\n")
         os.rename(self.path("copy"), self.path("rows"))
-        self.assertEqual(self.follow(place).read(), b"c\n")
+        self.assertEqual(self.read_all(self.follow(place)), b"c\n")
 
     def test_what_comes_late_into_a_renamed_file_is_told(self):
         self.put("rows", b"a\n")
         source = self.follow()
-        source.read()
+        self.read_all(source)
         self.rotate("rows.1", "rows")
         self.put("rows", b"b\n")
         self.assertEqual(self.read_all(source), b"b\n")
         self.put("rows.1", b"late\n", "ab")
-        self.assertEqual(self.read_all(source), b"")
-        self.assertEqual(self.said[-1][0], "error")
+        with self.assertLogs("keep", "ERROR"):
+            self.assertEqual(self.read_all(source), b"")
 
     def test_a_file_that_is_removed_is_read_to_its_end(self):
         self.put("rows.1", b"old\n")
         self.put("rows", b"a\n")
         source = self.follow()
-        source.read()
+        self.read_all(source)
         self.put("rows", b"b\n", "ab")
         os.remove(self.path("rows"))
         self.put("rows", b"c\n")
@@ -169,7 +175,7 @@ class FilesAreFollowed(InAFolder):
 class OutputsAreNeverCut(InAFolder):
     def sink(self, before, there):
         self.put("out", there)
-        sink = Sink(self.path("out"), self.say)
+        sink = Sink(self.path("out"))
         self.addCleanup(os.close, sink.fd)
         sink.begin(Checkpoint(b"", Place(output=before)))
         return sink
@@ -180,23 +186,25 @@ class OutputsAreNeverCut(InAFolder):
 
     def test_what_stands_there_is_passed_by(self):
         sink = self.sink(2, b"a\nb\nc\n")
-        for text in (b"b\n", b"c\nd", b"\ne\n"):
-            sink.put(text)
-            sink.flush()
-        self.assertEqual((self.out(), sink.total, sink.written, self.said), (b"a\nb\nc\nd\ne\n", 10, 10, []))
+        given = [sink.put(text) for text in (b"b\n", b"c\nd\n", b"e\n")]
+        self.assertEqual((self.out(), sink.total, sink.written, given), (b"a\nb\nc\nd\ne\n", 10, 10, [b"", b"d\n", b"e\n"]))
+
+    def test_a_line_whose_front_stands_there_is_counted_whole(self):
+        sink = self.sink(2, b"a\nb")
+        self.assertEqual((sink.put(b"bcd\n"), self.out(), sink.total), (b"bcd\n", b"a\nbcd\n", 6))
 
     def test_a_torn_end_is_cut_where_it_differs(self):
         sink = self.sink(2, b"a\nb\n\0\0\0\0")
-        sink.put(b"b\nc\n")
-        sink.flush()
-        self.assertEqual((self.out(), len(self.said)), (b"a\nb\nc\n", 1))
+        with self.assertLogs("keep", "ERROR"):
+            sink.put(b"b\nc\n")
+        self.assertEqual((self.out(), sink.total, sink.written), (b"a\nb\nc\n", 6, 6))
 
     def test_a_shorter_output_is_refused(self):
         self.assertRaises(Fault, self.sink, 7, b"a\nb\nc\n")
 
     def test_another_output_is_refused(self):
         self.put("out", b"x\ny\n")
-        sink = Sink(self.path("out"), self.say)
+        sink = Sink(self.path("out"))
         self.addCleanup(os.close, sink.fd)
         self.assertRaises(Fault, sink.begin, Checkpoint(b"", Place(output=2), output_sum=b"0" * 64))
 
@@ -216,26 +224,24 @@ class CheckpointsAreWhole(InAFolder):
             self.assertIsNone(read(changed, 7))
 
     def test_an_older_form_is_read(self):
-        import hashlib
         body = b"CREATE STREAM S (a)\nRESUME 3\n"
-        tail = f"-- whole rows 3 lines 4 bytes 39 output 20 lines of this file 2 sum {hashlib.sha256(body).hexdigest()}\n".encode()
+        tail = f"-- whole rows 3 lines 4 bytes 39 output 20 lines of this file 2 sum {sum_of(body).decode()}\n".encode()
         self.assertEqual(read(body + tail, 1), Checkpoint(body, Place(3, 4, 39, 20), number=1))
         self.assertIsNone(read(body + tail.replace(b"39", b"38").replace(b"lines of this file 2", b"lines of this file 3"), 1))
 
     def test_a_later_form_is_refused(self):
-        from keeper.checkpoint import sum_of
         front = written(self.whole).replace(b"-- keep 2", b"-- keep 3").rpartition(b"-- whole")[0]
         self.assertRaises(Fault, read, front + b"-- whole lines %d sum %s\n" % (front.count(b"\n"), sum_of(front)), 7)
 
     def test_the_newest_whole_one_whose_replies_are_acknowledged(self):
         for number, output in ((1, 0), (2, 20), (3, 50)):
-            save(path_of(self.folder.name, number), written(Checkpoint(b"RESUME 1\n", Place(output=output, bytes=number), Plan(), b"", b"")))
+            save(path_of(self.folder.name, number), written(Checkpoint(b"RESUME 1\n", Place(output=output, bytes=number), Plan((), ()))))
         for acked, begins, number in ((None, None, 3), (49, None, 2), (20, None, 2), (19, None, 1), (60, 2, 2)):
-            self.assertEqual(choose(self.folder.name, self.say, acked, begins).number, number)
-        self.assertRaises(Fault, choose, self.folder.name, self.say, 60, 9)
+            self.assertEqual(choose(self.folder.name, acked, begins).number, number)
+        self.assertRaises(Fault, choose, self.folder.name, 60, 9)
         os.truncate(path_of(self.folder.name, 3), 30)
-        self.assertEqual(choose(self.folder.name, self.say).number, 2)
-        self.assertEqual(len(self.said), 1)
+        with self.assertLogs("keep", "WARNING"):
+            self.assertEqual(choose(self.folder.name).number, 2)
 
 
 if __name__ == "__main__":
