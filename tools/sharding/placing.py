@@ -19,6 +19,10 @@ class Placing:
         low, high = self.ranges
         return (value - low) * self.parts // (high - low + 1) if low <= value <= high else 0
 
+    def of_digits(self, digits):
+        """The shard of a key that is written as its digits alone, the first of which is not 0."""
+        return self.of(int(digits)) if self.ranges else zlib.crc32(digits) % self.parts
+
     def range_of(self, shard):
         """The least and the greatest key of a shard's range."""
         low, high = self.ranges

@@ -7,6 +7,28 @@ INTEGER = re.compile(rb"\s*([+-]?\d+)\s*\r?$")
 MOST_KNOWN = 1 << 20
 
 
+class Shards(dict):
+    """The shard of each key, as it is written; one that is not there yet is placed."""
+
+    def __init__(self, placing):
+        super().__init__()
+        self.placing = placing
+
+    def __missing__(self, field):
+        if len(self) >= MOST_KNOWN:
+            self.clear()
+        shard = self[field] = self.shard_of(field)
+        return shard
+
+    def shard_of(self, field):
+        """The shard of a key as it is written; shard 0 answers for what is no integer of 64 bits."""
+        if field.isdigit() and len(field) < 19 and field[:1] != b"0":
+            return self.placing.of_digits(field)
+        found = INTEGER.match(field)
+        value = int(found[1]) if found else None
+        return self.placing.of(value) if value is not None and -(1 << 63) <= value < 1 << 63 else 0
+
+
 class Router:
     """Deals rows, as bytes without their LF, to shards."""
 
@@ -17,11 +39,11 @@ class Router:
         for name, column in keys.of_stream.items():
             self.places[name.encode()] = None if column is None else list(script.streams[name].columns).index(column) + 1
         # Of each stream that is dealt that place, and of its keys, as they were written, the shard.
-        self.known = {name: (place, {}) for name, place in self.places.items() if place is not None}
+        self.known = {name: (place, Shards(placing)) for name, place in self.places.items() if place is not None}
         self.cuts = max(place for place, _ in self.known.values()) + 1
 
     def deal(self, lines):
-        """The lines for each shard, in their order. A row whose key came before costs one split and two look-ups."""
+        """The lines for each shard, in their order. A row costs one split and two look-ups, and a key that is new its placing."""
         piles = [[] for _ in range(self.placing.parts)]
         adds, known, cuts = [pile.append for pile in piles], self.known, self.cuts
         for line in lines:
@@ -35,24 +57,14 @@ class Router:
         return piles
 
     def shards_of(self, pieces):
-        """The shards of a row whose key is new, whose stream is broadcast or is not there, or that is no row."""
+        """The shards of a row whose stream is broadcast, is not there or stands between blanks, or that is no row."""
         stream = pieces[0].strip()
         place = self.places.get(stream, -1)
         if place is None:
             return range(self.placing.parts)
         if not 0 < place < len(pieces):
             return [0]
-        shard, known = self.shard_of(pieces[place]), self.known[stream][1]
-        if len(known) >= MOST_KNOWN:
-            known.clear()
-        known[pieces[place]] = shard
-        return [shard]
-
-    def shard_of(self, field):
-        """The shard of a key as it is written; shard 0 answers for what is no integer of 64 bits."""
-        found = INTEGER.match(field)
-        value = int(found[1]) if found else None
-        return self.placing.of(value) if value is not None and -(1 << 63) <= value < 1 << 63 else 0
+        return [self.known[stream][1][pieces[place]]]
 
 
 def blocks_of(source):
