@@ -1,0 +1,259 @@
+"""bq inside Python: a session of bq, rows in and answers out. One file, which wants Python 3.9 and nothing else.
+
+    import bq
+
+    with bq.Session("CREATE STREAM Reading (room IN 1..39, celsius)\n"
+                    "CREATE QUERY hot AS SELECT DISTINCT Reading.room FROM Reading WHERE Reading.celsius > 30\n") as session:
+        for query, row in session.feed("Reading", [(1, 22), (2, 31)]):
+            print(query, row)
+
+A session lives in a process of the program bq: the one that BQ_PROGRAM names, or the `bq` on the PATH. A session is used by one thread at a
+time, and says so by an exception. Other threads run while it works.
+"""
+from __future__ import annotations
+
+import itertools
+import os
+import shutil
+import subprocess
+import threading
+from typing import Any, Iterable, Iterator, List, Optional, Sequence, Tuple, Union
+
+__all__ = ["Session", "Refused", "Stopped", "Answer", "MOST_ROWS", "advise"]
+
+MOST_ROWS = 1 << 40
+# How many rows are fed at once where they come from an iterable.
+BATCH = 1000
+
+Answer = Tuple[str, Tuple[int, ...]]
+
+
+class Refused(ValueError):
+    """A line was refused: `line` is its number in the session, from 1, and `word` says why, as `UnknownColumn`."""
+
+    def __init__(self, line: int, word: str):
+        super().__init__(f"line {line}: {word}")
+        self.line, self.word = line, word
+
+
+class Stopped(MemoryError):
+    """A reply broke off for want of memory, or the program ended; `replies` has the bytes that there are. The session takes no more."""
+
+    def __init__(self, why: str, replies: bytes = b""):
+        super().__init__(why)
+        self.replies = replies
+
+
+class Session:
+    """A session: its streams, its queries, and what these keep of the rows so far.
+
+    script   statements, each on a line, that are answered first; `Refused` is raised where one of them is
+    rows     how many rows may be taken, 1 to 2^40
+    program  a file in place of the program that is found
+    """
+
+    def __init__(self, script: str = "", rows: int = MOST_ROWS, *, program: Optional[str] = None):
+        if not 1 <= rows <= MOST_ROWS:
+            raise ValueError(f"rows: 1 to 2^40, not {rows}")
+        self._lock, self._part = threading.Lock(), b""
+        self._inside: Optional[_Process] = _Process(_program(program), rows)
+        try:
+            self.execute(script)
+        except BaseException:
+            self.close()
+            raise
+
+    @classmethod
+    def resume(cls, checkpoint: Union[bytes, str], rows: int = MOST_ROWS, **how: Any) -> "Session":
+        """Opens a session that goes on from a checkpoint."""
+        text = checkpoint.decode("ascii") if isinstance(checkpoint, bytes) else checkpoint
+        return cls(text, rows, **how)
+
+    def __enter__(self) -> "Session":
+        return self
+
+    def __exit__(self, *_: object) -> None:
+        self.close()
+
+    def __del__(self) -> None:
+        if getattr(self, "_inside", None):
+            self.close()
+
+    def close(self) -> None:
+        """Closes the session. Closing it again does nothing."""
+        with _Alone(self._lock):
+            inside, self._inside = self._inside, None
+            if inside:
+                inside.close()
+
+    def feed_bytes(self, text: bytes) -> bytes:
+        """Answers lines, and returns the bytes that `bq run` writes for them. A last line without LF is kept until the rest of it comes."""
+        with _Alone(self._lock):
+            whole, feed, part = (self._part + text).rpartition(b"\n")
+            replies = self._answer(whole + feed)
+            self._part = part
+            return replies
+
+    def end(self) -> bytes:
+        """Answers a last line that has no LF, where one is kept, and returns its reply."""
+        with _Alone(self._lock):
+            last, self._part = self._part, b""
+            return self._answer(last + b"\n") if last else b""
+
+    def execute(self, script: str) -> List[str]:
+        """Answers the lines of a script, a last one without LF too. Returns the lines of the replies; raises the first `Refused` among them,
+        behind which all lines were answered too."""
+        with _Alone(self._lock):
+            if self._part:
+                raise ValueError("a part of a line is kept: feed the rest of it, or call end")
+            lines = _text_lines(self._answer((script if script.endswith("\n") or not script else script + "\n").encode()))
+        for line in lines:
+            refused = _refused(line)
+            if refused:
+                raise refused
+        return lines
+
+    def feed(self, stream: str, rows: Any) -> Iterator[Answer]:
+        """Feeds rows of a stream as one goes through what it returns: each answer as the name of its query and its values.
+
+        `rows` is any iterable of sequences of integers, also one without an end, or a data frame or table that has `itertuples` (pandas),
+        `iter_rows` (polars) or `to_pydict` (Arrow), whose columns are those of the stream in order. A thousand rows are fed at a time, and
+        fewer only at the end: rows that come slowly are better fed one by one, by `feed_one`. Where rows are refused, the answers to all rows
+        that were fed with them come first, and then the first `Refused` is raised.
+        """
+        iterator = iter(_rows_of(rows))
+        while True:
+            batch = list(itertools.islice(iterator, BATCH))
+            if not batch:
+                return
+            answers, refused = self._feed_batch(stream, batch)
+            yield from answers
+            if refused:
+                raise refused
+
+    def feed_all(self, stream: str, rows: Any) -> List[Answer]:
+        """Feeds rows of a stream at once, and returns all answers."""
+        return list(self.feed(stream, rows))
+
+    def feed_one(self, stream: str, *values: int) -> List[Answer]:
+        """Feeds one row, and returns its answers."""
+        return self.feed_all(stream, [values])
+
+    def checkpoint(self) -> bytes:
+        """Returns the lines from which another session goes on: see `resume`."""
+        return "".join(f"{line}\n" for line in self.execute("CHECKPOINT")).encode("ascii")
+
+    def _open(self) -> "_Process":
+        if self._inside is None:
+            raise ValueError("the session is closed")
+        return self._inside
+
+    def _answer(self, text: bytes) -> bytes:
+        inside = self._open()
+        return inside.answer(text) if text else b""
+
+    def _feed_batch(self, stream: str, batch: Sequence[Sequence[int]]) -> Tuple[List[Answer], Optional[Refused]]:
+        text = "".join([f"{stream},{','.join([str(int(value)) for value in row])}\n" for row in batch])
+        with _Alone(self._lock):
+            if self._part:
+                raise ValueError("a part of a line is kept: feed the rest of it, or call end")
+            lines = _text_lines(self._answer(text.encode()))
+        answers, first = [], None
+        for line in lines:
+            refused = _refused(line)
+            if refused:
+                first = first or refused
+            else:
+                query, *values = line.split(",")
+                answers.append((query, tuple(map(int, values))))
+        return answers, first
+
+
+def advise(script: str, *, program: Optional[str] = None) -> Tuple[bool, str]:
+    """Asks the program what is wrong with a script and what would better it. Returns whether nothing is refused, and the text."""
+    ran = subprocess.run([_program(program), "advise"], input=script.encode(), capture_output=True, check=False)
+    if ran.returncode not in (0, 1):
+        raise OSError(f"bq advise ended with {ran.returncode}")
+    return ran.returncode == 0, ran.stdout.decode("utf-8", "backslashreplace")
+
+
+class _Process:
+    """A session in a process of the program, by `bq run --each`: each line is answered by one line, so it is known when a reply is whole."""
+
+    def __init__(self, program: str, rows: int):
+        words = [program, "run", "--each", "--rows", str(rows)]
+        self._process = subprocess.Popen(words, stdin=subprocess.PIPE, stdout=subprocess.PIPE)
+
+    def answer(self, text: bytes) -> bytes:
+        """Answers whole lines. A thread writes while this one reads, so that neither end waits for the other."""
+        writer = threading.Thread(target=self._write, args=(text,), daemon=True)
+        writer.start()
+        replies = []
+        for _ in range(text.count(b"\n")):
+            line = self._process.stdout.readline()
+            if not line.endswith(b"\n"):
+                raise Stopped(f"the program ended with {self._process.wait()}", b"".join(replies))
+            # Of the reply's own lines a semicolon parts each from the next.
+            replies.append(b"" if line == b"\n" else line[:-1].replace(b";", b"\n") + b"\n")
+        writer.join()
+        return b"".join(replies)
+
+    def _write(self, text: bytes) -> None:
+        try:
+            self._process.stdin.write(text)
+            self._process.stdin.flush()
+        except OSError:
+            pass  # the program ended, which the reading thread tells
+
+    def close(self) -> None:
+        try:
+            self._process.stdin.close()
+        except OSError:
+            pass
+        self._process.stdout.close()
+        self._process.wait()
+
+
+class _Alone:
+    """Holds a lock, or says that another thread has it."""
+
+    def __init__(self, lock: threading.Lock):
+        self._lock = lock
+
+    def __enter__(self) -> None:
+        if not self._lock.acquire(blocking=False):
+            raise RuntimeError("the session is used by another thread: one thread at a time may use it")
+
+    def __exit__(self, *_: object) -> None:
+        self._lock.release()
+
+
+def _program(file: Optional[str]) -> str:
+    """Gives the program."""
+    found = file or os.environ.get("BQ_PROGRAM") or shutil.which("bq")
+    if not found:
+        raise FileNotFoundError("the program bq was not found: put it on the PATH, or name it by BQ_PROGRAM")
+    return found
+
+
+def _rows_of(rows: Any) -> Iterable[Sequence[int]]:
+    """Gives the rows of what may be a data frame or a table."""
+    if hasattr(rows, "itertuples"):
+        return rows.itertuples(index=False, name=None)
+    if hasattr(rows, "iter_rows"):
+        return rows.iter_rows()
+    if hasattr(rows, "to_pydict"):
+        return zip(*rows.to_pydict().values())
+    return rows
+
+
+def _text_lines(replies: bytes) -> List[str]:
+    lines = replies.decode("ascii", "backslashreplace").split("\n")
+    return lines[:-1]
+
+
+def _refused(line: str) -> Optional[Refused]:
+    if not line.startswith("error "):
+        return None
+    _, number, word = line.split(" ", 2)
+    return Refused(int(number), word)
