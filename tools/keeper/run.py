@@ -64,8 +64,8 @@ class Run:
             log.info("begins anew with %s", options.script)
         self.changes = Changes(options.folder, options.control, not self.kept)
         self.store = Store(options.folder, self.kept, self.acks)
-        # what other threads have the main one do
-        self.events, self.status = queue.SimpleQueue(), None
+        # what other threads have the main one do; a SimpleQueue would wait for ever where a signal comes just as its time is over
+        self.events, self.status = queue.Queue(), None
         # `keeping` is held by who reads or writes the newest checkpoint with the pieces of the input behind it
         self.sending, self.keeping, self.up = threading.Lock(), threading.Lock(), threading.Event()
         self.pieces, self.size, self.lost_to = deque(), 0, 0

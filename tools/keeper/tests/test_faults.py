@@ -18,7 +18,7 @@ import unittest
 TOOLS = os.path.dirname(os.path.dirname(os.path.dirname(os.path.abspath(__file__))))
 KEEP, BQ = os.environ.get("KEEP") or os.path.join(TOOLS, "keep"), os.environ.get("BQ", "bq")
 # a test waits for an event; this only ends one that would wait for ever
-PATIENCE = 3600
+PATIENCE = 600
 SCRIPT = b"CREATE STREAM Temp (room, val)\nCREATE STREAM Lim (room, val)\nCREATE COMPACT QUERY hot AS SELECT DISTINCT Temp.room FROM Temp, Lim" \
          b" WHERE Temp.room = Lim.room AND Temp.val > Lim.val AND Temp.room > 0 AND Temp.room < 40\n"
 FLAT = b"CREATE STREAM S (a)\nCREATE QUERY q AS SELECT S.a FROM S\n"
