@@ -6,7 +6,7 @@ use Rattle.bq_lexer.specs.declared.token.Token.{Token}
 use Rattle.bq_lexer.specs.declared.token.LexError.{LexError}
 use Rattle.bq_lexer.specs.Tokens.{is_blank, longest}
 use Rattle.bq_lexer.specs.Standing.{IsNextToken, IsNext}
-use Rattle.bq_lexer.proofs.TokenLists.{blank_step, token_step, no_token_step}
+use Rattle.bq_lexer.proofs.TokenLists.{blank_step, token_step}
 use Rattle.bq_lexer.proofs.Standing.{one_blank, found_next}
 
 -- the bytes from a place on begin with the one there

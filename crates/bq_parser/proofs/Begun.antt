@@ -11,6 +11,7 @@ use Rattle.bq_parser.specs.declared.transitions.Action.TheVariants as actions
 use Rattle.bq_parser.proofs.Compact.{IsSpelt}
 use Rattle.bq_parser.proofs.Told.{told, Fine, told_step}
 use Rattle.bq_parser.proofs.WalkLaws.{finished_spells}
+use Rattle.bq_model.specs.declared.atom.Op.TheVariants.{Lt}
 
 -- what begins a statement with one more token begins one
 begun_by : (ts longer : List Lexeme) (l : Lexeme) → longer ≡ ts ++ l ∷ [] → Begins longer → Begins ts
@@ -99,7 +100,7 @@ begun_RightAny : (p : Parts) → Fine RightAny p → IsSpelt p → Begins (told 
 begun_RightAny p f h = let next = told_step RightAny p (number (pos 0)) f in begun_by (told RightAny p) _ (number (pos 0)) next.0 (begun_AfterAtom (act actions.AddIntegerAtom (number (pos 0)) p) next.1 h)
 
 begun_ColumnOp : (p : Parts) → Fine ColumnOp p → IsSpelt p → Begins (told ColumnOp p)
-begun_ColumnOp p f h = let next = told_step ColumnOp p less f in begun_by (told ColumnOp p) _ less next.0 (begun_RightAny (act actions.OpLess less p) next.1 h)
+begun_ColumnOp p f h = let next = told_step ColumnOp p less f in begun_by (told ColumnOp p) _ less next.0 (begun_RightAny (act (actions.OpIs Lt) less p) next.1 h)
 
 begun_LeftColumn : (p : Parts) → Fine LeftColumn p → IsSpelt p → Begins (told LeftColumn p)
 begun_LeftColumn p f h = let next = told_step LeftColumn p (word (97 ∷ [])) f in begun_by (told LeftColumn p) _ (word (97 ∷ [])) next.0 (begun_ColumnOp (act actions.LeftColumnIs (word (97 ∷ [])) p) next.1 h)
@@ -108,7 +109,7 @@ begun_LeftPoint : (p : Parts) → Fine LeftPoint p → IsSpelt p → Begins (tol
 begun_LeftPoint p f h = let next = told_step LeftPoint p point f in begun_by (told LeftPoint p) _ point next.0 (begun_LeftColumn (act actions.Nothing point p) next.1 h)
 
 begun_IntegerOp : (p : Parts) → Fine IntegerOp p → IsSpelt p → Begins (told IntegerOp p)
-begun_IntegerOp p f h = let next = told_step IntegerOp p less f in begun_by (told IntegerOp p) _ less next.0 (begun_RightStream (act actions.OpLess less p) next.1 h)
+begun_IntegerOp p f h = let next = told_step IntegerOp p less f in begun_by (told IntegerOp p) _ less next.0 (begun_RightStream (act (actions.OpIs Lt) less p) next.1 h)
 
 begun_AtomLeft : (p : Parts) → Fine AtomLeft p → IsSpelt p → Begins (told AtomLeft p)
 begun_AtomLeft p f h = let next = told_step AtomLeft p (word (97 ∷ [])) f in begun_by (told AtomLeft p) _ (word (97 ∷ [])) next.0 (begun_LeftPoint (act actions.StreamIs (word (97 ∷ [])) p) next.1 h)

@@ -96,12 +96,7 @@ kept_act actions.BeginFrom l w p e = refl
 kept_act actions.AddFrom l w p e = ap (λ x. record (kept_parts p) { from = put 4 (kept x) (keep kept 4 p.from) }) e ∙ ap (λ k. record (kept_parts p) { from = k }) (put_last kept 4 p.from (text_of l))
 kept_act actions.LeftInteger l w p e = ap (λ z. record (kept_parts p) { left = Integer z }) e
 kept_act actions.LeftColumnIs l w p e = ap (λ x. record (kept_parts p) { left = Column (record { stream = kept p.stream; column = kept x }) }) e
-kept_act actions.OpLess l w p e = refl
-kept_act actions.OpEqual l w p e = refl
-kept_act actions.OpGreater l w p e = refl
-kept_act actions.OpLessEqual l w p e = refl
-kept_act actions.OpGreaterEqual l w p e = refl
-kept_act actions.OpUnequal l w p e = refl
+kept_act (actions.OpIs o) l w p e = refl
 kept_act actions.AddIntegerAtom l w p e = ap (λ z. record (kept_parts p) { atoms = put 16 (record { left = kept_operand p.left; op = p.op; right = Integer z }) (keep kept_atom 16 p.atoms) }) e ∙ ap (λ k. record (kept_parts p) { atoms = k }) (put_last kept_atom 16 p.atoms (record { left = p.left; op = p.op; right = Integer (number_of l) }))
 kept_act actions.AddColumnAtom l w p e = ap (λ x. record (kept_parts p) { atoms = put 16 (record { left = kept_operand p.left; op = p.op; right = Column (record { stream = kept p.stream; column = kept x }) }) (keep kept_atom 16 p.atoms) }) e ∙ ap (λ k. record (kept_parts p) { atoms = k }) (put_last kept_atom 16 p.atoms (record { left = p.left; op = p.op; right = Column (record { stream = p.stream; column = text_of l }) }))
 kept_act actions.BeginCheckpoint l w p e = refl

@@ -1,41 +1,27 @@
 -- The outline of the tokens so far.
-use Rattle.std.proofs.Common.{◌≡◌, ◌≢◌, ℕ, ◌≤◌, ◌<◌, Bool, true, false, ◌||◌, cond, List, [], ◌∷◌, ◌++◌, length, Option, Some, None, Result, Ok, Err, refl, ap, sym, ◌∙◌, subst, arith, inl, inr}
+use Rattle.std.proofs.Common.{◌≡◌, ◌≢◌, ℕ, ◌<◌, Bool, true, false, ◌||◌, List, [], ◌∷◌, ◌++◌, Option, Some, None, Result, Ok, Err, refl, ap, sym, ◌∙◌, subst, arith, inl}
 use Rattle.std.specs.Prelude.{slice_range}
 use Rattle.std.specs.List.{list_any}
 use Rattle.std.proofs.lemmas.List.Folds.{list_any-append}
 use Rattle.bq_lexer.specs.declared.token.Token.{Token}
 use Rattle.bq_lexer.specs.Standing.{IsNextToken, IsNext}
 use Rattle.bq_lexer.specs.Tokens.{tokens, tokens_at, with_first}
-use Rattle.bq_lexer.proofs.Standing.{tokens_stand}
 use Rattle.bq_lexer.proofs.TokenLists.{after, after_one, after_end, after_err}
 use Rattle.bq_parser.specs.declared.draft.Draft.{Draft}
-use Rattle.bq_parser.specs.declared.draft.Form.{Form}
-use Rattle.bq_parser.specs.declared.draft.Form.TheVariants as forms
 use Rattle.bq_parser.specs.declared.head.Head.{Head}
 use Rattle.bq_parser.specs.declared.outline.Outline.{Outline}
-use Rattle.bq_parser.specs.declared.parsing.What.TheVariants as limits
-use Rattle.bq_parser.specs.declared.parsing.ParseError.TheVariants.{Limit}
-use Rattle.bq_parser.specs.declared.plain.PlainStatement.{PlainStatement}
-use Rattle.bq_parser.specs.declared.plain.PlainStatement.TheVariants as plain
-use Rattle.bq_parser.specs.declared.plain.PlainReading.TheVariants.{Plain, Listed, Refused}
 use Rattle.bq_parser.specs.declared.transitions.Action.{Action}
 use Rattle.bq_parser.specs.declared.transitions.Action.TheVariants as actions
 use Rattle.bq_parser.specs.declared.transitions.State.{State}
-use Rattle.bq_parser.specs.declared.transitions.State.TheVariants.{Start}
-use Rattle.bq_parser.specs.declared.tree.Statement.{Statement}
-use Rattle.bq_parser.specs.declared.tree.Statement.TheVariants.{CreateStream, CreateQuery, Explain, DropQuery, Checkpoint, ResumeRows, ResumeGiven, ResumeCell, ResumeTuple, Lock, Unlock}
-use Rattle.bq_parser.specs.DraftLimits.{is_long_token, is_wide_token, limit_in, limit_by}
-use Rattle.bq_parser.specs.DraftSteps.{drafted, statement_by}
+use Rattle.bq_parser.specs.DraftLimits.{is_long_token, is_wide_token}
+use Rattle.bq_parser.specs.DraftSteps.{drafted}
 use Rattle.bq_parser.specs.Keeping.{IsCut, IsRead, kept_parts}
-use Rattle.bq_parser.specs.Limits.{limit_of}
-use Rattle.bq_parser.specs.Outlines.{head_in, headed, no_outline, outlined, fault_or, IsOutline, whole_of, reading_by, reading_in, IsReading}
-use Rattle.bq_parser.specs.Reading.{Parts, no_parts, finished, walk, may_end, kind_at, text_of}
+use Rattle.bq_parser.specs.Outlines.{head_in, headed, no_outline, outlined, fault_or, IsOutline, IsDraft}
+use Rattle.bq_parser.specs.Reading.{no_parts, kind_at, text_of}
 use Rattle.bq_parser.specs.Steps.{step_of}
-use Rattle.bq_parser.specs.Syntax.{lexemes, lexeme_of, IsStatement, IsFault, IsFaultOf, StopsAt}
-use Rattle.bq_parser.proofs.Again.{spelled_read}
+use Rattle.bq_parser.specs.Syntax.{lexemes, lexeme_of, IsFault, IsFaultOf, StopsAt}
 use Rattle.bq_parser.proofs.KeptLaw.{read_more}
-use Rattle.bq_parser.proofs.Verdict.{begins_read, stopped_begins, step_same, ends_early}
-use Rattle.bq_parser.proofs.Within.{judged}
+use Rattle.bq_parser.proofs.Verdict.{begins_read, stopped_begins, step_same}
 
 -- an action makes of the head of a draft what it makes of the draft
 head_drafted : (a : Action) (w : List ℕ) (d : Draft) → headed a w (head_in d) ≡ head_in (drafted a w d)
@@ -61,12 +47,7 @@ head_drafted actions.BeginFrom w d = refl
 head_drafted actions.AddFrom w d = refl
 head_drafted actions.LeftInteger w d = refl
 head_drafted actions.LeftColumnIs w d = refl
-head_drafted actions.OpLess w d = refl
-head_drafted actions.OpEqual w d = refl
-head_drafted actions.OpGreater w d = refl
-head_drafted actions.OpLessEqual w d = refl
-head_drafted actions.OpGreaterEqual w d = refl
-head_drafted actions.OpUnequal w d = refl
+head_drafted (actions.OpIs o) w d = refl
 head_drafted actions.AddIntegerAtom w d = refl
 head_drafted actions.AddColumnAtom w d = refl
 head_drafted actions.BeginCheckpoint w d = refl
@@ -211,3 +192,20 @@ outlined_stops line place t o e none s =
 pub fault_first : (t : Token) (r : Result (List Token) ℕ) (at : ℕ) → fault_or (with_first t r) at ≡ fault_or r at
 fault_first t (Ok ts) at = refl
 fault_first t (Err place) at = refl
+
+-- the same, and the draft is that of the tokens
+abbrev pub Drafted : List ℕ → ℕ → Outline → Draft → Type 0
+Drafted line place o d = (s : Outlined line place o) × (s.draft ≡ d)
+
+pub drafted_none : (line : List ℕ) (d : Draft) → d ≡ kept_parts no_parts → Drafted line 0 no_outline d
+unfolding outlined_none
+drafted_none line d e = (outlined_none line, sym e)
+
+pub drafted_more : (line : List ℕ) (place : ℕ) (t : Token) (to : State) (a : Action) (o : Outline) (d : Draft) → IsNextToken line place t → tokens_at line place ≡ with_first t (tokens_at line t.to)
+    → step_of o.state t.kind (slice_range line t.from t.to) ≡ Some (to, a) → Drafted line place o d → Drafted line t.to (outlined line t to a o) (drafted a (slice_range line t.from t.to) d)
+unfolding outlined_more
+drafted_more line place t to a o d n e leads s = (outlined_more line place t to a o n e leads s.0, ap (drafted a (slice_range line t.from t.to)) s.1)
+
+pub drafted_all : (line : List ℕ) (place : ℕ) (o : Outline) (d : Draft) → tokens_at line place ≡ Ok [] → Drafted line place o d → IsDraft line o d
+unfolding outlined_all
+drafted_all line place o d e s = (outlined_all line place o e s.0, s.1)

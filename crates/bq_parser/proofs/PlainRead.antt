@@ -18,10 +18,10 @@ use Rattle.bq_parser.specs.declared.transitions.State.{State}
 use Rattle.bq_parser.specs.declared.transitions.State.TheVariants.{Start}
 use Rattle.bq_parser.specs.declared.tree.Statement.{Statement}
 use Rattle.bq_parser.specs.declared.tree.Statement.TheVariants.{CreateStream, CreateQuery, ResumeTuple, Lock}
-use Rattle.bq_parser.specs.DraftLimits.{is_long_token, is_wide_token, limit_by, limit_in_values}
-use Rattle.bq_parser.specs.DraftSteps.{statement_by}
+use Rattle.bq_parser.specs.DraftLimits.{is_long_token, is_wide_token, limit_by, limit_in_values, limit_with}
+use Rattle.bq_parser.specs.DraftSteps.{statement_by, statement_of}
 use Rattle.bq_parser.specs.Limits.{limit_of}
-use Rattle.bq_parser.specs.Outlines.{head_in, IsOutline, whole_of, unless_wide, reading_by, reading_in, IsReading}
+use Rattle.bq_parser.specs.Outlines.{head_in, IsOutline, IsDraft, whole_of, unless_wide, reading_by, reading_in, IsReading}
 use Rattle.bq_parser.specs.Reading.{Parts, no_parts, finished, walk, may_end}
 use Rattle.bq_parser.specs.Syntax.{lexemes, IsStatement, IsFault, IsFaultOf}
 use Rattle.bq_parser.specs.Grammar.{Lexeme}
@@ -114,3 +114,24 @@ pub outline_ends : (line : List ℕ) (o : Outline) → IsOutline line o → may_
 outline_ends line o i never =
     let P : Result (List Token) ℕ → Type 0 = λ r. IsFaultOf line r (length line) in
     subst P (sym i.lexed) (inr (ends_early line i.its_tokens o.state i.read.parts i.read.read never))
+
+-- what a draft tells of its line, which may end where its outline does
+pub record DraftJudged (line : List ℕ) (o : Outline) (d : Draft) : Type 0 where
+  pub statement : Statement
+  pub is : IsStatement line statement
+  pub limit : limit_with o.long o.wide d ≡ limit_of statement
+  pub same : limit_of statement ≡ None → statement_of d ≡ statement
+
+pub draft_judged : (line : List ℕ) (o : Outline) (d : Draft) → IsDraft line o d → may_end o.state ≡ true → DraftJudged line o d
+draft_judged line o d p ends =
+    let i = p.0 in
+    let j = judged line i.its_tokens o.state i.draft i.lexed (tokens_stand line i.its_tokens i.lexed) i.read ends in
+    record {
+      statement = j.statement;
+      is = j.is;
+      limit = ap (λ b. limit_with b o.wide d) i.long
+          ∙ ap (λ b. limit_with (list_any is_long_token i.its_tokens) b d) i.wide
+          ∙ ap (λ x. limit_with (list_any is_long_token i.its_tokens) (list_any (is_wide_token line) i.its_tokens) x) (sym p.1)
+          ∙ j.limit;
+      same = λ none. ap statement_of (sym p.1) ∙ j.same none;
+    }

@@ -77,6 +77,10 @@ limit_by wide forms.Tuple d = limit_in_values wide d.values.over
 limit_by wide forms.Lock d = limit_in_lock wide d.lock_streams.over
 limit_by wide forms.Unlock d = limit_in_values wide false
 
--- the first limit that is passed
+-- the first limit that is passed, by whether a word is too long for a name and whether an integer has more than 64 bits
+abbrev pub limit_with : Bool → Bool → Draft → Option What
+limit_with long wide d = if long then Some limits.Name else limit_by wide d.form d
+
+-- the same by the tokens of a line
 abbrev pub limit_in : List ℕ → List Token → Draft → Option What
-limit_in line ts d = if list_any is_long_token ts then Some limits.Name else limit_by (list_any (is_wide_token line) ts) d.form d
+limit_in line ts d = limit_with (list_any is_long_token ts) (list_any (is_wide_token line) ts) d

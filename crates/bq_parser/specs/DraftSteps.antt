@@ -2,7 +2,6 @@
 use Rattle.std.specs.Prelude.{ℕ, ℤ, pos, true, false, nat_lt, List, [], ◌∷◌, ◌++◌, length, Option, Some, None, if◌then◌else◌}
 use Rattle.bq_text.specs.Name.{is_name}
 use Rattle.bq_text.specs.Value.{value_of}
-use Rattle.bq_model.specs.declared.atom.Op.TheVariants.{Lt, Eq, Gt, Le, Ge, Ne}
 use Rattle.bq_parser.specs.declared.transitions.Action.{Action}
 use Rattle.bq_parser.specs.declared.transitions.Action.TheVariants as actions
 use Rattle.bq_parser.specs.declared.tree.ColumnAst.{ColumnAst}
@@ -65,12 +64,7 @@ drafted actions.BeginFrom w d = record d { from = no_items; atoms = no_items }
 drafted actions.AddFrom w d = record d { from = put 4 (kept w) d.from }
 drafted actions.LeftInteger w d = record d { left = Integer (or_far (value_of w)) }
 drafted actions.LeftColumnIs w d = record d { left = Column (column_with d w) }
-drafted actions.OpLess w d = record d { op = Lt }
-drafted actions.OpEqual w d = record d { op = Eq }
-drafted actions.OpGreater w d = record d { op = Gt }
-drafted actions.OpLessEqual w d = record d { op = Le }
-drafted actions.OpGreaterEqual w d = record d { op = Ge }
-drafted actions.OpUnequal w d = record d { op = Ne }
+drafted (actions.OpIs o) w d = record d { op = o }
 drafted actions.AddIntegerAtom w d = record d { atoms = put 16 (atom_with d (Integer (or_far (value_of w)))) d.atoms }
 drafted actions.AddColumnAtom w d = record d { atoms = put 16 (atom_with d (Column (column_with d w))) d.atoms }
 drafted actions.BeginCheckpoint w d = record d { form = forms.Checkpoint }

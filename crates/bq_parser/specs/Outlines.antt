@@ -1,5 +1,5 @@
 -- What is read of a line without its lists.
-use Rattle.std.specs.Prelude.{◌≡◌, ℕ, Bool, false, ◌||◌, if◌then◌else◌, List, slice_range, Option, Some, None, Result, Ok, Err}
+use Rattle.std.specs.Prelude.{◌≡◌, ℕ, Bool, false, ◌||◌, if◌then◌else◌, List, slice_range, None, Result, Ok, Err}
 use Rattle.std.specs.List.{list_any}
 use Rattle.bq_text.specs.Value.{value_of}
 use Rattle.bq_lexer.specs.declared.token.Token.{Token}
@@ -76,6 +76,10 @@ pub record IsOutline (line : List ℕ) (o : Outline) : Type 0 where
   pub head : o.head ≡ head_in draft
   pub long : o.long ≡ list_any is_long_token its_tokens
   pub wide : o.wide ≡ list_any (is_wide_token line) its_tokens
+
+-- the line has the outline, and the draft is that of all its tokens
+abbrev pub IsDraft : List ℕ → Outline → Draft → Type 0
+IsDraft line o d = (i : IsOutline line o) × (i.draft ≡ d)
 
 -- the statement that one without lists is
 abbrev pub whole_of : PlainStatement → Statement

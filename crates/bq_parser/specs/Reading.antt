@@ -7,7 +7,7 @@ use Rattle.bq_parser.specs.declared.transitions.State.TheVariants as states
 use Rattle.bq_parser.specs.declared.transitions.Action.{Action}
 use Rattle.bq_parser.specs.declared.transitions.Action.TheVariants as actions
 use Rattle.bq_model.specs.declared.atom.Op.{Op}
-use Rattle.bq_model.specs.declared.atom.Op.TheVariants.{Lt, Eq, Gt, Le, Ge, Ne}
+use Rattle.bq_model.specs.declared.atom.Op.TheVariants.{Lt}
 use Rattle.bq_schema.specs.declared.column.ColumnDef.{ColumnDef}
 use Rattle.bq_parser.specs.declared.tree.ColumnAst.{ColumnAst}
 use Rattle.bq_parser.specs.declared.tree.OperandAst.{OperandAst}
@@ -102,12 +102,7 @@ act actions.BeginFrom l p = record p { from = []; atoms = [] }
 act actions.AddFrom l p = record p { from = p.from ++ text_of l ∷ [] }
 act actions.LeftInteger l p = record p { left = Integer (number_of l) }
 act actions.LeftColumnIs l p = record p { left = Column (column_of p l) }
-act actions.OpLess l p = record p { op = Lt }
-act actions.OpEqual l p = record p { op = Eq }
-act actions.OpGreater l p = record p { op = Gt }
-act actions.OpLessEqual l p = record p { op = Le }
-act actions.OpGreaterEqual l p = record p { op = Ge }
-act actions.OpUnequal l p = record p { op = Ne }
+act (actions.OpIs o) l p = record p { op = o }
 act actions.AddIntegerAtom l p = record p { atoms = p.atoms ++ (record { left = p.left; op = p.op; right = Integer (number_of l) }) ∷ [] }
 act actions.AddColumnAtom l p = record p { atoms = p.atoms ++ (record { left = p.left; op = p.op; right = Column (column_of p l) }) ∷ [] }
 act actions.BeginCheckpoint l p = record p { form = forms.Checkpoint }

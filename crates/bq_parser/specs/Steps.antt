@@ -6,7 +6,8 @@ use Rattle.bq_lexer.specs.declared.token.TokenKind.TheVariants.{Word, Reserved, 
 use Rattle.bq_parser.specs.declared.transitions.State.{State}
 use Rattle.bq_parser.specs.declared.transitions.State.TheVariants.{Start, AfterCreate, AfterShared, AfterCompact, StreamName, OpenColumns, ColumnName, AfterColumn, DomainLow, FirstPoint, SecondPoint, DomainHigh, AfterDomain, QueryName, QueryAs, QuerySelect, FirstSelected, SelectedStream, SelectedPoint, SelectedColumn, AfterSelected, FromName, AfterFrom, AtomLeft, LeftPoint, LeftColumn, ColumnOp, RightAny, IntegerOp, RightStream, RightPoint, RightColumn, AfterAtom, ExplainName, AfterDrop, DropName, AfterResume, ResumeWhat, GivenRows, CellIndex, CellContent, TupleValue, AfterValue, AfterLock, AfterLockKey, LockStream, AfterLockStream, UnlockKey, Complete, Ended}
 use Rattle.bq_parser.specs.declared.transitions.Action.{Action}
-use Rattle.bq_parser.specs.declared.transitions.Action.TheVariants.{Nothing, BeginExplain, BeginDrop, BeginStream, BeginQuery, BeginShared, BeginCompact, BeginSharedCompact, Named, BeginColumns, ColumnIs, AddColumn, LowIs, AddBounded, BeginSelect, SetDistinct, StreamIs, AddSelected, BeginFrom, AddFrom, LeftInteger, LeftColumnIs, OpLess, OpEqual, OpGreater, OpLessEqual, OpGreaterEqual, OpUnequal, AddIntegerAtom, AddColumnAtom, BeginCheckpoint, RowsAre, BeginGiven, BeginCell, IndexIs, CountIs, BeginTuple, AddValue, BeginLock, LockKeyIs, BeginTo, AddLockStream, BeginUnlock}
+use Rattle.bq_parser.specs.declared.transitions.Action.TheVariants.{Nothing, BeginExplain, BeginDrop, BeginStream, BeginQuery, BeginShared, BeginCompact, BeginSharedCompact, Named, BeginColumns, ColumnIs, AddColumn, LowIs, AddBounded, BeginSelect, SetDistinct, StreamIs, AddSelected, BeginFrom, AddFrom, LeftInteger, LeftColumnIs, OpIs, AddIntegerAtom, AddColumnAtom, BeginCheckpoint, RowsAre, BeginGiven, BeginCell, IndexIs, CountIs, BeginTuple, AddValue, BeginLock, LockKeyIs, BeginTo, AddLockStream, BeginUnlock}
+use Rattle.bq_model.specs.declared.atom.Op.TheVariants.{Lt, Eq, Gt, Le, Ge, Ne}
 use Rattle.bq_parser.specs.Grammar.{is_compact, is_lock, is_unlock, is_to}
 
 -- the state behind a token of this kind, and what the token adds; nothing, where no statement goes on so
@@ -51,20 +52,20 @@ step AtomLeft Word = Some (LeftPoint, StreamIs)
 step AtomLeft Integer = Some (IntegerOp, LeftInteger)
 step LeftPoint Point = Some (LeftColumn, Nothing)
 step LeftColumn Word = Some (ColumnOp, LeftColumnIs)
-step ColumnOp Less = Some (RightAny, OpLess)
-step ColumnOp Equal = Some (RightAny, OpEqual)
-step ColumnOp Greater = Some (RightAny, OpGreater)
-step ColumnOp LessEqual = Some (RightAny, OpLessEqual)
-step ColumnOp GreaterEqual = Some (RightAny, OpGreaterEqual)
-step ColumnOp Unequal = Some (RightAny, OpUnequal)
+step ColumnOp Less = Some (RightAny, OpIs Lt)
+step ColumnOp Equal = Some (RightAny, OpIs Eq)
+step ColumnOp Greater = Some (RightAny, OpIs Gt)
+step ColumnOp LessEqual = Some (RightAny, OpIs Le)
+step ColumnOp GreaterEqual = Some (RightAny, OpIs Ge)
+step ColumnOp Unequal = Some (RightAny, OpIs Ne)
 step RightAny Word = Some (RightPoint, StreamIs)
 step RightAny Integer = Some (AfterAtom, AddIntegerAtom)
-step IntegerOp Less = Some (RightStream, OpLess)
-step IntegerOp Equal = Some (RightStream, OpEqual)
-step IntegerOp Greater = Some (RightStream, OpGreater)
-step IntegerOp LessEqual = Some (RightStream, OpLessEqual)
-step IntegerOp GreaterEqual = Some (RightStream, OpGreaterEqual)
-step IntegerOp Unequal = Some (RightStream, OpUnequal)
+step IntegerOp Less = Some (RightStream, OpIs Lt)
+step IntegerOp Equal = Some (RightStream, OpIs Eq)
+step IntegerOp Greater = Some (RightStream, OpIs Gt)
+step IntegerOp LessEqual = Some (RightStream, OpIs Le)
+step IntegerOp GreaterEqual = Some (RightStream, OpIs Ge)
+step IntegerOp Unequal = Some (RightStream, OpIs Ne)
 step RightStream Word = Some (RightPoint, StreamIs)
 step RightPoint Point = Some (RightColumn, Nothing)
 step RightColumn Word = Some (AfterAtom, AddColumnAtom)

@@ -22,7 +22,7 @@ mod unlocking;
 
 pub use line::{LineKind, classify, stripped};
 pub use parsing::{ParseError, What, parse};
-pub use plain::{PlainReading, PlainStatement, read_plain};
+pub use plain::{PlainReading, PlainStatement, parse_plain};
 pub use resolution::{ResolveError, resolve};
 pub use tree::{AtomAst, ColumnAst, OperandAst, SelectAst, Statement};
 pub use unlocking::may_unlock;

@@ -1,11 +1,10 @@
 //! The limits of a statement, in their order.
 ghost use Rattle.std.specs.Prelude.{◌≡◌, ◌≤◌, ◌<◌, ◌+◌, ◌++◌, length};
-ghost use Rattle.std.specs.List.{All, list_any};
+ghost use Rattle.std.specs.List.{list_any};
 ghost use Rattle.std.specs.Ordering.{int_eq};
 ghost use Rattle.bq_parser.specs.Limits as limits;
 ghost use Rattle.bq_parser.specs.Limits.{soft_in, column_in, columns_in, integer_in, integers_in, number_of_different, is_reversed};
-ghost use Rattle.bq_parser.specs.DraftLimits.{is_long_token, is_wide_token, ends_in, limit_in_atoms, limit_in_columns, limit_in_values, limit_in_lock, limit_by, limit_in};
-ghost use Rattle.bq_parser.specs.Keeping.{IsCut};
+ghost use Rattle.bq_parser.specs.DraftLimits.{is_long_token, is_wide_token, ends_in, limit_in_atoms, limit_in_columns, limit_in_values, limit_in_lock, limit_by, limit_with};
 
 use crate::draft::{Draft, Form};
 use crate::parsing::What;
@@ -37,13 +36,6 @@ pub fn is_long(token: &Token) -> bool
     }
 }
 
-// Whether a name is too long.
-fn has_long_name(tokens: &[Token]) -> bool
-    ensures { result ≡ list_any is_long_token tokens.now }
-{
-    tokens.iter().any(|token| is_long(token))
-}
-
 /// Returns whether the token is an integer of more than 64 bits.
 pub fn is_wide(line: &[u8], token: &Token) -> bool
     requires { (token.now.from ≤ token.now.to) × (token.now.to ≤ length line.now) }
@@ -55,19 +47,6 @@ pub fn is_wide(line: &[u8], token: &Token) -> bool
         }
         _ => false,
     }
-}
-
-// Whether an integer has more than 64 bits.
-fn has_wide(line: &[u8], tokens: &[Token]) -> bool
-    requires { All (IsCut line.now) tokens.now }
-    ensures { result ≡ list_any (is_wide_token line.now) tokens.now }
-{
-    for token in tokens {
-        if is_wide(line, token) {
-            return true;
-        }
-    }
-    false
 }
 
 // Whether an integer lies outside the range of those that may be written.
@@ -263,12 +242,12 @@ fn columns_limit(columns: &[ColumnDef]) -> Option<What>
     }
 }
 
-// The first limit that the integers of a line of a checkpoint pass, which are too many or not.
-fn values_limit(line: &[u8], tokens: &[Token], over: bool) -> Option<What>
-    requires { All (IsCut line.now) tokens.now }
-    ensures { result ≡ limit_in_values (list_any (is_wide_token line.now) tokens.now) over }
+// The first limit that the integers of a line of a checkpoint pass, of which one has more than 64 bits or none, and which are too many
+// or not.
+fn values_limit(wide: bool, over: bool) -> Option<What>
+    ensures { result ≡ limit_in_values wide over }
 {
-    if has_wide(line, tokens) {
+    if wide {
         Some(What::Value)
     } else if over {
         Some(What::Tuple)
@@ -278,11 +257,10 @@ fn values_limit(line: &[u8], tokens: &[Token], over: bool) -> Option<What>
 }
 
 // The first limit that the integer and the streams of a lock pass, which are too many or not.
-fn lock_limit(line: &[u8], tokens: &[Token], over: bool) -> Option<What>
-    requires { All (IsCut line.now) tokens.now }
-    ensures { result ≡ limit_in_lock (list_any (is_wide_token line.now) tokens.now) over }
+fn lock_limit(wide: bool, over: bool) -> Option<What>
+    ensures { result ≡ limit_in_lock wide over }
 {
-    if has_wide(line, tokens) {
+    if wide {
         Some(What::Value)
     } else if over {
         Some(What::Streams)
@@ -291,10 +269,9 @@ fn lock_limit(line: &[u8], tokens: &[Token], over: bool) -> Option<What>
     }
 }
 
-// The first limit that the lists of a statement pass.
-fn lists_limit(line: &[u8], tokens: &[Token], draft: &Draft) -> Option<What>
-    requires { All (IsCut line.now) tokens.now }
-    ensures { result ≡ limit_by (list_any (is_wide_token line.now) tokens.now) draft.now.form draft.now }
+// The first limit that the lists of a statement pass, by whether an integer of its line has more than 64 bits.
+fn lists_limit(wide: bool, draft: &Draft) -> Option<What>
+    ensures { result ≡ limit_by wide draft.now.form draft.now }
 {
     match draft.form {
         Form::Stream => {
@@ -316,19 +293,19 @@ fn lists_limit(line: &[u8], tokens: &[Token], draft: &Draft) -> Option<What>
             }
         }
         Form::Explain | Form::Drop | Form::Checkpoint => None,
-        Form::Rows | Form::Given | Form::Cell | Form::Unlock => values_limit(line, tokens, false),
-        Form::Tuple => values_limit(line, tokens, draft.values.over),
-        Form::Lock => lock_limit(line, tokens, draft.lock_streams.over),
+        Form::Rows | Form::Given | Form::Cell | Form::Unlock => values_limit(wide, false),
+        Form::Tuple => values_limit(wide, draft.values.over),
+        Form::Lock => lock_limit(wide, draft.lock_streams.over),
     }
 }
 
-/// Returns the first limit that a statement passes, by its line, its tokens and what is kept of it.
-pub fn limit_passed(line: &[u8], tokens: &[Token], draft: &Draft) -> Option<What>
-    requires { All (IsCut line.now) tokens.now }
-    ensures { result ≡ limit_in line.now tokens.now draft.now }
+/// Returns the first limit that a statement passes, by whether a word of its line is too long for a name, whether an integer there has
+/// more than 64 bits, and what is kept of it.
+pub fn limit_passed(long: bool, wide: bool, draft: &Draft) -> Option<What>
+    ensures { result ≡ limit_with long wide draft.now }
 {
-    if has_long_name(tokens) {
+    if long {
         return Some(What::Name);
     }
-    lists_limit(line, tokens, draft)
+    lists_limit(wide, draft)
 }

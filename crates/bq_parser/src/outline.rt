@@ -27,8 +27,8 @@ pub struct Outline {
 }
 
 impl Outline {
-    // The outline where nothing is read.
-    fn start() -> Outline
+    /// Returns the outline where nothing is read.
+    pub fn start() -> Outline
         ensures { result ≡ specs.no_outline }
     {
         Outline {
@@ -39,8 +39,8 @@ impl Outline {
         }
     }
 
-    // Takes what a token adds.
-    fn take(&mut self, line: &[u8], token: &Token, to: State, action: Action)
+    /// Takes what a token adds.
+    pub fn take(&mut self, line: &[u8], token: &Token, to: State, action: Action)
         requires { (token.now.from ≤ token.now.to) × (token.now.to ≤ length line.now) }
         ensures { self.new ≡ specs.outlined line.now token.now to action self.old }
     {
@@ -52,8 +52,8 @@ impl Outline {
     }
 }
 
-// The first place from one on at which no token begins, or else another place.
-fn fault_or(line: &[u8], place: u16, at: u16) -> u16
+/// Returns the first place from one on at which no token begins, or else another place.
+pub fn fault_or(line: &[u8], place: u16, at: u16) -> u16
     requires short { length line.now ≤ 1024 }
     requires inside { place ≤ length line.now }
     ensures { result ≡ specs.fault_or (tokens_at line.now place) at }

@@ -5,12 +5,12 @@ ghost use Rattle.bq_parser.specs.Syntax.{IsStatement};
 ghost use Rattle.bq_parser.specs.Limits.{limit_of};
 ghost use Rattle.bq_parser.specs.Refusal.{IsRefusal};
 
+use crate::draft::start;
 use crate::limits::limit_passed;
-use crate::plain::{PlainReading, read_plain};
-use crate::reading::read_parts;
+use crate::plain::{PlainReading, parse_plain};
+use crate::reading::read_draft;
 use crate::transitions::State;
 use crate::tree::Statement;
-use bq_lexer::lex;
 use thiserror::Error;
 
 /// The limits of a statement, in the order in which they are tried.
@@ -58,26 +58,23 @@ pub fn is_end(state: State) -> bool
     )
 }
 
-// The statement that a line is, by its tokens in order and a draft of its lists.
+// The statement that a line is, by a draft with its lists.
 #[inline(never)]
 fn parse_lists(line: &[u8]) -> Result<Statement, ParseError>
     requires { length line.now ≤ 1024 }
     ensures { MatchResult result (λ s. IsStatement line.now s × (limit_of s ≡ None)) (λ e. IsRefusal line.now e) }
 {
-    let tokens = match lex(line) {
-        Ok(tokens) => tokens,
-        Err(fault) => return Err(ParseError::Syntax { at: fault.at }),
-    };
-    let (state, draft) = match read_parts(line, tokens.as_slice()) {
-        Ok(found) => found,
+    let mut draft = start();
+    let outline = match read_draft(line, &mut draft) {
+        Ok(outline) => outline,
         Err(at) => return Err(ParseError::Syntax { at }),
     };
-    if !is_end(state) {
+    if !is_end(outline.state) {
         return Err(ParseError::Syntax {
             at: line.len() as u16,
         });
     }
-    match limit_passed(line, tokens.as_slice(), &draft) {
+    match limit_passed(outline.long, outline.wide, &draft) {
         Some(what) => Err(ParseError::Limit { what }),
         None => Ok(draft.finish()),
     }
@@ -88,7 +85,7 @@ pub fn parse(line: &[u8]) -> Result<Statement, ParseError>
     requires { length line.now ≤ 1024 }
     ensures { MatchResult result (λ s. IsStatement line.now s × (limit_of s ≡ None)) (λ e. IsRefusal line.now e) }
 {
-    match read_plain(line) {
+    match parse_plain(line) {
         PlainReading::Plain(statement) => Ok(statement.whole()),
         PlainReading::Listed => parse_lists(line),
         PlainReading::Refused(error) => Err(error),

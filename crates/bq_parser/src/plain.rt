@@ -119,7 +119,7 @@ fn reading_in(outline: &Outline) -> PlainReading
 
 /// Returns what a line is, read without its lists: the statement, where it has none and is within its limits; why it is refused; or
 /// that it is within the grammar and has lists, where nothing is said of limits.
-pub fn read_plain(line: &[u8]) -> PlainReading
+pub fn parse_plain(line: &[u8]) -> PlainReading
     requires { length line.now ≤ 1024 }
     ensures { IsReading line.now result }
 {

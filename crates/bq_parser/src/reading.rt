@@ -1,16 +1,17 @@
 //! The parts of a statement, read from its tokens.
 //!
-//! One pass over the tokens keeps the state that they lead to, and a draft of the statement. Whether a statement may end in that
-//! state, and whether it is within its limits, is asked behind the last token.
-ghost use Rattle.std.specs.Prelude.{◌≡◌, ◌≤◌, Ok, Err, length, slice_range, MatchResult, All};
-ghost use Rattle.bq_parser.specs.Syntax.{state_after};
+//! One pass over the tokens keeps the outline of the line, and a draft of the statement. Whether a statement may end in the state that
+//! they lead to, and whether it is within its limits, is asked behind the last token.
+ghost use Rattle.std.specs.Prelude.{◌≡◌, ◌≤◌, length, slice_range, MatchResult};
+ghost use Rattle.bq_parser.specs.Syntax.{IsFault};
 ghost use Rattle.bq_parser.specs.Reading.{no_parts};
-ghost use Rattle.bq_parser.specs.Keeping.{kept_parts, IsCut, IsRead};
-ghost use Rattle.bq_parser.specs.declared.transitions.State.TheVariants.{Start};
+ghost use Rattle.bq_parser.specs.Keeping.{kept_parts};
+ghost use Rattle.bq_parser.specs.Outlines.{IsDraft};
 
-use crate::draft::{Draft, start};
-use crate::transitions::{State, transition_of};
-use bq_lexer::Token;
+use crate::draft::Draft;
+use crate::outline::{Outline, fault_or};
+use crate::transitions::transition_of;
+use bq_lexer::{Token, next_token};
 
 /// Returns the bytes of a token.
 pub fn text_at<'a>(line: &'a [u8], token: &Token) -> &'a [u8]
@@ -20,22 +21,30 @@ pub fn text_at<'a>(line: &'a [u8], token: &Token) -> &'a [u8]
     &line[token.from as usize..token.to as usize]
 }
 
-/// Returns the state behind the tokens and what is kept of them, or where the first token stands that begins no statement.
-pub fn read_parts(line: &[u8], tokens: &[Token]) -> Result<(State, Draft), u16>
-    requires { All (IsCut line.now) tokens.now }
-    ensures { MatchResult result (λ found. IsRead line.now tokens.now found.0 found.1) (λ at. state_after line.now Start tokens.now ≡ Err at) }
+/// Keeps in a draft, where nothing is read, what a line says; and returns the outline of the line, or the place at which it is outside the
+/// grammar.
+pub fn read_draft(line: &[u8], draft: &mut Draft) -> Result<Outline, u16>
+    requires short { length line.now ≤ 1024 }
+    requires none { draft.old ≡ kept_parts no_parts }
+    ensures { MatchResult result (λ o. IsDraft line.now o draft.new) (λ at. IsFault line.now at) }
 {
-    let mut state = State::Start;
-    let mut draft = start();
-    for token in tokens {
-        let text = text_at(line, token);
-        match transition_of(state, token.kind, text) {
-            Some((to, action)) => {
-                draft.take(action, text);
-                state = to;
+    let mut outline = Outline::start();
+    let mut place = 0;
+    while usize::from(place) < line.len() {
+        match next_token(line, place) {
+            Err(fault) => return Err(fault.at),
+            Ok(None) => return Ok(outline),
+            Ok(Some(token)) => {
+                match transition_of(outline.state, token.kind, text_at(line, &token)) {
+                    Some((to, action)) => {
+                        draft.take(action, text_at(line, &token));
+                        outline.take(line, &token, to, action);
+                    }
+                    None => return Err(fault_or(line, token.to, token.from)),
+                }
+                place = token.to;
             }
-            None => return Err(token.from),
         }
     }
-    Ok((state, draft))
+    Ok(outline)
 }

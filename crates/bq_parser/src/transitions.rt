@@ -7,6 +7,7 @@ ghost use Rattle.bq_parser.specs.Steps.{step, word_step, step_of};
 ghost use Rattle.bq_parser.specs.Sections.{is_of_query, is_begun, is_in_columns, is_in_domain, is_in_query, is_in_select, is_on_left, is_on_right, is_in_resume, is_in_lock, is_at_end};
 
 use bq_lexer::TokenKind;
+use bq_model::Op;
 use bq_text::Key;
 
 /// How far a statement is read: what stands before the next token.
@@ -89,12 +90,7 @@ pub enum Action {
     AddFrom,
     LeftInteger,
     LeftColumnIs,
-    OpLess,
-    OpEqual,
-    OpGreater,
-    OpLessEqual,
-    OpGreaterEqual,
-    OpUnequal,
+    OpIs(Op),
     AddIntegerAtom,
     AddColumnAtom,
     BeginCheckpoint,
@@ -293,21 +289,21 @@ fn transition_on_left(state: State, kind: TokenKind) -> Option<(State, Action)>
             _ => None,
         },
         State::ColumnOp => match kind {
-            TokenKind::Less => Some((State::RightAny, Action::OpLess)),
-            TokenKind::Equal => Some((State::RightAny, Action::OpEqual)),
-            TokenKind::Greater => Some((State::RightAny, Action::OpGreater)),
-            TokenKind::LessEqual => Some((State::RightAny, Action::OpLessEqual)),
-            TokenKind::GreaterEqual => Some((State::RightAny, Action::OpGreaterEqual)),
-            TokenKind::Unequal => Some((State::RightAny, Action::OpUnequal)),
+            TokenKind::Less => Some((State::RightAny, Action::OpIs(Op::Lt))),
+            TokenKind::Equal => Some((State::RightAny, Action::OpIs(Op::Eq))),
+            TokenKind::Greater => Some((State::RightAny, Action::OpIs(Op::Gt))),
+            TokenKind::LessEqual => Some((State::RightAny, Action::OpIs(Op::Le))),
+            TokenKind::GreaterEqual => Some((State::RightAny, Action::OpIs(Op::Ge))),
+            TokenKind::Unequal => Some((State::RightAny, Action::OpIs(Op::Ne))),
             _ => None,
         },
         State::IntegerOp => match kind {
-            TokenKind::Less => Some((State::RightStream, Action::OpLess)),
-            TokenKind::Equal => Some((State::RightStream, Action::OpEqual)),
-            TokenKind::Greater => Some((State::RightStream, Action::OpGreater)),
-            TokenKind::LessEqual => Some((State::RightStream, Action::OpLessEqual)),
-            TokenKind::GreaterEqual => Some((State::RightStream, Action::OpGreaterEqual)),
-            TokenKind::Unequal => Some((State::RightStream, Action::OpUnequal)),
+            TokenKind::Less => Some((State::RightStream, Action::OpIs(Op::Lt))),
+            TokenKind::Equal => Some((State::RightStream, Action::OpIs(Op::Eq))),
+            TokenKind::Greater => Some((State::RightStream, Action::OpIs(Op::Gt))),
+            TokenKind::LessEqual => Some((State::RightStream, Action::OpIs(Op::Le))),
+            TokenKind::GreaterEqual => Some((State::RightStream, Action::OpIs(Op::Ge))),
+            TokenKind::Unequal => Some((State::RightStream, Action::OpIs(Op::Ne))),
             _ => None,
         },
         _ => None,

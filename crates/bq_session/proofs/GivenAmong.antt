@@ -1,5 +1,5 @@
 -- Which lines one source gave among the events of all, and how little of its bytes lies beyond them.
-use Rattle.std.proofs.Common.{◌≡◌, ℕ, ◌+◌, ◌<◌, ◌≤◌, ◌⊎◌, inl, inr, Bool, true, false, List, [], ◌∷◌, ◌++◌, length, refl, sym, ap, ◌∙◌, subst, append_assoc, append-nil, length-append, arith}
+use Rattle.std.proofs.Common.{◌≡◌, ℕ, ◌<◌, ◌≤◌, ◌⊎◌, inl, inr, Bool, true, false, List, [], ◌∷◌, ◌++◌, length, refl, sym, ap, ◌∙◌, subst, append_assoc, append-nil, length-append, arith}
 use Rattle.bq_io.specs.Source.{SourceState}
 use Rattle.bq_feed.specs.Reading.{Reading, fresh, IsBuffered}
 use Rattle.bq_feed.specs.Texts.{text_of, IsNear}

@@ -1,5 +1,5 @@
 -- Rows that a lock lets.
-use Rattle.std.proofs.Common.{◌≡◌, ℕ, ℤ, Bool, true, false, cond, List, length, Option, Some, None, refl, sym, ap, ◌∙◌, subst, IsTrue, Ok, Err}
+use Rattle.std.proofs.Common.{◌≡◌, ℕ, ℤ, Bool, true, false, cond, List, length, Option, Some, None, refl, sym, ap, subst, IsTrue, Ok, Err}
 use Rattle.std.specs.declared.result.Result.{Result}
 use Rattle.std.specs.Prelude.{◌==◌, nat_lt, is_some}
 use Rattle.bq_text.specs.Word.{word_of}
@@ -8,7 +8,7 @@ use Rattle.bq_parser.specs.declared.line.LineKind.TheVariants as kinds
 use Rattle.bq_schema.specs.declared.column.ColumnDef.{ColumnDef}
 use Rattle.bq_schema.specs.declared.row_error.RowError.{RowError}
 use Rattle.bq_schema.specs.declared.row_error.RowError.TheVariants.{Syntax, Limit, Arity, Domain}
-use Rattle.bq_schema.specs.Rows.{Entry, entry, entry_of, fields_of, row_for, row_of, row_with, values_of}
+use Rattle.bq_schema.specs.Rows.{Entry, entry, entry_of, fields_of, row_for, row_of, values_of}
 use Rattle.bq_schema.specs.Streams.{Shape, lie_within, shape_at, stream_number}
 use Rattle.bq_rows.specs.Open.{is_open}
 use Rattle.bq_session.specs.Lock.{Lock, LetsText, is_found_open, lets_row, open_in}

@@ -1,5 +1,5 @@
 -- Bounds for the cells of a line, whatever its kind is.
-use Rattle.std.proofs.Common.{ℕ, ◌+◌, ◌≤◌, List, max, arith}
+use Rattle.std.proofs.Common.{ℕ, ◌+◌, ◌≤◌, List, arith}
 use Rattle.std.proofs.Math.Nat.{le-max_left, le-max_right, max-le}
 use Rattle.bq_pool.specs.Counted.{StepsValue}
 use Rattle.bq_parser.specs.declared.line.LineKind.{LineKind}

@@ -1,5 +1,5 @@
 -- The cells that lines took, one after another.
-use Rattle.std.proofs.Common.{◌≡◌, ◌⊎◌, ℕ, ◌+◌, ◌≤◌, List, [], ◌∷◌, ◌++◌, refl, subst, arith}
+use Rattle.std.proofs.Common.{◌≡◌, ◌⊎◌, ℕ, ◌+◌, ◌≤◌, List, [], ◌∷◌, ◌++◌, subst, arith}
 use Rattle.bq_feed.specs.Texts.{ended_part}
 use Rattle.bq_pool.specs.Counted.{StepsValue}
 use Rattle.bq_text.specs.Lines.{lines}

@@ -1,5 +1,5 @@
 -- How a run ends where no line more can be counted.
-use Rattle.std.specs.Prelude.{◌≡◌, ◌⊎◌, ℕ, Bool, List, []}
+use Rattle.std.specs.Prelude.{◌⊎◌, ℕ, Bool, List}
 use Rattle.bq_io.specs.Source.{SourceState}
 use Rattle.bq_io.specs.Sink.{SinkState, Wrote}
 use Rattle.bq_io.specs.Gathered.{StaysHeld}

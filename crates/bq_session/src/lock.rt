@@ -6,7 +6,7 @@ ghost use Rattle.bq_session.specs.Lock as locks;
 ghost use Rattle.bq_session.specs.Lock.{IsUnlock, LetsText, Unlocks};
 ghost use Rattle.bq_session.specs.Requests as requests;
 
-use bq_parser::{LineKind, Statement, may_unlock, parse};
+use bq_parser::{LineKind, PlainReading, PlainStatement, may_unlock, parse_plain};
 use bq_reply::Refusal;
 use bq_rows::OpenStreams;
 use bq_schema::{Catalog, all_differ};
@@ -74,25 +74,6 @@ fn lets_row(opened: &OpenStreams, catalog: &Catalog, text: &[u8]) -> bool
     }
 }
 
-// The number that a statement unlocks, where it is an UNLOCK.
-fn key_of(statement: &Statement) -> Option<i64>
-    ensures { MatchOption result ((key : ℤ) → statement.now ≡ Unlock key → ⊥) (λ key. statement.now ≡ Unlock key) }
-{
-    match statement {
-        Statement::Unlock { key } => Some(*key),
-        Statement::CreateStream { .. } => None,
-        Statement::CreateQuery { .. } => None,
-        Statement::Explain { .. } => None,
-        Statement::DropQuery { .. } => None,
-        Statement::Checkpoint => None,
-        Statement::ResumeRows { .. } => None,
-        Statement::ResumeGiven { .. } => None,
-        Statement::ResumeCell { .. } => None,
-        Statement::ResumeTuple { .. } => None,
-        Statement::Lock { .. } => None,
-    }
-}
-
 // The number that a text unlocks, where it is an UNLOCK within the limits.
 fn number_unlocked(text: &[u8]) -> Option<i64>
     requires { length text.now ≤ 1024 }
@@ -102,9 +83,13 @@ fn number_unlocked(text: &[u8]) -> Option<i64>
     if !may_unlock(text) {
         return None;
     }
-    match parse(text) {
-        Ok(statement) => key_of(&statement),
-        Err(_) => None,
+    match parse_plain(text) {
+        PlainReading::Plain(statement) => match statement {
+            PlainStatement::Unlock { key } => Some(key),
+            _ => None,
+        },
+        PlainReading::Listed => None,
+        PlainReading::Refused(_) => None,
     }
 }
 

@@ -1,6 +1,4 @@
-use Rattle.std.proofs.Common.{◌++◌, ◌∙◌, List, [], ℕ, refl, sym, subst, arith}
-use Rattle.bq_session.specs.Run.{TookAll, AnsweredText}
-use Rattle.bq_session.specs.Session.{SessionValue}
+use Rattle.std.proofs.Common.{◌++◌, ◌∙◌, [], refl, arith}
 use Rattle.bq_session.proofs.ToldEvents.{at}
 use Rattle.bq_session.proofs.AnsweredLines.{rows_leave}
 use Rattle.bq_session.proofs.AnsweredProgress.{progress-answered}

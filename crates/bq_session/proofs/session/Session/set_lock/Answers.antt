@@ -1,4 +1,4 @@
-use Rattle.std.proofs.Common.{◌≡◌, List, All, ap, sym, ◌∙◌, subst}
+use Rattle.std.proofs.Common.{List, All, ap, sym, ◌∙◌, subst}
 use Rattle.bq_parser.specs.Resolution.{HasNamed}
 use Rattle.bq_registry.specs.Live.{Live}
 use Rattle.bq_rows.specs.Indexed.{IndexedValue}

@@ -2,7 +2,7 @@ use Rattle.std.proofs.Common.{sym, subst}
 use Rattle.bq_parser.specs.declared.plain.PlainReading.{PlainReading}
 use Rattle.bq_parser.specs.Outlines.{IsReading}
 use Rattle.bq_parser.proofs.PlainRead.{outline_read, outline_ends}
-use Rattle.bq_parser.proofs.plain.read_plain.Goals as goal
+use Rattle.bq_parser.proofs.plain.parse_plain.Goals as goal
 
 pub returns-then-is_end : goal.returns-then-is_end
 returns-then-is_end c =
