@@ -3,7 +3,7 @@ use Rattle.std.proofs.Common.{ℕ, List, Some, None, MatchOption, IfSome, String
 use Rattle.std.specs.declared.alloc.Global.{Global}
 use Rattle.std.specs.declared.option.Option.{Option}
 use Rattle.bq_top.specs.declared.command.Command.{Command}
-use Rattle.bq_top.specs.declared.command.Command.TheVariants.{Run, Load, Lower, Certify, Check, Advise, Help, Version}
+use Rattle.bq_top.specs.declared.command.Command.TheVariants.{Run, Load, Lower, Certify, Check, Advise, Split, Help, Version}
 use Rattle.bq_top.specs.Words.{AreRun}
 use Rattle.bq_top.specs.LoadWords.{AreLoad}
 use Rattle.bq_top.specs.LowerWords.{AreLower}
@@ -19,7 +19,8 @@ no_command words no_run no_load no_lower other none (Load n) asks = no_load n as
 no_command words no_run no_load no_lower other none (Lower n) asks = no_lower n asks
 no_command words no_run no_load no_lower other none Certify asks = other.0 asks
 no_command words no_run no_load no_lower other none Check asks = other.1 asks
-no_command words no_run no_load no_lower other none (Advise file) asks = other.2 file asks
+no_command words no_run no_load no_lower other none (Advise file) asks = other.2.0 file asks
+no_command words no_run no_load no_lower other none (Split file) asks = other.2.1 file asks
 no_command words no_run no_load no_lower other none Help asks = none.0 asks
 no_command words no_run no_load no_lower other none Version asks = none.1 asks
 
@@ -31,6 +32,7 @@ asked_script words (Lower n) h = absurd h
 asked_script words Certify h = h
 asked_script words Check h = h
 asked_script words (Advise file) h = h
+asked_script words (Split file) h = h
 asked_script words Help h = absurd h
 asked_script words Version h = absurd h
 
@@ -41,6 +43,7 @@ allowed_script words (Lower n) h = absurd h
 allowed_script words Certify h = tt
 allowed_script words Check h = tt
 allowed_script words (Advise file) h = tt
+allowed_script words (Split file) h = tt
 allowed_script words Help h = absurd h
 allowed_script words Version h = absurd h
 
@@ -54,6 +57,7 @@ asked_help words (Some (Lower n)) no_run no_load no_lower other h = absurd h
 asked_help words (Some Certify) no_run no_load no_lower other h = absurd h
 asked_help words (Some Check) no_run no_load no_lower other h = absurd h
 asked_help words (Some (Advise file)) no_run no_load no_lower other h = absurd h
+asked_help words (Some (Split file)) no_run no_load no_lower other h = absurd h
 asked_help words (Some Help) no_run no_load no_lower other h = h
 asked_help words (Some Version) no_run no_load no_lower other h = h
 
@@ -65,5 +69,6 @@ allowed_help words (Some (Lower n)) h = absurd h
 allowed_help words (Some Certify) h = absurd h
 allowed_help words (Some Check) h = absurd h
 allowed_help words (Some (Advise file)) h = absurd h
+allowed_help words (Some (Split file)) h = absurd h
 allowed_help words (Some Help) h = tt
 allowed_help words (Some Version) h = tt

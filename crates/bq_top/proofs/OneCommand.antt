@@ -7,11 +7,11 @@ use Rattle.std.specs.Str.{bytes_eq}
 use Rattle.std.proofs.lemmas.Fmt.{decimal_injective}
 use Rattle.bq_top.specs.declared.words.RunForm.{RunForm}
 use Rattle.bq_top.specs.declared.command.Command.{Command}
-use Rattle.bq_top.specs.declared.command.Command.TheVariants.{Run, Load, Lower, Certify, Check, Advise, Help, Version}
+use Rattle.bq_top.specs.declared.command.Command.TheVariants.{Run, Load, Lower, Certify, Check, Advise, Split, Help, Version}
 use Rattle.bq_top.specs.Words.{AreLast, AreOptions, AreRunTexts, rows_or_most, nothing, named, limited, by_line, over}
 use Rattle.bq_top.specs.LoadWords.{AreLoadTexts}
 use Rattle.bq_top.specs.LowerWords.{AreLowerTexts}
-use Rattle.bq_top.specs.CertificateWords.{AreAdviseTexts}
+use Rattle.bq_top.specs.CertificateWords.{AreAdviseTexts, AreSplitTexts, AreAdviseSplitTexts}
 use Rattle.bq_top.specs.HelpWords.{AreHelp, AreVersion}
 use Rattle.bq_top.specs.Commands.{Asks}
 use Rattle.bq_top.specs.Laws.{AskForOne}
@@ -69,6 +69,25 @@ one_advise texts f g p q =
     let tails : q.others ≡ p.others = cc in
     one_last p.others f g p.last (subst (λ ts. AreLast ts g) tails q.last)
 
+one_behind_split : (texts : List (List ℕ)) (f g : Bool) → AreSplitTexts texts f → AreSplitTexts texts g → f ≡ g
+one_behind_split texts f g p q =
+    let both : codes "--split" ∷ q.others ≡ codes "--split" ∷ p.others = sym q.words ∙ p.words in
+    let tails : q.others ≡ p.others = cc in
+    one_last p.others f g p.last (subst (λ ts. AreLast ts g) tails q.last)
+
+one_split : (texts : List (List ℕ)) (f g : Bool) → AreAdviseSplitTexts texts f → AreAdviseSplitTexts texts g → f ≡ g
+one_split texts f g p q =
+    let both : codes "advise" ∷ q.others ≡ codes "advise" ∷ p.others = sym q.words ∙ p.words in
+    let tails : q.others ≡ p.others = cc in
+    one_behind_split p.others f g p.split (subst (λ ts. AreSplitTexts ts g) tails q.split)
+
+-- `--split` is no name of a file
+advise_or_split : (texts : List (List ℕ)) (f g : Bool) → AreAdviseTexts texts f → AreAdviseSplitTexts texts g → ⊥
+advise_or_split texts f g p q =
+    let both : codes "advise" ∷ q.others ≡ codes "advise" ∷ p.others = sym q.words ∙ p.words in
+    let tails : q.others ≡ p.others = cc in
+    dash p.others (codes "-split") q.split.others f (sym tails ∙ q.split.words) p.last
+
 -- the number of a command by its first word
 unfoldable kind : List (List ℕ) → ℕ
 kind [] = 9
@@ -82,6 +101,7 @@ number_of (Lower m) = 2
 number_of Certify = 3
 number_of Check = 4
 number_of (Advise m) = 5
+number_of (Split m) = 5
 number_of Help = 6
 number_of Version = 7
 
@@ -93,6 +113,7 @@ by_kind words (Lower m) p = ap kind p.words
 by_kind words Certify p = ap kind p
 by_kind words Check p = ap kind p
 by_kind words (Advise m) p = ap kind p.words
+by_kind words (Split m) p = ap kind p.words
 by_kind words Help (inl p) = ap kind p
 by_kind words Help (inr p) = ap kind p
 by_kind words Version (inl p) = ap kind p
@@ -106,6 +127,7 @@ same_kind words (Run f) (Lower n) e p q = absurd (omega (arith, e))
 same_kind words (Run f) Certify e p q = absurd (omega (arith, e))
 same_kind words (Run f) Check e p q = absurd (omega (arith, e))
 same_kind words (Run f) (Advise n) e p q = absurd (omega (arith, e))
+same_kind words (Run f) (Split n) e p q = absurd (omega (arith, e))
 same_kind words (Run f) Help e p q = absurd (omega (arith, e))
 same_kind words (Run f) Version e p q = absurd (omega (arith, e))
 same_kind words (Load m) (Run g) e p q = absurd (omega (arith, e))
@@ -114,6 +136,7 @@ same_kind words (Load m) (Lower n) e p q = absurd (omega (arith, e))
 same_kind words (Load m) Certify e p q = absurd (omega (arith, e))
 same_kind words (Load m) Check e p q = absurd (omega (arith, e))
 same_kind words (Load m) (Advise n) e p q = absurd (omega (arith, e))
+same_kind words (Load m) (Split n) e p q = absurd (omega (arith, e))
 same_kind words (Load m) Help e p q = absurd (omega (arith, e))
 same_kind words (Load m) Version e p q = absurd (omega (arith, e))
 same_kind words (Lower m) (Run g) e p q = absurd (omega (arith, e))
@@ -122,6 +145,7 @@ same_kind words (Lower m) (Lower n) e p q = ap Lower (one_lower (map string_byte
 same_kind words (Lower m) Certify e p q = absurd (omega (arith, e))
 same_kind words (Lower m) Check e p q = absurd (omega (arith, e))
 same_kind words (Lower m) (Advise n) e p q = absurd (omega (arith, e))
+same_kind words (Lower m) (Split n) e p q = absurd (omega (arith, e))
 same_kind words (Lower m) Help e p q = absurd (omega (arith, e))
 same_kind words (Lower m) Version e p q = absurd (omega (arith, e))
 same_kind words Certify (Run g) e p q = absurd (omega (arith, e))
@@ -130,6 +154,7 @@ same_kind words Certify (Lower n) e p q = absurd (omega (arith, e))
 same_kind words Certify Certify e p q = refl
 same_kind words Certify Check e p q = absurd (omega (arith, e))
 same_kind words Certify (Advise n) e p q = absurd (omega (arith, e))
+same_kind words Certify (Split n) e p q = absurd (omega (arith, e))
 same_kind words Certify Help e p q = absurd (omega (arith, e))
 same_kind words Certify Version e p q = absurd (omega (arith, e))
 same_kind words Check (Run g) e p q = absurd (omega (arith, e))
@@ -138,6 +163,7 @@ same_kind words Check (Lower n) e p q = absurd (omega (arith, e))
 same_kind words Check Certify e p q = absurd (omega (arith, e))
 same_kind words Check Check e p q = refl
 same_kind words Check (Advise n) e p q = absurd (omega (arith, e))
+same_kind words Check (Split n) e p q = absurd (omega (arith, e))
 same_kind words Check Help e p q = absurd (omega (arith, e))
 same_kind words Check Version e p q = absurd (omega (arith, e))
 same_kind words (Advise m) (Run g) e p q = absurd (omega (arith, e))
@@ -146,14 +172,25 @@ same_kind words (Advise m) (Lower n) e p q = absurd (omega (arith, e))
 same_kind words (Advise m) Certify e p q = absurd (omega (arith, e))
 same_kind words (Advise m) Check e p q = absurd (omega (arith, e))
 same_kind words (Advise m) (Advise n) e p q = ap Advise (one_advise (map string_bytes words) m n p q)
+same_kind words (Advise m) (Split n) e p q = absurd (advise_or_split (map string_bytes words) m n p q)
 same_kind words (Advise m) Help e p q = absurd (omega (arith, e))
 same_kind words (Advise m) Version e p q = absurd (omega (arith, e))
+same_kind words (Split m) (Run g) e p q = absurd (omega (arith, e))
+same_kind words (Split m) (Load n) e p q = absurd (omega (arith, e))
+same_kind words (Split m) (Lower n) e p q = absurd (omega (arith, e))
+same_kind words (Split m) Certify e p q = absurd (omega (arith, e))
+same_kind words (Split m) Check e p q = absurd (omega (arith, e))
+same_kind words (Split m) (Advise n) e p q = absurd (advise_or_split (map string_bytes words) n m q p)
+same_kind words (Split m) (Split n) e p q = ap Split (one_split (map string_bytes words) m n p q)
+same_kind words (Split m) Help e p q = absurd (omega (arith, e))
+same_kind words (Split m) Version e p q = absurd (omega (arith, e))
 same_kind words Help (Run g) e p q = absurd (omega (arith, e))
 same_kind words Help (Load n) e p q = absurd (omega (arith, e))
 same_kind words Help (Lower n) e p q = absurd (omega (arith, e))
 same_kind words Help Certify e p q = absurd (omega (arith, e))
 same_kind words Help Check e p q = absurd (omega (arith, e))
 same_kind words Help (Advise n) e p q = absurd (omega (arith, e))
+same_kind words Help (Split n) e p q = absurd (omega (arith, e))
 same_kind words Help Help e p q = refl
 same_kind words Help Version e p q = absurd (omega (arith, e))
 same_kind words Version (Run g) e p q = absurd (omega (arith, e))
@@ -162,6 +199,7 @@ same_kind words Version (Lower n) e p q = absurd (omega (arith, e))
 same_kind words Version Certify e p q = absurd (omega (arith, e))
 same_kind words Version Check e p q = absurd (omega (arith, e))
 same_kind words Version (Advise n) e p q = absurd (omega (arith, e))
+same_kind words Version (Split n) e p q = absurd (omega (arith, e))
 same_kind words Version Help e p q = absurd (omega (arith, e))
 same_kind words Version Version e p q = refl
 

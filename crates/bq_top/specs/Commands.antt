@@ -3,11 +3,11 @@ use Rattle.std.specs.Prelude.{ℕ, ◌<◌, ◌≤◌, ◌^◌, ⊤, Bool, true,
 use Rattle.std.specs.declared.alloc.Global.{Global}
 use Rattle.bq_io.specs.Source.{SourceState}
 use Rattle.bq_top.specs.declared.command.Command.{Command}
-use Rattle.bq_top.specs.declared.command.Command.TheVariants.{Run, Load, Lower, Certify, Check, Advise, Help, Version}
+use Rattle.bq_top.specs.declared.command.Command.TheVariants.{Run, Load, Lower, Certify, Check, Advise, Split, Help, Version}
 use Rattle.bq_top.specs.Words.{AreRun}
 use Rattle.bq_top.specs.LoadWords.{AreLoad}
 use Rattle.bq_top.specs.LowerWords.{AreLower}
-use Rattle.bq_top.specs.CertificateWords.{AreCertify, AreCheck, AreAdvise}
+use Rattle.bq_top.specs.CertificateWords.{AreCertify, AreCheck, AreAdvise, AreSplit}
 use Rattle.bq_top.specs.HelpWords.{AreHelp, AreVersion}
 
 -- the words ask for this
@@ -18,6 +18,7 @@ Asks words (Lower rows) = AreLower words rows
 Asks words Certify = AreCertify words
 Asks words Check = AreCheck words
 Asks words (Advise file) = AreAdvise words file
+Asks words (Split file) = AreSplit words file
 Asks words Help = AreHelp words
 Asks words Version = AreVersion words
 
@@ -29,6 +30,7 @@ IsAllowed (Lower rows) = (0 < rows) × (rows ≤ 1000)
 IsAllowed Certify = ⊤
 IsAllowed Check = ⊤
 IsAllowed (Advise file) = ⊤
+IsAllowed (Split file) = ⊤
 IsAllowed Help = ⊤
 IsAllowed Version = ⊤
 
@@ -40,6 +42,7 @@ names_file (Lower rows) = false
 names_file Certify = false
 names_file Check = false
 names_file (Advise file) = file
+names_file (Split file) = file
 names_file Help = false
 names_file Version = false
 
@@ -62,7 +65,7 @@ HasFile true files = 0 < length files
 abbrev pub AreOther : List (String Global) → List SourceState → Type 0
 AreOther words files = (command : Command) → Asks words command → HasFile (names_file command) files → ⊥
 
--- whether a command reads a script of one query, or advises on a script
+-- whether a command reads a script of one query, or advises on a script or on its keys
 abbrev pub is_script : Command → Bool
 is_script (Run form) = false
 is_script (Load rows) = false
@@ -70,5 +73,6 @@ is_script (Lower rows) = true
 is_script Certify = true
 is_script Check = true
 is_script (Advise file) = true
+is_script (Split file) = true
 is_script Help = false
 is_script Version = false

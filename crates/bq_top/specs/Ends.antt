@@ -6,12 +6,13 @@ use Rattle.bq_io.specs.declared.status.Status.TheVariants as status
 use Rattle.bq_io.specs.Source.{SourceState}
 use Rattle.bq_io.specs.Sink.{SinkState}
 use Rattle.bq_top.specs.declared.command.Command.{Command}
-use Rattle.bq_top.specs.declared.command.Command.TheVariants.{Run, Load, Lower, Certify, Check, Advise, Help, Version}
+use Rattle.bq_top.specs.declared.command.Command.TheVariants.{Run, Load, Lower, Certify, Check, Advise, Split, Help, Version}
 use Rattle.bq_script.specs.Commands as certificates
 use Rattle.bq_certify.specs.Certifying.{Certifies}
 use Rattle.bq_certify.specs.Checking.{Checks}
 use Rattle.bq_lowering.specs.Lowering.{Lowers}
 use Rattle.bq_advice.specs.Advising.{Advises}
+use Rattle.bq_splitting.specs.Splitting.{Splits}
 use Rattle.bq_top.specs.Commands.{Runs, AreOther, names_file}
 use Rattle.bq_top.specs.Files.{FirstRead}
 use Rattle.bq_top.specs.Help.{TextEnds, help_text, version_text}
@@ -24,6 +25,7 @@ OverScript s (Lower rows) source source' sink sink' = certificates.CommandEnds (
 OverScript s Certify source source' sink sink' = certificates.CommandEnds Certifies s source source' sink sink'
 OverScript s Check source source' sink sink' = certificates.CommandEnds Checks s source source' sink sink'
 OverScript s (Advise file) source source' sink sink' = certificates.CommandEnds Advises s source source' sink sink'
+OverScript s (Split file) source source' sink sink' = certificates.CommandEnds Splits s source source' sink sink'
 OverScript s (Run form) source source' sink sink' = ⊥
 OverScript s (Load rows) source source' sink sink' = ⊥
 OverScript s Help source source' sink sink' = ⊥
@@ -37,6 +39,7 @@ CommandEnds s (Lower rows) source source' sink sink' = OverScript s (Lower rows)
 CommandEnds s Certify source source' sink sink' = OverScript s Certify source source' sink sink'
 CommandEnds s Check source source' sink sink' = OverScript s Check source source' sink sink'
 CommandEnds s (Advise file) source source' sink sink' = OverScript s (Advise file) source source' sink sink'
+CommandEnds s (Split file) source source' sink sink' = OverScript s (Split file) source source' sink sink'
 CommandEnds s Help source source' sink sink' = (source' ≡ source) × TextEnds s help_text sink sink'
 CommandEnds s Version source source' sink sink' = (source' ≡ source) × TextEnds s version_text sink sink'
 
@@ -62,6 +65,7 @@ FileCommandEnds s failed (Lower rows) file file' input input' sink sink' = ⊥
 FileCommandEnds s failed Certify file file' input input' sink sink' = ⊥
 FileCommandEnds s failed Check file file' input input' sink sink' = ⊥
 FileCommandEnds s failed (Advise named) file file' input input' sink sink' = ScriptEnds s failed (Advise named) file file' input input' sink sink'
+FileCommandEnds s failed (Split named) file file' input input' sink sink' = ScriptEnds s failed (Split named) file file' input input' sink sink'
 FileCommandEnds s failed Help file file' input input' sink sink' = ⊥
 FileCommandEnds s failed Version file file' input input' sink sink' = ⊥
 

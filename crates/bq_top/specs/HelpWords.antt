@@ -5,7 +5,7 @@ use Rattle.std.specs.declared.alloc.Global.{Global}
 use Rattle.std.specs.declared.option.Option.{Option}
 use Rattle.std.specs.declared.option.Option.TheVariants.{None, Some}
 use Rattle.bq_top.specs.declared.command.Command.{Command}
-use Rattle.bq_top.specs.declared.command.Command.TheVariants.{Run, Load, Lower, Certify, Check, Advise, Help, Version}
+use Rattle.bq_top.specs.declared.command.Command.TheVariants.{Run, Load, Lower, Certify, Check, Advise, Split, Help, Version}
 
 -- the one word `--help`, or `-h`
 abbrev pub AreHelp : List (String Global) → Type 0
@@ -24,5 +24,6 @@ HelpCommand words (Some (Lower rows)) = ⊥
 HelpCommand words (Some Certify) = ⊥
 HelpCommand words (Some Check) = ⊥
 HelpCommand words (Some (Advise file)) = ⊥
+HelpCommand words (Some (Split file)) = ⊥
 HelpCommand words (Some Help) = AreHelp words
 HelpCommand words (Some Version) = AreVersion words

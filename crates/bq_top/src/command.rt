@@ -24,6 +24,8 @@ pub enum Command {
     Check,
     /// Advice on each line of a script, which a file has, or the input.
     Advise { file: bool },
+    /// Choices of keys for the streams of a script, which a file has, or the input.
+    Split { file: bool },
     /// How the program is used.
     Help,
     /// Which version of the program this is.
@@ -57,6 +59,7 @@ pub fn names_file(command: Command) -> bool
     match command {
         Command::Run(form) => form.file,
         Command::Advise { file } => file,
+        Command::Split { file } => file,
         Command::Load(_) => false,
         Command::Lower(_) => false,
         Command::Certify => false,

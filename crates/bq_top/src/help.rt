@@ -28,6 +28,10 @@ bq lower N         read a script of one query, and write N rows that show why th
 bq advise [FILE]   read a script to its end, and write what is wrong with its
                    lines, and what would mend or better its queries:
                    bq advise rooms.bq && bq run rooms.bq < rows
+bq advise --split [FILE]
+                   read a script to its end, and write by which columns rows
+                   may be dealt to several processes, and what then holds of
+                   each query:               bq advise --split rooms.bq
 bq load N          answer N generated rows, and write one line of sums:
                    bq load 1000
 bq --help          write this text; also -h
@@ -53,7 +57,8 @@ What cannot be taken is answered by error, the number of the line and a word.
 
 Status 0  done
        1  certify, check or lower refuses a line, or a certificate has a fault;
-          advise finds a line at fault or a query that is refused
+          advise finds a line at fault or a query that is refused;
+          with --split, a line is refused or the choices are too many
        2  the words are none of these forms; nothing was read, and standard
           error says so
        4  the file, the input or one of the feeds failed

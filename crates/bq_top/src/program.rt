@@ -15,6 +15,7 @@ use bq_advice::advise_script;
 use bq_certify::{certify, check_script};
 use bq_io::{Sink, Source, Status};
 use bq_lowering::lower;
+use bq_splitting::split_script;
 use std::alloc::Global;
 
 // Does what a command over a script asks for, with the script in this source.
@@ -34,6 +35,7 @@ fn over_script<I: Source, O: Sink>(
         Command::Certify => certify(alloc, source, output),
         Command::Check => check_script(alloc, source, output),
         Command::Advise { file: _ } => advise_script(alloc, source, output),
+        Command::Split { file: _ } => split_script(alloc, source, output),
         Command::Run(_) => unreachable!(),
         Command::Load(_) => unreachable!(),
         Command::Help => unreachable!(),
@@ -87,6 +89,7 @@ fn run_command<F: Source, I: Source, O: Sink>(
         Command::Certify => run_script(alloc, command, files, input, output),
         Command::Check => run_script(alloc, command, files, input, output),
         Command::Advise { file: _ } => run_script(alloc, command, files, input, output),
+        Command::Split { file: _ } => run_script(alloc, command, files, input, output),
     }
 }
 
@@ -117,6 +120,10 @@ fn run_command<F: Source, I: Source, O: Sink>(
 /// a query is refused and what would mend it, what a query of several parts costs, and at the end one line with what all lines came to. It writes
 /// when all is known, and ends with `Invalid` where a line is at fault or a query is refused. For `ReadFault`, `ByteLimit` and `Memory` nothing
 /// was written. It reads FILE, where that is named, and does not touch the input then; else it reads the input.
+///
+/// `advise --split [FILE]` reads a script to its end, and takes no row. It writes choices of keys for its streams by which rows are dealt to shards, and how
+/// the shards answer each query under each of them. It writes when all is known, and ends with `Invalid` where a line is refused or there are too many
+/// choices. For `ReadFault`, `ByteLimit` and `Memory` nothing was written. FILE is as for `advise`.
 ///
 /// `--help` or `-h`, alone, writes how the program is used, and `--version` or `-V`, alone, its version. Nothing is read.
 ///

@@ -1,0 +1,4 @@
+pub mod Choices
+pub mod Counting
+pub mod Extending
+pub mod Sifting

@@ -1,0 +1,16 @@
+//! Choices of keys, and queries with the classes of their columns.
+use arrayvec::ArrayVec;
+use bq_model::Query;
+
+/// The key column of each stream by its number, or none where it is broadcast.
+#[derive(Clone, Copy, Debug, PartialEq, Eq)]
+pub struct Choice {
+    pub keys: [Option<u8>; 16],
+}
+
+/// A query with the classes of its columns.
+#[derive(Drop)]
+pub struct KeyedQuery {
+    pub query: Query,
+    pub classes: ArrayVec<u8, 12>,
+}

@@ -1,0 +1,5 @@
+-- The lemmas of `bq_embed`.
+pub mod FirstLines
+pub mod Feeding
+pub mod Pieces
+pub mod Takings

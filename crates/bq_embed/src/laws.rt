@@ -1,0 +1,18 @@
+//! Laws of the definitions, as public functions without a body: the clause is the law.
+ghost use Rattle.bq_embed.specs.Laws.{RestIsFedLater, FeedsInPieces, RepliesAreSessionText};
+
+/// A text of which a front was taken, and then what was not taken of it, is fed as the whole text: its replies are those to both, one
+/// behind the other, whatever was held before and cleared between.
+pub fn rest_is_fed_later()
+    ensures { RestIsFedLater }
+{}
+
+/// A text that ends with LF, and another behind it, are fed as the text that they make.
+pub fn feeds_in_pieces()
+    ensures { FeedsInPieces }
+{}
+
+/// What a session replies to all that it is fed, from the state before the first line on, is the session text of that.
+pub fn replies_are_session_text()
+    ensures { RepliesAreSessionText }
+{}

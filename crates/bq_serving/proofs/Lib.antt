@@ -1,0 +1,5 @@
+mod ServedCells
+mod ServedCounts
+mod ServedDistinct
+mod ServedLaw
+mod PlainServes

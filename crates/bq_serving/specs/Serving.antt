@@ -1,0 +1,71 @@
+-- What a part has to be, whatever kind of query it is of, so that its cells tell the answers, and when a plan takes each combination once.
+use Rattle.std.specs.Prelude.{◌≡◌, ℕ, ◌<◌, ◌⊎◌, ◌↔◌, ℤ, false, IsTrue, nat_eq, if◌then◌else◌, List, length, All, AllPairs, Contains}
+use Rattle.bq_model.specs.declared.atom.Attr.{Attr}
+use Rattle.bq_model.specs.declared.atom.Op.{Op}
+use Rattle.bq_model.specs.declared.plan.Dim.{Dim}
+use Rattle.bq_model.specs.declared.plan.Kind.{Kind}
+use Rattle.bq_model.specs.declared.plan.Link.{Link}
+use Rattle.bq_model.specs.declared.plan.PartPlan.{PartPlan}
+use Rattle.bq_model.specs.Query.{QueryValue}
+use Rattle.bq_model.specs.Assignment.{Holds, KeepsDomains}
+use Rattle.bq_model.specs.Meaning.{joined}
+use Rattle.bq_model.specs.Boxes.{box_size}
+use Rattle.bq_model.specs.Plan.{stream_at, dims_at}
+use Rattle.bq_model.specs.Admission.{admits}
+use Rattle.bq_model.specs.Combinations.{tied}
+use Rattle.bq_laws.specs.Admitting.{AreAdmitted}
+
+-- the part says that two columns are of one class
+abbrev pub AreTied : QueryValue → PartPlan → Attr → Attr → Type 0
+AreTied q part a b = IsTrue (tied q part.signs.items a b)
+
+-- the value of a column is kept: a dim of its stream is of its class
+pub record IsKept (q : QueryValue) (part : PartPlan) (a : Attr) : Type 0 where
+  pub dim : Dim
+  pub among : Contains (dims_at part a.stream) dim
+  pub tied : AreTied q part dim.attr a
+
+-- the least value of its class is kept
+pub record IsLeastKept (q : QueryValue) (part : PartPlan) (a : Attr) : Type 0 where
+  pub extreme : Attr
+  pub kind : (stream_at part a.stream).kind ≡ Kind.Least extreme
+  pub stream : extreme.stream ≡ a.stream
+  pub tied : AreTied q part extreme a
+
+-- the greatest value of its class is kept
+pub record IsGreatestKept (q : QueryValue) (part : PartPlan) (a : Attr) : Type 0 where
+  pub extreme : Attr
+  pub kind : (stream_at part a.stream).kind ≡ Kind.Greatest extreme
+  pub stream : extreme.stream ≡ a.stream
+  pub tied : AreTied q part extreme a
+
+-- a comparison of two columns can be asked of what is kept: of `<` and `<=` the least value of the left side serves, and the greatest of the right one
+abbrev pub CanBeAsked : QueryValue → PartPlan → Op → Attr → Attr → Type 0
+CanBeAsked q part Op.Lt x y = (IsKept q part x ⊎ IsLeastKept q part x) × (IsKept q part y ⊎ IsGreatestKept q part y)
+CanBeAsked q part Op.Le x y = (IsKept q part x ⊎ IsLeastKept q part x) × (IsKept q part y ⊎ IsGreatestKept q part y)
+CanBeAsked q part o x y = IsKept q part x × IsKept q part y
+
+-- the part serves: what it keeps of each stream tells the selected columns, and whether the links hold
+pub record Serves (q : QueryValue) (part : PartPlan) : Type 0 where
+  pub count : length part.streams.items ≡ length q.from
+  pub size : (place : ℕ) → place < length q.from → (stream_at part place).size ≡ (if nat_eq (length q.from) 1 then 0 else box_size (dims_at part place))
+  pub kind : (place : ℕ) → place < length q.from → ((stream_at part place).kind ≡ Kind.Count) ↔ (q.distinct ≡ false)
+  pub streams : (place : ℕ) → place < length q.from → (d : Dim) → Contains (dims_at part place) d → d.attr.stream ≡ place
+  pub classes : (place : ℕ) → place < length q.from → (v : ℕ → ℤ) → IsTrue (admits q part place v)
+      → (a b : Attr) → a.stream ≡ place → b.stream ≡ place → AreTied q part a b → v a.column ≡ v b.column
+  pub selected : (a : Attr) → Contains q.select a → IsKept q part a
+  pub equal : (l : Link) → Contains part.equal.items l → CanBeAsked q part Op.Eq l.left l.right
+  pub less : (l : Link) → Contains part.less.items l → CanBeAsked q part Op.Lt l.left l.right
+
+-- of the combinations that keep to the domains, each that satisfies the condition is taken by one part of the plan, and no other is taken
+pub record TakesOnce (q : QueryValue) (plan : List PartPlan) : Type 0 where
+  pub each : (rows : List (ℕ → ℤ)) → length rows ≡ length q.from → KeepsDomains q (joined rows) → Holds q (joined rows)
+      → (part : PartPlan) × Contains plan part × AreAdmitted q part rows
+  pub no_other : (part : PartPlan) → Contains plan part
+      → (rows : List (ℕ → ℤ)) → length rows ≡ length q.from → KeepsDomains q (joined rows) → AreAdmitted q part rows → Holds q (joined rows)
+  pub apart : AllPairs (λ part other. (rows : List (ℕ → ℤ)) → length rows ≡ length q.from → KeepsDomains q (joined rows) → AreAdmitted q part rows → ¬ AreAdmitted q other rows) plan
+
+-- a plan that tells the answers
+pub record IsServing (q : QueryValue) (plan : List PartPlan) : Type 0 where
+  pub serves : All (Serves q) plan
+  pub once : TakesOnce q plan

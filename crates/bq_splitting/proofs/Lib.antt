@@ -1,0 +1,5 @@
+pub mod Texts
+pub mod Progress
+pub mod Ended
+pub mod Taken
+pub mod Widths

@@ -1,0 +1,42 @@
+-- Texts that are written one behind another.
+use Rattle.std.proofs.Common.{◌≡◌, ℕ, ◌+◌, ◌-◌, ◌<◌, ◌≤◌, List, [], ◌∷◌, ◌++◌, length, take, drop, get_or, refl, sym, ap, ◌∙◌, subst, arith}
+use Rattle.std.specs.declared.result.Result.{Result}
+use Rattle.std.specs.List.{flat_map, range_with_len}
+use Rattle.std.proofs.lemmas.List.{take_rest}
+use Rattle.std.proofs.lemmas.List.FromFn.{get_or-range_with_len, length-range_with_len}
+use Rattle.bq_io.specs.Sink.{SinkState, Wrote, BrokeOff, Writes}
+use Rattle.bq_io.proofs.Writing.{BrokeOff-at}
+use Rattle.bq_explain.proofs.Writers.{item_wrote, all_wrote}
+use Rattle.bq_print.proofs.WritesBehind.{writes_then}
+use Rattle.bq_split.specs.declared.judging.Judgement.{Judgement}
+use Rattle.bq_splitting.specs.Text.{query_text, judgement_text, queries_text}
+
+-- a text was written, and then a second one
+pub writes_behind : {T E : Type 0} (r : Result T E) (a b c : SinkState) (s t : List ℕ) → Wrote a b s → Writes r b c t → Writes r a c (s ++ t)
+writes_behind r a b c s t p q = writes_then r a b c s t (s ++ t) refl p q
+
+module _ (f : ℕ → List ℕ) (n : ℕ) (a b c : SinkState) where
+  at-number : (i : ℕ) → i < n → get_or (range_with_len 0 n) i 0 ≡ i
+  at-number i l = let e : 0 + i ≡ i = omega arith in get_or-range_with_len 0 n i 0 l ∙ e
+
+  in-range : (i : ℕ) → i < n → i < length (range_with_len 0 n)
+  in-range i l = let e : length (range_with_len 0 n) ≡ n = length-range_with_len 0 n in omega (arith, l, e)
+
+  -- the texts of the first numbers were written, and then that of the next one
+  pub number-wrote : (i : ℕ) → i < n → Wrote a b (flat_map f (take i (range_with_len 0 n))) → Wrote b c (f i) → Wrote a c (flat_map f (take (i + 1) (range_with_len 0 n)))
+  number-wrote i l p q = item_wrote f (range_with_len 0 n) i 0 a b c (in-range i l) p (subst (λ (m : ℕ). Wrote b c (f m)) (sym (at-number i l)) q)
+
+  pub number-broke : (i : ℕ) → i < n → Wrote a b (flat_map f (take i (range_with_len 0 n))) → BrokeOff b c (f i) → BrokeOff a c (flat_map f (range_with_len 0 n))
+  number-broke i l p q = BrokeOff-at f (range_with_len 0 n) i 0 a b c (in-range i l) p (subst (λ (m : ℕ). BrokeOff b c (f m)) (sym (at-number i l)) q)
+
+pub numbers-wrote : (f : ℕ → List ℕ) (n i : ℕ) (a b : SinkState) → n ≤ i → Wrote a b (flat_map f (take i (range_with_len 0 n))) → Wrote a b (flat_map f (range_with_len 0 n))
+numbers-wrote f n i a b l p = all_wrote f (range_with_len 0 n) i a b (let e : length (range_with_len 0 n) ≡ n = length-range_with_len 0 n in omega (arith, l, e)) p
+
+-- the text of the first query, and then those of the others
+pub queries-first : (names : List (List ℕ)) (hows : List Judgement) (b name : List ℕ) (d : Judgement) → 1 ≤ length names → b ≡ name → name ≡ get_or names 0 name → 1 ≤ length hows
+    → queries_text names hows ≡ query_text b (judgement_text (get_or hows 0 d)) ++ queries_text (take (length names - 1) (drop 1 names)) (take (length hows - 1) (drop 1 hows))
+queries-first [] hows b name d l e f m = absurd (omega (arith, l))
+queries-first (x ∷ xs) [] b name d l e f m = absurd (omega (arith, m))
+queries-first (x ∷ xs) (h ∷ hs) b name d l e f m =
+    ap (λ (z : List ℕ). query_text z (judgement_text h) ++ queries_text xs hs) (sym (e ∙ f)) ∙ ap (λ (zs : List (List ℕ)). query_text b (judgement_text h) ++ queries_text zs hs) (sym (take_rest (x ∷ xs) 1))
+    ∙ ap (λ (zs : List Judgement). query_text b (judgement_text h) ++ queries_text (take (length (x ∷ xs) - 1) (drop 1 (x ∷ xs))) zs) (sym (take_rest (h ∷ hs) 1))

@@ -1,0 +1,13 @@
+use Rattle.bq_print.proofs.WritesBehind.{writes_then, writes_stop}
+use Rattle.bq_splitting.proofs.Texts.{queries-first}
+use Rattle.bq_splitting.proofs.printing.+write_queries.Goals as goal
+
+pub returns-in-Ok : goal.returns-in-Ok
+returns-in-Ok g t c =
+    writes_then c.write_queries.result _ _ _ _ _ _
+    (queries-first c.args.names.now c.args.judgements.now _ c.name-item.result _ c.in-len1-up.len_at_least c.bytes.ensures.bytes c.name-item.is c.in-len1-up-judgements.len_at_least) c.in-Ok.ensures c.write_queries.ensures
+
+pub returns-in-Err : goal.returns-in-Err
+returns-in-Err g t c =
+    writes_stop _ _ _ _ _
+    (queries-first c.args.names.now c.args.judgements.now _ c.name-item.result _ c.in-len1-up.len_at_least c.bytes.ensures.bytes c.name-item.is c.in-len1-up-judgements.len_at_least) c.in-Err.ensures

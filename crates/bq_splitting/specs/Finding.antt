@@ -1,0 +1,35 @@
+-- What is found for the streams and queries of a script.
+use Rattle.std.specs.Prelude.{◌≡◌, ℕ, ◌-◌, List, [], length, take}
+use Rattle.std.specs.List.{AllZip}
+use Rattle.bq_split.specs.declared.judging.Judgement.{Judgement}
+use Rattle.bq_split.specs.Judged.{IsJudged}
+use Rattle.bq_choices.specs.declared.choice.Choice.{Choice}
+use Rattle.bq_choices.specs.declared.choice.KeyedQuery.{KeyedQuery}
+use Rattle.bq_choices.specs.Choices.{keys_in, AreLeast}
+use Rattle.bq_choices.specs.Counting.{HasManyChoices}
+use Rattle.bq_splitting.specs.declared.told.ToldChoice.{ToldChoice}
+use Rattle.bq_splitting.specs.declared.finding.Finding.{Finding}
+use Rattle.bq_splitting.specs.declared.finding.Finding.TheVariants.{NoStream, Many, Least}
+use Rattle.bq_splitting.specs.State.{State, widths_of}
+
+-- how the shards answer each query under a choice
+abbrev pub AreJudged : List KeyedQuery → Choice → List Judgement → Type 0
+AreJudged queries c judgements = AllZip (λ k how. IsJudged k.query (keys_in c) how) queries judgements
+
+-- the choice is told, with how the shards answer each query under it
+pub record IsTold (queries : List KeyedQuery) (c : Choice) (t : ToldChoice) : Type 0 where
+  pub choice : t.choice ≡ c
+  pub judged : AreJudged queries c t.judgements.items
+
+-- the first 16 of the least choices are told, and how many more there are
+pub record TellsLeast (s : State) (told : List ToldChoice) (more : ℕ) : Type 0 where
+  pub choices : List Choice
+  pub least : AreLeast s.queries (widths_of s.streams) choices
+  pub each : AllZip (IsTold s.queries) (take 16 choices) told
+  pub others : more ≡ length choices - 16
+
+-- there is no stream, there are too many choices to look at, or the least ones are told
+abbrev pub IsFinding : State → Finding → Type 0
+IsFinding s NoStream = s.streams ≡ []
+IsFinding s Many = HasManyChoices (widths_of s.streams)
+IsFinding s (Least told more) = TellsLeast s told.items more

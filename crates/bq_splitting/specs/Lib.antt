@@ -1,0 +1,6 @@
+pub mod State
+pub mod Steps
+pub mod Splitting
+pub mod Finding
+pub mod Reading
+pub mod Text

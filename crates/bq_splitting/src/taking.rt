@@ -1,0 +1,151 @@
+//! Lines of a script, taken one after another.
+ghost use Rattle.std.specs.Prelude.{◌≡◌, ◌<◌, ◌≤◌, ◌-◌, ◌^◌, None, true, [], IfOk, OnOk, length};
+ghost use Rattle.bq_model.specs.Parts.{HasMoreParts};
+ghost use Rattle.bq_lto_split.specs.Split.{OnTooMany};
+ghost use Rattle.bq_diagnosis.specs.Faults.{IsDiagnosis, IsReady};
+ghost use Rattle.bq_choices.specs.Choices.{IsKeyed};
+ghost use Rattle.bq_splitting.specs.State.{stopped};
+ghost use Rattle.bq_splitting.specs.Steps.{TakesQuery, TakesAsks, TakesLine, TakesGiven};
+
+use crate::state::Splitting;
+use bq_choices::KeyedQuery;
+use bq_diagnosis::{Asks, Fault, Known, diagnose, word_of};
+use bq_lto_split::{SplitError, split};
+use bq_model::Query;
+use bq_reply::Refusal;
+use bq_split::classes;
+use bq_text::Name;
+use std::alloc::{AllocError, Global};
+
+// A query with the classes of its columns.
+fn keyed_query(alloc: Global, query: Query) -> Result<KeyedQuery, SplitError>
+    ensures query { IfOk result (λ keyed. keyed.query ≡ query) }
+    ensures keyed { IfOk result IsKeyed }
+    ensures over { OnTooMany result (HasMoreParts query 4096) }
+{
+    match split(alloc, &query) {
+        Ok(parts) => {
+            let classes = classes(&query, parts.as_slice());
+            Ok(KeyedQuery { query, classes })
+        }
+        Err(error) => Err(error),
+    }
+}
+
+// Takes a line that asks for a query.
+fn take_query(
+    alloc: Global,
+    state: &mut Splitting,
+    name: Name,
+    query: Query,
+) -> Result<(), AllocError>
+    requires { state.old.lines < 2 ^ 64 - 1 }
+    ensures { OnOk result (TakesQuery state.old name query state.new) }
+{
+    match keyed_query(alloc, query) {
+        Ok(keyed) => state.add_query(name, keyed),
+        Err(SplitError::TooManyParts) => {
+            state.stop_at(Refusal::Limit);
+            Ok(())
+        }
+        Err(SplitError::Memory) => Err(AllocError),
+    }
+}
+
+// Takes a line that asks for this.
+fn take_asks(alloc: Global, state: &mut Splitting, asks: Asks) -> Result<(), AllocError>
+    requires lines { state.old.lines < 2 ^ 64 - 1 }
+    requires ready { IsReady state.old.streams asks }
+    ensures { OnOk result (TakesAsks state.old asks state.new) }
+{
+    match asks {
+        Asks::Query { name, query, .. } => take_query(alloc, state, name, query),
+        Asks::Stream { name, columns } => {
+            state.add_stream(name, columns.as_slice());
+            Ok(())
+        }
+        Asks::Drop(name) => {
+            state.drop_query(&name);
+            Ok(())
+        }
+        Asks::Nothing
+        | Asks::Row
+        | Asks::Explain
+        | Asks::Other
+        | Asks::Lock { .. }
+        | Asks::Unlock => {
+            state.count_line();
+            Ok(())
+        }
+    }
+}
+
+// What a line asks for, as an open session reads it.
+fn look_at(state: &Splitting, line: &[u8]) -> Result<Asks, Fault>
+    ensures found { IsDiagnosis state.now.streams state.now.names line.now result }
+    ensures ready { IfOk result (IsReady state.now.streams) }
+{
+    let known = Known {
+        catalog: state.catalog(),
+        live: state.names(),
+    };
+    diagnose(line, &known)
+}
+
+// Takes a line behind lines of which none is refused.
+fn take_looked(alloc: Global, state: &mut Splitting, line: &[u8]) -> Result<(), AllocError>
+    requires lines { state.old.lines < 2 ^ 64 - 1 }
+    requires stop { state.old.stop ≡ None }
+    ensures { OnOk result (TakesLine state.old line.now state.new) }
+{
+    match look_at(state, line) {
+        Ok(asks) => take_asks(alloc, state, asks),
+        Err(fault) => {
+            state.stop_at(word_of(&fault));
+            Ok(())
+        }
+    }
+}
+
+// Takes the next line of a script, which is not looked at where one before it is refused.
+fn take_line(alloc: Global, state: &mut Splitting, line: &[u8]) -> Result<(), AllocError>
+    requires { state.old.lines < 2 ^ 64 - 1 }
+    ensures { OnOk result (TakesLine state.old line.now state.new) }
+{
+    match state.stop() {
+        Some(_) => {
+            state.count_line();
+            Ok(())
+        }
+        None => take_looked(alloc, state, line),
+    }
+}
+
+// Takes a line of more than 1,024 bytes.
+fn take_long(state: &mut Splitting)
+    requires { state.old.lines < 2 ^ 64 - 1 }
+    ensures { TakesGiven true [] state.old state.new }
+{
+    match state.stop() {
+        Some(_) => state.count_line(),
+        None => state.stop_at(Refusal::LineTooLong),
+    }
+}
+
+/// Takes the next line of a script, of which nothing is looked at where it is too long. `AllocError` where no memory is found.
+pub fn take_given(
+    alloc: Global,
+    long: bool,
+    state: &mut Splitting,
+    line: &[u8],
+) -> Result<(), AllocError>
+    requires { state.old.lines < 2 ^ 64 - 1 }
+    ensures { OnOk result (TakesGiven long line.now state.old state.new) }
+{
+    if long {
+        take_long(state);
+        Ok(())
+    } else {
+        take_line(alloc, state, line)
+    }
+}

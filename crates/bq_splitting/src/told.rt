@@ -1,0 +1,87 @@
+//! Choices, each with how the shards answer under it.
+ghost use Rattle.std.specs.Prelude.{◌≡◌, ◌++◌, ◌∷◌, [], All, IfOk, OnOk};
+ghost use Rattle.std.specs.List.{AllZip};
+ghost use Rattle.bq_split.specs.Judged.{IsJudged};
+ghost use Rattle.bq_choices.specs.Choices.{IsKeyed, keys_in};
+ghost use Rattle.bq_splitting.specs.Finding.{AreJudged, IsTold};
+
+use bq_choices::{Choice, KeyedQuery};
+use bq_split::{Judgement, judge};
+use std::alloc::{AllocError, Global};
+
+/// A choice, with how the shards answer each query under it.
+#[derive(Drop)]
+pub struct ToldChoice {
+    pub choice: Choice,
+    pub judgements: Vec<Judgement>,
+}
+
+// How the shards answer a query under a choice.
+fn judgement_of(k: &KeyedQuery, choice: &Choice) -> Judgement
+    requires { IsKeyed k.now }
+    ensures { IsJudged k.now.query (keys_in choice.now) result }
+{
+    judge(&k.query, k.classes.as_slice(), &choice.keys)
+}
+
+// Puts a judgement behind others.
+fn push_judgement(list: &mut Vec<Judgement>, how: Judgement) -> Result<(), AllocError>
+    ensures { OnOk result (list.new.items ≡ list.old.items ++ how ∷ []) }
+{
+    match list.push(how) {
+        Ok(()) => Ok(()),
+        Err(_) => Err(AllocError),
+    }
+}
+
+// How the shards answer each query under a choice.
+fn judgements_of(
+    alloc: Global,
+    queries: &[KeyedQuery],
+    choice: &Choice,
+) -> Result<Vec<Judgement>, AllocError>
+    requires { All IsKeyed queries.now }
+    ensures { IfOk result (λ judgements. AreJudged queries.now choice.now judgements.items) }
+{
+    let mut judgements = Vec::new(alloc);
+    for i in 0..queries.len() {
+        push_judgement(&mut judgements, judgement_of(&queries[i], choice))?;
+    }
+    Ok(judgements)
+}
+
+// A choice, with how the shards answer each query under it.
+fn tell(alloc: Global, queries: &[KeyedQuery], choice: Choice) -> Result<ToldChoice, AllocError>
+    requires { All IsKeyed queries.now }
+    ensures { IfOk result (IsTold queries.now choice) }
+{
+    let judgements = judgements_of(alloc, queries, &choice)?;
+    Ok(ToldChoice { choice, judgements })
+}
+
+// Puts a choice that is told behind others.
+fn push_told(list: &mut Vec<ToldChoice>, told: ToldChoice) -> Result<(), AllocError>
+    ensures { OnOk result (list.new.items ≡ list.old.items ++ told ∷ []) }
+{
+    match list.push(told) {
+        Ok(()) => Ok(()),
+        Err(_) => Err(AllocError),
+    }
+}
+
+/// Returns some choices, each with how the shards answer each query under it.
+pub fn tell_each(
+    alloc: Global,
+    queries: &[KeyedQuery],
+    choices: &[Choice],
+) -> Result<Vec<ToldChoice>, AllocError>
+    requires { All IsKeyed queries.now }
+    ensures { IfOk result (λ told. AllZip (IsTold queries.now) choices.now told.items) }
+{
+    let mut told = Vec::new(alloc);
+    for i in 0..choices.len() {
+        let one = tell(alloc, queries, choices[i])?;
+        push_told(&mut told, one)?;
+    }
+    Ok(told)
+}

@@ -1,0 +1,10 @@
+use Rattle.std.proofs.Common.{◌≡◌, ◌≤◌, length, map, take}
+use Rattle.bq_whole.specs.Links.{each_once, between_streams}
+use Rattle.bq_whole_plan.specs.Columns.{atom_of}
+use Rattle.bq_whole_plan.proofs.links.across.Given as goal
+
+abbrev pub invariant-loop-atom : goal.invariant-loop-atom
+invariant-loop-atom l = record {
+  few : length l.list.items ≤ l.atom-index;
+  links : map atom_of l.list.items ≡ each_once (between_streams (take l.atom-index l.q.atoms));
+}

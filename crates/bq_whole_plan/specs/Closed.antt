@@ -1,0 +1,58 @@
+-- The closed system of a query: what its comparisons and domains bound, as constraints on the nodes of its attributes.
+use Rattle.std.specs.Prelude.{ℤ, pos, neg_ℤ, ◌-ℤ◌, ◌≤ℤ◌, List, [], ◌∷◌, ◌++◌, map, cond, length}
+use Rattle.std.specs.declared.option.Option.{Option}
+use Rattle.std.specs.declared.option.Option.TheVariants.{None, Some}
+use Rattle.std.specs.List.{flat_map}
+use Rattle.bq_model.specs.declared.atom.Attr.{Attr}
+use Rattle.bq_model.specs.declared.atom.Domain.{Domain}
+use Rattle.bq_model.specs.Query.{QueryValue, attr_eq, attrs_of, IsWithinLimits}
+use Rattle.bq_constraints.specs.declared.constraint.Constraint.{Constraint}
+use Rattle.bq_constraints.specs.Nodes.{has_node, at_most_above}
+use Rattle.bq_constraints.specs.Solutions.{IsSatisfiable}
+use Rattle.bq_closure.specs.declared.distances.Distances.{Distances}
+use Rattle.bq_closure.specs.Shortest.{AreDistancesOf}
+use Rattle.bq_whole.specs.System.{Difference, atom_bounds, domain_bounds}
+use Rattle.bq_whole.specs.Ranges.{Range, range}
+use Rattle.bq_whole_plan.specs.declared.closed.Ends.{Ends}
+
+-- a difference as a constraint on the nodes of these columns
+abbrev pub constraint_of : List Attr → Difference → Constraint
+constraint_of xs d = at_most_above xs d.left d.right d.by
+
+-- what a domain bounds, where its column is one of these
+abbrev pub named_bounds : List Attr → Domain → List Difference
+named_bounds xs d = cond (has_node xs d.attr) (domain_bounds d) []
+
+-- the system of a query without the domains of columns that no comparison names
+abbrev pub named_system : QueryValue → List Difference
+named_system q = flat_map atom_bounds q.atoms ++ flat_map (named_bounds (attrs_of q.atoms)) q.domains
+
+-- its constraints on the nodes of the attributes
+abbrev pub closed_constraints : QueryValue → List Constraint
+closed_constraints q = map (constraint_of (attrs_of q.atoms)) (named_system q)
+
+-- the distances are those of the system of a query, and some assignment solves it
+pub record IsClosedSystem (q : QueryValue) (d : Distances) : Type 0 where
+  pub within : IsWithinLimits q
+  pub distances : AreDistancesOf d (length (attrs_of q.atoms)) (closed_constraints q)
+  pub satisfiable : IsSatisfiable (closed_constraints q)
+
+-- two ends as a range
+abbrev pub ends_of : Ends → Range
+ends_of e = range e.lo e.hi
+
+-- the ends of the domain of a column; one without a domain is open
+abbrev pub domain_ends : List Domain → Attr → Ends
+domain_ends [] a = record { lo = None; hi = None }
+domain_ends (d ∷ ds) a = cond (attr_eq d.attr a) (record { lo = Some d.lo; hi = Some d.hi }) (domain_ends ds a)
+
+-- how far a greatest value is above a least one, where both are there
+abbrev pub apart : Option ℤ → Option ℤ → Option ℤ
+apart None low = None
+apart (Some high) None = None
+apart (Some high) (Some low) = Some (high -ℤ low)
+
+-- within 2 * 10^17 either way
+abbrev pub IsModest : Option ℤ → Type 0
+IsModest None = Unit {0}
+IsModest (Some u) = (neg_ℤ (pos 200000000000000000) ≤ℤ u) × (u ≤ℤ pos 200000000000000000)
