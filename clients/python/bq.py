@@ -7,11 +7,14 @@
         for query, row in session.feed("Reading", [(1, 22), (2, 31)]):
             print(query, row)
 
-A session lives in a process of the program bq: the one that BQ_PROGRAM names, or the `bq` on the PATH. A session is used by one thread at a
-time, and says so by an exception. Other threads run while it works.
+A session lives in the library libbq.so, where that is found, or else in a process of the program bq; both answer alike. The library is the
+file that BQ_LIBRARY names, or one beside this file, or the one that the system finds; the program is the one that BQ_PROGRAM names, or the
+`bq` on the PATH. A session is used by one thread at a time, and says so by an exception. Other threads run while it works.
 """
 from __future__ import annotations
 
+import ctypes
+import ctypes.util
 import itertools
 import os
 import shutil
@@ -24,6 +27,9 @@ __all__ = ["Session", "Refused", "Stopped", "Answer", "MOST_ROWS", "advise"]
 MOST_ROWS = 1 << 40
 # How many rows are fed at once where they come from an iterable.
 BATCH = 1000
+# How many bytes of replies the library holds before it asks to take them.
+MOST_REPLIES = 1 << 20
+ABI = 1
 
 Answer = Tuple[str, Tuple[int, ...]]
 
@@ -49,14 +55,16 @@ class Session:
 
     script   statements, each on a line, that are answered first; `Refused` is raised where one of them is
     rows     how many rows may be taken, 1 to 2^40
+    library  a file in place of the library that is found, or False for a process of the program
     program  a file in place of the program that is found
     """
 
-    def __init__(self, script: str = "", rows: int = MOST_ROWS, *, program: Optional[str] = None):
+    def __init__(self, script: str = "", rows: int = MOST_ROWS, *, library: Union[str, bool, None] = None, program: Optional[str] = None):
         if not 1 <= rows <= MOST_ROWS:
             raise ValueError(f"rows: 1 to 2^40, not {rows}")
         self._lock, self._part = threading.Lock(), b""
-        self._inside: Optional[_Process] = _Process(_program(program), rows)
+        found = None if library is False else _library(library if isinstance(library, str) else None)
+        self._inside: Union[_Library, _Process, None] = _Library(found, rows) if found else _Process(_program(program), rows)
         try:
             self.execute(script)
         except BaseException:
@@ -143,7 +151,12 @@ class Session:
         """Returns the lines from which another session goes on: see `resume`."""
         return "".join(f"{line}\n" for line in self.execute("CHECKPOINT")).encode("ascii")
 
-    def _open(self) -> "_Process":
+    def announced(self) -> Tuple[int, int]:
+        """Returns the sums of the cells and of the answers that the live queries announce. Only the library tells them."""
+        with _Alone(self._lock):
+            return self._open().announced()
+
+    def _open(self) -> "Union[_Library, _Process]":
         if self._inside is None:
             raise ValueError("the session is closed")
         return self._inside
@@ -177,6 +190,51 @@ def advise(script: str, *, program: Optional[str] = None) -> Tuple[bool, str]:
     return ran.returncode == 0, ran.stdout.decode("utf-8", "backslashreplace")
 
 
+class _Library:
+    """A session in the library."""
+
+    def __init__(self, library: ctypes.CDLL, rows: int):
+        self._library, self._at = library, ctypes.c_void_p()
+        self._taken, self._waiting = ctypes.c_size_t(), ctypes.c_size_t()
+        self._room = ctypes.create_string_buffer(1 << 16)
+        if library.bq_open(self._at, rows, MOST_REPLIES):
+            raise MemoryError("no memory for a session")
+
+    def answer(self, text: bytes) -> bytes:
+        """Answers whole lines."""
+        replies = []
+        while True:
+            status = self._library.bq_feed(self._at, text, len(text), self._taken, self._waiting)
+            waiting, taken = self._waiting.value, self._taken.value
+            if waiting:
+                replies.append(self._take(waiting))
+            # Full, or no memory for replies, of which some were taken now: the rest may be fed.
+            if status == 8 or (status == 9 and (waiting or taken)):
+                text = text[taken:]
+                continue
+            if status in (5, 7):
+                raise Stopped("no memory for a reply: the session takes no more lines", b"".join(replies))
+            if status:
+                raise MemoryError("no memory was found")
+            return b"".join(replies)
+
+    def _take(self, waiting: int) -> bytes:
+        if waiting > len(self._room):
+            self._room = ctypes.create_string_buffer(2 * waiting)
+        self._library.bq_replies(self._at, self._room, len(self._room), self._waiting)
+        replies = ctypes.string_at(self._room, waiting)
+        self._library.bq_clear(self._at)
+        return replies
+
+    def announced(self) -> Tuple[int, int]:
+        cells, answers = ctypes.c_uint64(), ctypes.c_uint64()
+        self._library.bq_announced(self._at, cells, answers)
+        return cells.value, answers.value
+
+    def close(self) -> None:
+        self._library.bq_close(self._at)
+
+
 class _Process:
     """A session in a process of the program, by `bq run --each`: each line is answered by one line, so it is known when a reply is whole."""
 
@@ -205,6 +263,9 @@ class _Process:
         except OSError:
             pass  # the program ended, which the reading thread tells
 
+    def announced(self) -> Tuple[int, int]:
+        raise NotImplementedError("only the library tells what the queries announce")
+
     def close(self) -> None:
         try:
             self._process.stdin.close()
@@ -228,11 +289,37 @@ class _Alone:
         self._lock.release()
 
 
+def _library(file: Optional[str]) -> Optional[ctypes.CDLL]:
+    """Gives the library, or none where there is none. A file that is named must be there."""
+    named = file or os.environ.get("BQ_LIBRARY")
+    beside = os.path.join(os.path.dirname(os.path.abspath(__file__)), "libbq.so")
+    place = named or (beside if os.path.exists(beside) else ctypes.util.find_library("bq"))
+    if not place:
+        return None
+    library = ctypes.CDLL(place)
+    size, handle = ctypes.POINTER(ctypes.c_size_t), ctypes.POINTER(ctypes.c_void_p)
+    number = ctypes.POINTER(ctypes.c_uint64)
+    for name, result, arguments in (
+        ("bq_abi", ctypes.c_uint32, []),
+        ("bq_open", ctypes.c_uint32, [handle, ctypes.c_uint64, ctypes.c_size_t]),
+        ("bq_feed", ctypes.c_uint32, [handle, ctypes.c_char_p, ctypes.c_size_t, size, size]),
+        ("bq_replies", ctypes.c_uint32, [handle, ctypes.c_char_p, ctypes.c_size_t, size]),
+        ("bq_clear", ctypes.c_uint32, [handle]),
+        ("bq_announced", ctypes.c_uint32, [handle, number, number]),
+        ("bq_close", None, [handle]),
+    ):
+        function = getattr(library, name)
+        function.restype, function.argtypes = result, arguments
+    if library.bq_abi() != ABI:
+        raise OSError(f"{place}: its functions have the number {library.bq_abi()}, and {ABI} is wanted")
+    return library
+
+
 def _program(file: Optional[str]) -> str:
     """Gives the program."""
     found = file or os.environ.get("BQ_PROGRAM") or shutil.which("bq")
     if not found:
-        raise FileNotFoundError("the program bq was not found: put it on the PATH, or name it by BQ_PROGRAM")
+        raise FileNotFoundError("neither libbq.so nor the program bq was found: BQ_LIBRARY or BQ_PROGRAM may name one")
     return found
 
 
