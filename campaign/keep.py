@@ -1,11 +1,12 @@
 """tools/keep, killed at random moments: what its reader has is what a session that was never stopped writes, byte for byte.
 
-Trials over files for input and output; the same on a small disk that is full at some write, which only root can try; a file that is followed
+Trials over files for input and output; the same on a small disk that is full at some write, which only root can make; a file that is followed
 while a producer renames it again and again; and pipes, with a consumer that tells what it has made durable, by a file or by a named pipe. In
 each the keeper, its bq, both, or the consumer are killed, or the keeper is told to end or to take a checkpoint, and is begun again until all
 was answered; an operator may create and drop queries meanwhile. Then checkpoints are changed at random: each must be refused by a sentence, or be passed by for the one before it. What is
 wanted comes from one `bq run` over the same lines, and for the small inputs of pipes from the evaluator too, never from the keeper.
 """
+import glob
 import os
 import random as random_numbers
 import re
@@ -16,18 +17,22 @@ import sys
 import tempfile
 import threading
 import time
-from concurrent.futures import ThreadPoolExecutor
+from concurrent.futures import ThreadPoolExecutor, wait
 
-from common import Part, first_other_line, run as run_program, scaled
+from common import Part, first_other_line, kept_folder, run as run_program, scaled
 from evaluator import session_text
 from language import CHECKPOINT_SHARE, COMPACT_SHARE
 
 KILLS, MUTATIONS = 1000, 2000
+# how many times as many trials there may be as would be enough if each were killed as often as it should be
+ROUNDS = 3
+# what is killed, and the name of its count
+KILLED = {"keep": "killed", "bq": "whose bq was killed", "both": "killed with bq", "consumer": "whose consumer was killed"}
 # how many trials run side by side: on a busy machine more, as each of them mostly waits
 AT_ONCE = int(os.environ.get("CAMPAIGN_AT_ONCE") or 3)
 LINES = {"files": 60_000, "changes": 100_000, "full disk": 30_000, "follow": 20_000, "pipes": 1_500, "named pipes": 1_500}
-# no trial waits for a time; this only ends one that would wait for ever
-PATIENCE = 900
+# no trial waits for a time; this only ends one that would wait for ever, also on a machine that has a hundred times as much to do
+PATIENCE = 3600
 # the command, without what Python reads for other programs
 KEEP = [sys.executable, "-S", os.environ.get("KEEP") or os.path.join(os.path.dirname(os.path.dirname(os.path.abspath(__file__))), "tools", "keep")]
 HOT = b"SELECT DISTINCT R.room, R.celsius FROM R, L WHERE R.room = L.room AND R.celsius > L.celsius" \
@@ -114,7 +119,8 @@ class Trial:
         self.text = b"".join(one_line(self.random) + b"\n" for _ in range(LINES[kind]))
         self.wanted = wanted_of(program, self.text, "pipes" in kind)
         self.write("script", SCRIPT)
-        self.said = []
+        # whether no more is sent before the program is hit
+        self.said, self.is_resting = [], False
         self.prepare()
 
     def path(self, name):
@@ -155,8 +161,8 @@ class Trial:
 
     def hit(self, process, how):
         """Kills what `how` says, or tells the keeper."""
-        self.part.count({"keep": "killed", "bq": "whose bq was killed", "both": "killed with bq", "end": "told to end", "checkpoint": "told to take a checkpoint",
-                         "consumer": "whose consumer was killed"}[how])
+        self.part.count({**KILLED, "end": "told to end", "checkpoint": "told to take a checkpoint"}[how])
+        os.write(self.said[-1].fileno(), f"campaign: {how} behind {self.size()} bytes of replies\n".encode())
         if how == "end":
             process.terminate()
         elif how == "checkpoint":
@@ -167,21 +173,22 @@ class Trial:
     def go_on(self):
         """Starts it, and hits it at random moments until it ends or is at the end; whether it ended by itself with all done."""
         process, until = self.start(), time.monotonic() + PATIENCE
-        how = None
+        how, is_bq_killed = None, False
         while self.kills > 0 and process.poll() is None and how in (None, "bq", "checkpoint", "change"):
             target = self.size() + self.random.choice([0, 0.01, 0.05, 0.2]) * (len(self.wanted) - self.size()) * self.random.random()
-            while process.poll() is None and self.size() < target and time.monotonic() < until:
+            while process.poll() is None and self.size() < target and not self.is_resting and time.monotonic() < until:
                 time.sleep(0.002)
             time.sleep(self.random.choice([0, 0.05, 0.3, 0.8 if self.kind in ("files", "follow") else 0.1]) * self.random.random())
             if process.poll() is None:
                 how = self.random.choice(self.hows)
                 self.hit(process, how)
-                self.kills -= how in ("keep", "bq", "both", "consumer")
+                self.kills -= how in KILLED
+                is_bq_killed = is_bq_killed or how == "bq"
         self.until_end(process, until)
         try:
             process.wait(PATIENCE)
         except subprocess.TimeoutExpired:
-            self.part.differs(f"{self.kind}: no end in {PATIENCE} seconds after {how}: {self.tail()}", self.text)
+            self.differs(f"no end in {PATIENCE} seconds after {how}: {self.tail()}")
             kill(*children_of(process), process.pid)
             process.wait()
             return True
@@ -193,11 +200,19 @@ class Trial:
         allowed += self.more_allowed()
         # a program may be hit before it minds signals, or when it is at its end
         if process.returncode not in [*allowed, 0, -15, -1]:
-            at_start = process.returncode == 1 and how == "bq" and "before" in self.tail()
+            # what comes behind the kill may come before the keeper sees it
+            at_start = process.returncode == 1 and is_bq_killed and "before the first checkpoint" in self.tail()
             if not at_start:
-                self.part.differs(f"{self.kind}: status {process.returncode} after {how}: {self.tail()}", self.text)
+                self.differs(f"status {process.returncode} after {how}: {self.tail()}")
                 return True
         return process.returncode in (0, -15) and self.is_at_end() and (process.returncode == 0 or self.kills <= 0)
+
+    def differs(self, what):
+        """Notes a difference, and keeps all files of the trial, what the keeper said among them."""
+        folder = os.path.join(kept_folder(), os.path.basename(self.folder))
+        shutil.copytree(self.folder, folder, ignore=shutil.ignore_patterns("control", "ack"), dirs_exist_ok=True)
+        shutil.copy(self.path("said"), os.path.join(folder, "said"))
+        self.part.differs(f"{self.kind}: {what} (kept in {folder})")
 
     def tail(self):
         return self.read("said")[-400:].decode(errors="replace")
@@ -217,16 +232,15 @@ class Trial:
         while not self.go_on():
             ends += 1
             if ends > 400:
-                self.part.differs(f"{self.kind}: no end", self.text)
+                self.differs("no end")
                 break
         self.part.count(f"inputs over {self.kind}")
         self.part.count("bytes of replies", len(self.wanted))
         got = self.read("output")
         if got != self.wanted:
-            self.part.differs(f"{self.kind}: {first_other_line(got, self.wanted)}: {self.tail()}", self.text)
-        said = self.read("said")
-        if b"is cut there" in said or b"Traceback" in said:
-            self.part.differs(f"{self.kind}: it said {self.tail()}")
+            self.differs(f"{first_other_line(got, self.wanted)}: {self.tail()}")
+        if found := re.search(rb".*is cut there|Traceback(?:.*\n){1,30}", self.read("said")):
+            self.differs(f"it said {found[0].decode(errors='replace')}")
         self.make_room(0)
         shutil.rmtree(self.folder)
         os.remove(self.path("said"))
@@ -298,7 +312,7 @@ class Follow(Trial):
     def produce(self):
         random, place = random_numbers.Random(str(self.part.seed)), 0
         # a session begins with the file that is there; over each later renaming it goes on
-        while not os.path.exists(os.path.join(self.path("kept"), "checkpoint-00000001.bq")):
+        while not glob.glob(os.path.join(self.path("kept"), "checkpoint-*.bq")):
             time.sleep(0.01)
         while place < len(self.text):
             with open(self.path("rows"), "ab", buffering=0) as file:
@@ -383,21 +397,33 @@ class Pipes(Trial):
         self.consumer = subprocess.Popen([sys.executable, "-c", CONSUMER, self.path("output"), self.path("ack"), "fifo" if self.kind == "named pipes" else "file"],
                                          stdin=process.stdout, stderr=subprocess.DEVNULL)
         process.stdout.close()
+        self.is_resting = False
         self.feeding = threading.Thread(target=self.feed, args=(process, place), daemon=True)
         self.feeding.start()
         return process
 
     def feed(self, process, place):
+        """Sends what comes from a place on: at some random byte it rests, as so small an input would be at its end before the first kill."""
         random = random_numbers.Random(place)
+        rests_at = random.randint(place, len(self.text))
         try:
             while place < len(self.text):
                 length = random.choice([1, 100, 800])
+                if place + length > rests_at:
+                    self.rest(process)
                 process.stdin.write(self.text[place:place + length])
                 place += length
                 time.sleep(0.005)
+            self.rest(process)
             process.stdin.close()
         except OSError:
             pass
+
+    def rest(self, process):
+        """Waits until the program was killed as often as it should be, or has ended."""
+        self.is_resting = True
+        while self.kills > 0 and process.poll() is None:
+            time.sleep(0.002)
 
     def hit(self, process, how):
         super().hit(process, how)
@@ -410,12 +436,10 @@ class Pipes(Trial):
                 kill(process.pid)
 
     def finish(self):
-        try:
-            self.consumer.wait(60)
-        except subprocess.TimeoutExpired:
-            # it waits for a keeper that was killed before it opened the named pipe
-            kill(self.consumer.pid)
-            self.consumer.wait()
+        # a consumer whose keeper was killed before it opened the named pipe waits for someone who opens it
+        ear = os.open(self.path("ack"), os.O_RDWR | os.O_NONBLOCK | os.O_CREAT)
+        self.consumer.wait(PATIENCE)
+        os.close(ear)
         self.feeding.join(PATIENCE)
         super().finish()
 
@@ -496,7 +520,18 @@ class Mutations:
         shutil.rmtree(self.folder)
 
 
-KINDS = {"files": Trial, "changes": Changed, "follow": Follow, "pipes": Pipes, "named pipes": Pipes, **({"full disk": FullDisk} if os.geteuid() == 0 and shutil.which("mount") else {})}
+def can_mount():
+    """Whether a small disk can be made, which within a container root may not."""
+    if os.geteuid() or not shutil.which("mount"):
+        return False
+    with tempfile.TemporaryDirectory(prefix="bq-keep-") as folder:
+        is_made = not subprocess.run(["mount", "-t", "tmpfs", "tmpfs", folder], capture_output=True, check=False).returncode
+        if is_made:
+            subprocess.run(["umount", folder], check=True)
+        return is_made
+
+
+KINDS = {"files": Trial, "changes": Changed, "follow": Follow, "pipes": Pipes, "named pipes": Pipes, **({"full disk": FullDisk} if can_mount() else {})}
 
 
 def guarded(part, function, *words):
@@ -512,15 +547,20 @@ def run(program, seed, scale):
     if not CHECKPOINT_SHARE:
         return part
     kills, mutations = scaled(KILLS, scale), scaled(MUTATIONS, scale)
+    # of few kills each kind has some too
+    number, most = 0, min(12, -(-kills // len(KINDS)))
+    last = ROUNDS * -(-kills // (most * len(KINDS))) * len(KINDS)
     with ThreadPoolExecutor(AT_ONCE) as pool:
-        # of few kills each kind has some too
-        number, most = 0, min(12, -(-kills // len(KINDS)))
-        while kills > 0:
-            for kind, trial in KINDS.items():
-                share, number = min(kills, most), number + 1
+        # a trial may be at its end before it was killed so often, and then others make up for it
+        while number < last and (left := kills - sum(part.counts.get(it, 0) for it in KILLED.values())) > 0:
+            # in another order each round, so that the rest of the kills is for all kinds
+            trials = []
+            for kind, trial in part.random.sample(list(KINDS.items()), len(KINDS)):
+                share, number = min(left, most), number + 1
+                left -= share
                 if share > 0:
-                    pool.submit(guarded, part, lambda trial, *words: trial(*words).run(), trial, part, program, kind, number, share)
-                kills -= share
+                    trials.append(pool.submit(guarded, part, lambda trial, *words: trial(*words).run(), trial, part, program, kind, number, share))
+            wait(trials)
         changed = Mutations(part, program)
         for number in range(mutations):
             pool.submit(guarded, part, changed.one, number)

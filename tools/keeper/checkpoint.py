@@ -1,31 +1,30 @@
 """The text of a checkpoint: what it holds, how it is written, and how it is read.
 
-A checkpoint is a script for bq, the reply to CHECKPOINT, between comment lines of the keeper's own: first what wrote it and
-what it goes with, a key and a value each, last how many lines there are and their SHA-256 sum. So a file that was torn or
-changed shows.
+A checkpoint is a script for bq, the reply to CHECKPOINT, between comment lines of the keeper's own: first what wrote it
+and what it goes with, a key and a value each, last how many lines there are and their SHA-256 sum. So a file that was
+torn or changed shows.
 """
 import hashlib
 import re
 from collections import namedtuple
 
+from keeper import Fault
+
 FORMAT = 2
-HEAD = re.compile(rb"-- (\w+) (.*)\n")
+HEAD, HEADS = re.compile(rb"-- (\w+) (.*)\n"), re.compile(rb"(?:-- .*\n)*")
 WHOLE = re.compile(rb"-- whole lines (\d+) sum ([0-9a-f]{64})\n\Z")
-OLDEST = re.compile(rb"-- whole rows (\d+) lines (\d+) bytes (\d+) output (\d+) lines of this file (\d+) sum ([0-9a-f]{64})\n\Z")
+OLDEST = re.compile(rb"-- whole rows (\d+) lines (\d+) bytes (\d+) output (\d+)"
+                    rb" lines of this file (\d+) sum ([0-9a-f]{64})\n\Z")
 
 # How far the reading of a file is: which file, by device, inode and a sum of bytes that were read, and the byte.
 Mark = namedtuple("Mark", "device inode offset sum")
-# How far a session is: rows taken, lines and bytes of the input, bytes of replies, changes by the operator; the file, and
-# the producer's own mark.
+# How far a session is: rows taken, lines and bytes of the input, bytes of replies, changes by the operator; the file,
+# and the producer's own mark.
 Place = namedtuple("Place", "rows lines bytes output changes mark token", defaults=(0, 0, 0, 0, 0, None, b""))
-# What a fresh session answers to the CREATE lines: the replies, and of each query its name and a sum of EXPLAIN.
-Plan = namedtuple("Plan", "replies explained")
-# What a session goes on from; the oldest form has no plan, program and sums.
-Checkpoint = namedtuple("Checkpoint", "body place plan program script output_sum number", defaults=(None, b"", b"", b"", 0))
-
-
-class Fault(Exception):
-    """What ends a run, in a sentence for whoever started it."""
+# What a session goes on from. The plan has a line `reply ..` for each reply to the CREATE lines, and for each query a
+# line `plan NAME SUM`, a sum of EXPLAIN. The oldest form has no plan, program and sums.
+Checkpoint = namedtuple("Checkpoint", "body place plan program script output_sum number",
+                        defaults=(None, b"", b"", b"", 0))
 
 
 def sum_of(text):
@@ -34,23 +33,16 @@ def sum_of(text):
 
 def creates_of(body):
     """The CREATE lines, which come first."""
-    end = 0
-    while body.startswith(b"CREATE ", end):
-        end = body.index(b"\n", end) + 1
-    return body[:end]
+    return re.match(rb"(?:CREATE .*\n)*", body)[0]
 
 
 def written(one):
     """The text of the file."""
-    head = [b"keep %d %s" % (FORMAT, one.program), b"script " + one.script, *(b"reply " + it for it in one.plan.replies)]
-    head += [b"plan %s %s" % it for it in one.plan.explained]
+    head = [b"keep %d %s" % (FORMAT, one.program), b"script " + one.script, *one.plan]
     head.append(b"place rows %d lines %d bytes %d output %d changes %d" % one.place[:5])
     if one.place.mark:
         head.append(b"file device %d inode %d offset %d sum %s" % one.place.mark)
-    if one.output_sum:
-        head.append(b"output " + one.output_sum)
-    if one.place.token:
-        head.append(b"token " + one.place.token)
+    head += [key + value for key, value in ((b"output ", one.output_sum), (b"token ", one.place.token)) if value]
     front = b"".join(b"-- %s\n" % it for it in head) + one.body
     return front + b"-- whole lines %d sum %s\n" % (front.count(b"\n"), sum_of(front))
 
@@ -64,22 +56,13 @@ def read(text, number=0):
         return None
     if found.re is OLDEST:
         return Checkpoint(front, Place(*map(int, found.groups()[:4])), number=number)
-    return of_front(front, number)
-
-
-def of_front(front, number):
-    """The checkpoint that stands before a last line that fits."""
-    values, end = [], 0
-    while found := HEAD.match(front, end):
-        values.append(found.groups())
-        end = found.end()
+    values = HEAD.findall(HEADS.match(front)[0])
     known, (form, program) = dict(values), values[0][1].split(b" ", 1)
     if values[0][0] != b"keep" or int(form) > FORMAT:
         raise Fault(f"checkpoint {number} was written by a later keeper, which has to go on from it")
-    file, mark = known.get(b"file", b"").split(), None
-    if file:
-        mark = Mark(*map(int, file[1:6:2]), file[7])
+    file = known.get(b"file", b"").split()
+    mark = Mark(*map(int, file[1:6:2]), file[7]) if file else None
     place = Place(*map(int, known[b"place"].split()[1::2]), mark, known.get(b"token", b""))
-    replies = tuple(value for key, value in values if key == b"reply")
-    plan = Plan(replies, tuple(tuple(value.split()) for key, value in values if key == b"plan"))
-    return Checkpoint(front[end:], place, plan, program, known[b"script"], known.get(b"output", b""), number)
+    plan = tuple(b"%s %s" % it for it in values if it[0] in (b"reply", b"plan"))
+    body = front[HEADS.match(front).end():]
+    return Checkpoint(body, place, plan, program, known[b"script"], known.get(b"output", b""), number)

@@ -1,21 +1,17 @@
-"""Lines from a file, to its end; or, where it is followed, from a file that grows, and over each renaming from the one behind it.
+"""Lines from a file, to its end; or, where it is followed, as it grows, and over each renaming from the one behind it.
 
 A file is known again by its identity, which is device and inode, and by a sum of bytes that were read of it.
 """
 import contextlib
-import logging
 import os
 import re
-import time
 
-from keeper.checkpoint import Fault, Mark
+from keeper import Fault, log
+from keeper.checkpoint import Mark
 from keeper.sink import sum_at
 from keeper.source import PIECE, Lines
 
-# how many seconds a file rests before it is looked at once more
-REST = 0.02
 RENAMED = re.compile(r"(?:\.(\d{1,4})|[-.]\d[-.\d_:T]*)\Z")
-log = logging.getLogger("keep")
 
 
 def identity(file):
@@ -23,8 +19,17 @@ def identity(file):
     return status.st_dev, status.st_ino
 
 
+def place_in(fd):
+    return os.lseek(fd, 0, os.SEEK_CUR)
+
+
+def left(fd):
+    """How many bytes of a file were not read; fewer than none where it was cut."""
+    return os.fstat(fd).st_size - place_in(fd)
+
+
 def listed(path):
-    """A file and those it was renamed to, the oldest first, by name and identity: file.2, file.1, file; or file-20261130, file."""
+    """A file and those it was renamed to, the oldest first, by name and identity: f.2, f.1, f; or f-20261130, f."""
     folder, base = os.path.split(os.path.abspath(path))
     found = []
     for entry in os.scandir(folder):
@@ -34,7 +39,8 @@ def listed(path):
             # of numbers the greater is the older, of dates the lesser
             number = int(renamed[1]) if renamed and renamed[1] else None
             with contextlib.suppress(FileNotFoundError):
-                found.append((not rest, number is not None, -(number or 0), rest, (entry.path, identity(entry.path))))
+                one = entry.path, identity(entry.path)
+                found.append((not rest, number is not None, -(number or 0), rest, one))
     return [it[-1] for it in sorted(found)]
 
 
@@ -46,72 +52,68 @@ def family(path):
     return now
 
 
-class Files:
-    """A source, as source.py says; where it is followed it never ends."""
+class File(Lines):
+    """A source, as a pipe is one; where it is followed it never ends."""
+
+    is_pipe = False
 
     def __init__(self, path, is_followed, place, begins_anew=False):
-        self.path, self.is_followed, self.at, self.is_ended = path, is_followed, Lines(place), False
-        # the file that was read before, with its length; and the identities of what came before the one that is read
-        self.old, self.passed = None, set()
         mark = None if begins_anew else place.mark
-        self.handle = self.known(mark) if mark else os.open(path, os.O_RDONLY)
+        self.path, self.is_followed, self.rests = path, is_followed, False
+        super().__init__(self.known(mark) if mark else os.open(path, os.O_RDONLY), place)
         # the oldest form of a checkpoint has bytes alone
-        self.position = 0 if begins_anew else mark.offset if mark else place.bytes
+        os.lseek(self.fd, 0 if begins_anew else mark.offset if mark else place.bytes, os.SEEK_SET)
+        # the file that was read before, the next one, and the identities of what came before the one that is read
+        self.old, self.next, self.passed = None, None, set()
         self.look_at_lengths()
-        os.lseek(self.handle, self.position, os.SEEK_SET)
         self.later()
 
     def known(self, mark):
-        """Opens the file that was read, whatever its name is now; a copy, as on another machine, is known by what is in it."""
+        """Opens the file that was read, whatever its name is now; a copy, as on another machine, by what is in it."""
         alike = []
         for name in [name for name, _ in family(self.path)] if self.is_followed else [self.path]:
             try:
-                handle = os.open(name, os.O_RDONLY)
+                fd = os.open(name, os.O_RDONLY)
             except FileNotFoundError:
                 if not self.is_followed:
                     raise
                 # it was renamed just now
                 return self.known(mark)
-            if os.fstat(handle).st_size >= mark.offset and sum_at(handle, mark.offset) == mark.sum:
-                alike.append(handle)
+            if os.fstat(fd).st_size >= mark.offset and sum_at(fd, mark.offset) == mark.sum:
+                alike.append(fd)
             else:
-                os.close(handle)
+                os.close(fd)
         exact = [it for it in alike if identity(it) == mark[:2] or not self.is_followed]
         if not exact and not (len(alike) == 1 and mark.offset):
-            raise Fault(f"{self.path} is not the file that was read (inode {mark.inode}, {mark.offset} bytes), or is shorter than what was read, and no"
-                        " renamed one beside it is: rows may be lost. To read what is there from its first byte on say --input-anew")
+            raise Fault(f"{self.path} is not the file that was read (inode {mark.inode}, {mark.offset} bytes), or is"
+                        " shorter than what was read, and no renamed one beside it is: rows may be lost. To read what"
+                        " is there from its first byte on say --input-anew")
         return (exact or alike)[0]
 
-    def wait(self):
-        """What came; nothing at the end; the next file, opened, where this one was renamed."""
-        while not (came := os.read(self.handle, PIECE)) and self.is_followed:
-            self.look_at_lengths()
-            following = self.successor()
+    def read(self):
+        """Whole lines of what came; a last line of a renamed file without its end is a line."""
+        piece = os.read(self.fd, PIECE)
+        self.rests = not piece
+        if piece:
+            return self.cut(piece)
+        if not self.is_followed:
+            self.is_ended = True
+            return self.cut_end()
+        self.look_at_lengths()
+        if self.next is None:
             # what was written before the renaming is read first
-            if following is not None and not (came := os.read(self.handle, PIECE)):
-                return following
-            if following is not None:
-                os.close(following)
-                return came
-            time.sleep(REST)
-        return came
-
-    def take(self, came):
-        """The whole lines of what came; a last line of a renamed file without its end is a line."""
-        if not isinstance(came, int):
-            self.position += len(came)
-            self.is_ended = not came
-            return self.at.cut(came) if came else self.at.end()
+            self.next = self.successor()
+            return b""
         if self.old:
-            os.close(self.old[0])
-        self.old, self.handle, self.position = (self.handle, self.position), came, 0
+            os.close(self.old)
+        self.old, self.fd, self.next = self.fd, self.next, None
         self.later()
-        log.info("%s was renamed: read to its end, %d bytes, and the new one begun", self.path, self.old[1])
-        return self.at.end()
+        log.info("%s was renamed: read to its end, %d bytes, and the new one begun", self.path, place_in(self.old))
+        return self.cut_end()
 
     def later(self):
         """The files behind this one, the oldest first."""
-        files, this = family(self.path) if self.is_followed else [], identity(self.handle)
+        files, this = family(self.path) if self.is_followed else [], identity(self.fd)
         known = [it for _, it in files]
         if this in known:
             self.passed = set(known[:known.index(this) + 1])
@@ -120,41 +122,37 @@ class Files:
         return [it for it in files[:-1] if it[1] not in self.passed] + files[-1:]
 
     def successor(self):
-        """Opens the file behind this one, where there is one with a byte in it: what is written to this one was written before."""
-        try:
-            if identity(self.path) == identity(self.handle):
-                return None
-            for name, file in self.later():
-                handle = os.open(name, os.O_RDONLY)
-                is_it = identity(handle) == file
-                if is_it and os.fstat(handle).st_size:
-                    return handle
-                os.close(handle)
+        """Opens the next file with a byte in it, where there is one: what is written to this one was written before."""
+        # a file that is not there is being renamed
+        with contextlib.suppress(FileNotFoundError):
+            for name, file in self.later() if identity(self.path) != identity(self.fd) else ():
+                fd = os.open(name, os.O_RDONLY)
+                is_it = identity(fd) == file
+                if is_it and left(fd):
+                    return fd
+                os.close(fd)
                 if not is_it:
-                    return None
-        except FileNotFoundError:
-            # it is being renamed
-            pass
+                    break
         return None
 
     def look_at_lengths(self):
         """Refuses a file that was cut, and tells where a producer still writes to the one before."""
-        if os.fstat(self.handle).st_size < self.position:
-            raise Fault(f"{self.path} is shorter than what was read of it, {self.position} bytes: see --input-anew")
-        if self.old and (more := os.fstat(self.old[0]).st_size - self.old[1]) > 0:
+        if left(self.fd) < 0:
+            raise Fault(f"{self.path} is shorter than what was read of it, {place_in(self.fd)} bytes: see --input-anew")
+        if self.old and (more := left(self.old)) > 0:
             log.error("%d bytes came into a renamed file when the one behind it had begun, and are not read", more)
-            os.close(self.old[0])
+            os.close(self.old)
             self.old = None
 
     @property
     def mark(self):
-        offset = self.position - self.at.behind()
-        return Mark(*identity(self.handle), offset, sum_at(self.handle, offset))
+        offset = place_in(self.fd) - self.behind()
+        return Mark(*identity(self.fd), offset, sum_at(self.fd, offset))
 
     def lag(self):
         """How many bytes wait, in this file and those behind it."""
         try:
-            return os.fstat(self.handle).st_size - self.position + sum(os.path.getsize(name) for name, _ in self.later())
+            return left(self.fd) + sum(os.path.getsize(name) for name, _ in self.later())
         except OSError:
             # it is being renamed
             return 0

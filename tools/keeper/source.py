@@ -1,13 +1,8 @@
-"""Lines of the input, and where they come from over a pipe. A file is followed by follow.py.
-
-A source is waited for by `wait`, which changes nothing, and `take` makes whole lines of what came. So whoever reads what the
-source has counted between the two finds what was sent to bq, and no more.
-"""
+"""The input over a pipe, and how what is read becomes whole lines. A file is read by follow.py."""
 import fcntl
 import os
 import re
-import select
-import struct
+import sys
 import termios
 
 PIECE, LONGEST = 1 << 16, 1024
@@ -18,19 +13,20 @@ TOKEN = re.compile(rb"^--@ ([^\r\n]{1,200})\r?\n", re.MULTILINE)
 def waiting(fd):
     """How many bytes wait in a pipe; none where it is closed, or is no pipe."""
     try:
-        return struct.unpack("i", fcntl.ioctl(fd, termios.FIONREAD, bytes(4)))[0]
+        return int.from_bytes(fcntl.ioctl(fd, termios.FIONREAD, bytes(4)), sys.byteorder)
     except OSError:
         return 0
 
 
 class Lines:
-    """Cuts what is read into whole lines. Counts lines and bytes, and has the newest mark of the producer.
+    """Whole lines of what is read from a handle, counted with their bytes, and the newest mark of the producer.
 
-    A line of more than 1,024 bytes, which bq answers by LineTooLong whatever it says, is given as 1,025, so that memory does
-    not grow with it.
+    A line of more than 1,024 bytes, which bq answers by LineTooLong whatever it says, is given as 1,025, so that memory
+    does not grow with it.
     """
 
-    def __init__(self, place):
+    def __init__(self, fd, place):
+        self.fd, self.is_ended = fd, False
         self.lines, self.bytes, self.token = place.lines, place.bytes, place.token
         # the front of a line that has not ended, and how many bytes of it were let go
         self.rest, self.dropped = b"", 0
@@ -39,16 +35,24 @@ class Lines:
         """Whole lines, as they are sent on."""
         text = self.rest + piece
         end = text.rfind(b"\n") + 1
-        self.rest = text[end:]
+        text, self.rest = text[:end], text[end:]
         if end:
             self.bytes += end + self.dropped
             self.dropped = 0
         if len(self.rest) > LONGEST:
             self.dropped += len(self.rest) - LONGEST - 1
             self.rest = self.rest[:LONGEST + 1]
-        return self.counted(text[:end])
+        if b"--@ " in text:
+            self.token = (TOKEN.findall(text) or [self.token])[-1]
+        self.lines += text.count(b"\n")
+        at = 0
+        while end - at > LONGEST + 1:
+            at = text.rfind(b"\n", at, at + LONGEST + 1) + 1
+            if not at:
+                return b"\n".join(it if len(it) <= LONGEST else TOO_LONG for it in text.split(b"\n"))
+        return text
 
-    def end(self):
+    def cut_end(self):
         """A last line without its end, which is a line."""
         if not self.rest:
             return b""
@@ -56,48 +60,30 @@ class Lines:
         self.bytes -= 1
         return self.cut(b"\n")
 
-    def counted(self, text):
-        at, end = 0, len(text)
-        while end - at > LONGEST + 1:
-            at = text.rfind(b"\n", at, at + LONGEST + 1) + 1
-            if not at:
-                text = b"\n".join(it if len(it) <= LONGEST else TOO_LONG for it in text.split(b"\n"))
-                break
-        self.lines += text.count(b"\n")
-        if b"--@ " in text:
-            self.token = (TOKEN.findall(text) or [self.token])[-1]
-        return text
-
     def behind(self):
         """How many bytes that were read are of no whole line yet."""
         return len(self.rest) + self.dropped
 
 
-class Pipe:
-    """Lines from a pipe: standard input, or a named pipe, which is held open where it is followed."""
+class Pipe(Lines):
+    """Standard input, or a named pipe, which is held open where it is followed."""
 
-    mark = None
+    is_pipe, mark = True, None
 
     def __init__(self, path, is_followed, place):
-        self.path, self.is_followed, self.at, self.is_ended = path, is_followed, Lines(place), False
-        self.fd = None if path else 0
+        way = os.O_RDWR if is_followed else os.O_RDONLY
+        super().__init__(os.open(path, way | os.O_NONBLOCK) if path else 0, place)
 
-    def wait(self):
-        """What came; nothing at the end."""
-        if self.fd is None:
-            self.fd = os.open(self.path, os.O_RDWR if self.is_followed else os.O_RDONLY)
-        while True:
-            try:
-                return os.read(self.fd, PIECE)
-            except BlockingIOError:
-                # who shares standard input has it so
-                select.select([self.fd], [], [])
-
-    def take(self, piece):
-        """The whole lines of what came."""
+    def read(self):
+        """Whole lines of what came."""
+        try:
+            piece = os.read(self.fd, PIECE)
+        except BlockingIOError:
+            # who shares standard input has it so
+            return b""
         self.is_ended = not piece
-        return self.at.end() if self.is_ended else self.at.cut(piece)
+        return self.cut(piece) if piece else self.cut_end()
 
     def lag(self):
         """How many bytes wait."""
-        return waiting(self.fd) if self.fd is not None else 0
+        return waiting(self.fd)

@@ -5,13 +5,13 @@ import os
 import re
 import socket
 import sys
-import threading
 import time
-from collections import Counter, deque
+from collections import Counter
 
-from keeper.store import is_free, numbers_in, path_of
+from keeper import log
+from keeper.store import is_free, numbers_in, path_of, save
 
-CELLS = re.compile(rb"ok query \w+ parts \d+ cells (\d+) ")
+CELLS = re.compile(rb"reply ok query \w+ parts \d+ cells (\d+) ")
 ERROR, ANSWER = re.compile(rb"^error \d+ (\w+)$", re.MULTILINE), re.compile(rb"^(\w+),", re.MULTILINE)
 CELLS_A_PAGE, FEW = 64, 1 << 12
 # of each number its kind and what it says
@@ -33,7 +33,8 @@ KINDS = {
     "answers_total": "counter answers",
 }
 LABELS = {"errors_total": "word", "answers_total": "query"}
-log = logging.getLogger("keep")
+LINE = "{rows_total} rows, {rows_per_second:.0f} a second, {lag_bytes} bytes wait," \
+       " checkpoint {checkpoint_age_seconds:.0f} s ago"
 
 
 def begin_log(path):
@@ -49,76 +50,57 @@ def begin_log(path):
         log.addHandler(handler)
 
 
-class Notify:
-    """Words for systemd, over the socket that it names; none where it names none."""
-
-    def __init__(self):
-        path = os.environ.pop("NOTIFY_SOCKET", "")
-        self.address = "\0" + path[1:] if path.startswith("@") else path
-        self.socket = socket.socket(socket.AF_UNIX, socket.SOCK_DGRAM) if path else None
-
-    def __call__(self, *words):
-        if self.socket:
-            with contextlib.suppress(OSError):
-                self.socket.sendto("\n".join(words).encode(), socket.MSG_DONTWAIT, self.address)
-
-
 class Numbers:
     """What a run counts, and what it shows once a second."""
 
-    def __init__(self, options, kept, lines):
+    def __init__(self, options, lines):
         self.paths = [os.path.join(options.folder, "metrics"), *([options.metrics] if options.metrics else [])]
-        self.errors, self.answers, self.restarts, self.unstored, self.notify = Counter(), Counter(), 0, 0, Notify()
-        self.rows, self.plan = (kept.place.rows, kept.plan) if kept else (0, None)
-        self.uncounted, self.counting, self.untold = deque(), threading.Lock(), set()
+        self.errors, self.answers, self.restarts, self.unstored = Counter(), Counter(), 0, 0
+        # replies that are not counted yet, and files that could not be written
+        self.uncounted, self.untold = [], set()
         self.next_look = self.stored_at = self.looked_at = time.monotonic()
         self.size, self.seconds, self.rate, self.good_lines = 0, 0.0, 0.0, lines
+        # systemd names a socket for words to it
+        self.address = re.sub("^@", "\0", os.environ.pop("NOTIFY_SOCKET", ""))
+        self.socket = socket.socket(socket.AF_UNIX, socket.SOCK_DGRAM)
 
     def see_replies(self, text):
-        """Has errors be counted by word and answers by query: few replies when there is time, so that no row waits for it."""
+        """Has errors be counted by word and answers by query: few replies when there is time, so that no row waits."""
         self.uncounted.append(text)
         if len(text) > FEW:
             self.count()
 
     def count(self):
-        with self.counting:
-            while self.uncounted:
-                text = self.uncounted.popleft()
-                self.errors.update(ERROR.findall(text) if b"error " in text else ())
-                self.answers.update(ANSWER.findall(text))
-
-    def see_checkpoint(self, checkpoint, size, seconds):
-        self.plan, self.size, self.seconds, self.stored_at = checkpoint.plan, size, seconds, time.monotonic()
+        text, self.uncounted = b"".join(self.uncounted), []
+        self.errors.update(ERROR.findall(text) if b"error " in text else ())
+        self.answers.update(ANSWER.findall(text))
 
     def show(self, run, now):
-        """Writes the numbers, and tells systemd that all is well."""
+        """Writes the numbers, and tells systemd how it is."""
         self.count()
-        good_lines = run.source.at.lines - sum(self.errors.values())
+        good_lines = run.source.lines - sum(self.errors.values())
         self.rate = (good_lines - self.good_lines) / max(0.1, now - self.looked_at)
         self.good_lines, self.looked_at, self.next_look = good_lines, now, now + 1
         values = self.values(run, now)
         for path in self.paths:
             try:
-                # it is seen whole or not at all; it need not outlive the machine
-                with open(path + ".tmp", "w", encoding="utf-8") as file:
-                    file.write(text_of(values))
-                os.replace(path + ".tmp", path)
+                save(path, text_of(values).encode())
                 self.untold.discard(path)
             except OSError as fault:
                 if path not in self.untold:
                     log.warning("no numbers in %s: %s", path, fault)
                 self.untold.add(path)
-        self.notify("WATCHDOG=1", f"STATUS={self.in_a_line(run, now)}")
+        if self.address:
+            words = f"WATCHDOG=1\nSTATUS={LINE.format(**values)}" + ("\nREADY=1" if values["up"] else "")
+            with contextlib.suppress(OSError):
+                self.socket.sendto(words.encode(), socket.MSG_DONTWAIT, self.address)
 
     def values(self, run, now):
-        cells = [int(found[1]) for found in map(CELLS.match, self.plan.replies if self.plan else ()) if found]
+        cells = [int(found[1]) for found in map(CELLS.match, run.kept.plan or ()) if found] if run.kept else []
         return dict(zip(KINDS, (
-            int(run.up.is_set()), self.rows, self.rate, run.source.at.lines, run.sink.total, run.source.lag(), run.session.unread() if run.session else 0,
-            now - self.stored_at, self.size, self.seconds, self.unstored, sum(-(-it // CELLS_A_PAGE) for it in cells), self.restarts, self.errors, self.answers)))
-
-    def in_a_line(self, run, now):
-        form = "{rows_total} rows, {rows_per_second:.0f} a second, {lag_bytes} bytes wait, checkpoint {checkpoint_age_seconds:.0f} s ago"
-        return form.format(**self.values(run, now))
+            int(run.is_up()), run.kept.place.rows if run.kept else 0, self.rate, run.source.lines, run.sink.total,
+            run.source.lag(), run.unwritten(), now - self.stored_at, self.size, self.seconds, self.unstored,
+            sum(-(-it // CELLS_A_PAGE) for it in cells), self.restarts, self.errors, self.answers)))
 
 
 def text_of(values):
@@ -128,7 +110,7 @@ def text_of(values):
         kind, says = KINDS[name].split(" ", 1)
         lines += [f"# HELP keep_{name} {says}", f"# TYPE keep_{name} {kind}"]
         if name in LABELS:
-            lines += [f'keep_{name}{{{LABELS[name]}="{key.decode()}"}} {count}' for key, count in sorted(value.items())]
+            lines += [f'keep_{name}{{{LABELS[name]}="{key.decode()}"}} {it}' for key, it in sorted(value.items())]
         else:
             lines.append(f"keep_{name} {value:.10g}")
     return "\n".join(lines) + "\n"

@@ -17,8 +17,8 @@ import unittest
 
 TOOLS = os.path.dirname(os.path.dirname(os.path.dirname(os.path.abspath(__file__))))
 KEEP, BQ = os.environ.get("KEEP") or os.path.join(TOOLS, "keep"), os.environ.get("BQ", "bq")
-# a test waits for an event; this only ends one that would wait for ever
-PATIENCE = 600
+# a test waits for an event; this only ends one that would wait for ever, also on a machine that has a hundred times as much to do
+PATIENCE = 3600
 SCRIPT = b"CREATE STREAM Temp (room, val)\nCREATE STREAM Lim (room, val)\nCREATE COMPACT QUERY hot AS SELECT DISTINCT Temp.room FROM Temp, Lim" \
          b" WHERE Temp.room = Lim.room AND Temp.val > Lim.val AND Temp.room > 0 AND Temp.room < 40\n"
 FLAT = b"CREATE STREAM S (a)\nCREATE QUERY q AS SELECT S.a FROM S\n"
@@ -371,6 +371,30 @@ class Control(Faults):
         self.put("rows", rows(4), "ab")
         process = self.start(*words)
         self.until(lambda: self.get("out") == answers(1, 2, 3) + b"r,3\n" + answers(4) + b"r,4\n")
+        self.end(process)
+        self.assertNotIn(b"is cut there", self.get("said"))
+
+    def test_a_change_stands_behind_the_replies_that_were_seen(self):
+        """It comes before the rows come again whose replies stand there."""
+        words = ["--seconds", "1000", "--output", self.path("out")]
+        process = self.start(*words, stdin=subprocess.PIPE)
+        process.stdin.write(rows(1, 2, 3))
+        self.until(lambda: self.get("out") == answers(1, 2, 3))
+        self.kill(process)
+        os.remove(self.path("kept/metrics"))
+        process = self.start(*words, stdin=subprocess.PIPE)
+        self.until(lambda: self.get("kept/metrics"))
+        with open(self.path("kept/control"), "wb") as control:
+            control.write(b"CREATE QUERY r AS SELECT S.a FROM S\n")
+        for count in (1, 2):
+            # behind the second one it had time to read the statement
+            process.send_signal(signal.SIGUSR1)
+            self.until(lambda: self.get("said").count(b" rows, 0 a second") == count)
+        process.stdin.write(rows(1, 2, 3))
+        self.until(lambda: b"= ok query r" in self.get("kept/changes"))
+        process.stdin.write(rows(4))
+        self.until(lambda: self.get("out").endswith(b"r,4\n"))
+        self.assertEqual(self.get("out"), answers(1, 2, 3, 4) + b"r,4\n")
         self.end(process)
         self.assertNotIn(b"is cut there", self.get("said"))
 

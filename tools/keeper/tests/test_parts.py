@@ -4,13 +4,15 @@ import random
 import sys
 import tempfile
 import unittest
-from unittest import mock
+import warnings
 
 sys.dont_write_bytecode = True
 sys.path.insert(0, os.path.dirname(os.path.dirname(os.path.dirname(os.path.abspath(__file__)))))
 
-from keeper import follow  # noqa: E402
-from keeper.checkpoint import Checkpoint, Fault, Mark, Place, Plan, read, sum_of, written  # noqa: E402
+from keeper import Fault  # noqa: E402
+from keeper.change import Changes  # noqa: E402
+from keeper.checkpoint import Checkpoint, Mark, Place, read, sum_of, written  # noqa: E402
+from keeper.follow import File  # noqa: E402
 from keeper.sink import Sink  # noqa: E402
 from keeper.source import LONGEST, TOO_LONG, Lines  # noqa: E402
 from keeper.store import choose, path_of, save  # noqa: E402
@@ -30,21 +32,21 @@ class LinesAreCut(unittest.TestCase):
         for _ in range(300):
             text = b"".join(one.choice([b"S,1", b"", b" \r", b"-- x", b"--@ 7 8", b"x" * one.randint(1020, 1030), b"y" * 5000]) + b"\n" for _ in range(one.randint(0, 9)))
             text += one.choice([b"", b"S,1", b"z" * 1024, b"z" * 3000])
-            lines, sent, place = Lines(Place()), b"", 0
+            lines, sent, place = Lines(None, Place()), b"", 0
             while place < len(text):
                 length = one.choice([1, 7, 1024, 1025, 4000])
                 sent += lines.cut(text[place:place + length])
                 place += length
                 self.assertEqual(lines.bytes + lines.behind(), min(place, len(text)))
                 self.assertLessEqual(len(lines.rest), LONGEST + 1)
-            sent += lines.end()
+            sent += lines.cut_end()
             wanted = plain_lines(text)
             self.assertEqual(sent, wanted)
             self.assertEqual((lines.lines, lines.bytes), (wanted.count(b"\n"), len(text)))
             self.assertEqual(lines.token, b"7 8" if b"--@ 7 8\n" in text else b"")
 
     def test_a_mark_has_200_bytes_at_most(self):
-        lines = Lines(Place())
+        lines = Lines(None, Place())
         lines.cut(b"--@ " + b"a" * 200 + b"\n")
         self.assertEqual(lines.token, b"a" * 200)
         lines.cut(b"--@ " + b"b" * 201 + b"\n")
@@ -68,28 +70,22 @@ class InAFolder(unittest.TestCase):
             os.rename(self.path(new), self.path(old)) if os.path.exists(self.path(new)) else None
 
 
-class Rests(Exception):
-    """There is nothing to read."""
-
-
 class FilesAreFollowed(InAFolder):
     def read_all(self, source):
-        """What comes until the file rests, which ends the waiting here."""
-        text = b""
-        with mock.patch.object(follow.time, "sleep", side_effect=Rests):
-            while True:
-                try:
-                    text += source.take(source.wait())
-                except Rests:
-                    return text
+        """What comes until the file rests at two looks."""
+        text, rests = b"", 0
+        while rests < 2:
+            text += source.read()
+            rests = rests + 1 if source.rests and source.next is None else 0
+        return text
 
     def follow(self, place=Place(), **how):
-        source = follow.Files(self.path("rows"), True, place, **how)
-        self.addCleanup(lambda: os.close(source.handle))
+        source = File(self.path("rows"), True, place, **how)
+        self.addCleanup(lambda: os.close(source.fd))
         return source
 
     def place_of(self, source):
-        return Place(lines=source.at.lines, bytes=source.at.bytes, mark=source.mark)
+        return Place(lines=source.lines, bytes=source.bytes, mark=source.mark)
 
     def test_over_renamings_while_it_runs(self):
         self.put("rows.1", b"old\n")
@@ -172,6 +168,36 @@ class FilesAreFollowed(InAFolder):
         self.assertEqual(self.read_all(source), b"b\nc\n")
 
 
+class ChangesAreListed(InAFolder):
+    def changes(self, is_anew=False):
+        changes = Changes(self.folder.name, None, is_anew)
+        self.addCleanup(changes.list.close)
+        self.addCleanup(os.close, changes.fd)
+        return changes
+
+    def test_whole_lines_are_known_again(self):
+        changes = self.changes()
+        said = [(0, b"CREATE QUERY q AS SELECT\rS.a FROM S"), (3, b"DROP QUERY q")]
+        for lines, statement in said:
+            changes.add(lines, statement)
+            changes.append(b"= ok\n")
+        changes.append(b"! CREATE and DROP lines alone\n")
+        self.put("changes", b"7 DROP QUE", "ab")
+        changes = self.changes()
+        self.assertEqual((changes.known, changes.replied), (said, 2))
+        changes.add(8, b"DROP QUERY r")
+        self.assertEqual(self.changes().known, [*said, (8, b"DROP QUERY r")])
+        self.assertEqual(self.changes(is_anew=True).known, [])
+        self.assertEqual(self.changes().known, [])
+
+    def test_a_line_that_no_keeper_wrote_is_refused(self):
+        self.put("changes", b"DROP QUERY q\n")
+        with warnings.catch_warnings():
+            # the command ends with the fault, and what it opened is closed
+            warnings.simplefilter("ignore", ResourceWarning)
+            self.assertRaises(Fault, Changes, self.folder.name, None, False)
+
+
 class OutputsAreNeverCut(InAFolder):
     def sink(self, before, there):
         self.put("out", there)
@@ -211,7 +237,7 @@ class OutputsAreNeverCut(InAFolder):
 
 class CheckpointsAreWhole(InAFolder):
     whole = Checkpoint(b"CREATE STREAM S (a)\nCREATE QUERY q AS SELECT S.a FROM S\nRESUME 3\n", Place(3, 4, 39, 20, 1, Mark(1, 2, 39, b"a" * 64), b"p 1 o 2"),
-                       Plan((b"ok stream S", b"ok query q filter"), ((b"q", b"b" * 64),)), b"bq 0.1.0", b"c" * 64, b"d" * 64, 7)
+                       (b"reply ok stream S", b"reply ok query q filter", b"plan q " + b"b" * 64), b"bq 0.1.0", b"c" * 64, b"d" * 64, 7)
 
     def test_what_is_written_is_read(self):
         self.assertEqual(read(written(self.whole), 7), self.whole)
@@ -235,7 +261,7 @@ class CheckpointsAreWhole(InAFolder):
 
     def test_the_newest_whole_one_whose_replies_are_acknowledged(self):
         for number, output in ((1, 0), (2, 20), (3, 50)):
-            save(path_of(self.folder.name, number), written(Checkpoint(b"RESUME 1\n", Place(output=output, bytes=number), Plan((), ()))))
+            save(path_of(self.folder.name, number), written(Checkpoint(b"RESUME 1\n", Place(output=output, bytes=number), ())))
         for acked, begins, number in ((None, None, 3), (49, None, 2), (20, None, 2), (19, None, 1), (60, 2, 2)):
             self.assertEqual(choose(self.folder.name, acked, begins).number, number)
         self.assertRaises(Fault, choose, self.folder.name, 60, 9)
