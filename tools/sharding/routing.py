@@ -2,6 +2,8 @@
 import os
 import re
 
+from sharding.writing import Writer
+
 BLOCK = 1 << 20
 INTEGER = re.compile(rb"\s*([+-]?\d+)\s*\r?$")
 MOST_KNOWN = 1 << 20
@@ -81,21 +83,17 @@ def blocks_of(source):
         yield [rest]
 
 
-def write_all(target, data):
-    """Writes all bytes to a descriptor."""
-    view = memoryview(data)
-    while view:
-        view = view[os.write(target, view):]
-
-
 def route(router, source, targets):
     """Deals all lines of a descriptor; each shard has a descriptor of its own among the targets, or all go to one, numbered."""
+    writers = [Writer(target) for target in targets]
     for lines in blocks_of(source):
         for shard, pile in enumerate(router.deal(lines)):
             if not pile:
                 continue
             if len(targets) == router.placing.parts and router.placing.parts > 1:
-                write_all(targets[shard], b"\n".join(pile) + b"\n")
+                writers[shard].put(b"\n".join(pile) + b"\n")
             else:
                 lead = b"%d\t" % shard
-                write_all(targets[0], lead + (b"\n" + lead).join(pile) + b"\n")
+                writers[0].put(lead + (b"\n" + lead).join(pile) + b"\n")
+    for writer in writers:
+        writer.end()
