@@ -7,15 +7,18 @@ import contextlib
 import fcntl
 import os
 import re
-import stat
 import time
 from collections import namedtuple
 
-from keeper import Fault
+from keeper import Fault, log
+from keeper.handles import Fifo
 from keeper.store import is_free
 
 STATEMENT = re.compile(rb"(?:CREATE|DROP)[ \t][^\n]{1,1000}\Z", re.IGNORECASE)
 LINE = re.compile(rb"(?:(\d+)|=|!) ([^\n]*)\n\Z")
+REPLY = re.compile(rb"^[=!] ([^\n]*)\n", re.MULTILINE)
+# after so many looks for a reply it is told that there is none yet
+LOOKS = 250
 Change = namedtuple("Change", "lines statement")
 
 
@@ -26,10 +29,7 @@ class Changes:
         self.path, pipe = os.path.join(folder, "changes"), pipe or os.path.join(folder, "control")
         with contextlib.suppress(FileExistsError):
             os.mkfifo(pipe, 0o600)
-        self.fd, self.rest = os.open(pipe, os.O_RDWR | os.O_NONBLOCK), b""
-        if not stat.S_ISFIFO(os.fstat(self.fd).st_mode):
-            raise Fault(f"{pipe} is no named pipe")
-        self.list = open(self.path, "a+b", buffering=0)
+        self.pipe, self.list = Fifo(pipe), open(self.path, "a+b", buffering=0)
         self.list.seek(0)
         # a session that begins anew has none, and what was being written when a run was killed was not sent
         lines = [] if is_anew else re.findall(rb"[^\n]*\n", self.list.read())
@@ -41,57 +41,49 @@ class Changes:
         # how many of them have a reply in the list
         self.replied = sum(it.startswith(b"= ") for it in lines)
 
-    def read(self):
-        """The lines that the operator sent."""
-        try:
-            text = self.rest + os.read(self.fd, 1 << 16)
-        except BlockingIOError:
-            return []
-        *lines, self.rest = text.split(b"\n")
-        self.rest = self.rest[-1024:]
-        return [it.strip() for it in lines if it.strip()]
-
-    def append(self, text):
-        """Brings a line to the disk, whole or not at all."""
+    def append(self, line):
+        """Brings a line to the disk, whole or not at all; whether it stands there."""
         size = os.fstat(self.list.fileno()).st_size
         try:
-            if self.list.write(text) < len(text):
+            if self.list.write(line) < len(line):
                 raise OSError(f"{self.path} takes no whole line")
             os.fsync(self.list)
-        except OSError:
+        except OSError as fault:
             self.list.truncate(size)
-            raise
+            log.error("%s is not written, as %s", line.decode(errors="replace").rstrip(), fault)
+            return False
+        return True
 
     def add(self, lines, statement):
-        """Takes a statement; what it asks for holds from here on."""
-        self.append(b"%d %s\n" % (lines, statement))
-        self.known.append(Change(lines, statement))
+        """Takes a statement, and what it asks for holds from here on; else tells who sent it. Whether it is taken."""
+        if not STATEMENT.match(statement):
+            return self.append(b"! CREATE and DROP lines alone\n") and False
+        is_taken = self.append(b"%d %s\n" % (lines, statement))
+        self.known += [Change(lines, statement)] if is_taken else []
+        return is_taken
 
 
 def send(folder, lines):
-    """Sends statements to the run that has the folder, and gives the reply to each."""
+    """Sends statements to the run that has the folder, one after another, and gives the reply to each."""
     try:
         pipe = os.open(os.path.join(folder, "control"), os.O_WRONLY | os.O_NONBLOCK)
     except OSError:
         raise Fault(f"no run has {folder}: start one, then change it") from None
+    # replies come in the order of the statements, so one operator waits for the other
+    fcntl.flock(pipe, fcntl.LOCK_EX)
     with open(os.path.join(folder, "changes"), "rb") as changes:
-        # one after another: replies come in the order of the statements
-        fcntl.flock(changes, fcntl.LOCK_EX)
         changes.seek(0, os.SEEK_END)
-        for line in lines:
+        said = b""
+        for number, line in enumerate(lines):
             os.write(pipe, line + b"\n")
-            yield reply_in(folder, changes)
-
-
-def reply_in(folder, changes):
-    """The next reply that comes to the list, as long as a run has the folder."""
-    line = b""
-    while True:
-        is_last = is_free(folder)
-        while piece := changes.readline():
-            line = piece if line.endswith(b"\n") else line + piece
-            if line[:2] in (b"= ", b"! ") and line.endswith(b"\n"):
-                return line[2:-1].decode()
-        if is_last:
-            raise Fault(f"the run that has {folder} ended before it replied; {changes.name} has what it took")
-        time.sleep(0.02)
+            is_last, looks = False, 0
+            while len(replies := REPLY.findall(said)) <= number:
+                if is_last:
+                    raise Fault(f"the run that has {folder} ended before it replied; {changes.name} has what it took")
+                time.sleep(0.02)
+                is_last, looks = is_free(folder), looks + 1
+                said += changes.read()
+                if looks == LOOKS:
+                    log.warning("no reply yet: what the run says tells whether its disk is full, or rows are to come"
+                                " again first")
+            yield replies[number].decode()

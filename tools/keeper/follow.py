@@ -3,15 +3,16 @@
 A file is known again by its identity, which is device and inode, and by a sum of bytes that were read of it.
 """
 import contextlib
+import glob
 import os
 import re
 
 from keeper import Fault, log
 from keeper.checkpoint import Mark
 from keeper.sink import sum_at
-from keeper.source import PIECE, Lines
+from keeper.source import PIECE, Source
 
-RENAMED = re.compile(r"(?:\.(\d{1,4})|[-.]\d[-.\d_:T]*)\Z")
+RENAMED = re.compile(r"(?:\.(\d{1,4})|[-.]\d[-.\d_:T]*)?\Z")
 
 
 def identity(file):
@@ -19,67 +20,55 @@ def identity(file):
     return status.st_dev, status.st_ino
 
 
-def place_in(fd):
-    return os.lseek(fd, 0, os.SEEK_CUR)
-
-
 def left(fd):
     """How many bytes of a file were not read; fewer than none where it was cut."""
-    return os.fstat(fd).st_size - place_in(fd)
+    return os.fstat(fd).st_size - os.lseek(fd, 0, os.SEEK_CUR)
 
 
 def listed(path):
     """A file and those it was renamed to, the oldest first, by name and identity: f.2, f.1, f; or f-20261130, f."""
-    folder, base = os.path.split(os.path.abspath(path))
     found = []
-    for entry in os.scandir(folder):
-        rest = entry.name[len(base):]
-        renamed = RENAMED.match(rest)
-        if entry.name.startswith(base) and (renamed or not rest) and entry.is_file():
+    for name in glob.glob(glob.escape(path) + "*"):
+        if (renamed := RENAMED.match(name[len(path):])) and os.path.isfile(name):
             # of numbers the greater is the older, of dates the lesser
-            number = int(renamed[1]) if renamed and renamed[1] else None
             with contextlib.suppress(FileNotFoundError):
-                one = entry.path, identity(entry.path)
-                found.append((not rest, number is not None, -(number or 0), rest, one))
-    return [it[-1] for it in sorted(found)]
+                found.append((name == path, renamed[1] is not None, -int(renamed[1] or 0), name, identity(name)))
+    return [it[-2:] for it in sorted(found)]
 
 
-def family(path):
-    """The list when nothing was renamed while it was made."""
-    before = None
-    while (now := listed(path)) != before:
-        before = now
-    return now
-
-
-class File(Lines):
+class File(Source):
     """A source, as a pipe is one; where it is followed it never ends."""
-
-    is_pipe = False
 
     def __init__(self, path, is_followed, place, begins_anew=False):
         mark = None if begins_anew else place.mark
-        self.path, self.is_followed, self.rests = path, is_followed, False
+        self.path, self.is_followed = path, is_followed
         super().__init__(self.known(mark) if mark else os.open(path, os.O_RDONLY), place)
         # the oldest form of a checkpoint has bytes alone
         os.lseek(self.fd, 0 if begins_anew else mark.offset if mark else place.bytes, os.SEEK_SET)
-        # the file that was read before, the next one, and the identities of what came before the one that is read
-        self.old, self.next, self.passed = None, None, set()
+        # the file that was read before, and the identities of what came before the one that is read
+        self.old, self.passed = None, set()
         self.look_at_lengths()
         self.later()
+
+    def family(self):
+        """All files that are looked at, listed when nothing was renamed meanwhile."""
+        if not self.is_followed:
+            return [(self.path, identity(self.path))]
+        before = None
+        while (now := listed(self.path)) != before:
+            before = now
+        return now
 
     def known(self, mark):
         """Opens the file that was read, whatever its name is now; a copy, as on another machine, by what is in it."""
         alike = []
-        for name in [name for name, _ in family(self.path)] if self.is_followed else [self.path]:
+        for name, _ in self.family():
             try:
                 fd = os.open(name, os.O_RDONLY)
             except FileNotFoundError:
-                if not self.is_followed:
-                    raise
                 # it was renamed just now
                 return self.known(mark)
-            if os.fstat(fd).st_size >= mark.offset and sum_at(fd, mark.offset) == mark.sum:
+            if left(fd) >= mark.offset and sum_at(fd, mark.offset) == mark.sum:
                 alike.append(fd)
             else:
                 os.close(fd)
@@ -90,30 +79,27 @@ class File(Lines):
                         " is there from its first byte on say --input-anew")
         return (exact or alike)[0]
 
-    def read(self):
-        """Whole lines of what came; a last line of a renamed file without its end is a line."""
-        piece = os.read(self.fd, PIECE)
-        self.rests = not piece
-        if piece:
-            return self.cut(piece)
-        if not self.is_followed:
-            self.is_ended = True
-            return self.cut_end()
+    def take(self, piece):
+        """Whole lines of what was read; a last line of a renamed file without its end is a line."""
+        if piece or not self.is_followed:
+            return super().take(piece)
         self.look_at_lengths()
-        if self.next is None:
-            # what was written before the renaming is read first
-            self.next = self.successor()
+        behind = self.successor()
+        self.is_at_rest = behind is None
+        if self.is_at_rest:
             return b""
-        if self.old:
+        # what was written before the renaming comes first
+        text = self.cut(b"".join(iter(lambda: os.read(self.fd, PIECE), b""))) + self.cut_end()
+        if self.old is not None:
             os.close(self.old)
-        self.old, self.fd, self.next = self.fd, self.next, None
+        self.old, self.fd = self.fd, behind
         self.later()
-        log.info("%s was renamed: read to its end, %d bytes, and the new one begun", self.path, place_in(self.old))
-        return self.cut_end()
+        log.info("%s was renamed: read to its end, and the new one begun", self.path)
+        return text
 
     def later(self):
         """The files behind this one, the oldest first."""
-        files, this = family(self.path) if self.is_followed else [], identity(self.fd)
+        files, this = self.family(), identity(self.fd)
         known = [it for _, it in files]
         if this in known:
             self.passed = set(known[:known.index(this) + 1])
@@ -123,36 +109,31 @@ class File(Lines):
 
     def successor(self):
         """Opens the next file with a byte in it, where there is one: what is written to this one was written before."""
-        # a file that is not there is being renamed
+        # a file that is not there, or is another one, is being renamed
         with contextlib.suppress(FileNotFoundError):
-            for name, file in self.later() if identity(self.path) != identity(self.fd) else ():
+            behind = self.later() if identity(self.path) != identity(self.fd) else []
+            for name, file in [it for it in behind if os.path.getsize(it[0])][:1]:
                 fd = os.open(name, os.O_RDONLY)
-                is_it = identity(fd) == file
-                if is_it and left(fd):
+                if identity(fd) == file:
                     return fd
                 os.close(fd)
-                if not is_it:
-                    break
         return None
 
     def look_at_lengths(self):
         """Refuses a file that was cut, and tells where a producer still writes to the one before."""
         if left(self.fd) < 0:
-            raise Fault(f"{self.path} is shorter than what was read of it, {place_in(self.fd)} bytes: see --input-anew")
-        if self.old and (more := left(self.old)) > 0:
+            raise Fault(f"{self.path} is shorter than what was read of it: see --input-anew")
+        if self.old is not None and (more := left(self.old)) > 0:
             log.error("%d bytes came into a renamed file when the one behind it had begun, and are not read", more)
-            os.close(self.old)
-            self.old = None
+            self.old = os.close(self.old)
 
     @property
     def mark(self):
-        offset = place_in(self.fd) - self.behind()
+        offset = os.lseek(self.fd, 0, os.SEEK_CUR) - self.behind()
         return Mark(*identity(self.fd), offset, sum_at(self.fd, offset))
 
     def lag(self):
-        """How many bytes wait, in this file and those behind it."""
-        try:
+        """How many bytes wait, in this file and those behind it; none while it is being renamed."""
+        with contextlib.suppress(OSError):
             return left(self.fd) + sum(os.path.getsize(name) for name, _ in self.later())
-        except OSError:
-            # it is being renamed
-            return 0
+        return 0

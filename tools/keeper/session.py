@@ -12,14 +12,13 @@ import subprocess
 from collections import deque
 
 from keeper import Fault
-from keeper.source import PIECE
+from keeper.handles import Outlet
 
 # F_SETPIPE_SZ of Linux, and the most that is allowed without more rights
 SET_SIZE, PIPE_SIZE = 1031, 1 << 20
 LOCKED, UNLOCKED = b"ok lock\n", b"ok unlock\n"
 ERROR = re.compile(rb"^error (\d+) (\w+)$", re.MULTILINE)
 REFUSED = re.compile(rb"^(?!ok (?:stream|query|drop) ).+", re.MULTILINE)
-LOCKS = re.compile(rb"^[ \t]*(?:UN)?LOCK\b(?![ \t]*,)", re.MULTILINE | re.IGNORECASE)
 
 
 def cut_at(text, line):
@@ -28,47 +27,37 @@ def cut_at(text, line):
     return (text, False, b"") if at < 0 else (text[:at], True, text[at + len(line):])
 
 
-class Session:
-    """bq, with the lines that were sent to it."""
+class Session(Outlet):
+    """bq, with the lines that were sent to it: first those that begin the session; `give` takes the replies to rows."""
 
-    def __init__(self, words, streams):
+    def __init__(self, words, streams, text, lines_before, give):
         # a signal from the terminal is for the keeper alone
         self.process = subprocess.Popen(words, stdin=subprocess.PIPE, stdout=subprocess.PIPE, bufsize=0,
                                         start_new_session=True)
-        self.to, self.of = self.process.stdin.fileno(), self.process.stdout.fileno()
-        os.set_blocking(self.to, False)
-        for fd in (self.to, self.of):
+        self.of, to = self.process.stdout.fileno(), self.process.stdin.fileno()
+        os.set_blocking(to, False)
+        for fd in (to, self.of):
             with contextlib.suppress(OSError):
                 fcntl.fcntl(fd, SET_SIZE, PIPE_SIZE)
-        self.streams = b" TO " + streams.encode() if streams else b""
+        super().__init__(to, "bq")
+        self.streams, self.give = b" TO " + streams.encode() if streams else b"", give
         # of each group of the keeper's own lines that is not answered how many lines it has, and who takes the replies;
         # what has come of the first of them, or None outside; and the front of a line of replies
         self.groups, self.own, self.rest = deque(), [], b""
-        # `moved` grows with whatever goes in or out; `shift` makes the number of a line one of the input
-        self.unsent, self.key, self.moved, self.shift = b"", 0, 0, 0
+        # `received` counts bytes; `shift` makes the number of a line one of the input
+        self.key, self.received, self.shift = 0, 0, lines_before
         self.is_begun = self.is_closed = self.is_gone = False
+        self.say(text, lambda said: None)
 
-    def lock(self):
+    def say(self, text, then):
+        """Sends lines of the keeper's own, and locks the session behind them by a new number."""
         self.key = int.from_bytes(os.urandom(8), "big") >> 2
-        return b"LOCK %d%s\n" % (self.key, self.streams)
-
-    def begin(self, text, lines_before):
-        """Sends what begins the session, and locks it."""
-        if LOCKS.search(text):
-            raise Fault("LOCK and UNLOCK are the keeper's own: leave them out of the script")
-        self.shift = lines_before
-        self.groups.append((text.count(b"\n") + 1, lambda said: None))
-        self.send(text + self.lock())
+        self.groups.append((text.count(b"\n") + 1, then))
+        self.put(b"%sLOCK %d%s\n" % (text, self.key, self.streams))
 
     def ask(self, statement, then):
-        """Sends one statement of the keeper's own, and has `then` take the reply when all before it were taken."""
-        self.groups.append((3, then))
-        self.send(b"UNLOCK %d\n%s\n" % (self.key, statement) + self.lock())
-
-    def send(self, text):
-        """Sends whole lines, as far as they are taken; the others wait."""
-        self.unsent = memoryview(bytes(self.unsent) + text)
-        self.flush()
+        """Sends a statement of the keeper's own, and has `then` take the reply when all before it were taken."""
+        self.say(b"UNLOCK %d\n%s\n" % (self.key, statement), then)
 
     def close(self):
         """Tells bq that no more comes."""
@@ -78,42 +67,37 @@ class Session:
     def flush(self):
         """Sends what waits. Of a bq that has ended the replies tell."""
         try:
-            while self.unsent:
-                count = os.write(self.to, self.unsent)
-                self.moved += count
-                self.unsent = self.unsent[count:]
-        except BlockingIOError:
-            return
+            super().flush()
         except BrokenPipeError:
-            self.unsent, self.is_gone = b"", True
-        if self.is_closed:
+            self.pending, self.is_gone = b"", True
+        if self.is_closed and not self.pending:
             self.process.stdin.close()
 
-    def receive(self, put):
-        """Gives replies to the input to `put`, and others to whom they belong. Whether bq goes on."""
-        piece = os.read(self.of, PIECE)
-        self.moved += len(piece)
+    def is_plain(self):
+        """Whether what comes next is the front of a reply to the input."""
+        return not self.groups and self.own is None and not self.rest
+
+    def take(self, piece):
+        """Gives replies to the input to `give`, and others to whom they belong."""
+        self.received += len(piece)
         text = self.rest + piece
         cut = text.rfind(b"\n") + 1
         text, self.rest = text[:cut], text[cut:]
         while text:
+            mark = LOCKED if self.own is not None else UNLOCKED
+            before, is_there, text = cut_at(text, mark) if self.groups else (text, False, b"")
             if self.own is not None:
-                before, is_there, text = cut_at(text, LOCKED)
                 self.own.append(before)
                 self.answered(is_there)
-            else:
-                before, is_there, text = cut_at(text, UNLOCKED) if self.groups else (text, False, b"")
-                if before:
-                    put(ERROR.sub(self.renumbered, before) if b"error " in before else before)
-                self.own = [] if is_there else None
-        return bool(piece)
+                continue
+            if before:
+                self.give(ERROR.sub(self.renumbered, before) if b"error " in before else before)
+            self.own = [] if is_there else None
 
     def answered(self, is_whole):
         """Has replies to the keeper's own lines be taken where they are whole."""
         if not self.is_begun and (found := REFUSED.search(self.own[-1])):
-            is_lock = found[0] == b"error %d Syntax" % self.groups[0][0]
-            raise Fault("this bq knows no LOCK" if is_lock else
-                        f"bq does not take what begins the session: {found[0].decode()}")
+            raise Fault(f"bq does not take what begins the session: {found[0].decode()}")
         if is_whole:
             (count, then), said, self.own = self.groups.popleft(), b"".join(self.own), None
             self.shift, self.is_begun = self.shift - count, True

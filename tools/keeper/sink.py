@@ -3,13 +3,15 @@
 What a reader may have seen is never cut or written again. A session that goes on from a checkpoint gives replies that
 were given before; they are passed by, and in a file they are compared with what stands there.
 """
+import contextlib
 import os
 import select
 import stat
 
 from keeper import Fault, log
 from keeper.checkpoint import sum_of
-from keeper.store import lock
+from keeper.handles import Fifo, Outlet
+from keeper.store import locked
 
 ENDS = 1024
 
@@ -20,21 +22,19 @@ def sum_at(fd, offset):
     return sum_of(os.pread(fd, near, 0) + os.pread(fd, near, offset - near))
 
 
-class Sink:
-    """The file or standard output."""
+class Sink(Outlet):
+    """The file or standard output; bytes are those of replies, of earlier runs too."""
 
     def __init__(self, path):
-        self.path, self.fd = path, os.open(path, os.O_RDWR | os.O_CREAT | os.O_APPEND, 0o644) if path else 1
-        self.is_file = stat.S_ISREG(os.fstat(self.fd).st_mode)
-        if path:
-            if not self.is_file:
-                raise Fault(f"{path} is no file: write to it over standard output")
-            lock(self.fd, f"the output {path}")
-        # bytes of replies, those of earlier runs too: so many came, are out, may have been seen; and what is to go out
-        self.total = self.written = os.fstat(self.fd).st_size if path else 0
-        self.seen, self.pending = 0, b""
+        if path and os.path.exists(path) and not os.path.isfile(path):
+            raise Fault(f"{path} is no file: write to it over standard output")
+        self.path, fd = path, locked(path, os.O_RDWR | os.O_CREAT | os.O_APPEND) if path else 1
+        super().__init__(fd, path or "standard output")
+        # so many bytes came, so many are out, and so many may have been seen
+        self.total = self.written = os.fstat(fd).st_size if path else 0
+        self.seen = 0
 
-    def begin(self, checkpoint, acked=None):
+    def begin(self, checkpoint, acked):
         """A run goes on from a checkpoint. Of a pipe what was acknowledged is out, or else what came before it."""
         before = checkpoint.place.output
         if not self.path:
@@ -42,7 +42,6 @@ class Sink:
         elif self.written < before or checkpoint.output_sum not in (b"", sum_at(self.fd, before)):
             raise Fault(f"{self.path} is not the output that stood there at the checkpoint, or is shorter than its"
                         f" {before} bytes")
-        self.rewind(before)
 
     def rewind(self, before):
         """The next reply is the one behind so many bytes."""
@@ -52,12 +51,11 @@ class Sink:
         """Whether the next reply was given before."""
         return self.total < self.seen
 
-    def put(self, text):
+    def take(self, text):
         """Takes replies, and gives the lines among them that no reader can have seen whole."""
         passed = self.pass_by(text) if self.is_passing_by() else 0
-        self.pending = memoryview(bytes(self.pending) + text[passed:])
         self.total += len(text)
-        self.flush()
+        self.put(text[passed:])
         return text[text.rfind(b"\n", 0, passed) + 1:] if passed else text
 
     def pass_by(self, text):
@@ -71,56 +69,38 @@ class Sink:
             os.ftruncate(self.fd, self.seen)
         return same
 
-    def flush(self):
-        """Writes what is taken without waiting: a pipe that is ready takes so many bytes."""
-        try:
-            while self.pending and (self.is_file or select.select([], [self.fd], [], 0)[1]):
-                count = os.write(self.fd, self.pending if self.is_file else self.pending[:select.PIPE_BUF])
-                self.written += count
-                self.pending = self.pending[count:]
-        except BlockingIOError:
-            # who shares standard output has it so
-            return
-        except BrokenPipeError:
-            raise Fault("the consumer of the replies is gone") from None
-        except OSError as fault:
-            raise OSError(fault.errno, fault.strerror, self.path or "standard output") from None
-
     def to_disk(self, offset):
         """Brings replies to the disk, and gives a sum of those before an offset."""
-        if not self.path:
-            return b""
-        os.fsync(self.fd)
-        return sum_at(self.fd, offset)
+        if self.path:
+            os.fsync(self.fd)
+        return sum_at(self.fd, offset) if self.path else b""
 
 
 class Acks:
     """What the consumer says that it has made durable: whole lines, each a number of bytes; the last one counts."""
 
     def __init__(self, path):
-        self.path, self.rest, self.number = path, b"", None
-        self.is_pipe = os.path.exists(path) and stat.S_ISFIFO(os.stat(path).st_mode)
-        self.fd = os.open(path, os.O_RDWR | os.O_NONBLOCK) if self.is_pipe else None
+        self.path, self.number = path, None
+        self.pipe = Fifo(path) if path and os.path.exists(path) and stat.S_ISFIFO(os.stat(path).st_mode) else None
 
     def read(self):
         """Takes what was said meanwhile."""
-        try:
-            if self.is_pipe:
-                text = self.rest + os.read(self.fd, 1 << 16)
-            else:
-                with open(self.path, "rb") as file:
-                    text = file.read()
-        except (BlockingIOError, FileNotFoundError):
-            return
-        whole, _, self.rest = text.rpartition(b"\n")
-        if whole and whole.split()[-1].isdigit():
-            self.number = int(whole.split()[-1])
+        lines = self.pipe.lines() if self.pipe else []
+        if self.path and not self.pipe:
+            with contextlib.suppress(FileNotFoundError), open(self.path, "rb") as file:
+                lines = file.read().split(b"\n")[:-1]
+        if lines and lines[-1].strip().isdigit():
+            self.number = int(lines[-1])
 
     def first(self):
-        """The number before a run begins, which over a named pipe is waited for."""
+        """The number before a run begins, which over a named pipe is waited for; None where nothing is acknowledged."""
         self.read()
-        while self.is_pipe and self.number is None:
-            select.select([self.fd], [], [])
+        while self.pipe and self.number is None:
+            select.select([self.pipe.fd], [], [])
             self.read()
-        self.number = self.number or 0
+        self.number = self.number or (0 if self.path else None)
         return self.number
+
+    def cover(self, output):
+        """Whether so many bytes of replies are durable, or need not be."""
+        return self.number is None or output <= self.number

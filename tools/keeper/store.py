@@ -6,35 +6,29 @@ import re
 import time
 
 from keeper import Busy, Fault, log
-from keeper.checkpoint import read, written
+from keeper.checkpoint import Checkpoint, read, written
 
 NAME = re.compile(r"checkpoint-(\d{8,})\.bq\Z")
 
 
-def lock(handle, what):
-    """Takes what a handle stands for, for this run alone, until it ends; who only looks has it for a moment."""
-    for _ in range(20):
+def locked(path, way=os.O_RDONLY | os.O_DIRECTORY, tries=20):
+    """Opens what this run alone may have until it ends; who only looks has it for a moment."""
+    handle = os.open(path, way, 0o644)
+    for _ in range(tries):
         with contextlib.suppress(BlockingIOError):
-            return fcntl.flock(handle, fcntl.LOCK_EX | fcntl.LOCK_NB)
+            fcntl.flock(handle, fcntl.LOCK_EX | fcntl.LOCK_NB)
+            return handle
         time.sleep(0.01)
-    raise Busy(f"another run has {what}")
-
-
-def lock_folder(folder):
-    handle = os.open(folder, os.O_RDONLY | os.O_DIRECTORY)
-    lock(handle, f"the folder {folder}")
-    return handle
+    os.close(handle)
+    raise Busy(f"another run has {path}")
 
 
 def is_free(folder):
     """Whether no run has the folder."""
-    handle = os.open(folder, os.O_RDONLY | os.O_DIRECTORY)
-    try:
-        return fcntl.flock(handle, fcntl.LOCK_SH | fcntl.LOCK_NB) is None
-    except BlockingIOError:
-        return False
-    finally:
-        os.close(handle)
+    with contextlib.suppress(Busy):
+        os.close(locked(folder, tries=3))
+        return True
+    return False
 
 
 def path_of(folder, number):
@@ -59,21 +53,18 @@ def whole_in(folder):
 
 def choose(folder, acked=None, begins=None):
     """The newest checkpoint, of those whose replies are acknowledged and that stand at byte `begins`, where given."""
-    one = None
+    one = Checkpoint()
     for one in whole_in(folder):
         if (acked is None or one.place.output <= acked) and begins in (None, one.place.bytes):
             return one
-    if one and begins is not None:
-        raise Fault(f"no checkpoint of {folder} goes on from byte {begins} of the input: ask --where once more")
-    if one:
-        raise Fault(f"the consumer has {acked} bytes of replies, and the oldest checkpoint of {folder} is behind"
-                    f" {one.place.output}: those between are gone")
-    if numbers_in(folder):
+    if not one.number and numbers_in(folder):
         raise Fault(f"no checkpoint of {folder} is whole: take them away to begin anew")
-    if acked or begins:
-        raise Fault(f"{folder} has no checkpoint, and {acked or 0} bytes of replies are acknowledged, or the input"
-                    f" begins at byte {begins or 0}")
-    return None
+    if begins or one.number and begins is not None:
+        raise Fault(f"no checkpoint of {folder} goes on from byte {begins} of the input: ask --where once more")
+    if acked or one.number:
+        raise Fault(f"the consumer has {acked} bytes of replies, and no checkpoint of {folder} goes on from there: are"
+                    " they of this session?")
+    return one
 
 
 def save(path, text, folder=None):
@@ -97,23 +88,23 @@ class Store:
     """The checkpoints of a run, which goes on from the chosen one; what no later run may go on from is renamed."""
 
     def __init__(self, folder, lock, chosen, acks):
-        self.folder, self.lock, self.acks = folder, lock, acks
+        self.folder, self.lock, self.acks, self.number = folder, lock, acks, chosen.number
         for number in numbers_in(folder):
-            if chosen is None or number > chosen.number:
+            if number > chosen.number:
                 os.rename(path_of(folder, number), path_of(folder, number) + ".aside")
-        # bytes of replies before each; those that an earlier run wrote are older than the chosen one
-        self.outputs = {number: chosen.place.output for number in numbers_in(folder)}
+        # the numbers, the oldest first, with bytes of replies before each; of older ones those of the chosen one
+        self.standing = [(number, chosen.place.output) for number in reversed(numbers_in(folder))]
 
     def add(self, checkpoint):
         """Brings a checkpoint to the disk; gives it with its number, and its size."""
-        checkpoint = checkpoint._replace(number=max(self.outputs, default=0) + 1)
+        self.number += 1
+        checkpoint = checkpoint._replace(number=self.number)
         text = written(checkpoint)
-        save(path_of(self.folder, checkpoint.number), text, self.lock)
-        self.outputs[checkpoint.number] = checkpoint.place.output
-        acked = self.acks.number if self.acks else float("inf")
+        save(path_of(self.folder, self.number), text, self.lock)
+        self.standing.append((self.number, checkpoint.place.output))
         # the newest two whose replies are acknowledged stay, and all that are newer
-        for number in [it for it in sorted(self.outputs, reverse=True) if self.outputs[it] <= acked][2:]:
-            del self.outputs[number]
+        for one in [it for it in self.standing if self.acks.cover(it[1])][:-2]:
+            self.standing.remove(one)
             with contextlib.suppress(FileNotFoundError):
-                os.remove(path_of(self.folder, number))
+                os.remove(path_of(self.folder, one[0]))
         return checkpoint, len(text)

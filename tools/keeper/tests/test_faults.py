@@ -12,6 +12,7 @@ import socket
 import subprocess
 import sys
 import tempfile
+import threading
 import time
 import unittest
 
@@ -169,6 +170,25 @@ class Input(Faults):
         self.put("script", b"CREATE STREAM T (b)\n" + FLAT)
         self.assertEqual(self.keep("--to", "S", given=b"S,1\nT,1\n").stdout, answers(1) + b"error 2 Locked\n")
 
+    def test_rows_one_by_one_are_taken_as_all_at_once(self):
+        """Each piece is sent when the replies to those before have come."""
+        pieces = [b"S,1\n", b"S,2\nS,3\n", b"--@ 7\n", b"S,4\n", b"S,x\n", b"S,", b"5\n", b"y" * 3000 + b"\nS,6\n", b"\n", b"DROP QUERY q\n", b"S,7\r\n", b"S,8\n"] * 20
+        wanted = self.keep(given=b"".join(pieces), folder="other").stdout
+        process, came = self.start("--every", "50", stdin=subprocess.PIPE, stdout=subprocess.PIPE), b""
+        for piece in pieces:
+            process.stdin.write(piece)
+            while not piece.startswith((b"--", b"\n")) and piece.endswith(b"\n") and not self.ends_like(came, wanted, piece):
+                came += os.read(process.stdout.fileno(), 4096)
+        process.stdin.close()
+        self.assertEqual((process.wait(PATIENCE), came), (0, wanted))
+        self.assertEqual(*(self.keep("--where", script=None, folder=it).stdout for it in ("kept", "other")))
+
+    @staticmethod
+    def ends_like(came, wanted, piece):
+        """Whether the reply to a piece is the last that came."""
+        last = b"Locked\n" if b"DROP" in piece else b"Value\n" if b"x" in piece else b"q," + piece.split(b",")[-1].replace(b"\r", b"")
+        return wanted.startswith(came) and came.endswith(last)
+
     def test_a_named_pipe_that_is_followed_stays_open(self):
         os.mkfifo(self.path("rows"))
         process = self.start("--follow", self.path("rows"), "--output", self.path("out"))
@@ -250,6 +270,19 @@ class Output(Faults):
         for _ in range(2):
             self.assertEqual(self.keep("--input", self.path("rows"), "--output", self.path("out")).returncode, 0)
             self.assertEqual(self.get("out"), b"of an older session\n" + answers(1, 2))
+
+    def test_a_standard_handle_that_is_closed_is_no_file_of_the_keeper(self):
+        for closed, status in (("<&-", 0), (">&-", 1), ("2>&-", 0)):
+            ran = subprocess.run(["sh", "-c", f'exec "$@" {closed}', "sh", *self.words(folder=f"kept{closed[0]}")], input=rows(1), capture_output=True, timeout=PATIENCE, check=False)
+            self.assertEqual((ran.returncode, ran.stdout), (status, answers(1) if closed == "2>&-" else b""), ran.stderr)
+
+    def test_a_folder_in_which_it_may_not_write(self):
+        os.mkdir(self.path("kept"), 0o555)
+        # root may write anywhere
+        as_another = ["setpriv", "--bounding-set", "-dac_override"] if os.geteuid() == 0 else []
+        ran = subprocess.run([*as_another, *self.words()], input=rows(1), capture_output=True, timeout=PATIENCE, check=False)
+        self.assertEqual((ran.returncode, ran.stdout), (1, b""))
+        self.assertIn(b"kept is a folder in which this user may not write", ran.stderr)
 
     def test_a_producer_that_begins_at_another_byte_is_refused(self):
         self.keep(given=rows(1, 2))
@@ -374,6 +407,20 @@ class Control(Faults):
         self.end(process)
         self.assertNotIn(b"is cut there", self.get("said"))
 
+    def test_a_change_that_cannot_be_listed_is_told(self):
+        """No file gets more than 700 bytes, so the list takes not all that is said."""
+        process = self.start("--output", self.path("out"), stdin=subprocess.PIPE, limit=700)
+        self.until(lambda: os.path.isdir(self.path("kept")) and self.checkpoints())
+        self.put("change", b"EXPLAIN q\n" * 30)
+        sending = subprocess.Popen(self.words("--change", self.path("change"), script=None), stdout=subprocess.PIPE, stderr=subprocess.PIPE)
+        self.assertIn(b"no reply yet", sending.stderr.readline())
+        sending.kill()
+        self.assertRegex(sending.communicate()[0], rb"\A(CREATE and DROP lines alone\n){20,25}\Z")
+        self.assertRegex(self.get("said"), rb"lines alone is not written, as ")
+        process.stdin.write(rows(1))
+        self.until(lambda: self.get("out") == answers(1))
+        self.end(process)
+
     def test_a_change_stands_behind_the_replies_that_were_seen(self):
         """It comes before the rows come again whose replies stand there."""
         words = ["--seconds", "1000", "--output", self.path("out")]
@@ -416,6 +463,17 @@ class Signals(Faults):
         process.terminate()
         self.assertEqual(process.wait(PATIENCE), 1)
         self.assertIn(b"did not go on for 1 s", self.get("said"))
+
+    def test_a_consumer_that_stalls_goes_on_where_it_was(self):
+        """The input is sent by a thread, which waits as long as the consumer does."""
+        process = self.start(stdin=subprocess.PIPE, stdout=subprocess.PIPE)
+        numbers = range(300_000)
+        feeding = threading.Thread(target=lambda: (process.stdin.write(rows(*numbers)), process.stdin.close()), daemon=True)
+        feeding.start()
+        self.until(lambda: (found := re.search(rb"\nkeep_unwritten_bytes (\d+)", self.get("kept/metrics"))) and int(found[1]) > 900_000)
+        came = b"".join(iter(lambda: process.stdout.read(1 << 16), b""))
+        self.assertEqual((process.wait(PATIENCE), came == answers(*numbers)), (0, True), self.get("said"))
+        feeding.join()
 
     def test_hup_and_usr1_do_not_end_it(self):
         process = self.start("--seconds", "1000", "--output", self.path("out"), stdin=subprocess.PIPE)

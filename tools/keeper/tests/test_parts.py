@@ -5,6 +5,8 @@ import sys
 import tempfile
 import unittest
 import warnings
+from collections import deque
+from types import SimpleNamespace
 
 sys.dont_write_bytecode = True
 sys.path.insert(0, os.path.dirname(os.path.dirname(os.path.dirname(os.path.abspath(__file__)))))
@@ -13,8 +15,9 @@ from keeper import Fault  # noqa: E402
 from keeper.change import Changes  # noqa: E402
 from keeper.checkpoint import Checkpoint, Mark, Place, read, sum_of, written  # noqa: E402
 from keeper.follow import File  # noqa: E402
+from keeper.run import KEPT, Run  # noqa: E402
 from keeper.sink import Sink  # noqa: E402
-from keeper.source import LONGEST, TOO_LONG, Lines  # noqa: E402
+from keeper.source import LONGEST, TOO_LONG, Source  # noqa: E402
 from keeper.store import choose, path_of, save  # noqa: E402
 
 
@@ -32,7 +35,7 @@ class LinesAreCut(unittest.TestCase):
         for _ in range(300):
             text = b"".join(one.choice([b"S,1", b"", b" \r", b"-- x", b"--@ 7 8", b"x" * one.randint(1020, 1030), b"y" * 5000]) + b"\n" for _ in range(one.randint(0, 9)))
             text += one.choice([b"", b"S,1", b"z" * 1024, b"z" * 3000])
-            lines, sent, place = Lines(None, Place()), b"", 0
+            lines, sent, place = Source(None, Place()), b"", 0
             while place < len(text):
                 length = one.choice([1, 7, 1024, 1025, 4000])
                 sent += lines.cut(text[place:place + length])
@@ -46,7 +49,7 @@ class LinesAreCut(unittest.TestCase):
             self.assertEqual(lines.token, b"7 8" if b"--@ 7 8\n" in text else b"")
 
     def test_a_mark_has_200_bytes_at_most(self):
-        lines = Lines(None, Place())
+        lines = Source(None, Place())
         lines.cut(b"--@ " + b"a" * 200 + b"\n")
         self.assertEqual(lines.token, b"a" * 200)
         lines.cut(b"--@ " + b"b" * 201 + b"\n")
@@ -75,8 +78,9 @@ class FilesAreFollowed(InAFolder):
         """What comes until the file rests at two looks."""
         text, rests = b"", 0
         while rests < 2:
-            text += source.read()
-            rests = rests + 1 if source.rests and source.next is None else 0
+            text += source.take(os.read(source.fd, 1 << 16))
+            rests = rests + 1 if source.is_at_rest else 0
+            source.is_at_rest = False
         return text
 
     def follow(self, place=Place(), **how):
@@ -172,7 +176,7 @@ class ChangesAreListed(InAFolder):
     def changes(self, is_anew=False):
         changes = Changes(self.folder.name, None, is_anew)
         self.addCleanup(changes.list.close)
-        self.addCleanup(os.close, changes.fd)
+        self.addCleanup(os.close, changes.pipe.fd)
         return changes
 
     def test_whole_lines_are_known_again(self):
@@ -198,12 +202,34 @@ class ChangesAreListed(InAFolder):
             self.assertRaises(Fault, Changes, self.folder.name, None, False)
 
 
+class RowsGoTheShortWay(unittest.TestCase):
+    def test_only_where_nothing_waits(self):
+        plain = {"session": SimpleNamespace(pending=b"", is_plain=lambda: True), "sink": SimpleNamespace(pending=b"", is_passing_by=lambda: False),
+                 "source": SimpleNamespace(rest=b"", lines=0), "replay": (), "asked": Place(), "options": SimpleNamespace(every=1), "refrains": 0}
+        for name, other in (("session", SimpleNamespace(pending=b"S,1\n")), ("session", SimpleNamespace(pending=b"", is_plain=lambda: False)), ("sink", SimpleNamespace(pending=b"q,1\n")),
+                            ("sink", SimpleNamespace(pending=b"", is_passing_by=lambda: True)), ("source", SimpleNamespace(rest=b"S")), ("replay", ("DROP QUERY q",))):
+            run = Run.__new__(Run)
+            vars(run).update({**plain, name: other})
+            self.assertTrue(run.pass_along(lambda _: self.fail(f"looked for what comes, with {name} {other}")))
+
+
+class LinesAreKept(unittest.TestCase):
+    def test_for_a_bq_that_is_to_be_begun_again(self):
+        """However many they are, they are let go only while one runs, which has them."""
+        run = Run.__new__(Run)
+        vars(run).update(session=None, begin_at=1, is_told=False, is_curious=False, pieces=deque([(1, b"S,1\n")]), lost_to=0, kept=Checkpoint(),
+                         source=SimpleNamespace(bytes=KEPT + 1, lines=1), acks=SimpleNamespace(read=lambda: None), watch=SimpleNamespace(next_look=1))
+        run.tick(0)
+        self.assertEqual((list(run.pieces), run.lost_to), ([(1, b"S,1\n")], 0))
+
+
 class OutputsAreNeverCut(InAFolder):
     def sink(self, before, there):
         self.put("out", there)
         sink = Sink(self.path("out"))
         self.addCleanup(os.close, sink.fd)
-        sink.begin(Checkpoint(b"", Place(output=before)))
+        sink.begin(Checkpoint(b"", Place(output=before)), None)
+        sink.rewind(before)
         return sink
 
     def out(self):
@@ -212,17 +238,17 @@ class OutputsAreNeverCut(InAFolder):
 
     def test_what_stands_there_is_passed_by(self):
         sink = self.sink(2, b"a\nb\nc\n")
-        given = [sink.put(text) for text in (b"b\n", b"c\nd\n", b"e\n")]
+        given = [sink.take(text) for text in (b"b\n", b"c\nd\n", b"e\n")]
         self.assertEqual((self.out(), sink.total, sink.written, given), (b"a\nb\nc\nd\ne\n", 10, 10, [b"", b"d\n", b"e\n"]))
 
     def test_a_line_whose_front_stands_there_is_counted_whole(self):
         sink = self.sink(2, b"a\nb")
-        self.assertEqual((sink.put(b"bcd\n"), self.out(), sink.total), (b"bcd\n", b"a\nbcd\n", 6))
+        self.assertEqual((sink.take(b"bcd\n"), self.out(), sink.total), (b"bcd\n", b"a\nbcd\n", 6))
 
     def test_a_torn_end_is_cut_where_it_differs(self):
         sink = self.sink(2, b"a\nb\n\0\0\0\0")
         with self.assertLogs("keep", "ERROR"):
-            sink.put(b"b\nc\n")
+            sink.take(b"b\nc\n")
         self.assertEqual((self.out(), sink.total, sink.written), (b"a\nb\nc\n", 6, 6))
 
     def test_a_shorter_output_is_refused(self):
@@ -232,7 +258,7 @@ class OutputsAreNeverCut(InAFolder):
         self.put("out", b"x\ny\n")
         sink = Sink(self.path("out"))
         self.addCleanup(os.close, sink.fd)
-        self.assertRaises(Fault, sink.begin, Checkpoint(b"", Place(output=2), output_sum=b"0" * 64))
+        self.assertRaises(Fault, sink.begin, Checkpoint(b"", Place(output=2), output_sum=b"0" * 64), None)
 
 
 class CheckpointsAreWhole(InAFolder):
