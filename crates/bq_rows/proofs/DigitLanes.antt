@@ -116,7 +116,7 @@ one_more : (b : Bool) (m k n : ℕ) → (n ≤ m → m ≡ n + k) → suc n ≤ 
 one_more true m k n h le = omega (arith, h (omega (arith, le)))
 one_more false m k n h le = absurd (omega (arith, le))
 
-run_from : (p : ℕ → Bool) (n : ℕ) (xs : List ℕ) → n ≤ prefix_len p xs → prefix_len p xs ≡ n + prefix_len p (drop n xs)
+pub run_from : (p : ℕ → Bool) (n : ℕ) (xs : List ℕ) → n ≤ prefix_len p xs → prefix_len p xs ≡ n + prefix_len p (drop n xs)
 run_from p zero xs le = omega arith
 run_from p (suc n) [] le = absurd (omega (arith, le))
 run_from p (suc n) (x ∷ xs) le = one_more (p x) (prefix_len p xs) (prefix_len p (drop n xs)) n (run_from p n xs) le

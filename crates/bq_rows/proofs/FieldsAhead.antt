@@ -61,15 +61,6 @@ pub record DigitsTo (text : List ℕ) (start place : ℕ) : Type 0 where
   pub count : start + prefix_len is_digit (drop start text) ≡ place + prefix_len is_digit (drop place text)
   pub within : place < length text
 
-pub digits_step : (text : List ℕ) (start place : ℕ) → IsEnded text → DigitsTo text start place → is_digit (get_or text place 0) ≡ true → DigitsTo text start (place + 1)
-digits_step text start place ended h digit = record {
-  count = omega (arith, h.count, prefix_len-drop_yes is_digit text place 0 h.within digit);
-  within = inside text place ended h.within (digit_no_feed (get_or text place 0) digit);
-}
-
-pub digits_stop : (text : List ℕ) (start place : ℕ) → DigitsTo text start place → is_digit (get_or text place 0) ≡ false → place ≡ start + prefix_len is_digit (drop start text)
-digits_stop text start place h other = omega (arith, h.count, prefix_len-drop_no is_digit text place 0 h.within other)
-
 -- An integer at a place.
 
 pub short_at : (text : List ℕ) (start len kept : ℕ) (old new : List ℤ) → len ≡ prefix_len is_digit (drop start text) → (0 < len) × (len ≤ 19) × (kept < 2 ^ 63) → start + len < length text
@@ -129,7 +120,7 @@ integer_plain : (text : List ℕ) (len : ℕ) → len ≡ integer_len text → I
 integer_plain text len size =
     ap (λ n. list_all is_plain_byte (take n text)) size ∙ all_weaker is_solid is_plain_byte solid_plain (take (integer_len text) text) (leading_solid text)
 
-plain_both : (front rest : List ℕ) → IsPlain front → IsPlain rest → IsPlain (front ++ rest)
+pub plain_both : (front rest : List ℕ) → IsPlain front → IsPlain rest → IsPlain (front ++ rest)
 plain_both front rest p q = list_all-append is_plain_byte front rest ∙ and_both (list_all is_plain_byte front) (list_all is_plain_byte rest) p q
 
 comma_stops : (rest : List ℕ) → StopsFor is_digit (44 ∷ rest)

@@ -3,6 +3,7 @@ pub mod FieldsAhead
 pub mod LaneNumbers
 pub mod LanePlaces
 pub mod LinesCounted
+pub mod MarkedFields
 pub mod NamesAhead
 pub mod PairAmounts
 pub mod PairEnds

@@ -1,15 +1,15 @@
 -- Where two runs of digits end.
-use Rattle.std.proofs.Common.{◌≡◌, ℕ, suc, ◌+◌, ◌-◌, ◌*◌, ◌%◌, ◌^◌, ◌<◌, Bool, true, false, not, cond, bit_and, Fits, w8, List, [], ◌∷◌, length, map, drop, refl, ap, sym, ◌∙◌, subst, arith}
+use Rattle.std.proofs.Common.{◌≡◌, ℕ, suc, ◌+◌, ◌-◌, ◌*◌, ◌%◌, ◌^◌, ◌<◌, ◌≤◌, Bool, true, false, not, cond, bit_and, Fits, w8, List, [], ◌∷◌, length, map, drop, refl, ap, sym, ◌∙◌, subst, arith}
 use Rattle.std.specs.List.{prefix_len}
 use Rattle.std.proofs.lemmas.Bool.{agree_below, agree_below_at}
 use Rattle.std.proofs.lemmas.Nat.{and_block, and_le_l}
 use Rattle.std.proofs.lemmas.Simd.{mask_l-lt, trailing_mask_l}
-use Rattle.std.proofs.lemmas.List.{length-map}
+use Rattle.std.proofs.lemmas.List.{drop-drop, length-map}
 use lib.Lanes.{Each1, mask_l, top}
 use lib.Bits.{and_self}
 use lib.Count.{count_trailing_zeros}
 use Rattle.bq_text.specs.Word.{is_digit}
-use Rattle.bq_rows.proofs.DigitLanes.{mask_is}
+use Rattle.bq_rows.proofs.DigitLanes.{mask_is, run_from}
 
 abbrev pub other : ℕ → Bool
 other b = not (is_digit b)
@@ -111,4 +111,63 @@ two_ends lanes marks long is more =
       first = first;
       second = second ∙ run ∙ ap (λ n. n + 1 + prefix_len is_digit (drop (n + 1) lanes)) (sym first);
       within = omega (arith, second, stops (cleared lanes) (omega (arith, later, more)), length-cleared lanes, long);
+    }
+
+-- behind the first other byte, the lanes cleared so are as they were
+cleared_behind : (b : Bool) (x : ℕ) (xs ys : List ℕ) (k : ℕ) → drop (k + 1) ys ≡ drop (k + 1) xs → drop (cond b (1 + k) 0 + 1) (cond b (x ∷ ys) (48 ∷ xs)) ≡ drop (cond b (1 + k) 0 + 1) (x ∷ xs)
+cleared_behind true x xs ys k h =
+    let more : 1 + k + 1 ≡ suc (k + 1) = omega arith in
+    ap (λ n. drop n (x ∷ ys)) more ∙ h ∙ sym (ap (λ n. drop n (x ∷ xs)) more)
+cleared_behind false x xs ys k h = refl
+
+behind_cleared : (xs : List ℕ) → drop (prefix_len is_digit xs + 1) (cleared xs) ≡ drop (prefix_len is_digit xs + 1) xs
+unfolding cleared
+behind_cleared [] = refl
+behind_cleared (x ∷ xs) = cleared_behind (is_digit x) x xs (cleared xs) (prefix_len is_digit xs) (behind_cleared xs)
+
+-- what is alike behind a place is alike behind a later one
+dropped_on : (k n : ℕ) (xs ys : List ℕ) → k ≤ n → drop k xs ≡ drop k ys → drop n xs ≡ drop n ys
+dropped_on k n xs ys le h =
+    let there : k + (n - k) ≡ n = omega (arith, le) in
+    sym (drop-drop (n - k) k xs ∙ ap (λ m. drop m xs) there) ∙ ap (drop (n - k)) h ∙ drop-drop (n - k) k ys ∙ ap (λ m. drop m ys) there
+
+-- the marks of sixteen bytes, less those before a place, before which all are digits or were cleared
+pub record MarksFrom (lanes : List ℕ) (place marks : ℕ) : Type 0 where
+  pub left : List ℕ
+  pub long : length left ≡ 16
+  pub are : marks ≡ mask_l (map other left)
+  pub rest : drop place left ≡ drop place lanes
+  pub digits : place ≤ prefix_len is_digit left
+
+pub marks_begin : (lanes : List ℕ) (marks : ℕ) → length lanes ≡ 16 → marks ≡ mask_l (map other lanes) → MarksFrom lanes 0 marks
+marks_begin lanes marks long are = record { left = lanes; long = long; are = are; rest = refl; digits = omega arith }
+
+-- where the digits from the place on end
+pub record IsMarked (lanes : List ℕ) (place end : ℕ) : Type 0 where
+  pub run : end ≡ place + prefix_len is_digit (drop place lanes)
+  pub within : end < 16
+
+pub mark_next : (lanes : List ℕ) (place marks : ℕ) → MarksFrom lanes place marks → 0 < marks → IsMarked lanes place (count_trailing_zeros 64 marks)
+mark_next lanes place marks h some =
+    let first = trailing_is h.left marks h.long h.are some in
+    record {
+      run = first ∙ run_from is_digit place h.left h.digits ∙ ap (λ (l : List ℕ). place + prefix_len is_digit l) h.rest;
+      within = omega (arith, first, stops h.left (omega (arith, h.are, some)), h.long);
+    }
+
+pub marks_more : (lanes : List ℕ) (place marks : ℕ) → MarksFrom lanes place marks → 0 < marks
+    → MarksFrom lanes (count_trailing_zeros 64 marks + 1) (bit_and marks ((marks + 18446744073709551615) % 18446744073709551616))
+marks_more lanes place marks h some =
+    let xs = h.left in
+    let first = trailing_is xs marks h.long h.are some in
+    let small : mask_l (map other xs) < 2 ^ 16 = subst (λ n. mask_l (map other xs) < 2 ^ n) (length-map xs other ∙ h.long) (mask_l-lt (map other xs)) in
+    let less : (marks + 18446744073709551615) % 18446744073709551616 ≡ mask_l (map other xs) - 1 = omega (arith, some, small, h.are) in
+    let run = run_cleared xs (stops xs (omega (arith, h.are, some))) in
+    let behind : drop (count_trailing_zeros 64 marks + 1) (cleared xs) ≡ drop (count_trailing_zeros 64 marks + 1) xs = subst (λ n. drop (n + 1) (cleared xs) ≡ drop (n + 1) xs) (sym first) (behind_cleared xs) in
+    record {
+      left = cleared xs;
+      long = length-cleared xs ∙ h.long;
+      are = (λ i. bit_and (h.are i) (less i)) ∙ lowest_cleared xs (omega (arith, h.are, some));
+      rest = behind ∙ dropped_on place (count_trailing_zeros 64 marks + 1) xs lanes (omega (arith, first, h.digits)) h.rest;
+      digits = omega (arith, first, run);
     }

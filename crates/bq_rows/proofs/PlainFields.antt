@@ -159,9 +159,6 @@ integer_short (b ∷ bs) = by ((b == 45) || (b == 43))
 pub integer_before : (text behind : List ℕ) → behind ≡ drop (integer_len text) text → length text - length behind ≡ integer_len text
 integer_before text behind e = omega (arith, ap length e, length-drop (integer_len text) text, integer_short text)
 
-pub behind_within : (text behind : List ℕ) → behind ≡ drop (integer_len text) text → length behind ≤ length text
-behind_within text behind e = omega (arith, ap length e, length-drop (integer_len text) text)
-
 digit_no_sign : (b : ℕ) → is_digit b ≡ true → ((b == 45) ≡ false) × ((b == 43) ≡ false)
 digit_no_sign b h = (grind (arith, nat_tests), grind (arith, nat_tests))
 

@@ -4,18 +4,19 @@ use Rattle.std.specs.Prelude.{neg_ℤ, ⊤, IsTrue}
 use Rattle.std.specs.List.{All, prefix_len, slice_range, slice_split}
 use Rattle.std.proofs.lemmas.Int.{ints}
 use Rattle.std.proofs.lemmas.List.Sums.{prefix_len-le-length, prefix_len_passes}
-use Rattle.std.proofs.lemmas.List.{get_or-drop}
+use Rattle.std.specs.Option.{option_map}
 use Rattle.bq_text.specs.Value.{amount}
 use Rattle.bq_text.specs.Word.{is_digit}
 use Rattle.bq_text.proofs.LeadingValue.{digit_few, small_more}
 use Rattle.bq_text.proofs.Fronts.{and_left, and_right, and_both}
 use Rattle.bq_schema.specs.declared.column.ColumnDef.{ColumnDef}
-use Rattle.bq_schema.specs.Rows.{is_comma}
+use Rattle.bq_schema.specs.Rows.{is_comma, values_of}
 use Rattle.bq_schema.specs.Streams.{HasEnds, Shape, lies_within, lie_within, shape_at}
 use Rattle.bq_rows.specs.Ahead.{AddsAt, BeginsStream, EndsLine, FieldsTo, IsEnded}
 use Rattle.bq_rows.specs.Counted.{AreRowsAhead, HasFields, IsSomeInteger, IsSomeRowAhead, none, more}
 use Rattle.bq_rows.specs.Open.{is_open}
-use Rattle.bq_rows.proofs.FieldsAhead.{fields_begin, fields_last, fields_more, negative_at, short_at}
+use Rattle.bq_rows.specs.Plain.{IsPlain}
+use Rattle.bq_rows.proofs.FieldsAhead.{fields_last, fields_more, negative_at, plain_both, range_more, short_at}
 use Rattle.bq_rows.proofs.NamesAhead.{some_ended}
 use Rattle.bq_rows.proofs.RowsAhead.{row_found}
 use Rattle.bq_rows.proofs.PlainFields.{amount_next, clash, domains_kept, whole_row, within_18}
@@ -65,9 +66,6 @@ pub record SomeFieldsTo (text : List ℕ) (start place count : ℕ) : Type 0 whe
   pub size : length values ≡ count
   pub are : FieldsTo text start place values
 
-pub some_begin : (text : List ℕ) (start : ℕ) → start < length text → SomeFieldsTo text start start 0
-some_begin text start room = record { values = []; size = refl; are = fields_begin text start [] room refl }
-
 pub some_more : (text : List ℕ) (start place end count : ℕ) → IsEnded text → SomeFieldsTo text start place count → IsSomeInteger text place end → get_or text end 0 ≡ 44 → SomeFieldsTo text start (end + 1) (count + 1)
 some_more text start place end count ended h a comma = record {
   values = h.values ++ a.value ∷ [];
@@ -81,6 +79,26 @@ some_last text start place end count width h a all = record {
   count = omega (arith, h.size, all, length-append h.values (a.value ∷ []));
   are = fields_last text start place end h.values (h.values ++ a.value ∷ []) h.are (a.adds h.values);
 }
+
+-- fields behind others are more fields
+pub some_joined : (text : List ℕ) (start place end count left : ℕ) → SomeFieldsTo text start place count → HasFields text place end left → HasFields text start end (count + left)
+some_joined text start place end count left h g =
+    let rest = slice_range text place end in
+    let row = h.values ++ g.values in
+    let there : place + (end - place) ≡ end = omega (arith, g.are.order) in
+    let whole : slice_range text start end ≡ slice_range text start place ++ rest = ap (slice_range text start) (sym there) ∙ range_more text start place (end - place) h.are.order in
+    record {
+      values = row;
+      count = omega (arith, h.size, g.count, length-append h.values g.values);
+      are = record {
+        values = subst (λ (f : List ℕ). values_of (slice_split is_comma f) ≡ Some row) (sym whole) (h.are.front.told rest ∙ ap (option_map (λ vs. h.values ++ vs)) g.are.values);
+        count = subst (λ (f : List ℕ). length (slice_split is_comma f) ≡ length row) (sym whole) (omega (arith, h.are.front.count rest, g.are.count, length-append h.values g.values));
+        plain = subst IsPlain (sym whole) (plain_both (slice_range text start place) rest h.are.front.plain g.are.plain);
+        order = omega (arith, h.are.order, g.are.order);
+        near = omega (arith, h.are.near, g.are.near, length-append h.values g.values);
+        within = g.are.within;
+      };
+    }
 
 -- Columns without domains.
 
@@ -150,9 +168,3 @@ row_more streams opened text count begin end len h row = record {
   are = more count begin len h.are row refl refl;
   within = omega (arith, row.row.before, length-drop end text);
 }
-
--- what is left of a text ends as the text
-pub still_ended : (text : List ℕ) (n : ℕ) → IsEnded text → n < length text → IsEnded (drop n text)
-still_ended text n ended room =
-    let last : n + (length (drop n text) - 1) ≡ length text - 1 = omega (arith, length-drop n text, room) in
-    get_or-drop n text (length (drop n text) - 1) 0 ∙ ap (λ k. get_or text k 0) last ∙ ended

@@ -8,7 +8,8 @@ ghost use Rattle.bq_rows.specs.Counted.{AreRowsAhead, HasFields, IsSomeInteger, 
 
 use crate::fast_row::above_zero;
 use crate::indexed_catalog::IndexedCatalog;
-use crate::lanes::digits_ahead;
+use crate::lanes::{LANES, digits_ahead, lanes_from};
+use crate::pairs::marks_of;
 use crate::row_ahead::{are_short, line_len};
 use bq_schema::Columns;
 
@@ -79,9 +80,10 @@ fn integer_end(text: &[u8], start: usize) -> Option<usize>
     any_integer_end(text, start)
 }
 
-// The place behind the last of so many integers between commas from a place of a text on, where there are just so many, each a minus or
-// no sign and at most 18 digits.
-fn fields_end(width: usize, text: &[u8], start: usize) -> Option<usize>
+// What `fields_end` gives, whatever the integers are. It is not inlined, so that integers of few digits pay nothing for it.
+#[cold]
+#[inline(never)]
+fn any_fields_end(width: usize, text: &[u8], start: usize) -> Option<usize>
     requires ended { IsEnded text.now }
     requires here { start < length text.now }
     ensures { IfSome result (λ end. HasFields text.now start end width) }
@@ -96,6 +98,42 @@ fn fields_end(width: usize, text: &[u8], start: usize) -> Option<usize>
         if text[end] != b',' {
             return if read == width { Some(end) } else { None };
         }
+        place = end + 1;
+    }
+    None
+}
+
+// The place behind the last of so many integers between commas from a place of a text on, where there are just so many, each a minus or
+// no sign and at most 18 digits. Sixteen bytes are looked at once.
+#[inline(always)]
+fn fields_end(width: usize, text: &[u8], start: usize) -> Option<usize>
+    requires ended { IsEnded text.now }
+    requires here { start < length text.now }
+    ensures { IfSome result (λ end. HasFields text.now start end width) }
+{
+    if text.len() - start < LANES {
+        return any_fields_end(width, text, start);
+    }
+    let mut marks = marks_of(lanes_from(text, start));
+    let mut place = 0;
+    let mut read = 0;
+    'fields: while read < width {
+        if marks == 0 {
+            return any_fields_end(width - read, text, start + place);
+        }
+        let end = marks.trailing_zeros() as usize;
+        if end == place {
+            return any_fields_end(width - read, text, start + place);
+        }
+        read += 1;
+        if text[start + end] != b',' {
+            return if read == width {
+                Some(start + end)
+            } else {
+                None
+            };
+        }
+        marks &= marks.wrapping_sub(1);
         place = end + 1;
     }
     None

@@ -13,7 +13,7 @@ use std::simd::prelude::*;
 
 // A bit for each lane, the lowest for the first: whether another byte than a digit stands there.
 #[inline(always)]
-fn marks_of(lanes: u8x16) -> u64
+pub(crate) fn marks_of(lanes: u8x16) -> u64
     ensures { result ≡ mask_l (map (λ b. not (is_digit b)) lanes) }
 {
     (lanes - u8x16::splat(b'0'))

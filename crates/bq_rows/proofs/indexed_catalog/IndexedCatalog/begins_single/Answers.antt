@@ -1,4 +1,4 @@
-use Rattle.std.proofs.Common.{ℕ, ◌<◌, List, [], ◌∷◌, length, sym, ◌∙◌, ap, subst, arith}
+use Rattle.std.proofs.Common.{ℕ, ◌<◌, [], ◌∷◌, length, sym, ◌∙◌, ap, subst, arith}
 use Rattle.bq_rows.specs.Ahead.{BeginsStream}
 use Rattle.bq_rows.specs.Indexed.{IndexedValue}
 use Rattle.bq_rows.proofs.NamesAhead.{single_begins, single_inside}
