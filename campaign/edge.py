@@ -15,7 +15,7 @@ from worked import folders
 
 SCRIPTS = 2000
 MOST_BYTES = 200_000
-WORDS = ["run", "feeds", "--rows", "--each", "--script", "1", "2", "7", "0", "01", "1099511627776", "1099511627777", "f", "f", "g", "s", "S@f", "S,T@g", "@f", "S@",
+WORDS = ["run", "feeds", "--rows", "--each", "--script", "--c3", "1", "2", "7", "0", "01", "1099511627776", "1099511627777", "f", "f", "g", "s", "S@f", "S,T@g", "@f", "S@",
          "s,@f", "S.a@f", "./S@f", "-", "--", "", "-x", "./-x", "--help2", "certify", "RUN", "--EACH", "n" * 25 + "@f", "in@f"]
 
 

@@ -155,6 +155,15 @@ def certify_result(given):
     return None if refusal is None else Result(refusal, 1, b"")
 
 
+def lower_result(words, given):
+    every = words[:1] == [lower.EVERY]
+    number = words[1:] if every else words
+    if len(number) != 1 or not re.fullmatch("[1-9][0-9]{0,2}|1000", number[0]):
+        raise WrongWords
+    known = lower.without_family(given, every)
+    return None if known is None else Result(*known, b"")
+
+
 def judge(words, folder, given):
     """The wanted output, status and standard error, or None where this judge does not know them."""
     try:
@@ -167,9 +176,8 @@ def judge(words, folder, given):
         if words == ["check"]:
             output, status = checker.certificate_reply(given)
             return Result(output, status, b"")
-        if words[:1] == ["lower"] and len(words) == 2 and words[1].isdigit() and 1 <= int(words[1]) <= 1000:
-            known = lower.without_family(given)
-            return None if known is None else Result(*known, b"")
+        if words[:1] == ["lower"]:
+            return lower_result(words[1:], given)
         if words[:1] == ["load"] and len(words) == 2 and words[1].isdigit() and 1 <= int(words[1]) <= 100_000:
             return None
         if words in (["advise"], ["--help"], ["-h"], ["--version"], ["-V"]):

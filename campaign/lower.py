@@ -1,10 +1,12 @@
-"""Families: what `lower N` writes of refused queries is judged by the evaluator.
+"""Families: what `lower N` and `lower --c3 N` write of refused queries is judged by the evaluator.
 
 The first line must name the first failure by the analysis, the rows must be rows of their streams
 in 64 bits and in the domains of their columns, a column that the query does not name must have the
 lower end of its domain or 0, and the family must tell its sets: whatever set of its rows came
-before, the rows that ask for a row show whether it is in the set. All sets are tried up to 2^6, 64
-random ones above. Queries that have no family, and scripts that are refused, are tried too.
+before, the rows that ask for a row show whether it is in the set, or for an inequality without
+DISTINCT the numbers of answers differ between any two sets. All sets are tried up to 2^6, 64 random
+ones above, and some families of 1,000 rows are tried at random places. Queries that have no family,
+and scripts that are refused, are tried too. `lower N` makes no family for a refusal by C3.
 """
 import re
 from collections import Counter, namedtuple
@@ -18,10 +20,17 @@ from evaluator import LiveQuery
 from language import COMPACT_SHARE, GREATEST_VALUE, LEAST_VALUE, Refused, lies_in
 
 FAMILIES = 1000
+INEQUALITIES = 500
 SIZES = range(1, 13)
+LARGE_SIZE, LARGE_SHARE, LARGE_PLACES = 1000, 0.02, 8
+PLAIN_SHARE = 0.2
+TWO_LINKS_SHARE = 0.15
 MOST_SETS = 64
-WRONG_NUMBERS = [b"0", b"1001", b"01", b"+5", b"-1", b"", b"x", b"99999999999999999999"]
-HEAD = re.compile(rb"family (\w+) part (\d+) (C[12]) (\w+)\.(\w+) size (\d+)\Z")
+EVERY = "--c3"
+WRONG_NUMBERS = ["0", "1001", "01", "+5", "-1", "", "x", "99999999999999999999"]
+WRONG_FORMS = [(), (EVERY,), (EVERY, EVERY, "3"), ("3", EVERY), ("--c2", "3"), ("--C3", "3"), ("3", "4"), (EVERY, "3", "4")]
+WRONG_WORDS = b"bq: these words are no form of the command; nothing was read\n"
+HEAD = re.compile(rb"family (\w+) part (\d+) (C[123]) (\w+)\.(\w+) size (\d+)\Z")
 
 Family = namedtuple("Family", "rows asking")
 
@@ -53,8 +62,11 @@ def query_of(text):
         return *checker.query_before(text, refusal.line), refusal
 
 
-def without_family(text):
-    """What `lower` must write where there is no family, and its status; else None."""
+def without_family(text, every):
+    """What `lower` must write where there is no family, and its status; else None.
+
+    With `every` families are made for refusals by C3, too.
+    """
     query, line, refusal = query_of(text)
     try:
         failure = None if query is None else first_failure(query)
@@ -64,9 +76,9 @@ def without_family(text):
         return checker.refusal_line(refusal), 1
     if failure is None:
         return b"no family bounded\n", 0
-    if failure[1] == "C3":
-        return b"no family C3\n", 0
     across = any(not analysis.is_local(it, it[0][0]) for it in analysis.pairs_of(query))
+    if failure[1] == "C3" and (not every or across or query.domains or query.compact):
+        return b"no family C3\n", 0
     return (b"no family C2\n", 0) if failure[1] == "C2" and across else None
 
 
@@ -131,7 +143,7 @@ def shows(query, streams, condition, column, family, number, answers):
     """Whether the answers to the rows that ask for a number say that it is in the set."""
     if len(streams) == 1:
         return not answers
-    if condition == "C2":
+    if condition != "C1":
         return bool(answers)
     place = query.select.index(column)
     return any(it[place] == family.rows[number][column[1]] for it in answers)
@@ -144,27 +156,79 @@ def sets_of(random, size):
     return [0, 2 ** size - 1, *(random.randrange(2 ** size) for _ in range(MOST_SETS - 2))]
 
 
-def tell(part, script, failure, family):
-    """Tries the sets of a family by the definition."""
+def after_set(script, own, family, bits):
+    """The query after the rows of a set."""
+    live = LiveQuery(script.statement, script.query, analysis.Analysis(("ok", 0, 0, 0, 0), []))
+    for i, row in enumerate(family.rows):
+        if bits >> i & 1:
+            live.answers(own, row)
+    return live
+
+
+def tell(part, script, failure, family, places):
+    """Tries the sets of a family by the definition, each at these numbers."""
     query, streams = script.query, script.statement.streams
     _, condition, column = failure
-    own, size = streams[column[0]], len(family.rows)
-    for bits in sets_of(part.random, size):
+    for bits in sets_of(part.random, len(family.rows)):
         part.count("sets")
-        live = LiveQuery(script.statement, query, analysis.Analysis(("ok", 0, 0, 0, 0), []))
-        for i in range(size):
-            if bits >> i & 1:
-                live.answers(own, family.rows[i])
-        for i in range(size):
+        live = after_set(script, streams[column[0]], family, bits)
+        for i in places:
             answers = told(live, family.asking[i])
             if shows(query, streams, condition, column, family, i, answers) != bool(bits >> i & 1):
                 raise Fault(f"the set {bits:b} is not told at number {i + 1}")
 
 
-def judge(part, program, text, size):
+def count_apart(part, script, own, family):
+    """Tries the sets of a family by the numbers of answers: no two sets have the same numbers."""
+    found = {}
+    for bits in {*sets_of(part.random, len(family.rows))}:
+        part.count("sets")
+        live = after_set(script, own, family, bits)
+        numbers = tuple(len(told(live, asked)) for asked in family.asking)
+        other = found.setdefault(numbers, bits)
+        if other != bits:
+            raise Fault(f"the sets {bits:b} and {other:b} are not told apart")
+
+
+def count_apart_at(part, script, own, family, place):
+    """Tries two sets of a large family that agree below a number, and two that agree above it."""
+    size, low = len(family.rows), (1 << place) - 1
+    for kept in (low, ~low << 1):
+        part.count("pairs of large sets")
+        one, two = (part.random.randrange(1 << size) for _ in range(2))
+        two = one & kept | two & ~kept
+        lives = [after_set(script, own, family, it & ~(1 << place) | bit << place)
+                 for it, bit in ((one, 0), (two & (1 << size) - 1, 1))]
+        if len({len(told(it, family.asking[place])) for it in lives}) == 2:
+            return
+    raise Fault(f"sets that differ at number {place + 1} are not told apart")
+
+
+def try_family(part, script, failure, family):
+    """Tries a family by the definition that its condition has."""
+    size, own = len(family.rows), script.statement.streams[failure[2][0]]
+    places = range(size) if size < LARGE_SIZE else part.random.sample(range(size), LARGE_PLACES)
+    if failure[1] != "C3" or script.query.distinct:
+        if size < LARGE_SIZE:
+            tell(part, script, failure, family, places)
+        else:
+            bits = part.random.randrange(1 << size)
+            live = after_set(script, own, family, bits)
+            for i in places:
+                if shows(script.query, script.statement.streams, failure[1], failure[2], family, i,
+                         told(live, family.asking[i])) != bool(bits >> i & 1):
+                    raise Fault(f"a large set is not told at number {i + 1}")
+    elif size < LARGE_SIZE:
+        count_apart(part, script, own, family)
+    else:
+        for place in places:
+            count_apart_at(part, script, own, family, place)
+
+
+def judge(part, program, text, size, every):
     """Compares what is written of a script with what must be, or judges the family."""
-    words = ("lower", str(size))
-    wanted = without_family(text)
+    words = ("lower", *([EVERY] if every else []), str(size))
+    wanted = without_family(text, every)
     if wanted:
         # most random queries are bounded: one of ten is enough
         if wanted[0] != b"no family bounded\n" or part.random.random() < 0.1:
@@ -174,8 +238,9 @@ def judge(part, program, text, size):
     script = checker.read_script(text, False)
     failure = first_failure(script.query)
     part.count("runs")
-    part.count(f"families by {failure[1]}")
     output, status, noise = run_program(program, list(words), text)
+    part.count(f"families by {failure[1]}")
+    part.count("families by C3 with DISTINCT", int(failure[1] == "C3" and script.query.distinct))
     part.count("with a domain", int(bool(script.query.domains)))
     part.count("compact", int(script.query.compact))
     named = script.session.column_name(script.statement.streams, failure[2])
@@ -191,9 +256,17 @@ def judge(part, program, text, size):
         column = failure[2][1]
         if len({it[column] for it in family.rows}) < size:
             raise Fault("two rows have the same value in the named column")
-        tell(part, script, failure, family)
+        try_family(part, script, failure, family)
     except (Fault, ValueError) as fault:
-        part.differs(f"lower {size}: {fault}", text)
+        part.differs(f"{' '.join(words)}: {fault}", text)
+
+
+def judge_words(part, program, words):
+    """Words that are no form of the command: nothing is read, and two lines say so."""
+    part.count("runs")
+    output, status, noise = run_program(program, list(words), b"")
+    if (output, status) != (b"", 2) or not noise.startswith(WRONG_WORDS):
+        part.differs(f"{' '.join(words)}: status {status}, {output!r}, {noise!r}", b"")
 
 
 # scripts
@@ -205,7 +278,9 @@ def script_of(query, domains):
 
 
 def random_query(part):
-    """A random query with at least one comparison, of one stream more often than elsewhere."""
+    """A random query with at least one comparison, of one stream more often than elsewhere, or one with two links of a stream."""
+    if part.random.random() < TWO_LINKS_SHARE:
+        return refused.query_of_two_links(part.random)
     query = refused.with_few_parts(part.random, refused.random_query(part.random))
     if part.random.random() < 0.3:
         def first(element):
@@ -224,13 +299,19 @@ def is_taken(query):
 def run(program, seed, scale):
     part = Part("lower", seed)
     families = scaled(FAMILIES, scale)
-    while sum(part.counts.get(f"families by {it}", 0) for it in ("C1", "C2")) < families:
+    inequalities = scaled(INEQUALITIES, scale)
+    while (sum(part.counts.get(f"families by {it}", 0) for it in ("C1", "C2")) < families
+           or part.counts.get("families by C3", 0) < inequalities):
         query = random_query(part)
         if is_taken(query):
             text = script_of(query, refused.random_domains(part.random))
-            judge(part, program, text, part.random.choice(SIZES))
-    for number in WRONG_NUMBERS:
-        compare(part, program, b"", b"", 2, ("lower", number.decode()))
-    compare(part, program, b"", b"", 2, ("lower",))
-    compare(part, program, b"x\n", b"error 1 Syntax\n", 1, ("lower", "5"))
+            large = part.random.random() < LARGE_SHARE
+            size = LARGE_SIZE if large else part.random.choice(SIZES)
+            judge(part, program, text, size, True)
+            if part.random.random() < PLAIN_SHARE:
+                judge(part, program, text, size, False)
+    for words in [*WRONG_FORMS, *((it,) for it in WRONG_NUMBERS), *((EVERY, it) for it in WRONG_NUMBERS)]:
+        judge_words(part, program, ("lower", *words))
+    for words in [("5",), (EVERY, "5")]:
+        compare(part, program, b"x\n", b"error 1 Syntax\n", 1, ("lower", *words))
     return part

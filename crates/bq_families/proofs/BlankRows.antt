@@ -196,6 +196,7 @@ module _ (streams : List Shape) (q : QueryValue) (named : HasNamed streams q) (i
   broken : (condition : Condition) (a : Attr) (n : ℕ) (result : Result FamilyValue LowerError) → LowersBroken q blanks condition a n result → AnswersBroken streams q condition a n result
   broken condition a n (Ok f) h = record {
     local = h.local;
+    whole = h.whole;
     family = h.family;
     taken = record { rows = λ i l. taken _ (h.like.rows i l); asking = λ i l r c. taken r (h.like.asking i l r c) };
     like = h.like;

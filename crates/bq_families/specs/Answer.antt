@@ -13,7 +13,7 @@ use Rattle.bq_lower.specs.declared.error.LowerError.{LowerError}
 use Rattle.bq_lower.specs.declared.error.LowerError.TheVariants as why
 use Rattle.bq_lower.specs.Family.{FamilyValue, IsFamily, row_at, asking_at, as_arrival}
 use Rattle.bq_lower.specs.Laws.{AreLocalFor}
-use Rattle.bq_lower.specs.Lowered.{HasPairAcross, AreLike}
+use Rattle.bq_lower.specs.Lowered.{HasPairAcross, IsWholeFor, LacksRows, AreLike}
 use Rattle.bq_families.specs.Blank.{blank_row}
 
 -- the arrival is a row of one of the streams, with a value of 64 bits for each of its columns, in the domains of the columns
@@ -28,10 +28,11 @@ pub record AreTakenRows (streams : List Shape) (n : ℕ) (f : FamilyValue) : Typ
   pub rows : (i : ℕ) → i < n → IsTakenRow streams (as_arrival f (row_at f i))
   pub asking : (i : ℕ) → i < n → (r : Arrival) → Contains (asking_at f i) r → IsTakenRow streams r
 
--- A family of so many rows that a session with the streams takes; for an unbounded equality no pair lies between streams. A column that the query does not
--- read has the least value of its domain, or 0.
+-- A family of so many rows that a session with the streams takes; for an unbounded equality or inequality no pair lies between streams, and for an
+-- inequality the query is not compact, and no column has a domain. A column that the query does not read has the least value of its domain, or 0.
 pub record HasFamilyOver (streams : List Shape) (q : QueryValue) (condition : Condition) (a : Attr) (n : ℕ) (f : FamilyValue) : Type 0 where
   pub local : AreLocalFor q condition
+  pub whole : IsWholeFor q condition
   pub family : IsFamily q condition a n f
   pub taken : AreTakenRows streams n f
   pub like : AreLike q (map (blank_row streams) q.from) n f
@@ -41,7 +42,7 @@ abbrev pub AnswersBroken : List Shape → QueryValue → Condition → Attr → 
 AnswersBroken streams q condition a n (Ok f) = HasFamilyOver streams q condition a n f
 AnswersBroken streams q condition a n (Err why.Bounded) = ⊥
 AnswersBroken streams q condition a n (Err why.C2) = (condition ≡ C2) × HasPairAcross q
-AnswersBroken streams q condition a n (Err why.C3) = condition ≡ C3
+AnswersBroken streams q condition a n (Err why.C3) = (condition ≡ C3) × LacksRows q
 AnswersBroken streams q condition a n (Err why.Memory) = ⊤
 
 -- what is answered by the decision

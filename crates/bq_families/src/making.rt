@@ -11,8 +11,9 @@ use bq_schema::Catalog;
 use std::alloc::Global;
 
 /// Returns a family of n rows for the condition that the decision names, at its column. Its rows are rows of the catalog's streams, in the domains of
-/// their columns; a column that does not matter has the least value of its domain, or 0. `Bounded` where the query breaks no condition; `C3`
-/// where it breaks the third; `C2` where it breaks the second and one of its pairs lies between streams; `Memory` where there is none.
+/// their columns; a column that does not matter has the least value of its domain, or 0. `Bounded` where the query breaks no condition; `C2`
+/// where it breaks the second and one of its pairs lies between streams; `C3` where it breaks the third, and is compact, a column has a domain, or one
+/// of its pairs lies between streams; `Memory` where there is none.
 pub fn family(
     alloc: Global,
     q: &Query,

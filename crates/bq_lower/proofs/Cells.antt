@@ -16,7 +16,7 @@ nodes-at (x ∷ xs) zero = refl
 nodes-at (x ∷ xs) (suc n) = nodes-at xs n
 
 -- what lies within 10^18 fits in 64 bits
-far-fits : (x : ℤ) → IsFarWithin x → FitsSigned w64 x
+pub far-fits : (x : ℤ) → IsFarWithin x → FitsSigned w64 x
 far-fits (pos m) f = record { sfits = (let h = f.high in omega (arith, ints, h)) }
 far-fits (negsuc m) f = record { sfits = (let l = f.low in omega (arith, ints, l)) }
 

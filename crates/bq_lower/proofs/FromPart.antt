@@ -11,7 +11,7 @@ use Rattle.bq_model.specs.Query.{QueryValue, attrs_of, is_filter, IsWithinLimits
 use Rattle.bq_model.specs.Order.{IsBounded}
 use Rattle.bq_model.specs.Links.{IsEquality}
 use Rattle.bq_model.specs.Parts.{IsPart, AreParts, sign_lists}
-use Rattle.bq_model.specs.Violation.{Failure, Breaks, Fails, IsViolation, filter, first}
+use Rattle.bq_model.specs.Violation.{Failure, failure_lt, Breaks, Fails, IsViolation, filter, first}
 use Rattle.bq_model.proofs.Has.{Has-from_contains, Contains-from_has}
 use Rattle.bq_model.proofs.Unique.{one_list_of_parts}
 use Rattle.bq_laws.proofs.Queries.{IsQuery, query_within}
@@ -30,12 +30,13 @@ use Rattle.bq_lower.specs.declared.error.LowerError.TheVariants as why
 use Rattle.bq_lower.specs.Family.{FamilyValue, IsFamily}
 use Rattle.bq_lower.specs.Blanks.{IsRead, AreBlanks}
 use Rattle.bq_lower.specs.Laws.{AreLocalFor}
-use Rattle.bq_lower.specs.Lowered.{IsBroken, IsMadeFamily, MakesFamily, LowersBroken}
+use Rattle.bq_lower.specs.Lowered.{IsBroken, IsWholeFor, IsMadeFamily, MakesFamily, LowersBroken}
 use Rattle.bq_lower.specs.Members.{AreEnds, IsGroundOf, IsNodeOf, IsLowEnd, IsHighEnd, AreMembers}
 use Rattle.bq_lower.specs.Shown.{rows_in}
 use Rattle.bq_lower.proofs.Telling.{families-tell}
 use Rattle.bq_lower.proofs.TellingAlone.{families-tell-alone}
 use Rattle.bq_lower.proofs.Made.{family-made, family-asks, family-like}
+use Rattle.bq_lower.proofs.Solved.{drawn}
 
 ends-of : (cs : List Constraint) (node : ℕ) (low high : Option ℤ) → IsLowAnswer cs node low → IsHighAnswer cs node high
     → ((l h : ℤ) → IsLeast cs node l → IsGreatest cs node h → ⊥) → AreEnds cs node low high
@@ -79,19 +80,24 @@ pub family-of : (q : QueryValue) (s : List Sign) (a : Attr) (g : Ground) (n : �
     → AreMembers g a.stream n f.rows f.asking → IsMadeFamily q s a blanks n f
 family-of q s a g n f blanks few within part ground read free there same are stream made =
     let b : AreBlanks q (rows_in g.blanks.now) = subst (AreBlanks q) (sym same) are in
+    let d = drawn q within s part a g n f ground few made in
     subst (λ (z : List (List ℤ)). IsMadeFamily q s a z n f) same record {
       stream = stream;
       size = made.many;
       many = made.asked;
-      asks = family-asks q within s part a g n f ground read free there b stream made;
-      made = family-made q within s part a g n f ground read free there b stream made;
-      like = family-like q within s part a g n f ground read free there b stream made few;
+      asks = family-asks q within s a g n f ground read free there b stream _ _ d;
+      made = family-made q within s a g n f ground read free there b stream _ _ d;
+      like = family-like q within s a g n f ground read free there b stream _ _ d;
     }
+
+-- the column of an unbounded inequality is an attribute
+pub names-attr : (q : QueryValue) (s : List Sign) (a : Attr) → IsBroken q s C3 a → Contains (attrs_of q.atoms) a
+names-attr q s a b = elim b.breaks.0 [ inl r ↦ r.inequality.across.left | inr r ↦ r.inequality.across.right ]
 
 read-of : (q : QueryValue) (s : List Sign) (condition : Condition) (a : Attr) → Breaks q s condition a → AreLocalFor q condition → IsRead q a
 read-of q s C1 a b l = inr b.0
 read-of q s C2 a b l = elim b.2 [ inl e ↦ inl e.across.left | inr e ↦ inl e.across.right ]
-read-of q s C3 a b l = absurd l
+read-of q s C3 a b l = elim b.0 [ inl r ↦ inl r.inequality.across.left | inr r ↦ inl r.inequality.across.right ]
 
 pub reads : (q : QueryValue) (s : List Sign) (condition : Condition) (a : Attr) → IsBroken q s condition a → AreLocalFor q condition → IsRead q a
 reads q s condition a b l = read-of q s condition a b.breaks l
@@ -109,7 +115,7 @@ stands-in q s condition a b l = at (reads q s condition a b l)
 free-of : (q : QueryValue) (s : List Sign) (condition : Condition) (a : Attr) → Breaks q s condition a → AreLocalFor q condition → IsBounded q s a → ⊥
 free-of q s C1 a b l = b.1
 free-of q s C2 a b l = b.0
-free-of q s C3 a b l = absurd l
+free-of q s C3 a b l = elim b.0 [ inl r ↦ r.unbounded | inr r ↦ r.unbounded ]
 
 pub is-free : (q : QueryValue) (s : List Sign) (condition : Condition) (a : Attr) → IsBroken q s condition a → AreLocalFor q condition → IsBounded q s a → ⊥
 is-free q s condition a b l = free-of q s condition a b.breaks l
@@ -125,9 +131,9 @@ only-first q s a within one b = elim b.2 [ inl e ↦ apart a b.1 e | inr e ↦ a
         e.across.across (omega (arith, one, l, r))
 
 -- such rows tell their sets
-tells : (q : QueryValue) (s : List Sign) (condition : Condition) (a : Attr) (blanks : List (List ℤ)) (n : ℕ) (f : FamilyValue) → IsBroken q s condition a → AreLocalFor q condition
+tells : (q : QueryValue) (s : List Sign) (condition : Condition) (a : Attr) (blanks : List (List ℤ)) (n : ℕ) (f : FamilyValue) → IsBroken q s condition a → AreLocalFor q condition → (condition ≡ C3 → ⊥)
     → IsMadeFamily q s a blanks n f → IsFamily q condition a n f
-tells q s condition a blanks n f b l m = by (nat_eq (length q.from) 1) refl
+tells q s condition a blanks n f b l first_two m = by (nat_eq (length q.from) 1) refl
   where
     there : a.stream < length q.from
     there = stands-in q s condition a b l
@@ -137,25 +143,30 @@ tells q s condition a blanks n f b l m = by (nat_eq (length q.from) 1) refl
     distinct false true e o = absurd cc
     distinct false false e o = absurd cc
 
-    alone : (c : Condition) → Breaks q s c a → AreLocalFor q c → length q.from ≡ 1 → q.distinct ≡ true → IsFamily q c a n f
-    alone C1 z k one d = families-tell-alone q s a n f b.within one d (stands-in q s condition a b l) z.0 m.stream m.size m.many m.asks m.made
-    alone C2 z k one d = absurd (only-first q s a b.within one z)
-    alone C3 z k one d = absurd k
+    alone : (c : Condition) → (c ≡ C3 → ⊥) → Breaks q s c a → AreLocalFor q c → length q.from ≡ 1 → q.distinct ≡ true → IsFamily q c a n f
+    alone C1 o z k one d = families-tell-alone q s a n f b.within one d (stands-in q s condition a b l) z.0 m.stream m.size m.many m.asks m.made
+    alone C2 o z k one d = absurd (only-first q s a b.within one z)
+    alone C3 o z k one d = absurd (o refl)
 
     by : (t : Bool) → nat_eq (length q.from) 1 ≡ t → IsFamily q condition a n f
     by true e =
         let one : length q.from ≡ 1 = grind (arith, e, nat_tests) in
-        alone condition b.breaks l one (distinct q.distinct (nat_eq (length q.from) 1) b.counts e)
+        alone condition first_two b.breaks l one (distinct q.distinct (nat_eq (length q.from) 1) b.counts e)
     by false e =
-        families-tell q s condition a n f b.within (let p = b.within.streams.0 in grind (arith, p, e, nat_tests)) (stands-in q s condition a b l) b.breaks l m.stream m.size m.many m.asks m.made
+        families-tell q s condition a n f b.within (let p = b.within.streams.0 in grind (arith, p, e, nat_tests)) (stands-in q s condition a b l) first_two b.breaks l m.stream m.size m.many m.asks m.made
 
 pub lowered : (q : QueryValue) (s : List Sign) (condition : Condition) (a : Attr) (blanks : List (List ℤ)) (n : ℕ) (result : Result FamilyValue LowerError)
-    → IsBroken q s condition a → AreLocalFor q condition → MakesFamily q s a blanks n result → LowersBroken q blanks condition a n result
-lowered q s condition a blanks n (Ok f) b l m = record { local = l; family = tells q s condition a blanks n f b l m; like = m.like }
-lowered q s condition a blanks n (Err why.Memory) b l m = tt
-lowered q s condition a blanks n (Err why.Bounded) b l m = absurd m
-lowered q s condition a blanks n (Err why.C2) b l m = absurd m
-lowered q s condition a blanks n (Err why.C3) b l m = absurd m
+    → IsBroken q s condition a → AreLocalFor q condition → (condition ≡ C3 → ⊥) → MakesFamily q s a blanks n result → LowersBroken q blanks condition a n result
+lowered q s condition a blanks n (Ok f) b l o m = record { local = l; whole = whole-for condition o; family = tells q s condition a blanks n f b l o m; like = m.like }
+  where
+    whole-for : (c : Condition) → (c ≡ C3 → ⊥) → IsWholeFor q c
+    whole-for C1 o = tt
+    whole-for C2 o = tt
+    whole-for C3 o = absurd (o refl)
+lowered q s condition a blanks n (Err why.Memory) b l o m = tt
+lowered q s condition a blanks n (Err why.Bounded) b l o m = absurd m
+lowered q s condition a blanks n (Err why.C2) b l o m = absurd m
+lowered q s condition a blanks n (Err why.C3) b l o m = absurd m
 
 -- the part that a decision names
 found-at : (ps : List Part) (i : ℕ) (s : List Sign) (d : Part) → slice_get (sign_lists ps) i ≡ Some s → (i < length ps) × ((slice_index_or ps i d).signs.items ≡ s)
@@ -175,10 +186,18 @@ module _ (q : QueryValue) (within : IsWithinLimits q) (ps : List Part) (parts : 
   record Named : Type 0 where
     pub counts : IsFalse (is_filter q)
     pub fails : Fails q (sign_lists ps) f
+    pub least : (g : Failure) → failure_lt g f ≡ true → Fails q (sign_lists ps) g → ⊥
 
   named : IsViolation q (Some f) → Named
   named (filter t e) = absurd cc
-  named (first t others are ff) = record { counts = t; fails = subst (λ (xs : List (List Sign)). Fails q xs f) (one_list_of_parts q others (sign_lists ps) are parts) ff.0 }
+  named (first t others are ff) = record {
+    counts = t;
+    fails = subst (λ (xs : List (List Sign)). Fails q xs f) same ff.0;
+    least = λ g l h. ff.1 g l (subst (λ (xs : List (List Sign)). Fails q xs g) (sym same) h);
+  }
+    where
+      same : others ≡ sign_lists ps
+      same = one_list_of_parts q others (sign_lists ps) are parts
 
   pub part-below : IsViolation q (Some f) → (f.part - 1 < length ps) × (0 < f.part)
   part-below v = let n = named v in elim ps as (λ z. slice_get (sign_lists z) (f.part - 1) ≡ Some n.fails.signs → (f.part - 1 < length z) × (0 < f.part)) [
@@ -195,7 +214,19 @@ module _ (q : QueryValue) (within : IsWithinLimits q) (ps : List Part) (parts : 
         within = within;
         part = part-here q (sign_lists ps) (f.part - 1) n.fails.signs parts.each n.fails.at;
         breaks = n.fails.breaks;
+        second = λ third b h. n.least (record { part = f.part; condition = C2; attr = b }) (before third b) record {
+          signs = n.fails.signs;
+          number = n.fails.number;
+          at = n.fails.at;
+          breaks = h;
+        };
       }
+    where
+      earlier : (part : ℕ) (b c : Attr) → failure_lt record { part = part; condition = C2; attr = b } record { part = part; condition = C3; attr = c } ≡ true
+      earlier part b c = grind arith
+
+      before : f.condition ≡ C3 → (b : Attr) → failure_lt record { part = f.part; condition = C2; attr = b } f ≡ true
+      before third b = subst (λ (c : Condition). failure_lt record { part = f.part; condition = C2; attr = b } record { part = f.part; condition = c; attr = f.attr } ≡ true) (sym third) (earlier f.part b f.attr)
 
 -- the node of a column
 pub node-there : (attrs : List Attr) (a : Attr) (place : ℕ) → place ≡ place_of attrs a → place < length attrs → IsNodeOf attrs a (place + 1)

@@ -1,5 +1,5 @@
 -- Whatever keeps too little is wrong after some set of a family's rows.
-use Rattle.std.proofs.Common.{◌≡◌, ℕ, zero, suc, ◌*◌, ◌<◌, min, inl, inr, ◌==◌, List, [], ◌∷◌, ◌++◌, map, length, not, Bool, true, false, refl, sym, ap, ◌∙◌, subst, arith, ℤ, slice_index_or, append_assoc}
+use Rattle.std.proofs.Common.{◌≡◌, ℕ, zero, suc, ◌*◌, ◌+◌, ◌<◌, min, inl, inr, nat_eq, ◌==◌, List, [], ◌∷◌, ◌++◌, map, length, not, Bool, true, false, refl, sym, ap, ◌∙◌, subst, arith, ℤ, slice_index_or, append_assoc}
 use Rattle.std.specs.List.{list_any}
 use Rattle.std.proofs.lemmas.Bool.Decides.{nat_tests}
 use Rattle.std.proofs.lemmas.List.{length-map}
@@ -10,14 +10,16 @@ use Rattle.bq_model.specs.Query.{QueryValue, IsWithinLimits}
 use Rattle.bq_model.specs.Tuples.{is_same}
 use Rattle.bq_model.specs.Assignment.{holds, projected}
 use Rattle.bq_model.specs.Meaning.{Arrival, rows, product, assignment_of, answers, new_answers}
-use Rattle.bq_model.proofs.Has.{Has, Has-from_contains, Contains-from_has, Has-map, Has-filter, Has-map_from, Has-filter_from, Has-append_left}
+use Rattle.bq_model.proofs.Has.{Has, first, Has-from_contains, Contains-from_has, Has-map, Has-filter, Has-map_from, Has-filter_from, Has-append_left}
 use Rattle.bq_laws.proofs.Tests.{filter-passes, true_or_false, not_both, any_from, any_if, append-nothing}
 use Rattle.bq_laws.proofs.Sums.{bit}
+use Rattle.bq_laws.proofs.Queries.{query_within}
 use Rattle.bq_laws.proofs.Counts.{times}
 use Rattle.bq_laws.proofs.Order.{same-itself, same-is, any-times, times-any}
 use Rattle.bq_laws.proofs.NewAnswers.{none-times, times-new-plain, times-new-distinct}
-use Rattle.bq_lower.specs.Family.{alone, FamilyValue, row_at, asking_at, as_arrival, history_of, Shows, value as by_value, some, Asks, itself, others, IsFamily, marked}
+use Rattle.bq_lower.specs.Family.{alone, FamilyValue, row_at, asking_at, as_arrival, history_of, Shows, value as by_value, some, any, each, counts, Tells, AreToldApart, Asks, itself, others, IsFamily, marked}
 use Rattle.bq_lower.specs.Worth.{Keeper, IsWrong, FamiliesNeedStates}
+use Rattle.bq_lower.proofs.Lengths.{new-length}
 use Rattle.bq_lower.proofs.Telling.{product-at, product-has, InProduct, rows-joined, rows-other}
 use Rattle.bq_lower.proofs.Collisions.{Collision, collide, all_marks, length-marks, marks-long, Differs, differ, before-left, before-right}
 
@@ -27,7 +29,7 @@ stands ts t k = any_if (is_same t) ts t k (same-itself t)
 stood : (ts : List (List ℤ)) (t : List ℤ) → list_any (is_same t) ts ≡ true → Has ts t
 stood ts t e = let w = any_from (is_same t) ts e in subst (λ y. Has ts y) (sym (same-is t w.0 w.2)) w.1
 
-get-map : {X Y : Type 0} (g : X → Y) (xs : List X) (i : ℕ) (d : X) (e : Y) → i < length xs → slice_index_or (map g xs) i e ≡ g (slice_index_or xs i d)
+pub get-map : {X Y : Type 0} (g : X → Y) (xs : List X) (i : ℕ) (d : X) (e : Y) → i < length xs → slice_index_or (map g xs) i e ≡ g (slice_index_or xs i d)
 get-map g [] i d e l = absurd (omega (arith, l))
 get-map g (x ∷ xs) zero d e l = refl
 get-map g (x ∷ xs) (suc i) d e l = get-map g xs i d e (omega (arith, l))
@@ -216,8 +218,8 @@ module _ (q : QueryValue) where
               nothing : (x : List ℤ) (xs : List (List ℤ)) → x ∷ xs ≡ [] → ⊥
               nothing x xs z = cc
 
-      by-shows : slice_index_or right i false ≡ false → Shows q a f left i condition → IsWrong q n f e
-      by-shows out shows = at condition refl shows (λ s. not_both _ ((family.tells right long_right i below).1 s) out)
+      by-shows : slice_index_or right i false ≡ false → (Shows q a f right i condition → slice_index_or right i false ≡ true) → Shows q a f left i condition → IsWrong q n f e
+      by-shows out told shows = at condition refl shows (λ s. not_both _ (told s) out)
         where
           at : (c : Condition) → c ≡ condition → Shows q a f left i c → (Shows q a f right i c → ⊥) → IsWrong q n f e
           at C1 o (alone one none) lacks = by-row one none (λ g. lacks (alone one g))
@@ -225,7 +227,83 @@ module _ (q : QueryValue) where
               by-tuple several t (Has-from_contains (answers q (history_of f left ++ asking_at f i)) t c) (λ k. lacks (by_value several t (Contains-from_has (answers q (history_of f right ++ asking_at f i)) t k) v))
           at C2 o (some several t c) lacks =
               by-tuple several t (Has-from_contains (answers q (history_of f left ++ asking_at f i)) t c) (λ k. lacks (some several t (Contains-from_has (answers q (history_of f right ++ asking_at f i)) t k)))
-          at C3 o shows lacks = elim shows [ ]
+          at C3 o (any several t c) lacks =
+              by-tuple several t (Has-from_contains (answers q (history_of f left ++ asking_at f i)) t c) (λ k. lacks (any several t (Contains-from_has (answers q (history_of f right ++ asking_at f i)) t k)))
+
+    -- numbers of answers that differ
+    module _ (e : Keeper) (left right : List Bool) (long_left : length left ≡ n) (long_right : length right ≡ n) (same : e.keeps (history_of f left) ≡ e.keeps (history_of f right))
+        (several : 1 < length q.from) (plain : q.distinct ≡ false) (apart : AreToldApart q n f left right) where
+      no-answers : (marks : List Bool) → length (answers q (history_of f marks ++ [])) ≡ 0
+      no-answers marks = ap (λ h. length (answers q h)) (append-nothing (history_of f marks)) ∙ empty (answers q (history_of f marks)) (none-yet several marks)
+        where
+          empty : (ts : List (List ℤ)) → ((t : List ℤ) → list_any (is_same t) ts ≡ false) → length ts ≡ 0
+          empty [] h = refl
+          empty (t ∷ ts) h = absurd (not_both _ (stands (t ∷ ts) t first) (h t))
+
+      -- a row that is answered so many tuples after the one set, and another number after the other
+      wrong-row : (since : List Arrival) (r : Arrival) (rest : List Arrival) → asking_at f apart.number ≡ since ++ r ∷ rest
+          → (length (new_answers q (history_of f left ++ since) r) ≡ length (new_answers q (history_of f right ++ since) r) → ⊥) → IsWrong q n f e
+      wrong-row since r rest asked differ = by (nat_eq (length said) (length (new_answers q (history_of f left ++ since) r))) refl
+        where
+          said : List (List ℤ)
+          said = e.says (e.keeps (history_of f left)) since r
+
+          by : (b : Bool) → nat_eq (length said) (length (new_answers q (history_of f left ++ since) r)) ≡ b → IsWrong q n f e
+          by true o = record {
+            marks = right;
+            size = long_right;
+            number = apart.number;
+            below = apart.below;
+            since = since;
+            row = r;
+            behind = rest;
+            asks = asked;
+            wrong = λ z. differ (sym (as_number _ _ o) ∙ ap (λ k. length (e.says k since r)) same ∙ ap length z);
+          }
+            where
+              as_number : (x y : ℕ) → nat_eq x y ≡ true → x ≡ y
+              as_number x y h = grind (arith, h, nat_tests)
+          by false o = record {
+            marks = left;
+            size = long_left;
+            number = apart.number;
+            below = apart.below;
+            since = since;
+            row = r;
+            behind = rest;
+            asks = asked;
+            wrong = λ z. other _ _ o (ap length z);
+          }
+            where
+              other : (x y : ℕ) → nat_eq x y ≡ false → x ≡ y → ⊥
+              other x y h g = grind (arith, h, g, nat_tests)
+
+      -- along the rows that ask, the numbers differ somewhere
+      walk : (since rest : List Arrival) → asking_at f apart.number ≡ since ++ rest
+          → length (answers q (history_of f left ++ since)) ≡ length (answers q (history_of f right ++ since)) → IsWrong q n f e
+      walk since [] asked alike =
+          absurd (apart.differ (let o : asking_at f apart.number ≡ since = asked ∙ append-nothing since in
+          ap (λ h. length (answers q (history_of f left ++ h))) o ∙ alike ∙ sym (ap (λ h. length (answers q (history_of f right ++ h))) o)))
+      walk since (r ∷ rest) asked alike =
+          by (nat_eq (length (new_answers q (history_of f left ++ since) r)) (length (new_answers q (history_of f right ++ since) r))) refl
+          (λ k. walk (since ++ r ∷ []) rest (asked ∙ sym (append_assoc since (r ∷ []) rest)) k)
+        where
+          one-on : (marks : List Bool) → length (answers q (history_of f marks ++ (since ++ r ∷ []))) ≡ length (answers q (history_of f marks ++ since)) + length (new_answers q (history_of f marks ++ since) r)
+          one-on marks = ap (λ h. length (answers q h)) (sym (append_assoc (history_of f marks) since (r ∷ []))) ∙ new-length q (query_within q within) plain (history_of f marks ++ since) r
+
+          by : (b : Bool) → nat_eq (length (new_answers q (history_of f left ++ since) r)) (length (new_answers q (history_of f right ++ since) r)) ≡ b
+              → (length (answers q (history_of f left ++ (since ++ r ∷ []))) ≡ length (answers q (history_of f right ++ (since ++ r ∷ []))) → IsWrong q n f e) → IsWrong q n f e
+          by true o go = go (let g = as_number _ _ o in let x = one-on left in let y = one-on right in omega (arith, alike, g, x, y))
+            where
+              as_number : (x y : ℕ) → nat_eq x y ≡ true → x ≡ y
+              as_number x y h = grind (arith, h, nat_tests)
+          by false o go = wrong-row since r rest asked (other _ _ o)
+            where
+              other : (x y : ℕ) → nat_eq x y ≡ false → x ≡ y → ⊥
+              other x y h g = grind (arith, h, g, nat_tests)
+
+      by-counts : IsWrong q n f e
+      by-counts = walk [] (asking_at f apart.number) refl (no-answers left ∙ sym (no-answers right))
 
 pub families-need-states : FamiliesNeedStates
 families-need-states q condition a n f within family e k few less =
@@ -234,4 +312,11 @@ families-need-states q condition a n f within family e k few less =
     let d : Differs n c.left c.right = differ n c.left c.right c.before in
     let l : length c.left ≡ n = marks-long n c.left (before-left c.before) in
     let r : length c.right ≡ n = marks-long n c.right (before-right c.before) in
-    by-shows q condition a n f within family e c.left c.right l r c.same d.number d.below d.outside ((family.tells c.left l d.number d.below).0 d.inside)
+    at family.tells c d l r
+  where
+    at : Tells q condition a n f → (c : Collision (λ marks. e.keeps (history_of f marks)) (all_marks n)) → Differs n c.left c.right → length c.left ≡ n → length c.right ≡ n → IsWrong q n f e
+    at (each tells) c d l r =
+        by-shows q condition a n f within family e c.left c.right l r c.same d.number d.below d.outside (tells c.right r d.number d.below).1 ((tells c.left l d.number d.below).0 d.inside)
+    at (counts third plain several apart) c d l r =
+        by-counts q condition a n f within family e c.left c.right l r c.same several plain (apart c.left c.right l r (λ o.
+        not_both _ d.inside (ap (λ bs. slice_index_or bs d.number false) o ∙ d.outside)))

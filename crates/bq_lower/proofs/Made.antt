@@ -1,6 +1,5 @@
 -- What is made from solutions of the bounds of a part is a family.
-use Rattle.std.proofs.Common.{◌≡◌, ◌≢◌, ℕ, zero, suc, ◌<◌, ◌≤◌, ◌==◌, ◌⊎◌, inl, inr, nat_eq, List, [], ◌∷◌, ◌++◌, map, length, cond, Bool, true, false, Option, None, Some, refl, sym, ap, ap₂, ◌∙◌, subst, arith, ℤ, pos, ◌+ℤ◌, ◌-ℤ◌, slice_index_or, All, FitsSigned, w64, Contains}
-use Rattle.std.proofs.lemmas.Int.{ints}
+use Rattle.std.proofs.Common.{◌≡◌, ◌≢◌, ℕ, zero, suc, ◌<◌, ◌≤◌, ◌==◌, ◌⊎◌, inl, inr, nat_eq, List, [], ◌∷◌, ◌++◌, map, length, cond, Bool, true, false, refl, sym, ap, ap₂, ◌∙◌, subst, arith, ℤ, pos, slice_index_or, All, FitsSigned, w64, Contains}
 use Rattle.std.proofs.lemmas.Bool.Decides.{nat_tests}
 use Rattle.std.proofs.lemmas.List.Elements.{All-contains}
 use Rattle.bq_model.specs.declared.atom.Attr.{Attr}
@@ -12,7 +11,7 @@ use Rattle.bq_model.specs.declared.part.Sign.{Sign}
 use Rattle.bq_model.specs.Query.{QueryValue, attrs_of, consts_of, attr_eq, IsDomain, IsWithinLimits}
 use Rattle.bq_model.specs.Assignment.{Assignment, value, lies_in, KeepsDomains}
 use Rattle.bq_model.specs.Meaning.{Arrival, rows, by_column, joined}
-use Rattle.bq_model.specs.Parts.{pairs, sign, sign_at, InPart, IsPart}
+use Rattle.bq_model.specs.Parts.{pairs, sign, sign_at, InPart}
 use Rattle.bq_model.specs.Order.{IsBounded}
 use Rattle.bq_model.specs.Cells.{upto}
 use Rattle.bq_model.proofs.Has.{Has, Has-from_contains, Contains-from_has, Has-append_cases, same_map}
@@ -24,26 +23,17 @@ use Rattle.bq_laws.proofs.OnePartFits.{has_cases}
 use Rattle.bq_laws.proofs.Tests.{attr_eq-itself, attr_eq-is, true_or_false, not_both, nat_true}
 use Rattle.bq_laws.proofs.LaidOut.{length-upto, get-upto}
 use Rattle.bq_constraints.specs.Nodes.{has_node, place_of, assignment_of, low_of}
-use Rattle.bq_constraints.specs.Solutions.{Solves}
 use Rattle.bq_constraints.proofs.NodeFacts.{node_there, node_has}
-use Rattle.bq_constraints.proofs.InPart.{in_part_from_solves}
-use Rattle.bq_closure.specs.Answers.{at_nodes, IsSolvedAt}
+use Rattle.bq_closure.specs.Answers.{at_nodes}
 use Rattle.bq_lower.specs.declared.ground.Ground.{Ground}
 use Rattle.bq_lower.specs.Family.{FamilyValue, row_at, asking_at, Asks, itself, others}
 use Rattle.bq_lower.specs.Making.{IsRowOf, IsMade}
 use Rattle.bq_lower.specs.Blanks.{IsRead, AreBlanks, IsLike}
 use Rattle.bq_lower.specs.Shown.{rows_in}
 use Rattle.bq_lower.specs.Lowered.{IsLikeBlank, AreLike}
-use Rattle.bq_lower.specs.Members.{value_for, target_for, cell_for, blank_at, others_for, asked_for, row_of, AreMembers, IsGroundOf}
+use Rattle.bq_lower.specs.Members.{cell_for, blank_at, others_for, asked_for, row_for, IsFarWithin, IsGroundOf}
 use Rattle.bq_lower.proofs.Cells.{cell-fits}
-use Rattle.bq_lower.proofs.Points.{value-fits, values-far}
 use Rattle.bq_lower.proofs.Telling.{at-row, holds-same, rows-joined}
-
--- different numbers have different values
-value-apart : (low high : Option ℤ) (i j : ℕ) → value_for low high i ≡ value_for low high j → i ≡ j
-value-apart (Some l) high i j e = (let o : (l +ℤ pos i) ≡ (l +ℤ pos j) = e in omega (arith, ints, o))
-value-apart None (Some h) i j e = (let o : (h -ℤ pos i) ≡ (h -ℤ pos j) = e in omega (arith, ints, o))
-value-apart None None i j e = (let o : pos i ≡ pos j = e in omega (arith, ints, o))
 
 -- assignments that agree on the attributes are of one part
 pub part-same : (q : QueryValue) (s : List Sign) (v w : Assignment) → ((a : Attr) → Has (attrs_of q.atoms) a → v a ≡ w a) → InPart q s v → KeepsDomains q w → InPart q s w
@@ -133,25 +123,30 @@ module _ (row : ℕ → List ℤ) (from : List ℕ) (own : ℕ) where
 
 -- ---- rows that are made from solutions
 
-module _ (q : QueryValue) (within : IsWithinLimits q) (s : List Sign) (part : IsPart q s) (a : Attr) (g : Ground) (n : ℕ) (f : FamilyValue)
+-- for each number a solution, and the value of the named column, from which its rows are drawn
+pub record IsDrawn (q : QueryValue) (s : List Sign) (a : Attr) (g : Ground) (n : ℕ) (f : FamilyValue) (xs : ℕ → List ℤ) (val : ℕ → ℤ) : Type 0 where
+  pub solves : (k : ℕ) → k < n → InPart q s (assignment_of (attrs_of q.atoms) q.domains (at_nodes (xs k)))
+  pub value : (k : ℕ) → k < n → Contains (attrs_of q.atoms) a → at_nodes (xs k) (suc (place_of (attrs_of q.atoms) a)) ≡ val k
+  pub apart : (i j : ℕ) → i < n → j < n → val i ≡ val j → i ≡ j
+  pub value_fits : (k : ℕ) → k < n → FitsSigned w64 (val k)
+  pub far : (k : ℕ) → k < n → All IsFarWithin (xs k)
+  pub own : (k : ℕ) → k < n → row_at f k ≡ row_for g.attrs.now (xs k) g.named (val k) a.stream (blank_at g.blanks.now a.stream)
+  pub asks : (k : ℕ) → k < n → asking_at f k ≡ asked_for (λ place. row_for g.attrs.now (xs k) g.named (val k) place (blank_at g.blanks.now place)) g.from.now a.stream
+
+module _ (q : QueryValue) (within : IsWithinLimits q) (s : List Sign) (a : Attr) (g : Ground) (n : ℕ) (f : FamilyValue)
     (ground : IsGroundOf q s a g) (read : IsRead q a) (free : IsBounded q s a → ⊥) (there : a.stream < length q.from)
-    (blanks : AreBlanks q (rows_in g.blanks.now)) (stream : f.stream ≡ slice_index_or q.from a.stream 0) (made : AreMembers g a.stream n f.rows f.asking) where
+    (blanks : AreBlanks q (rows_in g.blanks.now)) (stream : f.stream ≡ slice_index_or q.from a.stream 0)
+    (xs : ℕ → List ℤ) (val : ℕ → ℤ) (made : IsDrawn q s a g n f xs val) where
   well : IsQuery q
   well = query_within q within
 
-  abbrev xs : ℕ → List ℤ
-  xs k = slice_index_or made.all k []
-
-  abbrev val : ℕ → ℤ
-  val k = value_for g.low g.high k
-
   abbrev row : ℕ → ℕ → List ℤ
-  row k place = row_of g (xs k) k place
+  row k place = row_for g.attrs.now (xs k) g.named (val k) place (blank_at g.blanks.now place)
 
-  abbrev at : ℕ → Assignment
+  abbrev pub at : ℕ → Assignment
   at k = joined (map by_column (upto (row k) (length q.from)))
 
-  abbrev base : ℕ → Assignment
+  abbrev pub base : ℕ → Assignment
   base k = assignment_of (attrs_of q.atoms) q.domains (at_nodes (xs k))
 
   read-there : (b : Attr) → IsRead q b → b.stream < length q.from
@@ -171,17 +166,14 @@ module _ (q : QueryValue) (within : IsWithinLimits q) (s : List Sign) (part : Is
   at-cell : (k : ℕ) (b : Attr) → IsRead q b → at k b ≡ cell_for g.attrs.now (xs k) g.named (val k) b (by_column (blank_at g.blanks.now b.stream) b.column)
   at-cell k b r = at-is k b (read-there b r) ∙ cell-is k b (blanks.wide b r)
 
-  solved : (k : ℕ) → k < n → IsSolvedAt g.bounds.now.attrs g.bounds.now.constraints g.node (target_for g.node (val k)) (xs k)
-  solved k l = (made.each k l).solved
-
   in-base : (k : ℕ) → k < n → InPart q s (base k)
-  in-base k l = in_part_from_solves q s within part (at_nodes (xs k)) (subst (λ cs. Solves (at_nodes (xs k)) cs) ground.constraints_are (solved k l).solves)
+  in-base k l = made.solves k l
 
   base-at : (k : ℕ) (b : Attr) → Has (attrs_of q.atoms) b → base k b ≡ at_nodes (xs k) (suc (place_of (attrs_of q.atoms) b))
   base-at k b h = ap (λ t. cond t (at_nodes (xs k) (suc (place_of (attrs_of q.atoms) b))) (low_of q.domains b)) (node_there (attrs_of q.atoms) b h)
 
   -- at an attribute the rows have the values of the solution
-  agree : (k : ℕ) → k < n → (b : Attr) → Has (attrs_of q.atoms) b → at k b ≡ base k b
+  pub agree : (k : ℕ) → k < n → (b : Attr) → Has (attrs_of q.atoms) b → at k b ≡ base k b
   agree k l b h = at-cell k b (inl (Contains-from_has (attrs_of q.atoms) b h)) ∙ by (attr_eq b g.named) refl
     where
       blank : ℤ
@@ -190,10 +182,8 @@ module _ (q : QueryValue) (within : IsWithinLimits q) (s : List Sign) (part : Is
       by : (t : Bool) → attr_eq b g.named ≡ t → cond t (val k) (cond (has_node g.attrs.now b) (at_nodes (xs k) (suc (place_of g.attrs.now b))) (by_column (blank_at g.blanks.now b.stream) b.column)) ≡ base k b
       by true e =
           let o : b ≡ a = attr_eq-is b g.named e ∙ ground.named_is in
-          let m : g.node ≡ suc (place_of (attrs_of q.atoms) a) = ground.node_is (subst (λ (z : Attr). Contains (attrs_of q.atoms) z) o (Contains-from_has (attrs_of q.atoms) b h)) in
-          let t : nat_eq g.node 0 ≡ false = grind (arith, m, nat_tests) in
-          sym (ap (λ t. cond t (pos 0) (val k)) t) ∙ sym (solved k l).here
-          ∙ ap (at_nodes (xs k)) (m ∙ ap (λ (z : Attr). suc (place_of (attrs_of q.atoms) z)) (sym o)) ∙ sym (base-at k b h)
+          sym (made.value k l (subst (λ (z : Attr). Contains (attrs_of q.atoms) z) o (Contains-from_has (attrs_of q.atoms) b h)))
+          ∙ ap (at_nodes (xs k)) (ap (λ (z : Attr). suc (place_of (attrs_of q.atoms) z)) (sym o)) ∙ sym (base-at k b h)
       by false e =
           ap (λ (ks : List Attr). cond (has_node ks b) (at_nodes (xs k) (suc (place_of ks b))) (by_column (blank_at g.blanks.now b.stream) b.column)) ground.attrs_are
           ∙ ap (λ t. cond t (at_nodes (xs k) (suc (place_of (attrs_of q.atoms) b))) (by_column (blank_at g.blanks.now b.stream) b.column)) (node_there (attrs_of q.atoms) b h) ∙ sym (base-at k b h)
@@ -227,7 +217,7 @@ module _ (q : QueryValue) (within : IsWithinLimits q) (s : List Sign) (part : Is
   keeps : (k : ℕ) → k < n → KeepsDomains q (at k)
   keeps k l = each_keeps q (at k) (keeps-one k l)
 
-  inside : (k : ℕ) → k < n → InPart q s (at k)
+  pub inside : (k : ℕ) → k < n → InPart q s (at k)
   inside k l = part-same q s (base k) (at k) (λ b h. sym (agree k l b h)) (in-base k l) (keeps k l)
 
   value-is : (k : ℕ) → at k a ≡ val k
@@ -237,14 +227,14 @@ module _ (q : QueryValue) (within : IsWithinLimits q) (s : List Sign) (part : Is
       (ap (λ (z : Attr). attr_eq a z) ground.named_is ∙ attr_eq-itself a)
 
   own-row : (k : ℕ) → k < n → row_at f k ≡ row k a.stream
-  own-row k l = (made.each k l).row_is
+  own-row k l = made.own k l
 
   here : (k : ℕ) → k < n → IsRowOf q (at k) a.stream (row_at f k)
   here k l b e r =
       ap (λ (z : List ℤ). by_column z b.column) (own-row k l) ∙ ap (λ (m : ℕ). by_column (row k m) b.column) (sym e) ∙ sym (at-is k b (read-there b r))
 
   asked : (k : ℕ) → k < n → asking_at f k ≡ asked_for (row k) q.from a.stream
-  asked k l = (made.each k l).asked_is ∙ ap (λ (from : List ℕ). asked_for (row k) from a.stream) ground.from_is
+  asked k l = made.asks k l ∙ ap (λ (from : List ℕ). asked_for (row k) from a.stream) ground.from_is
 
   differ : (i j : ℕ) → i < length q.from → j < length q.from → i ≢ j → (slice_index_or q.from i 0 == slice_index_or q.from j 0) ≡ false
   differ i j l m d = elim (true_or_false (slice_index_or q.from i 0 == slice_index_or q.from j 0)) [
@@ -282,9 +272,14 @@ module _ (q : QueryValue) (within : IsWithinLimits q) (s : List Sign) (part : Is
   family-made = record {
     at = at;
     inside = inside;
-    apart = λ i j l m e. value-apart g.low g.high i j (sym (value-is i) ∙ e ∙ value-is j);
+    apart = λ i j l m e. made.apart i j l m (sym (value-is i) ∙ e ∙ value-is j);
     rows = λ k l. record { here = here k l; others = beside k l };
   }
+
+  -- at an attribute they have the values of the solutions
+  pub family-at : (k : ℕ) → k < n → (b : Attr) → Has (attrs_of q.atoms) b → family-made.at k b ≡ base k b
+  unfolding family-made
+  family-at = agree
 
   pub family-asks : (k : ℕ) → k < n → Asks q f k
   family-asks k l = by (nat_eq (length q.from) 1) refl
@@ -298,41 +293,40 @@ module _ (q : QueryValue) (within : IsWithinLimits q) (s : List Sign) (part : Is
           ∙ lacks (row k) q.from a.stream (length q.from) f.stream (λ i m d. ap (λ (z : ℕ). slice_index_or q.from i 0 == z) stream ∙ differ i a.stream m there d))
 
   -- the values of a row fit in 64 bits
-  fits : n ≤ 65536 → (k : ℕ) → k < n → (place : ℕ) → place < length q.from → All (FitsSigned w64) (row k place)
-  fits few k l place m = λ c d j.
+  fits : (k : ℕ) → k < n → (place : ℕ) → place < length q.from → All (FitsSigned w64) (row k place)
+  fits k l place m = λ c d j.
       let b : Attr = record { stream = place; column = c } in
       let w : c < length (blank_at g.blanks.now place) = (
       let e = length-upto (λ column. cell_for g.attrs.now (xs k) g.named (val k) (record { stream = place; column = column }) (by_column (blank_at g.blanks.now place) column)) (length (blank_at g.blanks.now place)) in
       omega (arith, e, j)) in
-      let small : k < 65536 = omega (arith, few, l) in
       subst (FitsSigned w64)
       (sym (get-upto (λ column. cell_for g.attrs.now (xs k) g.named (val k) (record { stream = place; column = column }) (by_column (blank_at g.blanks.now place) column)) (length (blank_at g.blanks.now place)) c d w))
       (cell-fits g.attrs.now (xs k) g.named (val k) b (by_column (blank_at g.blanks.now place) c)
-      (value-fits g.low g.high k ground.ground.low ground.ground.high small)
-      (values-far g ground.ground k small (xs k) (xs k) (solved k l) refl)
+      (made.value_fits k l)
+      (made.far k l)
       (blanks.fits place m c (pos 0) w))
 
-  like : n ≤ 65536 → (k : ℕ) → k < n → (place : ℕ) → place < length q.from → IsLike q (rows_in g.blanks.now) place (row k place)
-  like few k l place m = record {
+  like : (k : ℕ) → k < n → (place : ℕ) → place < length q.from → IsLike q (rows_in g.blanks.now) place (row k place)
+  like k l place m = record {
     wide = length-upto _ (length (blank_at g.blanks.now place));
     keeps = λ d c e.
         let h : Has q.domains d = Has-from_contains q.domains d c in
         subst (λ z. lies_in d z ≡ true) (at-is k d.attr (well.domains d c) ∙ ap (λ (m : ℕ). by_column (row k m) d.attr.column) e) (keeps-one k l d h);
-    fits = fits few k l place m;
+    fits = fits k l place m;
     blank = λ column j nr.
         let b : Attr = record { stream = place; column = column } in
         cell-is k b (let e = length-upto (λ column. cell_for g.attrs.now (xs k) g.named (val k) (record { stream = place; column = column }) (by_column (blank_at g.blanks.now place) column)) (length (blank_at g.blanks.now place)) in omega (arith, e, j))
         ∙ stays k b (λ o. nr (subst (IsRead q) (sym o) read)) (λ i. nr (inl i));
   }
 
-  pub family-like : n ≤ 65536 → AreLike q (rows_in g.blanks.now) n f
-  family-like few = record {
-    rows = λ k l. record { place = a.stream; there = there; stream = stream; like = subst (IsLike q (rows_in g.blanks.now) a.stream) (sym (own-row k l)) (like few k l a.stream there) };
+  pub family-like : AreLike q (rows_in g.blanks.now) n f
+  family-like = record {
+    rows = λ k l. record { place = a.stream; there = there; stream = stream; like = subst (IsLike q (rows_in g.blanks.now) a.stream) (sym (own-row k l)) (like k l a.stream there) };
     asking = λ k l r c. by k l r (nat_eq (length q.from) 1) refl (Has-from_contains (asking_at f k) r c);
   }
     where
       row-like : (k : ℕ) → k < n → (r : Arrival) (place : ℕ) → place < length q.from → (record { stream = slice_index_or q.from place 0; values = row k place }) ≡ r → IsLikeBlank q (rows_in g.blanks.now) r
-      row-like k l r place m e = subst (IsLikeBlank q (rows_in g.blanks.now)) e record { place = place; there = m; stream = refl; like = like few k l place m }
+      row-like k l r place m e = subst (IsLikeBlank q (rows_in g.blanks.now)) e record { place = place; there = m; stream = refl; like = like k l place m }
 
       by : (k : ℕ) → k < n → (r : Arrival) (t : Bool) → nat_eq (length q.from) 1 ≡ t → Has (asking_at f k) r → IsLikeBlank q (rows_in g.blanks.now) r
       by k l r true e h =

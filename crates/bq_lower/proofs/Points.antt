@@ -9,7 +9,7 @@ use Rattle.bq_lower.specs.declared.ground.Ground.{Ground}
 use Rattle.bq_lower.specs.Shown.{rows_in, arrivals, asking_in}
 use Rattle.bq_lower.specs.Members.{value_for, target_for, IsGround, IsFarWithin, IsMember, AreMembers, AddsRow}
 
-abs-bound : (x : ℤ) (n : ℕ) → neg_ℤ (pos n) ≤ℤ x → x ≤ℤ pos n → nat_abs x ≤ n
+pub abs-bound : (x : ℤ) (n : ℕ) → neg_ℤ (pos n) ≤ℤ x → x ≤ℤ pos n → nat_abs x ≤ n
 abs-bound (pos m) n a b = omega (arith, ints, b)
 abs-bound (negsuc m) n a b = omega (arith, ints, a)
 
@@ -53,24 +53,18 @@ values-many g is number xs ys s e = ap length e ∙ s.long ∙ is.attrs
 
 -- ---- rows one behind the other
 
-pub arrivals-more : (asked more : List (ℕ × Items ℤ)) (x : ℕ) (r : Items ℤ) (stream : ℕ) (values : List ℤ) → more ≡ asked ++ (x, r) ∷ [] → x ≡ stream → r.items ≡ values
-    → arrivals more ≡ arrivals asked ++ record { stream = stream; values = values } ∷ []
-arrivals-more asked more x r stream values e o p =
-    ap arrivals e ∙ map-append (λ (r : ℕ × Items ℤ). let a : Arrival = record { stream = r.0; values = r.1.items } in a) asked ((x, r) ∷ [])
-    ∙ ap₂ (λ (s : ℕ) (v : List ℤ). arrivals asked ++ record { stream = s; values = v } ∷ []) o p
-
-at-front : {X : Type 0} (xs ys : List X) (k : ℕ) (d : X) → k < length xs → slice_index_or (xs ++ ys) k d ≡ slice_index_or xs k d
+pub at-front : {X : Type 0} (xs ys : List X) (k : ℕ) (d : X) → k < length xs → slice_index_or (xs ++ ys) k d ≡ slice_index_or xs k d
 at-front [] ys k d l = absurd (omega (arith, l))
 at-front (x ∷ xs) ys zero d l = refl
 at-front (x ∷ xs) ys (suc k) d l = at-front xs ys k d (omega (arith, l))
 
-at-end : {X : Type 0} (xs : List X) (y : X) (k : ℕ) (d : X) → k ≡ length xs → slice_index_or (xs ++ y ∷ []) k d ≡ y
+pub at-end : {X : Type 0} (xs : List X) (y : X) (k : ℕ) (d : X) → k ≡ length xs → slice_index_or (xs ++ y ∷ []) k d ≡ y
 at-end [] y zero d e = refl
 at-end [] y (suc k) d e = absurd (omega (arith, e))
 at-end (x ∷ xs) y zero d e = absurd (omega (arith, e))
 at-end (x ∷ xs) y (suc k) d e = at-end xs y k d (omega (arith, e))
 
-longer : {X : Type 0} (xs : List X) (y : X) (n : ℕ) → length xs ≡ n → length (xs ++ y ∷ []) ≡ n + 1
+pub longer : {X : Type 0} (xs : List X) (y : X) (n : ℕ) → length xs ≡ n → length (xs ++ y ∷ []) ≡ n + 1
 longer xs y n e = length-append xs (y ∷ []) ∙ ap (λ (m : ℕ). m + 1) e
 
 same-member : (g : Ground) (own k : ℕ) (xs ys row line : List ℤ) (asked told : List Arrival) → xs ≡ ys → row ≡ line → asked ≡ told → IsMember g own k xs row asked → IsMember g own k ys line told

@@ -26,7 +26,7 @@ use Rattle.bq_laws.proofs.Tests.{attr_eq-itself, attr_eq-is, filter-passes, nat_
 use Rattle.bq_laws.proofs.OnePartFits.{has_cases}
 use Rattle.bq_laws.proofs.Extremes.{flat_map-from, has-flat_map}
 use Rattle.bq_laws.proofs.LaidOut.{length-upto, get-upto}
-use Rattle.bq_lower.specs.Family.{alone, FamilyValue, marked, row_at, asking_at, as_arrival, history_of, place_in, Shows, value as by_value, some, Asks, itself, others}
+use Rattle.bq_lower.specs.Family.{alone, FamilyValue, marked, row_at, asking_at, as_arrival, history_of, place_in, Shows, value as by_value, some, each, Asks, itself, others}
 use Rattle.bq_lower.specs.Making.{IsMade}
 use Rattle.bq_lower.specs.Laws.{IsLocalTo, IsLocal, AreLocalFor, FamiliesTell}
 
@@ -146,10 +146,10 @@ module _ (q : QueryValue) (within : IsWithinLimits q) (several : 1 < length q.fr
   well = query_within q within
 
   -- what the query reads
-  abbrev IsRead : Attr → Type 0
+  abbrev pub IsRead : Attr → Type 0
   IsRead b = Contains (attrs_of q.atoms) b ⊎ Contains q.select b
 
-  read-there : (b : Attr) → IsRead b → b.stream < length q.from
+  pub read-there : (b : Attr) → IsRead b → b.stream < length q.from
   read-there b (inl c) = well.atoms b c
   read-there b (inr c) = well.select b c
 
@@ -172,7 +172,7 @@ module _ (q : QueryValue) (within : IsWithinLimits q) (several : 1 < length q.fr
       over x y l ne = grind (arith, l, ne)
 
   module _ (marks : List Bool) (i : ℕ) (below : i < n) where
-    abbrev h : List Arrival
+    abbrev pub h : List Arrival
     h = history_of f marks ++ asking_at f i
 
     rows-asked : rows (asking_at f i) f.stream ≡ []
@@ -182,20 +182,20 @@ module _ (q : QueryValue) (within : IsWithinLimits q) (several : 1 < length q.fr
         by (itself one e) = absurd (omega (arith, several, one))
         by (others k e) = e
 
-    rows-here : rows h (slice_index_or q.from a.stream 0) ≡ marked marks f.rows
+    pub rows-here : rows h (slice_index_or q.from a.stream 0) ≡ marked marks f.rows
     rows-here =
         ap (rows h) (sym stream) ∙ rows-joined (history_of f marks) (asking_at f i) f.stream
         ∙ (λ j. rows-own f (marked marks f.rows) j ++ rows-asked j) ∙ append-nothing (marked marks f.rows)
 
-    rows-there : (place : ℕ) → place < length q.from → place ≢ a.stream → rows h (slice_index_or q.from place 0) ≡ rows (asking_at f i) (slice_index_or q.from place 0)
+    pub rows-there : (place : ℕ) → place < length q.from → place ≢ a.stream → rows h (slice_index_or q.from place 0) ≡ rows (asking_at f i) (slice_index_or q.from place 0)
     rows-there place l ne =
         rows-joined (history_of f marks) (asking_at f i) (slice_index_or q.from place 0)
         ∙ ap (λ xs. xs ++ rows (asking_at f i) (slice_index_or q.from place 0)) (rows-other f (slice_index_or q.from place 0) (marked marks f.rows) (apart place l ne))
 
-    abbrev lists : List (List (List ℤ))
+    abbrev pub lists : List (List (List ℤ))
     lists = map (rows h) q.from
 
-    lists-at : (place : ℕ) (e : List (List ℤ)) → place < length q.from → slice_index_or lists place e ≡ rows h (slice_index_or q.from place 0)
+    pub lists-at : (place : ℕ) (e : List (List ℤ)) → place < length q.from → slice_index_or lists place e ≡ rows h (slice_index_or q.from place 0)
     lists-at place e l = get-map q.from place e l
       where
         get-map : (from : List ℕ) (place : ℕ) (e : List (List ℤ)) → place < length from → slice_index_or (map (rows h) from) place e ≡ rows h (slice_index_or from place 0)
@@ -204,7 +204,7 @@ module _ (q : QueryValue) (within : IsWithinLimits q) (several : 1 < length q.fr
         get-map (x ∷ from) (suc place) e l = get-map from place e (omega (arith, l))
 
     -- the combination of number j's row and what asks for number i
-    abbrev mix : ℕ → Assignment
+    abbrev pub mix : ℕ → Assignment
     mix j b = cond (nat_eq b.stream a.stream) (made.at j b) (made.at i b)
 
     -- each combination is such a one, of a number in the set
@@ -248,7 +248,7 @@ module _ (q : QueryValue) (within : IsWithinLimits q) (several : 1 < length q.fr
     abbrev pick : ℕ → List ℤ
     pick place = cond (nat_eq place a.stream) (row_at f i) (slice_index_or (rows (asking_at f i) (slice_index_or q.from place 0)) 0 [])
 
-    abbrev own_combination : List (List ℤ)
+    abbrev pub own_combination : List (List ℤ)
     own_combination = upto pick (length q.from)
 
     own-length : length own_combination ≡ length q.from
@@ -298,7 +298,7 @@ module _ (q : QueryValue) (within : IsWithinLimits q) (several : 1 < length q.fr
         differs x y o e = grind (arith, o, e)
 
     -- so where number i is in the set there is its answer
-    own-answer : slice_index_or marks i false ≡ true → Contains (answers q h) (projected q (assignment_of own_combination))
+    pub own-answer : slice_index_or marks i false ≡ true → Contains (answers q h) (projected q (assignment_of own_combination))
     own-answer mark =
         let holds-own : Holds q (assignment_of own_combination)
         = holds-same q (made.at i) (assignment_of own_combination) (λ b k. sym (own-read b (inl (Contains-from_has (attrs_of q.atoms) b k)))) (made.inside i below).holds in
@@ -306,7 +306,7 @@ module _ (q : QueryValue) (within : IsWithinLimits q) (several : 1 < length q.fr
         (Has-map (λ c. projected q (assignment_of c)) (Has-filter (λ c. holds q (assignment_of c)) holds-own (own-there mark)))
 
     -- and each answer is of a number in the set, mixed with what asks for number i
-    record Mixed (t : List ℤ) : Type 0 where
+    pub record Mixed (t : List ℤ) : Type 0 where
       pub j : ℕ
       pub within_n : j < n
       pub mark : slice_index_or marks j false ≡ true
@@ -315,7 +315,7 @@ module _ (q : QueryValue) (within : IsWithinLimits q) (several : 1 < length q.fr
       pub satisfies : Holds q v
       pub tuple : projected q v ≡ t
 
-    mixed : (t : List ℤ) → Contains (answers q h) t → Mixed t
+    pub mixed : (t : List ℤ) → Contains (answers q h) t → Mixed t
     mixed t k =
         let m = Has-map_from (λ c. projected q (assignment_of c)) (filter (λ c. holds q (assignment_of c)) (product lists)) t (Has-from_contains (answers q h) t k) in
         let c = from-combination m.0 (Has-filter_from (λ c. holds q (assignment_of c)) (product lists) m.0 m.1) in
@@ -386,7 +386,7 @@ module _ (q : QueryValue) (within : IsWithinLimits q) (several : 1 < length q.fr
           by d k true = keeps_each q (made.at j) (made.inside j l).domains d k
           by d k false = keeps_each q (made.at i) (made.inside i below).domains d k
 
-      mix-part : (j : ℕ) → j < n → (v : Assignment) → ((b : Attr) → IsRead b → v b ≡ mix j b) → Holds q v → InPart q s (mix j)
+      pub mix-part : (j : ℕ) → j < n → (v : Assignment) → ((b : Attr) → IsRead b → v b ≡ mix j b) → Holds q v → InPart q s (mix j)
       mix-part j l v g h = record {
         holds = holds-same q v (mix j) (λ b k. g b (inl (Contains-from_has (attrs_of q.atoms) b k))) h;
         domains = mix-domains j l;
@@ -414,16 +414,16 @@ module _ (q : QueryValue) (within : IsWithinLimits q) (several : 1 < length q.fr
               ap (λ (x : ℕ). slice_index_or marks x false) (sym (made.apart m.j i m.within_n below same)) ∙ m.mark
 
 pub families-tell : FamiliesTell
-families-tell q s condition a n f within several there breaks local stream size many asks made = record {
+families-tell q s condition a n f within several there first_two breaks local stream size many asks made = record {
   stream = stream;
   size = size;
   many = many;
   asks = asks;
-  tells = λ marks long i below. by condition breaks local marks i below;
+  tells = each (λ marks long i below. by condition first_two breaks local marks i below);
 }
   where
-    by : (condition : Condition) → Breaks q s condition a → AreLocalFor q condition → (marks : List Bool) (i : ℕ) → i < n
+    by : (condition : Condition) → (condition ≡ C3 → ⊥) → Breaks q s condition a → AreLocalFor q condition → (marks : List Bool) (i : ℕ) → i < n
         → (slice_index_or marks i false ≡ true → Shows q a f marks i condition) × (Shows q a f marks i condition → slice_index_or marks i false ≡ true)
-    by C1 b l marks i below = tells-value q within several s a there n f stream size asks made marks i below b.0
-    by C2 b l marks i below = tells-some q within several s a there n f stream size asks made marks i below l b
-    by C3 b l marks i below = absurd l
+    by C1 o b l marks i below = tells-value q within several s a there n f stream size asks made marks i below b.0
+    by C2 o b l marks i below = tells-some q within several s a there n f stream size asks made marks i below l b
+    by C3 o b l marks i below = absurd (o refl)

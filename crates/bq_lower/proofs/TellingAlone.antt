@@ -17,7 +17,7 @@ use Rattle.bq_laws.proofs.Sums.{sums, bit}
 use Rattle.bq_laws.proofs.Counts.{times}
 use Rattle.bq_laws.proofs.Order.{same-itself, same-is, any-times, times-any}
 use Rattle.bq_laws.proofs.NewAnswers.{times-new-distinct}
-use Rattle.bq_lower.specs.Family.{alone, FamilyValue, marked, row_at, as_arrival, history_of, place_in, Shows, value as by_value}
+use Rattle.bq_lower.specs.Family.{alone, FamilyValue, marked, row_at, as_arrival, history_of, place_in, Shows, value as by_value, each}
 use Rattle.bq_lower.specs.Making.{IsMade}
 use Rattle.bq_lower.specs.Laws.{FamiliesTellAlone}
 use Rattle.bq_lower.proofs.Telling.{product-at, product-has, marked-from, marked-has, rows-own, at-row, holds-same, projected-at}
@@ -182,5 +182,5 @@ families-tell-alone q s a n f within one d there chosen stream size many asks ma
   size = size;
   many = many;
   asks = asks;
-  tells = λ marks long i below. tells-alone q within one f a there stream d s n size chosen made marks i below;
+  tells = each (λ marks long i below. tells-alone q within one f a there stream d s n size chosen made marks i below);
 }

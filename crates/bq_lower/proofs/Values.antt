@@ -2,7 +2,7 @@
 use Rattle.std.proofs.Common.{◌≡◌, ℕ, ◌<◌, nat_eq, cond, Bool, true, false, refl, ap, ◌∙◌, arith, ℤ, pos, ◌+ℤ◌, ◌-ℤ◌, ◌≤ℤ◌, ◌<ℤ◌, List, Option, None, Some}
 use Rattle.std.proofs.lemmas.Int.{ints}
 use Rattle.bq_constraints.specs.declared.constraint.Constraint.{Constraint}
-use Rattle.bq_constraints.specs.Solutions.{IsLeast, IsGreatest, HasNoLeast, HasNoGreatest}
+use Rattle.bq_constraints.specs.Solutions.{IsLeast, IsGreatest, HasNoLeast, HasNoGreatest, IsLowAnswer, IsHighAnswer}
 use Rattle.bq_closure.specs.Answers.{IsOutside, below, above}
 use Rattle.bq_lower.specs.declared.ground.Ground.{Ground}
 use Rattle.bq_lower.specs.Members.{value_for, target_for, AreEnds, IsGround}
@@ -24,6 +24,19 @@ inside cs node None (Some high) number e (above u h k) =
     (let a : e.1.at node ≤ℤ u = h.below e.1.at e.1.solves in let r = e.1.reached in let z : u <ℤ (high -ℤ pos number) = k in omega (arith, ints, a, r, z))
 inside cs node None None number e (below l h k) = no-least cs node l e.0 h
 inside cs node None None number e (above u h k) = no-greatest cs node u e.1 h
+
+-- the least value of a node is not outside, nor the greatest where there is no least, nor 0 where there is neither
+pub first-inside : (cs : List Constraint) (node : ℕ) (low high : Option ℤ) → IsLowAnswer cs node low → IsHighAnswer cs node high → IsOutside cs node (value_for low high 0) → ⊥
+first-inside cs node (Some low) high a b (below l h k) =
+    (let x : l ≤ℤ a.at node = h.above a.at a.solves in let r = a.reached in let z : (low +ℤ pos 0) <ℤ l = k in omega (arith, ints, x, r, z))
+first-inside cs node (Some low) high a b (above u h k) =
+    (let x : a.at node ≤ℤ u = h.below a.at a.solves in let r = a.reached in let z : u <ℤ (low +ℤ pos 0) = k in omega (arith, ints, x, r, z))
+first-inside cs node None (Some high) a b (below l h k) =
+    (let x : l ≤ℤ b.at node = h.above b.at b.solves in let r = b.reached in let z : (high -ℤ pos 0) <ℤ l = k in omega (arith, ints, x, r, z))
+first-inside cs node None (Some high) a b (above u h k) =
+    (let x : b.at node ≤ℤ u = h.below b.at b.solves in let r = b.reached in let z : u <ℤ (high -ℤ pos 0) = k in omega (arith, ints, x, r, z))
+first-inside cs node None None a b (below l h k) = no-least cs node l a h
+first-inside cs node None None a b (above u h k) = no-greatest cs node u b h
 
 -- nor is 0 outside at node 0
 origin : (cs : List Constraint) (node : ℕ) → node ≡ 0 → IsOutside cs node (pos 0) → ⊥

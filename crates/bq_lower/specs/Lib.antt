@@ -6,3 +6,5 @@ pub mod Members
 pub mod Blanks
 pub mod Lowered
 pub mod Shown
+pub mod Moving
+pub mod Passing

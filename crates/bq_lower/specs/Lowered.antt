@@ -1,9 +1,9 @@
 -- Whether a query that is refused has a family.
-use Rattle.std.specs.Prelude.{◌≡◌, ℕ, ◌<◌, ⊤, List, length, Contains, Option, None, Some, Result, Ok, Err, ℤ, IsFalse}
+use Rattle.std.specs.Prelude.{◌≡◌, ◌≢◌, ℕ, ◌<◌, ⊤, List, [], length, Contains, Option, None, Some, Result, Ok, Err, ℤ, IsTrue, IsFalse}
 use Rattle.std.specs.List.{slice_index_or}
 use Rattle.bq_model.specs.declared.atom.Attr.{Attr}
 use Rattle.bq_model.specs.declared.condition.Condition.{Condition}
-use Rattle.bq_model.specs.declared.condition.Condition.TheVariants.{C2, C3}
+use Rattle.bq_model.specs.declared.condition.Condition.TheVariants.{C1, C2, C3}
 use Rattle.bq_model.specs.declared.decision.Decision.{Decision}
 use Rattle.bq_model.specs.declared.decision.Decision.TheVariants as decision
 use Rattle.bq_model.specs.declared.part.Pair.{Pair}
@@ -42,6 +42,23 @@ pub record AreLike (q : QueryValue) (blanks : List (List ℤ)) (n : ℕ) (f : Fa
   pub rows : (i : ℕ) → i < n → IsLikeBlank q blanks (record { stream = f.stream; values = row_at f i })
   pub asking : (i : ℕ) → i < n → (r : Arrival) → Contains (asking_at f i) r → IsLikeBlank q blanks r
 
+-- the query is not compact, and no column has a domain
+pub record IsWhole (q : QueryValue) : Type 0 where
+  pub compact : IsFalse q.compact
+  pub domains : q.domains ≡ []
+
+-- where rows are made for an unbounded inequality, the query is so
+abbrev pub IsWholeFor : QueryValue → Condition → Type 0
+IsWholeFor q C1 = ⊤
+IsWholeFor q C2 = ⊤
+IsWholeFor q C3 = IsWhole q
+
+-- why no rows are made for an unbounded inequality: the query is compact, a column has a domain, or a pair lies between streams
+pub data LacksRows (q : QueryValue) : Type 0 where
+  compact : IsTrue q.compact → LacksRows q
+  domains : q.domains ≢ [] → LacksRows q
+  across : HasPairAcross q → LacksRows q
+
 -- rows that are made from assignments of a part, with different values at a column
 pub record IsMadeFamily (q : QueryValue) (s : List Sign) (a : Attr) (blanks : List (List ℤ)) (n : ℕ) (f : FamilyValue) : Type 0 where
   pub stream : f.stream ≡ slice_index_or q.from a.stream 0
@@ -59,16 +76,19 @@ MakesFamily q s a blanks n (Err why.Bounded) = ⊥
 MakesFamily q s a blanks n (Err why.C2) = ⊥
 MakesFamily q s a blanks n (Err why.C3) = ⊥
 
--- the signs are those of a part that breaks the condition at the column
+-- the signs are those of a part that breaks the condition at the column, and of the second and the third condition not both
 pub record IsBroken (q : QueryValue) (s : List Sign) (condition : Condition) (a : Attr) : Type 0 where
   pub counts : IsFalse (is_filter q)
   pub within : IsWithinLimits q
   pub part : IsPart q s
   pub breaks : Breaks q s condition a
+  pub second : condition ≡ C3 → (b : Attr) → ¬ Breaks q s C2 b
 
--- a family of so many rows for a condition that some part breaks at a column; for an unbounded equality no pair lies between streams
+-- a family of so many rows for a condition that some part breaks at a column; for an unbounded equality or inequality no pair lies between
+-- streams, and for an inequality the query is not compact, and no column has a domain
 pub record HasFamily (q : QueryValue) (blanks : List (List ℤ)) (condition : Condition) (a : Attr) (n : ℕ) (f : FamilyValue) : Type 0 where
   pub local : AreLocalFor q condition
+  pub whole : IsWholeFor q condition
   pub family : IsFamily q condition a n f
   pub like : AreLike q blanks n f
 
@@ -77,7 +97,7 @@ abbrev pub LowersBroken : QueryValue → List (List ℤ) → Condition → Attr 
 LowersBroken q blanks condition a n (Ok f) = HasFamily q blanks condition a n f
 LowersBroken q blanks condition a n (Err why.Bounded) = ⊥
 LowersBroken q blanks condition a n (Err why.C2) = (condition ≡ C2) × HasPairAcross q
-LowersBroken q blanks condition a n (Err why.C3) = condition ≡ C3
+LowersBroken q blanks condition a n (Err why.C3) = (condition ≡ C3) × LacksRows q
 LowersBroken q blanks condition a n (Err why.Memory) = ⊤
 
 -- what is answered by the decision

@@ -10,8 +10,8 @@ pub enum LowerError {
     /// An equality is unbounded, and a pair of the query lies between streams.
     #[error("an equality is unbounded, and a pair lies between streams")]
     C2,
-    /// An inequality is unbounded.
-    #[error("an inequality is unbounded")]
+    /// An inequality is unbounded, and the query is compact, a column has a domain, or a pair of the query lies between streams.
+    #[error("an inequality is unbounded, and the query is compact, has a domain, or has a pair between streams")]
     C3,
     /// There is no memory for a family.
     #[error("out of memory")]

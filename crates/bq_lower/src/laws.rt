@@ -1,8 +1,8 @@
 //! The laws, as public functions without a body.
-ghost use Rattle.bq_lower.specs.Laws.{FamiliesTell, FamiliesTellAlone};
+ghost use Rattle.bq_lower.specs.Laws.{FamiliesTell, FamiliesTellAlone, InequalitiesTell};
 ghost use Rattle.bq_lower.specs.Worth.{FamiliesNeedStates};
 
-/// What is made from assignments of a part that breaks a condition, with different values at the column, is a family.
+/// What is made from assignments of a part that breaks one of the first two conditions, with different values at the column, is a family.
 pub fn families_tell()
     ensures { FamiliesTell }
 {}
@@ -10,6 +10,11 @@ pub fn families_tell()
 /// Over one stream with DISTINCT what is made so is a family, too.
 pub fn families_tell_alone()
     ensures { FamiliesTellAlone }
+{}
+
+/// What is made from assignments of a part that go against its orders where they are mixed is a family for an unbounded inequality.
+pub fn inequalities_tell()
+    ensures { InequalitiesTell }
 {}
 
 /// Whatever keeps of each history one of fewer than 2^n numbers, and answers by that and by what came since, answers wrong after some set of the

@@ -1,5 +1,6 @@
 //! The family of a query that is refused.
-ghost use Rattle.std.specs.Prelude.{◌≡◌, ◌<◌, ◌≤◌, length};
+ghost use Rattle.std.specs.Prelude.{◌≡◌, ◌<◌, ◌≤◌, [], length};
+ghost use Rattle.bq_model.specs.declared.condition.Condition.TheVariants.{C3};
 ghost use Rattle.bq_model.specs.declared.decision.Decision.TheVariants as decisions;
 ghost use Rattle.bq_model.specs.Order.{IsBounded};
 ghost use Rattle.bq_model.specs.Parts.{IsPart, AreParts, sign_lists};
@@ -10,18 +11,19 @@ ghost use Rattle.bq_refs.specs.Known.{IsKnown};
 ghost use Rattle.bq_lower.specs.Laws.{AreLocalFor};
 ghost use Rattle.bq_lower.specs.Blanks.{IsRead, AreBlanks};
 ghost use Rattle.bq_lower.specs.Members.{IsGroundOf, IsNodeOf, IsLowEnd, IsHighEnd};
-ghost use Rattle.bq_lower.specs.Lowered.{Lowers, LowersBroken, MakesFamily, IsBroken};
+ghost use Rattle.bq_lower.specs.Lowered.{Lowers, LowersBroken, MakesFamily, IsBroken, IsWhole};
 ghost use Rattle.bq_lower.specs.Shown.{rows_in};
 
 use crate::across::pair_across;
 use crate::error::LowerError;
 use crate::family::Family;
 use crate::ground::Ground;
-use crate::making::fill;
+use crate::making::{fill, fill_moved};
+use crate::searching::find_motion;
 use bq_closure::Bounds;
 use bq_constraints::place_of;
 use bq_model::{Attr, Condition, Decision, Part, Query, Row};
-use bq_refs::{Basis, bounds_of};
+use bq_refs::{Basis, bounds_of, refs};
 use std::alloc::Global;
 
 // The node of a column, which is 0 where it is no attribute.
@@ -117,7 +119,7 @@ fn make(
     }
 }
 
-// The same where the part breaks a condition at the column.
+// The same where the part breaks one of the first two conditions at the column.
 fn make_for(
     alloc: Global,
     q: &Query,
@@ -128,6 +130,7 @@ fn make_for(
     n: u16,
 ) -> Result<Family, LowerError>
     requires broken { IsBroken q.now p.now.signs.items condition attr }
+    requires first_two { ¬ (condition ≡ C3) }
     requires local { AreLocalFor q.now condition }
     requires blanks { AreBlanks q.now (rows_in blanks.now) }
     ensures { LowersBroken q.now (rows_in blanks.now) condition attr n result }
@@ -135,6 +138,61 @@ fn make_for(
     // Named for the proof alone: the contract speaks of it.
     let _condition = condition;
     make(alloc, q, p, attr, blanks, n)
+}
+
+// Rows of the stream of a column that links of the part keep apart, as many as are asked for.
+fn make_apart(
+    alloc: Global,
+    q: &Query,
+    p: &Part,
+    attr: Attr,
+    blanks: &[Row],
+    n: u16,
+) -> Result<Family, LowerError>
+    requires broken { IsBroken q.now p.now.signs.items C3 attr }
+    requires whole { IsWhole q.now }
+    requires local { AreLocalFor q.now C3 }
+    requires blanks { AreBlanks q.now (rows_in blanks.now) }
+    ensures { LowersBroken q.now (rows_in blanks.now) C3 attr n result }
+{
+    let basis = Basis::new(q);
+    let bounds = bounds_of(q, p, &basis);
+    let ground = ground_of(q, p, &bounds, blanks, attr);
+    let mut room = basis.room();
+    let refs = refs(q, p, &basis, &mut room);
+    let motion = find_motion(q, p, &bounds, refs.less.as_slice(), attr, n);
+    let mut m = Vec::new(alloc);
+    let mut g = Vec::new(alloc);
+    match fill_moved(&ground, &motion, attr.stream, &mut m, &mut g) {
+        Ok(()) => Ok(Family {
+            stream: q.from()[usize::from(attr.stream)],
+            m,
+            g,
+        }),
+        Err(error) => Err(error),
+    }
+}
+
+// A family for an unbounded inequality: none where the query is compact, a column has a domain, or a pair lies between streams.
+fn lower_apart(
+    alloc: Global,
+    q: &Query,
+    p: &Part,
+    attr: Attr,
+    blanks: &[Row],
+    n: u16,
+) -> Result<Family, LowerError>
+    requires broken { IsBroken q.now p.now.signs.items C3 attr }
+    requires blanks { AreBlanks q.now (rows_in blanks.now) }
+    ensures { LowersBroken q.now (rows_in blanks.now) C3 attr n result }
+{
+    if q.compact() || !q.domains().is_empty() {
+        return Err(LowerError::C3);
+    }
+    match pair_across(q.pairs().as_slice()) {
+        Some(_) => Err(LowerError::C3),
+        None => make_apart(alloc, q, p, attr, blanks, n),
+    }
 }
 
 // A family for a condition that the part breaks at a column.
@@ -157,7 +215,7 @@ fn lower(
             Some(_) => Err(LowerError::C2),
             None => make_for(alloc, q, p, condition, attr, blanks, n),
         },
-        Condition::C3 => Err(LowerError::C3),
+        Condition::C3 => lower_apart(alloc, q, p, attr, blanks, n),
     }
 }
 

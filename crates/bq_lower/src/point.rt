@@ -1,11 +1,13 @@
 //! The rows of one number.
-ghost use Rattle.std.specs.Prelude.{◌≡◌, ◌<◌, ◌≤◌, length, slice_index_or, nat_eq, cond, ◌∷◌, ◌++◌, ◌+◌, []};
+ghost use Rattle.std.specs.Prelude.{◌≡◌, ◌<◌, ◌≤◌, length, slice_index_or, nat_eq, cond, ◌∷◌, ◌++◌, ◌+◌, ◌-◌, [], pos};
 ghost use Rattle.bq_model.specs.Meaning.{by_column};
 ghost use Rattle.bq_lower.specs.Members.{cell_for, row_for, blank_at, others_for, asked_for, IsFarWithin, IsGround, IsPoint, HasMember};
+ghost use Rattle.bq_lower.specs.Moving.{IsMotionFor, IsMovedMember};
 ghost use Rattle.bq_lower.specs.Shown.{arrivals};
 
 use crate::family::Asked;
 use crate::ground::{Ground, solution, value_of};
+use crate::motion::{Motion, moved_values};
 use bq_constraints::place_of;
 use bq_model::{Attr, Row};
 
@@ -157,6 +159,34 @@ pub fn member_of(ground: &Ground, own: u8, number: u16) -> Member
         ground,
         values: values.as_slice(),
         value: value_of(ground.low, ground.high, number),
+    };
+    Member {
+        row: row_at(&point, own),
+        asked: asked_at(&point, own),
+    }
+}
+
+// The value of the column in which the rows differ, of these values.
+fn named_value(ground: &Ground, values: &[i128]) -> i128
+    requires node { 0 < ground.now.node }
+    requires many { ground.now.node ≤ length values.now }
+    ensures { result ≡ slice_index_or values.now (ground.now.node - 1) (pos 0) }
+{
+    values[usize::from(ground.node) - 1]
+}
+
+/// Returns the row of a number at a place of FROM, and what asks for it, with the values of a motion.
+pub fn moved_member(ground: &Ground, motion: &Motion, own: u8, number: u16) -> Member
+    requires motion { IsMotionFor ground.now own motion.now }
+    requires number { number < motion.now.n }
+    ensures { IsMovedMember ground.now motion.now own number result.row.items (arrivals result.asked.items) }
+{
+    let values = moved_values(motion, number);
+    let values = values.as_slice();
+    let point = Point {
+        ground,
+        values,
+        value: named_value(ground, values),
     };
     Member {
         row: row_at(&point, own),

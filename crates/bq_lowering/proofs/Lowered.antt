@@ -22,12 +22,13 @@ use Rattle.bq_lowering.specs.declared.finding.Finding.{Finding}
 use Rattle.bq_lowering.specs.Finding.{IsFinding}
 use Rattle.bq_lowering.specs.Found.{FindsFor}
 use Rattle.bq_lowering.specs.Lowering.{Lowers, found}
+use Rattle.bq_lowering.specs.declared.form.LowerForm.{LowerForm}
 use Rattle.bq_lowering.specs.Lowering as lowering
 use Rattle.bq_lowering.proofs.OneOutcome.{needs-one}
 
 -- the query of a script is too large
-pub comes-large : (n : ℕ) (script : Script) (source now : SourceState) (reader : Reading) → GaveScript script source now reader → HasMoreParts script.query 4096 → ComesTo (Lowers n) source now (refusal script.line Limit)
-comes-large n script source now reader g large =
+pub comes-large : (form : LowerForm) (script : Script) (source now : SourceState) (reader : Reading) → GaveScript script source now reader → HasMoreParts script.query 4096 → ComesTo (Lowers form) source now (refusal script.line Limit)
+comes-large form script source now reader g large =
     let none = none-behind g.given script.catalog g.name g.select g.shared script.query script.line g.asks g.last in
     let all : lines g.front ≡ g.given ++ [] = front-lines source now reader g.front g.given g.lines ∙ sym (append-nil g.given) in
     record {
@@ -39,9 +40,9 @@ comes-large n script source now reader g large =
     }
 
 -- a line behind the query says something
-pub comes-misplaced : (n : ℕ) (script : Script) (source now now' : SourceState) (old new : Reading) (number : ℕ) (word : Refusal) (g : GaveScript script source now old) → ¬ HasMoreParts script.query 4096
-    → GaveLine source now' g.given new (λ place line. (number ≡ place) × IsMisplaced line word) → ComesTo (Lowers n) source now' (refusal number word)
-comes-misplaced n script source now now' old new number word g small t =
+pub comes-misplaced : (form : LowerForm) (script : Script) (source now now' : SourceState) (old new : Reading) (number : ℕ) (word : Refusal) (g : GaveScript script source now old) → ¬ HasMoreParts script.query 4096
+    → GaveLine source now' g.given new (λ place line. (number ≡ place) × IsMisplaced line word) → ComesTo (Lowers form) source now' (refusal number word)
+comes-misplaced form script source now now' old new number word g small t =
     let more = t.blanks ++ t.line ∷ [] in
     let none = none-behind g.given script.catalog g.name g.select g.shared script.query script.line g.asks g.last in
     let all : lines t.front ≡ g.given ++ more = front-lines source now' new t.front (g.given ++ more) t.lines in
@@ -56,11 +57,11 @@ comes-misplaced n script source now now' old new number word g small t =
     }
 
 -- blank lines stand behind the query, up to the end of the source
-pub comes-whole : (n : ℕ) (script : Script) (finding : Finding) (source now now' : SourceState) (old new : Reading) (g : GaveScript script source now old) → ¬ HasMoreParts script.query 4096
-    → IsFinding script.catalog script.query n finding → GaveAll source now' g.given new → ComesTo (Lowers n) source now' (found script.catalog (name_of script.statement) script.query n finding)
-comes-whole n script finding source now now' old new g small is t =
+pub comes-whole : (form : LowerForm) (script : Script) (finding : Finding) (source now now' : SourceState) (old new : Reading) (g : GaveScript script source now old) → ¬ HasMoreParts script.query 4096
+    → IsFinding script.catalog script.query form finding → GaveAll source now' g.given new → ComesTo (Lowers form) source now' (found script.catalog (name_of script.statement) script.query form finding)
+comes-whole form script finding source now now' old new g small is t =
     let none = none-behind g.given script.catalog g.name g.select g.shared script.query script.line g.asks g.last in
-    let written : List ℕ → Outcome = λ m. found script.catalog m script.query n finding in
+    let written : List ℕ → Outcome = λ m. found script.catalog m script.query form finding in
     record {
       text = t.text;
       took = took-all source now' t.text t.lines.all;
@@ -71,36 +72,36 @@ comes-whole n script finding source now now' old new g small is t =
     }
 
 -- The reader broke off behind the query. The lines that came whole settle nothing: were they all, the family would be written.
-unsettled-behind : (n : ℕ) (script : Script) (finding : Finding) (source now now' : SourceState) (old new : Reading) (P : List ℕ → Type 0) (g : GaveScript script source now old) → ¬ HasMoreParts script.query 4096
-    → IsFinding script.catalog script.query n finding → GaveLast source now' g.given new P → TookUnsettled (Lowers n) source now' P
-unsettled-behind n script finding source now now' old new P g small is t =
+unsettled-behind : (form : LowerForm) (script : Script) (finding : Finding) (source now now' : SourceState) (old new : Reading) (P : List ℕ → Type 0) (g : GaveScript script source now old) → ¬ HasMoreParts script.query 4096
+    → IsFinding script.catalog script.query form finding → GaveLast source now' g.given new P → TookUnsettled (Lowers form) source now' P
+unsettled-behind form script finding source now now' old new P g small is t =
     let none = none-behind g.given script.catalog g.name g.select g.shared script.query script.line g.asks g.last in
     let all = lines (ended_part t.text) in
-    let whole : (Lowers n) all (found script.catalog g.name script.query n finding) =
+    let whole : (Lowers form) all (found script.catalog g.name script.query form finding) =
     lowering.whole script.catalog g.name g.select g.shared script.query script.line
     (asks-then g.given t.blanks all script.catalog g.name g.select g.shared script.query script.line g.asks none t.lines.are) small
     (All-from_recursion IsBlank t.blanks t.blank) finding is refl in
     record {
       text = t.text;
       taken = t.lines.taken;
-      unsettled = λ o it. needs-one n all o (found script.catalog g.name script.query n finding) it whole refl;
+      unsettled = λ o it. needs-one form all o (found script.catalog g.name script.query form finding) it whole refl;
       holds = t.holds;
     }
 
 -- reading the lines behind the query stops
-pub stops-behind : (n : ℕ) (script : Script) (finding : Finding) (end : ScriptEnd) (source now now' : SourceState) (old new : Reading) (g : GaveScript script source now old) → ¬ HasMoreParts script.query 4096
-    → IsFinding script.catalog script.query n finding → ReadsBlank (Err end) source now' g.given new → StopsAt (Lowers n) end source now'
-stops-behind n script finding (Refused number word) source now now' old new g small is t = record { needs = Some number; comes = comes-misplaced n script source now now' old new number word g small t }
-stops-behind n script finding ReadFault source now now' old new g small is t = (t.0, unsettled-behind n script finding source now now' old new (λ text. ⊤) g small is t.1)
-stops-behind n script finding ByteLimit source now now' old new g small is t = unsettled-behind n script finding source now now' old new IsFull g small is t
-stops-behind n script finding Memory source now now' old new g small is t = absurd t
+pub stops-behind : (form : LowerForm) (script : Script) (finding : Finding) (end : ScriptEnd) (source now now' : SourceState) (old new : Reading) (g : GaveScript script source now old) → ¬ HasMoreParts script.query 4096
+    → IsFinding script.catalog script.query form finding → ReadsBlank (Err end) source now' g.given new → StopsAt (Lowers form) end source now'
+stops-behind form script finding (Refused number word) source now now' old new g small is t = record { needs = Some number; comes = comes-misplaced form script source now now' old new number word g small t }
+stops-behind form script finding ReadFault source now now' old new g small is t = (t.0, unsettled-behind form script finding source now now' old new (λ text. ⊤) g small is t.1)
+stops-behind form script finding ByteLimit source now now' old new g small is t = unsettled-behind form script finding source now now' old new IsFull g small is t
+stops-behind form script finding Memory source now now' old new g small is t = absurd t
 
 -- no family was found
-pub stops-unmade : (n : ℕ) (script : Script) (end : ScriptEnd) (source now : SourceState) (reader : Reading) → GaveScript script source now reader → FindsFor (Err end) script n → StopsAt (Lowers n) end source now
-stops-unmade n script (Refused number word) source now reader g m =
-    let P : Outcome → Type 0 = λ o. ComesTo (Lowers n) source now o in
+pub stops-unmade : (form : LowerForm) (script : Script) (end : ScriptEnd) (source now : SourceState) (reader : Reading) → GaveScript script source now reader → FindsFor (Err end) script form → StopsAt (Lowers form) end source now
+stops-unmade form script (Refused number word) source now reader g m =
+    let P : Outcome → Type 0 = λ o. ComesTo (Lowers form) source now o in
     let same : refusal number word ≡ refusal script.line Limit = ap (λ n. refusal n word) m.0 ∙ ap (λ w. refusal script.line w) m.1 in
-    record { needs = Some number; comes = subst P (sym same) (comes-large n script source now reader g m.2) }
-stops-unmade n script ReadFault source now reader g m = absurd m
-stops-unmade n script ByteLimit source now reader g m = absurd m
-stops-unmade n script Memory source now reader g m = tt
+    record { needs = Some number; comes = subst P (sym same) (comes-large form script source now reader g m.2) }
+stops-unmade form script ReadFault source now reader g m = absurd m
+stops-unmade form script ByteLimit source now reader g m = absurd m
+stops-unmade form script Memory source now reader g m = tt

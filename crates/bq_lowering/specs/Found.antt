@@ -1,8 +1,9 @@
 -- What is found before anything is written.
-use Rattle.std.specs.Prelude.{◌≡◌, ℕ, ⊤, List}
+use Rattle.std.specs.Prelude.{◌≡◌, ℕ, ⊤, Bool, true, false, List}
 use Rattle.std.specs.declared.result.Result.{Result}
 use Rattle.std.specs.declared.result.Result.TheVariants.{Ok, Err}
 use Rattle.bq_io.specs.Source.{SourceState}
+use Rattle.bq_model.specs.declared.condition.Condition.TheVariants.{C1, C2, C3}
 use Rattle.bq_model.specs.declared.decision.Decision.{Decision}
 use Rattle.bq_model.specs.declared.decision.Decision.TheVariants as decision
 use Rattle.bq_model.specs.Parts.{HasMoreParts}
@@ -17,6 +18,9 @@ use Rattle.bq_script.specs.declared.script.Script.{Script}
 use Rattle.bq_script.specs.Commands.{ComesTo}
 use Rattle.bq_script.specs.Script.{name_of}
 use Rattle.bq_script.specs.Ending.{StopsAt}
+use Rattle.bq_lowering.specs.declared.form.Families.{Families}
+use Rattle.bq_lowering.specs.declared.form.Families.TheVariants as families
+use Rattle.bq_lowering.specs.declared.form.LowerForm.{LowerForm}
 use Rattle.bq_lowering.specs.declared.finding.NoFamily.TheVariants as none
 use Rattle.bq_lowering.specs.declared.finding.Finding.{Finding}
 use Rattle.bq_lowering.specs.declared.finding.Finding.TheVariants.{Nothing, Rows}
@@ -34,24 +38,32 @@ finding_of (decision.Violation part condition attr) (Err why.C2) = Ok (Nothing n
 finding_of (decision.Violation part condition attr) (Err why.C3) = Ok (Nothing none.C3)
 finding_of (decision.Violation part condition attr) (Err why.Memory) = Err Memory
 
--- what looking for a family of so many rows comes to for the query of a script: one of more than 4,096 parts is refused at its line
-abbrev pub FindsFor : Result Finding ScriptEnd → Script → ℕ → Type 0
-FindsFor (Ok finding) script n = IsFinding script.catalog script.query n finding × (¬ HasMoreParts script.query 4096)
-FindsFor (Err (Refused number word)) script n = (number ≡ script.line) × (word ≡ Limit) × HasMoreParts script.query 4096
-FindsFor (Err ReadFault) script n = ⊥
-FindsFor (Err ByteLimit) script n = ⊥
-FindsFor (Err Memory) script n = ⊤
+-- whether the first condition that is broken is one for which no families are made
+abbrev pub is_left_out : Families → Decision → Bool
+is_left_out families.All d = false
+is_left_out families.FirstTwo decision.Bounded = false
+is_left_out families.FirstTwo (decision.Violation part C1 attr) = false
+is_left_out families.FirstTwo (decision.Violation part C2 attr) = false
+is_left_out families.FirstTwo (decision.Violation part C3 attr) = true
+
+-- what looking for a family comes to for the query of a script: one of more than 4,096 parts is refused at its line
+abbrev pub FindsFor : Result Finding ScriptEnd → Script → LowerForm → Type 0
+FindsFor (Ok finding) script form = IsFinding script.catalog script.query form finding × (¬ HasMoreParts script.query 4096)
+FindsFor (Err (Refused number word)) script form = (number ≡ script.line) × (word ≡ Limit) × HasMoreParts script.query 4096
+FindsFor (Err ReadFault) script form = ⊥
+FindsFor (Err ByteLimit) script form = ⊥
+FindsFor (Err Memory) script form = ⊤
 
 -- the text of what is found for a script
-abbrev pub text_of : Lowered → ℕ → List ℕ
-text_of l n = finding_text l.script.catalog (name_of l.script.statement) l.script.query n l.finding
+abbrev pub text_of : Lowered → LowerForm → List ℕ
+text_of l form = finding_text l.script.catalog (name_of l.script.statement) l.script.query form.rows l.finding
 
 -- what is found, and the streams and columns that the query names are there
-pub record IsSound (n : ℕ) (l : Lowered) : Type 0 where
-  pub is : IsFinding l.script.catalog l.script.query n l.finding
+pub record IsSound (form : LowerForm) (l : Lowered) : Type 0 where
+  pub is : IsFinding l.script.catalog l.script.query form l.finding
   pub named : HasNamed l.script.catalog l.script.query
 
 -- how reading ends: with a script and what is found for its query, or before
-abbrev pub ReadsLowered : ℕ → Result Lowered ScriptEnd → SourceState → SourceState → Type 0
-ReadsLowered n (Ok l) source now = ComesTo (Lowers n) source now (found l.script.catalog (name_of l.script.statement) l.script.query n l.finding) × IsSound n l
-ReadsLowered n (Err end) source now = StopsAt (Lowers n) end source now
+abbrev pub ReadsLowered : LowerForm → Result Lowered ScriptEnd → SourceState → SourceState → Type 0
+ReadsLowered form (Ok l) source now = ComesTo (Lowers form) source now (found l.script.catalog (name_of l.script.statement) l.script.query form l.finding) × IsSound form l
+ReadsLowered form (Err end) source now = StopsAt (Lowers form) end source now

@@ -11,6 +11,7 @@ ghost use Rattle.bq_lowering.specs.Lowering.{Lowers};
 ghost use Rattle.bq_lowering.specs.Found.{IsSound, ReadsLowered, text_of};
 
 use crate::finding::{Finding, find};
+use crate::form::LowerForm;
 use crate::printing::print;
 use bq_feed::LineReader;
 use bq_io::{Gathered, Sink, Source, Status, WriteFault};
@@ -28,15 +29,15 @@ pub struct Lowered {
 fn lower_script<I: Source>(
     alloc: Global,
     script: Script,
-    n: u16,
+    form: LowerForm,
     reader: &mut LineReader,
     input: &mut I,
 ) -> Result<Lowered, ScriptEnd>
     requires named { HasNamed script.catalog script.query }
-    ensures reads { (source : SourceState) → GaveScript script source (I.seen input.old) reader.old → ReadsLowered n result source (I.seen input.new) }
+    ensures reads { (source : SourceState) → GaveScript script source (I.seen input.old) reader.old → ReadsLowered form result source (I.seen input.new) }
     ensures later { (I.seen input.old).faults ≤ (I.seen input.new).faults }
 {
-    match find(alloc, &script, n) {
+    match find(alloc, &script, form) {
         Ok(finding) => match read_blank(reader, input) {
             Ok(()) => Ok(Lowered { script, finding }),
             Err(stop) => Err(stop),
@@ -48,16 +49,16 @@ fn lower_script<I: Source>(
 // Reads a script to the end of the source, and looks for its family as soon as the line of its query is read.
 fn read_lowered<I: Source>(
     alloc: Global,
-    n: u16,
+    form: LowerForm,
     reader: &mut LineReader,
     input: &mut I,
 ) -> Result<Lowered, ScriptEnd>
     requires { reader.old ≡ fresh }
-    ensures reads { ReadsLowered n result (I.seen input.old) (I.seen input.new) }
+    ensures reads { ReadsLowered form result (I.seen input.old) (I.seen input.new) }
     ensures later { (I.seen input.old).faults ≤ (I.seen input.new).faults }
 {
     match read_script(alloc, reader, input) {
-        Ok(script) => lower_script(alloc, script, n, reader, input),
+        Ok(script) => lower_script(alloc, script, form, reader, input),
         Err(end) => Err(end),
     }
 }
@@ -65,29 +66,33 @@ fn read_lowered<I: Source>(
 // Writes the whole text to a gatherer, and then what it still holds to the sink below.
 fn print_flushed<O: Sink>(
     lowered: &Lowered,
-    n: u16,
+    form: LowerForm,
     out: &mut Gathered<'_, O>,
 ) -> Result<(), WriteFault>
-    requires sound { IsSound n lowered.now }
+    requires sound { IsSound form lowered.now }
     requires nothing { out.old.held.items ≡ [] }
-    ensures written { WritesText result (text_of lowered.now n) (O.seen out.old.sink.now) (O.seen out.new.sink.now) }
+    ensures written { WritesText result (text_of lowered.now form) (O.seen out.old.sink.now) (O.seen out.new.sink.now) }
     ensures later { (O.seen out.old.sink.now).faults ≤ (O.seen out.new.sink.now).faults }
     ensures same_reference { out.new.sink.ghost_name ≡ out.old.sink.ghost_name }
 {
-    match print(lowered, n, out) {
+    match print(lowered, form, out) {
         Ok(()) => out.flush(),
         Err(fault) => Err(fault),
     }
 }
 
 // Writes the whole text, in pieces of at most 4,096 bytes.
-fn print_gathered<O: Sink>(lowered: &Lowered, n: u16, output: &mut O) -> Result<(), WriteFault>
-    requires { IsSound n lowered.now }
-    ensures written { WritesText result (text_of lowered.now n) (O.seen output.old) (O.seen output.new) }
+fn print_gathered<O: Sink>(
+    lowered: &Lowered,
+    form: LowerForm,
+    output: &mut O,
+) -> Result<(), WriteFault>
+    requires { IsSound form lowered.now }
+    ensures written { WritesText result (text_of lowered.now form) (O.seen output.old) (O.seen output.new) }
     ensures later { (O.seen output.old).faults ≤ (O.seen output.new).faults }
 {
     let mut gathered = Gathered::new(output);
-    let written = print_flushed(lowered, n, &mut gathered);
+    let written = print_flushed(lowered, form, &mut gathered);
     let Gathered { sink, held: _held } = gathered;
     // No effect at run time. The proof reads what the output holds from this use.
     let _ = &*sink;
@@ -95,35 +100,43 @@ fn print_gathered<O: Sink>(lowered: &Lowered, n: u16, output: &mut O) -> Result<
 }
 
 // Writes the whole text, and gives the status.
-fn end_done<O: Sink>(lowered: &Lowered, n: u16, output: &mut O) -> Status
-    requires { IsSound n lowered.now }
-    ensures ends { EndsWith status.Done (text_of lowered.now n) result (O.seen output.old) (O.seen output.new) }
+fn end_done<O: Sink>(lowered: &Lowered, form: LowerForm, output: &mut O) -> Status
+    requires { IsSound form lowered.now }
+    ensures ends { EndsWith status.Done (text_of lowered.now form) result (O.seen output.old) (O.seen output.new) }
     ensures later { (O.seen output.old).faults ≤ (O.seen output.new).faults }
 {
-    match print_gathered(lowered, n, output) {
+    match print_gathered(lowered, form, output) {
         Ok(()) => Status::Done,
         Err(_) => Status::WriteFault,
     }
 }
 
-/// Reads a script to the end of the source, and writes a family of n rows of one stream for its query, with the rows that ask for each of them:
-/// whatever set of the n rows came before, the answers to the rows that ask tell the set. So whatever answers the query has to tell 2^n histories
-/// apart. The family is for the first condition that the query breaks, the first or the second. A query that breaks none has no family, nor one that
-/// breaks the third first, nor one that breaks the second while a pair lies between streams; then one line says so.
+/// Reads a script to the end of the source, and writes a family of rows of one stream for its query, as many as the form asks for, with the rows
+/// that ask for each of them. Whatever set of these rows came before, the answers to the rows that ask tell the set: where C3 refuses a query without
+/// DISTINCT, any two sets by how many answers there are. So whatever answers the query has to tell 2^n histories apart.
+///
+/// The family is for the first condition that the query breaks. One line says that there is none: where the query breaks no condition; where C2 refuses
+/// it and a pair lies between streams; where C3 does, and the form asks for the first two conditions alone, or the query is compact, a column has a
+/// domain, or a pair lies between streams.
 ///
 /// The script is read, and its lines are refused, as those of `certify`; the line of a query of more than 4,096 parts is refused with the
 /// word `Limit`. Nothing is written before it is known what the command comes to, so nothing is where the source fails or has more bytes than can
 /// be counted, and for want of memory. Where the sink fails, a front of the text was written.
-pub fn lower<I: Source, O: Sink>(alloc: Global, n: u16, input: &mut I, output: &mut O) -> Status
-    ensures ends { CommandEnds (Lowers n) result (I.seen input.old) (I.seen input.new) (O.seen output.old) (O.seen output.new) }
+pub fn lower<I: Source, O: Sink>(
+    alloc: Global,
+    form: LowerForm,
+    input: &mut I,
+    output: &mut O,
+) -> Status
+    ensures ends { CommandEnds (Lowers form) result (I.seen input.old) (I.seen input.new) (O.seen output.old) (O.seen output.new) }
     ensures input_later { (I.seen input.old).faults ≤ (I.seen input.new).faults }
     ensures output_later { (O.seen output.old).faults ≤ (O.seen output.new).faults }
 {
     let Ok(mut reader) = LineReader::new(alloc) else {
         return Status::Memory;
     };
-    match read_lowered(alloc, n, &mut reader, input) {
-        Ok(lowered) => end_done(&lowered, n, output),
+    match read_lowered(alloc, form, &mut reader, input) {
+        Ok(lowered) => end_done(&lowered, form, output),
         Err(end) => end_early(end, output),
     }
 }

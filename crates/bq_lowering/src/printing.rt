@@ -14,6 +14,7 @@ ghost use Rattle.bq_lowering.specs.declared.finding.Finding.TheVariants as findi
 ghost use Rattle.bq_lowering.specs.Text.{head_text, end_text, finding_text};
 
 use crate::finding::Finding;
+use crate::form::LowerForm;
 use crate::lines::{write_end, write_head, write_nothing};
 use crate::lower_command::Lowered;
 use bq_families::write_rows;
@@ -96,9 +97,9 @@ fn write_family<O: Sink>(
 }
 
 /// Writes what is found for a script: a family of so many rows, or that there is none, and why.
-pub fn print<O: Sink>(lowered: &Lowered, n: u16, out: &mut O) -> Result<(), WriteFault>
-    requires { IsSound n lowered.now }
-    ensures { Writes result (O.seen out.old) (O.seen out.new) (text_of lowered.now n) }
+pub fn print<O: Sink>(lowered: &Lowered, form: LowerForm, out: &mut O) -> Result<(), WriteFault>
+    requires { IsSound form lowered.now }
+    ensures { Writes result (O.seen out.old) (O.seen out.new) (text_of lowered.now form) }
 {
     match &lowered.finding {
         Finding::Nothing(reason) => write_nothing(out, *reason),
@@ -107,6 +108,14 @@ pub fn print<O: Sink>(lowered: &Lowered, n: u16, out: &mut O) -> Result<(), Writ
             condition,
             attr,
             family,
-        } => write_family(out, &lowered.script, *part, *condition, *attr, family, n),
+        } => write_family(
+            out,
+            &lowered.script,
+            *part,
+            *condition,
+            *attr,
+            family,
+            form.rows,
+        ),
     }
 }

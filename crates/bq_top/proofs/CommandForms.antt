@@ -4,6 +4,7 @@ use Rattle.std.specs.declared.alloc.Global.{Global}
 use Rattle.std.specs.declared.option.Option.{Option}
 use Rattle.bq_top.specs.declared.command.Command.{Command}
 use Rattle.bq_top.specs.declared.command.Command.TheVariants.{Run, Load, Lower, Certify, Check, Advise, Split, Help, Version}
+use Rattle.bq_lowering.specs.declared.form.LowerForm.{LowerForm}
 use Rattle.bq_top.specs.Words.{AreRun}
 use Rattle.bq_top.specs.LoadWords.{AreLoad}
 use Rattle.bq_top.specs.LowerWords.{AreLower}
@@ -13,7 +14,7 @@ use Rattle.bq_top.specs.HelpWords.{AreHelp, AreVersion, HelpCommand}
 use Rattle.bq_top.specs.Commands.{Asks, IsAllowed}
 
 -- the words are none of the forms
-no_command : (words : List (String Global)) → ((form : RunForm) → AreRun words form → ⊥) → ((n : ℕ) → AreLoad words n → ⊥) → ((n : ℕ) → AreLower words n → ⊥) → AreNoScript words → (¬ AreHelp words) × (¬ AreVersion words) → (command : Command) → Asks words command → ⊥
+no_command : (words : List (String Global)) → ((form : RunForm) → AreRun words form → ⊥) → ((n : ℕ) → AreLoad words n → ⊥) → ((form : LowerForm) → AreLower words form → ⊥) → AreNoScript words → (¬ AreHelp words) × (¬ AreVersion words) → (command : Command) → Asks words command → ⊥
 no_command words no_run no_load no_lower other none (Run n) asks = no_run n asks
 no_command words no_run no_load no_lower other none (Load n) asks = no_load n asks
 no_command words no_run no_load no_lower other none (Lower n) asks = no_lower n asks
@@ -48,7 +49,7 @@ allowed_script words Help h = absurd h
 allowed_script words Version h = absurd h
 
 -- help or the version is asked for, or nothing
-pub asked_help : (words : List (String Global)) (r : Option Command) → ((form : RunForm) → AreRun words form → ⊥) → ((n : ℕ) → AreLoad words n → ⊥) → ((n : ℕ) → AreLower words n → ⊥) → AreNoScript words → HelpCommand words r
+pub asked_help : (words : List (String Global)) (r : Option Command) → ((form : RunForm) → AreRun words form → ⊥) → ((n : ℕ) → AreLoad words n → ⊥) → ((form : LowerForm) → AreLower words form → ⊥) → AreNoScript words → HelpCommand words r
     → MatchOption r ((command : Command) → Asks words command → ⊥) (λ command. Asks words command)
 asked_help words None no_run no_load no_lower other h = no_command words no_run no_load no_lower other h
 asked_help words (Some (Run n)) no_run no_load no_lower other h = absurd h

@@ -10,11 +10,11 @@ use Rattle.bq_top.specs.declared.command.Command.{Command}
 use Rattle.bq_top.specs.declared.command.Command.TheVariants.{Run, Load, Lower, Certify, Check, Advise, Split, Help, Version}
 use Rattle.bq_top.specs.Words.{AreLast, AreOptions, AreRunTexts, rows_or_most, nothing, named, limited, by_line, over}
 use Rattle.bq_top.specs.LoadWords.{AreLoadTexts}
-use Rattle.bq_top.specs.LowerWords.{AreLowerTexts}
 use Rattle.bq_top.specs.CertificateWords.{AreAdviseTexts, AreSplitTexts, AreAdviseSplitTexts}
 use Rattle.bq_top.specs.HelpWords.{AreHelp, AreVersion}
 use Rattle.bq_top.specs.Commands.{Asks}
 use Rattle.bq_top.specs.Laws.{AskForOne}
+use Rattle.bq_top.proofs.LowerForms.{one_lower}
 use Rattle.bq_top.proofs.WordForms.{dash, rows_or_each, one_limit}
 
 one_last : (texts : List (List ℕ)) (f g : Bool) → AreLast texts f → AreLast texts g → f ≡ g
@@ -54,12 +54,6 @@ one_run texts f g p q =
 one_load : (texts : List (List ℕ)) (m n : ℕ) → AreLoadTexts texts m → AreLoadTexts texts n → m ≡ n
 one_load texts m n p q =
     let both : codes "load" ∷ p.number ∷ [] ≡ codes "load" ∷ q.number ∷ [] = sym p.words ∙ q.words in
-    let same : p.number ≡ q.number = cc in
-    decimal_injective m n (omega (arith, p.size.few)) (omega (arith, q.size.few)) (sym p.size.digits ∙ same ∙ q.size.digits)
-
-one_lower : (texts : List (List ℕ)) (m n : ℕ) → AreLowerTexts texts m → AreLowerTexts texts n → m ≡ n
-one_lower texts m n p q =
-    let both : codes "lower" ∷ p.number ∷ [] ≡ codes "lower" ∷ q.number ∷ [] = sym p.words ∙ q.words in
     let same : p.number ≡ q.number = cc in
     decimal_injective m n (omega (arith, p.size.few)) (omega (arith, q.size.few)) (sym p.size.digits ∙ same ∙ q.size.digits)
 

@@ -48,7 +48,7 @@ pub advise_or_none : (words : List (String Global)) (r : Option Command) → ¬ 
 advise_or_none words None p q h = (p, q, h)
 advise_or_none words (Some (Run form)) p q h = absurd h
 advise_or_none words (Some (Load rows)) p q h = absurd h
-advise_or_none words (Some (Lower rows)) p q h = absurd h
+advise_or_none words (Some (Lower form)) p q h = absurd h
 advise_or_none words (Some Certify) p q h = absurd h
 advise_or_none words (Some Check) p q h = absurd h
 advise_or_none words (Some (Advise file)) p q h = h

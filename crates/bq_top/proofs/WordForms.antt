@@ -25,10 +25,6 @@ pub texts_behind : {A B : Type 0} (f : A → B) (ws : List A) (b : B) (others : 
 texts_behind f [] b others e = let bad : [] ≡ b ∷ others = e in cc
 texts_behind f (x ∷ xs) b others e = let both : f x ∷ map f xs ≡ b ∷ others = e in let tails : map f xs ≡ others = cc in ap (map f) (take_rest (x ∷ xs) 1) ∙ tails
 
-pub some_words : {A B : Type 0} (f : A → B) (ws : List A) (b : B) (others : List B) → map f ws ≡ b ∷ others → 1 ≤ length ws
-some_words f [] b others e = let bad : [] ≡ b ∷ others = e in cc
-some_words f (x ∷ xs) b others e = omega arith
-
 -- a text that begins with `-` is no name of a file
 pub dash : (texts : List (List ℕ)) (tail : List ℕ) (others : List (List ℕ)) (file : Bool) → texts ≡ (45 ∷ tail) ∷ others → AreLast texts file → ⊥
 dash texts tail others file e (nothing f g) = let bad : (45 ∷ tail) ∷ others ≡ [] = sym e ∙ f in cc
@@ -45,12 +41,6 @@ rows_or_each others more e = let same : codes "--rows" ≡ codes "--each" = cc i
 pub one_limit : (text other : List ℕ) (m n : ℕ) → text ≡ other → IsRowLimit text m → IsRowLimit other n → m ≡ n
 one_limit text other m n e p q = decimal_injective m n (omega (arith, p.few)) (omega (arith, q.few)) (sym p.digits ∙ e ∙ q.digits)
 
--- `--each` came twice
-pub twice_each : (texts others : List (List ℕ)) (limit : Option ℕ) (each : Bool) (form : RunForm) → texts ≡ codes "--each" ∷ others → each ≡ true → AreOptions texts limit each form → ⊥
-twice_each texts others limit each form e t (limited number rest n f l is p) = rows_or_each (number ∷ rest) others (sym f ∙ e)
-twice_each texts others limit each form e t (by_line rest f isnt p) = let bad : true ≡ false = sym t ∙ isnt in cc
-twice_each texts others limit each form e t (over last l f) = dash texts (codes "-each") others form.file e last
-
 -- `--each` came first, and then what the others ask for
 pub then_each : (texts others : List (List ℕ)) (limit : Option ℕ) (each : Bool) (r : Option RunForm) → texts ≡ codes "--each" ∷ others → each ≡ false
     → MatchOption r ((form : RunForm) → AreOptions others limit true form → ⊥) (λ form. AreOptions others limit true form)
@@ -65,12 +55,6 @@ then_each texts others limit each None e isnt none = refuted
         none form (subst (λ ts. AreOptions ts limit true form) same p)
     refuted form (over last l f) = dash texts (codes "-each") others form.file e last
 then_each texts others limit each (Some form) e isnt are = by_line others e isnt are
-
--- `--rows` came twice
-pub twice_rows : (texts others : List (List ℕ)) (most : ℕ) (limit : Option ℕ) (each : Bool) (form : RunForm) → texts ≡ codes "--rows" ∷ others → limit ≡ Some most → AreOptions texts limit each form → ⊥
-twice_rows texts others most limit each form e t (limited number rest n f l is p) = let bad : Some most ≡ None = sym t ∙ l in cc
-twice_rows texts others most limit each form e t (by_line rest f isnt p) = rows_or_each others rest (sym e ∙ f)
-twice_rows texts others most limit each form e t (over last l f) = dash texts (codes "-rows") others form.file e last
 
 -- no number stands behind `--rows`
 pub no_limit : (texts others : List (List ℕ)) (limit : Option ℕ) (each : Bool) (form : RunForm) → texts ≡ codes "--rows" ∷ others → ((n : ℕ) → StartsWithLimit others n → ⊥) → AreOptions texts limit each form → ⊥

@@ -62,7 +62,7 @@ abbrev pub ScriptCommand : List (String Global) → Option Command → Type 0
 ScriptCommand words None = AreNoScript words
 ScriptCommand words (Some (Run form)) = ⊥
 ScriptCommand words (Some (Load rows)) = ⊥
-ScriptCommand words (Some (Lower rows)) = ⊥
+ScriptCommand words (Some (Lower form)) = ⊥
 ScriptCommand words (Some Certify) = AreCertify words
 ScriptCommand words (Some Check) = AreCheck words
 ScriptCommand words (Some (Advise file)) = AreAdvise words file

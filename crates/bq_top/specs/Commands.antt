@@ -14,7 +14,7 @@ use Rattle.bq_top.specs.HelpWords.{AreHelp, AreVersion}
 abbrev pub Asks : List (String Global) → Command → Type 0
 Asks words (Run form) = AreRun words form
 Asks words (Load rows) = AreLoad words rows
-Asks words (Lower rows) = AreLower words rows
+Asks words (Lower form) = AreLower words form
 Asks words Certify = AreCertify words
 Asks words Check = AreCheck words
 Asks words (Advise file) = AreAdvise words file
@@ -26,7 +26,7 @@ Asks words Version = AreVersion words
 abbrev pub IsAllowed : Command → Type 0
 IsAllowed (Run form) = (0 < form.limit) × (form.limit ≤ 2 ^ 40)
 IsAllowed (Load rows) = (0 < rows) × (rows ≤ 100000)
-IsAllowed (Lower rows) = (0 < rows) × (rows ≤ 1000)
+IsAllowed (Lower form) = (0 < form.rows) × (form.rows ≤ 1000)
 IsAllowed Certify = ⊤
 IsAllowed Check = ⊤
 IsAllowed (Advise file) = ⊤
@@ -38,7 +38,7 @@ IsAllowed Version = ⊤
 abbrev pub names_file : Command → Bool
 names_file (Run form) = form.file
 names_file (Load rows) = false
-names_file (Lower rows) = false
+names_file (Lower form) = false
 names_file Certify = false
 names_file Check = false
 names_file (Advise file) = file
@@ -69,7 +69,7 @@ AreOther words files = (command : Command) → Asks words command → HasFile (n
 abbrev pub is_script : Command → Bool
 is_script (Run form) = false
 is_script (Load rows) = false
-is_script (Lower rows) = true
+is_script (Lower form) = true
 is_script Certify = true
 is_script Check = true
 is_script (Advise file) = true

@@ -21,7 +21,7 @@ use Rattle.bq_top.specs.Run.{DidNothing, InputSessionEnds, FileSessionEnds}
 
 -- how a command over a script ends, by the status
 abbrev pub OverScript : Status → Command → SourceState → SourceState → SinkState → SinkState → Type 0
-OverScript s (Lower rows) source source' sink sink' = certificates.CommandEnds (Lowers rows) s source source' sink sink'
+OverScript s (Lower form) source source' sink sink' = certificates.CommandEnds (Lowers form) s source source' sink sink'
 OverScript s Certify source source' sink sink' = certificates.CommandEnds Certifies s source source' sink sink'
 OverScript s Check source source' sink sink' = certificates.CommandEnds Checks s source source' sink sink'
 OverScript s (Advise file) source source' sink sink' = certificates.CommandEnds Advises s source source' sink sink'
@@ -35,7 +35,7 @@ OverScript s Version source source' sink sink' = ⊥
 abbrev pub CommandEnds : Status → Command → SourceState → SourceState → SinkState → SinkState → Type 0
 CommandEnds s (Run form) source source' sink sink' = InputSessionEnds form.each s form.limit source source' sink sink'
 CommandEnds s (Load rows) source source' sink sink' = (source' ≡ source) × LoadEnds s rows sink sink'
-CommandEnds s (Lower rows) source source' sink sink' = OverScript s (Lower rows) source source' sink sink'
+CommandEnds s (Lower form) source source' sink sink' = OverScript s (Lower form) source source' sink sink'
 CommandEnds s Certify source source' sink sink' = OverScript s Certify source source' sink sink'
 CommandEnds s Check source source' sink sink' = OverScript s Check source source' sink sink'
 CommandEnds s (Advise file) source source' sink sink' = OverScript s (Advise file) source source' sink sink'
@@ -61,7 +61,7 @@ ScriptEnds s failed command file file' input input' sink sink' = OverScript s co
 abbrev pub FileCommandEnds : Status → Bool → Command → SourceState → SourceState → SourceState → SourceState → SinkState → SinkState → Type 0
 FileCommandEnds s failed (Run form) file file' input input' sink sink' = FileSessionEnds s failed form.each form.limit file file' input input' sink sink'
 FileCommandEnds s failed (Load rows) file file' input input' sink sink' = ⊥
-FileCommandEnds s failed (Lower rows) file file' input input' sink sink' = ⊥
+FileCommandEnds s failed (Lower form) file file' input input' sink sink' = ⊥
 FileCommandEnds s failed Certify file file' input input' sink sink' = ⊥
 FileCommandEnds s failed Check file file' input input' sink sink' = ⊥
 FileCommandEnds s failed (Advise named) file file' input input' sink sink' = ScriptEnds s failed (Advise named) file file' input input' sink sink'

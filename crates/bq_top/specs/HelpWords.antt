@@ -20,7 +20,7 @@ abbrev pub HelpCommand : List (String Global) → Option Command → Type 0
 HelpCommand words None = (¬ AreHelp words) × (¬ AreVersion words)
 HelpCommand words (Some (Run form)) = ⊥
 HelpCommand words (Some (Load rows)) = ⊥
-HelpCommand words (Some (Lower rows)) = ⊥
+HelpCommand words (Some (Lower form)) = ⊥
 HelpCommand words (Some Certify) = ⊥
 HelpCommand words (Some Check) = ⊥
 HelpCommand words (Some (Advise file)) = ⊥

@@ -6,8 +6,9 @@ ghost use Rattle.bq_top.specs.Commands.{Asks, IsAllowed, NameFile, names_file};
 use crate::certificate_words::script_command;
 use crate::help_words::help_command;
 use crate::load_words::load_rows;
-use crate::lower_words::family_size;
+use crate::lower_words::lower_form;
 use crate::words::{RunForm, run_form};
+use bq_lowering::LowerForm;
 
 /// What the words ask for.
 #[derive(Clone, Copy, Debug, PartialEq, Eq)]
@@ -17,7 +18,7 @@ pub enum Command {
     /// A session over a generated script of so many rows: 1 to 100,000.
     Load(u32),
     /// A family of so many rows for the query of a script: 1 to 1,000.
-    Lower(u16),
+    Lower(LowerForm),
     /// A certificate of the query of a script.
     Certify,
     /// The check of the certificate behind a script.
@@ -41,8 +42,8 @@ pub fn command_of(words: &[String]) -> Option<Command>
         Some(form) => Some(Command::Run(form)),
         None => match load_rows(words) {
             Some(rows) => Some(Command::Load(rows)),
-            None => match family_size(words) {
-                Some(rows) => Some(Command::Lower(rows)),
+            None => match lower_form(words) {
+                Some(form) => Some(Command::Lower(form)),
                 None => match script_command(words) {
                     Some(command) => Some(command),
                     None => help_command(words),

@@ -23,8 +23,9 @@ bq certify         read a script of one query, and write it with a certificate
                    of the decision on it:    bq certify < script > certified
 bq check           read such a text, and write what its certificate shows:
                    bq certify < script | bq check
-bq lower N         read a script of one query, and write N rows that show why the
-                   query is refused:         bq lower 3 < script
+bq lower [--c3] N  read a script of one query, and write N rows that show why the
+                   query is refused; with --c3 also where that is by C3:
+                   bq lower 3 < script
 bq advise [FILE]   read a script to its end, and write what is wrong with its
                    lines, and what would mend or better its queries:
                    bq advise rooms.bq && bq run rooms.bq < rows

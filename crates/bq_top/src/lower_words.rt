@@ -1,7 +1,9 @@
 //! The words that ask for a family.
 ghost use Rattle.std.specs.Prelude.{◌≡◌, ℕ, ◌<◌, ◌≤◌, IfSome, MatchOption};
+ghost use Rattle.bq_lowering.specs.declared.form.LowerForm.{LowerForm};
 ghost use Rattle.bq_top.specs.LowerWords.{IsFamilySize, AreLower};
 
+use bq_lowering::{Families, LowerForm};
 use bq_session::{is_word, read_number};
 
 /// The most rows of a family.
@@ -25,26 +27,43 @@ fn read_family_size(text: &str) -> Option<u16>
     }
 }
 
-/// Returns how many rows a family has, where the words are `lower N`; nothing for all other words.
-pub fn family_size(words: &[String]) -> Option<u16>
-    ensures size { MatchOption result ((n : ℕ) → AreLower words.now n → ⊥) (λ n. AreLower words.now n) }
-    ensures within { IfSome result (λ n. (0 < n) × (n ≤ 1000)) }
+// What is asked for with a text as the number of rows.
+fn form_with(text: &str, families: Families) -> Option<LowerForm>
+    ensures { MatchOption result ((n : ℕ) → IsFamilySize text.now n → ⊥) (λ form. IsFamilySize text.now form.rows × (form.families ≡ families)) }
 {
-    size_of(words)
+    match read_family_size(text) {
+        Some(rows) => Some(LowerForm { rows, families }),
+        None => None,
+    }
 }
 
-// The number of rows that the words ask for.
-fn size_of(words: &[String]) -> Option<u16>
-    ensures { MatchOption result ((n : ℕ) → AreLower words.now n → ⊥) (λ n. AreLower words.now n) }
+// What the words ask for.
+fn form_of(words: &[String]) -> Option<LowerForm>
+    ensures { MatchOption result ((form : LowerForm) → AreLower words.now form → ⊥) (λ form. AreLower words.now form) }
 {
     match words {
         [lower, number] => {
             if is_word(lower, "lower") {
-                read_family_size(number.as_str())
+                form_with(number.as_str(), Families::FirstTwo)
+            } else {
+                None
+            }
+        }
+        [lower, option, number] => {
+            if is_word(lower, "lower") && is_word(option, "--c3") {
+                form_with(number.as_str(), Families::All)
             } else {
                 None
             }
         }
         _ => None,
     }
+}
+
+/// Returns what family is asked for, where the words are `lower N` or `lower --c3 N`; nothing for all other words.
+pub fn lower_form(words: &[String]) -> Option<LowerForm>
+    ensures form { MatchOption result ((form : LowerForm) → AreLower words.now form → ⊥) (λ form. AreLower words.now form) }
+    ensures within { IfSome result (λ form. (0 < form.rows) × (form.rows ≤ 1000)) }
+{
+    form_of(words)
 }

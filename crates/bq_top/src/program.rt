@@ -31,7 +31,7 @@ fn over_script<I: Source, O: Sink>(
     ensures output_later { (O.seen output.old).faults ≤ (O.seen output.new).faults }
 {
     match command {
-        Command::Lower(rows) => lower(alloc, rows, source, output),
+        Command::Lower(form) => lower(alloc, form, source, output),
         Command::Certify => certify(alloc, source, output),
         Command::Check => check_script(alloc, source, output),
         Command::Advise { file: _ } => advise_script(alloc, source, output),
@@ -113,8 +113,9 @@ fn run_command<F: Source, I: Source, O: Sink>(
 /// where a line is refused or the certificate has a fault. For `ReadFault`, `ByteLimit` and `Memory` nothing was written.
 ///
 /// `lower N` reads such a script, and writes a family of N rows for its query, 1 to 1,000, with the rows that ask for each of them: whatever set of
-/// the N rows came before, the answers to the rows that ask tell the set. Where the query has no family, one line says so. It writes when all
-/// is known, and ends with `Invalid` where a line is refused. For `ReadFault`, `ByteLimit` and `Memory` nothing was written.
+/// the N rows came before, the answers to the rows that ask tell the set. `lower --c3 N` makes families for refusals by C3, too. Where the query has no
+/// family, one line says so. It writes when all is known, and ends with `Invalid` where a line is refused. For `ReadFault`, `ByteLimit` and `Memory`
+/// nothing was written.
 ///
 /// `advise [FILE]` reads a script to its end, and takes no row into any query. It writes what is wrong with each line that a session would refuse, why
 /// a query is refused and what would mend it, what a query of several parts costs, and at the end one line with what all lines came to. It writes

@@ -13,4 +13,4 @@ returns-in-Ok-clause-reads g c = c.lower_script.ensures.reads _ c.in-Ok.ensures.
 
 pub returns-in-Err-clause-reads : goal.returns-in-Err-clause-reads
 returns-in-Err-clause-reads g c =
-    stops-early (Lowers c.args.n) (λ all number word is. lowering.early number word is refl) (needs-one c.args.n) c.in-Err.end _ _ _ c.in-Err.ensures.reads
+    stops-early (Lowers c.args.form) (λ all number word is. lowering.early number word is refl) (needs-one c.args.form) c.in-Err.end _ _ _ c.in-Err.ensures.reads

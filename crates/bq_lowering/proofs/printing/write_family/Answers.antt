@@ -1,4 +1,4 @@
-use Rattle.std.proofs.Common.{◌≡◌, ◌∙◌, List, ℕ, ap, sym, subst, arith}
+use Rattle.std.proofs.Common.{◌∙◌, List, ℕ, ap, sym, subst, arith}
 use Rattle.bq_parser.specs.Resolution.{IsColumnOf, column_named}
 use Rattle.bq_reply.proofs.Named.{violation_is_named}
 use Rattle.bq_script.specs.Script.{name_of}
