@@ -70,6 +70,10 @@ class Redis:
         except self.fault:
             return False
 
+    def is_ready(self, parts):
+        """Streams are made as they are written."""
+        return True
+
     def strike(self, random):
         """Kills the server and starts it again; half of the times it has lost the last of its file, as when its machine stops before the disk has it."""
         self.process.kill()
@@ -104,6 +108,7 @@ cluster_formation.discovery_retry_limit = 1000
 cluster_formation.classic_config.nodes.1 = bq0@localhost
 """
 CONF = """listeners.tcp.1 = 127.0.0.1:{port}
+handshake_timeout = 60000
 disk_free_limit.absolute = 50MB
 vm_memory_high_watermark.absolute = 600MB
 log.file.level = warning
@@ -136,6 +141,12 @@ class Node:
         with open(os.path.join(self.folder, "said"), "ab") as said:
             self.process = subprocess.Popen(["/usr/lib/rabbitmq/bin/rabbitmq-server"], env=self.env, stdout=said, stderr=said)
 
+    def is_there(self):
+        """Whether it listens. One that ended by itself is started again, as a service is: on a starved machine its own time limits may end its start."""
+        if self.process.poll() is not None:
+            self.start()
+        return listens(self.port)
+
     def kill(self):
         """Kills the node at once."""
         with open(os.path.join(self.folder, "pid"), encoding="ascii") as file:
@@ -165,17 +176,33 @@ class RabbitMQ:
             # one behind the other: nodes that begin together may not find each other, and then each is a broker of its own
             for node in self.nodes:
                 node.start()
-                wait_until(functools.partial(listens, node.port), f"{node.name} listens")
+                wait_until(node.is_there, f"{node.name} listens")
             self.check_joined()
         except (OSError, self.pika.exceptions.AMQPError):
             self.end()
             raise
 
+    def parameters(self, node):
+        """How a node is reached; it has a minute to open a connection, as the trials may have more work than there are cores."""
+        return self.pika.ConnectionParameters("127.0.0.1", node.port, stack_timeout=60)
+
     def check_joined(self):
         """Fails where a node has no queue that another made."""
         for number, node in enumerate(self.nodes):
-            with self.pika.BlockingConnection(self.pika.ConnectionParameters("127.0.0.1", node.port)) as connection:
+            with self.pika.BlockingConnection(self.parameters(node)) as connection:
                 connection.channel().queue_declare("joined", durable=True, passive=number > 0)
+
+    def is_ready(self, parts):
+        """Whether all queues are there. A node that is killed while it makes one may leave a queue that no node can use, so none is killed before."""
+        try:
+            with self.pika.BlockingConnection([self.parameters(node) for node in self.nodes]) as connection:
+                channel = connection.channel()
+                for number in range(parts):
+                    for name in ("rows", "answers", "state"):
+                        channel.queue_declare(f"{name}.{number}", passive=True)
+            return True
+        except self.pika.exceptions.AMQPError:
+            return False
 
     def strike(self, random):
         """Kills a node, once all are there, and starts it again; meanwhile the others go on."""
@@ -187,11 +214,11 @@ class RabbitMQ:
     def heal(self):
         """Waits until all nodes are there."""
         for node in self.nodes:
-            wait_until(functools.partial(listens, node.port), f"{node.name} listens")
+            wait_until(node.is_there, f"{node.name} listens")
 
     def channel(self):
         """A channel over a connection of its own to any node."""
-        return self.pika.BlockingConnection([self.pika.ConnectionParameters("127.0.0.1", node.port) for node in self.nodes]).channel()
+        return self.pika.BlockingConnection([self.parameters(node) for node in self.nodes]).channel()
 
     def rows_saved(self, partition):
         """How many rows the states of a partition cover; they stay where they are."""

@@ -3,6 +3,7 @@
 Each random script has a few streams and queries, accepted or not. Of each choice that is told the rows of random histories are dealt by a random
 placing of keys to a few shards, and each row's answers are compared with those of one process, as what is said of the query wants. That no choice is
 missed is judged by `tools/sharding`, which knows the rules on the text of a query: each choice that is right by them has one that is told and at most it.
+Numbers of ranges are judged by `ranges.py`.
 """
 import itertools
 import os
@@ -12,6 +13,7 @@ from types import SimpleNamespace
 
 import evaluator
 import language
+import ranges
 from common import Part, run as run_program, scaled
 
 sys.path.insert(0, os.path.join(os.path.dirname(os.path.dirname(os.path.abspath(__file__))), "tools"))
@@ -20,6 +22,7 @@ from sharding.keys import Keys, judged  # noqa: E402
 from sharding.script import Script  # noqa: E402
 
 SCRIPTS = 2_000
+RANGES = 500
 HISTORIES = 2
 ROWS = 14
 SAID = {
@@ -78,6 +81,8 @@ def told(text):
     for line in text.splitlines():
         if line.startswith("deal "):
             choices.append(Choice({name: key or None for name, key in STREAM.findall(line)}, {}))
+        elif line.startswith("    "):
+            continue
         elif line.startswith("  "):
             name, _, what = line.strip().partition(": ")
             choices[-1].said[name] = SAID[what]
@@ -190,4 +195,7 @@ def run(program, seed, scale):
     for _ in range(scaled(SCRIPTS, scale)):
         part.count("scripts")
         try_script(part, program)
+    for _ in range(scaled(RANGES, scale)):
+        part.count("wide scripts")
+        ranges.try_script(part, program)
     return part

@@ -13,3 +13,4 @@ pub mod laws;
 
 pub use grouping::{are_equal, classes};
 pub use judging::{Judgement, judge};
+pub use keys::key_at;

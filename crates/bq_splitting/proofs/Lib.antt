@@ -3,3 +3,4 @@ pub mod Progress
 pub mod Ended
 pub mod Taken
 pub mod Widths
+pub mod Known

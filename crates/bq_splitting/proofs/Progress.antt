@@ -40,15 +40,15 @@ begins source reader s new first = record {
 counts-as : (s t u : State) → t ≡ u → u.lines ≡ s.lines + 1 → t.lines ≡ s.lines + 1
 counts-as s t u e f = ap (λ (z : State). z.lines) e ∙ f
 
-lines-query : (s t : State) (name : List ℕ) (q : QueryValue) → TakesQuery s name q t → t.lines ≡ s.lines + 1
-lines-query s t name q (many h e) = counts-as s t _ e refl
-lines-query s t name q (live k f h e) = counts-as s t _ e refl
+lines-query : (s t : State) (name : List ℕ) (q : QueryValue) (shared : Bool) → TakesQuery s name q shared t → t.lines ≡ s.lines + 1
+lines-query s t name q shared (many h e) = counts-as s t _ e refl
+lines-query s t name q shared (live k f g h e) = counts-as s t _ e refl
 
 lines-asks : (s t : State) (a : Asks) → TakesAsks s a t → t.lines ≡ s.lines + 1
 lines-asks s t asks.Nothing e = counts-as s t _ e refl
 lines-asks s t asks.Row e = counts-as s t _ e refl
 lines-asks s t (asks.Stream name columns) e = counts-as s t _ e refl
-lines-asks s t (asks.Query name q shared) h = lines-query s t name q h
+lines-asks s t (asks.Query name q shared) h = lines-query s t name q shared h
 lines-asks s t asks.Explain e = counts-as s t _ e refl
 lines-asks s t (asks.Drop name) e = counts-as s t _ e refl
 lines-asks s t asks.Other e = counts-as s t _ e refl

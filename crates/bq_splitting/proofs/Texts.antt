@@ -1,5 +1,5 @@
 -- Texts that are written one behind another.
-use Rattle.std.proofs.Common.{◌≡◌, ℕ, ◌+◌, ◌-◌, ◌<◌, ◌≤◌, List, [], ◌∷◌, ◌++◌, length, take, drop, get_or, refl, sym, ap, ◌∙◌, subst, arith}
+use Rattle.std.proofs.Common.{◌≡◌, ℕ, ◌+◌, ◌-◌, ◌<◌, ◌≤◌, List, [], ◌∷◌, ◌++◌, length, take, drop, get_or, Option, refl, sym, ap, ◌∙◌, subst, arith}
 use Rattle.std.specs.declared.result.Result.{Result}
 use Rattle.std.specs.List.{flat_map, range_with_len}
 use Rattle.std.proofs.lemmas.List.{take_rest}
@@ -9,7 +9,8 @@ use Rattle.bq_io.proofs.Writing.{BrokeOff-at}
 use Rattle.bq_explain.proofs.Writers.{item_wrote, all_wrote}
 use Rattle.bq_print.proofs.WritesBehind.{writes_then}
 use Rattle.bq_split.specs.declared.judging.Judgement.{Judgement}
-use Rattle.bq_splitting.specs.Text.{query_text, judgement_text, queries_text}
+use Rattle.bq_ranges.specs.declared.ranges.Ranges.{Ranges}
+use Rattle.bq_splitting.specs.Text.{one_query_text, queries_text}
 
 -- a text was written, and then a second one
 pub writes_behind : {T E : Type 0} (r : Result T E) (a b c : SinkState) (s t : List ℕ) → Wrote a b s → Writes r b c t → Writes r a c (s ++ t)
@@ -33,10 +34,14 @@ pub numbers-wrote : (f : ℕ → List ℕ) (n i : ℕ) (a b : SinkState) → n �
 numbers-wrote f n i a b l p = all_wrote f (range_with_len 0 n) i a b (let e : length (range_with_len 0 n) ≡ n = length-range_with_len 0 n in omega (arith, l, e)) p
 
 -- the text of the first query, and then those of the others
-pub queries-first : (names : List (List ℕ)) (hows : List Judgement) (b name : List ℕ) (d : Judgement) → 1 ≤ length names → b ≡ name → name ≡ get_or names 0 name → 1 ≤ length hows
-    → queries_text names hows ≡ query_text b (judgement_text (get_or hows 0 d)) ++ queries_text (take (length names - 1) (drop 1 names)) (take (length hows - 1) (drop 1 hows))
-queries-first [] hows b name d l e f m = absurd (omega (arith, l))
-queries-first (x ∷ xs) [] b name d l e f m = absurd (omega (arith, m))
-queries-first (x ∷ xs) (h ∷ hs) b name d l e f m =
-    ap (λ (z : List ℕ). query_text z (judgement_text h) ++ queries_text xs hs) (sym (e ∙ f)) ∙ ap (λ (zs : List (List ℕ)). query_text b (judgement_text h) ++ queries_text zs hs) (sym (take_rest (x ∷ xs) 1))
-    ∙ ap (λ (zs : List Judgement). query_text b (judgement_text h) ++ queries_text (take (length (x ∷ xs) - 1) (drop 1 (x ∷ xs))) zs) (sym (take_rest (h ∷ hs) 1))
+pub queries-first : (names : List (List ℕ)) (hows : List Judgement) (ranges : List (Option Ranges)) (b name : List ℕ) (d : Judgement) (r : Option Ranges) → 1 ≤ length names → b ≡ name → name ≡ get_or names 0 name
+    → 1 ≤ length hows → 1 ≤ length ranges
+    → queries_text names hows ranges
+    ≡ one_query_text b (get_or hows 0 d) (get_or ranges 0 r) ++ queries_text (take (length names - 1) (drop 1 names)) (take (length hows - 1) (drop 1 hows)) (take (length ranges - 1) (drop 1 ranges))
+queries-first [] hows ranges b name d r l e f m n = absurd (omega (arith, l))
+queries-first (x ∷ xs) [] ranges b name d r l e f m n = absurd (omega (arith, m))
+queries-first (x ∷ xs) (h ∷ hs) [] b name d r l e f m n = absurd (omega (arith, n))
+queries-first (x ∷ xs) (h ∷ hs) (g ∷ gs) b name d r l e f m n =
+    ap (λ (z : List ℕ). one_query_text z h g ++ queries_text xs hs gs) (sym (e ∙ f)) ∙ ap (λ (zs : List (List ℕ)). one_query_text b h g ++ queries_text zs hs gs) (sym (take_rest (x ∷ xs) 1))
+    ∙ ap (λ (zs : List Judgement). one_query_text b h g ++ queries_text (take (length (x ∷ xs) - 1) (drop 1 (x ∷ xs))) zs gs) (sym (take_rest (h ∷ hs) 1))
+    ∙ ap (λ (zs : List (Option Ranges)). one_query_text b h g ++ queries_text (take (length (x ∷ xs) - 1) (drop 1 (x ∷ xs))) (take (length (h ∷ hs) - 1) (drop 1 (h ∷ hs))) zs) (sym (take_rest (g ∷ gs) 1))

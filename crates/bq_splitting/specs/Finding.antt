@@ -1,5 +1,5 @@
 -- What is found for the streams and queries of a script.
-use Rattle.std.specs.Prelude.{◌≡◌, ℕ, ◌-◌, List, [], length, take}
+use Rattle.std.specs.Prelude.{◌≡◌, ℕ, ◌-◌, List, [], length, take, Option}
 use Rattle.std.specs.List.{AllZip}
 use Rattle.bq_split.specs.declared.judging.Judgement.{Judgement}
 use Rattle.bq_split.specs.Judged.{IsJudged}
@@ -7,6 +7,8 @@ use Rattle.bq_choices.specs.declared.choice.Choice.{Choice}
 use Rattle.bq_choices.specs.declared.choice.KeyedQuery.{KeyedQuery}
 use Rattle.bq_choices.specs.Choices.{keys_in, AreLeast}
 use Rattle.bq_choices.specs.Counting.{HasManyChoices}
+use Rattle.bq_ranges.specs.declared.ranges.Ranges.{Ranges}
+use Rattle.bq_ranges.specs.Ranges.{AreRanges}
 use Rattle.bq_splitting.specs.declared.told.ToldChoice.{ToldChoice}
 use Rattle.bq_splitting.specs.declared.finding.Finding.{Finding}
 use Rattle.bq_splitting.specs.declared.finding.Finding.TheVariants.{NoStream, Many, Least}
@@ -16,10 +18,15 @@ use Rattle.bq_splitting.specs.State.{State, widths_of}
 abbrev pub AreJudged : List KeyedQuery → Choice → List Judgement → Type 0
 AreJudged queries c judgements = AllZip (λ k how. IsJudged k.query (keys_in c) how) queries judgements
 
--- the choice is told, with how the shards answer each query under it
+-- of each query that a limit refuses the least number of ranges of its keys with which it is accepted in each
+abbrev pub AreRangesOf : List KeyedQuery → Choice → List (Option Ranges) → Type 0
+AreRangesOf queries c ranges = AllZip (λ k r. AreRanges k.shared k.query (keys_in c) r) queries ranges
+
+-- the choice is told, with how the shards answer each query under it, and with these numbers
 pub record IsTold (queries : List KeyedQuery) (c : Choice) (t : ToldChoice) : Type 0 where
   pub choice : t.choice ≡ c
   pub judged : AreJudged queries c t.judgements.items
+  pub ranges : AreRangesOf queries c t.ranges.items
 
 -- the first 16 of the least choices are told, and how many more there are
 pub record TellsLeast (s : State) (told : List ToldChoice) (more : ℕ) : Type 0 where

@@ -1,4 +1,5 @@
 pub mod State
+pub mod Limited
 pub mod Steps
 pub mod Splitting
 pub mod Finding

@@ -7,8 +7,8 @@ use Rattle.bq_schema.specs.Streams.{Shape, with_stream}
 use Rattle.bq_choices.specs.declared.choice.KeyedQuery.{KeyedQuery}
 use Rattle.bq_splitting.specs.declared.state.Stop.{Stop}
 
--- The streams; the names of the live queries, in the order of their lines, and the queries with the classes of their columns; how many lines were
--- read; and the first line that is refused, if one is.
+-- The streams; the names of the live queries, in the order of their lines, and the queries with the classes of their columns and the limits that refuse
+-- them; how many lines were read; and the first line that is refused, if one is.
 pub record State : Type 0 where
   pub streams : List Shape
   pub names : List (List ℕ)

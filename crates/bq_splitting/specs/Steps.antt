@@ -10,18 +10,19 @@ use Rattle.bq_diagnosis.specs.declared.fault.Asks.{Asks}
 use Rattle.bq_diagnosis.specs.declared.fault.Asks.TheVariants as asks
 use Rattle.bq_diagnosis.specs.Asked.{IsAsked}
 use Rattle.bq_choices.specs.declared.choice.KeyedQuery.{KeyedQuery}
-use Rattle.bq_choices.specs.Choices.{IsKeyed}
+use Rattle.bq_splitting.specs.Limited.{IsKnown}
 use Rattle.bq_splitting.specs.State.{State, empty, one_line_more, stopped, one_stream_more, one_query_more, one_query_less}
 
--- A query that is asked for: it has more than 4,096 parts, and its line is refused; or it is live, with the classes of its columns.
-pub data TakesQuery (s : State) (name : List ℕ) (q : QueryValue) (t : State) : Type 0 where
-  many : HasMoreParts q 4096 → t ≡ stopped s Limit → TakesQuery s name q t
-  live : (keyed : KeyedQuery) → keyed.query ≡ q → IsKeyed keyed → t ≡ one_query_more s name keyed → TakesQuery s name q t
+-- A query that is asked for, with shared cells or without: it has more than 4,096 parts, and its line is refused; or it is live, with the classes of its
+-- columns and the limit that refuses it.
+pub data TakesQuery (s : State) (name : List ℕ) (q : QueryValue) (shared : Bool) (t : State) : Type 0 where
+  many : HasMoreParts q 4096 → t ≡ stopped s Limit → TakesQuery s name q shared t
+  live : (keyed : KeyedQuery) → keyed.query ≡ q → keyed.shared ≡ shared → IsKnown keyed → t ≡ one_query_more s name keyed → TakesQuery s name q shared t
 
 -- a line that asks for this; what asks for no stream and no query changes nothing
 abbrev pub TakesAsks : State → Asks → State → Type 0
 TakesAsks s (asks.Stream name columns) t = t ≡ one_stream_more s (record { name = name; columns = columns.items })
-TakesAsks s (asks.Query name q shared) t = TakesQuery s name q t
+TakesAsks s (asks.Query name q shared) t = TakesQuery s name q shared t
 TakesAsks s (asks.Drop name) t = t ≡ one_query_less s name
 TakesAsks s asks.Nothing t = t ≡ one_line_more s
 TakesAsks s asks.Row t = t ≡ one_line_more s

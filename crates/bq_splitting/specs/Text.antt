@@ -1,16 +1,21 @@
 -- The text of what is found.
 use Rattle.std.specs.Prelude.{ℕ, nat_eq, if◌then◌else◌, List, [], ◌∷◌, ◌++◌, length, codes, decimal}
 use Rattle.std.specs.List.{flat_map, range_with_len}
+use Rattle.std.specs.Fmt.{signed_decimal}
 use Rattle.std.specs.declared.option.Option.{Option}
 use Rattle.std.specs.declared.option.Option.TheVariants.{None, Some}
 use Rattle.bq_schema.specs.Streams.{Shape, shape_at, column_at}
+use Rattle.bq_reply.specs.Texts.{which_text}
 use Rattle.bq_split.specs.declared.judging.Judgement.{Judgement}
 use Rattle.bq_split.specs.declared.judging.Judgement.TheVariants.{Apart, Deduped, Home, Torn}
 use Rattle.bq_choices.specs.declared.choice.Choice.{Choice}
 use Rattle.bq_choices.specs.Choices.{keys_in}
+use Rattle.bq_ranges.specs.declared.ranges.Ranges.{Ranges}
+use Rattle.bq_ranges.specs.declared.searching.Least.{Least}
+use Rattle.bq_ranges.specs.declared.searching.Least.TheVariants.{Number, NoneUpTo}
 use Rattle.bq_splitting.specs.declared.told.ToldChoice.{ToldChoice}
 use Rattle.bq_splitting.specs.declared.finding.Finding.{Finding}
-use Rattle.bq_splitting.specs.declared.finding.Finding.TheVariants.{NoStream, Many, Least}
+use Rattle.bq_splitting.specs.declared.finding.Finding.TheVariants as finding
 
 -- what stands before a stream
 abbrev pub lead : ℕ → List ℕ
@@ -48,15 +53,42 @@ judgement_text Torn = codes ": rows that belong together may be in different sha
 abbrev pub query_text : List ℕ → List ℕ → List ℕ
 query_text name what = codes "  " ++ (name ++ (what ++ []))
 
+-- what stands before the number of ranges, and the number
+abbrev pub least_lead : Least → List ℕ
+least_lead (Number k) = []
+least_lead (NoneUpTo m) = codes "none up to "
+
+abbrev pub least_number : Least → ℕ
+least_number (Number k) = k
+least_number (NoneUpTo m) = m
+
+-- the line of ranges, as `    refused limit cells; ranges of 1..1000000 with which it is accepted in each: 16`
+unfoldable pub ranges_line : List ℕ → List ℕ → List ℕ → List ℕ → List ℕ → List ℕ
+ranges_line which lo hi lead number =
+    codes "    refused limit " ++ (which ++ (codes "; ranges of " ++ (lo ++ (codes ".." ++ (hi ++ (codes " with which it is accepted in each: " ++ (lead ++ (number ++ (10 ∷ [])))))))))
+
+abbrev pub some_ranges_text : Ranges → List ℕ
+some_ranges_text r = ranges_line (which_text r.which) (signed_decimal r.ends.lo) (signed_decimal r.ends.hi) (least_lead r.least) (decimal (least_number r.least))
+
+-- nothing where there is nothing to say
+abbrev pub ranges_text : Option Ranges → List ℕ
+ranges_text None = []
+ranges_text (Some r) = some_ranges_text r
+
+-- a query, and its ranges
+abbrev pub one_query_text : List ℕ → Judgement → Option Ranges → List ℕ
+one_query_text name how ranges = query_text name (judgement_text how) ++ ranges_text ranges
+
 -- the queries, in the order of their lines
-abbrev pub queries_text : List (List ℕ) → List Judgement → List ℕ
-queries_text [] judgements = []
-queries_text (name ∷ names) [] = []
-queries_text (name ∷ names) (how ∷ others) = query_text name (judgement_text how) ++ queries_text names others
+abbrev pub queries_text : List (List ℕ) → List Judgement → List (Option Ranges) → List ℕ
+queries_text [] judgements ranges = []
+queries_text (name ∷ names) [] ranges = []
+queries_text (name ∷ names) (how ∷ others) [] = []
+queries_text (name ∷ names) (how ∷ others) (r ∷ ranges) = one_query_text name how r ++ queries_text names others ranges
 
 -- a choice, and its queries
 abbrev pub choice_text : List Shape → List (List ℕ) → ToldChoice → List ℕ
-choice_text streams names t = deal_text streams t.choice ++ (10 ∷ queries_text names t.judgements.items)
+choice_text streams names t = deal_text streams t.choice ++ (10 ∷ queries_text names t.judgements.items t.ranges.items)
 
 -- how many choices more there are
 abbrev pub more_text : ℕ → List ℕ
@@ -64,6 +96,6 @@ more_text more = if nat_eq more 0 then [] else decimal more ++ (codes " choices 
 
 -- what is found
 abbrev pub finding_text : List Shape → List (List ℕ) → Finding → List ℕ
-finding_text streams names NoStream = codes "the script creates no stream\n"
-finding_text streams names Many = codes "the streams have more than 1048576 choices of keys, too many to look at\n"
-finding_text streams names (Least told more) = flat_map (choice_text streams names) told.items ++ more_text more
+finding_text streams names finding.NoStream = codes "the script creates no stream\n"
+finding_text streams names finding.Many = codes "the streams have more than 1048576 choices of keys, too many to look at\n"
+finding_text streams names (finding.Least told more) = flat_map (choice_text streams names) told.items ++ more_text more

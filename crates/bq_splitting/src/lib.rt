@@ -8,6 +8,7 @@ mod command;
 mod finding;
 mod lines;
 mod printing;
+mod ranges;
 mod reading;
 mod state;
 mod taking;

@@ -6,9 +6,11 @@ ghost use Rattle.bq_splitting.specs.Text as text;
 
 use crate::finding::{Finding, Found};
 use crate::lines::{write_query, write_stream};
+use crate::ranges::write_ranges;
 use crate::told::ToldChoice;
 use bq_choices::Choice;
 use bq_io::{Sink, WriteFault, write_all, write_pieces};
+use bq_ranges::Ranges;
 use bq_schema::Catalog;
 use bq_split::Judgement;
 use bq_text::Name;
@@ -27,21 +29,40 @@ fn write_deal<O: Sink>(out: &mut O, catalog: &Catalog, choice: &Choice) -> Resul
     Ok(())
 }
 
+// A query, how its shards answer, and what is said of its ranges.
+fn write_one<O: Sink>(
+    out: &mut O,
+    name: &[u8],
+    how: Judgement,
+    ranges: &Option<Ranges>,
+) -> Result<(), WriteFault>
+    ensures { Writes result (O.seen out.old) (O.seen out.new) (text.one_query_text name.now how ranges.now) }
+{
+    match write_query(out, name, how) {
+        Ok(()) => write_ranges(out, ranges),
+        Err(fault) => Err(fault),
+    }
+}
+
 // The queries, in the order of their lines.
 fn write_queries<O: Sink>(
     out: &mut O,
     names: &[Name],
     judgements: &[Judgement],
+    ranges: &[Option<Ranges>],
 ) -> Result<(), WriteFault>
-    ensures { Writes result (O.seen out.old) (O.seen out.new) (text.queries_text names.now judgements.now) }
+    ensures { Writes result (O.seen out.old) (O.seen out.new) (text.queries_text names.now judgements.now ranges.now) }
 {
     match names {
         [] => Ok(()),
         [name, other_names @ ..] => match judgements {
             [] => Ok(()),
-            [how, others @ ..] => match write_query(out, name.bytes(), *how) {
-                Ok(()) => write_queries(out, other_names, others),
-                Err(fault) => Err(fault),
+            [how, others @ ..] => match ranges {
+                [] => Ok(()),
+                [first, other_ranges @ ..] => match write_one(out, name.bytes(), *how, first) {
+                    Ok(()) => write_queries(out, other_names, others, other_ranges),
+                    Err(fault) => Err(fault),
+                },
             },
         },
     }
@@ -52,16 +73,17 @@ fn write_rest<O: Sink>(
     out: &mut O,
     names: &[Name],
     judgements: &[Judgement],
+    ranges: &[Option<Ranges>],
 ) -> Result<(), WriteFault>
-    ensures { Writes result (O.seen out.old) (O.seen out.new) (10 ∷ text.queries_text names.now judgements.now) }
+    ensures { Writes result (O.seen out.old) (O.seen out.new) (10 ∷ text.queries_text names.now judgements.now ranges.now) }
 {
     match write_all(out, b"\n") {
-        Ok(()) => write_queries(out, names, judgements),
+        Ok(()) => write_queries(out, names, judgements, ranges),
         Err(fault) => Err(fault),
     }
 }
 
-// A choice, and how the shards answer each query under it.
+// A choice, how the shards answer each query under it, and what is said of its ranges.
 #[tactic(auto, using(crate::proofs::Texts::writes_behind))]
 fn write_choice<O: Sink>(
     out: &mut O,
@@ -72,7 +94,12 @@ fn write_choice<O: Sink>(
     ensures { Writes result (O.seen out.old) (O.seen out.new) (text.choice_text catalog.now names.now told.now) }
 {
     match write_deal(out, catalog, &told.choice) {
-        Ok(()) => write_rest(out, names, told.judgements.as_slice()),
+        Ok(()) => write_rest(
+            out,
+            names,
+            told.judgements.as_slice(),
+            told.ranges.as_slice(),
+        ),
         Err(fault) => Err(fault),
     }
 }

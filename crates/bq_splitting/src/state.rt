@@ -1,9 +1,10 @@
 //! The streams and the live queries that the lines of a script have made.
-ghost use Rattle.std.specs.Prelude.{◌≡◌, ◌<◌, ◌≤◌, ◌-◌, ◌^◌, All, IfOk, OnOk, length};
+ghost use Rattle.std.specs.Prelude.{◌≡◌, ◌<◌, ◌≤◌, ◌-◌, ◌^◌, ◌++◌, ◌∷◌, [], All, IfOk, OnOk, OnErr, length};
 ghost use Rattle.std.specs.List.{position};
 ghost use Rattle.std.specs.Str.{bytes_eq};
 ghost use Rattle.bq_schema.specs.Streams.{HasEnds};
 ghost use Rattle.bq_choices.specs.Choices.{IsKeyed};
+ghost use Rattle.bq_splitting.specs.Limited.{IsLimited, IsKnown};
 ghost use Rattle.bq_splitting.specs.State.{empty, one_line_more, stopped, one_stream_more, one_query_more, one_query_less};
 
 use bq_choices::KeyedQuery;
@@ -20,8 +21,8 @@ pub struct Stop {
     pub word: Refusal,
 }
 
-/// What the lines so far have made: the streams, and the live queries by their names, each with the classes of its columns; and the first line that
-/// is refused, if one is.
+/// What the lines so far have made: the streams, and the live queries by their names, each with the classes of its columns and the limit that refuses
+/// it; and the first line that is refused, if one is.
 #[derive(Drop)]
 pub struct Splitting {
     catalog: Catalog,
@@ -33,14 +34,14 @@ pub struct Splitting {
 
 impl Model for Splitting {
     ghost use Rattle.std.specs.Prelude.{◌≡◌, All, length};
-    ghost use Rattle.bq_choices.specs.Choices.{IsKeyed};
+    ghost use Rattle.bq_splitting.specs.Limited.{IsKnown};
     ghost use Rattle.bq_splitting.specs.State.{State};
 
     ghost Value = { State };
 
     ghost view = { λ s. record { streams = s.catalog; names = s.names.items; queries = s.queries.items; lines = s.lines; stop = s.stop } };
 
-    ghost invariant = { λ s. (length s.names.items ≡ length s.queries.items) × All IsKeyed s.queries.items };
+    ghost invariant = { λ s. (length s.names.items ≡ length s.queries.items) × All IsKnown s.queries.items };
 }
 
 // The place of the first name that is this one.
@@ -48,6 +49,17 @@ fn place_of(names: &[Name], name: &Name) -> Option<usize>
     ensures { result ≡ position (λ other. bytes_eq other name.now) names.now }
 {
     names.iter().position(|other| *other == *name)
+}
+
+// Puts a query behind others. Where no memory is found the list stays as it is.
+fn push_query(list: &mut Vec<KeyedQuery>, keyed: KeyedQuery) -> Result<(), AllocError>
+    ensures pushed { OnOk result (list.new.items ≡ list.old.items ++ keyed ∷ []) }
+    ensures same { OnErr result (list.new.items ≡ list.old.items) }
+{
+    match list.push(keyed) {
+        Ok(()) => Ok(()),
+        Err(_) => Err(AllocError),
+    }
 }
 
 impl Splitting {
@@ -78,10 +90,11 @@ impl Splitting {
         self.names.as_slice()
     }
 
-    /// Returns the live queries, each with the classes of its columns.
+    /// Returns the live queries, each with the classes of its columns and the limit that refuses it.
     pub fn queries(&self) -> &[KeyedQuery]
         ensures queries { result.now ≡ self.now.queries }
         ensures keyed { All IsKeyed result.now }
+        ensures limited { All IsLimited result.now }
     {
         self.queries.as_slice()
     }
@@ -127,21 +140,26 @@ impl Splitting {
     }
 
     /// Takes a query among the live ones, behind the others, and counts its line.
+    #[tactic(auto, using(crate::proofs::Known::known_more))]
     pub fn add_query(&mut self, name: Name, keyed: KeyedQuery) -> Result<(), AllocError>
         requires lines { self.old.lines < 2 ^ 64 - 1 }
-        requires keyed { IsKeyed keyed }
+        requires known { IsKnown keyed }
         ensures { OnOk result (self.new ≡ one_query_more self.old name keyed) }
     {
         if self.names.push(name).is_err() {
             return Err(AllocError);
         }
-        if self.queries.push(keyed).is_err() {
-            // The two lists stay as long as each other.
-            self.names.pop();
-            return Err(AllocError);
+        match push_query(&mut self.queries, keyed) {
+            Ok(()) => {
+                self.lines += 1;
+                Ok(())
+            }
+            Err(fault) => {
+                // The two lists stay as long as each other.
+                self.names.pop();
+                Err(fault)
+            }
         }
-        self.lines += 1;
-        Ok(())
     }
 
     /// Takes the first live query of a name out of the live ones, where there is one, and counts the line.

@@ -1,32 +1,64 @@
 //! Lines of a script, taken one after another.
 ghost use Rattle.std.specs.Prelude.{◌≡◌, ◌<◌, ◌≤◌, ◌-◌, ◌^◌, None, true, [], IfOk, OnOk, length};
+ghost use Rattle.std.specs.List.{AllZip};
+ghost use Rattle.bq_model.specs.Query.{attrs_of};
 ghost use Rattle.bq_model.specs.Parts.{HasMoreParts};
+ghost use Rattle.bq_split.specs.Equal.{NamesClass};
 ghost use Rattle.bq_lto_split.specs.Split.{OnTooMany};
 ghost use Rattle.bq_diagnosis.specs.Faults.{IsDiagnosis, IsReady};
-ghost use Rattle.bq_choices.specs.Choices.{IsKeyed};
+ghost use Rattle.bq_splitting.specs.Limited.{IsKnown};
 ghost use Rattle.bq_splitting.specs.State.{stopped};
 ghost use Rattle.bq_splitting.specs.Steps.{TakesQuery, TakesAsks, TakesLine, TakesGiven};
 
 use crate::state::Splitting;
+use arrayvec::ArrayVec;
 use bq_choices::KeyedQuery;
 use bq_diagnosis::{Asks, Fault, Known, diagnose, word_of};
 use bq_lto_split::{SplitError, split};
 use bq_model::Query;
+use bq_ranges::limit_of;
 use bq_reply::Refusal;
 use bq_split::classes;
 use bq_text::Name;
 use std::alloc::{AllocError, Global};
 
-// A query with the classes of its columns.
-fn keyed_query(alloc: Global, query: Query) -> Result<KeyedQuery, SplitError>
+// A query with the classes of its columns, and the limit that refuses it.
+fn with_limit(
+    alloc: Global,
+    query: Query,
+    shared: bool,
+    classes: ArrayVec<u8, 12>,
+) -> Result<KeyedQuery, AllocError>
+    requires { AllZip (NamesClass query) (attrs_of query.atoms) classes.items }
     ensures query { IfOk result (λ keyed. keyed.query ≡ query) }
-    ensures keyed { IfOk result IsKeyed }
+    ensures shared { IfOk result (λ keyed. keyed.shared ≡ shared) }
+    ensures known { IfOk result IsKnown }
+{
+    match limit_of(alloc, &query, shared) {
+        Ok(limit) => Ok(KeyedQuery {
+            query,
+            classes,
+            shared,
+            limit,
+        }),
+        Err(fault) => Err(fault),
+    }
+}
+
+// A query with the classes of its columns, and the limit that refuses it, where it has no more than 4,096 parts.
+fn keyed_query(alloc: Global, query: Query, shared: bool) -> Result<KeyedQuery, SplitError>
+    ensures query { IfOk result (λ keyed. keyed.query ≡ query) }
+    ensures shared { IfOk result (λ keyed. keyed.shared ≡ shared) }
+    ensures known { IfOk result IsKnown }
     ensures over { OnTooMany result (HasMoreParts query 4096) }
 {
     match split(alloc, &query) {
         Ok(parts) => {
             let classes = classes(&query, parts.as_slice());
-            Ok(KeyedQuery { query, classes })
+            match with_limit(alloc, query, shared, classes) {
+                Ok(keyed) => Ok(keyed),
+                Err(_) => Err(SplitError::Memory),
+            }
         }
         Err(error) => Err(error),
     }
@@ -38,11 +70,12 @@ fn take_query(
     state: &mut Splitting,
     name: Name,
     query: Query,
+    shared: bool,
 ) -> Result<(), AllocError>
     requires { state.old.lines < 2 ^ 64 - 1 }
-    ensures { OnOk result (TakesQuery state.old name query state.new) }
+    ensures { OnOk result (TakesQuery state.old name query shared state.new) }
 {
-    match keyed_query(alloc, query) {
+    match keyed_query(alloc, query, shared) {
         Ok(keyed) => state.add_query(name, keyed),
         Err(SplitError::TooManyParts) => {
             state.stop_at(Refusal::Limit);
@@ -59,7 +92,11 @@ fn take_asks(alloc: Global, state: &mut Splitting, asks: Asks) -> Result<(), All
     ensures { OnOk result (TakesAsks state.old asks state.new) }
 {
     match asks {
-        Asks::Query { name, query, .. } => take_query(alloc, state, name, query),
+        Asks::Query {
+            name,
+            query,
+            shared,
+        } => take_query(alloc, state, name, query, shared),
         Asks::Stream { name, columns } => {
             state.add_stream(name, columns.as_slice());
             Ok(())

@@ -3,17 +3,22 @@ ghost use Rattle.std.specs.Prelude.{◌≡◌, ◌++◌, ◌∷◌, [], All, IfO
 ghost use Rattle.std.specs.List.{AllZip};
 ghost use Rattle.bq_split.specs.Judged.{IsJudged};
 ghost use Rattle.bq_choices.specs.Choices.{IsKeyed, keys_in};
-ghost use Rattle.bq_splitting.specs.Finding.{AreJudged, IsTold};
+ghost use Rattle.bq_ranges.specs.Ranges.{AreRanges};
+ghost use Rattle.bq_splitting.specs.Limited.{IsLimited};
+ghost use Rattle.bq_splitting.specs.Finding.{AreJudged, AreRangesOf, IsTold};
 
 use bq_choices::{Choice, KeyedQuery};
+use bq_ranges::{Ranges, ranges_for};
 use bq_split::{Judgement, judge};
 use std::alloc::{AllocError, Global};
 
-/// A choice, with how the shards answer each query under it.
+/// A choice, with how the shards answer each query under it, and of each query that a limit refuses and whose keys have domains the least number of
+/// ranges.
 #[derive(Drop)]
 pub struct ToldChoice {
     pub choice: Choice,
     pub judgements: Vec<Judgement>,
+    pub ranges: Vec<Option<Ranges>>,
 }
 
 // How the shards answer a query under a choice.
@@ -50,13 +55,54 @@ fn judgements_of(
     Ok(judgements)
 }
 
-// A choice, with how the shards answer each query under it.
+// What is said of the ranges of a query under a choice.
+fn ranges_of(alloc: Global, k: &KeyedQuery, choice: &Choice) -> Result<Option<Ranges>, AllocError>
+    requires { IsLimited k.now }
+    ensures { IfOk result (AreRanges k.now.shared k.now.query (keys_in choice.now)) }
+{
+    ranges_for(alloc, &k.query, k.shared, k.limit, &choice.keys)
+}
+
+// Puts what is said of ranges behind others.
+fn push_ranges(list: &mut Vec<Option<Ranges>>, ranges: Option<Ranges>) -> Result<(), AllocError>
+    ensures { OnOk result (list.new.items ≡ list.old.items ++ ranges ∷ []) }
+{
+    match list.push(ranges) {
+        Ok(()) => Ok(()),
+        Err(_) => Err(AllocError),
+    }
+}
+
+// What is said of the ranges of each query under a choice.
+fn all_ranges(
+    alloc: Global,
+    queries: &[KeyedQuery],
+    choice: &Choice,
+) -> Result<Vec<Option<Ranges>>, AllocError>
+    requires { All IsLimited queries.now }
+    ensures { IfOk result (λ list. AreRangesOf queries.now choice.now list.items) }
+{
+    let mut list = Vec::new(alloc);
+    for i in 0..queries.len() {
+        let ranges = ranges_of(alloc, &queries[i], choice)?;
+        push_ranges(&mut list, ranges)?;
+    }
+    Ok(list)
+}
+
+// A choice, with how the shards answer each query under it, and what is said of its ranges.
 fn tell(alloc: Global, queries: &[KeyedQuery], choice: Choice) -> Result<ToldChoice, AllocError>
-    requires { All IsKeyed queries.now }
+    requires keyed { All IsKeyed queries.now }
+    requires limited { All IsLimited queries.now }
     ensures { IfOk result (IsTold queries.now choice) }
 {
     let judgements = judgements_of(alloc, queries, &choice)?;
-    Ok(ToldChoice { choice, judgements })
+    let ranges = all_ranges(alloc, queries, &choice)?;
+    Ok(ToldChoice {
+        choice,
+        judgements,
+        ranges,
+    })
 }
 
 // Puts a choice that is told behind others.
@@ -69,13 +115,15 @@ fn push_told(list: &mut Vec<ToldChoice>, told: ToldChoice) -> Result<(), AllocEr
     }
 }
 
-/// Returns some choices, each with how the shards answer each query under it.
+/// Returns some choices, each with how the shards answer each query under it, and of each query that a limit refuses the least number of ranges.
+/// `AllocError` where no memory is found.
 pub fn tell_each(
     alloc: Global,
     queries: &[KeyedQuery],
     choices: &[Choice],
 ) -> Result<Vec<ToldChoice>, AllocError>
-    requires { All IsKeyed queries.now }
+    requires keyed { All IsKeyed queries.now }
+    requires limited { All IsLimited queries.now }
     ensures { IfOk result (λ told. AllZip (IsTold queries.now) choices.now told.items) }
 {
     let mut told = Vec::new(alloc);

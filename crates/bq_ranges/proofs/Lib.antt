@@ -1,0 +1,9 @@
+pub mod Cuts
+pub mod Ends
+pub mod Verdicts
+pub mod KeyRanges
+pub mod Domains
+pub mod Searched
+pub mod Said
+pub mod Ranged
+pub mod Found
