@@ -60,14 +60,14 @@ column_of : {a b : Attr} → element.Attr a ≡ element.Attr b → a ≡ b
 column_of {a} {b} f = cc
 
 module _ (q : QueryValue) (links : List Atom) (are : AreLinks q links) where
-  abbrev IsNamed : Element → Type 0
+  abbrev pub IsNamed : Element → Type 0
   IsNamed e = (a : Attr) → e ≡ element.Attr a → Has (attrs_of q.atoms) a
 
   named_side : (e : Element) → HasElement (attrs_of q.atoms) (consts_of q.atoms) e → IsNamed e
   named_side (element.Attr b) h a f = subst (Has (attrs_of q.atoms)) (column_of f) h
   named_side (element.Const k) h a f = absurd cc
 
-  link_named : (t : Atom) → Has links t → IsNamed t.left × IsNamed t.right
+  pub link_named : (t : Atom) → Has links t → IsNamed t.left × IsNamed t.right
   link_named t h =
       let r : (u : Atom) × Has (filter (λ t. are_across t.left t.right) q.atoms) u × (turned_by u.op u.left u.right ≡ t)
       = Has-map_from (λ t. turned_by t.op t.left t.right) (filter (λ t. are_across t.left t.right) q.atoms) t (once_from (between_streams q.atoms) t (thins_among (system q) [] (across q.atoms) links are t h)) in

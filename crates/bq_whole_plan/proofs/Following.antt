@@ -1,5 +1,5 @@
 -- When a bound follows, and when a comparison goes, by the answers of the closed system.
-use Rattle.std.proofs.Common.{◌≡◌, ℕ, ◌⊎◌, inl, inr, ◌↔◌, IsTrue, ℤ, pos, neg_ℤ, ◌+ℤ◌, ◌≤ℤ◌, List, [], ◌∷◌, ◌++◌, map, Bool, true, false, ◌&&◌, ◌||◌, nat_eq, Option, Some, None, refl, sym, ◌∙◌, subst, arith}
+use Rattle.std.proofs.Common.{◌≡◌, ◌⊎◌, inl, inr, ◌↔◌, IsTrue, ℤ, pos, neg_ℤ, ◌+ℤ◌, ◌≤ℤ◌, List, [], ◌∷◌, ◌++◌, map, Bool, true, false, ◌&&◌, ◌||◌, Option, Some, None, refl, sym, ◌∙◌, subst, arith}
 use Rattle.std.proofs.lemmas.Int.{ints}
 use Rattle.std.specs.List.{Any}
 use Rattle.bq_model.specs.declared.atom.Attr.{Attr}
@@ -34,9 +34,6 @@ sum_parts (Some u) by (Some v) limit s = (u, v, refl, refl, s)
 
 sum_met : (o : Option ℤ) (by : ℤ) (p : Option ℤ) (limit u v : ℤ) → o ≡ Some u → p ≡ Some v → (u +ℤ by +ℤ v) ≤ℤ limit → IsMet (summed o by p) limit
 sum_met o by p limit u v e f s = subst (λ o. IsMet (summed o by p) limit) (sym e) (subst (λ o. IsMet (summed (Some u) by o) limit) (sym f) s)
-
-same_nat : (a b : ℕ) → a ≡ b → nat_eq a b ≡ true
-same_nat a b e = grind (arith, e)
 
 of_one : (a b : Attr) → a.stream ≡ b.stream → AreOfOne (element.Attr a) (element.Attr b)
 of_one a b e = (a.stream, refl, sym e)

@@ -1,5 +1,5 @@
 -- What the distances tell of the system of a query.
-use Rattle.std.proofs.Common.{◌≡◌, ℕ, suc, ◌+◌, ◌<◌, ◌≤◌, inl, inr, ℤ, pos, ◌+ℤ◌, ◌≤ℤ◌, List, [], ◌∷◌, length, Bool, true, false, cond, Option, Some, None, ◌↔◌, IsTrue, sym, ◌∙◌, ap, subst, arith}
+use Rattle.std.proofs.Common.{◌≡◌, ℕ, suc, ◌+◌, ◌<◌, ◌≤◌, inl, inr, ◌⊎◌, ℤ, pos, neg_ℤ, ◌+ℤ◌, ◌≤ℤ◌, List, [], ◌∷◌, length, Bool, true, false, cond, Option, Some, None, ◌↔◌, IsTrue, refl, sym, ◌∙◌, ap, subst, arith}
 use Rattle.std.proofs.lemmas.Int.{ints}
 use Rattle.std.proofs.lemmas.List.Elements.{All-contains}
 use Rattle.bq_model.specs.declared.atom.Attr.{Attr}
@@ -17,7 +17,9 @@ use Rattle.bq_constraints.proofs.NodeFacts.{node_there, node_has, place_below}
 use Rattle.bq_constraints.proofs.OfDomains.{node_within}
 use Rattle.bq_closure.specs.declared.distances.Distances.{Distances}
 use Rattle.bq_closure.specs.Answers.{IsSmall}
-use Rattle.bq_closure.specs.Shortest.{AreDistancesOf, AreSatisfiable, IsMet}
+use Rattle.bq_closure.specs.Shortest.{between, AreDistancesOf, AreSatisfiable, IsMet}
+use Rattle.bq_closure.proofs.Least.{upper_is, whole}
+use Rattle.bq_closure.proofs.Upper.{least_from, no_least_from, high_answer}
 use Rattle.bq_whole.specs.System.{Difference, system, Solves, Bound}
 use Rattle.bq_whole.specs.Ranges.{Range}
 use Rattle.bq_whole.specs.Kept.{IsRange}
@@ -25,7 +27,7 @@ use Rattle.bq_whole.specs.Laws.{IsLeastBound}
 use Rattle.bq_whole.specs.Failing.{Contradicts}
 use Rattle.bq_whole.proofs.Nodes.{bounds_are_implied, ranges_are_told}
 use Rattle.bq_whole_plan.specs.declared.closed.Ends.{Ends}
-use Rattle.bq_whole_plan.specs.Closed.{closed_constraints, named_system, domain_ends, apart, ends_of, IsClosedSystem}
+use Rattle.bq_whole_plan.specs.Closed.{closed_constraints, named_system, domain_ends, apart, ends_of, IsClosedSystem, IsSolvable}
 use Rattle.bq_whole_plan.proofs.Named.{named_among, range_named, bound_named, bound_all, solution, satisfied}
 use Rattle.bq_whole_plan.proofs.Unnamed.{apart_least, mixed_left, mixed_right, range_unnamed}
 
@@ -188,3 +190,55 @@ module _ (q : QueryValue) (d : Distances) (k : IsClosedSystem q d) where
       let m : (l < length (attrs_of q.atoms)) × (r < length (attrs_of q.atoms)) → ⊥ = subst (λ xs. (l < length xs) × (r < length xs) → ⊥) same n in
       subst (IsLeastBound (system q) (element.Attr a) (element.Attr b)) (sym e)
       (above_apart a b differ (λ k. m (subst (λ p. p < length (attrs_of q.atoms)) (sym al) k.0, subst (λ p. p < length (attrs_of q.atoms)) (sym ar) k.1)) (ends_of x) (ends_of y) i j)
+
+  -- what the table holds of two nodes
+  pub upper_in : (i j : ℕ) → i < suc (length (attrs_of q.atoms)) → j < suc (length (attrs_of q.atoms)) → (n : ℕ) (cs : List Constraint) → AreDistancesOf d n cs → IsUpperAnswer cs i j (between d.table i j)
+  upper_in i j l m n cs h =
+      let e = h.attrs in
+      let f = k.distances.attrs in
+      upper_is d n cs h (whole d are_satisfiable) i j (omega (arith, l, e, f)) (omega (arith, m, e, f))
+
+  abbrev negated : Option ℤ → Option ℤ
+  negated None = None
+  negated (Some u) = Some (neg_ℤ u)
+
+  low_in : (cs : List Constraint) (i : ℕ) (o : Option ℤ) → IsUpperAnswer cs 0 i o → IsLowAnswer cs i (negated o)
+  low_in cs i None h = no_least_from cs i h
+  low_in cs i (Some u) h = least_from cs i u (neg_ℤ u) refl h
+
+  inside_or_not : (n m : ℕ) → (n < m) ⊎ (m ≤ n)
+  inside_or_not n m = grind arith
+
+  pub some_range : (a : Attr) → (r : Range) × IsRange (system q) a r
+  some_range a = by (inside_or_not (place_of (attrs_of q.atoms) a) (length (attrs_of q.atoms)))
+    where
+      by : (place_of (attrs_of q.atoms) a < length (attrs_of q.atoms)) ⊎ (length (attrs_of q.atoms) ≤ place_of (attrs_of q.atoms) a) → (r : Range) × IsRange (system q) a r
+      by (inl l) =
+          let node : ℕ = place_of (attrs_of q.atoms) a + 1 in
+          let e : Ends = record { lo = negated (between d.table 0 node); hi = between d.table node 0 } in (
+            ends_of e,
+            ends_told a e node l refl
+                (λ n cs h. low_in cs node (between d.table 0 node) (upper_in 0 node (omega arith) (omega (arith, l)) n cs h))
+                (λ n cs h. high_answer cs node (between d.table node 0) (upper_in node 0 (omega (arith, l)) (omega arith) n cs h)),
+          )
+      by (inr m) = (ends_of (domain_ends q.domains a), domain_told a m)
+
+  pub some_above : (a b : Attr) → (u : Option ℤ) × IsLeastBound (system q) (element.Attr a) (element.Attr b) u
+  some_above a b = by (true_or_false (attr_eq a b)) (inside_or_not (place_of (attrs_of q.atoms) a) (length (attrs_of q.atoms))) (inside_or_not (place_of (attrs_of q.atoms) b) (length (attrs_of q.atoms)))
+    where
+      apart_by : attr_eq a b ≡ false → ((place_of (attrs_of q.atoms) a < length (attrs_of q.atoms)) × (place_of (attrs_of q.atoms) b < length (attrs_of q.atoms)) → ⊥)
+          → (u : Option ℤ) × IsLeastBound (system q) (element.Attr a) (element.Attr b) u
+      apart_by e n = (let r = some_range a in let s = some_range b in (apart r.0.hi s.0.lo, above_apart a b e n r.0 s.0 r.1 s.1))
+
+      by : (attr_eq a b ≡ true) ⊎ (attr_eq a b ≡ false) → (place_of (attrs_of q.atoms) a < length (attrs_of q.atoms)) ⊎ (length (attrs_of q.atoms) ≤ place_of (attrs_of q.atoms) a)
+          → (place_of (attrs_of q.atoms) b < length (attrs_of q.atoms)) ⊎ (length (attrs_of q.atoms) ≤ place_of (attrs_of q.atoms) b) → (u : Option ℤ) × IsLeastBound (system q) (element.Attr a) (element.Attr b) u
+      by (inl e) i j = (Some (pos 0), above_itself a b e)
+      by (inr e) (inl l) (inl m) =
+          let i : ℕ = place_of (attrs_of q.atoms) a + 1 in
+          let j : ℕ = place_of (attrs_of q.atoms) b + 1 in
+          (between d.table i j, above_named a b i j (between d.table i j) l m refl refl (upper_in i j (omega (arith, l)) (omega (arith, m))))
+      by (inr e) (inr l) j = apart_by e (λ p. (let m = p.0 in omega (arith, l, m)))
+      by (inr e) i (inr m) = apart_by e (λ p. (let l = p.1 in omega (arith, l, m)))
+
+  pub is_solvable : IsSolvable q
+  is_solvable = record { at = some.0; solves = some.1; range = some_range; above = some_above }

@@ -5,14 +5,18 @@ use Rattle.std.specs.declared.option.Option.TheVariants.{None, Some}
 use Rattle.std.specs.List.{flat_map}
 use Rattle.bq_model.specs.declared.atom.Attr.{Attr}
 use Rattle.bq_model.specs.declared.atom.Domain.{Domain}
+use Rattle.bq_model.specs.declared.atom.Element.TheVariants as element
 use Rattle.bq_model.specs.Query.{QueryValue, attr_eq, attrs_of, IsWithinLimits}
+use Rattle.bq_model.specs.Assignment.{Assignment}
 use Rattle.bq_constraints.specs.declared.constraint.Constraint.{Constraint}
 use Rattle.bq_constraints.specs.Nodes.{has_node, at_most_above}
 use Rattle.bq_constraints.specs.Solutions.{IsSatisfiable}
 use Rattle.bq_closure.specs.declared.distances.Distances.{Distances}
 use Rattle.bq_closure.specs.Shortest.{AreDistancesOf}
-use Rattle.bq_whole.specs.System.{Difference, atom_bounds, domain_bounds}
+use Rattle.bq_whole.specs.System.{Difference, atom_bounds, domain_bounds, system, Solves}
 use Rattle.bq_whole.specs.Ranges.{Range, range}
+use Rattle.bq_whole.specs.Kept.{IsRange}
+use Rattle.bq_whole.specs.Laws.{IsLeastBound}
 use Rattle.bq_whole_plan.specs.declared.closed.Ends.{Ends}
 
 -- a difference as a constraint on the nodes of these columns
@@ -36,6 +40,13 @@ pub record IsClosedSystem (q : QueryValue) (d : Distances) : Type 0 where
   pub within : IsWithinLimits q
   pub distances : AreDistancesOf d (length (attrs_of q.atoms)) (closed_constraints q)
   pub satisfiable : IsSatisfiable (closed_constraints q)
+
+-- some assignment solves the system of a query, and the range of each column and the least bound of each two, where there is one, are known
+pub record IsSolvable (q : QueryValue) : Type 0 where
+  pub at : Assignment
+  pub solves : Solves (system q) at
+  pub range : (a : Attr) → (r : Range) × IsRange (system q) a r
+  pub above : (a b : Attr) → (u : Option ℤ) × IsLeastBound (system q) (element.Attr a) (element.Attr b) u
 
 -- two ends as a range
 abbrev pub ends_of : Ends → Range

@@ -12,7 +12,7 @@ ghost use Rattle.bq_whole.specs.System.{bounds_of, atom_bounds, system, Bound, A
 ghost use Rattle.bq_whole.specs.Kept.{IsRange};
 ghost use Rattle.bq_whole.specs.Laws.{IsLeastBound};
 ghost use Rattle.bq_whole.specs.Failing.{Contradicts};
-ghost use Rattle.bq_whole_plan.specs.Closed.{constraint_of, named_bounds, closed_constraints, domain_ends, apart, IsModest, ends_of};
+ghost use Rattle.bq_whole_plan.specs.Closed.{constraint_of, named_bounds, closed_constraints, domain_ends, apart, IsModest, IsSolvable, ends_of};
 
 use arrayvec::ArrayVec;
 use bq_closure::Distances;
@@ -28,6 +28,7 @@ pub struct Ends {
 }
 
 /// A query whose system has a solution, with the least bound of the difference of each two of its attributes. A clause sees the query.
+#[derive(Drop)]
 pub struct ClosedSystem<'a> {
     query: &'a Query,
     distances: Distances,
@@ -57,10 +58,11 @@ impl<'a> ClosedSystem<'a> {
         }
     }
 
-    /// Returns the query.
+    /// Returns the query. Some assignment solves its system, and what bounds each column, and each two, can be told.
     pub fn query(&self) -> &'a Query
         ensures value { result.now ≡ self.now }
         ensures limits { IsWithinLimits self.now }
+        ensures solvable { IsSolvable self.now }
     {
         self.query
     }

@@ -69,8 +69,8 @@ fn is_larger(a: Ends, b: Ends) -> bool
     is_more(room(a), room(b))
 }
 
-// Whether all links of the class of a column go one way.
-fn is_one_way(closed: &ClosedSystem, links: &[ColumnLink], a: Attr) -> bool
+/// Returns whether all links of the class of a column go one way.
+pub fn is_one_way(closed: &ClosedSystem, links: &[ColumnLink], a: Attr) -> bool
     ensures { IsTrue result ↔ IsOneWay closed.now (map atom_of links.now) a }
 {
     is_left_alone(closed, links, a) || is_right_alone(closed, links, a)

@@ -32,7 +32,7 @@ pub fn is_class_of_one(closed: &ClosedSystem, a: Attr, columns: &[Attr]) -> bool
 }
 
 /// Returns whether a side of a link is of the class of a column.
-pub(crate) fn is_side_of(closed: &ClosedSystem, link: ColumnLink, a: Attr) -> bool
+pub fn is_side_of(closed: &ClosedSystem, link: ColumnLink, a: Attr) -> bool
     ensures { IsTrue result ↔ IsSideOf (system closed.now) a link }
 {
     closed.are_one_class(a, link.left) || closed.are_one_class(a, link.right)

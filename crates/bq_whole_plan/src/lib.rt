@@ -3,7 +3,7 @@
 //! `ClosedSystem` answers what the comparisons and domains of a query bound, by one closed table of bounds. Everything else asks it:
 //! whether columns are of one class, which comparisons between streams the others imply (`links_of`), what values of a class are kept
 //! apart (`kept_range`), which class of a stream is its extreme (`kind_of`), and which are its dims (`stream_of`). `keeps_of` puts them
-//! together. What these mean stands in the definitions of `bq_whole`; the local conditions of a row are told by no function here.
+//! together. What these mean stands in the definitions of `bq_whole`.
 #![tactic(auto)]
 
 mod classes;
@@ -17,8 +17,8 @@ mod streams;
 
 pub use classes::{has_read, is_left_alone, is_right_alone, name_of};
 pub use closed::{ClosedSystem, Ends};
-pub use extreme::{KeptClass, extreme_of, kind_of};
-pub use kept::{is_class_of_one, is_kept_as_it_is, kept_range};
-pub use links::{ColumnBound, ColumnLink, links_of};
+pub use extreme::{KeptClass, extreme_of, is_one_way, kind_of};
+pub use kept::{is_class_of_one, is_kept_as_it_is, is_side_of, kept_range};
+pub use links::{ColumnBound, ColumnLink, follows_by_ranges, links_of};
 pub use plan::{WholeKeeps, keeps_of};
 pub use streams::{KeptStream, stream_of};

@@ -192,8 +192,8 @@ fn follows_from(closed: &ClosedSystem, other: ColumnBound, bound: ColumnBound) -
     are_alike(other, bound) && is_within(sum, bound)
 }
 
-// Whether a bound follows from the ranges of its sides.
-fn follows_by_ranges(closed: &ClosedSystem, bound: ColumnBound) -> bool
+/// Returns whether a bound follows from the ranges of its sides.
+pub fn follows_by_ranges(closed: &ClosedSystem, bound: ColumnBound) -> bool
     ensures { IsTrue result ↔ FollowsByRanges (system closed.now) (difference_of bound) }
 {
     let high = closed.ends(bound.left).hi;

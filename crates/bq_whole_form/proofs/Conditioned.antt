@@ -1,0 +1,178 @@
+-- The conditions that are asked, one by one.
+use Rattle.std.proofs.Common.{◌≡◌, ℕ, ◌+◌, ◌<◌, ◌≤◌, ◌⊎◌, inl, inr, ◌↔◌, IsTrue, ℤ, pos, List, [], ◌∷◌, ◌++◌, length, take, get_or, Bool, true, false, not, ◌&&◌, Option, Some, None, length-append, refl, sym, ◌∙◌, ap, subst, arith}
+use Rattle.std.proofs.lemmas.Int.{ints}
+use Rattle.std.proofs.lemmas.List.{take_more, take_all}
+use Rattle.bq_model.specs.declared.atom.Attr.{Attr}
+use Rattle.bq_model.specs.declared.atom.Atom.{Atom}
+use Rattle.bq_model.specs.declared.atom.Element.{Element}
+use Rattle.bq_model.specs.declared.atom.Element.TheVariants as element
+use Rattle.bq_model.specs.declared.atom.Op.{Op}
+use Rattle.bq_model.specs.Query.{QueryValue, attr_eq, attr_lt, is_attr}
+use Rattle.bq_model.proofs.Elements.{attr_separates}
+use Rattle.bq_model.proofs.Has.{Has, first, Has-nil, Has-append_left, Has-append_right, Has-append_cases}
+use Rattle.bq_laws.proofs.Tests.{and-left, and-right, and-both, not_both, false_if, attr_eq-is, attr_eq-itself}
+use Rattle.bq_laws.proofs.OnePartFits.{has_cases}
+use Rattle.bq_whole.specs.System.{Difference, system, IsOf, AreOneClass}
+use Rattle.bq_whole.specs.Kept.{IsLowest, IsHighest}
+use Rattle.bq_whole.specs.Plan.{NamesClass}
+use Rattle.bq_whole.specs.Laws.{IsLeastBound}
+use Rattle.bq_whole.proofs.Unbroken.{class_turned, class_on}
+use Rattle.bq_whole_plan.specs.Classes.{IsNameOf}
+use Rattle.bq_whole_plan.specs.Columns.{listed}
+use Rattle.bq_whole_form.specs.declared.conditions.LocalCondition.{LocalCondition}
+use Rattle.bq_whole_form.specs.Conditions.{condition, IsTie, IsLeastEnd, IsGreatestEnd, IsSaid, IsUnsaid, AreTwoNames, IsBetween, IsOwnUnlike, IsTurned, IsUnlikeAt}
+use Rattle.bq_whole_form.specs.Listed.{AreListed, AreUnlikes}
+
+not_true : (b : Bool) → not b ≡ true → b ≡ true → ⊥
+not_true true h k = cc
+not_true false h k = cc
+
+true_not : (b : Bool) → (b ≡ true → ⊥) → not b ≡ true
+true_not true h = absurd (h refl)
+true_not false h = refl
+
+-- ---- names
+
+pub name_one : (q : QueryValue) (a b : Attr) → NamesClass q a → NamesClass q b → AreOneClass (system q) a b → a ≡ b
+name_one q a b n m c = attr_separates a b (false_if (attr_lt a b) (m a c)) (false_if (attr_lt b a) (n b (class_turned (system q) a b c)))
+
+pub names_told : (q : QueryValue) (a n : Attr) (b : Bool) → IsNameOf q a n → b ≡ attr_eq n a → IsTrue b ↔ NamesClass q a
+names_told q a n b i e = (
+  λ h. subst (NamesClass q) (attr_eq-is n a (sym e ∙ h)) i.name,
+  λ m. e ∙ subst (λ z. attr_eq n z ≡ true) (name_one q n a i.name m i.inside) (attr_eq-itself n),
+)
+
+pub differ : (a b : Attr) → attr_eq a b ≡ false → a ≡ b → ⊥
+differ a b e f = let g : attr_eq b b ≡ true = attr_eq-itself b in not_both (attr_eq a b) (subst (λ z. attr_eq z b ≡ true) (sym f) g) e
+
+pub two_names_told : (q : QueryValue) (a b : Attr) (l r s : Bool) → IsTrue l ↔ NamesClass q a → IsTrue r ↔ NamesClass q b → s ≡ attr_eq a b → IsTrue (l && r && not s) ↔ AreTwoNames q a b
+two_names_told q a b l r s el er e = (
+  λ h. record {
+    left = el.0 (and-left l r (and-left (l && r) (not s) h));
+    right = er.0 (and-right l r (and-left (l && r) (not s) h));
+    apart = λ f. not_true s (and-right (l && r) (not s) h) (e ∙ subst (λ z. attr_eq a z ≡ true) f (attr_eq-itself a));
+  },
+  λ n. and-both (l && r) (not s) (and-both l r (el.1 n.left) (er.1 n.right)) (true_not s (λ i. n.apart (attr_eq-is a b (sym e ∙ i)))),
+)
+
+pub own_told : (place : ℕ) (s : Atom) (o c l r : Bool) → IsTrue o ↔ (s.op ≡ Op.Ne) → IsTrue c ↔ (IsTrue (is_attr s.left) ⊎ IsTrue (is_attr s.right)) → IsTrue l ↔ IsOf place s.left → IsTrue r ↔ IsOf place s.right
+    → IsTrue (o && c && l && r) ↔ IsOwnUnlike place s
+own_told place s o c l r eo ec el er = (
+  λ h. record {
+    op = eo.0 (and-left o c (and-left (o && c) l (and-left (o && c && l) r h)));
+    column = ec.0 (and-right o c (and-left (o && c) l (and-left (o && c && l) r h)));
+    left = el.0 (and-right (o && c) l (and-left (o && c && l) r h));
+    right = er.0 (and-right (o && c && l) r h);
+  },
+  λ i. and-both (o && c && l) r (and-both (o && c) l (and-both o c (eo.1 i.op) (ec.1 i.column)) (el.1 i.left)) (er.1 i.right),
+)
+
+-- ---- each gives one condition or none
+
+lowest_one : (ds : List Difference) (a : Attr) (l m : ℤ) → IsLowest ds a (Some l) → IsLowest ds a (Some m) → l ≡ m
+lowest_one ds a l m h k = let i = k.1 l h.0 in let j = h.1 m k.0 in omega (arith, ints, i, j)
+
+highest_one : (ds : List Difference) (a : Attr) (l m : ℤ) → IsHighest ds a (Some l) → IsHighest ds a (Some m) → l ≡ m
+highest_one ds a l m h k = let i = k.1 l h.0 in let j = h.1 m k.0 in omega (arith, ints, i, j)
+
+bound_one : (ds : List Difference) (x y : Element) (l m : ℤ) → IsLeastBound ds x y (Some l) → IsLeastBound ds x y (Some m) → l ≡ m
+bound_one ds x y l m h k = let i = k.1 l h.0 in let j = h.1 m k.0 in omega (arith, ints, i, j)
+
+pub tie_one : (q : QueryValue) (a : Attr) (o : Option LocalCondition) (t : LocalCondition) → IsTie q a o → IsTie q a (Some t) → o ≡ Some t
+tie_one q a None t n (m, i, d, e) = absurd (d (name_one q m a i.name n i.inside))
+tie_one q a (Some s) t (n, h, c, f) (m, i, d, e) =
+    let g : n ≡ m = name_one q n m h.name i.name (class_on (system q) n a m h.inside (class_turned (system q) m a i.inside)) in
+    ap (λ z. Some z) (f ∙ ap (λ z. condition a Op.Eq (element.Attr z) (pos 0)) g ∙ sym e)
+
+pub least_one : (q : QueryValue) (a : Attr) (o : Option LocalCondition) (t : LocalCondition) → IsLeastEnd q a o → IsLeastEnd q a (Some t) → o ≡ Some t
+least_one q a None t n (i, l, k, e) = absurd (n i l k.0)
+least_one q a (Some s) t (i, l, k, e) (j, m, h, f) = ap (λ z. Some z) (e ∙ ap (λ z. condition a Op.Ge (element.Const z) (pos 0)) (lowest_one (system q) a l m k h) ∙ sym f)
+
+pub greatest_one : (q : QueryValue) (a : Attr) (o : Option LocalCondition) (t : LocalCondition) → IsGreatestEnd q a o → IsGreatestEnd q a (Some t) → o ≡ Some t
+greatest_one q a None t n (i, l, k, e) = absurd (n i l k.0)
+greatest_one q a (Some s) t (i, l, k, e) (j, m, h, f) = ap (λ z. Some z) (e ∙ ap (λ z. condition a Op.Le (element.Const z) (pos 0)) (highest_one (system q) a l m k h) ∙ sym f)
+
+pub between_one : (q : QueryValue) (a b : Attr) (o : Option LocalCondition) (t : LocalCondition) → IsBetween q a b o → IsBetween q a b (Some t) → o ≡ Some t
+between_one q a b None t n (i, u, k, d, e) = absurd (d (n i u k))
+between_one q a b (Some s) t (i, u, k, c, e) (j, w, h, d, f) =
+    ap (λ z. Some z) (e ∙ ap (λ z. condition a Op.Le (element.Attr b) z) (bound_one (system q) (element.Attr a) (element.Attr b) u w k h) ∙ sym f)
+
+turned_one : (x y : Element) (s t : LocalCondition) → IsTurned x y s → IsTurned x y t → s ≡ t
+turned_one (element.Attr a) y s t e f = e ∙ sym f
+turned_one (element.Const k) (element.Attr b) s t e f = e ∙ sym f
+turned_one (element.Const j) (element.Const k) s t e f = absurd e
+
+pub unlike_one : (place : ℕ) (s : Atom) (o : Option LocalCondition) (t : LocalCondition) → IsUnlikeAt place s o → IsUnlikeAt place s (Some t) → o ≡ Some t
+unlike_one place s None t n (i, e) = absurd (n i)
+unlike_one place s (Some r) t (i, e) (j, f) = ap (λ z. Some z) (turned_one s.left s.right r t e f)
+
+pub unsaid_between : (q : QueryValue) (a b : Attr) (u : ℤ) (o : Option LocalCondition) → AreTwoNames q a b → IsLeastBound (system q) (element.Attr a) (element.Attr b) (Some u) → IsUnsaid q a b u o → IsBetween q a b o
+unsaid_between q a b u None n l s = λ m w k. subst (IsSaid q a b) (bound_one (system q) (element.Attr a) (element.Attr b) u w l k) s
+unsaid_between q a b u (Some t) n l s = (n, u, l, s.0, s.1)
+
+pub no_between : (q : QueryValue) (a b : Attr) → IsLeastBound (system q) (element.Attr a) (element.Attr b) None → IsBetween q a b None
+no_between q a b n = λ m u k. absurd (n u k.0)
+
+-- ---- lists
+
+has_listed : {t : LocalCondition} (o : Option LocalCondition) → Has (listed o) t → o ≡ Some t
+has_listed None h = Has-nil h
+has_listed {t} (Some s) h = elim (has_cases s t [] h) [ inl e ↦ ap (λ z. Some z) e | inr n ↦ Has-nil n ]
+
+in_listed : (t : LocalCondition) (o : Option LocalCondition) → o ≡ Some t → Has (listed o) t
+in_listed t o e = subst (λ z. Has (listed z) t) (sym e) first
+
+few_listed : (o : Option LocalCondition) → length (listed o) ≤ 1
+few_listed None = omega arith
+few_listed (Some s) = omega arith
+
+earlier : (c n : ℕ) → c < n + 1 → (c < n) ⊎ (c ≡ n)
+earlier c n l = grind (arith, l)
+
+module _ (P : ℕ → Option LocalCondition → Type 0) where
+  pub listed_first : AreListed P 0 []
+  listed_first = record { few = omega arith; each = λ t h. Has-nil h; all = λ c l t p. absurd (omega (arith, l)) }
+
+  pub listed_more : (n : ℕ) (o : Option LocalCondition) (ts new : List LocalCondition) → ((t : LocalCondition) → P n (Some t) → o ≡ Some t) → P n o → new ≡ ts ++ listed o → AreListed P n ts → AreListed P (n + 1) new
+  listed_more n o ts new one p e h = subst (AreListed P (n + 1)) (sym e) record {
+    few = (let f = h.few in let g = length-append ts (listed o) in let i = few_listed o in omega (arith, f, g, i));
+    each = λ t k. by t (Has-append_cases ts (listed o) t k);
+    all = λ c l t i. elim (earlier c n l) [
+      | inl m ↦ Has-append_left (listed o) (h.all c m t i)
+      | inr f ↦ Has-append_right ts (in_listed t o (one t (subst (λ c. P c (Some t)) f i)))
+    ];
+  }
+    where
+      by : (t : LocalCondition) → Has ts t ⊎ Has (listed o) t → (c : ℕ) × (c < n + 1) × P c (Some t)
+      by t (inl k) = let r = h.each t k in let l = r.1 in (r.0, omega (arith, l), r.2)
+      by t (inr k) = (n, omega arith, subst (P n) (has_listed o k) p)
+
+pub unlikes_first : (place : ℕ) → AreUnlikes place [] []
+unlikes_first place = record { few = omega arith; each = λ t h. Has-nil h; all = λ s h t i. Has-nil h }
+
+pub unlikes_push : (place : ℕ) (atoms : List Atom) (s : Atom) (o : Option LocalCondition) (ts new : List LocalCondition) → IsUnlikeAt place s o → new ≡ ts ++ listed o → AreUnlikes place atoms ts → AreUnlikes place (atoms ++ s ∷ []) new
+unlikes_push place atoms s o ts new p e h = subst (AreUnlikes place (atoms ++ s ∷ [])) (sym e) record {
+  few = (let f = h.few in let g = length-append ts (listed o) in let i = few_listed o in let j = length-append atoms (s ∷ []) in omega (arith, f, g, i, j));
+  each = λ t k. by t (Has-append_cases ts (listed o) t k);
+  all = λ r k t i. elim (Has-append_cases atoms (s ∷ []) r k) [
+    | inl m ↦ Has-append_left (listed o) (h.all r m t i)
+    | inr m ↦ Has-append_right ts (in_listed t o (unlike_one place s o t p (subst (λ r. IsUnlikeAt place r (Some t)) (sym (only r m)) i)))
+  ];
+}
+  where
+    only : (r : Atom) → Has (s ∷ []) r → s ≡ r
+    only r m = elim (has_cases s r [] m) [ inl f ↦ f | inr n ↦ Has-nil n ]
+
+    by : (t : LocalCondition) → Has ts t ⊎ Has (listed o) t → (r : Atom) × Has (atoms ++ s ∷ []) r × IsUnlikeAt place r (Some t)
+    by t (inl k) = let r = h.each t k in (r.0, Has-append_left (s ∷ []) r.1, r.2)
+    by t (inr k) = (s, Has-append_right atoms first, subst (IsUnlikeAt place s) (has_listed o k) p)
+
+pub unlikes_more : (place : ℕ) (atoms ls : List Atom) (i : ℕ) (d : Atom) (o : Option LocalCondition) (ts new : List LocalCondition) → ls ≡ atoms → i < length ls → IsUnlikeAt place (get_or ls i d) o → new ≡ ts ++ listed o
+    → AreUnlikes place (take i atoms) ts → AreUnlikes place (take (i + 1) atoms) new
+unlikes_more place atoms ls i d o ts new same l p e h =
+    let k : i < length atoms = subst (λ z. i < length z) same l in
+    let r : IsUnlikeAt place (get_or atoms i d) o = subst (λ z. IsUnlikeAt place (get_or z i d) o) same p in
+    subst (λ z. AreUnlikes place z new) (sym (take_more atoms i d k)) (unlikes_push place (take i atoms) (get_or atoms i d) o ts new r e h)
+
+pub unlikes_all : (place : ℕ) (atoms ls : List Atom) (i : ℕ) (ts : List LocalCondition) → ls ≡ atoms → length ls ≤ i → AreUnlikes place (take i atoms) ts → AreUnlikes place atoms ts
+unlikes_all place atoms ls i ts same l h = subst (λ z. AreUnlikes place z ts) (take_all i atoms (subst (λ z. length z ≤ i) same l)) h

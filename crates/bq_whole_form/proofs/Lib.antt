@@ -1,0 +1,12 @@
+pub mod Opening
+pub mod Breaks
+pub mod Conditioned
+pub mod Deciding
+pub mod Streamed
+pub mod Capping
+pub mod Products
+pub mod Sharing
+pub mod Counting
+pub mod Once
+pub mod Ranging
+pub mod Assembling

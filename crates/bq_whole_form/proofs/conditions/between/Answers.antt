@@ -1,0 +1,21 @@
+use Rattle.std.proofs.Common.{rules, subst, w64}
+use Rattle.std.proofs.lemmas.Int.{to_z-of_z}
+use Rattle.bq_model.specs.declared.atom.Element.TheVariants as element
+use Rattle.bq_laws.proofs.Tests.{not_both}
+use Rattle.bq_whole.specs.System.{system}
+use Rattle.bq_whole.specs.Laws.{IsLeastBound}
+use Rattle.bq_whole_form.specs.Conditions.{IsUnsaid}
+use Rattle.bq_whole_form.proofs.Conditioned.{unsaid_between, no_between}
+use Rattle.bq_whole_form.proofs.conditions.between.Goals as goal
+
+pub returns-then-not-are_two_names : goal.returns-then-not-are_two_names
+returns-then-not-are_two_names c = λ n u l. absurd (not_both c.are_two_names.result (c.are_two_names.ensures.1 n) c.if-not-are_two_names.true)
+
+pub returns-in-Some : goal.returns-in-Some
+returns-in-Some c =
+    unsaid_between c.args.closed.now c.args.a c.args.b c.in-Some.by c.unsaid.result (c.are_two_names.ensures.0 c.if-not-are_two_names.false)
+    (subst (IsLeastBound (system c.args.closed.now) (element.Attr c.args.a) (element.Attr c.args.b)) c.in-Some.is c.above.ensures.bound)
+    (subst (λ k. IsUnsaid c.args.closed.now c.args.a c.args.b k c.unsaid.result) (to_z-of_z w64 c.in-Some.by (search rules)) c.unsaid.ensures)
+
+pub returns-in-None : goal.returns-in-None
+returns-in-None c = no_between c.args.closed.now c.args.a c.args.b (subst (IsLeastBound (system c.args.closed.now) (element.Attr c.args.a) (element.Attr c.args.b)) c.in-None.is c.above.ensures.bound)

@@ -1,0 +1,314 @@
+//! What the rows of each stream are asked.
+ghost use Rattle.std.specs.Prelude.{◌≡◌, ◌≢◌, ◌⊎◌, ◌↔◌, ◌≤◌, ◌<◌, ◌++◌, ◌/◌, ◌%◌, ℕ, ℤ, length, IsTrue, IfOk, OnOk};
+ghost use Rattle.bq_model.specs.declared.atom.Op.{Op};
+ghost use Rattle.bq_model.specs.Query.{is_attr};
+ghost use Rattle.bq_model.specs.Admission.{alone};
+ghost use Rattle.bq_whole.specs.System.{IsOf};
+ghost use Rattle.bq_whole.specs.Whole.{RowMeets};
+ghost use Rattle.bq_whole.specs.Plan.{NamesClass};
+ghost use Rattle.bq_whole_plan.specs.Columns.{listed};
+ghost use Rattle.bq_whole_plan.specs.Extremes.{column_at};
+ghost use Rattle.bq_whole_form.specs.Conditions.{condition, keeps_local, AreTwoNames, IsTie, IsLeastEnd, IsGreatestEnd, IsUnsaid, IsBetween, IsOwnUnlike, IsTurned, IsUnlikeAt, AreConditions};
+ghost use Rattle.bq_whole_form.specs.Listed.{AreListed, AreUnlikes, IsWithStream};
+
+use arrayvec::ArrayVec;
+use bq_model::{Atom, Attr, Element, Op, is_same};
+use bq_whole_plan::{ClosedSystem, ColumnBound, follows_by_ranges, name_of};
+use std::alloc::{AllocError, Global};
+
+/// What rows of one stream are asked: how a column stands to an integer, or to another column of the stream, moved by a number.
+#[derive(Clone, Copy, Debug, Default, PartialEq, Eq)]
+pub struct LocalCondition {
+    pub left: Attr,
+    pub op: Op,
+    pub right: Element,
+    pub by: i64,
+}
+
+fn condition(left: Attr, op: Op, right: Element, by: i64) -> LocalCondition
+    ensures { result ≡ condition left op right by }
+{
+    LocalCondition {
+        left,
+        op,
+        right,
+        by,
+    }
+}
+
+// Whether a column names its class.
+#[tactic(auto, using(crate::proofs::Conditioned::names_told))]
+fn names_class(closed: &ClosedSystem, a: Attr) -> bool
+    ensures { IsTrue result ↔ NamesClass closed.now a }
+{
+    let name = name_of(closed, a);
+    is_same(name, a)
+}
+
+// The equality with the column that names the class of a column, where that is another.
+fn tie(closed: &ClosedSystem, a: Attr) -> Option<LocalCondition>
+    ensures { IsTie closed.now a result }
+{
+    let name = name_of(closed, a);
+    if is_same(name, a) {
+        return None;
+    }
+    Some(condition(a, Op::Eq, Element::Attr(name), 0))
+}
+
+// The least value of a column that names its class, where there is one.
+fn least_end(closed: &ClosedSystem, a: Attr) -> Option<LocalCondition>
+    ensures { IsLeastEnd closed.now a result }
+{
+    if !names_class(closed, a) {
+        return None;
+    }
+    let ends = closed.ends(a);
+    match ends.lo {
+        Some(low) => Some(condition(a, Op::Ge, Element::Const(low), 0)),
+        None => None,
+    }
+}
+
+// The greatest value of a column that names its class, where there is one.
+fn greatest_end(closed: &ClosedSystem, a: Attr) -> Option<LocalCondition>
+    ensures { IsGreatestEnd closed.now a result }
+{
+    if !names_class(closed, a) {
+        return None;
+    }
+    let ends = closed.ends(a);
+    match ends.hi {
+        Some(high) => Some(condition(a, Op::Le, Element::Const(high), 0)),
+        None => None,
+    }
+}
+
+// Whether two columns name two classes.
+#[tactic(auto, using(crate::proofs::Conditioned::two_names_told))]
+fn are_two_names(closed: &ClosedSystem, a: Attr, b: Attr) -> bool
+    ensures { IsTrue result ↔ AreTwoNames closed.now a b }
+{
+    let left = names_class(closed, a);
+    let right = names_class(closed, b);
+    let same = is_same(a, b);
+    left && right && !same
+}
+
+// Says that a column is at most so much above another, where their ranges do not.
+fn unsaid(closed: &ClosedSystem, a: Attr, b: Attr, by: i64) -> Option<LocalCondition>
+    ensures { IsUnsaid closed.now a b by result }
+{
+    let bound = ColumnBound {
+        left: a,
+        right: b,
+        by,
+    };
+    if follows_by_ranges(closed, bound) {
+        None
+    } else {
+        Some(condition(a, Op::Le, Element::Attr(b), by))
+    }
+}
+
+// The most that a column is above another, where both name classes, and their ranges do not say it.
+fn between(closed: &ClosedSystem, a: Attr, b: Attr) -> Option<LocalCondition>
+    ensures { IsBetween closed.now a b result }
+{
+    if !are_two_names(closed, a, b) {
+        return None;
+    }
+    match closed.above(a, b) {
+        Some(by) => unsaid(closed, a, b, by),
+        None => None,
+    }
+}
+
+fn is_disequality(op: Op) -> bool
+    ensures { IsTrue result ↔ (op ≡ Op.Ne) }
+{
+    match op {
+        Op::Ne => true,
+        Op::Lt | Op::Gt | Op::Le | Op::Ge | Op::Eq => false,
+    }
+}
+
+// Whether an element is an integer or a column of the stream at a place.
+fn is_of(place: u8, element: Element) -> bool
+    ensures { IsTrue result ↔ IsOf place element }
+{
+    match element {
+        Element::Attr(attr) => attr.stream == place,
+        Element::Const(_) => true,
+    }
+}
+
+// Whether one of two elements is a column.
+fn has_column(left: Element, right: Element) -> bool
+    ensures { IsTrue result ↔ (IsTrue (is_attr left) ⊎ IsTrue (is_attr right)) }
+{
+    match left {
+        Element::Attr(_) => true,
+        Element::Const(_) => match right {
+            Element::Attr(_) => true,
+            Element::Const(_) => false,
+        },
+    }
+}
+
+// Whether a comparison is a `<>` of a column of the stream at a place.
+#[tactic(auto, using(crate::proofs::Conditioned::own_told))]
+fn is_own_unlike(place: u8, atom: &Atom) -> bool
+    ensures { IsTrue result ↔ IsOwnUnlike place atom.now }
+{
+    let unlike = is_disequality(atom.op);
+    let column = has_column(atom.left, atom.right);
+    let left = is_of(place, atom.left);
+    let right = is_of(place, atom.right);
+    unlike && column && left && right
+}
+
+// The `<>` of two elements with a column on the left.
+fn turned(left: Element, right: Element) -> LocalCondition
+    requires { IsTrue (is_attr left) ⊎ IsTrue (is_attr right) }
+    ensures { IsTurned left right result }
+{
+    match left {
+        Element::Attr(a) => condition(a, Op::Ne, right, 0),
+        Element::Const(k) => match right {
+            Element::Attr(b) => condition(b, Op::Ne, Element::Const(k), 0),
+            Element::Const(_) => LocalCondition::default(),
+        },
+    }
+}
+
+// A comparison, where it is a `<>` of the stream at a place.
+fn unlike(place: u8, atom: &Atom) -> Option<LocalCondition>
+    ensures { IsUnlikeAt place atom.now result }
+{
+    if is_own_unlike(place, atom) {
+        Some(turned(atom.left, atom.right))
+    } else {
+        None
+    }
+}
+
+// Adds a condition, where there is one.
+fn add(list: &mut ArrayVec<LocalCondition, 64>, condition: Option<LocalCondition>)
+    requires { length list.old.items < 64 }
+    ensures { list.new.items ≡ list.old.items ++ listed condition }
+{
+    match condition {
+        None => {}
+        Some(condition) => list.push(condition),
+    }
+}
+
+// The ties of the columns of a stream.
+fn ties(closed: &ClosedSystem, place: u8) -> ArrayVec<LocalCondition, 64>
+    ensures { AreListed (λ c o. IsTie closed.now (column_at place c) o) 8 result.items }
+{
+    let mut list = ArrayVec::new();
+    for column in 0..8 {
+        let attr = Attr {
+            stream: place,
+            column,
+        };
+        add(&mut list, tie(closed, attr));
+    }
+    list
+}
+
+// The least values of the columns of a stream.
+fn least_ends(closed: &ClosedSystem, place: u8) -> ArrayVec<LocalCondition, 64>
+    ensures { AreListed (λ c o. IsLeastEnd closed.now (column_at place c) o) 8 result.items }
+{
+    let mut list = ArrayVec::new();
+    for column in 0..8 {
+        let attr = Attr {
+            stream: place,
+            column,
+        };
+        add(&mut list, least_end(closed, attr));
+    }
+    list
+}
+
+// The greatest values of the columns of a stream.
+fn greatest_ends(closed: &ClosedSystem, place: u8) -> ArrayVec<LocalCondition, 64>
+    ensures { AreListed (λ c o. IsGreatestEnd closed.now (column_at place c) o) 8 result.items }
+{
+    let mut list = ArrayVec::new();
+    for column in 0..8 {
+        let attr = Attr {
+            stream: place,
+            column,
+        };
+        add(&mut list, greatest_end(closed, attr));
+    }
+    list
+}
+
+// The bounds of the columns of a stream above each other.
+fn differences(closed: &ClosedSystem, place: u8) -> ArrayVec<LocalCondition, 64>
+    ensures { AreListed (λ i o. IsBetween closed.now (column_at place (i / 8)) (column_at place (i % 8)) o) 64 result.items }
+{
+    let mut list = ArrayVec::new();
+    for i in 0..64 {
+        let left = Attr {
+            stream: place,
+            column: i / 8,
+        };
+        let right = Attr {
+            stream: place,
+            column: i % 8,
+        };
+        add(&mut list, between(closed, left, right));
+    }
+    list
+}
+
+// The comparisons `<>` of a stream.
+fn unlikes(closed: &ClosedSystem, place: u8) -> ArrayVec<LocalCondition, 64>
+    ensures { AreUnlikes place closed.now.atoms result.items }
+{
+    let mut list = ArrayVec::new();
+    for atom in closed.query().atoms() {
+        add(&mut list, unlike(place, atom));
+    }
+    list
+}
+
+// Adds what the rows of the stream at a place are asked. An error says that memory was not found.
+fn add_stream(
+    list: &mut Vec<LocalCondition>,
+    closed: &ClosedSystem,
+    place: u8,
+) -> Result<(), AllocError>
+    ensures { OnOk result (IsWithStream closed.now place list.old.items list.new.items) }
+{
+    list.extend_from_slice(ties(closed, place).as_slice())?;
+    list.extend_from_slice(least_ends(closed, place).as_slice())?;
+    list.extend_from_slice(greatest_ends(closed, place).as_slice())?;
+    list.extend_from_slice(differences(closed, place).as_slice())?;
+    list.extend_from_slice(unlikes(closed, place).as_slice())?;
+    Ok(())
+}
+
+/// Returns what the rows of each stream are asked: that a column equals the one that names its class, that this is within its range and no
+/// further above another than it can be, where the ranges do not say so, and the comparisons `<>` of the stream. A row that meets all of its
+/// stream is admitted. An error says that memory was not found.
+pub fn conditions_of(
+    alloc: Global,
+    closed: &ClosedSystem,
+) -> Result<Vec<LocalCondition>, AllocError>
+    ensures asked { IfOk result (λ list. AreConditions closed.now list.items) }
+    ensures admitted { IfOk result (λ list. (place : ℕ) → place < length closed.now.from → (v : ℕ → ℤ) → IsTrue (keeps_local place (alone v) list.items) ↔ RowMeets closed.now place v) }
+{
+    let mut list = Vec::new(alloc);
+    let from = closed.query().from();
+    for place in 0..from.len() {
+        add_stream(&mut list, closed, place as u8)?;
+    }
+    Ok(list)
+}
