@@ -1,15 +1,12 @@
 //! What is told of the parts of queries.
-ghost use Rattle.std.specs.Prelude.{◌≡◌, All, None};
+ghost use Rattle.std.specs.Prelude.{All};
 ghost use Rattle.bq_model.specs.Parts.{IsPart, sign_lists};
-ghost use Rattle.bq_parser.specs.Grammar.{IsWhole};
-ghost use Rattle.bq_parser.specs.Limits.{limit_of};
-ghost use Rattle.bq_parser.specs.Resolution.{IsTaken};
 
 use crate::fault::Fault;
+use crate::query::query_of;
 use bq_io::{Sink, write_all};
 use bq_lto_split::{SplitError, split};
 use bq_model::{Attr, Link, Part, Query};
-use bq_parser::{SelectAst, Statement, parse, resolve};
 use bq_refs::{Basis, Refs, refs};
 use bq_schema::Catalog;
 use std::alloc::Global;
@@ -106,41 +103,6 @@ fn show_each<O: Sink>(
     Ok(())
 }
 
-// What is told of the parts of a query.
-fn show_query<O: Sink>(
-    alloc: Global,
-    catalog: &Catalog,
-    select: &SelectAst,
-    out: &mut O,
-) -> Result<(), Fault>
-    requires { IsTaken select.now }
-{
-    let Ok(query) = resolve(select, catalog) else {
-        return Err(Fault::Line);
-    };
-    match split(alloc, &query) {
-        Ok(parts) => show_each(alloc, &query, &parts, out),
-        Err(SplitError::TooManyParts) => Err(Fault::Line),
-        Err(SplitError::Memory) => Err(Fault::Memory),
-    }
-}
-
-// What is told of the parts of the query of a statement.
-fn show_statement<O: Sink>(
-    alloc: Global,
-    catalog: &Catalog,
-    statement: Statement,
-    out: &mut O,
-) -> Result<(), Fault>
-    requires whole { IsWhole statement }
-    requires limits { limit_of statement ≡ None }
-{
-    match statement {
-        Statement::CreateQuery { select, .. } => show_query(alloc, catalog, &select, out),
-        _ => Err(Fault::Line),
-    }
-}
-
 /// Writes what is told of each part of the query of a CREATE QUERY statement: each attribute by place of FROM and column, its range or a
 /// star, and the place of its class; the equalities, the inequalities, and the references on both sides.
 pub fn show_refs<O: Sink>(
@@ -149,11 +111,10 @@ pub fn show_refs<O: Sink>(
     text: &[u8],
     out: &mut O,
 ) -> Result<(), Fault> {
-    if text.len() > 1024 {
-        return Err(Fault::Line);
-    }
-    match parse(text) {
-        Ok(statement) => show_statement(alloc, catalog, statement, out),
-        Err(_) => Err(Fault::Line),
+    let query = query_of(catalog, text)?;
+    match split(alloc, &query) {
+        Ok(parts) => show_each(alloc, &query, &parts, out),
+        Err(SplitError::TooManyParts) => Err(Fault::Line),
+        Err(SplitError::Memory) => Err(Fault::Memory),
     }
 }

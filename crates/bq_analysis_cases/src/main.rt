@@ -10,6 +10,7 @@ mod fault;
 mod links;
 mod numbers;
 mod parts;
+mod query;
 
 use crate::bounds::show_bounds;
 use crate::fault::Fault;

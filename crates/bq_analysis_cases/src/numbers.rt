@@ -1,17 +1,14 @@
 //! The numbers of the plans of queries.
-ghost use Rattle.std.specs.Prelude.{◌≡◌, ◌≤◌, length};
+ghost use Rattle.std.specs.Prelude.{◌≤◌, length};
 ghost use Rattle.bq_model.specs.Parts.{AreParts, sign_lists};
-ghost use Rattle.bq_parser.specs.Grammar.{IsWhole};
-ghost use Rattle.bq_parser.specs.Limits.{limit_of};
-ghost use Rattle.bq_parser.specs.Resolution.{IsTaken};
 
 use crate::fault::Fault;
+use crate::query::query_of;
 use bq_decide::decide;
 use bq_io::{Sink, write_all};
 use bq_layout::{LayoutError, layout};
 use bq_lto_split::{SplitError, split};
 use bq_model::{Decision, Numbers, Part, Plan, Query, Which};
-use bq_parser::{SelectAst, Statement, parse, resolve};
 use bq_schema::Catalog;
 use std::alloc::Global;
 
@@ -84,44 +81,6 @@ fn show_decided<O: Sink>(
     }
 }
 
-// The plan of a query, where it has few enough parts.
-fn show_plan<O: Sink>(
-    alloc: Global,
-    catalog: &Catalog,
-    select: &SelectAst,
-    out: &mut O,
-) -> Result<(), Fault>
-    requires { IsTaken select.now }
-{
-    let Ok(query) = resolve(select, catalog) else {
-        return Err(Fault::Line);
-    };
-    match split(alloc, &query) {
-        Ok(parts) => show_decided(alloc, &query, &parts, out),
-        Err(SplitError::TooManyParts) => {
-            write_all(out, b"too many parts")?;
-            Ok(())
-        }
-        Err(SplitError::Memory) => Err(Fault::Memory),
-    }
-}
-
-// The plan of the query of a statement.
-fn show_asked<O: Sink>(
-    alloc: Global,
-    catalog: &Catalog,
-    statement: Statement,
-    out: &mut O,
-) -> Result<(), Fault>
-    requires whole { IsWhole statement }
-    requires limits { limit_of statement ≡ None }
-{
-    match statement {
-        Statement::CreateQuery { select, .. } => show_plan(alloc, catalog, &select, out),
-        _ => Err(Fault::Line),
-    }
-}
-
 /// Writes the numbers of the plan of the query of a CREATE QUERY statement, or the first that is above its limit.
 pub fn show_planned<O: Sink>(
     alloc: Global,
@@ -129,11 +88,13 @@ pub fn show_planned<O: Sink>(
     text: &[u8],
     out: &mut O,
 ) -> Result<(), Fault> {
-    if text.len() > 1024 {
-        return Err(Fault::Line);
-    }
-    match parse(text) {
-        Ok(statement) => show_asked(alloc, catalog, statement, out),
-        Err(_) => Err(Fault::Line),
+    let query = query_of(catalog, text)?;
+    match split(alloc, &query) {
+        Ok(parts) => show_decided(alloc, &query, &parts, out),
+        Err(SplitError::TooManyParts) => {
+            write_all(out, b"too many parts")?;
+            Ok(())
+        }
+        Err(SplitError::Memory) => Err(Fault::Memory),
     }
 }

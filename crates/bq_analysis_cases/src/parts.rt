@@ -4,12 +4,12 @@ ghost use Rattle.std.specs.List.{All};
 ghost use Rattle.bq_schema.specs.Streams.{HasEnds};
 ghost use Rattle.bq_parser.specs.Grammar.{IsWhole};
 ghost use Rattle.bq_parser.specs.Limits.{limit_of};
-ghost use Rattle.bq_parser.specs.Resolution.{IsTaken};
 
 use crate::fault::Fault;
+use crate::query::query_of;
 use bq_io::{Sink, write_all};
 use bq_lto_split::{SplitError, split};
-use bq_parser::{SelectAst, Statement, parse, resolve};
+use bq_parser::{Statement, parse};
 use bq_schema::{Catalog, ColumnDef};
 use bq_text::Name;
 use std::alloc::Global;
@@ -70,18 +70,14 @@ pub fn show_stream<O: Sink>(
     }
 }
 
-// How many parts a query has.
-fn show_split<O: Sink>(
+/// Writes how many parts the query of a CREATE QUERY statement has.
+pub fn show_parts<O: Sink>(
     alloc: Global,
     catalog: &Catalog,
-    select: &SelectAst,
+    text: &[u8],
     out: &mut O,
-) -> Result<(), Fault>
-    requires { IsTaken select.now }
-{
-    let Ok(query) = resolve(select, catalog) else {
-        return Err(Fault::Line);
-    };
+) -> Result<(), Fault> {
+    let query = query_of(catalog, text)?;
     match split(alloc, &query) {
         Ok(parts) => {
             let text = format!(in alloc; "{} parts", parts.len())?;
@@ -91,36 +87,4 @@ fn show_split<O: Sink>(
         Err(SplitError::Memory) => return Err(Fault::Memory),
     }
     Ok(())
-}
-
-// How many parts the query of a statement has.
-fn show_asked<O: Sink>(
-    alloc: Global,
-    catalog: &Catalog,
-    statement: Statement,
-    out: &mut O,
-) -> Result<(), Fault>
-    requires whole { IsWhole statement }
-    requires limits { limit_of statement ≡ None }
-{
-    match statement {
-        Statement::CreateQuery { select, .. } => show_split(alloc, catalog, &select, out),
-        _ => Err(Fault::Line),
-    }
-}
-
-/// Writes how many parts the query of a CREATE QUERY statement has.
-pub fn show_parts<O: Sink>(
-    alloc: Global,
-    catalog: &Catalog,
-    text: &[u8],
-    out: &mut O,
-) -> Result<(), Fault> {
-    if text.len() > 1024 {
-        return Err(Fault::Line);
-    }
-    match parse(text) {
-        Ok(statement) => show_asked(alloc, catalog, statement, out),
-        Err(_) => Err(Fault::Line),
-    }
 }

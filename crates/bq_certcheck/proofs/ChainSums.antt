@@ -35,10 +35,6 @@ no_solution cs es h s =
 pub no_assignment : (q : QueryValue) (signs : List Sign) (numbers : List ℕ) → IsNegativeCycle (of_prefix q signs) numbers → ¬ IsFeasible q signs
 no_assignment q signs numbers h f = no_solution (of_prefix q signs) numbers h (satisfiable_if q signs f)
 
--- no part begins with the signs at an infeasible node
-pub no_part_begins : (q : QueryValue) (signs : List Sign) (numbers : List ℕ) → IsNegativeCycle (of_prefix q signs) numbers → (s : List Sign) → IsPart q s → ¬ StartsWith signs s
-no_part_begins q signs numbers h s p w = no_assignment q signs numbers h (feasible_where q signs p.one p.inside.holds p.inside.domains record { rest = w.rest; is = p.inside.signs ∙ w.is })
-
 -- what a constraint that may not be there adds to a sum
 abbrev pub bound_or : Option Constraint → ℤ
 bound_or None = pos 0

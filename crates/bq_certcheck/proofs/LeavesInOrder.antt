@@ -122,11 +122,6 @@ leaves_are_parts q l nodes g =
 
 -- ---- the walk over the nodes
 
--- good nodes go on with a good node
-pub good_more : {q : QueryValue} {at : Option (List Sign)} {nodes : List Node} {signs : List Sign} (node : Node) → AreGood q at nodes (Some signs) → IsGoodNode q signs node → AreGood q at (nodes ++ node ∷ []) (after signs node)
-good_more node done g = next g done
-good_more node (next h rest) g = next h (good_more node rest g)
-
 -- good nodes go on with good nodes
 pub good_joined : {q : QueryValue} {at mid end : Option (List Sign)} {nodes others : List Node} → AreGood q at nodes mid → AreGood q mid others end → AreGood q at (nodes ++ others) end
 good_joined done g = g
@@ -142,26 +137,6 @@ leaves_joined others (next {signs} {node} {nodes} {end} g rest) =
 pub leaves_more : {q : QueryValue} {at : Option (List Sign)} {nodes : List Node} {signs : List Sign} (node : Node) → AreGood q at nodes (Some signs) → leaves_of at (nodes ++ node ∷ []) ≡ leaves_of at nodes ++ leaf_at signs node
 leaves_more {at = at} {nodes = nodes} {signs = signs} node g =
     leaves_joined (node ∷ []) g ∙ ap (λ z. leaves_of at nodes ++ (leaf_at signs node ++ z)) (leaves-nil (after signs node)) ∙ ap (λ z. leaves_of at nodes ++ z) (append-nil (leaf_at signs node))
-
-get_behind : {A : Type 0} (xs : List A) (y : A) (ys : List A) → slice_get (xs ++ y ∷ ys) (length xs) ≡ Some y
-get_behind [] y ys = refl
-get_behind (x ∷ xs) y ys = get_behind xs y ys
-
--- a leaf behind good nodes is the one whose number is how many leaves are before it
-pub leaf_has_number : {q : QueryValue} {at : Option (List Sign)} {nodes : List Node} {signs : List Sign} (paths : List Path) (others : List Node) → AreGood q at nodes (Some signs) → slice_get (leaves_of at (nodes ++ leaf paths ∷ others)) (length (leaves_of at nodes)) ≡ Some signs
-leaf_has_number {at = at} {nodes = nodes} {signs = signs} paths others g =
-    ap (λ z. slice_get z (length (leaves_of at nodes))) (leaves_joined (leaf paths ∷ others) g) ∙ get_behind (leaves_of at nodes) signs (leaves_of (following signs) others)
-
--- the leaves of good nodes keep their numbers when nodes follow
-pub leaves_keep_numbers : {q : QueryValue} {at mid : Option (List Sign)} {nodes : List Node} (others : List Node) (k : ℕ) (signs : List Sign) → AreGood q at nodes mid → slice_get (leaves_of at nodes) k ≡ Some signs → slice_get (leaves_of at (nodes ++ others)) k ≡ Some signs
-leaves_keep_numbers {at = at} {mid = mid} {nodes = nodes} others k signs g h =
-    ap (λ z. slice_get z k) (leaves_joined others g) ∙ slice_get-append (leaves_of at nodes) (leaves_of mid others) k signs h
-
--- the leaf that stands behind so many others in a good tree is the part with this number
-pub leaf_is_part_number : (q : QueryValue) → IsWithinLimits q → (before : List Node) (signs : List Sign) (paths : List Path) (behind : List Node) (parts : List (List Sign)) → IsGood q (before ++ leaf paths ∷ behind) → AreGood q (Some []) before (Some signs) → AreParts q parts → slice_get parts (length (leaves_of (Some []) before)) ≡ Some signs
-leaf_is_part_number q l before signs paths behind parts g h a =
-    let e : parts ≡ leaves_of (Some []) (before ++ leaf paths ∷ behind) = one_list_of_parts q parts (leaves_of (Some []) (before ++ leaf paths ∷ behind)) a (leaves_are_parts q l (before ++ leaf paths ∷ behind) g) in
-    ap (λ z. slice_get z (length (leaves_of (Some []) before))) e ∙ leaf_has_number paths behind h
 
 -- a good tree has as many leaves as the query has parts
 pub has_parts : (q : QueryValue) → IsWithinLimits q → (nodes : List Node) → IsGood q nodes → HasParts q (length (leaves_of (Some []) nodes))

@@ -22,19 +22,11 @@ same_some h = cc
 
 -- ---- one path
 
--- a path has a number
-path_numbers : (cs : List Constraint) (es : List ℕ) (i j : ℕ) (s : ℤ) → i ≢ j → IsChain cs es i j s → 0 < length es
-path_numbers cs [] i j s n h = absurd (n h.0)
-path_numbers cs (e ∷ es) i j s n h = omega arith
-
 pub not_along : (attrs : ℕ) (cs : List Constraint) (p : Path) (c : ChainSum) → IsChainOf cs p.numbers.items (Some c) → ¬ ((c.from ≡ p.from) × (c.to ≡ p.to)) → ¬ IsPath attrs cs p
 not_along attrs cs p c h n g =
     let begin : c.from ≡ p.from = chain_start cs p.numbers.items c.from c.to p.from p.to c.sum g.sum h.0 h.1 g.chain in
     let there = chain_begin cs p.numbers.items c.from p.from c.to c.sum begin h.1 in
     n (begin, (chain_same cs p.numbers.items p.from c.to p.to c.sum g.sum there g.chain).0)
-
-pub not_chained : (attrs : ℕ) (cs : List Constraint) (p : Path) → IsChainOf cs p.numbers.items None → ¬ IsPath attrs cs p
-not_chained attrs cs p h g = h p.from p.to g.sum (path_numbers cs p.numbers.items p.from p.to g.sum g.differ g.chain) g.chain
 
 -- ---- the order of paths, by their places
 

@@ -100,9 +100,6 @@ goes_on begin old mid new s t e d n h = ap Some h ∙ sym (following_more mid.si
 pub drops_on : (begin : List Sign) (old mid : TreeCursor) (s : Sign) → following old.signs.items ≡ following begin → Drops (Some s) old mid → next_sign s ≡ None → following mid.signs.items ≡ following begin
 drops_on begin old mid s e d n = sym (following_same mid.signs.items s n) ∙ sym (ap following d.0) ∙ e
 
-pub ends_here : (begin : List Sign) (old mid : TreeCursor) → following old.signs.items ≡ following begin → Drops None old mid → at false mid.signs.items ≡ following begin
-ends_here begin old mid e d = sym (ap following d.0) ∙ e
-
 pub stands_root : (q : QueryValue) (p : TreeCursor) → p.signs.items ≡ [] → p.constraints.items ≡ of_base q → All (IsWithin 12) p.constraints.items → IsWithinLimits q → Stands q p
 stands_root q p es ec w l =
     let n : length p.signs.items ≡ 0 = ap length es in

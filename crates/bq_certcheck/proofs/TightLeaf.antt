@@ -80,8 +80,3 @@ leaf_is_part q w signs paths g =
 -- the bounds of a good leaf are tight
 pub leaf_is_tight : (q : QueryValue) (signs : List Sign) (paths : List Path) → IsGoodLeaf q signs paths → IsTight (length (attrs_of q.atoms)) (of_prefix q signs) paths
 leaf_is_tight q signs paths g = closed_is_tight (length (attrs_of q.atoms)) (of_prefix q signs) paths g.are_paths g.closed (prefix_leads q signs)
-
--- what is a bound or none in a good leaf is the least bound or none over all solutions
-pub upper_by_bound : (q : QueryValue) (signs : List Sign) (paths : List Path) → IsGoodLeaf q signs paths → (i j : ℕ) → i ≤ length (attrs_of q.atoms) → j ≤ length (attrs_of q.atoms) → (o : Option ℤ) → IsBoundAnswer (of_prefix q signs) paths i j o → IsUpperAnswer (of_prefix q signs) i j o
-upper_by_bound q signs paths g i j li lj None h = (leaf_is_tight q signs paths g).passed i j li lj h
-upper_by_bound q signs paths g i j li lj (Some u) h = (leaf_is_tight q signs paths g).reached i j li lj u h

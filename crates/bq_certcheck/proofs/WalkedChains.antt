@@ -39,12 +39,6 @@ pub record Leads (cs : List Constraint) (es : List ℕ) (i : ℕ) (rest : List �
   pub ahead : (k : ℕ) (s : ℤ) → IsChain cs es i k s → IsChain cs rest j k (s -ℤ r)
   pub back : (k : ℕ) (s : ℤ) → IsChain cs rest j k s → IsChain cs es i k (s +ℤ r)
 
-pub leads_start : (cs : List Constraint) (es : List ℕ) (i : ℕ) → Leads cs es i es i (pos 0)
-leads_start cs es i = record {
-  ahead = λ k s h. chain_sum cs es i k s (s -ℤ pos 0) (omega (arith, ints)) h;
-  back = λ k s h. chain_sum cs es i k s (s +ℤ pos 0) (omega (arith, ints)) h;
-}
-
 module _ (cs : List Constraint) (es : List ℕ) (i e : ℕ) (rest : List ℕ) (j : ℕ) (r : ℤ) (l : Leads cs es i (e ∷ rest) j r) where
   pub leads_more : (c : Constraint) → numbered cs e ≡ Some c → c.left ≡ j → Leads cs es i rest c.right (r +ℤ c.bound)
   leads_more c n here = record {
@@ -93,29 +87,10 @@ chain_start cs (e ∷ es) i j k l s t n h g =
 
 -- ---- the answers
 
-pub no_numbers : (cs : List Constraint) (es : List ℕ) → length es ≡ 0 → IsChainOf cs es None
-no_numbers cs es e = λ i j s l h. omega arith
-
-pub no_first : (cs : List Constraint) (es : List ℕ) (e : ℕ) → slice_get es 0 ≡ Some e → numbered cs e ≡ None → IsChainOf cs es None
-no_first cs [] e f n = λ i j s l h. omega arith
-no_first cs (d ∷ es) e f n = λ i j s l h.
-    let there : numbered cs d ≡ Some h.0 = numbered_at cs d h.0 h.1 h.2 in
-    let same : d ≡ e = same_some f in
-    let here : numbered cs e ≡ Some h.0 = subst (λ z. numbered cs z ≡ Some h.0) same there in
-    cc
-
 begins : (cs : List Constraint) (e : ℕ) (es : List ℕ) (c : Constraint) (i j : ℕ) (s : ℤ) → numbered cs e ≡ Some c → IsChain cs (e ∷ es) i j s → i ≡ c.left
 begins cs e es c i j s n h =
     let same : h.0 ≡ c = same_some (sym h.2 ∙ (numbered_some cs e c n).1) in
     sym h.3 ∙ ap (λ (d : Constraint). d.left) same
-
-pub from_first : (cs : List Constraint) (es : List ℕ) (e : ℕ) (c : Constraint) (r : Option ChainSum) → slice_get es 0 ≡ Some e → numbered cs e ≡ Some c → IsChainFrom cs es c.left r → IsChainOf cs es r
-from_first cs [] e c r f n h = absurd cc
-from_first cs (d ∷ es) e c (Some a) f n h = (omega arith, chain_begin cs (d ∷ es) c.left a.from a.to a.sum (sym h.0) h.1)
-from_first cs (d ∷ es) e c None f n h = λ i j s l g.
-    let same : d ≡ e = same_some f in
-    let at : numbered cs d ≡ Some c = subst (λ z. numbered cs z ≡ Some c) (sym same) n in
-    h j s (chain_begin cs (d ∷ es) i c.left j s (begins cs d es c i j s at g) g)
 
 -- no numbers have no negative sum
 some_numbers : (cs : List Constraint) (es : List ℕ) → IsNegativeCycle cs es → 0 < length es

@@ -174,20 +174,6 @@ closed_at c (later (later (later (later (later i))))) j l u h = elim i [ ]
 are_closed : AreClosed 1 at_leaf (up ∷ down ∷ [])
 are_closed = record { closed = λ c m j l u h. closed_at c (Has-from_contains at_leaf c m) j l u h }
 
--- without the path down, which ends at the greatest integer of the domain, the bounds are not closed
-pub one_side_is_open : ¬ AreClosed 1 at_leaf (up ∷ [])
-one_side_is_open h =
-    let b : HasBound at_leaf (up ∷ []) 1 0 (pos 3 +ℤ pos 0) = h.closed to_three (2, omega arith, refl) 0 (omega arith) (pos 0) (same refl refl) in
-    none_down b.bound b.is
-  where
-    from_zero : (p : Path) → Has (up ∷ []) p → p.from ≡ 0
-    from_zero p first = refl
-    from_zero p (later i) = elim i [ ]
-
-    none_down : (u : ℤ) → IsBound at_leaf (up ∷ []) 1 0 u → ⊥
-    none_down u (same e z) = omega (arith, e)
-    none_down u (of_path p i f t c) = let z : p.from ≡ 0 = from_zero p (Has-from_contains (up ∷ []) p i) in omega (arith, f, z)
-
 may_be_part : MayBePart query (Sign.Gt ∷ Sign.Gt ∷ [])
 unfolding pairs
 may_be_part = record { whole = refl; agree = refl }

@@ -80,13 +80,6 @@ row_stays ds es i r columns n head j ne lj w = elim (sides i r ne) [
   | inr gt ↦ w.before (13 * r + j) (omega arith)
 ]
 
-pub lowers_none : (ds : List Distance) (i r : ℕ) (columns : List ℕ) (head : ℤ) → Lowers ds i r columns 0 head ds
-lowers_none ds i r columns head = record {
-  here = λ j lj. stays refl (λ m lm. absurd (omega (arith, lm)));
-  before = λ k l. refl;
-  later = λ k l. refl;
-}
-
 -- one column more
 pub lowers_more : (ds vs : List Distance) (i r : ℕ) (columns : List ℕ) (k : ℕ) (head : ℤ) (j : ℕ) (o : Distance) → i ≢ r → j < 13 → 13 * i + j < length vs → get_or columns k 0 ≡ j → Lowers ds i r columns k head vs
     → bound_of o ≡ lesser (between vs i j) (onward head (between vs r j)) → Lowers ds i r columns (k + 1) head (set vs (13 * i + j) o)

@@ -12,9 +12,6 @@ zip_push R (w ∷ xs) (z ∷ ys) x y h r = (h.0, zip_push R xs ys x y h.1 r)
 pub zip_more : {A B : Type 0} (R : A → B → Type 0) (xs : List A) (ys : List B) (i : ℕ) (d : A) (y : B) → i < length xs → AllZip R (take i xs) ys → R (slice_index_or xs i d) y → AllZip R (take (i + 1) xs) (ys ++ y ∷ [])
 zip_more {A} {B} R xs ys i d y l h r = subst (λ (z : List A). AllZip R z (ys ++ y ∷ [])) (sym (take_more xs i d l)) (zip_push R (take i xs) ys (get_or xs i d) y h r)
 
-pub zip_end : {A B : Type 0} (R : A → B → Type 0) (xs : List A) (ys : List B) (i : ℕ) → length xs ≤ i → AllZip R (take i xs) ys → AllZip R xs ys
-zip_end {A} R xs ys i l h = subst (λ (z : List A). AllZip R z ys) (take_all i xs l) h
-
 pub zip_length : {A B : Type 0} (R : A → B → Type 0) (xs : List A) (ys : List B) → AllZip R xs ys → length ys ≡ length xs
 zip_length R [] [] h = refl
 zip_length R [] (y ∷ ys) h = absurd h

@@ -1,16 +1,14 @@
 //! Difference bounds that are kept closed.
 ghost use Rattle.std.specs.Prelude.{◌≡◌, ℕ, ◌+◌, ◌<◌, ◌≤◌, [], ◌∷◌, ◌++◌, List, length, map, pos, neg_ℤ, ◌≤ℤ◌, ◌<ℤ◌, ◌+ℤ◌, ◌-ℤ◌, ℤ, ◌^◌, ◌*◌, filter, IsTrue, IsFalse, ◌↔◌, MatchOption, Some, None, take, All};
 ghost use Rattle.bq_model.specs.Query.{attrs_of, is_soft};
-ghost use Rattle.bq_model.specs.Order.{IsElement};
 ghost use Rattle.bq_constraints.specs.Solutions.{IsWithin, IsSatisfiable};
 ghost use Rattle.bq_constraints.specs.PartConstraints.{of_base};
-ghost use Rattle.bq_constraints.specs.Nodes.{node_of, offset_of, IsWithinLimit};
 ghost use Rattle.bq_closure.specs.Answers.{IsBelow, IsAbove};
 
 use crate::closure::Closure;
 use arrayvec::ArrayVec;
-use bq_constraints::{Constraint, difference, node, of_query};
-use bq_model::{Attr, Element, Query};
+use bq_constraints::{Constraint, of_query};
+use bq_model::Query;
 use std::marker::Model;
 
 /// At most 268 constraints between the number 0 and at most 12 attributes, with what they imply. A clause sees how many
@@ -34,7 +32,6 @@ impl Model for Bounds {
 impl Bounds {
     ghost use Rattle.bq_constraints.specs.Solutions.{IsUpperAnswer, IsLowAnswer, IsHighAnswer};
     ghost use Rattle.bq_closure.specs.Answers.{IsSmall, IsPathAnswer, IsCycleAnswer, IsSolveAnswer, list_of};
-    ghost use Rattle.bq_constraints.specs.Nodes.{IsAlwaysLess, IsAlwaysEqual, IsAlwaysAbove};
 
     /// Makes bounds with no constraint, for at most 12 attributes.
     pub fn new(attrs: u8) -> Bounds
@@ -177,51 +174,6 @@ impl Bounds {
         }
     }
 
-    // Whether x is at most `by` above y in all solutions.
-    fn keeps(&self, attrs: &[Attr], x: Element, y: Element, by: i64) -> bool
-        requires few { length attrs.now ≤ 12 }
-        requires left { node_of attrs.now x ≤ self.now.attrs }
-        requires right { node_of attrs.now y ≤ self.now.attrs }
-        requires left_limit { IsWithinLimit x }
-        requires right_limit { IsWithinLimit y }
-        requires satisfiable { IsSatisfiable self.now.constraints }
-        requires low { neg_ℤ (pos 1) ≤ℤ by }
-        requires high { by ≤ℤ pos 0 }
-        ensures { IsTrue result ↔ IsAlwaysAbove attrs.now self.now.constraints x y by }
-    {
-        match self.upper(node(attrs, x), node(attrs, y)) {
-            Some(bound) => bound <= limit(x, y, by),
-            None => false,
-        }
-    }
-
-    /// Returns whether x is less than y in all solutions. Both are elements of a query with as many attributes.
-    pub fn lt(&self, x: Element, y: Element, q: &Query) -> bool
-        requires attrs { self.now.attrs ≡ length (attrs_of q.now.atoms) }
-        requires left { IsElement q.now x }
-        requires right { IsElement q.now y }
-        requires satisfiable { IsSatisfiable self.now.constraints }
-        ensures { IsTrue result ↔ IsAlwaysLess q.now self.now.constraints x y }
-    {
-        self.keeps(q.attrs(), x, y, -1)
-    }
-
-    /// Returns whether x is equal to y in all solutions. Both are elements of a query with as many attributes.
-    pub fn eq(&self, x: Element, y: Element, q: &Query) -> bool
-        requires attrs { self.now.attrs ≡ length (attrs_of q.now.atoms) }
-        requires left { IsElement q.now x }
-        requires right { IsElement q.now y }
-        requires satisfiable { IsSatisfiable self.now.constraints }
-        ensures { IsTrue result ↔ IsAlwaysEqual q.now self.now.constraints x y }
-    {
-        let attrs = q.attrs();
-        if self.keeps(attrs, x, y, 0) {
-            self.keeps(attrs, y, x, 0)
-        } else {
-            false
-        }
-    }
-
     /// Returns a value for each attribute, which together meet all constraints and give node `i` the value. Each lies within
     /// 10^17 plus the size of the value, which is within 10^30 either way. None where the value is below the least or above
     /// the greatest of the node.
@@ -271,15 +223,4 @@ fn is_above(value: i128, greatest: Option<i128>) -> bool
         Some(high) => high < value,
         None => false,
     }
-}
-
-// The bound between the nodes of two elements that keeps the first at most `by` above the second.
-fn limit(x: Element, y: Element, by: i64) -> i128
-    requires left { IsWithinLimit x }
-    requires right { IsWithinLimit y }
-    requires low { neg_ℤ (pos 1) ≤ℤ by }
-    requires high { by ≤ℤ pos 0 }
-    ensures { result ≡ offset_of y -ℤ offset_of x +ℤ by }
-{
-    i128::from(difference(x, y, by))
 }

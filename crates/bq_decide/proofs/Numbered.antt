@@ -36,9 +36,6 @@ part_there q xs i s a e = subst (IsPart q) (is xs i s e) (All-get_or (IsPart q) 
     is (x ∷ xs) zero s e = cc
     is (x ∷ xs) (suc i) s e = is xs i s e
 
-pub none_at_first : (q : QueryValue) (xs : List (List Sign)) → NoneBefore q xs 0
-none_at_first q xs = record { none = λ k s l. absurd (omega arith) }
-
 last_or_before : (k i : ℕ) → k < i + 1 → (k < i) ⊎ (k ≡ i)
 last_or_before k i l = grind arith
 

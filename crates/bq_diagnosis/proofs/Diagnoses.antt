@@ -107,10 +107,6 @@ pub found_statement : (streams : List Shape) (live : List (List ℕ)) (text : Li
 found_statement streams live text s (Ok asked) is within h = record { asked = stated s is within h.asked; facts = h.facts }
 found_statement streams live text s (Err fault) is within h = record { asked = stated s is within h.asked; facts = of_statement streams live text s fault is within h.facts }
 
--- a line with nothing in it
-pub found_nothing : (streams : List Shape) (live : List (List ℕ)) (line text : List ℕ) → length line ≤ 1024 → kind_of_line (stripped line) ≡ kinds.Nothing → stripped line ≡ text → IsDiagnosis streams live line (Ok asks.Nothing)
-found_nothing streams live line text short k t = record { asked = of_kind streams live kinds.Nothing line text (Ok asks.Nothing) short k t refl; facts = tt }
-
 -- a line that is read as a statement
 pub found_text : (streams : List Shape) (live : List (List ℕ)) (line text : List ℕ) (result : Result Asks Fault) → length line ≤ 1024 → kind_of_line (stripped line) ≡ kinds.StatementLine → text ≡ stripped line
     → IsTextDiagnosis streams live text result → IsDiagnosis streams live line result
@@ -118,20 +114,4 @@ found_text streams live line text (Ok asked) short k t h = record { asked = of_k
 found_text streams live line text (Err fault) short k t h = record {
   asked = of_kind streams live kinds.StatementLine line text (Err (word_of fault)) short k (sym t) h.asked;
   facts = of_text streams live line fault (subst (λ x. IsTrueOfText streams live x fault) t h.facts);
-}
-
--- a row line that is no row
-pub found_fault : (streams : List Shape) (live : List (List ℕ)) (line text : List ℕ) (fault : Fault) → length line ≤ 1024 → kind_of_line (stripped line) ≡ kinds.RowLine → text ≡ stripped line
-    → HasRowFault streams text fault → IsDiagnosis streams live line (Err fault)
-found_fault streams live line text fault short k t h = record {
-  asked = of_kind streams live kinds.RowLine line text (Err (word_of fault)) short k (sym t) (ap Err (sym h.word) ∙ ap row_asked (sym h.refused));
-  facts = of_row streams live line fault (subst (λ x. IsOfRow streams x fault) t h.fact);
-}
-
--- a row
-pub found_row : (streams : List Shape) (live : List (List ℕ)) (line text : List ℕ) → length line ≤ 1024 → kind_of_line (stripped line) ≡ kinds.RowLine → text ≡ stripped line
-    → IsRowFault streams text None → IsDiagnosis streams live line (Ok asks.Row)
-found_row streams live line text short k t h = record {
-  asked = of_kind streams live kinds.RowLine line text (Ok asks.Row) short k (sym t) (ap row_asked (sym h.1));
-  facts = tt;
 }

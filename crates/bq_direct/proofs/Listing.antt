@@ -15,12 +15,6 @@ use Rattle.bq_direct.specs.declared.direct.DirectLookup.{DirectLookup}
 use Rattle.bq_direct.specs.declared.direct.DirectLookups.{DirectLookups}
 use Rattle.bq_direct.specs.Direct.{IsListedFrom, IsDirect, IsDirectFor, AreDirect}
 
--- a list of one range
-pub only-axis : (xs : List Axis) (a o : Axis) → length xs ≡ 1 → a ≡ get_or xs 0 o → xs ≡ a ∷ []
-only-axis [] a o n e = absurd (omega (arith, n))
-only-axis (x ∷ []) a o n e = ap (λ (t : Axis). t ∷ []) (sym e)
-only-axis (x ∷ y ∷ xs) a o n e = absurd (omega (arith, n))
-
 -- what is listed says how the only part takes a row
 module _ (q : QueryValue) (plan : List PartPlan) (p : Prepared) (place stream : ℕ) (listed : JoinLookup) (own other : BoxLayout) (selected : List ℕ)
     (one : length plan ≡ 1) (here : place < length q.from) (stream_is : stream ≡ slice_index_or q.from place 0)
@@ -46,12 +40,3 @@ module _ (q : QueryValue) (plan : List PartPlan) (p : Prepared) (place stream : 
           columns = subst (λ n. map (told_column listed.told.items listed.place n) q.select ≡ map (λ (c : ℕ). Some c) d.selected.items) (sym at.1) (told ∙ ap (map (λ (c : ℕ). Some c)) (sym at.2));
         };
   }
-
--- one that is listed is the first or the second
-pub listed-direct : (q : QueryValue) (plan : List PartPlan) (all : DirectLookups) → IsDirectFor q plan all.first → IsDirectFor q plan all.second → AreDirect q plan all
-listed-direct q plan all first second d (inl e) = subst (IsDirectFor q plan) e first
-listed-direct q plan all first second d (inr e) = subst (IsDirectFor q plan) e second
-
--- where nothing is listed
-pub none-direct : (q : QueryValue) (plan : List PartPlan) (d : DirectLookup) → d.stream ≡ 256 → IsDirectFor q plan d
-none-direct q plan d e = λ few. absurd (omega (arith, e, few))

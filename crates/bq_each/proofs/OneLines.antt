@@ -118,20 +118,6 @@ passes-plain base low last below below' name piece count n none up w =
         view-appends base _ _ t t t' (take n piece) (none-view base last t none)
         (λ e. (passed-told base t' (ap (begins base) p ∙ begins-longer base t (take n piece) e) (ap ends_in_feed p ∙ ends-plain t (take n piece) some plain), p))
 
-known-same : (base : Option (List ℕ)) (last : Last) (a b : Option (List ℕ)) → Keeps a b → Keeps (told_by base last a) (told_by base last b)
-known-same base last None b p = tt
-known-same base last (Some t) None p = absurd p
-known-same base last (Some t) (Some t') p = subst (λ l. Keeps (told_by base last (Some t)) (told_by base last (Some l))) (sym p) (itself (told_by base last (Some t)))
-  where
-    itself : (o : Option (List ℕ)) → Keeps o o
-    itself None = tt
-    itself (Some x) = refl
-
--- the sink below failed, and nothing was changed
-pub fails-below : (base : Option (List ℕ)) (low : ℕ) (last : Last) (below below' : SinkState) (name : ℕ) (piece part : List ℕ) → WritesSome Failed part below below'
-    → WritesSome Failed piece (one_line_seen base low last below name) (one_line_seen base low last below' name)
-fails-below base low last below below' name piece part w = (w.0, known-same base last below.written below'.written w.1, one-later base low last last below below' name w.2)
-
 -- one byte was passed on
 one-byte : (n b : ℕ) → 0 < n → n ≤ length (b ∷ []) → take n (b ∷ []) ≡ b ∷ []
 one-byte zero b some few = absurd (omega (arith, some))
@@ -140,25 +126,6 @@ one-byte (suc (suc n)) b some few = absurd (omega (arith, few))
 
 byte-below : (b n : ℕ) (below below' : SinkState) → WritesSome (Took n) (b ∷ []) below below' → Appends below.written below'.written (b ∷ [])
 byte-below b n below below' w = subst (Appends below.written below'.written) (one-byte n b w.0 w.1) w.2.bytes
-
--- an LF that was held back was passed on, and the byte behind it is held back in its place
-pub passes-feed : (base : Option (List ℕ)) (low : ℕ) (below below' : SinkState) (name : ℕ) (b n : ℕ) (piece : List ℕ) → 0 < length piece → WritesSome (Took n) (b ∷ []) below below'
-    → WritesSome (Took 1) piece (one_line_seen base low (Held b) below name) (one_line_seen base low (Held (slice_index piece 0)) below' name)
-passes-feed base low below below' name b n piece some w = (
-  omega arith,
-  omega (arith, some),
-  record {
-    bytes = by_known below.written below'.written (byte-below b n below below' w);
-    later = one-later base low (Held b) (Held (slice_index piece 0)) below below' name w.2.later;
-  },
-)
-  where
-    by_known : (x y : Option (List ℕ)) → Appends x y (b ∷ []) → Appends (told_by base (Held b) x) (told_by base (Held (slice_index piece 0)) y) (take 1 piece)
-    by_known None y p = tt
-    by_known (Some t) None p = absurd p
-    by_known (Some t) (Some t') p =
-        view-appends base _ _ t (t ++ b ∷ []) (t' ++ slice_index piece 0 ∷ []) (take 1 piece) (held-view base b t)
-        (λ e. (held-told base (slice_index piece 0) t' (ap (begins base) p ∙ begins-longer base t (b ∷ []) e), ap (λ l. l ++ slice_index piece 0 ∷ []) p ∙ ap (λ l. (t ++ b ∷ []) ++ l) (sym (first-byte piece some))))
 
 -- another byte that was held back was passed on
 behind-other : (base : Option (List ℕ)) (b : ℕ) → b ≢ 10 → (x y : Option (List ℕ)) → Appends x y (b ∷ []) → Appends (told_by base (Held b) x) (told_by base Passed y) []

@@ -67,23 +67,6 @@ catalog_inner streams is = each_weaker IsShape HasInnerNames shape_inner streams
 abbrev InnerToken : Lexeme → Type 0
 InnerToken l = Inner (text_for l)
 
-key_inner : (k : Key) → Inner (key_text k)
-key_inner CreateKey = refl
-key_inner StreamKey = refl
-key_inner QueryKey = refl
-key_inner AsKey = refl
-key_inner SelectKey = refl
-key_inner DistinctKey = refl
-key_inner FromKey = refl
-key_inner WhereKey = refl
-key_inner AndKey = refl
-key_inner ExplainKey = refl
-key_inner DropKey = refl
-key_inner InKey = refl
-key_inner SharedKey = refl
-key_inner CheckpointKey = refl
-key_inner ResumeKey = refl
-
 key_some : (k : Key) → 0 < length (key_text k)
 key_some CreateKey = omega arith
 key_some StreamKey = omega arith

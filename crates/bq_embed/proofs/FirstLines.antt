@@ -18,13 +18,6 @@ first_line text len feed =
 pub not_plain : (text : List ℕ) → IsEnded text → IsPlain text → ⊥
 not_plain text ended plain = plain (length text - 1) 0 (omega (arith, some_ended text ended)) ended
 
--- what is left of whole lines ends with LF
-pub left_ended : (text : List ℕ) (k : ℕ) → AreWholeLines text → k < length text → IsEnded (drop k text)
-left_ended text k (inl none) room = absurd (omega (arith, room, ap length none))
-left_ended text k (inr ended) room =
-    let last : k + (length (drop k text) - 1) ≡ length text - 1 = omega (arith, room, length-drop k text) in
-    get_or-drop k text (length (drop k text) - 1) 0 ∙ ap (λ (n : ℕ). get_or text n 0) last ∙ ended
-
 -- the first line of what is left lies within the text
 pub within : (text rest : List ℕ) (taken len : ℕ) → rest ≡ drop taken text → len < length rest → taken + (len + 1) ≤ length text
 within text rest taken len at room = omega (arith, room, ap length at, length-drop taken text)

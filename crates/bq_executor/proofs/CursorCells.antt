@@ -85,10 +85,6 @@ are-same known q parts plans read other agree table are n part there place i l m
     saturated-same q part (All-contains (IsPartPlan q) parts part plans (Contains-from_has parts part k)) read other (agree part k) table place i l m
     (are n part there place i l m is)
 
--- nothing is known of none
-pub of-none : (q : QueryValue) (parts : List PartPlan) (read : Reading) (table : List (List ℤ)) → AreSaturated Saturation.None q parts read table
-of-none q parts read table n part there place i l m is = absurd is
-
 -- parts that are ready for a row are ready to be looked at
 each-ready : (q : QueryValue) (parts : List PartPlan) (pool : PoolValue) (e : Extent) → AreReady q parts pool e → (part : PartPlan) → Contains parts part → IsReady q part pool e
 each-ready q parts pool e ready part k =

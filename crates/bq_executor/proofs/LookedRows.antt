@@ -45,13 +45,6 @@ module _ (e : ExecutorValue) (sound : IsSound e) (pool : PoolValue) (ready : IsR
         (agree e sound pool ready none sound.ascends) (tuples_in e) (are d);
   }
 
--- it is ready for the row
-pub looked-ready : (e x : ExecutorValue) (pool : PoolValue) → IsReady e pool → x ≡ with_saturation e x.saturation → AreKept x pool → IsReady x pool
-looked-ready e x pool ready same kept = record {
-  kept = kept;
-  few = (let g : x.given ≡ e.given = ap (λ (y : ExecutorValue). y.given) same in let f = ready.few in omega (arith, g, f));
-}
-
 stands-looked : (e : ExecutorValue) (s : Saturation) (pool : PoolValue) (history : List Arrival) → StandsFor e pool history → StandsFor (with_saturation e s) pool history
 stands-looked e s pool history h = record { live = h.live; cells = h.cells; rest = h.rest; given = h.given; rows = h.rows; tuples = h.tuples }
 

@@ -34,12 +34,6 @@ range-front bytes a f n lt =
     let same : a + n - a ≡ n = omega arith in
     ap (λ k. take k (drop a bytes)) same ∙ sym (take-within (drop a bytes) n (f - a) (omega (arith, below-range bytes a f n lt)))
 
--- what is read is all that is ahead
-pub range-read : (bytes : List ℕ) (n most : ℕ) → n ≤ length (take most bytes) → slice_range bytes 0 n ≡ take n (take most bytes)
-range-read bytes n most le =
-    let same : n - 0 ≡ n = omega arith in
-    ap (λ k. take k bytes) same ∙ sym (take-within bytes n most (omega (arith, length-take most bytes)))
-
 -- the line that begins in front of a buffer and ends in it
 pub fed-line : (begun rest front later : List ℕ) (n : ℕ) → n < length rest → get_or rest n 0 ≡ 10 → front ≡ take n rest → later ≡ drop (n + 1) rest → begun ++ rest ≡ ((begun ++ front) ++ 10 ∷ []) ++ later
 fed-line begun rest front later n lt e f l =

@@ -79,9 +79,6 @@ pub rows-size : (gates : List (Option Lock)) (s : State) (starts ends : List Sou
     → length i.standing.rows ≡ length all
 rows-size gates s starts ends all before below held lines round place i = sym (length-lanes i.standing.rows) ∙ ap (length {A = Lane}) i.standing.lanes
 
-pub around-state : (gates : List (Option Lock)) (s : State) (starts ends : List SourceState) (all : List Lane) (session : SessionValue) (before below : SinkState) (held : List ℕ) (lines round place : ℕ) → Around gates s starts ends all session before below held lines round place → HasState session
-around-state gates s starts ends all session before below held lines round place i = record { state = i.kept; stands = i.stands }
-
 pub inside-state : (gates : List (Option Lock)) (s : State) (answered pending : List Told) (session : SessionValue) (lines place : ℕ) → Inside gates s answered pending session lines place → HasState session
 inside-state gates s answered pending session lines place i = record { state = under gates (1 + place) (at gates s (answered ++ pending)); stands = i.stands }
 

@@ -63,7 +63,3 @@ feeds-later status.ReadFault gates s sources nows sink sink' h = taken-later sou
 feeds-later status.WriteFault gates s sources nows sink sink' h = taken-later sources nows h.1
 feeds-later status.Memory gates s sources nows sink sink' h = taken-later sources nows h.0
 feeds-later status.ByteLimit gates s sources nows sink sink' h = taken-later sources nows h.0
-
-pub replicate-push : {X : Type 0} (n : ℕ) (x : X) → replicate n x ++ x ∷ [] ≡ replicate (suc n) x
-replicate-push zero x = refl
-replicate-push (suc n) x = ap (λ l. x ∷ l) (replicate-push n x)

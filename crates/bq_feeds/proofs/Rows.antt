@@ -83,11 +83,6 @@ map-kept f [] i x d l e = refl
 map-kept f (y ∷ xs) zero x d l e = ap (λ z. z ∷ map f xs) e
 map-kept f (y ∷ xs) (suc i) x d l e = ap (λ t. f y ∷ t) (map-kept f xs i x d (omega (arith, l)) e)
 
-pub set-at : {X : Type 0} (xs : List X) (i : ℕ) (x d : X) → i < length xs → slice_index_or (slice_set xs i x) i d ≡ x
-set-at [] i x d l = absurd (omega (arith, l))
-set-at (y ∷ xs) zero x d l = refl
-set-at (y ∷ xs) (suc i) x d l = set-at xs i x d (omega (arith, l))
-
 pub set-same : {X : Type 0} (xs : List X) (i : ℕ) (d : X) → slice_set xs i (slice_index_or xs i d) ≡ xs
 set-same [] i d = refl
 set-same (y ∷ xs) zero d = refl

@@ -115,11 +115,6 @@ later-sources how failed limit words [] nows sink sink' h = absurd h
 later-sources how failed limit words (script ∷ sources) [] sink sink' h = absurd h
 later-sources how failed limit words (script ∷ sources) (script' ∷ nows) sink sink' h = sources-later how failed limit words script script' sources nows sink sink' h
 
--- no memory was found before the script was read
-pub nothing-ran : (limit : ℕ) (file : List ℕ) (words : List (List ℕ)) (sources : List SourceState) (sink : SinkState) (count : ℕ) → length sources ≡ count + 1 → FeedsRan status.Memory false limit (Some file) words sources sources sink sink
-nothing-ran limit file words [] sink count e = absurd (omega (arith, e))
-nothing-ran limit file words (script ∷ sources) sink count e = (refl, inl (refl, refl))
-
 -- the words ask for a session, and it ended so
 asked : (words : List (String Global)) (count limit : ℕ) (script : Option (List ℕ)) (names : List (List ℕ)) (P : ℕ → Option (List ℕ) → List (List ℕ) → Type 0) → AreFeedNames words limit script names → sources_of script names ≡ count → P limit script names → Asked words count P
 asked words count limit script names P are many h = record { limit = limit; script = script; names = names; asks = are; many = many; holds = h }

@@ -64,42 +64,6 @@ one-options texts limit limit' script script' names names' (script_first number 
 abbrev pub Refused : List (List ℕ) → Type 0
 Refused texts = (limit : ℕ) → (script : Option (List ℕ)) → (names : List (List ℕ)) → AreOptions texts limit script names → ⊥
 
--- the option `--rows` comes first, and no limit stands behind it
-pub wrong-rows : (texts others : List (List ℕ)) → texts ≡ codes "--rows" ∷ others → ((number : List ℕ) → (rest : List (List ℕ)) → (limit : ℕ) → texts ≡ codes "--rows" ∷ number ∷ rest → IsRowLimit number limit → ⊥) → Refused texts
-wrong-rows texts others e none limit script names (plain f r s l n) = r others (sym f ∙ e)
-wrong-rows texts others e none limit script names (limited number f is s n) = none number names limit f is
-wrong-rows texts others e none limit script names (scripted file f is r l n) = two-options texts _ _ e f
-wrong-rows texts others e none limit script names (rows_first number file f is t n) = none number (codes "--script" ∷ file ∷ names) limit f is
-wrong-rows texts others e none limit script names (script_first number file f t is n) = two-options texts _ _ e f
-
--- the option `--script` comes first, and no name of a script stands behind it
-pub wrong-script : (texts others : List (List ℕ)) → texts ≡ codes "--script" ∷ others → ((file : List ℕ) → (rest : List (List ℕ)) → texts ≡ codes "--script" ∷ file ∷ rest → IsTrue (is_script_name file) → ⊥) → Refused texts
-wrong-script texts others e none limit script names (plain f r s l n) = s others (sym f ∙ e)
-wrong-script texts others e none limit script names (limited number f is s n) = two-options texts _ _ f e
-wrong-script texts others e none limit script names (scripted file f is r l n) = none file names f is
-wrong-script texts others e none limit script names (rows_first number file f is t n) = two-options texts _ _ f e
-wrong-script texts others e none limit script names (script_first number file f t is n) = none file (codes "--rows" ∷ number ∷ names) f t
-
--- the option `--script` comes behind `--rows`, and no name of a script stands behind it
-pub wrong-script-behind : (texts : List (List ℕ)) (number : List ℕ) (behind others : List (List ℕ)) → texts ≡ codes "--rows" ∷ number ∷ behind → behind ≡ codes "--script" ∷ others
-    → ((file : List ℕ) → (rest : List (List ℕ)) → behind ≡ codes "--script" ∷ file ∷ rest → IsTrue (is_script_name file) → ⊥) → Refused texts
-wrong-script-behind texts number behind others e b none limit script names (plain f r s l n) = r (number ∷ behind) (sym f ∙ e)
-wrong-script-behind texts number behind others e b none limit script names (limited number' f is s n) = s others (sym (second texts (codes "--rows") number number' behind names e f).1 ∙ b)
-wrong-script-behind texts number behind others e b none limit script names (scripted file f is r l n) = two-options texts _ _ e f
-wrong-script-behind texts number behind others e b none limit script names (rows_first number' file f is t n) =
-    none file names (second texts (codes "--rows") number number' behind (codes "--script" ∷ file ∷ names) e f).1 t
-wrong-script-behind texts number behind others e b none limit script names (script_first number' file f t is n) = two-options texts _ _ e f
-
--- the option `--rows` comes behind `--script`, and no limit stands behind it
-pub wrong-rows-behind : (texts : List (List ℕ)) (file : List ℕ) (behind others : List (List ℕ)) → texts ≡ codes "--script" ∷ file ∷ behind → behind ≡ codes "--rows" ∷ others
-    → ((number : List ℕ) → (rest : List (List ℕ)) → (limit : ℕ) → behind ≡ codes "--rows" ∷ number ∷ rest → IsRowLimit number limit → ⊥) → Refused texts
-wrong-rows-behind texts file behind others e b none limit script names (plain f r s l n) = s (file ∷ behind) (sym f ∙ e)
-wrong-rows-behind texts file behind others e b none limit script names (limited number f is s n) = two-options texts _ _ f e
-wrong-rows-behind texts file behind others e b none limit script names (scripted file' f is r l n) = r others (sym (second texts (codes "--script") file file' behind names e f).1 ∙ b)
-wrong-rows-behind texts file behind others e b none limit script names (rows_first number file' f is t n) = two-options texts _ _ f e
-wrong-rows-behind texts file behind others e b none limit script names (script_first number file' f t is n) =
-    none number names limit (second texts (codes "--script") file file' behind (codes "--rows" ∷ number ∷ names) e f).1 is
-
 -- the texts of words
 
 pub length-map : (words : List (String Global)) → length (map string_bytes words) ≡ length words

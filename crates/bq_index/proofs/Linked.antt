@@ -129,24 +129,6 @@ next_here buckets b n within is = record {
   there = λ l. is;
 }
 
--- no part is chained at first
-pub joined_none : (buckets : List ℕ) (mask n : ℕ) (heads links : List ℕ) → n ≡ length buckets → heads ≡ replicate (mask + 1) n → length heads ≡ mask + 1
-    → length links ≡ n → AreLinked buckets mask n heads links
-joined_none buckets mask n heads links many is long all = record {
-  many = long;
-  all = all ∙ many;
-  first =
-      λ b low.
-      let at : get_or heads b 0 ≡ n = ap (λ (xs : List ℕ). get_or xs b 0) is ∙ get_or-replicate (mask + 1) b n 0 (omega (arith, low)) in
-      subst (λ i. IsNext buckets b n i) (sym at) (record {
-        behind = omega arith;
-        within = omega (arith, many);
-        passed = λ k low high. absurd (omega (arith, low, high));
-        there = λ l. absurd (omega (arith, l, many));
-      });
-  next = λ k low high. absurd (omega (arith, low, high, many));
-}
-
 -- one part more
 pub joined_more : (buckets : List ℕ) (mask n b : ℕ) (heads links : List ℕ) → n < length buckets → get_or buckets n 0 ≡ b → b ≤ mask
     → AreLinked buckets mask (n + 1) heads links → AreLinked buckets mask n (set heads b n) (set links n (get_or heads b 0))

@@ -14,28 +14,6 @@ use Rattle.bq_synopsis.specs.Preparing.{keeps_pair, IsPrepared}
 use Rattle.bq_index.specs.PartIndex.{IsLocal, sign_of_row, IsMarked, AreMarked, TellPart, AreKeyPairs, HasKeyPairs, AreWhole, TellAll}
 use Rattle.bq_index.specs.Prepared.{ArePrepared}
 
--- what is marked stays marked
-pub still_marked : (marks : List Bool) (j i : ℕ) → IsMarked marks i → IsMarked (set marks j true) i
-still_marked [] j i h = absurd cc
-still_marked (b ∷ marks) zero zero h = refl
-still_marked (b ∷ marks) (suc j) zero h = h
-still_marked (b ∷ marks) zero (suc i) h = h
-still_marked (b ∷ marks) (suc j) (suc i) h = still_marked marks j i h
-
-now_marked : (marks : List Bool) (i : ℕ) → i < length marks → IsMarked (set marks i true) i
-now_marked [] i l = absurd (omega (arith, l))
-now_marked (b ∷ marks) zero l = refl
-now_marked (b ∷ marks) (suc i) l = now_marked marks i (omega (arith, l))
-
--- one number more
-pub marked_more : (marks : List Bool) (tests : List ℕ) (i x : ℕ) → i < length tests → x ≡ get_or tests i x → x < length marks
-    → All (IsMarked marks) (take i tests) → All (IsMarked (set marks x true)) (take (i + 1) tests)
-marked_more marks tests i x within at inside all =
-    let P : ℕ → Type 0 = IsMarked (set marks x true) in
-    subst (λ (xs : List ℕ). All P xs) (sym (take_more tests i x within))
-    (All-push P (take i tests) (get_or tests i x) (λ k d l. still_marked marks x (get_or (take i tests) k d) (all k d l))
-    (subst P at (now_marked marks x inside)))
-
 -- what a list has at each place, each member has
 all_has : (P : ℕ → Type 0) (xs : List ℕ) (x : ℕ) → All P xs → Has xs x → P x
 all_has P [] x h k = elim k [ ]

@@ -41,9 +41,6 @@ pub record IsNextBase (plan : List PartPlan) (place n : ℕ) : Type 0 where
   pub above : AreBelow plan place n
   pub least : (m : ℕ) → AreBelow plan place m → n ≤ m
 
-pub next-none : (place : ℕ) → IsNextBase [] place 0
-next-none place = record { above = λ p h. elim h [ ]; least = λ m h. omega arith }
-
 -- one part more
 pub next-more : (plan : List PartPlan) (place i next now : ℕ) (part : PartPlan) → slice_get plan i ≡ Some part → IsNextBase (take i plan) place next
     → next ≤ now → (stream_at part place).base < now → ((m : ℕ) → next ≤ m → (stream_at part place).base < m → now ≤ m) → IsNextBase (take (i + 1) plan) place now

@@ -62,10 +62,6 @@ only part place cell is row =
     let own : cell.number ≡ (stream_at part place).base + row_place (dims_at part place) (by_column row) = omega (arith, base, at) in
     record { inside = sym ended.0; cell = (is.several, own, is.kind) }
 
--- the box as it is listed, by its dims
-pub listed_box : (part : PartPlan) (place : ℕ) (listed : BoxLayout) (axes : List Axis) → IsBoxLayout part place listed → listed.axes.items ≡ axes → IsBoxLayout part place (record { axes = record { items = axes }; base = listed.base; kind = listed.kind })
-listed_box part place listed axes is are = record { several = is.several; axes = subst (λ xs. AreAxes (dims_at part place) xs) are is.axes; base = is.base; kind = is.kind; few = is.few }
-
 -- where a row stands in the part of a number, by the part that has it
 pub some_listed : (told : Bool) → told ≡ true → (part : PartPlan) (place : ℕ) (row : List ℤ) (placement : Option Placement) → IfSome placement (λ p. IsInBox part place row p)
     → IfSome placement (λ p. (told ≡ true) × IsInBox part place row p)

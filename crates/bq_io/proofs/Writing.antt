@@ -25,10 +25,6 @@ Wrote-nil a = record { bytes = Appends-nil a.written; later = IsLater-refl a }
 pub Wrote-trans : (a b c : SinkState) (s t : List ℕ) → Wrote a b s → Wrote b c t → Wrote a c (s ++ t)
 Wrote-trans a b c s t p q = record { bytes = Appends-trans a.written b.written c.written s t p.bytes q.bytes; later = IsLater-trans a b c p.later q.later }
 
--- a text was written, and then a write failed
-pub Wrote-kept : (a b c : SinkState) (s : List ℕ) → Wrote a b s → Keeps b.written c.written → IsLater b c → Wrote a c s
-Wrote-kept a b c s p k l = record { bytes = Appends-kept a.written b.written c.written s p.bytes k; later = IsLater-trans a b c p.later l }
-
 -- a count that rose after a moment rose after an earlier one
 pub Rose-earlier : (f g h : ℕ) → f ≤ g → Rose g h → Rose f h
 Rose-earlier f g h le rose = omega arith

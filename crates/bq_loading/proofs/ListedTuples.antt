@@ -57,11 +57,6 @@ in-box dims xs h =
     subst (λ ys. Has (box dims) ys) (at-box dims (place_of dims xs) l ∙ values-place dims xs h)
     (has-get (box dims) (place_of dims xs) [] (let n = length-box dims in omega (arith, n, l)))
 
-pub record HasNumber (dims : List Dim) (xs : List ℤ) : Type 0 where
-  pub number : ℕ
-  pub below : number < box_size dims
-  pub is : values_at dims number ≡ xs
-
 numbered : {A : Type 0} (xs : List A) (x d : A) → Has xs x → (i : ℕ) × (i < length xs) × (get_or xs i d ≡ x)
 numbered [] x d h = elim h [ ]
 numbered (y ∷ xs) x d first = (0, omega arith, refl)

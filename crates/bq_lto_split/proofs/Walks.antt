@@ -125,10 +125,6 @@ last (Err why.Memory) q pre a c d x z = tt
 starts_before : (a b c : List Sign) → StartsWith a b → StartsWith b c → StartsWith a c
 starts_before a b c u v = record { rest = u.rest ++ v.rest; is = v.is ∙ ap (λ z. z ++ v.rest) u.is ∙ append_assoc a u.rest v.rest }
 
--- no sign more
-pub follows_none : (q : QueryValue) (pre : List Sign) → Follows q pre pre
-follows_none q pre = record { starts = record { rest = []; is = sym (append-nil pre) }; all = λ s p w. w }
-
 -- signs that follow, and those that follow from them
 pub follows_on : (q : QueryValue) (a b c : List Sign) → Follows q a b → Follows q b c → Follows q a c
 follows_on q a b c f g = record { starts = starts_before a b c f.starts g.starts; all = λ s p w. g.all s p (f.all s p w) }

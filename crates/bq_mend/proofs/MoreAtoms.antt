@@ -160,10 +160,6 @@ module _ (q : QueryValue) (more : List Atom) (within : IsWithinLimits q) (bounds
     ascending = within.ascending;
   }
 
--- and only there
-pub fits-from : (q : QueryValue) (more : List Atom) → IsWithinLimits (with_atoms more q) → Fit (q.atoms ++ more)
-fits-from q more w = record { comparisons = w.comparisons; few_soft = w.few_soft; few_attrs = w.few_attrs; few_consts = w.few_consts }
-
 -- a comparison of a column that the query reads is one of its bounds
 pub bound-is : (q : QueryValue) (a : Attr) (op : Op) (k : ℤ) → Contains (attrs_of q.atoms) a ⊎ Contains q.select a → IsShort k → IsBound q (compared a op k)
 bound-is q a op k h s = record { attr = a; value = k; left = refl; right = refl; reads = h; short = s }

@@ -23,6 +23,3 @@ never_by q [] are = (
   (λ n. refl),
 )
 never_by q (p ∷ parts) are = ((λ e. absurd (not_none (length parts) e)), (λ n. absurd (met q _ (are.each 0 p.signs.items (omega arith)) n)))
-
-pub never_many : (q : QueryValue) → HasMoreParts q 4096 → NeverMeets q → ⊥
-never_many q m n = met q _ (m.each 0 [] (omega (arith, m.more))) n

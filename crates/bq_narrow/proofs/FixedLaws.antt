@@ -65,9 +65,6 @@ pub record SoFixed (narrows : Dim → Dim) (full fixed : List Dim) (i place : �
   pub inside : AreInside (take i full) (map (λ d. d.lo) fixed)
   pub cell : place ≡ place_of (take i full) (map (λ d. d.lo) fixed)
 
-pub fixed-none : (narrows : Dim → Dim) (full fixed : List Dim) → fixed ≡ [] → SoFixed narrows full fixed 0 0
-fixed-none narrows full fixed e = subst (λ ds. SoFixed narrows full ds 0 0) (sym e) (record { are = refl; one = refl; inside = tt; cell = refl })
-
 module _ (narrows : Dim → Dim) (full fixed : List Dim) (i place : ℕ) (so_far : SoFixed narrows full fixed i place) (d o n : Dim) (l : i < length full) (here : d ≡ get_or full i o) (is : n ≡ narrows d) (one : dim_size n ≡ 1) (low : d.lo ≤ℤ n.lo) (high : n.lo ≤ℤ d.hi) where
   front : take (i + 1) full ≡ take i full ++ d ∷ []
   front = take_more full i o l ∙ ap (λ x. take i full ++ x ∷ []) (sym here)

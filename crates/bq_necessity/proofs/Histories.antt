@@ -11,12 +11,6 @@ record Numbered (A : Type 0) : Type 0 where
   of_code : ℕ → A
   same : (x : A) → of_code (code x) ≡ x
 
-left-paired : (a b : ℕ) → (parted (paired a b)).0 ≡ a
-left-paired a b = ap (λ (p : ℕ × ℕ). p.0) (parted-paired a b)
-
-right-paired : (a b : ℕ) → (parted (paired a b)).1 ≡ b
-right-paired a b = ap (λ (p : ℕ × ℕ). p.1) (parted-paired a b)
-
 -- an integer: its side of 0, and how far it is
 int_code : ℤ → ℕ
 int_code (pos n) = paired 0 n

@@ -34,15 +34,6 @@ separated-needs q n bound h a e right most has =
     (λ xs ys l m same. a.apart xs ys l m (alike q e right (h xs) (h ys) same)) in
     omega (arith, k, has.size)
 
--- where the states are numbers below a number, there are at most so many
-pub states-below : (e : Evaluator) (n bound most : ℕ)
-    → ((history : List Arrival) → length history ≤ n → AreWithin bound history → after e e.start history < most) → HasStates e n bound most
-states-below e n bound most h = record {
-  states = below most;
-  size = omega (arith, length-below most);
-  all = λ history l w. Contains-from_has (below most) (after e e.start history) (has-below most (after e e.start history) (h history l w));
-}
-
 pub needs-all : (q : QueryValue) (b : ℕ) → ((n : ℕ) → NeedsAt q n (b * suc n)) → NeedsStates q
 needs-all q b f none = none b (λ e right n most has. f n e right most has)
 

@@ -50,10 +50,6 @@ with_row (one x) a b = only_if (not (neither a b x)) x
 with_row (two x y) a b = both_if (not (neither a b x)) (not (neither a b y)) x y
 with_row other a b = two a b
 
-not-twice : (b : Bool) → not (not b) ≡ b
-not-twice true = refl
-not-twice false = refl
-
 -- one integer is the other, or it is not
 same_or : (x c : ℤ) (P : ℤ → Bool) → (int_eq x c ≡ true → P x ≡ P c)
 same_or x c P e = ap P (let f : x ≡ c = grind (arith, ints, e) in f)

@@ -88,9 +88,6 @@ shape-three a b c e l m =
     let s4 : sign c (pos 5) ≡ Sign.Gt = sign-gt c (pos 5) m in
     cc
 
-selected-first : Contains (s_b ∷ []) s_b
-selected-first = (0, omega arith, refl)
-
 -- S.a equals T.c, and is unbounded
 module _ (distinct : Bool) where
   abbrev q : QueryValue

@@ -58,10 +58,6 @@ from_walk : (p : Parts) (c : List ℕ) (cs : List (List ℕ)) → walk FromName 
 from_walk p c [] = refl
 from_walk p c (d ∷ cs) = from_walk (record p { from = p.from ++ c ∷ [] }) d cs ∙ ap (λ xs. Ok (AfterFrom, record p { from = xs })) (append_assoc p.from (c ∷ []) (d ∷ cs))
 
-last_column : ColumnAst → List ColumnAst → ColumnAst
-last_column c [] = c
-last_column c (d ∷ cs) = last_column d cs
-
 selected_walk : (p : Parts) (c : ColumnAst) (cs : List ColumnAst) → (stream : List ℕ) × (walk SelectedStream p (separated comma column_tokens (c ∷ cs)) ≡ Ok (AfterSelected, record p { select = p.select ++ c ∷ cs; stream = stream }))
 selected_walk p c [] = (c.stream, refl)
 selected_walk p c (d ∷ cs) =

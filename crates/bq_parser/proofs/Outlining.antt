@@ -64,27 +64,6 @@ head_drafted actions.BeginTo w d = refl
 head_drafted actions.AddLockStream w d = refl
 head_drafted actions.BeginUnlock w d = refl
 
--- any other action changes no head
-pub head_other : (a : Action) (w : List ℕ) (h : Head) → a ≢ actions.BeginExplain → a ≢ actions.BeginDrop → a ≢ actions.BeginStream → a ≢ actions.BeginQuery → a ≢ actions.BeginShared → a ≢ actions.BeginCompact → a ≢ actions.BeginSharedCompact → a ≢ actions.Named → a ≢ actions.BeginCheckpoint → a ≢ actions.RowsAre → a ≢ actions.BeginGiven → a ≢ actions.BeginCell → a ≢ actions.IndexIs → a ≢ actions.CountIs → a ≢ actions.BeginTuple → a ≢ actions.BeginLock → a ≢ actions.BeginUnlock → h ≡ headed a w h
-head_other actions.BeginExplain w h n0 n1 n2 n3 n4 n5 n6 n7 n8 n9 n10 n11 n12 n13 n14 n15 n16 = absurd (n0 refl)
-head_other actions.BeginDrop w h n0 n1 n2 n3 n4 n5 n6 n7 n8 n9 n10 n11 n12 n13 n14 n15 n16 = absurd (n1 refl)
-head_other actions.BeginStream w h n0 n1 n2 n3 n4 n5 n6 n7 n8 n9 n10 n11 n12 n13 n14 n15 n16 = absurd (n2 refl)
-head_other actions.BeginQuery w h n0 n1 n2 n3 n4 n5 n6 n7 n8 n9 n10 n11 n12 n13 n14 n15 n16 = absurd (n3 refl)
-head_other actions.BeginShared w h n0 n1 n2 n3 n4 n5 n6 n7 n8 n9 n10 n11 n12 n13 n14 n15 n16 = absurd (n4 refl)
-head_other actions.BeginCompact w h n0 n1 n2 n3 n4 n5 n6 n7 n8 n9 n10 n11 n12 n13 n14 n15 n16 = absurd (n5 refl)
-head_other actions.BeginSharedCompact w h n0 n1 n2 n3 n4 n5 n6 n7 n8 n9 n10 n11 n12 n13 n14 n15 n16 = absurd (n6 refl)
-head_other actions.Named w h n0 n1 n2 n3 n4 n5 n6 n7 n8 n9 n10 n11 n12 n13 n14 n15 n16 = absurd (n7 refl)
-head_other actions.BeginCheckpoint w h n0 n1 n2 n3 n4 n5 n6 n7 n8 n9 n10 n11 n12 n13 n14 n15 n16 = absurd (n8 refl)
-head_other actions.RowsAre w h n0 n1 n2 n3 n4 n5 n6 n7 n8 n9 n10 n11 n12 n13 n14 n15 n16 = absurd (n9 refl)
-head_other actions.BeginGiven w h n0 n1 n2 n3 n4 n5 n6 n7 n8 n9 n10 n11 n12 n13 n14 n15 n16 = absurd (n10 refl)
-head_other actions.BeginCell w h n0 n1 n2 n3 n4 n5 n6 n7 n8 n9 n10 n11 n12 n13 n14 n15 n16 = absurd (n11 refl)
-head_other actions.IndexIs w h n0 n1 n2 n3 n4 n5 n6 n7 n8 n9 n10 n11 n12 n13 n14 n15 n16 = absurd (n12 refl)
-head_other actions.CountIs w h n0 n1 n2 n3 n4 n5 n6 n7 n8 n9 n10 n11 n12 n13 n14 n15 n16 = absurd (n13 refl)
-head_other actions.BeginTuple w h n0 n1 n2 n3 n4 n5 n6 n7 n8 n9 n10 n11 n12 n13 n14 n15 n16 = absurd (n14 refl)
-head_other actions.BeginLock w h n0 n1 n2 n3 n4 n5 n6 n7 n8 n9 n10 n11 n12 n13 n14 n15 n16 = absurd (n15 refl)
-head_other actions.BeginUnlock w h n0 n1 n2 n3 n4 n5 n6 n7 n8 n9 n10 n11 n12 n13 n14 n15 n16 = absurd (n16 refl)
-head_other _ w h n0 n1 n2 n3 n4 n5 n6 n7 n8 n9 n10 n11 n12 n13 n14 n15 n16 = refl
-
 or_false : (b : Bool) → (b || false) ≡ b
 or_false true = refl
 or_false false = refl
@@ -187,11 +166,6 @@ pub outlined_stops : (line : List ℕ) (place : ℕ) (t : Token) (o : Outline) �
 outlined_stops line place t o e none s =
     let P : Result (List Token) ℕ → Type 0 = λ r. IsFaultOf line r (fault_or (tokens_at line t.to) t.from) in
     subst P (sym (s.told ∙ ap (after s.before) e)) (stops_by line t place o s (tokens_at line t.to) none)
-
--- a token more before them changes no fault
-pub fault_first : (t : Token) (r : Result (List Token) ℕ) (at : ℕ) → fault_or (with_first t r) at ≡ fault_or r at
-fault_first t (Ok ts) at = refl
-fault_first t (Err place) at = refl
 
 -- the same, and the draft is that of the tokens
 abbrev pub Drafted : List ℕ → ℕ → Outline → Draft → Type 0

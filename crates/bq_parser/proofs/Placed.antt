@@ -149,11 +149,3 @@ stays_named streams more q there = record {
   atoms = still _ _ (sides_stay streams more q.from) q.atoms there.atoms;
   domains = there.domains ∙ sym (domains_stay streams more q.from there.from (named_attrs q.select q.atoms) (all_there streams q.from q.select q.atoms there.select there.atoms));
 }
-
--- what a query names is there after a stream was added or refused
-pub still_named : (streams : List Shape) (shape : Shape) (q : QueryValue) → HasNamed streams q → HasNamed (with_stream streams shape) q
-still_named streams shape q there = by (is_duplicate streams shape) (nat_lt (length streams) 16) where
-  by : (b c : Bool) → HasNamed (cond b streams (cond c (streams ++ shape ∷ []) streams)) q
-  by true c = there
-  by false true = stays_named streams (shape ∷ []) q there
-  by false false = there

@@ -41,26 +41,6 @@ pub record Stopped (place : State) (p : Parts) (ts rest : List Lexeme) : Type 0 
   pub read : walk place p front ≡ Ok (to, parts)
   pub none : step_of to (kind_at stop) (text_of stop) ≡ None
 
-stopped_on : (place : State) (p : Parts) (l : Lexeme) (ts rest : List Lexeme) (o : Option (State × Action)) → step_of place (kind_at l) (text_of l) ≡ o → ((pl : State) (r : Parts) → walk pl r ts ≡ Err rest → Stopped pl r ts rest) → walk_on o p l ts (λ pl r. walk pl r ts) ≡ Err rest → Stopped place p (l ∷ ts) rest
-stopped_on place p l ts rest None is ih e = record { front = []; stop = l; after = ts; to = place; parts = p; left = cc; whole = refl; read = refl; none = is }
-stopped_on place p l ts rest (Some m) is ih e =
-    let s = ih m.0 (act m.1 l p) e in
-    record {
-      front = l ∷ s.front;
-      stop = s.stop;
-      after = s.after;
-      to = s.to;
-      parts = s.parts;
-      left = s.left;
-      whole = ap (λ r. l ∷ r) s.whole;
-      read = ap (λ o. walk_on o p l s.front (λ pl r. walk pl r s.front)) is ∙ s.read;
-      none = s.none;
-    }
-
-pub walk_stopped : (place : State) (p : Parts) (ts rest : List Lexeme) → walk place p ts ≡ Err rest → Stopped place p ts rest
-walk_stopped place p [] rest e = cc
-walk_stopped place p (l ∷ ts) rest e = stopped_on place p l ts rest (step_of place (kind_at l) (text_of l)) refl (λ pl r. walk_stopped pl r ts rest) e
-
 walk_append_on : (o : Option (State × Action)) (p : Parts) (l : Lexeme) (ts more : List Lexeme) (to : State) (q : Parts) → ((pl : State) (r : Parts) → walk pl r ts ≡ Ok (to, q) → walk pl r (ts ++ more) ≡ walk to q more) → walk_on o p l ts (λ pl r. walk pl r ts) ≡ Ok (to, q) → walk_on o p l (ts ++ more) (λ pl r. walk pl r (ts ++ more)) ≡ walk to q more
 walk_append_on None p l ts more to q ih e = cc
 walk_append_on (Some m) p l ts more to q ih e = ih m.0 (act m.1 l p) e

@@ -191,24 +191,6 @@ tuple_printed name values =
     ∙ ap (λ bs. codes "RESUME " ++ (name ++ (codes " SELECT" ++ bs))) (sym (values_behind (key SelectKey) refl values))
     ∙ ap (λ bs. codes "RESUME " ++ (name ++ (32 ∷ bs))) (sym (printed_first (key SelectKey) (map number values)))
 
--- the streams of a lock, which stand last
-to_behind : (l : Lexeme) → joins_next l ≡ false → (n : List ℕ) (ns : List (List ℕ)) → behind l (word (codes "TO") ∷ separated comma name_tokens (n ∷ ns)) ≡ names_text (codes " TO ") (n ∷ ns)
-to_behind l h n ns =
-    let names = separated comma name_tokens (n ∷ ns) in
-    ap (λ t. cond (t || false) [] (32 ∷ []) ++ printed (word (codes "TO") ∷ names)) h
-    ∙ ap (λ bs. 32 ∷ bs) (printed_first (word (codes "TO")) names)
-    ∙ ap (λ ls. codes " TO" ++ behind (word (codes "TO")) ls) (sym (append-nil names))
-    ∙ ap (λ bs. codes " TO" ++ bs) (list_behind (word (codes "TO")) comma name_tokens (codes " ") (codes ", ") name_text (λ m rest. ap (λ bs. 32 ∷ bs) (word_behind m rest)) name_behind_comma n ns [])
-    ∙ append-nil (codes " TO" ++ listed (codes " ") (codes ", ") name_text (n ∷ ns))
-
-pub lock_printed : (k : Option ℤ) (names : List (List ℕ)) → lock_text k names ≡ printed_form (Lock k (record { items = names }))
-lock_printed None [] = refl
-lock_printed (Some z) [] = append-nil (codes "LOCK " ++ signed_decimal z)
-lock_printed None (n ∷ ns) = sym (printed_first (word (codes "LOCK")) (word (codes "TO") ∷ separated comma name_tokens (n ∷ ns)) ∙ ap (λ bs. codes "LOCK" ++ bs) (to_behind (word (codes "LOCK")) refl n ns))
-lock_printed (Some z) (n ∷ ns) =
-    append_assoc (codes "LOCK ") (signed_decimal z) (names_text (codes " TO ") (n ∷ ns))
-    ∙ sym (ap (λ bs. codes "LOCK " ++ bs) (printed_first (number z) (word (codes "TO") ∷ separated comma name_tokens (n ∷ ns)) ∙ ap (λ bs. signed_decimal z ++ bs) (to_behind (number z) refl n ns)))
-
 -- columns of a stream
 domain_behind : (domain : Option (ℤ × ℤ)) (rest : List Lexeme) → behind_name (domain_tokens domain ++ rest) ≡ domain_text domain ++ behind_name rest
 domain_behind None rest = refl

@@ -33,10 +33,6 @@ one-numbered (d ∷ ds) e =
     let b = both-one (dim_size d) (box_size ds) e in
     (omega (arith, b.0), omega (arith, e), one-numbered ds b.1)
 
-pub start-few : (arriving : ℕ) → length (start arriving) < 3
-start-few zero = omega arith
-start-few (suc a) = omega arith
-
 pub row-first : (arriving : ℕ) (known : List Binding) (values : List ℤ) (cell : Cell) → known ≡ start arriving → arriving ≡ 0 → known ++ chosen values cell ∷ [] ≡ both arriving values cell
 row-first zero known values cell e z = ap (λ (cs : List Binding). cs ++ chosen values cell ∷ []) e
 row-first (suc a) known values cell e z = absurd (omega (arith, z))

@@ -26,12 +26,6 @@ pub record AreAhead (narrows : Dim → Dim) (full : List Dim) (i first count : �
   pub holds : (vs : List ℤ) → AreInside (map narrows full) vs → FrontAt full vs i first count
   pub room : (first + count) * box_size (drop i full) ≤ box_size full
 
-pub ahead-none : (narrows : Dim → Dim) (full : List Dim) → AreAhead narrows full 0 0 1
-ahead-none narrows full = record {
-  holds = λ vs h. record { at = 0; is = omega arith; low = omega arith; high = omega arith };
-  room = omega arith;
-}
-
 record OneOf (d : Dim) (v : ℤ) : Type 0 where
   low : d.lo ≤ℤ v
   high : v ≤ℤ d.hi
@@ -124,18 +118,6 @@ longer-whole left d run first count e f = record {
       let m2 = mul-le-mul up (let r : dim_size d ≤ dim_size d = omega arith in r) in
       (omega (arith, m1, e), omega (arith, m2, o, e, f)));
   room = omega (arith, e, f);
-}
-
--- one value of it
-pub longer-one : (left d : Dim) (run : CellRun) (place first : ℕ) → run.count ≡ 1 → place < dim_size d → ((v : ℤ) → left.lo ≤ℤ v → v ≤ℤ left.hi → nat_abs (v -ℤ d.lo) ≡ place) → first ≡ run.first * dim_size d + place
-    → IsLonger left d run (record { first = first; count = 1 })
-longer-one left d run place first single p each e = record {
-  each = λ at v low high l m a b. (
-      let o = each v l m in
-      let same : at ≡ run.first = omega (arith, low, high, single) in
-      let t = ap (λ n. n * dim_size d) same in
-      (omega (arith, t, o, e), omega (arith, t, o, e)));
-  room = let t = ap (λ n. (run.first + n) * dim_size d) single in omega (arith, t, e, p);
 }
 
 -- the one value that a known column leaves of a dim

@@ -56,15 +56,6 @@ adds_choice q ps ss i d t cs h l m e =
 pub choice_there : (q : QueryValue) (ps : List ChoiceValue) (ss : List Sign) (i : ℕ) → AreChoices q ps → IsPart q ss → i < length ss → i + 1 ≤ length ps
 choice_there q ps ss i h p l = omega (arith, l, zip_length (IsChoice q) (pairs q) ps h, long q ss p)
 
-pub signs_more : (q : QueryValue) (ss : List Sign) (i : ℕ) (bs cs : List Constraint) → AddsSign q ss i cs → bs ≡ of_prefix q (take i ss) → bs ++ cs ≡ of_prefix q (take (i + 1) ss)
-signs_more q ss i bs cs a e = ap (λ z. z ++ cs) e ∙ sym a.more
-
-pub two_more_of : (q : QueryValue) (ss : List Sign) (i : ℕ) (bs cs : List Constraint) → AddsSign q ss i cs → length bs + 2 * length (filter (λ t. is_soft t.op) q.atoms) ≤ 56 + 2 * i → length (bs ++ cs) + 2 * length (filter (λ t. is_soft t.op) q.atoms) ≤ 56 + 2 * (i + 1)
-two_more_of q ss i bs cs a h = omega (arith, a.few, h, length-append bs cs)
-
-pub known_if : (q : QueryValue) (ss : List Sign) (i : ℕ) (b : BoundsValue) → IsPart q ss → IsWithinLimits q → length (attrs_of q.atoms) ≤ 12 → length ss ≤ i → b.attrs ≡ length (attrs_of q.atoms) → b.constraints ≡ of_prefix q (take i ss) → IsKnown q ss b
-known_if q ss i b p w few l e f = record { part = p; within = w; few = few; attrs = e; constraints = f ∙ ap (of_prefix q) (take_all i ss l) }
-
 -- there is room for the constraints of one sign more
 pub room_for : (q : QueryValue) (ss : List Sign) (i n m : ℕ) → IsPart q ss → IsWithinLimits q → i < length ss → n + 2 * length (filter (λ t. is_soft t.op) q.atoms) ≤ 56 + 2 * i → m ≤ 2 → n + m ≤ 268
 room_for q ss i n m p w l h k = omega (arith, l, h, k, long q ss p, few_with_soft q w)

@@ -18,9 +18,6 @@ attr_lt-irreflexive a = grind (arith, nat_tests)
 pub attr_lt-apart : (a b : Attr) → attr_lt a b ≡ true → attr_lt b a ≡ true → ⊥
 attr_lt-apart a b h k = grind (arith, nat_tests)
 
-attr_lt-back : (a b : Attr) → attr_lt a b ≡ true → attr_lt b a ≡ false
-attr_lt-back a b h = grind (arith, nat_tests)
-
 -- links are compared on the left first
 pub link_lt-left : (x y : Link) → attr_lt x.left y.left ≡ true → link_lt x y ≡ true
 link_lt-left x y h = ap (λ b. cond b true (cond (attr_lt y.left x.left) false (attr_lt x.right y.right))) h

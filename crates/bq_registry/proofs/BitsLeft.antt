@@ -45,13 +45,6 @@ left_more word left next place new are few on below own others = record {
 pub left_none : (word next : ℕ) → AreLeft word 0 next → (k : ℕ) → next ≤ k → k < 64 → bit_at word k ≡ 0
 left_none word next are k a b = sym (are.same k a b) ∙ bit_at-zero k
 
--- a bit is 0 or 1
-pub bit_cases : (n k : ℕ) → (bit_at n k ≡ 0 → ⊥) → bit_at n k ≡ 1
-bit_cases n k not = elim (cases_eq (bit_at n k) 0) [
-  | inl e ↦ absurd (not e)
-  | inr ne ↦ (let l = bit_at-lt n k in omega (arith, l, ne))
-]
-
 -- a word of 64 bits has none behind them
 high : (word k : ℕ) → word < 2 ^ 64 → 64 ≤ k → bit_at word k ≡ 0
 high word k few le =

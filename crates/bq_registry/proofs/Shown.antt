@@ -31,17 +31,6 @@ shown_set rows [] i r = refl
 shown_set rows (x ∷ rs) zero r = refl
 shown_set rows (x ∷ rs) (suc i) r = ap (λ es. run_to rows x ∷ es) (shown_set rows rs i r)
 
--- so it is of live queries
-pub run_set : (rows : ℕ) (names : List (List ℕ)) (rs : List Runner) (live : List Live) (i : ℕ) (name : List ℕ) (r : Runner)
-    → length names ≡ length rs → live_of names (shown rows rs) ≡ live → i < length live
-    → live_of names (shown rows (slice_set rs i r)) ≡ slice_set live i (named (slice_index_or names i name) (run_to rows r))
-run_set rows names rs live i name r e is within =
-    let size = size_run rows names rs live e is in
-    let many = length-map rs (run_to rows) in
-    ap (λ (es : List ExecutorValue). live_of names es) (shown_set rows rs i r)
-    ∙ live_set names (shown rows rs) i (run_to rows r) name (sized rows names rs e) (omega (arith, size, within, many))
-    ∙ ap (λ (ls : List Live). slice_set ls i (named (slice_index_or names i name) (run_to rows r))) is
-
 -- what runs the live query at a place, but for its number of rows
 pub runs_as : (rows : ℕ) (names : List (List ℕ)) (rs : List Runner) (live : List Live) (i : ℕ) (r : Runner) (d : Live)
     → length names ≡ length rs → live_of names (shown rows rs) ≡ live → i < length live → r ≡ slice_index_or rs i r
@@ -65,31 +54,6 @@ shown_level rows (o ∷ os) (n ∷ ns) size h =
     let count : n.before + 0 ≡ o.before + rows = (let b = one.before in omega (arith, b)) in
     let first : run_to 0 n ≡ run_to rows o = (λ j. with_given (one.executor j) (count j) (one.executor j).table.entries) in
     (λ j. first j ∷ shown_level rows os ns (omega (arith, size)) (λ i r a. h (suc i) r (omega (arith, a))) j)
-
-pub counted_level : (rows : ℕ) (old new : List Runner) → length new ≡ length old → ((i : ℕ) (r : Runner) → i < length old → WasCounted rows (slice_index_or old i r) (slice_index_or new i r))
-    → All (IsCounted rows) old → All (IsCounted 0) new
-counted_level rows old new size h all = λ i r a.
-    (let here : i < length old = omega (arith, a, size) in
-    let one = h i r here in
-    let was = all i r here in
-    let given = ap (λ (e : ExecutorValue). e.given) one.executor in
-    let b = one.before in
-    let behind = was.behind in
-    let few = was.few in
-    record { behind = omega (arith, given, b, behind); few = omega (arith, b, few) })
-
--- one more of them was counted
-pub count_more : (rows k : ℕ) (old now : List Runner) (r' d : Runner) → k < length old → length now ≡ length old
-    → ((i : ℕ) (r : Runner) → i < k → i < length old → WasCounted rows (slice_index_or old i r) (slice_index_or now i r))
-    → ((i : ℕ) (r : Runner) → k ≤ i → i < length old → slice_index_or now i r ≡ slice_index_or old i r)
-    → WasCounted rows (slice_index_or now k d) r'
-    → (i : ℕ) (r : Runner) → i < k + 1 → i < length old → WasCounted rows (slice_index_or old i r) (slice_index_or (slice_set now k r') i r)
-count_more rows k old now r' d within size done others one i r a b = elim (cases_eq i k) [
-  | inl e ↦
-      subst (λ (x : Runner). WasCounted rows (slice_index_or old i r) x) (sym (ap (λ j. slice_index_or (slice_set now k r') j r) e ∙ get_or-set_same now k r' r (omega (arith, size, within))))
-      (subst (λ (x : Runner). WasCounted rows x r') (others k d (omega arith) within ∙ get_or_default old k d r within ∙ ap (λ j. slice_index_or old j r) (sym e)) one)
-  | inr ne ↦ subst (λ (x : Runner). WasCounted rows (slice_index_or old i r) x) (sym (get_or-set_other now k i r' r ne)) (done i r (omega (arith, a, ne)) b)
-]
 
 -- one that is taken out
 pub shown_remove : (rows : ℕ) (rs : List Runner) (i : ℕ) → shown rows (remove rs i) ≡ remove (shown rows rs) i

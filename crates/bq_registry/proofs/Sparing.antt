@@ -58,13 +58,6 @@ listed_concerns word stream row c live listed held only =
     by q p k off None there is = is row
     by q p k off (Some box) there is = is row (λ inside. let on = held listed.boxes listed.are k box there inside in omega (arith, on, off))
 
--- where all may be concerned
-pub all_concern : (word : ℕ) (r : Arrival) (live : List Live) → ((k : ℕ) → bit_at word k ≡ 1 → k < length live) → ((k : ℕ) → k < length live → bit_at word k ≡ 1) → MayConcern word r live
-all_concern word r live only all = record {
-  only = only;
-  refused = λ k l within off. absurd (let on = all k within in omega (arith, on, off));
-}
-
 -- live queries that ask the same by the same plans have the same candidates
 pub told_kept : (c : Concerned) (before after : List Live) → length after ≡ length before
     → ((i : ℕ) (l : Live) → i < length before → (slice_index_or after i l).executor.query ≡ (slice_index_or before i l).executor.query)

@@ -161,11 +161,3 @@ field_no_value text left others e some = elim (flag (is_integer (trimmed (before
   | inl holds ↦ absurd (omega (arith, some, ap length (first_part (behind_integer text) left others e ∙ integer_field text holds)))
   | inr fails ↦ no_integer_no_value (trimmed (before_first is_comma text)) fails
 ]
-
--- what stands behind the integer is no longer than the text
-pub behind_short : (text : List ℕ) → length (behind_integer text) ≤ length text
-behind_short text = omega (arith, ap length (front_and_rest text), length-append (front_of text) (behind_integer text))
-
-pub shorter_still : (o : Option (Bor (List ℕ))) (n m : ℕ) → n ≤ m → IfSome o (λ rest. length rest.now < n) → IfSome o (λ rest. length rest.now < m)
-shorter_still None n m le h = tt
-shorter_still (Some rest) n m le h = omega (arith, le, h)

@@ -86,12 +86,6 @@ front_of name text h =
       comma = ap (λ n. get_or text n 0) size ∙ at.1;
     }
 
-pub short_unnamed : (name text : List ℕ) → length text ≤ length name → is_named name text ≡ false
-short_unnamed name text h = elim (flag (is_named name text)) [
-  | inl is ↦ absurd (omega (arith, h, (front_of name text is).room))
-  | inr plain ↦ plain
-]
-
 pub other_unnamed : (name text : List ℕ) → (get_or text (length name) 0 ≡ 44 → ⊥) → is_named name text ≡ false
 other_unnamed name text h = elim (flag (is_named name text)) [
   | inl is ↦ absurd (h (front_of name text is).comma)

@@ -41,11 +41,6 @@ came-begun long old new source now below after' held kept (read r) =
     let step = step-read long old new source now r.next in
     (step.line, step.begun)
 
--- there is room for a line that came
-pub room-came : (answered old new : ℕ) → (answered + 1 < 2 ^ 64) ⊎ (answered ≤ old) → new ≡ old + 1 → new < 2 ^ 64 → answered + 1 < 2 ^ 64
-room-came answered old new (inl room) one few = room
-room-came answered old new (inr le) one few = omega (arith, le, one, few)
-
 -- A line of the source of this number came, behind the events that there were. It waits for its answer.
 pub record Waits (number : ℕ) (long : Bool) (s : State) (source now : SourceState) (reader : Reading) (before below : SinkState) (held : List ℕ) (old waiting : List Told) : Type 0 where
   pub answered : List Told

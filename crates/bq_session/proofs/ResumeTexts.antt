@@ -135,7 +135,3 @@ one_more text rest others zs z e r =
     e ∙ ap (λ bs. front ++ bs) r ∙ sym (append_assoc front sep others)
     ∙ ap (λ bs. (front ++ bs) ++ others) (sym (append-nil sep))
     ∙ ap (λ bs. bs ++ others) (sym (flat_map-append (λ x. codes " " ++ signed_decimal x) zs (z ∷ [])))
-
-pub fit_more : (zs : List ℤ) (z : ℤ) → AllFit zs → IsTrue (fits_i64 z) → AllFit (zs ++ z ∷ [])
-fit_more [] z h f = (f, tt)
-fit_more (x ∷ zs) z h f = (h.0, fit_more zs z h.1 f)

@@ -1,7 +1,6 @@
 //! The lock of a session: which lines are let. A lock takes no memory.
-ghost use Rattle.std.specs.Prelude.{◌≡◌, ◌≤◌, ℤ, Some, None, true, false, length, IfSome, MatchOption};
+ghost use Rattle.std.specs.Prelude.{◌≡◌, ◌≤◌, ℤ, Some, None, true, false, length, IfSome};
 ghost use Rattle.std.specs.Option.{option_map};
-ghost use Rattle.bq_parser.specs.declared.tree.Statement.TheVariants.{Unlock};
 ghost use Rattle.bq_session.specs.Lock as locks;
 ghost use Rattle.bq_session.specs.Lock.{IsUnlock, LetsText, Unlocks};
 ghost use Rattle.bq_session.specs.Requests as requests;
@@ -21,7 +20,6 @@ pub struct Lock {
 }
 
 impl Model for Lock {
-    ghost use Rattle.bq_parser.specs.declared.tree.Statement.TheVariants.{Unlock};
     ghost use Rattle.bq_session.specs.Lock as locks;
 
     ghost Value = { locks.Lock };

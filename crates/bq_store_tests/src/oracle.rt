@@ -1,19 +1,8 @@
 //! The plain evaluator on worked cases: what the definitions of answers compute.
-use arrayvec::ArrayVec;
-use bq_model::{Atom, Attr, Element, Op, Query, Row};
-use bq_oracle::Oracle;
+use bq_model::{Op, Query};
+use bq_oracle::{Oracle, column, row_of, with_column, with_integer};
 use std::alloc::{AllocError, Global};
 use std::test::Fail;
-
-fn row_of(values: &[i64]) -> Row {
-    let mut row = ArrayVec::new();
-    for value in values {
-        if row.try_push(*value).is_err() {
-            return row;
-        }
-    }
-    row
-}
 
 // Gives rows to a query. For each row it tells how many answers there are, and then their values.
 fn answers(alloc: Global, query: Query, rows: &[(u8, &[i64])]) -> Result<Vec<i64>, AllocError> {
@@ -33,45 +22,11 @@ fn answers(alloc: Global, query: Query, rows: &[(u8, &[i64])]) -> Result<Vec<i64
 #[test]
 fn a_join_counts_each_pair(rt: HostRuntime) -> Result<(), Fail> {
     let atoms = [
-        Atom {
-            left: Element::Attr(Attr {
-                stream: 0,
-                column: 0,
-            }),
-            op: Op::Eq,
-            right: Element::Attr(Attr {
-                stream: 1,
-                column: 0,
-            }),
-        },
-        Atom {
-            left: Element::Attr(Attr {
-                stream: 0,
-                column: 0,
-            }),
-            op: Op::Gt,
-            right: Element::Const(10),
-        },
-        Atom {
-            left: Element::Attr(Attr {
-                stream: 0,
-                column: 0,
-            }),
-            op: Op::Lt,
-            right: Element::Const(13),
-        },
+        with_column(column(0, 0), Op::Eq, column(1, 0)),
+        with_integer(column(0, 0), Op::Gt, 10),
+        with_integer(column(0, 0), Op::Lt, 13),
     ];
-    let query = Query::new(
-        false,
-        &[0, 1],
-        &[Attr {
-            stream: 0,
-            column: 0,
-        }],
-        &atoms,
-        &[],
-        false,
-    );
+    let query = Query::new(false, &[0, 1], &[column(0, 0)], &atoms, &[], false);
     let rows: [(u8, &[i64]); 4] = [(0, &[11, 5]), (1, &[11]), (0, &[11, 6]), (1, &[11])];
     let told = answers(rt.alloc(), query, &rows)?;
     let wanted = [0, 1, 11, 1, 11, 2, 11, 11];
@@ -83,56 +38,12 @@ fn a_join_counts_each_pair(rt: HostRuntime) -> Result<(), Fail> {
 #[test]
 fn hot_rooms(rt: HostRuntime) -> Result<(), Fail> {
     let atoms = [
-        Atom {
-            left: Element::Attr(Attr {
-                stream: 0,
-                column: 0,
-            }),
-            op: Op::Eq,
-            right: Element::Attr(Attr {
-                stream: 1,
-                column: 0,
-            }),
-        },
-        Atom {
-            left: Element::Attr(Attr {
-                stream: 0,
-                column: 0,
-            }),
-            op: Op::Gt,
-            right: Element::Const(0),
-        },
-        Atom {
-            left: Element::Attr(Attr {
-                stream: 0,
-                column: 0,
-            }),
-            op: Op::Lt,
-            right: Element::Const(4),
-        },
-        Atom {
-            left: Element::Attr(Attr {
-                stream: 0,
-                column: 1,
-            }),
-            op: Op::Gt,
-            right: Element::Attr(Attr {
-                stream: 1,
-                column: 1,
-            }),
-        },
+        with_column(column(0, 0), Op::Eq, column(1, 0)),
+        with_integer(column(0, 0), Op::Gt, 0),
+        with_integer(column(0, 0), Op::Lt, 4),
+        with_column(column(0, 1), Op::Gt, column(1, 1)),
     ];
-    let query = Query::new(
-        true,
-        &[0, 1],
-        &[Attr {
-            stream: 0,
-            column: 0,
-        }],
-        &atoms,
-        &[],
-        false,
-    );
+    let query = Query::new(true, &[0, 1], &[column(0, 0)], &atoms, &[], false);
     let rows: [(u8, &[i64]); 4] = [(0, &[2, 30]), (1, &[2, 25]), (1, &[2, 10]), (1, &[3, 0])];
     let told = answers(rt.alloc(), query, &rows)?;
     let wanted = [0, 1, 2, 0, 0];
@@ -144,42 +55,11 @@ fn hot_rooms(rt: HostRuntime) -> Result<(), Fail> {
 #[test]
 fn a_product_of_three_streams(rt: HostRuntime) -> Result<(), Fail> {
     let atoms = [
-        Atom {
-            left: Element::Attr(Attr {
-                stream: 0,
-                column: 0,
-            }),
-            op: Op::Eq,
-            right: Element::Const(1),
-        },
-        Atom {
-            left: Element::Attr(Attr {
-                stream: 1,
-                column: 0,
-            }),
-            op: Op::Eq,
-            right: Element::Const(2),
-        },
-        Atom {
-            left: Element::Attr(Attr {
-                stream: 2,
-                column: 0,
-            }),
-            op: Op::Eq,
-            right: Element::Const(3),
-        },
+        with_integer(column(0, 0), Op::Eq, 1),
+        with_integer(column(1, 0), Op::Eq, 2),
+        with_integer(column(2, 0), Op::Eq, 3),
     ];
-    let query = Query::new(
-        false,
-        &[0, 1, 2],
-        &[Attr {
-            stream: 0,
-            column: 0,
-        }],
-        &atoms,
-        &[],
-        false,
-    );
+    let query = Query::new(false, &[0, 1, 2], &[column(0, 0)], &atoms, &[], false);
     let rows: [(u8, &[i64]); 6] = [
         (0, &[1, 0]),
         (1, &[2]),
@@ -198,45 +78,11 @@ fn a_product_of_three_streams(rt: HostRuntime) -> Result<(), Fail> {
 #[test]
 fn an_extreme_decides(rt: HostRuntime) -> Result<(), Fail> {
     let atoms = [
-        Atom {
-            left: Element::Attr(Attr {
-                stream: 0,
-                column: 1,
-            }),
-            op: Op::Lt,
-            right: Element::Attr(Attr {
-                stream: 1,
-                column: 0,
-            }),
-        },
-        Atom {
-            left: Element::Attr(Attr {
-                stream: 0,
-                column: 0,
-            }),
-            op: Op::Gt,
-            right: Element::Const(10),
-        },
-        Atom {
-            left: Element::Attr(Attr {
-                stream: 0,
-                column: 0,
-            }),
-            op: Op::Lt,
-            right: Element::Const(12),
-        },
+        with_column(column(0, 1), Op::Lt, column(1, 0)),
+        with_integer(column(0, 0), Op::Gt, 10),
+        with_integer(column(0, 0), Op::Lt, 12),
     ];
-    let query = Query::new(
-        true,
-        &[0, 1],
-        &[Attr {
-            stream: 0,
-            column: 0,
-        }],
-        &atoms,
-        &[],
-        false,
-    );
+    let query = Query::new(true, &[0, 1], &[column(0, 0)], &atoms, &[], false);
     let rows: [(u8, &[i64]); 4] = [(0, &[11, 100]), (1, &[100]), (1, &[101]), (1, &[500])];
     let told = answers(rt.alloc(), query, &rows)?;
     let wanted = [0, 0, 1, 11, 0];
@@ -248,45 +94,11 @@ fn an_extreme_decides(rt: HostRuntime) -> Result<(), Fail> {
 #[test]
 fn a_tuple_comes_once_though_it_is_found_twice(rt: HostRuntime) -> Result<(), Fail> {
     let atoms = [
-        Atom {
-            left: Element::Attr(Attr {
-                stream: 0,
-                column: 1,
-            }),
-            op: Op::Lt,
-            right: Element::Attr(Attr {
-                stream: 1,
-                column: 0,
-            }),
-        },
-        Atom {
-            left: Element::Attr(Attr {
-                stream: 0,
-                column: 0,
-            }),
-            op: Op::Gt,
-            right: Element::Const(10),
-        },
-        Atom {
-            left: Element::Attr(Attr {
-                stream: 0,
-                column: 0,
-            }),
-            op: Op::Lt,
-            right: Element::Const(12),
-        },
+        with_column(column(0, 1), Op::Lt, column(1, 0)),
+        with_integer(column(0, 0), Op::Gt, 10),
+        with_integer(column(0, 0), Op::Lt, 12),
     ];
-    let query = Query::new(
-        true,
-        &[0, 1],
-        &[Attr {
-            stream: 0,
-            column: 0,
-        }],
-        &atoms,
-        &[],
-        false,
-    );
+    let query = Query::new(true, &[0, 1], &[column(0, 0)], &atoms, &[], false);
     let rows: [(u8, &[i64]); 4] = [(0, &[11, 5]), (1, &[7]), (0, &[11, 11]), (1, &[12])];
     let told = answers(rt.alloc(), query, &rows)?;
     let wanted = [0, 1, 11, 0, 0];

@@ -127,15 +127,6 @@ pub record Listed (dims : List Dim) (axes : List Axis) (i cells : ℕ) : Type 0 
   pub full : AreFull (drop i dims) → AreFull dims
   pub short : All IsShort axes
 
-pub none-listed : (dims : List Dim) (axes : List Axis) → axes ≡ [] → Listed dims axes 0 1
-none-listed dims axes e = subst (λ (xs : List Axis). Listed dims xs 0 1) (sym e) record {
-  many = refl;
-  are = refl;
-  box = omega arith;
-  full = λ h. h;
-  short = λ k d l. absurd (omega (arith, l));
-}
-
 pub one-listed : (dims : List Dim) (axes more : List Axis) (i cells count : ℕ) (d o : Dim) (s : Axis) → i < length dims → d ≡ get_or dims i o → Listed dims axes i cells
     → s ≡ axis_of d → d.lo ≤ℤ d.hi → IsShort s → count ≡ cells * s.size → more ≡ axes ++ s ∷ [] → Listed dims more (i + 1) count
 one-listed dims axes more i cells count d o s l at_i so is full short product longer =
@@ -155,14 +146,3 @@ one-listed dims axes more i cells count d o s l at_i so is full short product lo
 
     size : count * box_size (drop (i + 1) dims) ≡ cells * box_size (drop i dims)
     size = ap (λ n. n * box_size (drop (i + 1) dims)) (product ∙ ap (λ (t : Axis). cells * t.size) is) ∙ shape cells (dim_size d) (box_size (drop (i + 1) dims)) ∙ ap (λ ds. cells * box_size ds) (sym first)
-
-pub all-listed : (dims : List Dim) (axes : List Axis) (i cells : ℕ) → length dims ≤ i → Listed dims axes i cells → AreAxes dims axes × (cells ≡ box_size dims)
-all-listed dims axes i cells l so =
-    let m = drop_all i dims l in (
-      record {
-        are = sym (append-nil axes) ∙ subst (λ ds. axes ++ map axis_of ds ≡ map axis_of dims) m so.are;
-        full = so.full (subst AreFull (sym m) tt);
-        short = so.short;
-      },
-      (let b = subst (λ ds. cells * box_size ds ≡ box_size dims) m so.box in omega (arith, b)),
-    )

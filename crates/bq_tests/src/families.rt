@@ -2,8 +2,8 @@
 //! is in the set.
 use arrayvec::ArrayVec;
 use bq_io::{MemSink, Status, SureSource};
-use bq_model::{Atom, Attr, Element, Op, Query, Row};
-use bq_oracle::Oracle;
+use bq_model::{Op, Query, Row};
+use bq_oracle::{Oracle, column, with_column, with_integer};
 use std::alloc::{AllocError, Global};
 use std::test::Fail;
 
@@ -43,63 +43,20 @@ fn script_of(case: Case) -> &'static [u8] {
 
 // SELECT DISTINCT S.a FROM S WHERE S.a > 10
 fn query_over_one() -> Query {
-    let atoms = [Atom {
-        left: Element::Attr(Attr {
-            stream: 0,
-            column: 0,
-        }),
-        op: Op::Gt,
-        right: Element::Const(10),
-    }];
-    Query::new(
-        true,
-        &[0],
-        &[Attr {
-            stream: 0,
-            column: 0,
-        }],
-        &atoms,
-        &[],
-        false,
-    )
+    let atoms = [with_integer(column(0, 0), Op::Gt, 10)];
+    Query::new(true, &[0], &[column(0, 0)], &atoms, &[], false)
 }
 
 // SELECT T.c, S.b FROM S, T WHERE S.a = T.c AND S.a = 1
 fn query_of_values() -> Query {
     let atoms = [
-        Atom {
-            left: Element::Attr(Attr {
-                stream: 0,
-                column: 0,
-            }),
-            op: Op::Eq,
-            right: Element::Attr(Attr {
-                stream: 1,
-                column: 0,
-            }),
-        },
-        Atom {
-            left: Element::Attr(Attr {
-                stream: 0,
-                column: 0,
-            }),
-            op: Op::Eq,
-            right: Element::Const(1),
-        },
+        with_column(column(0, 0), Op::Eq, column(1, 0)),
+        with_integer(column(0, 0), Op::Eq, 1),
     ];
     Query::new(
         false,
         &[0, 1],
-        &[
-            Attr {
-                stream: 1,
-                column: 0,
-            },
-            Attr {
-                stream: 0,
-                column: 1,
-            },
-        ],
+        &[column(1, 0), column(0, 1)],
         &atoms,
         &[],
         false,
@@ -109,37 +66,10 @@ fn query_of_values() -> Query {
 // SELECT DISTINCT S.b FROM S, T WHERE S.a = T.c AND S.b = 1
 fn query_by_equality() -> Query {
     let atoms = [
-        Atom {
-            left: Element::Attr(Attr {
-                stream: 0,
-                column: 0,
-            }),
-            op: Op::Eq,
-            right: Element::Attr(Attr {
-                stream: 1,
-                column: 0,
-            }),
-        },
-        Atom {
-            left: Element::Attr(Attr {
-                stream: 0,
-                column: 1,
-            }),
-            op: Op::Eq,
-            right: Element::Const(1),
-        },
+        with_column(column(0, 0), Op::Eq, column(1, 0)),
+        with_integer(column(0, 1), Op::Eq, 1),
     ];
-    Query::new(
-        true,
-        &[0, 1],
-        &[Attr {
-            stream: 0,
-            column: 1,
-        }],
-        &atoms,
-        &[],
-        false,
-    )
+    Query::new(true, &[0, 1], &[column(0, 1)], &atoms, &[], false)
 }
 
 // The query of the script.

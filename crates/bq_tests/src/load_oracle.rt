@@ -3,8 +3,8 @@ use crate::run::words;
 use arrayvec::ArrayVec;
 use bq_gen::LoadScript;
 use bq_io::{MemSink, Status, SureSource};
-use bq_model::{Atom, Attr, Element, Op, Query, Row};
-use bq_oracle::Oracle;
+use bq_model::{Op, Query, Row};
+use bq_oracle::{Oracle, column, with_column, with_integer};
 use itoa::Buffer;
 use std::alloc::{AllocError, Global};
 use std::test::Fail;
@@ -19,89 +19,21 @@ const HEAD: &[u8] =
 // SELECT S.a FROM S, T WHERE S.a = T.c AND S.a > 0 AND S.a < 1001
 fn query_g() -> Query {
     let atoms = [
-        Atom {
-            left: Element::Attr(Attr {
-                stream: 0,
-                column: 0,
-            }),
-            op: Op::Eq,
-            right: Element::Attr(Attr {
-                stream: 1,
-                column: 0,
-            }),
-        },
-        Atom {
-            left: Element::Attr(Attr {
-                stream: 0,
-                column: 0,
-            }),
-            op: Op::Gt,
-            right: Element::Const(0),
-        },
-        Atom {
-            left: Element::Attr(Attr {
-                stream: 0,
-                column: 0,
-            }),
-            op: Op::Lt,
-            right: Element::Const(1001),
-        },
+        with_column(column(0, 0), Op::Eq, column(1, 0)),
+        with_integer(column(0, 0), Op::Gt, 0),
+        with_integer(column(0, 0), Op::Lt, 1001),
     ];
-    Query::new(
-        false,
-        &[0, 1],
-        &[Attr {
-            stream: 0,
-            column: 0,
-        }],
-        &atoms,
-        &[],
-        false,
-    )
+    Query::new(false, &[0, 1], &[column(0, 0)], &atoms, &[], false)
 }
 
 // SELECT DISTINCT S.a FROM S, T WHERE S.b < T.c AND S.a > 10 AND S.a < 12
 fn query_h() -> Query {
     let atoms = [
-        Atom {
-            left: Element::Attr(Attr {
-                stream: 0,
-                column: 1,
-            }),
-            op: Op::Lt,
-            right: Element::Attr(Attr {
-                stream: 1,
-                column: 0,
-            }),
-        },
-        Atom {
-            left: Element::Attr(Attr {
-                stream: 0,
-                column: 0,
-            }),
-            op: Op::Gt,
-            right: Element::Const(10),
-        },
-        Atom {
-            left: Element::Attr(Attr {
-                stream: 0,
-                column: 0,
-            }),
-            op: Op::Lt,
-            right: Element::Const(12),
-        },
+        with_column(column(0, 1), Op::Lt, column(1, 0)),
+        with_integer(column(0, 0), Op::Gt, 10),
+        with_integer(column(0, 0), Op::Lt, 12),
     ];
-    Query::new(
-        true,
-        &[0, 1],
-        &[Attr {
-            stream: 0,
-            column: 0,
-        }],
-        &atoms,
-        &[],
-        false,
-    )
+    Query::new(true, &[0, 1], &[column(0, 0)], &atoms, &[], false)
 }
 
 // The row that a number makes, by the rule of the load and not by its text: the place of its stream, and its values.
