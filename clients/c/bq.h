@@ -2,7 +2,7 @@
  *
  *     bq_session *session = NULL;
  *     size_t taken, waiting;
- *     if (bq_open(&session, 1000000, 1 << 20) != BQ_DONE) return 1;
+ *     if (bq_open(&session, 1000000, 0, 1 << 20) != BQ_DONE) return 1;
  *     uint32_t fed = bq_feed(&session, text, size, &taken, &waiting);
  *     if (waiting > 0 && bq_replies(&session, room, sizeof room, &waiting) == BQ_DONE) use(room, waiting);
  *     bq_clear(&session);
@@ -29,7 +29,10 @@ extern "C" {
 #endif
 
 /* The number of these functions. It grows where one of them, or a number below, changes. */
-#define BQ_ABI 1
+#define BQ_ABI 2
+
+/* The most pages of a session. */
+#define BQ_MOST_PAGES 16384
 
 typedef struct bq_session bq_session; /* nothing of it is known here */
 
@@ -37,7 +40,7 @@ typedef struct bq_session bq_session; /* nothing of it is known here */
 enum bq_status {
     BQ_DONE = 0,
     BQ_SMALL = 1,   /* bq_replies: the room is smaller than what waits; nothing was copied */
-    BQ_USAGE = 2,   /* there is no session; bq_open: there is one already, or it may not take so many rows; nothing was done */
+    BQ_USAGE = 2,   /* there is no session; bq_open: there is one already, or it may not take so many rows or pages; nothing was done */
     BQ_CUT = 3,     /* the text ends inside a line; nothing was done */
     BQ_STOPPED = 5, /* no memory was found for the rest of a reply longer than 8192 bytes, of which a front waits; the session takes no
                        more text */
@@ -51,9 +54,10 @@ enum bq_status {
 /* Returns BQ_ABI of the library. */
 uint32_t bq_abi(void);
 
-/* Opens a session that may take `rows` rows, 1 to 2^40, where *session is NULL. A line is answered only while fewer than `most` bytes of
- * replies wait. Returns BQ_DONE, BQ_USAGE or BQ_MEMORY. */
-uint32_t bq_open(bq_session **session, uint64_t rows, size_t most);
+/* Opens a session that may take `rows` rows, 1 to 2^40, where *session is NULL. Its live queries have at most `pages` pages of 64 cells
+ * together, 1 to BQ_MOST_PAGES, or 0 for BQ_MOST_PAGES, as in the program; a query that needs more than are free is refused by `limit pool`.
+ * A line is answered only while fewer than `most` bytes of replies wait. Returns BQ_DONE, BQ_USAGE or BQ_MEMORY. */
+uint32_t bq_open(bq_session **session, uint64_t rows, uint32_t pages, size_t most);
 
 /* Answers the lines of a text, one after another. The replies wait behind those that wait already. *taken is how many bytes of the text were
  * taken, all with BQ_DONE; *waiting is how many bytes of replies wait then. Returns BQ_DONE, BQ_USAGE, BQ_CUT, BQ_STOPPED, BQ_MEMORY,

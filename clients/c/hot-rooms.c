@@ -22,7 +22,7 @@ static uint32_t answer(bq_session **session, const char *text) {
 
 int main(void) {
     bq_session *session = NULL;
-    if (bq_abi() != BQ_ABI || bq_open(&session, 1000000, 4096) != BQ_DONE) return 1;
+    if (bq_abi() != BQ_ABI || bq_open(&session, 1000000, 64, 4096) != BQ_DONE) return 1;
     uint32_t status = answer(&session, "CREATE STREAM Temp (room IN 1..39, val)\n"
                                        "CREATE QUERY hot AS SELECT DISTINCT Temp.room FROM Temp WHERE Temp.val > 30\n");
     for (int room = 1; room <= 3 && status == BQ_DONE; room++) {

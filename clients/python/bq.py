@@ -22,14 +22,16 @@ import subprocess
 import threading
 from typing import Any, Iterable, Iterator, List, Optional, Sequence, Tuple, Union
 
-__all__ = ["Session", "Refused", "Stopped", "Answer", "MOST_ROWS", "advise"]
+__all__ = ["Session", "Refused", "Stopped", "Answer", "MOST_ROWS", "MOST_PAGES", "advise"]
 
 MOST_ROWS = 1 << 40
+# The most pages of a session, and those of the program.
+MOST_PAGES = 16384
 # How many rows are fed at once where they come from an iterable.
 BATCH = 1000
 # How many bytes of replies the library holds before it asks to take them.
 MOST_REPLIES = 1 << 20
-ABI = 1
+ABI = 2
 
 Answer = Tuple[str, Tuple[int, ...]]
 
@@ -55,16 +57,22 @@ class Session:
 
     script   statements, each on a line, that are answered first; `Refused` is raised where one of them is
     rows     how many rows may be taken, 1 to 2^40
+    pages    how many pages of 64 cells its queries have at most together, 1 to 16,384; only the library takes fewer
     library  a file in place of the library that is found, or False for a process of the program
     program  a file in place of the program that is found
     """
 
-    def __init__(self, script: str = "", rows: int = MOST_ROWS, *, library: Union[str, bool, None] = None, program: Optional[str] = None):
+    def __init__(self, script: str = "", rows: int = MOST_ROWS, pages: int = MOST_PAGES, *, library: Union[str, bool, None] = None,
+                 program: Optional[str] = None):
         if not 1 <= rows <= MOST_ROWS:
             raise ValueError(f"rows: 1 to 2^40, not {rows}")
+        if not 1 <= pages <= MOST_PAGES:
+            raise ValueError(f"pages: 1 to {MOST_PAGES}, not {pages}")
         self._lock, self._part = threading.Lock(), b""
         found = None if library is False else _library(library if isinstance(library, str) else None)
-        self._inside: Union[_Library, _Process, None] = _Library(found, rows) if found else _Process(_program(program), rows)
+        if not found and pages != MOST_PAGES:
+            raise ValueError(f"pages: a session in a process has {MOST_PAGES}, and only the library opens one of {pages}")
+        self._inside: Union[_Library, _Process, None] = _Library(found, rows, pages) if found else _Process(_program(program), rows)
         try:
             self.execute(script)
         except BaseException:
@@ -73,9 +81,19 @@ class Session:
 
     @classmethod
     def resume(cls, checkpoint: Union[bytes, str], rows: int = MOST_ROWS, **how: Any) -> "Session":
-        """Opens a session that goes on from a checkpoint."""
+        """Opens a session that goes on from a checkpoint. Raises ValueError where the session has too few pages for one of its queries."""
         text = checkpoint.decode("ascii") if isinstance(checkpoint, bytes) else checkpoint
-        return cls(text, rows, **how)
+        session = cls("", rows, **how)
+        try:
+            lines = session._reply_lines(text)
+            lacking = [line for line in lines if line.startswith("refused ")]
+            if lacking:
+                raise ValueError(f"a query of the checkpoint is refused: {lacking[0]}")
+            _raise_refused(lines)
+        except BaseException:
+            session.close()
+            raise
+        return session
 
     def __enter__(self) -> "Session":
         return self
@@ -111,14 +129,8 @@ class Session:
     def execute(self, script: str) -> List[str]:
         """Answers the lines of a script, a last one without LF too. Returns the lines of the replies; raises the first `Refused` among them,
         behind which all lines were answered too."""
-        with _Alone(self._lock):
-            if self._part:
-                raise ValueError("a part of a line is kept: feed the rest of it, or call end")
-            lines = _text_lines(self._answer((script if script.endswith("\n") or not script else script + "\n").encode()))
-        for line in lines:
-            refused = _refused(line)
-            if refused:
-                raise refused
+        lines = self._reply_lines(script)
+        _raise_refused(lines)
         return lines
 
     def feed(self, stream: str, rows: Any) -> Iterator[Answer]:
@@ -155,6 +167,13 @@ class Session:
         """Returns the sums of the cells and of the answers that the live queries announce. Only the library tells them."""
         with _Alone(self._lock):
             return self._open().announced()
+
+    def _reply_lines(self, script: str) -> List[str]:
+        """Answers the lines of a script, a last one without LF too, and returns the lines of the replies."""
+        with _Alone(self._lock):
+            if self._part:
+                raise ValueError("a part of a line is kept: feed the rest of it, or call end")
+            return _text_lines(self._answer((script if script.endswith("\n") or not script else script + "\n").encode()))
 
     def _open(self) -> "Union[_Library, _Process]":
         if self._inside is None:
@@ -193,11 +212,11 @@ def advise(script: str, *, program: Optional[str] = None) -> Tuple[bool, str]:
 class _Library:
     """A session in the library."""
 
-    def __init__(self, library: ctypes.CDLL, rows: int):
+    def __init__(self, library: ctypes.CDLL, rows: int, pages: int):
         self._library, self._at = library, ctypes.c_void_p()
         self._taken, self._waiting = ctypes.c_size_t(), ctypes.c_size_t()
         self._room = ctypes.create_string_buffer(1 << 16)
-        if library.bq_open(self._at, rows, MOST_REPLIES):
+        if library.bq_open(self._at, rows, pages, MOST_REPLIES):
             raise MemoryError("no memory for a session")
 
     def answer(self, text: bytes) -> bytes:
@@ -301,7 +320,7 @@ def _library(file: Optional[str]) -> Optional[ctypes.CDLL]:
     number = ctypes.POINTER(ctypes.c_uint64)
     for name, result, arguments in (
         ("bq_abi", ctypes.c_uint32, []),
-        ("bq_open", ctypes.c_uint32, [handle, ctypes.c_uint64, ctypes.c_size_t]),
+        ("bq_open", ctypes.c_uint32, [handle, ctypes.c_uint64, ctypes.c_uint32, ctypes.c_size_t]),
         ("bq_feed", ctypes.c_uint32, [handle, ctypes.c_char_p, ctypes.c_size_t, size, size]),
         ("bq_replies", ctypes.c_uint32, [handle, ctypes.c_char_p, ctypes.c_size_t, size]),
         ("bq_clear", ctypes.c_uint32, [handle]),
@@ -337,6 +356,14 @@ def _rows_of(rows: Any) -> Iterable[Sequence[int]]:
 def _text_lines(replies: bytes) -> List[str]:
     lines = replies.decode("ascii", "backslashreplace").split("\n")
     return lines[:-1]
+
+
+def _raise_refused(lines: Iterable[str]) -> None:
+    """Raises the first `Refused` among the lines of replies."""
+    for line in lines:
+        refused = _refused(line)
+        if refused:
+            raise refused
 
 
 def _refused(line: str) -> Optional[Refused]:

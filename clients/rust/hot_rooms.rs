@@ -4,14 +4,14 @@ use std::ptr::null_mut;
 
 extern "C" {
     fn bq_abi() -> u32;
-    fn bq_open(session: *mut *mut c_void, rows: u64, most: usize) -> u32;
+    fn bq_open(session: *mut *mut c_void, rows: u64, pages: u32, most: usize) -> u32;
     fn bq_feed(session: *mut *mut c_void, text: *const u8, size: usize, taken: *mut usize, waiting: *mut usize) -> u32;
     fn bq_replies(session: *mut *mut c_void, room: *mut u8, size: usize, waiting: *mut usize) -> u32;
     fn bq_clear(session: *mut *mut c_void) -> u32;
     fn bq_close(session: *mut *mut c_void);
 }
 
-const ABI: u32 = 1;
+const ABI: u32 = 2;
 const DONE: u32 = 0;
 const FULL: u32 = 8;
 
@@ -21,10 +21,10 @@ pub struct Session(*mut c_void);
 unsafe impl Send for Session {}
 
 impl Session {
-    /// Opens a session that may take so many rows, or gives the status.
-    pub fn open(rows: u64) -> Result<Session, u32> {
+    /// Opens a session that may take so many rows, and whose queries have at most so many pages together, or gives the status.
+    pub fn open(rows: u64, pages: u32) -> Result<Session, u32> {
         let mut session = Session(null_mut());
-        match unsafe { bq_open(&mut session.0, rows, 1 << 20) } {
+        match unsafe { bq_open(&mut session.0, rows, pages, 1 << 20) } {
             DONE => Ok(session),
             status => Err(status),
         }
@@ -59,7 +59,7 @@ impl Drop for Session {
 
 fn main() -> Result<(), u32> {
     assert_eq!(unsafe { bq_abi() }, ABI);
-    let mut session = Session::open(1_000_000)?;
+    let mut session = Session::open(1_000_000, 64)?;
     let script = b"CREATE STREAM Temp (room IN 1..39, val)\n\
                    CREATE QUERY hot AS SELECT DISTINCT Temp.room FROM Temp WHERE Temp.val > 30\n";
     print!("{}", String::from_utf8_lossy(&session.feed(script)?));

@@ -84,7 +84,7 @@ int main(void) {
     do {
         bq_session *session = NULL;
         asked = 0;
-        uint32_t status = bq_open(&session, 1000, 1 << 20);
+        uint32_t status = bq_open(&session, 1000, 64, 1 << 20);
         if (status == BQ_DONE) faults += feed_all(&session, &lacking, &stopped);
         else if (status == BQ_MEMORY && session == NULL) opens++;
         else faults += wrong("open", 0, status);

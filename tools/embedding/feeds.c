@@ -57,7 +57,7 @@ int main(void) {
     while (fgets(line, sizeof line, stdin)) {
         unsigned long long first = 0, second = 0;
         if (sscanf(line, "open %llu %llu", &first, &second) == 2) {
-            uint32_t status = bq_open(&session, first, second);
+            uint32_t status = bq_open(&session, first, 0, second);
             if (status != BQ_DONE) fail("open", status);
             most = second;
             held = 0;

@@ -60,6 +60,7 @@ pub record Stands (limit rows : ℕ) (a : advice.State) (s : State) : Type 0 whe
   pub pages : a.pages ≡ map pages_at s.queries
   pub lock : SameLock a.lock s.streams s.lock
   pub most : s.limit ≡ limit
+  pub room : s.pages ≡ 16384
   pub taken : s.taken ≤ rows
 
 -- whether a finding counts against the script
@@ -80,8 +81,9 @@ pub record Goes (limit rows : ℕ) (a : advice.State) (s : State) (line : List �
   pub stands : Stands limit (rows + row_count line) (after a line f) (next_of s answer)
   pub bad : is_bad a f ≡ is_refused answer
 
-same-free : (pages : List ℕ) (queries : List LiveQuery) → pages ≡ map pages_at queries → 16384 - sum pages ≡ registry.free_pages queries
-same-free pages queries e = ap (λ ps. 16384 - sum ps) e ∙ ap (λ n. 16384 - n) (fold-map (λ (n k : ℕ). n + k) pages_at 0 queries)
+same-free : (pages : List ℕ) (all : ℕ) (queries : List LiveQuery) → pages ≡ map pages_at queries → all ≡ 16384 → 16384 - sum pages ≡ registry.free_pages all queries
+same-free pages all queries e is =
+    ap (λ ps. 16384 - sum ps) e ∙ ap (λ n. 16384 - n) (fold-map (λ (n k : ℕ). n + k) pages_at 0 queries) ∙ ap (λ n. registry.free_pages n queries) (sym is)
 
 -- a query that is added behind the others
 map-push : {X : Type 0} (g : LiveQuery → X) (queries : List LiveQuery) (q : LiveQuery) → map g queries ++ g q ∷ [] ≡ map g (queries ++ q ∷ [])
@@ -147,10 +149,10 @@ module _ (limit rows : ℕ) (a : advice.State) (s : State) (line : List ℕ) (h 
   more = omega (arith, h.taken)
 
   one-line : Stands limit (rows + row_count line) (advice.one_line_more a) (one_line_more s)
-  one-line = record { streams = h.streams; live = h.live; pages = h.pages; lock = h.lock; most = h.most; taken = more }
+  one-line = record { streams = h.streams; live = h.live; pages = h.pages; lock = h.lock; most = h.most; room = h.room; taken = more }
 
   fault-goes : (wrong : Fault) (word : Refusal) → Goes limit rows a s line (fault wrong) (plain (refused word))
-  fault-goes wrong word = record { stands = record { streams = h.streams; live = h.live; pages = h.pages; lock = h.lock; most = h.most; taken = more }; bad = refl }
+  fault-goes wrong word = record { stands = record { streams = h.streams; live = h.live; pages = h.pages; lock = h.lock; most = h.most; room = h.room; taken = more }; bad = refl }
 
   row-taken : (stream : ℕ) (values : List ℤ) → is_row_kind (kind_of_line (stripped line)) ≡ true → Goes limit rows a s line (fine asks.Row) (plain (taken stream values))
   row-taken stream values k =
@@ -163,6 +165,7 @@ module _ (limit rows : ℕ) (a : advice.State) (s : State) (line : List ℕ) (h 
           pages = h.pages ∙ map-row pages_at r (λ q. refl) s.queries;
           lock = h.lock;
           most = h.most;
+          room = h.room;
           taken = omega (arith, h.taken, one);
         };
         bad = refl;
@@ -197,11 +200,11 @@ module _ (limit rows : ℕ) (a : advice.State) (s : State) (line : List ℕ) (h 
   explain-goes unlocked answer t q = absurd t
   explain-goes (refused word) answer t q = absurd t
 
-  query-goes : (name : List ℕ) (q : QueryValue) (shared : Bool) (f : Finding) (answer : Answer) → IsAdvised a name q shared f → IsDecided name q shared (registry.free_pages s.queries) answer → Goes limit rows a s line f answer
+  query-goes : (name : List ℕ) (q : QueryValue) (shared : Bool) (f : Finding) (answer : Answer) → IsAdvised a name q shared f → IsDecided name q shared (registry.free_pages s.pages s.queries) answer → Goes limit rows a s line f answer
   query-goes name q shared f answer p d = by (settled name q shared (free_pages a) p.advice.judgement answer p.right.judgement decided-here)
     where
       decided-here : IsDecided name q shared (free_pages a) answer
-      decided-here = subst (λ n. IsDecided name q shared n answer) (sym (same-free a.pages s.queries h.pages)) d
+      decided-here = subst (λ n. IsDecided name q shared n answer) (sym (same-free a.pages s.pages s.queries h.pages h.room)) d
 
       by : IsSettled name q shared (free_pages a) p.advice.judgement answer → Goes limit rows a s line f answer
       by (registers plan e sure pages) = goes f (query (advised a name q p.advice)) answer (registered name q shared plan) p.is e (record {
@@ -218,6 +221,7 @@ module _ (limit rows : ℕ) (a : advice.State) (s : State) (line : List ℕ) (h 
               pages = ap (λ l. l ++ pages_for p.advice.judgement ∷ []) h.pages ∙ ap (λ n. map pages_at s.queries ++ n ∷ []) pages ∙ map-push pages_at s.queries (newly name q shared plan);
               lock = h.lock;
               most = h.most;
+              room = h.room;
               taken = more;
             });
         bad = ap not sure;
@@ -230,7 +234,7 @@ module _ (limit rows : ℕ) (a : advice.State) (s : State) (line : List ℕ) (h 
             else record a { lines = a.lines + 1; refused = a.refused + 1 })
             (next_of s (decided name q verdict)))
             (sym gone)
-            (record { streams = h.streams; live = h.live; pages = h.pages; lock = h.lock; most = h.most; taken = more });
+            (record { streams = h.streams; live = h.live; pages = h.pages; lock = h.lock; most = h.most; room = h.room; taken = more });
         bad = ap not gone;
       })
 
@@ -242,6 +246,7 @@ module _ (limit rows : ℕ) (a : advice.State) (s : State) (line : List ℕ) (h 
       pages = ap (λ l. advice.without (position (λ other. bytes_eq other name) l) a.pages) h.live ∙ ap (λ l. advice.without (position (λ other. bytes_eq other name) (names s.queries)) l) h.pages ∙ goes-first pages_at name s.queries;
       lock = h.lock;
       most = h.most;
+      room = h.room;
       taken = more;
     };
     bad = refl;
@@ -270,6 +275,7 @@ module _ (limit rows : ℕ) (a : advice.State) (s : State) (line : List ℕ) (h 
       pages = h.pages;
       lock = subst (λ l. SameLock l (s.streams ++ record { name = name; columns = columns.items } ∷ []) s.lock) (sym idle) open_now;
       most = h.most;
+      room = h.room;
       taken = more;
     };
     bad = refl;
@@ -287,11 +293,11 @@ module _ (limit rows : ℕ) (a : advice.State) (s : State) (line : List ℕ) (h 
   by-found (Ok (asks.Drop name)) f request answer c p q k = goes f (fine (asks.Drop name)) answer (plain (dropped name)) c (subst (λ r. Settles s r answer) p q) (drop-goes name)
   by-found (Ok asks.Other) f request answer c p q k = goes f (fine asks.Other) answer (plain saved) c (subst (λ r. Settles s r answer) k q) (record { stands = one-line; bad = refl })
   by-found (Ok (asks.Lock key streams)) f request answer c p q k = goes f (fine (asks.Lock key streams)) answer (plain (locked (record { key = key; opened = p.opened }))) c (subst (λ r. Settles s r answer) p.is q) (record {
-    stands = record { streams = h.streams; live = h.live; pages = h.pages; lock = (p.opened, p.found, refl); most = h.most; taken = more };
+    stands = record { streams = h.streams; live = h.live; pages = h.pages; lock = (p.opened, p.found, refl); most = h.most; room = h.room; taken = more };
     bad = refl;
   })
   by-found (Ok asks.Unlock) f request answer c p q k = goes f (fine asks.Unlock) answer (plain unlocked) c (subst (λ r. Settles s r answer) p q) (record {
-    stands = record { streams = h.streams; live = h.live; pages = h.pages; lock = refl; most = h.most; taken = more };
+    stands = record { streams = h.streams; live = h.live; pages = h.pages; lock = refl; most = h.most; room = h.room; taken = more };
     bad = refl;
   })
 

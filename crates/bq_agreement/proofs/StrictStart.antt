@@ -129,7 +129,7 @@ push limit lines a line f answers is h others few rest =
 behind : {lines : List (List ℕ)} {text : List ℕ} {a : advice.State} → ComeTo lines text a → (limit : ℕ) (answers : List Answer) → AreAnswers (empty limit) lines answers → All IsOther lines → row_lines lines ≤ limit → Behind limit lines a answers
 unfolding after
 behind none limit [] h others few = record {
-  stands = record { streams = refl; live = refl; pages = refl; lock = refl; most = refl; taken = omega arith };
+  stands = record { streams = refl; live = refl; pages = refl; lock = refl; most = refl; room = refl; taken = omega arith };
   counts = refl;
 }
 behind none limit (x ∷ answers) h others few = absurd h

@@ -15,21 +15,26 @@ abbrev pub waiting : Option EmbeddedValue → ℕ
 waiting None = 0
 waiting (Some e) = length e.replies
 
--- the handle has a session that was just opened
-abbrev pub HasOpened : ℕ → ℕ → Option EmbeddedValue → Type 0
-HasOpened rows most None = ⊥
-HasOpened rows most (Some e) = IsOpened rows most e
+-- the pages of a session that is opened with such a number: 0 asks for as many as may be
+abbrev pub pages_for : ℕ → ℕ
+pages_for zero = 16384
+pages_for (suc n) = suc n
 
--- no session of so many rows is opened: the handle has one, or the number is none that may be
-abbrev pub IsWronglyOpened : ℕ → Option EmbeddedValue → Type 0
-IsWronglyOpened rows before = (is_none before ≡ false) ⊎ (rows ≡ 0) ⊎ (2 ^ 40 < rows)
+-- the handle has a session that was just opened
+abbrev pub HasOpened : ℕ → ℕ → ℕ → Option EmbeddedValue → Type 0
+HasOpened rows pages most None = ⊥
+HasOpened rows pages most (Some e) = IsOpened rows (pages_for pages) most e
+
+-- no session of so many rows and pages is opened: the handle has one, or a number is none that may be
+abbrev pub IsWronglyOpened : ℕ → ℕ → Option EmbeddedValue → Type 0
+IsWronglyOpened rows pages before = (is_none before ≡ false) ⊎ (rows ≡ 0) ⊎ (2 ^ 40 < rows) ⊎ (16384 < pages)
 
 -- A handle of no session has one that was just opened; or nothing is changed, with 2 where none may be opened.
-abbrev pub Opens : ℕ → ℕ → ℕ → Option EmbeddedValue → Option EmbeddedValue → Type 0
-Opens zero rows most before now = (before ≡ None) × HasOpened rows most now
-Opens (suc zero) rows most before now = ⊥
-Opens (suc (suc zero)) rows most before now = (now ≡ before) × IsWronglyOpened rows before
-Opens (suc (suc (suc n))) rows most before now = now ≡ before
+abbrev pub Opens : ℕ → ℕ → ℕ → ℕ → Option EmbeddedValue → Option EmbeddedValue → Type 0
+Opens zero rows pages most before now = (before ≡ None) × HasOpened rows pages most now
+Opens (suc zero) rows pages most before now = ⊥
+Opens (suc (suc zero)) rows pages most before now = (now ≡ before) × IsWronglyOpened rows pages before
+Opens (suc (suc (suc n))) rows pages most before now = now ≡ before
 
 -- the number that tells how feeding went
 abbrev pub number_of : FeedOutcome → ℕ

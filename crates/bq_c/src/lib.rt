@@ -12,7 +12,7 @@ ghost use Rattle.std.specs.Option.{is_none};
 ghost use Rattle.std.specs.declared.option.Option.{Option};
 ghost use Rattle.std.specs.declared.option.Option.TheVariants.{None, Some};
 ghost use Rattle.bq_embed.specs.Embedded.{EmbeddedValue};
-ghost use Rattle.bq_c.specs.Exports.{number_of, waiting, Opens, FedSo, Feeds, Gives, Clears, Announces};
+ghost use Rattle.bq_c.specs.Exports.{number_of, pages_for, waiting, Opens, FedSo, Feeds, Gives, Clears, Announces};
 ghost use Rattle.bq_session.specs.Announced.{announced_by};
 ghost use Rattle.bq_session.specs.Session.{StandsFor};
 ghost use Rattle.bq_session.specs.State.{State};
@@ -25,10 +25,13 @@ use std::mem::replace;
 use std::ptr::null_mut;
 
 // Which functions these are, with these parameters and numbers. It grows where one of them changes.
-const ABI: u32 = 1;
+const ABI: u32 = 2;
 
 // The most rows of a session.
 const MOST_ROWS: u64 = 1 << 40;
+
+// The most pages of a session.
+const MOST_PAGES: u16 = 16_384;
 
 /// The one owner of a session on the heap, or of none where it is null. To C it is a pointer to nothing that C knows.
 #[repr(C)]
@@ -111,6 +114,19 @@ impl Handle {
     }
 }
 
+// The pages of a session that is opened with such a number.
+fn pages_for(number: u32) -> u16
+    requires { number ≤ 16384 }
+    ensures pages { result ≡ pages_for number }
+    ensures few { result ≤ 16384 }
+{
+    if number == 0 {
+        MOST_PAGES
+    } else {
+        number as u16
+    }
+}
+
 // The number that tells C how feeding went.
 fn number_of(outcome: FeedOutcome) -> u32
     ensures { result ≡ number_of outcome }
@@ -161,24 +177,34 @@ fn announce(session: &Embedded, cells: &mut u64, answers: &mut u64)
 /// Returns the number of these functions: it grows where one of them changes.
 #[unsafe(no_mangle)]
 pub extern "C" fn bq_abi() -> u32
-    ensures { result ≡ 1 }
+    ensures { result ≡ 2 }
 {
     ABI
 }
 
-/// Opens a session that may take so many rows, 1 to 2^40, and answers a line only while fewer than `most` bytes of replies wait: 0. There
-/// is no memory: 6. The handle has a session, or the number of rows is another: 2.
+/// Opens a session that may take so many rows, 1 to 2^40, and whose live queries have at most so many pages together, 1 to 16,384, or 0 for
+/// as many. It answers a line only while fewer than `most` bytes of replies wait: 0. There is no memory: 6. The handle has a session, or the
+/// number of rows or pages is another: 2.
 #[unsafe(no_mangle)]
-pub extern "C" fn bq_open(alloc: Global, handle: &mut Handle, rows: u64, most: usize) -> u32
-    ensures { Opens result rows most handle.old.value handle.new.value }
+pub extern "C" fn bq_open(
+    alloc: Global,
+    handle: &mut Handle,
+    rows: u64,
+    pages: u32,
+    most: usize,
+) -> u32
+    ensures { Opens result rows pages most handle.old.value handle.new.value }
 {
     if rows == 0 || rows > MOST_ROWS {
+        return 2;
+    }
+    if pages > u32::from(MOST_PAGES) {
         return 2;
     }
     if !handle.is_closed() {
         return 2;
     }
-    let Ok(session) = Embedded::open(alloc, rows, most) else {
+    let Ok(session) = Embedded::open(alloc, rows, pages_for(pages), most) else {
         return 6;
     };
     match Box::new(alloc, session) {

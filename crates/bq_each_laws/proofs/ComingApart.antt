@@ -16,7 +16,7 @@ use Rattle.bq_resuming.specs.Reached.{IsReached}
 use Rattle.bq_session.specs.Answer.{Answer}
 use Rattle.bq_session.specs.Answers.{IsAnswer}
 use Rattle.bq_session.specs.Replies.{AreAnswers, replies, reply_to}
-use Rattle.bq_session.specs.State.{State, after, empty, next_of}
+use Rattle.bq_session.specs.State.{State, after, empty, initial, next_of}
 use Rattle.bq_text.proofs.Fronts.{and_left, and_right, and_both, all_weaker}
 use Rattle.bq_text.specs.Lines.{is_line_feed, lines, without_empty_last}
 use Rattle.bq_each_laws.specs.ComesApart.{apart, is_inner, without_empty, IsReplyLine, IsLines, EachComesApart}
@@ -136,10 +136,11 @@ all_apart s (answer ∷ others) h =
 reached_next : (limit : ℕ) (s : State) (line : List ℕ) (answer : Answer) → IsReached limit s → IsAnswer s line answer → IsReached limit (next_of s answer)
 unfolding after
 reached_next limit s line answer r is = record {
+  pages = r.pages;
   lines = r.lines ++ line ∷ [];
   answers = r.answers ++ answer ∷ [];
-  answered = answers_joined (empty limit) r.lines (line ∷ []) r.answers (answer ∷ []) r.answered (subst (λ (x : State). AreAnswers x (line ∷ []) (answer ∷ [])) (sym r.is) (is, tt));
-  is = after_joined (empty limit) r.answers (answer ∷ []) ∙ ap (λ (x : State). next_of x answer) r.is;
+  answered = answers_joined (initial limit r.pages) r.lines (line ∷ []) r.answers (answer ∷ []) r.answered (subst (λ (x : State). AreAnswers x (line ∷ []) (answer ∷ [])) (sym r.is) (is, tt));
+  is = after_joined (initial limit r.pages) r.answers (answer ∷ []) ∙ ap (λ (x : State). next_of x answer) r.is;
 }
 
 are_lines : (limit : ℕ) → limit ≤ 2 ^ 40 → (s : State) (ls : List (List ℕ)) (answers : List Answer) → IsReached limit s → AreAnswers s ls answers → AreLines s answers
@@ -153,7 +154,7 @@ are_lines limit small s (line ∷ ls) (answer ∷ others) r are = (
 
 first_reached : (limit : ℕ) → IsReached limit (empty limit)
 unfolding after
-first_reached limit = record { lines = []; answers = []; answered = tt; is = refl }
+first_reached limit = record { pages = 16384; lines = []; answers = []; answered = tt; is = refl }
 
 pub each_comes_apart : EachComesApart
 each_comes_apart limit small text answers are = all_apart (empty limit) answers (are_lines limit small (empty limit) (lines text) answers (first_reached limit) are)

@@ -1,5 +1,6 @@
 -- The lemmas of `bq_embed`.
 pub mod FirstLines
 pub mod Feeding
+pub mod Fronts
 pub mod Pieces
 pub mod Takings

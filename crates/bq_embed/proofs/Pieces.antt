@@ -4,12 +4,12 @@ use Rattle.std.proofs.Math.Seq.{drop-length, drop-append_seam}
 use Rattle.std.proofs.lemmas.List.{append_cancel_left}
 use Rattle.bq_text.specs.Lines.{lines}
 use Rattle.bq_text.proofs.LinesInPieces.{cuts_at_line_end}
-use Rattle.bq_session.specs.State.{State, empty, after}
+use Rattle.bq_session.specs.State.{State, initial, after}
 use Rattle.bq_session.specs.Replies.{replies, AreAnswers}
 use Rattle.bq_session.specs.Session.{SessionValue, StandsFor}
 use Rattle.bq_session.proofs.LineRuns.{after-append, replies-append, AreAnswers-append}
 use Rattle.bq_embed.specs.Fed.{FedTo, FedAll}
-use Rattle.bq_embed.specs.Laws.{RestIsFedLater, FeedsInPieces, RepliesAreSessionText}
+use Rattle.bq_embed.specs.Laws.{RestIsFedLater, FeedsInPieces, RepliesAreToTheText, RepliesAreSessionText}
 
 -- all lines of a text that was fed whole were answered
 all_answered : (s : State) (text held now : List ℕ) (new : SessionValue) (p : FedAll s text held now new) → lines text ≡ p.answered
@@ -51,9 +51,14 @@ feeds_in_pieces s front rest between new held held' replied replied' p then =
     rest_is_fed_later s (front ++ 10 ∷ rest) (length (front ++ 10 ∷ [])) between new held held' replied replied' (front_fed s front rest held (held ++ replied) between p)
     (λ s' stands. subst (λ (t : List ℕ). FedAll s' t held' (held' ++ replied') new) (sym behind) (then s' stands))
 
+pub replies_are_to_the_text : RepliesAreToTheText
+replies_are_to_the_text limit pages text new replied p =
+    let from : State = initial limit pages in
+    record {
+      answers = p.answers;
+      answered = subst (λ (ls : List (List ℕ)). AreAnswers from ls p.answers) (sym (all_answered from text [] replied new p)) p.are;
+      replied = p.written;
+    }
+
 pub replies_are_session_text : RepliesAreSessionText
-replies_are_session_text limit text new replied p = record {
-  answers = p.answers;
-  answered = subst (λ (ls : List (List ℕ)). AreAnswers (empty limit) ls p.answers) (sym (all_answered (empty limit) text [] replied new p)) p.are;
-  replied = p.written;
-}
+replies_are_session_text limit text new replied p = replies_are_to_the_text limit 16384 text new replied p

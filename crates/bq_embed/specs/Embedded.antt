@@ -1,6 +1,6 @@
 -- What an embedded session keeps, and what feeding it a text comes to.
 use Rattle.std.specs.Prelude.{◌≡◌, ℕ, ◌+◌, ◌^◌, ◌≤◌, ◌⊎◌, Bool, true, false, List, [], length}
-use Rattle.bq_session.specs.State.{State, empty}
+use Rattle.bq_session.specs.State.{State, initial}
 use Rattle.bq_session.specs.Session.{SessionValue, StandsFor}
 use Rattle.bq_session.specs.Run.{HasState}
 use Rattle.bq_embed.specs.declared.outcome.FeedOutcome.{FeedOutcome}
@@ -21,9 +21,9 @@ pub record IsKept (session : SessionValue) (fed : ℕ) : Type 0 where
   pub known : HasState session
   pub lines : session.lines ≤ fed
 
--- a session that was just opened
-pub record IsOpened (rows most : ℕ) (e : EmbeddedValue) : Type 0 where
-  pub stands : StandsFor e.session (empty rows)
+-- a session that was just opened, for so many rows and with so many pages
+pub record IsOpened (rows pages most : ℕ) (e : EmbeddedValue) : Type 0 where
+  pub stands : StandsFor e.session (initial rows pages)
   pub replies : e.replies ≡ []
   pub bound : e.most ≡ most
   pub fed : e.fed ≡ 0

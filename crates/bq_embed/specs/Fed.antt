@@ -1,20 +1,36 @@
 -- What feeding a text to a session comes to.
-use Rattle.std.specs.Prelude.{◌≡◌, ℕ, ◌+◌, ◌<◌, ◌≤◌, ◌⊎◌, ⊤, List, [], ◌∷◌, ◌++◌, length, drop, IsTrue}
+use Rattle.std.specs.Prelude.{◌≡◌, ℕ, ◌+◌, ◌<◌, ◌≤◌, ◌⊎◌, ⊤, List, [], ◌∷◌, ◌++◌, length, take, drop, IsTrue}
 use Rattle.bq_text.specs.Lines.{lines}
 use Rattle.bq_rows.specs.Ahead.{IsEnded}
+use Rattle.bq_io.specs.Sink.{SinkState}
+use Rattle.bq_feed.specs.Reading.{IsFirstFeed}
+use Rattle.bq_session.specs.declared.outcome.LineOutcome.{LineOutcome}
+use Rattle.bq_session.specs.Counted.{AreCounted}
 use Rattle.bq_session.specs.Request.{Request}
 use Rattle.bq_session.specs.Requests.{IsRequest}
 use Rattle.bq_session.specs.Answer.{Answer}
 use Rattle.bq_session.specs.State.{State, one_line_more, next_of, after}
 use Rattle.bq_session.specs.Answers.{IsAnswer}
 use Rattle.bq_session.specs.Replies.{reply_to, replies, AreAnswers}
-use Rattle.bq_session.specs.Session.{SessionValue, StandsFor, creates}
+use Rattle.bq_session.specs.Session.{SessionValue, StandsFor, Answered, creates}
 use Rattle.bq_embed.specs.declared.outcome.FeedOutcome.{FeedOutcome}
 use Rattle.bq_embed.specs.declared.outcome.FeedOutcome.TheVariants as outcome
 
 -- no line of a text lacks its LF: it is empty, or its last byte is LF
 abbrev pub AreWholeLines : List ℕ → Type 0
 AreWholeLines text = (text ≡ []) ⊎ IsEnded text
+
+-- Rows at the front of a text were only counted, and the line behind them was answered. So many bytes stand before the LF of that line.
+pub record AnswersFront (text : List ℕ) (old : SessionValue) (len : ℕ) (how : LineOutcome) (new : SessionValue) (before after : SinkState) : Type 0 where
+  pub count : ℕ
+  pub begin : ℕ
+  pub end : ℕ
+  pub left : SessionValue
+  pub rows : AreCounted text old count begin end left
+  pub first : ℕ
+  pub feed : IsFirstFeed (drop end text) first
+  pub size : len ≡ end + first
+  pub reply : (s : State) → StandsFor left s → Answered how s (take first (drop end text)) new before after
 
 -- The lines of a text up to a place were answered: their replies were added to those that were held, and the session stands for the
 -- state after them.

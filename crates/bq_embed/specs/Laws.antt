@@ -1,8 +1,8 @@
 -- What holds of all texts that are fed.
 use Rattle.std.specs.Prelude.{ℕ, List, [], ◌∷◌, ◌++◌, drop}
-use Rattle.bq_session.specs.Replies.{IsSessionText}
+use Rattle.bq_session.specs.Replies.{IsSessionText, AreReplies}
 use Rattle.bq_session.specs.Session.{SessionValue, StandsFor}
-use Rattle.bq_session.specs.State.{State, empty}
+use Rattle.bq_session.specs.State.{State, empty, initial}
 use Rattle.bq_embed.specs.Fed.{FedTo, FedAll}
 
 -- A text of which a front was taken, and then what was not taken of it, is fed as the whole text. The replies to both, one behind the
@@ -20,7 +20,13 @@ FeedsInPieces = (s : State) → (front rest : List ℕ) → (between new : Sessi
     → ((s' : State) → StandsFor between s' → FedAll s' rest held' (held' ++ replied') new)
     → FedAll s (front ++ 10 ∷ rest) [] (replied ++ replied') new
 
--- What a session replies to all that it is fed, from the state before the first line on, is the session text of that.
+-- What a session of so many rows and pages replies to all that it is fed, from the state before the first line on, are the replies to the
+-- lines of that.
+abbrev pub RepliesAreToTheText : Type 0
+RepliesAreToTheText = (limit pages : ℕ) → (text : List ℕ) → (new : SessionValue) → (replied : List ℕ)
+    → FedAll (initial limit pages) text [] replied new → AreReplies (initial limit pages) text replied
+
+-- With 16,384 pages it is the session text of that.
 abbrev pub RepliesAreSessionText : Type 0
 RepliesAreSessionText = (limit : ℕ) → (text : List ℕ) → (new : SessionValue) → (replied : List ℕ)
     → FedAll (empty limit) text [] replied new → IsSessionText limit text replied

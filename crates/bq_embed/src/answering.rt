@@ -1,26 +1,30 @@
 //! The lines of a text, answered one after another.
-ghost use Rattle.std.specs.Prelude.{◌≡◌, ◌+◌, ◌<◌, ◌≤◌, ◌^◌, length, take, IsTrue, IsFalse};
+ghost use Rattle.std.specs.Prelude.{◌≡◌, ◌+◌, ◌<◌, ◌≤◌, ◌^◌, ◌++◌, length, take, drop, IsTrue, IsFalse};
 ghost use Rattle.bq_feed.specs.Reading.{IsFirstFeed};
 ghost use Rattle.bq_rows.specs.Ahead.{IsEnded};
 ghost use Rattle.bq_session.specs.State.{State};
 ghost use Rattle.bq_session.specs.Session.{StandsFor, Answered};
 ghost use Rattle.bq_session.specs.Run.{HasState};
-ghost use Rattle.bq_embed.specs.Fed.{AreWholeLines, Feeds};
+ghost use Rattle.bq_session.specs.Counted.{AreCounted};
+ghost use Rattle.bq_embed.specs.Fed.{AnswersFront, AreWholeLines, Feeds};
 
 use crate::outcome::{Fed, FeedOutcome};
 use crate::replies::Replies;
 use bq_io::Sink;
 use bq_model::Row;
 use bq_pool::Steps;
-use bq_session::{LineOutcome, Session};
+use bq_session::{CountedRows, LineOutcome, Pause, Session, count_ahead};
 use memchr::memchr_iter;
 use std::sync::ledger::Ledger;
 
 // The bytes of replies for which room is made before a line is answered: no shorter reply breaks off.
 const ROOM: usize = 8192;
 
-// A text that is not longer is mostly one line, as a caller feeds it that sends row by row. No row is read ahead of it.
+// A text that is not longer is mostly one line, as a caller feeds it that sends row by row. Nothing is read ahead of such a line.
 const ONE_LINE: usize = 100;
+
+// The room in which such a line is read, with bytes behind it.
+const ROOM_FOR_LINE: usize = 128;
 
 // How long the first line of a text is, and how it was answered.
 #[derive(Clone, Copy)]
@@ -65,6 +69,14 @@ fn answer_line<O: Sink, L: Ledger>(
     }
 }
 
+// Puts a text at the front of the room for it.
+fn put_front(text: &[u8], room: &mut [u8])
+    requires { length text.now ≤ length room.old }
+    ensures { room.new ≡ text.now ++ drop (length text.now) room.old }
+{
+    room[..text.len()].copy_from_slice(text);
+}
+
 // What `answer_first` does, whatever the line is.
 #[inline(always)]
 fn answer_any<O: Sink, L: Ledger>(
@@ -83,9 +95,8 @@ fn answer_any<O: Sink, L: Ledger>(
     FirstLine { len, outcome }
 }
 
-// What `answer_first` does where a row may be read ahead of more text, whose LF is then not looked for first. It is not inlined, so that a
-// text of one line pays nothing for the room of that row.
-#[inline(never)]
+// What `answer_first` does where a row may be read ahead of more text, whose LF is then not looked for first.
+#[inline(always)]
 fn answer_ahead<O: Sink, L: Ledger>(
     session: &mut Session,
     text: &[u8],
@@ -108,6 +119,34 @@ fn answer_ahead<O: Sink, L: Ledger>(
     }
 }
 
+// What `answer_first` does where the text is mostly one line. A row is read from a copy with LFs behind it, since its name and digits are read
+// many bytes at a time where more bytes follow. It is not inlined, so that a batch pays nothing for the copy.
+#[inline(never)]
+fn answer_alone<O: Sink, L: Ledger>(
+    session: &mut Session,
+    text: &[u8],
+    out: &mut O,
+    steps: &mut Steps<L>,
+) -> FirstLine
+    requires short { length text.now ≤ 100 }
+    requires ended { IsEnded text.now }
+    requires few { session.old.lines + 1 < 2 ^ 64 }
+    ensures feed { IsFirstFeed text.now result.len }
+    ensures reply { (s : State) → StandsFor session.old s → Answered result.outcome s (take result.len text.now) session.new (O.seen out.old) (O.seen out.new) }
+{
+    let mut room = [b'\n'; ROOM_FOR_LINE];
+    put_front(text, &mut room);
+    let mut row = Row::new();
+    match session.row_ahead(&room, &mut row) {
+        Some(found) => {
+            let (stream, len) = found;
+            let outcome = session.plain_row(stream, &row, false, out, steps);
+            FirstLine { len, outcome }
+        }
+        None => answer_any(session, text, out, steps),
+    }
+}
+
 // Answers the first line of a text that ends with LF.
 fn answer_first<O: Sink, L: Ledger>(
     session: &mut Session,
@@ -121,9 +160,48 @@ fn answer_first<O: Sink, L: Ledger>(
     ensures reply { (s : State) → StandsFor session.old s → Answered result.outcome s (take result.len text.now) session.new (O.seen out.old) (O.seen out.new) }
 {
     if text.len() <= ONE_LINE {
-        answer_any(session, text, out, steps)
+        answer_alone(session, text, out, steps)
     } else {
         answer_ahead(session, text, out, steps)
+    }
+}
+
+// Counts the rows at the front of a text that are only counted. A text that mostly is one line is not looked through.
+#[tactic(auto, using(crate::proofs::Fronts::none_counted))]
+fn count_front(session: &mut Session, text: &[u8], pause: &mut Pause) -> CountedRows
+    requires ended { IsEnded text.now }
+    ensures rows { AreCounted text.now session.old result.count result.begin result.end session.new }
+    ensures inside { result.end < length text.now }
+{
+    if text.len() <= ONE_LINE {
+        return CountedRows {
+            count: 0,
+            begin: 0,
+            end: 0,
+        };
+    }
+    count_ahead(session, text, pause)
+}
+
+// Answers the first line of a text that ends with LF, and before it the rows that are only counted. It gives where the LF of that line
+// stands, and how the line was answered.
+fn answer_front<O: Sink, L: Ledger>(
+    session: &mut Session,
+    text: &[u8],
+    pause: &mut Pause,
+    out: &mut O,
+    steps: &mut Steps<L>,
+) -> FirstLine
+    requires ended { IsEnded text.now }
+    requires few { session.old.lines + length text.now < 2 ^ 64 }
+    requires stands { HasState session.old }
+    ensures { AnswersFront text.now session.old result.len result.outcome session.new (O.seen out.old) (O.seen out.new) }
+{
+    let rows = count_front(session, text, pause);
+    let line = answer_first(session, text.split_at(rows.end).1, out, steps);
+    FirstLine {
+        len: rows.end + line.len,
+        outcome: line.outcome,
     }
 }
 
@@ -145,6 +223,7 @@ pub(crate) fn answer_text<L: Ledger>(
     ensures lines { session.new.lines ≤ session.old.lines + result.taken }
 {
     let mut taken = 0;
+    let mut pause = Pause::default();
     'answering: while taken < text.len() {
         if !are_few(replies, most) {
             return Fed {
@@ -158,7 +237,7 @@ pub(crate) fn answer_text<L: Ledger>(
                 taken,
             };
         }
-        let line = answer_first(session, text.split_at(taken).1, replies, steps);
+        let line = answer_front(session, text.split_at(taken).1, &mut pause, replies, steps);
         taken += line.len + 1;
         match line.outcome {
             LineOutcome::Done => {}

@@ -107,15 +107,16 @@ impl Embedded {
     ghost use Rattle.bq_session.specs.Announced.{announced_by};
     ghost use Rattle.bq_embed.specs.Embedded.{EmbeddedValue, IsOpened, TextFed};
 
-    /// Opens a session with no streams, no queries and no rows, which may take so many rows. A line is answered only where fewer than
-    /// `most` bytes of replies are held.
-    pub fn open(alloc: Global, rows: u64, most: usize) -> Result<Embedded, AllocError>
+    /// Opens a session with no streams, no queries and no rows, which may take so many rows, and whose live queries have at most so many
+    /// pages together. A line is answered only where fewer than `most` bytes of replies are held.
+    pub fn open(alloc: Global, rows: u64, pages: u16, most: usize) -> Result<Embedded, AllocError>
         requires some { 0 < rows }
         requires few { rows ≤ 2 ^ 40 }
-        ensures { IfOk result (IsOpened rows most) }
+        requires small { pages ≤ 16384 }
+        ensures { IfOk result (IsOpened rows pages most) }
     {
         Ok(Embedded {
-            session: Session::new(alloc, rows)?,
+            session: Session::with_pages(alloc, rows, pages)?,
             replies: Replies {
                 bytes: Vec::new(alloc),
                 faults: 0,

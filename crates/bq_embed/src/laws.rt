@@ -1,5 +1,5 @@
 //! Laws of the definitions, as public functions without a body: the clause is the law.
-ghost use Rattle.bq_embed.specs.Laws.{RestIsFedLater, FeedsInPieces, RepliesAreSessionText};
+ghost use Rattle.bq_embed.specs.Laws.{RestIsFedLater, FeedsInPieces, RepliesAreToTheText, RepliesAreSessionText};
 
 /// A text of which a front was taken, and then what was not taken of it, is fed as the whole text: its replies are those to both, one
 /// behind the other, whatever was held before and cleared between.
@@ -12,7 +12,13 @@ pub fn feeds_in_pieces()
     ensures { FeedsInPieces }
 {}
 
-/// What a session replies to all that it is fed, from the state before the first line on, is the session text of that.
+/// What a session replies to all that it is fed, from the state before the first line on, are the replies to the lines of that, whatever its
+/// number of pages is.
+pub fn replies_are_to_the_text()
+    ensures { RepliesAreToTheText }
+{}
+
+/// Where it has 16,384 pages, that is the session text, as `bq run` writes it.
 pub fn replies_are_session_text()
     ensures { RepliesAreSessionText }
 {}

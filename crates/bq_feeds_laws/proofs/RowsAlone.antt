@@ -96,6 +96,7 @@ fed_more g gs s t number text answer events others o one rest =
       streams = rest.streams ∙ k.streams;
       queries = rows_more (row_in answer) (rows_in others) s.queries (next_of (under (g ∷ gs) number s) answer).queries t.queries k.queries rest.queries;
       pages = rest.pages ∙ k.pages;
+      size = rest.size ∙ k.size;
       taken = omega (arith, rest.taken, k.taken, length-append (row_in answer) (rows_in others));
       lines = omega (arith, rest.lines, one.lines);
       stands = rest.stands ∙ ap (λ l. lock_behind (g ∷ gs) l events) k.stays;
@@ -107,7 +108,7 @@ fed_more g gs s t number text answer events others o one rest =
 fed : (g : Option Lock) (gs : List (Option Lock)) → ((number : ℕ) → IsShut (gate (g ∷ gs) number)) → (s : State) (events : List Event) (answers : List Answer) → AreEvents (g ∷ gs) s events answers
     → IsFed (g ∷ gs) s (state_behind (g ∷ gs) s events answers) events answers
 fed g gs are s [] [] p =
-    record { limit = refl; streams = refl; queries = rows_none s.queries; pages = refl; taken = omega arith; lines = omega arith; stands = refl; none = tt; opens = tt; few = omega arith }
+    record { limit = refl; streams = refl; queries = rows_none s.queries; pages = refl; size = refl; taken = omega arith; lines = omega arith; stands = refl; none = tt; opens = tt; few = omega arith }
 fed g gs are s [] (answer ∷ others) p = absurd p
 fed g gs are s (line number text ∷ events) [] p = absurd p
 fed g gs are s (line number text ∷ events) (answer ∷ others) p =
@@ -121,6 +122,7 @@ fed g gs are s (fault number ∷ events) answers p =
       streams = rest.streams;
       queries = rest.queries;
       pages = rest.pages;
+      size = rest.size;
       taken = rest.taken;
       lines = rest.lines;
       stands = rest.stands;

@@ -35,7 +35,8 @@ pub record IsFed (gates : List (Option Lock)) (s t : State) (events : List Event
   pub limit : t.limit ≡ s.limit
   pub streams : t.streams ≡ s.streams
   pub queries : HaveRows (rows_in answers) s.queries t.queries
-  pub pages : free_pages t.queries ≡ free_pages s.queries
+  pub pages : free_pages t.pages t.queries ≡ free_pages s.pages s.queries
+  pub size : t.pages ≡ s.pages
   pub taken : t.taken ≡ s.taken + length (rows_in answers)
   pub lines : t.lines ≡ s.lines + line_count events
   pub stands : t.lock ≡ lock_behind gates s.lock events

@@ -70,6 +70,7 @@ kept_one s lock answer (idle none next) =
       stays = refl;
       queries = rows_none s.queries;
       pages = refl;
+      size = refl;
       taken = omega arith;
       opens = All-nil (λ (r : Arrival). IsTrue (is_open lock.opened r.stream));
     }))
@@ -81,7 +82,8 @@ kept_one s lock answer (rowed stream values opens e) =
       streams = refl;
       stays = refl;
       queries = have;
-      pages = ap (λ n. 16384 - n) (pages_same (r ∷ []) s.queries (map (with_row r) s.queries) have);
+      pages = ap (λ n. s.pages - n) (pages_same (r ∷ []) s.queries (map (with_row r) s.queries) have);
+      size = refl;
       taken = omega arith;
       opens = All-cons (λ (x : Arrival). IsTrue (is_open lock.opened x.stream)) r [] opens (All-nil (λ (x : Arrival). IsTrue (is_open lock.opened x.stream)));
     })
@@ -93,6 +95,7 @@ kept_more lock s t u rows more h k = record {
   stays = k.stays ∙ h.stays;
   queries = rows_more rows more s.queries t.queries u.queries h.queries k.queries;
   pages = k.pages ∙ h.pages;
+  size = k.size ∙ h.size;
   taken = omega (arith, k.taken, h.taken, length-append rows more);
   opens = All-append (λ (r : Arrival). IsTrue (is_open lock.opened r.stream)) rows more h.opens k.opens;
 }
@@ -110,6 +113,7 @@ lock_keeps s lock [] [] e is none = (
     stays = refl;
     queries = rows_none s.queries;
     pages = refl;
+    size = refl;
     taken = omega arith;
     opens = All-nil (λ (r : Arrival). IsTrue (is_open lock.opened r.stream));
   },

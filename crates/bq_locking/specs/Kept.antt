@@ -59,7 +59,8 @@ pub record IsKept (lock : Lock) (s t : State) (rows : List Arrival) : Type 0 whe
   pub streams : t.streams ≡ s.streams
   pub stays : t.lock ≡ s.lock
   pub queries : HaveRows rows s.queries t.queries
-  pub pages : free_pages t.queries ≡ free_pages s.queries
+  pub pages : free_pages t.pages t.queries ≡ free_pages s.pages s.queries
+  pub size : t.pages ≡ s.pages
   pub taken : t.taken ≡ s.taken + length rows
   pub opens : All (λ (r : Arrival). IsTrue (is_open lock.opened r.stream)) rows
 

@@ -32,7 +32,7 @@ use Rattle.bq_session.specs.Lock.{Lock}
 use Rattle.bq_session.specs.Requests.{IsRequest, too_long, barred, fits, IsTextRequest, outside, limited, stated, entry_request, stream_request, found_request, is_live, query_of, opened_by, lock_request, unlock_request, statement_request}
 use Rattle.bq_session.specs.Answer.{Answer}
 use Rattle.bq_session.specs.Answers.{IsAnswer, Settles, accepted, rejected}
-use Rattle.bq_session.specs.State.{State, empty, next_of, after, live_names}
+use Rattle.bq_session.specs.State.{State, empty, initial, next_of, after, live_names}
 use Rattle.bq_session.specs.Replies.{answers_to, reply_to, replies, AreAnswers}
 use Rattle.bq_resuming.specs.Continuing.{is_resume, IsResumeLine}
 use Rattle.bq_plain_texts.specs.Rows.{new_lines, RowsAreAnswered}
@@ -261,8 +261,8 @@ after-fresh s f (line ∷ front) (answer ∷ others) a none =
     after-fresh (next_of s answer) (line-fresh s line answer f a.0 (All-head NoResume line front none)) front others a.1 (All-tail NoResume line front none)
 
 pub rows-are-answered : RowsAreAnswered
-rows-are-answered limit front answers a none stream values =
-    lines-fresh record { stream = stream; values = values } (after (empty limit) answers).queries (after-fresh (empty limit) tt front answers a none)
+rows-are-answered limit pages front answers a none stream values =
+    lines-fresh record { stream = stream; values = values } (after (initial limit pages) answers).queries (after-fresh (initial limit pages) tt front answers a none)
 
 -- the reply to a line of the plain kinds
 reply-plainly : (s : State) (answer : Answer) → AreFresh s.queries → (request : Request) → IsPlainly request → Settles s request answer → RepliesPlainly s answer (reply_to s answer)

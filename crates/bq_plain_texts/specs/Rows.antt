@@ -7,7 +7,7 @@ use Rattle.bq_registry.specs.Live.{LiveQuery}
 use Rattle.bq_resuming.specs.Continuing.{IsResumeLine}
 use Rattle.bq_session.specs.Request.{taken}
 use Rattle.bq_session.specs.Answer.{Answer, plain}
-use Rattle.bq_session.specs.State.{empty, after}
+use Rattle.bq_session.specs.State.{initial, after}
 use Rattle.bq_session.specs.Replies.{AreAnswers, reply_to}
 
 -- what live queries answer to a row: query by query in order of creation, a line for each new answer over all rows since it was created
@@ -17,6 +17,6 @@ new_lines r queries = flat_map (λ live. flat_map (tuple_line live.name) (new_an
 -- the reply to a row that is taken behind lines of which none is a RESUME line
 abbrev pub RowsAreAnswered : Type 0
 RowsAreAnswered =
-    (limit : ℕ) (front : List (List ℕ)) (answers : List Answer) → AreAnswers (empty limit) front answers → All (λ line. ¬ IsResumeLine line) front
+    (limit pages : ℕ) (front : List (List ℕ)) (answers : List Answer) → AreAnswers (initial limit pages) front answers → All (λ line. ¬ IsResumeLine line) front
     → (stream : ℕ) (values : List ℤ)
-    → reply_to (after (empty limit) answers) (plain (taken stream values)) ≡ new_lines (record { stream = stream; values = values }) (after (empty limit) answers).queries
+    → reply_to (after (initial limit pages) answers) (plain (taken stream values)) ≡ new_lines (record { stream = stream; values = values }) (after (initial limit pages) answers).queries

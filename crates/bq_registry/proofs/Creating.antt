@@ -48,6 +48,7 @@ creates (Ok verdict) name q shared plan pool live later after a m =
       asked = last.new.asked;
       named = last.new.named;
       sharing = last.new.sharing;
+      pages = m.5;
     }
 creates (Err (refusals.Violation p c t)) name q shared plan pool live later after a m = absurd m
 creates (Err (refusals.Limit which value l)) name q shared plan pool live later after a m = absurd m
@@ -55,11 +56,13 @@ creates (Err (refusals.Pool needed free)) name q shared plan pool live later aft
   live = m.4;
   free = ap (λ (p : PoolValue). p.free) m.3;
   stands = λ queries all. subst (λ (p : PoolValue). AreLiveFor p after queries) (sym m.3) (subst (λ (x : List Live). AreLiveFor pool x queries) (sym m.4) all);
+  pages = ap (λ (p : PoolValue). p.pages) m.3;
 }
 creates (Err refusals.Memory) name q shared plan pool live later after a m = record {
   live = m.3;
   free = m.2;
   stands = λ queries all. subst (λ (x : List Live). AreLiveFor later x queries) (sym m.3) (beside_stands pool later live queries m.1 all);
+  pages = m.4;
 }
 
 -- what is true of the live queries is true then, and of no further one an answer waits

@@ -137,6 +137,10 @@ module _ (place : ℕ) (result : Bool) (n : ℕ) (load : Loading) (pool later : 
       (set_sound pool later before place l' l' sound within (ap (λ (x : ExecutorValue). x.extent) one.same) only (one.sound (sound.sound place l' within))
       (one.within (sound.within place l' within)) (one.kept (sound.kept place l' within)))
 
+  -- there are as many pages
+  pub loaded_pages : later.pages ≡ pool.pages
+  loaded_pages = ap (λ (p : PoolValue). p.pages) only
+
   -- what holds of each live query holds of each, where it goes on to hold of this one
   loaded_all : (P : Live → Type 0) → (P l → P l') → All P before → All P after
   loaded_all P step all =

@@ -67,7 +67,8 @@ CarriesWhy shared q available (Err (refusals.Limit which value limit)) = IsTooLa
 CarriesWhy shared q available (Err (refusals.Pool needed free)) = (available < needed) × (free ≡ available) × NeedsPages shared q needed
 CarriesWhy shared q available (Err refusals.Memory) = ⊤
 
--- the query is live, the last in order of creation, with its plan and no history; the other live queries are as before
+-- the query is live, the last in order of creation, with its plan and no history; the other live queries are as before, and there are as many
+-- pages
 pub record Registered (old : RegistryValue) (name : List ℕ) (q : QueryValue) (shared : Bool) (verdict : Verdict) (new : RegistryValue) : Type 0 where
   pub plan : Plan
   pub accepted : IsAccepted shared q plan
@@ -80,12 +81,14 @@ pub record Registered (old : RegistryValue) (name : List ℕ) (q : QueryValue) (
   pub asked : last.executor.query ≡ q
   pub named : last.name ≡ name
   pub sharing : last.executor.shared ≡ shared
+  pub pages : new.pool.pages ≡ old.pool.pages
 
--- the registry stands for what it stood for, and as many pages are free
+-- the registry stands for what it stood for, and of as many pages as many are free
 pub record IsUnchanged (old new : RegistryValue) : Type 0 where
   pub live : new.live ≡ old.live
   pub free : new.pool.free ≡ old.pool.free
   pub stands : (queries : List LiveQuery) → StandsFor old queries → StandsFor new queries
+  pub pages : new.pool.pages ≡ old.pool.pages
 
 -- What `create` does: a query that is accepted is live, and on a refusal all is as before.
 abbrev pub Creates : RegistryValue → List ℕ → QueryValue → Bool → Result Verdict CreateError → RegistryValue → Type 0

@@ -31,9 +31,6 @@ use std::alloc::{AllocError, Global};
 use std::marker::Model;
 use std::sync::ledger::Ledger;
 
-/// The pages of the pool.
-const PAGES: u16 = 16_384;
-
 /// The live queries by name, in order of creation, at most 64, and the pool of all their cells. It cannot be dropped; `close`
 /// ends it.
 pub struct Registry {
@@ -75,14 +72,16 @@ impl Registry {
     /// The most live queries.
     pub const MOST_QUERIES: usize = 64;
 
-    /// Returns a registry with no live query and a pool of 16,384 pages, all of them free.
-    pub fn new(alloc: Global) -> Result<Registry, AllocError>
+    /// Returns a registry with no live query and a pool of so many pages, at most 16,384, all of them free.
+    pub fn new(alloc: Global, pages: u16) -> Result<Registry, AllocError>
+        requires { pages ≤ 16384 }
         ensures stands { IfOk result (λ r. StandsFor r []) }
         ensures none { IfOk result (λ r. r.live ≡ []) }
-        ensures free { IfOk result (λ r. r.pool.free ≡ 16384) }
+        ensures free { IfOk result (λ r. r.pool.free ≡ pages) }
+        ensures pages { IfOk result (λ r. r.pool.pages ≡ pages) }
     {
         let concerned = Concerned::new(alloc)?;
-        let pool = Pool::new(alloc, PAGES)?;
+        let pool = Pool::new(alloc, pages)?;
         let live = Queries::with_capacity(alloc, Registry::MOST_QUERIES)?;
         Ok(Registry {
             alloc,
@@ -106,7 +105,7 @@ impl Registry {
     /// Returns the number of free pages: all but those of the live queries.
     pub fn free(&self) -> u32
         ensures free { result ≡ self.now.pool.free }
-        ensures queries { (queries : List LiveQuery) → StandsFor self.now queries → result ≡ free_pages queries }
+        ensures queries { (queries : List LiveQuery) → StandsFor self.now queries → result ≡ free_pages self.now.pool.pages queries }
     {
         self.pool.free()
     }
@@ -180,7 +179,7 @@ impl Registry {
     pub fn create(&mut self, name: Name, query: Query, shared: bool) -> Result<Verdict, CreateError>
         requires room { length self.old.live < 64 }
         requires new { list_any (λ l. bytes_eq l.name name) self.old.live ≡ false }
-        ensures verdict { (queries : List LiveQuery) → StandsFor self.old queries → TellsVerdict shared query (free_pages queries) result }
+        ensures verdict { (queries : List LiveQuery) → StandsFor self.old queries → TellsVerdict shared query (free_pages self.old.pool.pages queries) result }
         ensures why { CarriesWhy shared query self.old.pool.free result }
         ensures creates { Creates self.old name query shared result self.new }
     {
@@ -215,6 +214,7 @@ impl Registry {
         ensures within { KeepWithin self.new }
         ensures reads { steps.new.reads ≤ steps.old.reads + most_reads self.old.live }
         ensures writes { steps.new.writes ≤ steps.old.writes + most_writes self.old.live }
+        ensures pages { self.new.pool.pages ≡ self.old.pool.pages }
     {
         let concerns = self.concerned.of(stream, row, &self.live);
         let asked = Concerns {
@@ -232,6 +232,7 @@ impl Registry {
         ensures stands { (queries : List LiveQuery) → StandsFor self.old queries → StandsFor self.new queries }
         ensures given { (n : ℕ) → GivenUpto n self.old → GivenUpto n self.new }
         ensures queries { KeepQueries self.old.live self.new.live }
+        ensures pages { self.new.pool.pages ≡ self.old.pool.pages }
     {
         if self.waiting == 0 {
             return Ok(());
@@ -248,6 +249,7 @@ impl Registry {
         ensures stands { (queries : List LiveQuery) → StandsFor self.old queries → StandsFor self.new queries }
         ensures given { (n : ℕ) → GivenUpto n self.old → GivenUpto n self.new }
         ensures queries { KeepQueries self.old.live self.new.live }
+        ensures pages { self.new.pool.pages ≡ self.old.pool.pages }
     {
         let waiting = self.waiting;
         self.waiting = 0;
@@ -263,6 +265,7 @@ impl Registry {
         ensures quiet { IsQuiet self.old → IsQuiet self.new }
         ensures given { (n : ℕ) → GivenUpto n self.old → GivenUpto n self.new }
         ensures queries { KeepQueries self.old.live self.new.live }
+        ensures pages { self.new.pool.pages ≡ self.old.pool.pages }
     {
         match self.live.place_of(name) {
             Some(place) => {
@@ -285,6 +288,7 @@ impl Registry {
         ensures given { (m : ℕ) → n ≤ m → GivenUpto m self.old → GivenUpto m self.new }
         ensures names { map (λ l. l.name) self.new.live ≡ map (λ l. l.name) self.old.live }
         ensures queries { KeepQueries self.old.live self.new.live }
+        ensures pages { self.new.pool.pages ≡ self.old.pool.pages }
     {
         self.concerned.forget();
         loading::load_given(&mut self.live, place, n)
@@ -310,6 +314,7 @@ impl Registry {
         ensures reads { steps.new.reads ≤ steps.old.reads + most_cells self.old.live }
         ensures writes { steps.new.writes ≤ steps.old.writes + most_cells self.old.live }
         ensures one { (steps.new.reads ≤ steps.old.reads + 1) × (steps.new.writes ≤ steps.old.writes + 1) }
+        ensures pages { self.new.pool.pages ≡ self.old.pool.pages }
     {
         self.concerned.forget();
         loading::load_cell(&mut self.pool, &mut self.live, place, i, v, steps)
@@ -326,6 +331,7 @@ impl Registry {
         ensures given { (m : ℕ) → GivenUpto m self.old → GivenUpto m self.new }
         ensures names { map (λ l. l.name) self.new.live ≡ map (λ l. l.name) self.old.live }
         ensures queries { KeepQueries self.old.live self.new.live }
+        ensures pages { self.new.pool.pages ≡ self.old.pool.pages }
     {
         self.concerned.forget();
         loading::load_tuple(&mut self.live, place, t)

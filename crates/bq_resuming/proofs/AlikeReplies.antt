@@ -22,6 +22,7 @@ use Rattle.bq_resuming.proofs.AlikeRequests.{IsPlainIn, AskAlike}
 -- two states are alike, and their live queries are the same or sound
 pub record AreSoundAlike (s t : State) : Type 0 where
   pub limit : s.limit ≡ t.limit
+  pub pages : s.pages ≡ t.pages
   pub streams : s.streams ≡ t.streams
   pub taken : s.taken ≡ t.taken
   pub pairs : Pairs s.streams s.taken s.queries t.queries
@@ -33,7 +34,7 @@ pub queries_alike : (s t : State) → AreSoundAlike s t → AreAllAlike s.querie
 queries_alike s t a = all_are_alike s.streams s.taken s.queries t.queries a.pairs
 
 pub states_alike : (s t : State) → AreSoundAlike s t → AreAlike s t
-states_alike s t a = record { limit = a.limit; streams = a.streams; taken = a.taken; queries = queries_alike s t a; lock = a.lock }
+states_alike s t a = record { limit = a.limit; pages = a.pages; streams = a.streams; taken = a.taken; queries = queries_alike s t a; lock = a.lock }
 
 pub ask_alike : (s t : State) → AreSoundAlike s t → AskAlike s t
 ask_alike s t a = record {
@@ -45,9 +46,10 @@ ask_alike s t a = record {
 }
 
 -- as many pages are free
-same_pages : (s t : State) → AreSoundAlike s t → free_pages s.queries ≡ free_pages t.queries
+same_pages : (s t : State) → AreSoundAlike s t → free_pages s.pages s.queries ≡ free_pages t.pages t.queries
 same_pages s t a =
-    ap (λ n. 16384 - n) (same_sum (λ (q : LiveQuery). pages_of q.plan) (λ q p e. ap pages_of e.plan) s.queries t.queries (queries_alike s t a))
+    ap (λ n. s.pages - n) (same_sum (λ (q : LiveQuery). pages_of q.plan) (λ q p e. ap pages_of e.plan) s.queries t.queries (queries_alike s t a))
+    ∙ ap (λ n. free_pages n t.queries) a.pages
 
 -- a request comes to the same
 pub settles_alike : (s t : State) (r : Request) (answer : Answer) → AreSoundAlike s t → Settles s r answer → Settles t r answer
@@ -105,7 +107,7 @@ decided_alike s t name query shared free answer a (rejected verdict v r e) =
 pub replies_alike : (s t : State) (r : Request) (answer : Answer) → AreSoundAlike s t → IsPlainIn s r → Settles s r answer → unnumbered_reply s answer ≡ unnumbered_reply t answer
 replies_alike s t silent answer a p e = told_alike s t silent answer a p e
 replies_alike s t (created name columns) answer a p e = told_alike s t (created name columns) answer a p e
-replies_alike s t (asked name query shared) answer a p e = decided_alike s t name query shared (free_pages s.queries) answer a e
+replies_alike s t (asked name query shared) answer a p e = decided_alike s t name query shared (free_pages s.pages s.queries) answer a e
 replies_alike s t (explained name) answer a p e = told_alike s t (explained name) answer a p e
 replies_alike s t (dropped name) answer a p e = told_alike s t (dropped name) answer a p e
 replies_alike s t (taken stream values) answer a p e = told_alike s t (taken stream values) answer a p e

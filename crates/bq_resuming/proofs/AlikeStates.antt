@@ -13,10 +13,10 @@ use Rattle.bq_resuming.proofs.AlikeRequests.{IsPlainIn}
 use Rattle.bq_resuming.proofs.AlikeReplies.{AreSoundAlike}
 
 same_but_lines : (s t : State) → AreSoundAlike s t → AreSoundAlike (one_line_more s) (one_line_more t)
-same_but_lines s t a = record { limit = a.limit; streams = a.streams; taken = a.taken; pairs = a.pairs; small = a.small; within = a.within; lock = a.lock }
+same_but_lines s t a = record { limit = a.limit; pages = a.pages; streams = a.streams; taken = a.taken; pairs = a.pairs; small = a.small; within = a.within; lock = a.lock }
 
 with_lock : (s t : State) (lock : Option Lock) → AreSoundAlike s t → AreSoundAlike (record s { lock = lock; lines = s.lines + 1 }) (record t { lock = lock; lines = t.lines + 1 })
-with_lock s t lock a = record { limit = a.limit; streams = a.streams; taken = a.taken; pairs = a.pairs; small = a.small; within = a.within; lock = refl }
+with_lock s t lock a = record { limit = a.limit; pages = a.pages; streams = a.streams; taken = a.taken; pairs = a.pairs; small = a.small; within = a.within; lock = refl }
 
 -- after a line that asks for this
 plain_next : (s t : State) (r : Request) → AreSoundAlike s t → IsPlainIn s r → AreSoundAlike (next_by s r) (next_by t r)
@@ -25,6 +25,7 @@ plain_next s t (created name columns) a p =
     (let more : List Shape = record { name = name; columns = columns } ∷ [] in
     record {
       limit = a.limit;
+      pages = a.pages;
       streams = ap (λ (x : List Shape). x ++ more) a.streams;
       taken = a.taken;
       pairs = more_streams s.streams more s.taken s.queries t.queries a.pairs;
@@ -35,11 +36,12 @@ plain_next s t (created name columns) a p =
 plain_next s t (asked name query shared) a p = same_but_lines s t a
 plain_next s t (explained name) a p = same_but_lines s t a
 plain_next s t (dropped name) a p =
-    record { limit = a.limit; streams = a.streams; taken = a.taken; pairs = one_dropped s.streams s.taken name s.queries t.queries a.pairs; small = a.small; within = a.within; lock = a.lock }
+    record { limit = a.limit; pages = a.pages; streams = a.streams; taken = a.taken; pairs = one_dropped s.streams s.taken name s.queries t.queries a.pairs; small = a.small; within = a.within; lock = a.lock }
 plain_next s t (taken stream values) a p =
     (let room = p.1 in
     record {
       limit = a.limit;
+      pages = a.pages;
       streams = a.streams;
       taken = ap (λ n. n + 1) a.taken;
       pairs = more_rows s.streams s.taken (record { stream = stream; values = values }) p.0 s.queries t.queries a.pairs;
@@ -64,6 +66,7 @@ decided_next s t name query shared free answer a (accepted plan is v e) =
     subst (λ x. AreSoundAlike (next_of s x) (next_of t x)) (sym e)
     (record {
       limit = a.limit;
+      pages = a.pages;
       streams = a.streams;
       taken = a.taken;
       pairs = one_created s.streams s.taken (newly name query shared plan) s.queries t.queries a.pairs;
@@ -76,7 +79,7 @@ decided_next s t name query shared free answer a (rejected verdict v r e) = subs
 pub next_alike : (s t : State) (r : Request) (answer : Answer) → AreSoundAlike s t → IsPlainIn s r → Settles s r answer → AreSoundAlike (next_of s answer) (next_of t answer)
 next_alike s t silent answer a p e = told_next s t silent answer a p e
 next_alike s t (created name columns) answer a p e = told_next s t (created name columns) answer a p e
-next_alike s t (asked name query shared) answer a p e = decided_next s t name query shared (free_pages s.queries) answer a e
+next_alike s t (asked name query shared) answer a p e = decided_next s t name query shared (free_pages s.pages s.queries) answer a e
 next_alike s t (explained name) answer a p e = told_next s t (explained name) answer a p e
 next_alike s t (dropped name) answer a p e = told_next s t (dropped name) answer a p e
 next_alike s t (taken stream values) answer a p e = told_next s t (taken stream values) answer a p e

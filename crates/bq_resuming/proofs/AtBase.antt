@@ -33,7 +33,7 @@ use Rattle.bq_session.specs.Requests.{entry_request, stream_request, query_of, f
 use Rattle.bq_session.specs.Lock.{Lock}
 use Rattle.bq_session.specs.Answer.{Answer, plain}
 use Rattle.bq_session.specs.Answers.{IsDecided, accepted, rejected, Settles}
-use Rattle.bq_session.specs.State.{State, empty, has_room, from_base, set_base, next_by, next_of, after}
+use Rattle.bq_session.specs.State.{State, initial, has_room, from_base, set_base, next_by, next_of, after}
 use Rattle.bq_session.specs.Replies.{AreAnswers}
 use Rattle.bq_resuming.specs.Continuing.{IsResumed}
 
@@ -267,4 +267,4 @@ lines_at_base s (line ∷ lines) (answer ∷ others) all is =
 
 -- so it is where lines lead from the first state on
 pub resumed_at_base : (t : State) → IsResumed t → AreAtBase t.queries
-resumed_at_base t is = subst (λ (x : State). AtBaseUntilRows x) is.is (lines_at_base (empty is.limit) is.lines is.answers (λ b. tt) is.answered) is.quiet
+resumed_at_base t is = subst (λ (x : State). AtBaseUntilRows x) is.is (lines_at_base (initial is.limit is.pages) is.lines is.answers (λ b. tt) is.answered) is.quiet

@@ -111,6 +111,7 @@ sound_alike s t p q a =
     = subst (λ (x : List Shape). All (IsSoundIn x s.taken) t.queries) (sym a.streams) (subst (λ n. All (IsSoundIn t.streams n) t.queries) (sym a.taken) q.queries) in
     record {
       limit = a.limit;
+      pages = a.pages;
       streams = a.streams;
       taken = a.taken;
       pairs = pairs_of s.streams s.taken s.queries t.queries a.queries p.queries own;

@@ -146,7 +146,7 @@ module _ (s : State) (taken : ℕ) (unlocked : s.lock ≡ None) (catalog : IsCat
   abbrev having : List LiveQuery → ℕ → State
   having queries n = record s { queries = queries; lines = s.lines + n }
 
-  one_query : (done : List LiveQuery) (q : LiveQuery) (rest : List (List ℕ)) (n : ℕ) → IsRestorable s.streams taken q → all_differ (names done ++ q.name ∷ rest) ≡ true → length done < 64 → pages_in done + pages_of q.plan ≤ 16384
+  one_query : (done : List LiveQuery) (q : LiveQuery) (rest : List (List ℕ)) (n : ℕ) → IsRestorable s.streams taken q → all_differ (names done ++ q.name ∷ rest) ≡ true → length done < 64 → pages_in done + pages_of q.plan ≤ s.pages
       → LeadsTo (having done n) (query_line s.streams q ∷ []) (having (done ++ anew q ∷ []) (n + 1))
   one_query done q rest n is differ few fits =
       let now : State = having done n in
@@ -160,13 +160,13 @@ module _ (s : State) (taken : ℕ) (unlocked : s.lock ≡ None) (catalog : IsCat
       ∙ ap (λ b. found_request q.name q.shared (cond b (Err TooMany) (query_named (resolved s.streams (named_select s.streams q.query))))) (ap (nat_le 64) (length-map done (λ (l : LiveQuery). l.name)) ∙ below (length done) few)
       ∙ ap (λ (r : Result QueryValue ResolveError). found_request q.name q.shared (query_named r)) (resolves_back s.streams q.query catalog is.sound.limits is.named) in
       let answer : Answer = registered q.name q.query q.shared q.plan in
-      let verdict : IsVerdict q.shared q.query (free_pages done) (acceptance q.plan) = verdict_again q.shared q.query q.plan (free_pages done) is.sound.accepted (omega (arith, fits)) in
+      let verdict : IsVerdict q.shared q.query (free_pages s.pages done) (acceptance q.plan) = verdict_again q.shared q.query q.plan (free_pages s.pages done) is.sound.accepted (omega (arith, fits)) in
       let count : s.lines + n + 1 ≡ s.lines + (n + 1) = omega arith in
       one_line now (having (done ++ anew q ∷ []) (n + 1)) line answer c.text.whole refl
       (record { request = asked q.name q.query q.shared; asks = subst (IsRequest now line) same asks; settles = accepted q.plan is.sound.accepted.plan verdict refl })
       (λ j. record s { queries = done ++ anew q ∷ []; lines = count j })
 
-  all_queries : (done rest : List LiveQuery) (n : ℕ) → All (IsRestorable s.streams taken) rest → all_differ (names done ++ names rest) ≡ true → length done + length rest ≤ 64 → pages_in done + pages_in rest ≤ 16384
+  all_queries : (done rest : List LiveQuery) (n : ℕ) → All (IsRestorable s.streams taken) rest → all_differ (names done ++ names rest) ≡ true → length done + length rest ≤ 64 → pages_in done + pages_in rest ≤ s.pages
       → LeadsTo (having done n) (map (query_line s.streams) rest) (having (done ++ map anew rest) (n + length rest))
   all_queries done [] n is differ few fits =
       let same : done ≡ done ++ [] = sym (append-nil done) in

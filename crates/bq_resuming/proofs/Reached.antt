@@ -19,7 +19,7 @@ use Rattle.bq_session.specs.Requests.{is_live, live_named, IsRequest, fits}
 use Rattle.bq_session.specs.Lock.{Lock, Lets}
 use Rattle.bq_session.specs.Answer.{Answer, plain}
 use Rattle.bq_session.specs.Answers.{IsDecided, accepted, rejected, Settles, IsAnswer}
-use Rattle.bq_session.specs.State.{State, empty, from_base, set_base, one_line_more, next_by, next_of, after}
+use Rattle.bq_session.specs.State.{State, initial, from_base, set_base, one_line_more, next_by, next_of, after}
 use Rattle.bq_session.specs.Replies.{AreAnswers}
 use Rattle.bq_session.specs.declared.outcome.LineOutcome.{LineOutcome}
 use Rattle.bq_session.specs.declared.outcome.LineOutcome.TheVariants as outcomes
@@ -248,10 +248,10 @@ after_told : (s : State) (x : Request) (answer : Answer) → IsRight s x → ans
 after_told s x answer k e r = subst (λ (a : Answer). IsReachedState (next_of s a)) (sym e) (after_plain s x k r)
 
 -- after a verdict on a query
-after_verdict : (s : State) (name : List ℕ) (query : QueryValue) (shared : Bool) (answer : Answer) → IsNewQuery s name query shared → IsDecided name query shared (free_pages s.queries) answer
+after_verdict : (s : State) (name : List ℕ) (query : QueryValue) (shared : Bool) (answer : Answer) → IsNewQuery s name query shared → IsDecided name query shared (free_pages s.pages s.queries) answer
     → IsReachedState s → IsReachedState (next_of s answer)
 after_verdict s name query shared answer k (accepted plan is v e) r =
-    let one = accepted_by shared query plan (free_pages s.queries) is v in
+    let one = accepted_by shared query plan (free_pages s.pages s.queries) is v in
     let fits = one.1 in
     let n : LiveQuery = newly name query shared plan in
     let room = k.room in
@@ -297,8 +297,8 @@ after_lines s [] (answer ∷ others) is r = absurd is
 after_lines s (line ∷ lines) [] is r = absurd is
 after_lines s (line ∷ lines) (answer ∷ others) is r = after_lines (next_of s answer) lines others is.1 (after_line s line answer is.0 r)
 
-first_is_reached : (limit : ℕ) → limit ≤ 2 ^ 40 → IsReachedState (empty limit)
-first_is_reached limit small = record {
+first_is_reached : (limit pages : ℕ) → limit ≤ 2 ^ 40 → IsReachedState (initial limit pages)
+first_is_reached limit pages small = record {
   limit = small;
   within = omega arith;
   catalog = record { few = omega arith; shapes = All-nil IsShape; differ = refl };
@@ -309,7 +309,7 @@ first_is_reached limit small = record {
 }
 
 state_is_reached : (limit : ℕ) → limit ≤ 2 ^ 40 → (s : State) → IsReached limit s → IsReachedState s
-state_is_reached limit small s is = subst IsReachedState is.is (after_lines (empty limit) is.lines is.answers is.answered (first_is_reached limit small))
+state_is_reached limit small s is = subst IsReachedState is.is (after_lines (initial limit is.pages) is.lines is.answers is.answered (first_is_reached limit is.pages small))
 
 -- after one line more
 after_given : (limit : ℕ) (s : State) (line : List ℕ) (request : Request) (new : SessionValue) (P : List ℕ → Type 0) → IsReached limit s → IsRequest s line request → Gives s request new P
@@ -317,14 +317,15 @@ after_given : (limit : ℕ) (s : State) (line : List ℕ) (request : Request) (n
 unfolding after
 after_given limit s line request new P is asks gives =
     let one : IsAnswer s line gives.answer = record { request = request; asks = asks; settles = gives.settles } in
-    let there : AreAnswers (after (empty limit) is.answers) (line ∷ []) (gives.answer ∷ [])
+    let there : AreAnswers (after (initial limit is.pages) is.answers) (line ∷ []) (gives.answer ∷ [])
     = subst (λ (x : State). AreAnswers x (line ∷ []) (gives.answer ∷ [])) (sym is.is) (one, tt) in (
       next_of s gives.answer,
       record {
+        pages = is.pages;
         lines = is.lines ++ line ∷ [];
         answers = is.answers ++ gives.answer ∷ [];
-        answered = answers_joined (empty limit) is.lines (line ∷ []) is.answers (gives.answer ∷ []) is.answered there;
-        is = after_joined (empty limit) is.answers (gives.answer ∷ []) ∙ ap (λ (x : State). next_of x gives.answer) is.is;
+        answered = answers_joined (initial limit is.pages) is.lines (line ∷ []) is.answers (gives.answer ∷ []) is.answered there;
+        is = after_joined (initial limit is.pages) is.answers (gives.answer ∷ []) ∙ ap (λ (x : State). next_of x gives.answer) is.is;
       },
       gives.stands,
     )

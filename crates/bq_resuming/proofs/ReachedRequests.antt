@@ -47,7 +47,7 @@ pub record IsReachedState (s : State) : Type 0 where
   pub queries : AllByRecursion (IsReachedIn s.streams s.taken) s.queries
   pub few : length s.queries ≤ 64
   pub differ : all_differ (names s.queries) ≡ true
-  pub pages : sum_by (λ (q : LiveQuery). pages_of q.plan) s.queries ≤ 16384
+  pub pages : sum_by (λ (q : LiveQuery). pages_of q.plan) s.queries ≤ s.pages
 
 -- a query that can be created in a state, with a name that no live query has
 pub record IsNewQuery (s : State) (name : List ℕ) (q : QueryValue) (shared : Bool) : Type 0 where

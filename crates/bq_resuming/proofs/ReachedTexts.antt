@@ -9,7 +9,7 @@ use Rattle.bq_checkpoint.specs.Lines.{text_of_lines}
 use Rattle.bq_session.specs.Answer.{Answer}
 use Rattle.bq_session.specs.Checkpoint.{checkpoint_lines}
 use Rattle.bq_session.specs.Replies.{AreAnswers}
-use Rattle.bq_session.specs.State.{State, empty, next_of, after}
+use Rattle.bq_session.specs.State.{State, initial, next_of, after}
 use Rattle.bq_resuming.specs.Continuing.{unnumbered_reply, unnumbered_replies}
 use Rattle.bq_resuming.specs.Restores.{IsOneLine, Restores}
 use Rattle.bq_resuming.specs.Reached.{CheckpointContinuesTexts}
@@ -53,7 +53,7 @@ checkpoint_continues_texts limit small s is unlocked rest answers answered none 
     let r : Restores s = all.0 in
     let told : List Answer = r.leads.answers in
     let goes = all.1 (lines rest) answers none answered in
-    let from : State = empty s.limit in
+    let from : State = initial s.limit s.pages in
     let whole : lines (text_of_lines (checkpoint_lines s) ++ rest) ≡ checkpoint_lines s ++ lines rest = lines_first (checkpoint_lines s) rest (recursion_from_All IsOneLine (checkpoint_lines s) r.leads.whole) in
     let there : AreAnswers (after from told) (lines rest) answers = subst (λ (x : State). AreAnswers x (lines rest) answers) (sym r.leads.is) goes.0 in (
       told,

@@ -21,7 +21,7 @@ use Rattle.bq_session.specs.Request.{resumed, refused}
 use Rattle.bq_session.specs.Requests.{is_live, live_named, statement_request, IsRequest}
 use Rattle.bq_session.specs.Answer.{plain}
 use Rattle.bq_session.specs.Checkpoint.{stream_line, query_line, kept_lines, checkpoint_lines}
-use Rattle.bq_session.specs.State.{State, empty, from_base, set_base}
+use Rattle.bq_session.specs.State.{State, initial, from_base, set_base}
 use Rattle.bq_session.specs.Restoring.{IsAlike, AreAllAlike}
 use Rattle.bq_resuming.specs.Sound.{IsSoundState}
 use Rattle.bq_resuming.specs.Continuing.{IsResumed}
@@ -61,10 +61,10 @@ not_negative n = grind (arith, ints)
 not_above : (n most : ℕ) → n ≤ most → int_lt (pos most) (pos n) ≡ false
 not_above n most h = grind (arith, ints)
 
-module _ (s : State) (none : s.lock ≡ None) (sound : IsSoundState s) (catalog : IsCatalog s.streams) (is : All (IsRestorable s.streams s.taken) s.queries) (together : FitTogether s.queries) where
+module _ (s : State) (none : s.lock ≡ None) (sound : IsSoundState s) (catalog : IsCatalog s.streams) (is : All (IsRestorable s.streams s.taken) s.queries) (together : FitTogether s.pages s.queries) where
   -- with the streams, these live queries, and so many rows and lines
   abbrev with_queries : ℕ → List LiveQuery → ℕ → State
-  with_queries taken queries n = record { limit = s.limit; streams = s.streams; queries = queries; taken = taken; lines = n; began = false; lock = None }
+  with_queries taken queries n = record { limit = s.limit; pages = s.pages; streams = s.streams; queries = queries; taken = taken; lines = n; began = false; lock = None }
 
   -- the number of rows
   few : s.taken ≤ 2 ^ 40
@@ -126,20 +126,20 @@ module _ (s : State) (none : s.lock ≡ None) (sound : IsSoundState s) (catalog 
       let n : ℕ = length s.streams in
       let m : ℕ = n + length s.queries in
       let k : ℕ = m + 1 + length (flat_map kept_lines s.queries) in
-      let streams : LeadsTo (empty s.limit) (map stream_line s.streams) (with_queries 0 [] n) = streams_are_restored s.limit s.streams catalog in
+      let streams : LeadsTo (initial s.limit s.pages) (map stream_line s.streams) (with_queries 0 [] n) = streams_are_restored s.limit s.pages s.streams catalog in
       let queries : LeadsTo (with_queries 0 [] n) (map (query_line s.streams) s.queries) (with_queries 0 (map anew s.queries) m)
       = queries_are_restored (with_queries 0 [] n) s.taken s.queries refl refl catalog is together in
       let rows : LeadsTo (with_queries 0 (map anew s.queries) m) (printed_form (ResumeRows (pos s.taken)) ∷ []) (with_queries s.taken (map anew s.queries) (m + 1)) = rows_line m in
       let kept : LeadsTo (with_queries s.taken (map anew s.queries) (m + 1)) (flat_map kept_lines s.queries) (with_queries s.taken (map restored s.queries) k)
       = all_kept [] s.queries (m + 1) is together.differ in
-      let created = joined (empty s.limit) (with_queries 0 [] n) (with_queries 0 (map anew s.queries) m) (map stream_line s.streams) (map (query_line s.streams) s.queries) streams queries in
+      let created = joined (initial s.limit s.pages) (with_queries 0 [] n) (with_queries 0 (map anew s.queries) m) (map stream_line s.streams) (map (query_line s.streams) s.queries) streams queries in
       let told = joined (with_queries 0 (map anew s.queries) m) (with_queries s.taken (map anew s.queries) (m + 1)) (with_queries s.taken (map restored s.queries) k)
       (printed_form (ResumeRows (pos s.taken)) ∷ []) (flat_map kept_lines s.queries) rows kept in
       record {
         state = with_queries s.taken (map restored s.queries) k;
-        leads = joined (empty s.limit) (with_queries 0 (map anew s.queries) m) (with_queries s.taken (map restored s.queries) k)
+        leads = joined (initial s.limit s.pages) (with_queries 0 (map anew s.queries) m) (with_queries s.taken (map restored s.queries) k)
             (map stream_line s.streams ++ map (query_line s.streams) s.queries) (printed_form (ResumeRows (pos s.taken)) ∷ flat_map kept_lines s.queries) created told;
-        alike = record { limit = refl; streams = refl; taken = refl; queries = all_alike s.queries is; lock = sym none };
+        alike = record { limit = refl; pages = refl; streams = refl; taken = refl; queries = all_alike s.queries is; lock = sym none };
         quiet = refl;
       }
 
@@ -149,6 +149,6 @@ checkpoint_restores s none sound catalog is together = restores s none sound cat
 pub checkpoint_goes_on : CheckpointGoesOn
 checkpoint_goes_on s none sound catalog is together =
     let r : Restores s = checkpoint_restores s none sound catalog is together in
-    let from : IsResumed r.state = record { limit = s.limit; lines = checkpoint_lines s; answers = r.leads.answers; answered = r.leads.answered; is = r.leads.is; quiet = r.quiet } in
+    let from : IsResumed r.state = record { limit = s.limit; pages = s.pages; lines = checkpoint_lines s; answers = r.leads.answers; answered = r.leads.answered; is = r.leads.is; quiet = r.quiet } in
     let both = resumed_continues_alike s r.state sound from r.alike in
     (r, both.0, both.1)

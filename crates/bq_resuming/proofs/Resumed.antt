@@ -48,6 +48,7 @@ pairs_at_base streams taken (q ∷ qs) (p ∷ ps) a s b =
 sound_resumed : (s t : State) → IsSoundState s → IsResumed t → AreAlike t s → AreSoundAlike s t
 sound_resumed s t sound is a = record {
   limit = sym a.limit;
+  pages = sym a.pages;
   streams = sym a.streams;
   taken = sym a.taken;
   pairs = pairs_at_base s.streams s.taken s.queries t.queries a.queries sound.queries (resumed_at_base t is);
@@ -75,6 +76,7 @@ sound_turned s t a =
     let taken = a.taken in
     record {
       limit = sym a.limit;
+      pages = sym a.pages;
       streams = sym a.streams;
       taken = sym a.taken;
       pairs =

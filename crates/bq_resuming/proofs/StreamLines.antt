@@ -26,7 +26,7 @@ use Rattle.bq_session.specs.Request.{Request, created}
 use Rattle.bq_session.specs.Requests.{stream_request, IsRequest}
 use Rattle.bq_session.specs.Answer.{plain}
 use Rattle.bq_session.specs.Checkpoint.{stream_line}
-use Rattle.bq_session.specs.State.{State, empty}
+use Rattle.bq_session.specs.State.{State, initial}
 use Rattle.bq_resuming.specs.Restores.{LeadsTo, StreamsAreRestored}
 use Rattle.bq_resuming.proofs.ShortLines.{AreShort, IsShortLine, short_streams}
 use Rattle.bq_session.proofs.ResumeTexts.{few}
@@ -100,8 +100,8 @@ stream_within s is =
     ∙ ap (λ b. cond b (Some limits.Domain) None) (columns_forward s.columns columns)
 
 -- the state in which there are these streams
-abbrev with_streams : ℕ → List Shape → State
-with_streams limit streams = record (empty limit) { streams = streams; lines = length streams }
+abbrev with_streams : ℕ → ℕ → List Shape → State
+with_streams limit pages streams = record (initial limit pages) { streams = streams; lines = length streams }
 
 -- a stream is added behind those whose names differ from its own
 abbrev names_in : List Shape → List (List ℕ)
@@ -128,30 +128,30 @@ can_be_added done s rest is h most =
     ∙ ap (λ b. cond (not b) (Err StreamErrors.Duplicate) (cond (nat_lt (length done) 16) (Ok (length done)) (Err StreamErrors.TooMany))) is.differ
     ∙ ap (λ b. cond b (Ok (length done)) (Err StreamErrors.TooMany)) (below (length done) (omega (arith, l, most)))
 
-one_more : (limit : ℕ) (done : List Shape) (s : Shape) (rest : List Shape) → IsShape s → all_differ (names_in (done ++ s ∷ rest)) ≡ true → length (done ++ s ∷ rest) ≤ 16 → IsShortLine (stream_line s)
-    → LeadsTo (with_streams limit done) (stream_line s ∷ []) (with_streams limit (done ++ s ∷ []))
-one_more limit done s rest is h most short =
-    let now : State = with_streams limit done in
+one_more : (limit pages : ℕ) (done : List Shape) (s : Shape) (rest : List Shape) → IsShape s → all_differ (names_in (done ++ s ∷ rest)) ≡ true → length (done ++ s ∷ rest) ≤ 16 → IsShortLine (stream_line s)
+    → LeadsTo (with_streams limit pages done) (stream_line s ∷ []) (with_streams limit pages (done ++ s ∷ []))
+one_more limit pages done s rest is h most short =
+    let now : State = with_streams limit pages done in
     let sound = tokens_sound s is in
     let text = line_text joins CreateKey (key StreamKey) (word s.name ∷ opening ∷ separated comma coldef_tokens s.columns ++ closing ∷ []) tt refl tt sound in
     let request : Request = stream_request s.name s.columns (added done s) in
     let asks : IsRequest now (stream_line s) request = line_asks now (told s) (stream_line s) refl text (printed_statement (told s) is.some sound) (stream_within s is) short in
     let same : request ≡ created s.name s.columns = ap (stream_request s.name s.columns) (can_be_added done s rest is h most) in
     let n : length done + 1 ≡ length (done ++ s ∷ []) = sym (length-append done (s ∷ [])) in
-    one_line now (with_streams limit (done ++ s ∷ [])) (stream_line s) (plain (created s.name s.columns)) text.whole refl
+    one_line now (with_streams limit pages (done ++ s ∷ [])) (stream_line s) (plain (created s.name s.columns)) text.whole refl
     (record { request = created s.name s.columns; asks = subst (IsRequest now (stream_line s)) same asks; settles = refl })
-    (λ j. record (empty limit) { streams = done ++ s ∷ []; lines = n j })
+    (λ j. record (initial limit pages) { streams = done ++ s ∷ []; lines = n j })
 
-all_more : (limit : ℕ) (done rest : List Shape) → All IsShape rest → all_differ (names_in (done ++ rest)) ≡ true → length (done ++ rest) ≤ 16 → AreShort (map stream_line rest)
-    → LeadsTo (with_streams limit done) (map stream_line rest) (with_streams limit (done ++ rest))
-all_more limit done [] is h most short = subst (λ d. LeadsTo (with_streams limit done) [] (with_streams limit d)) (sym (append-nil done)) (no_line (with_streams limit done))
-all_more limit done (s ∷ rest) is h most short =
+all_more : (limit pages : ℕ) (done rest : List Shape) → All IsShape rest → all_differ (names_in (done ++ rest)) ≡ true → length (done ++ rest) ≤ 16 → AreShort (map stream_line rest)
+    → LeadsTo (with_streams limit pages done) (map stream_line rest) (with_streams limit pages (done ++ rest))
+all_more limit pages done [] is h most short = subst (λ d. LeadsTo (with_streams limit pages done) [] (with_streams limit pages d)) (sym (append-nil done)) (no_line (with_streams limit pages done))
+all_more limit pages done (s ∷ rest) is h most short =
     let e : (done ++ s ∷ []) ++ rest ≡ done ++ s ∷ rest = append_assoc done (s ∷ []) rest in
-    let first = one_more limit done s rest (All-head IsShape s rest is) h most short.0 in
-    let others : LeadsTo (with_streams limit (done ++ s ∷ [])) (map stream_line rest) (with_streams limit ((done ++ s ∷ []) ++ rest))
-    = all_more limit (done ++ s ∷ []) rest (All-tail IsShape s rest is) (subst (λ (x : List Shape). all_differ (names_in x) ≡ true) (sym e) h) (subst (λ (x : List Shape). length x ≤ 16) (sym e) most) short.1 in
-    subst (λ x. LeadsTo (with_streams limit done) (map stream_line (s ∷ rest)) (with_streams limit x)) e
-    (joined (with_streams limit done) (with_streams limit (done ++ s ∷ [])) (with_streams limit ((done ++ s ∷ []) ++ rest)) (stream_line s ∷ []) (map stream_line rest) first others)
+    let first = one_more limit pages done s rest (All-head IsShape s rest is) h most short.0 in
+    let others : LeadsTo (with_streams limit pages (done ++ s ∷ [])) (map stream_line rest) (with_streams limit pages ((done ++ s ∷ []) ++ rest))
+    = all_more limit pages (done ++ s ∷ []) rest (All-tail IsShape s rest is) (subst (λ (x : List Shape). all_differ (names_in x) ≡ true) (sym e) h) (subst (λ (x : List Shape). length x ≤ 16) (sym e) most) short.1 in
+    subst (λ x. LeadsTo (with_streams limit pages done) (map stream_line (s ∷ rest)) (with_streams limit pages x)) e
+    (joined (with_streams limit pages done) (with_streams limit pages (done ++ s ∷ [])) (with_streams limit pages ((done ++ s ∷ []) ++ rest)) (stream_line s ∷ []) (map stream_line rest) first others)
 
 pub streams_are_restored : StreamsAreRestored
-streams_are_restored limit streams catalog = all_more limit [] streams catalog.shapes catalog.differ catalog.few (short_streams streams catalog.shapes)
+streams_are_restored limit pages streams catalog = all_more limit pages [] streams catalog.shapes catalog.differ catalog.few (short_streams streams catalog.shapes)

@@ -6,7 +6,7 @@ use Rattle.bq_parser.specs.LineKind.{stripped}
 use Rattle.bq_parser.specs.Syntax.{IsStatement}
 use Rattle.bq_session.specs.Request.{Request, silent, created, asked, explained, dropped, taken, saved, resumed, based, locked, unlocked, refused}
 use Rattle.bq_session.specs.Answer.{Answer, plain, registered, decided}
-use Rattle.bq_session.specs.State.{State, empty, next_of, after}
+use Rattle.bq_session.specs.State.{State, initial, next_of, after}
 use Rattle.bq_session.specs.Replies.{reply_by, reply_to, AreAnswers}
 use Rattle.bq_reply.specs.Texts.{word_text}
 use Rattle.bq_session.specs.Restoring.{AreAlike}
@@ -95,10 +95,11 @@ ContinuesAlike = (s t : State) → IsSoundState s → IsSoundState t → AreAlik
 -- lines lead from the first state to this one, and no row was taken
 pub record IsResumed (t : State) : Type 0 where
   pub limit : ℕ
+  pub pages : ℕ
   pub lines : List (List ℕ)
   pub answers : List Answer
-  pub answered : AreAnswers (empty limit) lines answers
-  pub is : after (empty limit) answers ≡ t
+  pub answered : AreAnswers (initial limit pages) lines answers
+  pub is : after (initial limit pages) answers ≡ t
   pub quiet : t.began ≡ false
 
 -- a sound state, and such a one that is alike, as that to which the lines of its checkpoint lead, go on alike, and the other way round

@@ -10,17 +10,18 @@ use Rattle.bq_session.specs.Replies.{reply_by, AreAnswers}
 use Rattle.bq_session.specs.declared.outcome.LineOutcome.{LineOutcome}
 use Rattle.bq_session.specs.Request.{saved}
 use Rattle.bq_session.specs.Session.{SessionValue, StandsFor, Answered}
-use Rattle.bq_session.specs.State.{State, empty, after}
+use Rattle.bq_session.specs.State.{State, initial, after}
 use Rattle.bq_resuming.specs.Sound.{IsSoundState}
 use Rattle.bq_resuming.specs.Continuing.{NoneResumesBeforeRows, unnumbered_replies, GoOnAlike}
 use Rattle.bq_resuming.specs.Restores.{IsRestorable, FitTogether, Restores}
 
--- lines lead to the state from the first one
+-- lines lead to the state from the first one, whatever the number of pages is
 pub record IsReached (limit : ℕ) (s : State) : Type 0 where
+  pub pages : ℕ
   pub lines : List (List ℕ)
   pub answers : List Answer
-  pub answered : AreAnswers (empty limit) lines answers
-  pub is : after (empty limit) answers ≡ s
+  pub answered : AreAnswers (initial limit pages) lines answers
+  pub is : after (initial limit pages) answers ≡ s
 
 -- after each line, a session that stood for such a state stands for such a state again
 abbrev pub SessionsStandForReached : Type 0
@@ -32,7 +33,7 @@ SessionsStandForReached =
 abbrev pub ReachedStatesAreRestorable : Type 0
 ReachedStatesAreRestorable =
     (limit : ℕ) → limit ≤ 2 ^ 40 → (s : State) → IsReached limit s
-    → IsSoundState s × IsCatalog s.streams × All (IsRestorable s.streams s.taken) s.queries × FitTogether s.queries
+    → IsSoundState s × IsCatalog s.streams × All (IsRestorable s.streams s.taken) s.queries × FitTogether s.pages s.queries
 
 -- so, where no lock stands, the lines of its checkpoint lead from the first state to one that keeps the same, which goes on as it does, and
 -- it as that one
@@ -55,5 +56,5 @@ abbrev pub CheckpointContinuesTexts : Type 0
 CheckpointContinuesTexts =
     (limit : ℕ) → limit ≤ 2 ^ 40 → (s : State) → IsReached limit s → s.lock ≡ None → (rest : List ℕ) (answers : List Answer)
     → AreAnswers s (lines rest) answers → NoneResumesBeforeRows (lines rest) answers
-    → (told : List Answer) × AreAnswers (empty s.limit) (lines (reply_by s saved ++ rest)) (told ++ answers)
-    × (unnumbered_replies (empty s.limit) (told ++ answers) ≡ unnumbered_replies (empty s.limit) told ++ unnumbered_replies s answers)
+    → (told : List Answer) × AreAnswers (initial s.limit s.pages) (lines (reply_by s saved ++ rest)) (told ++ answers)
+    × (unnumbered_replies (initial s.limit s.pages) (told ++ answers) ≡ unnumbered_replies (initial s.limit s.pages) told ++ unnumbered_replies s answers)

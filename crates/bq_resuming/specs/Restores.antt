@@ -13,7 +13,7 @@ use Rattle.bq_session.specs.Replies.{AreAnswers}
 use Rattle.bq_session.specs.Request.{silent, created, asked, explained, dropped, taken, saved, resumed, based, locked, unlocked, refused}
 use Rattle.bq_session.specs.Requests.{live_named}
 use Rattle.bq_session.specs.Restoring.{AreAlike}
-use Rattle.bq_session.specs.State.{State, empty, set_base, after}
+use Rattle.bq_session.specs.State.{State, initial, set_base, after}
 use Rattle.bq_resuming.specs.Small.{HasShortLines}
 use Rattle.bq_resuming.specs.Sound.{IsSoundState}
 use Rattle.bq_resuming.specs.Continuing.{GoOnAlike}
@@ -50,8 +50,8 @@ pub record LeadsTo (s : State) (lines : List (List ℕ)) (t : State) : Type 0 wh
 -- the lines of the streams of a catalog lead from the first state to one with these streams and nothing else
 abbrev pub StreamsAreRestored : Type 0
 StreamsAreRestored =
-    (limit : ℕ) (streams : List Shape) → IsCatalog streams
-    → LeadsTo (empty limit) (map stream_line streams) (record (empty limit) { streams = streams; lines = length streams })
+    (limit pages : ℕ) (streams : List Shape) → IsCatalog streams
+    → LeadsTo (initial limit pages) (map stream_line streams) (record (initial limit pages) { streams = streams; lines = length streams })
 
 -- a live query without DISTINCT keeps no printed tuple
 abbrev pub KeepsTuplesDistinct : LiveQuery → Type 0
@@ -74,11 +74,11 @@ pub record IsRestorable (streams : List Shape) (taken : ℕ) (q : LiveQuery) : T
   pub given : (base_in q).given ≤ taken
   pub tuples : KeepsTuplesDistinct q
 
--- at most 64 live queries with different names, whose plans have at most 16,384 pages
-pub record FitTogether (queries : List LiveQuery) : Type 0 where
+-- at most 64 live queries with different names, whose plans have at most so many pages
+pub record FitTogether (most : ℕ) (queries : List LiveQuery) : Type 0 where
   pub few : length queries ≤ 64
   pub differ : IsTrue (all_differ (names queries))
-  pub pages : sum_by (λ (q : LiveQuery). pages_of q.plan) queries ≤ 16384
+  pub pages : sum_by (λ (q : LiveQuery). pages_of q.plan) queries ≤ most
 
 -- a live query that was just created
 abbrev pub anew : LiveQuery → LiveQuery
@@ -87,22 +87,22 @@ anew q = newly q.name q.query q.shared q.plan
 -- From a state with no live query and no lock, the lines of live queries lead to one in which each was just created.
 abbrev pub QueriesAreRestored : Type 0
 QueriesAreRestored =
-    (s : State) (taken : ℕ) (queries : List LiveQuery) → s.queries ≡ [] → s.lock ≡ None → IsCatalog s.streams → All (IsRestorable s.streams taken) queries → FitTogether queries
+    (s : State) (taken : ℕ) (queries : List LiveQuery) → s.queries ≡ [] → s.lock ≡ None → IsCatalog s.streams → All (IsRestorable s.streams taken) queries → FitTogether s.pages queries
     → LeadsTo s (map (query_line s.streams) queries) (record s { queries = map anew queries; lines = s.lines + length queries })
 
--- From the first state with the same row limit, the lines of its checkpoint lead to a state that is alike, and no row was taken.
+-- From the first state with the same row limit and as many pages, the lines of its checkpoint lead to a state that is alike, and no row was taken.
 pub record Restores (s : State) : Type 0 where
   pub state : State
-  pub leads : LeadsTo (empty s.limit) (checkpoint_lines s) state
+  pub leads : LeadsTo (initial s.limit s.pages) (checkpoint_lines s) state
   pub alike : AreAlike state s
   pub quiet : state.began ≡ false
 
 -- so it is with each sound state without a lock whose streams are those of a catalog
 abbrev pub CheckpointRestores : Type 0
-CheckpointRestores = (s : State) → s.lock ≡ None → IsSoundState s → IsCatalog s.streams → All (IsRestorable s.streams s.taken) s.queries → FitTogether s.queries → Restores s
+CheckpointRestores = (s : State) → s.lock ≡ None → IsSoundState s → IsCatalog s.streams → All (IsRestorable s.streams s.taken) s.queries → FitTogether s.pages s.queries → Restores s
 
 -- and that state goes on as the one whose checkpoint was read, and that one as it does
 abbrev pub CheckpointGoesOn : Type 0
 CheckpointGoesOn =
-    (s : State) → s.lock ≡ None → IsSoundState s → IsCatalog s.streams → All (IsRestorable s.streams s.taken) s.queries → FitTogether s.queries
+    (s : State) → s.lock ≡ None → IsSoundState s → IsCatalog s.streams → All (IsRestorable s.streams s.taken) s.queries → FitTogether s.pages s.queries
     → (r : Restores s) × GoOnAlike s r.state × GoOnAlike r.state s

@@ -27,7 +27,8 @@ pub fn checkpoint_lines_are_short()
     ensures { CheckpointLinesAreShort }
 {}
 
-/// The lines of a checkpoint that create the streams of a catalog lead from the first state to one with these streams and nothing else.
+/// The lines of a checkpoint that create the streams of a catalog lead from the first state, whatever its number of pages is, to one with these
+/// streams and nothing else.
 pub fn streams_are_restored()
     ensures { StreamsAreRestored }
 {}
@@ -42,8 +43,8 @@ pub fn queries_are_restored()
     ensures { QueriesAreRestored }
 {}
 
-/// From the first state on, the lines of a checkpoint lead to a state that keeps the same as the one that it tells of, where no lock stands; and
-/// none of them is refused.
+/// From the first state with as many pages on, the lines of a checkpoint lead to a state that keeps the same as the one that it tells of, where no
+/// lock stands; and none of them is refused.
 pub fn checkpoint_restores()
     ensures { CheckpointRestores }
 {}
@@ -63,7 +64,8 @@ pub fn reached_states_are_restorable()
     ensures { ReachedStatesAreRestorable }
 {}
 
-/// From the first state on, the lines of the checkpoint of such a state without a lock lead to one that goes on as it does, and it as that one does.
+/// From the first state with as many pages on, the lines of the checkpoint of such a state without a lock lead to one that goes on as it does, and it
+/// as that one does.
 pub fn checkpoint_of_reached()
     ensures { CheckpointOfReached }
 {}

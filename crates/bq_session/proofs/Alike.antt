@@ -101,4 +101,5 @@ stands_alike k s t h a sound = record {
   lines = h.lines;
   began = h.began;
   lock = h.lock ∙ a.lock;
+  pages = h.pages ∙ a.pages;
 }

@@ -17,7 +17,7 @@ use Rattle.bq_rows.proofs.LinesCounted.{stands, within_ahead}
 abbrev pub reader_at : Reading → ℕ → ℕ → List ℕ → Reading
 reader_at old count end line = record old { ahead = drop end old.ahead; line = line; lines = old.lines + count }
 
-abbrev session_at : SessionValue → ℕ → Bool → SessionValue
+abbrev pub session_at : SessionValue → ℕ → Bool → SessionValue
 session_at k count began = record k { taken = k.taken + count; lines = k.lines + count; began = began }
 
 -- what a reader has room for

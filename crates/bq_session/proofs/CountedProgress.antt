@@ -19,7 +19,7 @@ use Rattle.bq_session.proofs.ToldEvents.{at}
 use Rattle.bq_session.proofs.Unasked.{counted, one_row_more}
 
 -- what a line does that is a row which is only counted
-counted_line : (s : State) (line : List ℕ) (k kept : SessionValue) (seen : SinkState) → length line ≤ 1024 → StandsFor k s → CountsRow k line kept → Answered outcome.Done s line kept seen seen
+pub counted_line : (s : State) (line : List ℕ) (k kept : SessionValue) (seen : SinkState) → length line ≤ 1024 → StandsFor k s → CountsRow k line kept → Answered outcome.Done s line kept seen seen
 counted_line s line k kept seen short h row =
     let more_lines : SessionValue = record k { lines = k.lines + 1 } in
     let room : nat_lt k.taken k.limit ≡ true = lt-ltb _ _ row.room in
@@ -32,6 +32,7 @@ counted_line s line k kept seen short h row =
       lines = ap (λ n. n + 1) h.lines;
       began = h.began;
       lock = h.lock;
+      pages = h.pages;
     } in
     let does : Does outcome.Done s (entry_request (nat_lt k.taken k.limit) (Ok (entry row.stream row.values))) (one_row_more more_lines) seen seen = counted more_lines s row.stream row.values seen stands row.none room in
     record {

@@ -1,5 +1,5 @@
 -- A query that no word refuses, and the verdict on it.
-use Rattle.std.proofs.Common.{◌≡◌, ℕ, Bool, List, [], ◌∷◌, ◌++◌, codes, decimal, refl, sym, ap, ◌∙◌, Ok, subst}
+use Rattle.std.proofs.Common.{◌≡◌, ℕ, Bool, List, [], ◌∷◌, ◌++◌, codes, decimal, refl, sym, ap, ◌∙◌, Ok, Err, subst}
 use Rattle.std.specs.declared.result.Result.{Result}
 use Rattle.bq_io.specs.Sink.{SinkState, Writes}
 use Rattle.bq_model.specs.declared.atom.Attr.{Attr}
@@ -12,6 +12,7 @@ use Rattle.bq_model.specs.Verdict.{IsVerdict}
 use Rattle.bq_model.specs.Verdict as verdicts
 use Rattle.bq_parser.specs.declared.tree.ColumnAst.{ColumnAst}
 use Rattle.bq_parser.specs.Resolution.{column_named}
+use Rattle.bq_registry.specs.declared.refusal.CreateError.{CreateError}
 use Rattle.bq_registry.specs.declared.verdict.Verdict.{Verdict}
 use Rattle.bq_registry.specs.declared.verdict.Verdict.TheVariants as kinds
 use Rattle.bq_registry.specs.Live.{free_pages}
@@ -44,15 +45,26 @@ same_verdict : (shared : Bool) (q : QueryValue) (free : ℕ) (plan : Plan) → T
 same_verdict shared q free plans.Filter t = t
 same_verdict shared q free (plans.Parts ps numbers) t = t
 
+-- the registry's verdict is the state's, which has as many pages
+pub told_accepted : (k : SessionValue) (s : State) (shared : Bool) (q : QueryValue) (v w : Verdict) → StandsFor k (one_line_more s) → v ≡ w → TellsVerdict shared q (free_pages k.registry.pool.pages s.queries) (Ok v)
+    → TellsVerdict shared q (free_pages s.pages s.queries) (Ok w)
+told_accepted k s shared q v w old same tells =
+    subst (λ (x : Verdict). TellsVerdict shared q (free_pages s.pages s.queries) (Ok x)) same (subst (λ (n : ℕ). TellsVerdict shared q (free_pages n s.queries) (Ok v)) old.pages tells)
+
+pub told_refused : (k : SessionValue) (s : State) (shared : Bool) (q : QueryValue) (e f : CreateError) → StandsFor k (one_line_more s) → e ≡ f → TellsVerdict shared q (free_pages k.registry.pool.pages s.queries) (Err e)
+    → TellsVerdict shared q (free_pages s.pages s.queries) (Err f)
+told_refused k s shared q e f old same tells =
+    subst (λ (x : CreateError). TellsVerdict shared q (free_pages s.pages s.queries) (Err x)) same (subst (λ (n : ℕ). TellsVerdict shared q (free_pages n s.queries) (Err e)) old.pages tells)
+
 -- a query is accepted
 pub takes : {T E : Type 0} (written : Result T E) (outcome : LineOutcome) (s : State) (name : List ℕ) (q : QueryValue) (shared : Bool) (k : SessionValue) (r : RegistryValue) (v : Verdict) (before after : SinkState)
-    → outcome ≡ outcome_of written → StandsFor k (one_line_more s) → TellsVerdict shared q (free_pages s.queries) (Ok v) → Registered k.registry name q shared v r
+    → outcome ≡ outcome_of written → StandsFor k (one_line_more s) → TellsVerdict shared q (free_pages s.pages s.queries) (Ok v) → Registered k.registry name q shared v r
     → Writes written before after (acceptance_text name v)
     → Does outcome s (asked name q shared) (with_registry k r) before after
 takes written outcome s name q shared k r v before after o old tells reg w =
-    let told = subst (λ (x : Verdict). TellsVerdict shared q (free_pages s.queries) (Ok x)) reg.told tells in
+    let told = subst (λ (x : Verdict). TellsVerdict shared q (free_pages s.pages s.queries) (Ok x)) reg.told tells in
     given written outcome s (asked name q shared) (registered name q shared reg.plan) (with_registry k r) before after o
-    (accepted reg.plan reg.accepted.plan (same_verdict shared q (free_pages s.queries) reg.plan told) refl)
+    (accepted reg.plan reg.accepted.plan (same_verdict shared q (free_pages s.pages s.queries) reg.plan told) refl)
     (record {
       limit = old.limit;
       streams = old.streams;
@@ -62,6 +74,7 @@ takes written outcome s name q shared k r v before after o old tells reg w =
       lines = old.lines;
       began = old.began;
       lock = old.lock;
+      pages = reg.pages ∙ old.pages;
     })
     (subst (λ t. Writes written before after t) (ap (acceptance_text name) reg.told ∙ same_text name reg.plan) w)
 
@@ -76,11 +89,12 @@ unchanged k r s u old = record {
   lines = old.lines;
   began = old.began;
   lock = old.lock;
+  pages = u.pages ∙ old.pages;
 }
 
 -- a number of the query is above its limit
 pub too_large : {T E : Type 0} (written : Result T E) (outcome : LineOutcome) (s : State) (name : List ℕ) (q : QueryValue) (shared : Bool) (k : SessionValue) (r : RegistryValue) (which : Which) (before after : SinkState)
-    → outcome ≡ outcome_of written → StandsFor k (one_line_more s) → IsVerdict shared q (free_pages s.queries) (verdicts.limit which) → IsUnchanged k.registry r
+    → outcome ≡ outcome_of written → StandsFor k (one_line_more s) → IsVerdict shared q (free_pages s.pages s.queries) (verdicts.limit which) → IsUnchanged k.registry r
     → Writes written before after (codes "refused " ++ name ++ codes " limit " ++ which_text which ++ 10 ∷ [])
     → Does outcome s (asked name q shared) (with_registry k r) before after
 too_large written outcome s name q shared k r which before after o old v u w =
@@ -88,7 +102,7 @@ too_large written outcome s name q shared k r which before after o old v u w =
 
 -- too few pages are free
 pub no_room : {T E : Type 0} (written : Result T E) (outcome : LineOutcome) (s : State) (name : List ℕ) (q : QueryValue) (shared : Bool) (k : SessionValue) (r : RegistryValue) (before after : SinkState)
-    → outcome ≡ outcome_of written → StandsFor k (one_line_more s) → IsVerdict shared q (free_pages s.queries) verdicts.pool → IsUnchanged k.registry r
+    → outcome ≡ outcome_of written → StandsFor k (one_line_more s) → IsVerdict shared q (free_pages s.pages s.queries) verdicts.pool → IsUnchanged k.registry r
     → Writes written before after (codes "refused " ++ name ++ codes " limit pool" ++ 10 ∷ [])
     → Does outcome s (asked name q shared) (with_registry k r) before after
 no_room written outcome s name q shared k r before after o old v u w =
@@ -96,7 +110,7 @@ no_room written outcome s name q shared k r before after o old v u w =
 
 -- a part of a query breaks a condition
 pub violated : {T E : Type 0} (written : Result T E) (outcome : LineOutcome) (s : State) (name : List ℕ) (q : QueryValue) (shared : Bool) (k : SessionValue) (r : RegistryValue) (part : ℕ) (condition : Condition) (attr : Attr) (column : ColumnAst) (before after : SinkState)
-    → outcome ≡ outcome_of written → StandsFor k (one_line_more s) → IsVerdict shared q (free_pages s.queries) (verdicts.violation record { part = part; condition = condition; attr = attr }) → IsUnchanged k.registry r
+    → outcome ≡ outcome_of written → StandsFor k (one_line_more s) → IsVerdict shared q (free_pages s.pages s.queries) (verdicts.violation record { part = part; condition = condition; attr = attr }) → IsUnchanged k.registry r
     → column ≡ column_named k.streams q.from attr
     → Writes written before after (codes "refused " ++ name ++ codes " part " ++ decimal part ++ 32 ∷ condition_text condition ++ 32 ∷ column_text column ++ 10 ∷ [])
     → Does outcome s (asked name q shared) (with_registry k r) before after

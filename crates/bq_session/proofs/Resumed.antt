@@ -32,7 +32,7 @@ rows_resumed : (k : SessionValue) (s : State) (n : ℕ) (before : SinkState) →
 rows_resumed k s n before h = record {
   answer = plain (resumed n);
   settles = refl;
-  stands = record { limit = h.limit; streams = h.streams; queries = h.queries; quiet = h.quiet; taken = refl; lines = h.lines; began = h.began; lock = h.lock };
+  stands = record { limit = h.limit; streams = h.streams; queries = h.queries; quiet = h.quiet; taken = refl; lines = h.lines; began = h.began; lock = h.lock; pages = h.pages };
   reply = Wrote-nil before;
 }
 
@@ -47,9 +47,9 @@ rows_asked k s z n before h e =
 pub standing : (k : SessionValue) (s : State) → StandsFor k (one_line_more s) → IsStanding k.registry k.began s
 standing k s h = record { queries = h.queries; began = h.began }
 
-based_settled : (k : SessionValue) (r : RegistryValue) (s : State) (name : List ℕ) (base : Base) → StandsFor k (one_line_more s) → IsQuiet r → AreLiveFor r.pool r.live (set_base name base s.queries)
+based_settled : (k : SessionValue) (r : RegistryValue) (s : State) (name : List ℕ) (base : Base) → StandsFor k (one_line_more s) → IsQuiet r → AreLiveFor r.pool r.live (set_base name base s.queries) → r.pool.pages ≡ k.registry.pool.pages
     → Settles s (based name base) (plain (based name base)) × (reply_by s (based name base) ≡ []) × StandsFor (with_registry k r) (next_by s (based name base))
-based_settled k r s name base h quiet stands = (
+based_settled k r s name base h quiet stands same = (
   refl,
   refl,
   record {
@@ -61,15 +61,16 @@ based_settled k r s name base h quiet stands = (
     lines = h.lines;
     began = h.began;
     lock = h.lock;
+    pages = same ∙ h.pages;
   },
 )
 
 pub settled_set : {T : Type 0} (result : Result T Refusal) (k : SessionValue) (r : RegistryValue) (s : State) (request : Request) → StandsFor k (one_line_more s) → Sets result request s.queries k.registry r
-    → (IsQuiet k.registry → IsQuiet r) → IsSettled result s request (with_registry k r)
-settled_set (Ok x) k r s request h set quiet =
+    → (IsQuiet k.registry → IsQuiet r) → r.pool.pages ≡ k.registry.pool.pages → IsSettled result s request (with_registry k r)
+settled_set (Ok x) k r s request h set quiet same =
     subst (λ (q : Request). Settles s q (plain q) × (reply_by s q ≡ []) × StandsFor (with_registry k r) (next_by s q)) (sym set.asks)
-    (based_settled k r s set.name set.base h (quiet h.quiet) set.stands)
-settled_set (Err word) k r s request h set quiet =
+    (based_settled k r s set.name set.base h (quiet h.quiet) set.stands same)
+settled_set (Err word) k r s request h set quiet same =
     (set.0, subst (λ (x : RegistryValue). StandsFor (with_registry k x) (one_line_more s)) (sym set.1) h)
 
 -- a bound by what is kept is one by the live queries

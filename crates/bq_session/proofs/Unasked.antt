@@ -46,6 +46,7 @@ counted k s stream values before h none room =
         lines = h.lines;
         began = refl;
         lock = h.lock;
+        pages = h.pages;
       };
       reply = subst (λ t. Wrote before before t) (sym (no_text r s.queries (sym h.queries.size ∙ none))) (Wrote-nil before);
     })

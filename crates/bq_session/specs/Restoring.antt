@@ -26,6 +26,7 @@ AreAllAlike (q ∷ queries) (r ∷ others) = IsAlike q r × AreAllAlike queries 
 -- query came from a base and the rows since
 pub record AreAlike (s t : State) : Type 0 where
   pub limit : s.limit ≡ t.limit
+  pub pages : s.pages ≡ t.pages
   pub streams : s.streams ≡ t.streams
   pub taken : s.taken ≡ t.taken
   pub queries : AreAllAlike s.queries t.queries

@@ -1,5 +1,5 @@
 //! One turn of a source: its next line, answered before the source is read again.
-ghost use Rattle.std.specs.Prelude.{◌≡◌, ◌≢◌, ◌⊎◌, ℕ, ◌+◌, ◌<◌, ◌≤◌, ◌^◌, List, length, false, IsTrue, IsFalse};
+ghost use Rattle.std.specs.Prelude.{◌≡◌, ◌≢◌, ◌⊎◌, ℕ, ◌+◌, ◌<◌, ◌≤◌, ◌^◌, List, length, true, false, IsTrue, IsFalse};
 ghost use Rattle.bq_io.specs.Gathered.{gathered_seen};
 ghost use Rattle.bq_io.specs.Sink.{SinkState};
 ghost use Rattle.bq_io.specs.Source.{SourceState};
@@ -10,7 +10,9 @@ ghost use Rattle.bq_session.specs.State.{State};
 ghost use Rattle.bq_session.specs.Session.{StandsFor, Answered, SessionValue, most_line_reads, most_line_writes, most_announced_reads, most_announced_writes};
 ghost use Rattle.bq_session.specs.Run.{HasState};
 ghost use Rattle.bq_session.specs.AnsweredRows.{AreAnswered, TurnedBehind};
-ghost use Rattle.bq_session.specs.Counted.{CountsRows};
+ghost use Rattle.bq_rows.specs.Counted.{AreRowsAhead};
+ghost use Rattle.bq_session.specs.Counted.{AreCounted, CountsRows};
+ghost use Rattle.bq_session.specs.Lock.{open_in};
 ghost use Rattle.bq_session.specs.Turned.{AnsweredLine, Turned};
 
 use crate::fetch::{Fetched, fetch};
@@ -285,24 +287,59 @@ pub(crate) fn next_turn<I: Source, O: Sink, L: Ledger>(
     asked_turns(reader, session, input, output, steps)
 }
 
-/// Counts the rows at the front of what the reader has ahead, as long as no query is live and one more row may be taken: those of streams
-/// of which no column has a domain, written without blanks and plus signs. A row is then counted and nothing else, whatever its values are, so
-/// these are not formed. It takes nothing from a source and writes nothing. In a pause that an earlier try in vain began it does nothing.
+// No rows at the front of a text.
+const NO_ROWS: CountedRows = CountedRows {
+    count: 0,
+    begin: 0,
+    end: 0,
+};
+
+// What `count_ahead` does, said of the rows and of the session apart.
+#[inline(always)]
+fn count_front(session: &mut Session, text: &[u8], pause: &mut Pause) -> CountedRows
+    requires ended { IsEnded text.now }
+    ensures rows { AreRowsAhead session.old.streams (open_in session.old.lock) text.now result.count result.begin result.end }
+    ensures live { 0 < result.count → length session.old.registry.live ≡ 0 }
+    ensures few { 0 < result.count → session.old.taken + result.count ≤ session.old.limit }
+    ensures none { result.count ≡ 0 → session.new ≡ session.old }
+    ensures kept { 0 < result.count → session.new ≡ record session.old { taken = session.old.taken + result.count; lines = session.old.lines + result.count; began = true } }
+{
+    if !session.has_no_query() {
+        return NO_ROWS;
+    }
+    if pause.goes_on() {
+        return NO_ROWS;
+    }
+    let rows = session.rows_ahead(text);
+    pause.follow(rows.count == 0);
+    if rows.count == 0 {
+        return rows;
+    }
+    session.count(rows.count);
+    rows
+}
+
+/// Counts the rows at the front of a text, as long as no query is live and one more row may be taken: those of open streams of which no
+/// column has a domain, written without blanks and plus signs. A row is then counted and nothing else, whatever its values are, so these are not
+/// formed. It returns how many they are, where the last one begins, and where its line ends. The last byte of the text is LF, and the line
+/// that it ends is not counted. In a pause that an earlier try in vain began it does nothing.
+pub fn count_ahead(session: &mut Session, text: &[u8], pause: &mut Pause) -> CountedRows
+    requires ended { IsEnded text.now }
+    ensures rows { AreCounted text.now session.old result.count result.begin result.end session.new }
+    ensures inside { result.end < length text.now }
+{
+    count_front(session, text, pause)
+}
+
+/// Counts the rows at the front of what the reader has ahead, as `count_ahead` does, and gives their lines. It takes nothing from a source and
+/// writes nothing.
 #[inline(always)]
 pub fn count_rows(reader: &mut LineReader, session: &mut Session, pause: &mut Pause)
     ensures { CountsRows reader.old session.old reader.new session.new }
 {
-    if !session.has_no_query() {
-        return;
-    }
-    if pause.goes_on() {
-        return;
-    }
-    let rows = session.rows_ahead(reader.ahead_and_feed());
-    pause.follow(rows.count == 0);
+    let rows = count_front(session, reader.ahead_and_feed(), pause);
     if rows.count == 0 {
         return;
     }
     reader.give_lines(rows.count, rows.begin, rows.end);
-    session.count(rows.count);
 }

@@ -79,6 +79,7 @@ pub fn set_given(
     ensures quiet { IsQuiet registry.old → IsQuiet registry.new }
     ensures given { GivenUpto taken registry.old → GivenUpto taken registry.new }
     ensures queries { KeepQueries registry.old.live registry.new.live }
+    ensures pages { registry.new.pool.pages ≡ registry.old.pool.pages }
 {
     let place = match place_of(registry, began, name) {
         Ok(place) => place,
@@ -119,6 +120,7 @@ pub fn set_cell<L: Ledger>(
     ensures queries { KeepQueries registry.old.live registry.new.live }
     ensures reads { steps.new.reads ≤ steps.old.reads + most_cells registry.old.live }
     ensures writes { steps.new.writes ≤ steps.old.writes + most_cells registry.old.live }
+    ensures pages { registry.new.pool.pages ≡ registry.old.pool.pages }
 {
     let place = match place_of(registry, began, name) {
         Ok(place) => place,
@@ -144,6 +146,7 @@ pub fn set_tuple(
     ensures quiet { IsQuiet registry.old → IsQuiet registry.new }
     ensures given { (n : ℕ) → GivenUpto n registry.old → GivenUpto n registry.new }
     ensures queries { KeepQueries registry.old.live registry.new.live }
+    ensures pages { registry.new.pool.pages ≡ registry.old.pool.pages }
 {
     let place = match place_of(registry, began, name) {
         Ok(place) => place,

@@ -1,6 +1,6 @@
 use Rattle.std.proofs.Common.{Some, ap, refl, arith}
-use Rattle.bq_embed.proofs.FirstLines.{within}
-use Rattle.bq_embed.proofs.Feeding.{begins, same_held, counted, leaves, grows, lacks_memory, breaks_off}
+use Rattle.bq_embed.proofs.Feeding.{begins, same_held}
+use Rattle.bq_embed.proofs.Fronts.{front_grows, front_lacks_memory, front_breaks_off, front_within, front_counted, front_leaves}
 use Rattle.bq_embed.proofs.answering.answer_text.Goals as goal
 
 pub answering-init : goal.answering-init
@@ -9,46 +9,40 @@ answering-init g c = record { fed = λ s stands. begins s _ _ _ _ stands; known 
 pub answering-preserved : goal.answering-preserved
 answering-preserved g c =
     let known = c.answering.invariant.known in
-    let one = counted _ _ _ _ _ _ _ known.stands (c.answer_first-line.ensures.reply known.state known.stands) in
+    let front = c.answer_front-line.ensures in
     record {
       fed = λ s stands.
-          let p = c.answering.invariant.fed s stands in
-          grows s _ _ _ _ _ _ _ _ _ _ _ _ p c.split_at.ensures.back c.answer_first-line.ensures.feed (c.if-not-are_few.ensures.few refl) (ap Some c.reserve.ensures.items) refl _ c.in-Done.is
-          (c.answer_first-line.ensures.reply _ p.fed.stands);
-      known = leaves _ _ _ _ _ _ (c.answer_first-line.ensures.reply known.state known.stands);
-      within = within _ _ _ _ c.split_at.ensures.back c.answer_first-line.ensures.feed.0;
-      lines = omega (arith, one, c.answering.invariant.lines);
+          front_grows s _ _ _ _ _ _ _ _ _ _ _ _ _ (c.answering.invariant.fed s stands) c.split_at.ensures.back (c.if-not-are_few.ensures.few refl) (ap Some c.reserve.ensures.items) refl front c.in-Done.is;
+      known = front_leaves _ _ _ _ _ _ _ known front;
+      within = front_within _ _ _ _ _ _ _ _ _ c.split_at.ensures.back front;
+      lines = (let lines = c.answering.invariant.lines in omega (arith, front_counted _ _ _ _ _ _ _ known front, lines));
     }
 
 pub returns-in-WriteFault-clause-fed : goal.returns-in-WriteFault-clause-fed
 returns-in-WriteFault-clause-fed g c = λ s stands.
-    let p = c.answering.invariant.fed s stands in
-    breaks_off s _ _ _ _ _ _ _ _ _ _ _ _ p c.split_at.ensures.back c.answer_first-line.ensures.feed (c.if-not-are_few.ensures.few refl) (ap Some c.reserve.ensures.items) refl _ c.in-WriteFault.is
-    (c.answer_first-line.ensures.reply _ p.fed.stands)
+    front_breaks_off s _ _ _ _ _ _ _ _ _ _ _ _ _ (c.answering.invariant.fed s stands) c.split_at.ensures.back (c.if-not-are_few.ensures.few refl) (ap Some c.reserve.ensures.items) refl c.answer_front-line.ensures c.in-WriteFault.is
 
 pub returns-in-WriteFault-clause-known : goal.returns-in-WriteFault-clause-known
-returns-in-WriteFault-clause-known g c = let known = c.answering.invariant.known in leaves _ _ _ _ _ _ (c.answer_first-line.ensures.reply known.state known.stands)
+returns-in-WriteFault-clause-known g c = front_leaves _ _ _ _ _ _ _ c.answering.invariant.known c.answer_front-line.ensures
+
+pub returns-in-WriteFault-clause-taken : goal.returns-in-WriteFault-clause-taken
+returns-in-WriteFault-clause-taken g c = front_within _ _ _ _ _ _ _ _ _ c.split_at.ensures.back c.answer_front-line.ensures
 
 pub returns-in-WriteFault-clause-lines : goal.returns-in-WriteFault-clause-lines
-returns-in-WriteFault-clause-lines g c =
-    let known = c.answering.invariant.known in
-    let one = counted _ _ _ _ _ _ _ known.stands (c.answer_first-line.ensures.reply known.state known.stands) in
-    omega (arith, one, c.answering.invariant.lines)
+returns-in-WriteFault-clause-lines g c = (let lines = c.answering.invariant.lines in omega (arith, front_counted _ _ _ _ _ _ _ c.answering.invariant.known c.answer_front-line.ensures, lines))
 
 pub returns-in-Memory-clause-fed : goal.returns-in-Memory-clause-fed
 returns-in-Memory-clause-fed g c = λ s stands.
-    let p = c.answering.invariant.fed s stands in
-    lacks_memory s _ _ _ _ _ _ _ _ _ _ _ _ p c.split_at.ensures.back c.answer_first-line.ensures.feed (c.if-not-are_few.ensures.few refl) (ap Some c.reserve.ensures.items) refl _ c.in-Memory.is
-    (c.answer_first-line.ensures.reply _ p.fed.stands)
+    front_lacks_memory s _ _ _ _ _ _ _ _ _ _ _ _ _ (c.answering.invariant.fed s stands) c.split_at.ensures.back (c.if-not-are_few.ensures.few refl) (ap Some c.reserve.ensures.items) refl c.answer_front-line.ensures c.in-Memory.is
 
 pub returns-in-Memory-clause-known : goal.returns-in-Memory-clause-known
-returns-in-Memory-clause-known g c = let known = c.answering.invariant.known in leaves _ _ _ _ _ _ (c.answer_first-line.ensures.reply known.state known.stands)
+returns-in-Memory-clause-known g c = front_leaves _ _ _ _ _ _ _ c.answering.invariant.known c.answer_front-line.ensures
+
+pub returns-in-Memory-clause-taken : goal.returns-in-Memory-clause-taken
+returns-in-Memory-clause-taken g c = front_within _ _ _ _ _ _ _ _ _ c.split_at.ensures.back c.answer_front-line.ensures
 
 pub returns-in-Memory-clause-lines : goal.returns-in-Memory-clause-lines
-returns-in-Memory-clause-lines g c =
-    let known = c.answering.invariant.known in
-    let one = counted _ _ _ _ _ _ _ known.stands (c.answer_first-line.ensures.reply known.state known.stands) in
-    omega (arith, one, c.answering.invariant.lines)
+returns-in-Memory-clause-lines g c = (let lines = c.answering.invariant.lines in omega (arith, front_counted _ _ _ _ _ _ _ c.answering.invariant.known c.answer_front-line.ensures, lines))
 
 pub returns-then-not-are_few-clause-fed : goal.returns-then-not-are_few-clause-fed
 returns-then-not-are_few-clause-fed g c = λ s stands. (c.answering.invariant.fed s stands, omega arith, c.if-not-are_few.ensures.many refl)

@@ -1,4 +1,4 @@
-use Rattle.std.proofs.Common.{◌≡◌, sym, subst, List, arith}
+use Rattle.std.proofs.Common.{◌≡◌, ◌∙◌, ap, sym, subst, List, arith}
 use Rattle.bq_pool.specs.Extents.{PoolValue}
 use Rattle.bq_registry.specs.Live.{Live}
 use Rattle.bq_registry.specs.Registry.{IsSound}
@@ -20,6 +20,7 @@ returns-in-Ok-install c =
       subst (λ (p : PoolValue). IsSound p after) (sym same) (subst (λ (x : List Live). IsSound c.take.new.self x) (sym last.last) sound),
       subst (λ (p : PoolValue). AreBeside before c.args.pool.now p) (sym same) (beside_taken c.args.pool.now c.take.new.self c.pages_of.result c.in-Ok.extent before c.requires.sound t),
       (c.in-Ok.extent, subst (λ (p : PoolValue). IsLast c.args.name c.args.planned.query c.args.planned.shared c.args.planned.plan c.in-Ok.extent p before after) (sym same) last),
+      ap (λ (p : PoolValue). p.pages) same ∙ t.all,
     )
 
 pub returns-in-Err : goal.returns-in-Err
@@ -28,4 +29,4 @@ returns-in-Err c =
     let t = c.in-Ok.ensures in
     let s = c.in-Err.ensures in
     let back = returned c.args.pool.now c.take.new.self c.install.new.pool c.pages_of.result c.in-Ok.extent before c.requires.sound t s.1 in
-    (subst (λ (x : List Live). IsSound c.install.new.pool x) (sym s.0) back.0, back.1, back.2, s.0)
+    (subst (λ (x : List Live). IsSound c.install.new.pool x) (sym s.0) back.0, back.1, back.2, s.0, back.3)

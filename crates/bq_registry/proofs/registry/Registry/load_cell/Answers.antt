@@ -4,7 +4,7 @@ use Rattle.bq_executor.specs.Loading.{loaded_cell}
 use Rattle.bq_registry.specs.Live.{Live, LiveQuery, boxes_for, boxes_of}
 use Rattle.bq_registry.specs.Registry.{RegistryValue, IsQuiet, GivenUpto, KeepQueries}
 use Rattle.bq_registry.specs.Loaded.{LoadsAt, LoadedAt}
-use Rattle.bq_registry.proofs.Loads.{loaded_sound, loaded_silent, loaded_stands, loaded_quiet, loaded_upto, loaded_names, loaded_keep}
+use Rattle.bq_registry.proofs.Loads.{loaded_sound, loaded_silent, loaded_stands, loaded_quiet, loaded_upto, loaded_names, loaded_keep, loaded_pages}
 use Rattle.bq_registry.proofs.registry.Registry.load_cell.Goals as goal
 
 pub invariant_of-self : goal.invariant_of-self
@@ -52,3 +52,10 @@ returns-clause-queries g c =
     let did = subst (λ (z : ℤ). LoadedAt c.args.place c.load_cell.result 0 (λ q shared plan base. loaded_cell (boxes_for q shared plan) c.args.i z base) c.self.inside.pool c.load_cell.new.pool c.self.inside.live c.load_cell.new.live) v c.load_cell.ensures.loads in
     let there = subst (λ (v : RegistryValue). c.args.place < length v.live) (sym c.self.view_is) c.requires.there in
     subst (λ (v : RegistryValue). KeepQueries v.live c.load_cell.new.live) c.self.view_is (loaded_keep c.args.place c.load_cell.result 0 (λ q shared plan base. loaded_cell (boxes_for q shared plan) c.args.i c.args.v base) c.self.inside.pool c.load_cell.new.pool c.self.inside.live c.load_cell.new.live c.self.invariant.0 there did)
+
+pub returns-clause-pages : goal.returns-clause-pages
+returns-clause-pages g c =
+    let v : to_z w64 (of_z w64 c.args.v) ≡ c.args.v = to_z-of_z w64 c.args.v (search rules) in
+    let did = subst (λ (z : ℤ). LoadedAt c.args.place c.load_cell.result 0 (λ q shared plan base. loaded_cell (boxes_for q shared plan) c.args.i z base) c.self.inside.pool c.load_cell.new.pool c.self.inside.live c.load_cell.new.live) v c.load_cell.ensures.loads in
+    let there = subst (λ (v : RegistryValue). c.args.place < length v.live) (sym c.self.view_is) c.requires.there in
+    loaded_pages c.args.place c.load_cell.result 0 (λ q shared plan base. loaded_cell (boxes_for q shared plan) c.args.i c.args.v base) c.self.inside.pool c.load_cell.new.pool c.self.inside.live c.load_cell.new.live c.self.invariant.0 there did ∙ ap (λ (v : RegistryValue). v.pool.pages) c.self.view_is

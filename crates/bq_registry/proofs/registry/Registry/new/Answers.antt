@@ -8,7 +8,7 @@ pub invariant_of-result : goal.invariant_of-result
 invariant_of-result c =
     let none = c.in_ok-live.ensures in
     let size = ap (λ (xs : List Live). length xs) none in (
-      sound_none c.in_ok-pool.pool c.in_ok-live.live c.in_ok-pool.ensures none,
+      sound_none c.args.pages c.in_ok-pool.pool c.in_ok-live.live c.in_ok-pool.ensures none,
       quiet_after c.in_ok-live.live (λ i l a. absurd (omega (arith, a, size))),
       c.in_ok-concerned.ensures c.in_ok-live.live,
     )

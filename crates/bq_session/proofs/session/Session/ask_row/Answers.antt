@@ -60,5 +60,6 @@ returns-clause-reply g c = λ s stands.
       lines = old.lines;
       began = refl;
       lock = old.lock;
+      pages = c.emit.ensures.pages ∙ c.row.ensures.pages ∙ old.pages;
     })
     (subst (λ t. Writes c.emit.result (g.O.Sink.seen c.args.out.now) (g.O.Sink.seen c.emit.new.out) t) (row_reply c.row.new.self.pool c.row.new.self.live s.queries r stood (c.row.ensures.waits s.queries old.queries)) c.emit.ensures.written)

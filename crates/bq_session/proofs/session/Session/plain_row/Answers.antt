@@ -25,6 +25,7 @@ returns-then-asked-clause-reply g c = λ s line short row stands.
         lines = ap (λ n. n + 1) old.lines;
         began = old.began;
         lock = old.lock;
+        pages = old.pages;
       });
     }
 
@@ -45,6 +46,7 @@ returns-clause-reply g c = λ s line short row stands.
         lines = ap (λ n. n + 1) old.lines;
         began = old.began;
         lock = old.lock;
+        pages = old.pages;
       });
     }
 

@@ -25,4 +25,4 @@ returns-clause-reply g c = λ s stands.
     let old = subst (λ (k : SessionValue). StandsFor k (one_line_more s)) (sym c.self.view_is) stands in
     same_request c.settle.result s _ _ _ _ _
     (ap (λ x. cell_request s c.args.name.now x (to_z w64 (of_z w64 c.args.content))) (to_z-of_z w64 c.args.index (search rules)) ∙ ap (cell_request s c.args.name.now c.args.index) (to_z-of_z w64 c.args.content (search rules)))
-    (c.settle.ensures s _ (settled_set c.set_cell-set.result _ c.set_cell-set.new.registry s _ old (c.set_cell-set.ensures.sets s (standing _ s old)) c.set_cell-set.ensures.quiet))
+    (c.settle.ensures s _ (settled_set c.set_cell-set.result _ c.set_cell-set.new.registry s _ old (c.set_cell-set.ensures.sets s (standing _ s old)) c.set_cell-set.ensures.quiet c.set_cell-set.ensures.pages))

@@ -24,4 +24,4 @@ pub returns : goal.returns
 returns g c = λ s stands.
     let old = subst (λ (k : SessionValue). StandsFor k (one_line_more s)) (sym c.self.view_is) stands in
     same_request c.settle.result s _ _ _ _ _ (ap (given_request s c.args.name.now) (to_z-of_z w64 c.args.rows (search rules)))
-    (c.settle.ensures s _ (settled_set c.set_given-set.result _ c.set_given-set.new.registry s _ old (c.set_given-set.ensures.sets s (standing _ s old) old.taken) c.set_given-set.ensures.quiet))
+    (c.settle.ensures s _ (settled_set c.set_given-set.result _ c.set_given-set.new.registry s _ old (c.set_given-set.ensures.sets s (standing _ s old) old.taken) c.set_given-set.ensures.quiet c.set_given-set.ensures.pages))

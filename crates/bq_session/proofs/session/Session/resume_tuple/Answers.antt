@@ -21,4 +21,4 @@ invariant_of-self g c = (
 pub returns : goal.returns
 returns g c = λ s stands.
     let old = subst (λ (k : SessionValue). StandsFor k (one_line_more s)) (sym c.self.view_is) stands in
-    c.settle.ensures s _ (settled_set c.set_tuple-set.result _ c.set_tuple-set.new.registry s _ old (c.set_tuple-set.ensures.sets s (standing _ s old)) c.set_tuple-set.ensures.quiet)
+    c.settle.ensures s _ (settled_set c.set_tuple-set.result _ c.set_tuple-set.new.registry s _ old (c.set_tuple-set.ensures.sets s (standing _ s old)) c.set_tuple-set.ensures.quiet c.set_tuple-set.ensures.pages)
