@@ -7,3 +7,5 @@ pub mod Waiting
 pub mod FirstEntry
 pub mod CallerLemmas
 pub mod Tuples
+pub mod Tiers
+pub mod Runs

@@ -1,6 +1,6 @@
 -- The list of the numbers that wait, after one count was set.
 use Rattle.std.proofs.Common.{◌≡◌, ◌≢◌, ℕ, ◌<◌, ◌≤◌, ◌⊎◌, Bool, true, false, cond, nat_lt, ℤ, List, [], ◌∷◌, length, filter, get_or, set, sym, ap, ◌∙◌, inl, inr, arith, get_or-set_same, get_or-set_other}
-use Rattle.std.specs.List.{insert, remove}
+use Rattle.std.specs.List.{insert}
 use Rattle.std.proofs.lemmas.List.Edits.{length-insert}
 use Rattle.std.proofs.lemmas.Bool.{cases_eq, cases_lt}
 use Rattle.std.proofs.lemmas.Bool.Decides.{nat_tests}
@@ -10,7 +10,7 @@ use Rattle.bq_answers.specs.Rows.{row_of, AscendRows, IsRank, counts_for}
 use Rattle.bq_answers.specs.Entries.{AllAbove, Ascends}
 use Rattle.bq_answers.specs.Fields.{entries_of}
 use Rattle.bq_answers.proofs.Order.{order_irreflexive, order_asymmetric}
-use Rattle.bq_answers.proofs.Numbers.{filter_alike, filter_gained, filter_lost, filter_place, length-filter_le, passing, passing_within, ranked_at, ranked_unique, ranked_filter}
+use Rattle.bq_answers.proofs.Numbers.{filter_alike, filter_gained, filter_place, length-filter_le, passing, ranked_at, ranked_unique, ranked_filter}
 use Rattle.bq_answers.proofs.Places.{ascend_rows, numbers_apart}
 
 pub counted : (n : ℕ) → 0 < n → nat_lt 0 n ≡ true
@@ -118,35 +118,6 @@ due_room values counts order width place n rank ascends within inside idle activ
     let l = length-insert (filter (counts_for counts) order) rank (get_or order place 0) is.within in
     let l' = ap length same in
     let most = length-filter_le (counts_for (set counts (get_or order place 0) n)) order in
-    omega arith
-
--- it waits no more
-pub due_lost : (values : List ℤ) (counts order : List ℕ) (width place n rank : ℕ)
-    → Ascends (entries_of values counts width order)
-    → place < length order
-    → get_or order place 0 < length counts
-    → counts_for counts (get_or order place 0) ≡ true
-    → nat_lt 0 n ≡ false
-    → IsRank values width (filter (counts_for counts) order) (row_of values width (get_or order place 0)) rank
-    → remove (filter (counts_for counts) order) rank ≡ filter (counts_for (set counts (get_or order place 0) n)) order
-due_lost values counts order width place n rank ascends within inside active idle is =
-    let rows = ascend_rows values counts order width ascends in
-    ap (λ (r : ℕ). remove (filter (counts_for counts) order) r) (due_rank values counts order width place rank ascends within is)
-    ∙ sym
-    (filter_lost (counts_for counts) (counts_for (set counts (get_or order place 0) n)) order place within active
-    (own counts (get_or order place 0) n inside ∙ idle)
-    (others values counts order width place n rows within))
-
--- a row that waits has its place among those that wait
-pub due_within : (values : List ℤ) (counts order : List ℕ) (width place rank : ℕ)
-    → Ascends (entries_of values counts width order)
-    → place < length order
-    → counts_for counts (get_or order place 0) ≡ true
-    → IsRank values width (filter (counts_for counts) order) (row_of values width (get_or order place 0)) rank
-    → rank < length (filter (counts_for counts) order)
-due_within values counts order width place rank ascends within active is =
-    let e = due_rank values counts order width place rank ascends within is in
-    let l = passing_within (counts_for counts) order place within active in
     omega arith
 
 -- all counts are 0 where those that waited were cleared and no other came to wait

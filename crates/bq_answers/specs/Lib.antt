@@ -3,3 +3,4 @@ pub mod Entries
 pub mod Rows
 pub mod Fields
 pub mod Lone
+pub mod Tiers

@@ -6,16 +6,19 @@
 //!
 //! | call | cost |
 //! |---|---|
-//! | `has` | at most log2 n + 1 comparisons of tuples |
+//! | `has` | at most log2 n + 2 comparisons of tuples |
 //! | `add_upto` of a tuple behind all others | at most one comparison of tuples, and no number moves; the first one moves into no list |
-//! | `add`, `add_upto`, `add_new` | at most log2 n + 2 comparisons of tuples; a new tuple moves at most n numbers |
-//! | and where the entry begins or ceases to wait | at most log2 w + 1 comparisons more, and at most w numbers moved |
+//! | `add`, `add_upto`, `add_new` | at most log2 n + 3 comparisons of tuples; a new tuple moves at most 512 + n / 256 numbers |
+//! | and where the entry begins to wait | at most log2 w + 2 comparisons more, and at most 512 + w / 256 numbers moved |
+//! | and where it ceases to wait, by a limit of 0 | a look at each of n counts |
 //! | `entry`, `waiting_entry`, `lone_entry` | one lookup |
 //! | `settle` | w counts |
-//! | `len`, `waiting_len`, `clear`, `set_only` | the same for any n |
+//! | `clear`, `set_only` | a byte stored for each 256 entries of each list |
+//! | `len`, `waiting_len` | the same for any n |
 //!
-//! At 65,536 entries a tuple is found by 17 comparisons, and adding one moves at most 256 KiB of numbers. Room for all
-//! entries is taken in `Answers::new`: for each, 24 bytes and 8 for each value.
+//! Both lists are tiered vectors, of blocks of 256 numbers. At 65,536 entries a tuple is found by at most 18 comparisons, and adding one
+//! moves at most 768 numbers of a list. Room for all entries is taken in `Answers::new`: for each, 24 bytes and 8 for each value; and for each list a
+//! byte for each block.
 #![tactic(auto)]
 
 mod columns;
@@ -24,5 +27,6 @@ mod rows;
 mod search;
 mod sorted;
 mod table;
+mod tiered;
 
 pub use table::Answers;

@@ -6,6 +6,7 @@ ghost use Rattle.bq_answers.specs.Fields.{entries_of};
 ghost use Rattle.bq_answers.specs.Rows.{counts_for};
 
 use crate::search::{rank, row};
+use crate::tiered::TieredVec;
 use arrayvec::ArrayVec;
 use bq_model::Tuple;
 
@@ -13,7 +14,7 @@ use bq_model::Tuple;
 pub fn insert_row(
     values: &mut Vec<i64>,
     counts: &mut Vec<u128>,
-    order: &mut Vec<u32>,
+    order: &mut TieredVec,
     place: usize,
     t: &[i64],
 )
@@ -21,19 +22,19 @@ pub fn insert_row(
     requires few { length counts.old.items < 2 ^ 32 }
     requires values { length values.old.items + length t.now ≤ vec_capacity values.old }
     requires counts { length counts.old.items < vec_capacity counts.old }
-    requires order { length order.old.items < vec_capacity order.old }
+    requires order { length order.old.items < order.old.room }
     ensures values { values.new.items ≡ values.old.items ++ t.now }
     ensures counts { counts.new.items ≡ counts.old.items ++ 0 ∷ [] }
     ensures order { order.new.items ≡ insert order.old.items place (length counts.old.items) }
     ensures value_room { vec_capacity values.old ≤ vec_capacity values.new }
     ensures count_room { vec_capacity counts.old ≤ vec_capacity counts.new }
-    ensures order_room { vec_capacity order.old ≤ vec_capacity order.new }
+    ensures order_room { order.new.room ≡ order.old.room }
 {
     let number = counts.len() as u32;
     // There is room, so this is done.
     let _values_stored = values.extend_from_slice(t).is_ok();
     let _count_stored = counts.push(0).is_ok();
-    let _number_stored = order.insert(place, number).is_ok();
+    order.insert(place, number);
 }
 
 // Appends a value.
@@ -57,37 +58,60 @@ fn push_all(values: &mut Vec<i64>, t: &[i64])
     }
 }
 
+// Appends the number of a row to those that wait, where its count is not 0.
+#[inline(always)]
+fn push_due(due: &mut TieredVec, number: u32, count: u128)
+    requires { length due.old.items < due.old.room }
+    ensures due { due.new.items ≡ (if nat_lt 0 count then due.old.items ++ number ∷ [] else due.old.items) }
+    ensures room { due.new.room ≡ due.old.room }
+{
+    if count > 0 {
+        due.push(number);
+    }
+}
+
 /// Appends a row that stands behind all others, with this count.
 pub fn append_row(
     values: &mut Vec<i64>,
     counts: &mut Vec<u128>,
-    order: &mut Vec<u32>,
-    due: &mut Vec<u32>,
+    order: &mut TieredVec,
+    due: &mut TieredVec,
     t: &[i64],
     count: u128,
 )
     requires few { length counts.old.items < 2 ^ 32 }
     requires values { length values.old.items + length t.now ≤ vec_capacity values.old }
     requires counts { length counts.old.items < vec_capacity counts.old }
-    requires order { length order.old.items < vec_capacity order.old }
-    requires due { length due.old.items < vec_capacity due.old }
+    requires order { length order.old.items < order.old.room }
+    requires due { length due.old.items < due.old.room }
     ensures values { values.new.items ≡ values.old.items ++ t.now }
     ensures counts { counts.new.items ≡ counts.old.items ++ count ∷ [] }
     ensures order { order.new.items ≡ order.old.items ++ length counts.old.items ∷ [] }
     ensures due { due.new.items ≡ (if nat_lt 0 count then due.old.items ++ length counts.old.items ∷ [] else due.old.items) }
     ensures value_room { vec_capacity values.old ≤ vec_capacity values.new }
     ensures count_room { vec_capacity counts.old ≤ vec_capacity counts.new }
-    ensures order_room { vec_capacity order.old ≤ vec_capacity order.new }
-    ensures due_room { vec_capacity due.old ≤ vec_capacity due.new }
+    ensures order_room { order.new.room ≡ order.old.room }
+    ensures due_room { due.new.room ≡ due.old.room }
 {
     let number = counts.len() as u32;
     push_all(values, t);
     // There is room, so this is done.
     let _count_stored = counts.push(count).is_ok();
-    let _number_stored = order.push(number).is_ok();
-    if count > 0 {
-        // Here too.
-        let _due_stored = due.push(number).is_ok();
+    order.push(number);
+    push_due(due, number, count);
+}
+
+// Lists anew the numbers of the rows that wait. A count that falls to 0 is rare: nothing but a limit of 0 makes it so.
+fn list_due(counts: &[u128], order: &TieredVec, due: &mut TieredVec)
+    requires counts { (i : ℕ) → i < length order.now.items → slice_index order.now.items i < length counts.now }
+    requires room { length order.now.items ≤ due.old.room }
+    ensures due { due.new.items ≡ filter (counts_for counts.now) order.now.items }
+    ensures room { due.new.room ≡ due.old.room }
+{
+    due.clear();
+    for i in 0..order.len() {
+        let number = order.get(i);
+        push_due(due, number, counts[number as usize]);
     }
 }
 
@@ -95,57 +119,55 @@ pub fn append_row(
 pub fn set_count(
     values: &[i64],
     width: usize,
-    order: &[u32],
+    order: &TieredVec,
     place: usize,
     count: u128,
     counts: &mut [u128],
-    due: &mut Vec<u32>,
+    due: &mut TieredVec,
 )
-    requires place { place < length order.now }
-    requires rows { (i : ℕ) → i < length order.now → slice_index order.now i * width + width ≤ length values.now }
-    requires counts { (i : ℕ) → i < length order.now → slice_index order.now i < length counts.old }
-    requires ascending { Ascends (entries_of values.now counts.old width order.now) }
-    requires due { due.old.items ≡ filter (counts_for counts.old) order.now }
-    requires room { length order.now ≤ vec_capacity due.old }
-    ensures counts { counts.new ≡ slice_set counts.old (slice_index order.now place) count }
-    ensures due { due.new.items ≡ filter (counts_for (slice_set counts.old (slice_index order.now place) count)) order.now }
-    ensures due_room { vec_capacity due.old ≤ vec_capacity due.new }
+    requires place { place < length order.now.items }
+    requires rows { (i : ℕ) → i < length order.now.items → slice_index order.now.items i * width + width ≤ length values.now }
+    requires counts { (i : ℕ) → i < length order.now.items → slice_index order.now.items i < length counts.old }
+    requires ascending { Ascends (entries_of values.now counts.old width order.now.items) }
+    requires due { due.old.items ≡ filter (counts_for counts.old) order.now.items }
+    requires room { length order.now.items ≤ due.old.room }
+    ensures counts { counts.new ≡ slice_set counts.old (slice_index order.now.items place) count }
+    ensures due { due.new.items ≡ filter (counts_for (slice_set counts.old (slice_index order.now.items place) count)) order.now.items }
+    ensures due_room { due.new.room ≡ due.old.room }
 {
-    let number = order[place];
+    let number = order.get(place);
     let k = number as usize;
     let waited = counts[k] > 0;
     counts[k] = count;
     if waited {
         if count == 0 {
-            let i = rank(values, due, width, row(values, width, k));
-            due.remove(i);
+            list_due(counts, order, due);
         }
     } else if count > 0 {
         let i = rank(values, due, width, row(values, width, k));
-        // There is room, so this is done.
-        let _number_stored = due.insert(i, number).is_ok();
+        due.insert(i, number);
     }
 }
 
 // Sets the counts of these numbers to 0, one after another.
-fn clear_each(counts: &mut [u128], numbers: &[u32])
-    requires { (i : ℕ) → i < length numbers.now → slice_index numbers.now i < length counts.old }
-    ensures cleared { (i : ℕ) → i < length numbers.now → slice_index counts.new (slice_index numbers.now i) ≡ 0 }
+fn clear_each(counts: &mut [u128], numbers: &TieredVec)
+    requires { (i : ℕ) → i < length numbers.now.items → slice_index numbers.now.items i < length counts.old }
+    ensures cleared { (i : ℕ) → i < length numbers.now.items → slice_index counts.new (slice_index numbers.now.items i) ≡ 0 }
     ensures others { (k : ℕ) → (slice_index counts.new k ≡ 0) ⊎ (slice_index counts.new k ≡ slice_index counts.old k) }
 {
     for i in 0..numbers.len() {
-        counts[numbers[i] as usize] = 0;
+        counts[numbers.get(i) as usize] = 0;
     }
 }
 
 /// Sets the counts of these numbers to 0. Mostly there is one, which wants no loop.
-pub fn clear_counts(counts: &mut [u128], numbers: &[u32])
-    requires { (i : ℕ) → i < length numbers.now → slice_index numbers.now i < length counts.old }
-    ensures cleared { (i : ℕ) → i < length numbers.now → slice_index counts.new (slice_index numbers.now i) ≡ 0 }
+pub fn clear_counts(counts: &mut [u128], numbers: &TieredVec)
+    requires { (i : ℕ) → i < length numbers.now.items → slice_index numbers.now.items i < length counts.old }
+    ensures cleared { (i : ℕ) → i < length numbers.now.items → slice_index counts.new (slice_index numbers.now.items i) ≡ 0 }
     ensures others { (k : ℕ) → (slice_index counts.new k ≡ 0) ⊎ (slice_index counts.new k ≡ slice_index counts.old k) }
 {
     if numbers.len() == 1 {
-        counts[numbers[0] as usize] = 0;
+        counts[numbers.get(0) as usize] = 0;
         return;
     }
     clear_each(counts, numbers);
