@@ -18,10 +18,10 @@ use Rattle.bq_advice.specs.declared.state.StandingLock.{StandingLock}
 use Rattle.bq_sentences.specs.Texts.{fault_text}
 use Rattle.bq_mend.specs.declared.advising.QueryAdvice.{QueryAdvice}
 use Rattle.bq_mend.specs.Advised.{IsAdvice}
-use Rattle.bq_advice_lines.specs.Lines.{text_of}
+use Rattle.bq_templates.specs.Template.{filled}
 use Rattle.bq_advice.specs.declared.advised.AdvisedQuery.{AdvisedQuery}
 use Rattle.bq_advice.specs.State.{State, free_pages, one_line_more, one_fault_more, one_stream_more, one_query_less, one_query_more, one_lock_more, one_lock_less}
-use Rattle.bq_advice.specs.declared.faults.TheConstants.{MOST_ROWS, COUNTED, COUNTED_TAIL}
+use Rattle.bq_advice.specs.declared.faults.TheConstants.{MOST_ROWS, COUNTED}
 use Rattle.bq_advice.specs.Queries.{query_text}
 
 -- What a line comes to: nothing is to be said of what it asks for; it is at fault; or it asks for a query, on which this is advised.
@@ -108,7 +108,7 @@ shown line = if nat_lt 1024 (length line) then [] else line
 
 -- that a row is wrong, and that from here on such rows are counted alone
 unfoldable pub counted_text : ℕ → List ℕ
-counted_text number = text_of (COUNTED.now ∷ decimal number ∷ COUNTED_TAIL.now ∷ [])
+counted_text number = filled COUNTED.now (decimal number ∷ [])
 
 -- what is said of a row that is wrong: of the first 20 what is wrong, of the next that it is counted alone, and nothing of those behind it
 abbrev pub row_text : State → List ℕ → Fault → List ℕ

@@ -1,9 +1,6 @@
 pub mod State
 pub mod Changes
-pub mod Chains
-pub mod Dearest
-pub mod Limits
-pub mod Mends
+pub mod Parts
 pub mod Queries
 pub mod Summary
 pub mod Finding

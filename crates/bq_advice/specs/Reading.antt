@@ -8,7 +8,7 @@ use Rattle.bq_feed.specs.Reading.{Reading, NextLine, TakesAll, answer_to}
 use Rattle.bq_feed.specs.declared.reader.LineAnswer.TheVariants as answers
 use Rattle.bq_script.specs.declared.end.ScriptEnd.{ScriptEnd}
 use Rattle.bq_script.specs.Ending.{StopsAt}
-use Rattle.bq_advice.specs.declared.advising.Told.{Told}
+use Rattle.bq_advice.specs.declared.report.Told.{Told}
 use Rattle.bq_advice.specs.declared.reading.NextGiven.{NextGiven}
 use Rattle.bq_advice.specs.declared.reading.NextGiven.TheVariants as next
 use Rattle.bq_advice.specs.State.{State}

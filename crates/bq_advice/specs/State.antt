@@ -34,19 +34,14 @@ free_pages s = 16384 - sum s.pages
 
 -- the pages of a query that comes to this: a filter has none
 abbrev pub pages_for : Judgement → ℕ
-pages_for judgement.Filter = 0
 pages_for (judgement.Accepted numbers) = page_count numbers.cells
-pages_for (judgement.Above which value) = 0
-pages_for (judgement.Violation part condition attr) = 0
-pages_for judgement.ManyParts = 0
+pages_for _ = 0
 
 -- whether a query that comes to this is accepted where so many pages are free
 abbrev pub is_accepted : ℕ → Judgement → Bool
 is_accepted free judgement.Filter = true
 is_accepted free (judgement.Accepted numbers) = not (nat_lt free (page_count numbers.cells))
-is_accepted free (judgement.Above which value) = false
-is_accepted free (judgement.Violation part condition attr) = false
-is_accepted free judgement.ManyParts = false
+is_accepted free _ = false
 
 -- one line more
 abbrev pub one_line_more : State → State

@@ -8,30 +8,23 @@ ghost use Rattle.bq_advice.specs.Finding as finding;
 
 use crate::state::Advising;
 use bq_diagnosis::{Fault, Known};
-use bq_io::{Sink, WriteFault, write_pieces};
+use bq_io::Sink;
 use bq_parser::{LineKind, classify};
 use bq_sentences::write_fault;
-use itoa::Buffer;
+use bq_templates::{Filling, Written, write_filled};
 
 /// Of how many rows it is told what is wrong.
 const MOST_ROWS: u64 = 20;
 
-/// What stands before the number of the first row that is counted alone.
-const COUNTED: &[u8] = b"line ";
-
-/// What stands behind it.
-const COUNTED_TAIL: &[u8] =
-    b": 20 wrong rows are told above; this one is wrong too, and from here on such rows are counted alone\n";
+/// What is said of the first row that is counted alone.
+const COUNTED: &[u8] =
+    b"line _: 20 wrong rows are told above; this one is wrong too, and from here on such rows are counted alone\n";
 
 // Whether a line is a row.
 fn is_row(line: &[u8]) -> bool
     ensures { result ≡ finding.is_row_kind (kind_of_line (stripped line.now)) }
 {
-    let (kind, _text) = classify(line);
-    match kind {
-        LineKind::RowLine => true,
-        LineKind::StatementLine | LineKind::Nothing => false,
-    }
+    matches!(classify(line).0, LineKind::RowLine)
 }
 
 /// Returns whether a fault of a line is one of a row. Where a lock does not let the line, that is where it is one.
@@ -51,12 +44,7 @@ pub fn is_row_fault(line: &[u8], fault: &Fault) -> bool
 }
 
 // What is wrong with the next line.
-fn write_wrong<O: Sink>(
-    state: &Advising,
-    line: &[u8],
-    fault: &Fault,
-    out: &mut O,
-) -> Result<(), WriteFault>
+fn write_wrong<O: Sink>(state: &Advising, line: &[u8], fault: &Fault, out: &mut O) -> Written
     requires { state.now.lines < 2 ^ 64 - 1 }
     ensures { Writes result (O.seen out.old) (O.seen out.new) (fault_text (state.now.lines + 1) line.now fault.now state.now.streams state.now.live) }
 {
@@ -69,21 +57,14 @@ fn write_wrong<O: Sink>(
 
 // That a row is wrong, by the number of its line, and that from here on such rows are counted alone.
 #[tactic(auto, unfolding(crate::specs::Finding::counted_text))]
-fn write_counted<O: Sink>(out: &mut O, number: u64) -> Result<(), WriteFault>
+fn write_counted<O: Sink>(out: &mut O, number: u64) -> Written
     ensures { Writes result (O.seen out.old) (O.seen out.new) (finding.counted_text number) }
 {
-    let mut buffer = Buffer::new();
-    let pieces: [&[u8]; 3] = [COUNTED, buffer.format(number).as_bytes(), COUNTED_TAIL];
-    write_pieces(out, &pieces)
+    write_filled(out, COUNTED, &[Filling::Number(number)])
 }
 
 // What is said of the next line, which is a row that is wrong.
-fn write_row<O: Sink>(
-    state: &Advising,
-    line: &[u8],
-    fault: &Fault,
-    out: &mut O,
-) -> Result<(), WriteFault>
+fn write_row<O: Sink>(state: &Advising, line: &[u8], fault: &Fault, out: &mut O) -> Written
     requires { state.now.lines < 2 ^ 64 - 1 }
     ensures { Writes result (O.seen out.old) (O.seen out.new) (finding.row_text state.now line.now fault.now) }
 {
@@ -97,12 +78,7 @@ fn write_row<O: Sink>(
 }
 
 /// Writes what is said of the next line, which is at fault.
-pub fn tell_fault<O: Sink>(
-    state: &Advising,
-    line: &[u8],
-    fault: &Fault,
-    out: &mut O,
-) -> Result<(), WriteFault>
+pub fn tell_fault<O: Sink>(state: &Advising, line: &[u8], fault: &Fault, out: &mut O) -> Written
     requires { state.now.lines < 2 ^ 64 - 1 }
     ensures { Writes result (O.seen out.old) (O.seen out.new) (finding.told_text state.now line.now fault.now) }
 {

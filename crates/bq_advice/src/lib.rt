@@ -6,18 +6,15 @@
 #![tactic(auto)]
 
 mod advised;
-mod advising;
-mod chains;
 mod changes;
-mod dearest;
 mod faults;
-mod limits;
-mod mends;
+mod parts;
 mod queries;
 mod reading;
+mod report;
 mod state;
 mod summary;
 mod taking;
 
 pub use advised::AdvisedQuery;
-pub use advising::advise_script;
+pub use report::advise_script;

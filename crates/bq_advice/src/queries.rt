@@ -5,16 +5,16 @@ ghost use Rattle.bq_model.specs.Numbers.{page_count};
 ghost use Rattle.bq_advice.specs.Queries as queries;
 
 use crate::advised::AdvisedQuery;
-use crate::chains::write_chains;
-use crate::limits::{write_cheapening, write_lifting, write_pages};
-use crate::mends::write_mends;
+use crate::changes::{write_changes, write_lifting, write_mends, write_same};
+use crate::parts::{write_chains, write_dearest};
 use bq_advice_lines::{
-    names_of, write_above, write_numbers, write_pool, write_query_line, write_violation,
+    Names, names_of, write_above, write_numbers, write_pool, write_query_line, write_violation,
 };
-use bq_io::{Sink, WriteFault};
+use bq_io::Sink;
 use bq_mend::Judgement;
 use bq_model::{Attr, Condition, Numbers, Which};
 use bq_schema::Catalog;
+use bq_templates::Written;
 
 /// What is said of a query of no part.
 const NEVER: &[u8] = b" never answers: its comparisons contradict each other\n";
@@ -36,103 +36,42 @@ pub fn page_count(cells: u32) -> u32
     cells.div_ceil(64)
 }
 
-// The parts that keep the most cells, and what makes the query cheaper and keeps every answer.
-fn write_cost<O: Sink>(
-    out: &mut O,
-    advised: &AdvisedQuery,
-    catalog: &Catalog,
-) -> Result<(), WriteFault>
-    ensures { Writes result (O.seen out.old) (O.seen out.new) (queries.cost_of catalog.now advised.now) }
+// What is said of the line of a query.
+fn write_said<O: Sink>(out: &mut O, advised: &AdvisedQuery, said: &[u8]) -> Written
+    ensures { Writes result (O.seen out.old) (O.seen out.new) (queries.said_line advised.now said.now) }
 {
-    write_cheapening(out, &advised.advice, advised.query.from(), catalog)
-}
-
-// The parts that keep the most cells, and what takes fewer pages.
-fn write_pages_of<O: Sink>(
-    out: &mut O,
-    advised: &AdvisedQuery,
-    catalog: &Catalog,
-) -> Result<(), WriteFault>
-    ensures { Writes result (O.seen out.old) (O.seen out.new) (queries.pages_of catalog.now advised.now) }
-{
-    write_pages(out, &advised.advice, advised.query.from(), catalog)
-}
-
-// The parts that keep the most cells, and what lifts the limit that refuses the query.
-fn write_limit<O: Sink>(
-    out: &mut O,
-    advised: &AdvisedQuery,
-    catalog: &Catalog,
-) -> Result<(), WriteFault>
-    ensures { Writes result (O.seen out.old) (O.seen out.new) (queries.limit_of catalog.now advised.now) }
-{
-    write_lifting(out, &advised.advice, advised.query.from(), catalog)
-}
-
-// The numbers of a query, the parts that keep the most cells, and what makes it cheaper and keeps every answer.
-#[tactic(auto, using(crate::proofs::Texts::writes_behind))]
-fn write_behind_head<O: Sink>(
-    out: &mut O,
-    advised: &AdvisedQuery,
-    numbers: Numbers,
-    catalog: &Catalog,
-) -> Result<(), WriteFault>
-    ensures { Writes result (O.seen out.old) (O.seen out.new) (queries.behind_head catalog.now advised.now numbers) }
-{
-    match write_numbers(out, numbers) {
-        Ok(()) => write_cost(out, advised, catalog),
-        Err(fault) => Err(fault),
-    }
+    write_query_line(out, advised.number, &advised.name, said)
 }
 
 // A query of several parts that is accepted.
-#[tactic(auto, using(crate::proofs::Texts::writes_behind))]
+#[tactic(auto, using(crate::proofs::Texts::writes_behind, crate::proofs::Texts::broke_off, crate::proofs::Texts::stopped))]
 fn write_parts<O: Sink>(
     out: &mut O,
     advised: &AdvisedQuery,
     numbers: Numbers,
-    catalog: &Catalog,
-) -> Result<(), WriteFault>
-    ensures { Writes result (O.seen out.old) (O.seen out.new) (queries.parts_text catalog.now advised.now numbers) }
+    names: &Names<'_>,
+) -> Written
+    ensures { Writes result (O.seen out.old) (O.seen out.new) (queries.parts_text names.now.catalog.now names.now.from.now advised.now numbers) }
 {
-    match write_query_line(out, advised.number, &advised.name, NO_MORE) {
-        Ok(()) => write_behind_head(out, advised, numbers, catalog),
-        Err(fault) => Err(fault),
-    }
-}
-
-// A query that is accepted.
-fn write_within<O: Sink>(
-    out: &mut O,
-    advised: &AdvisedQuery,
-    numbers: Numbers,
-    catalog: &Catalog,
-) -> Result<(), WriteFault>
-    ensures { Writes result (O.seen out.old) (O.seen out.new) (queries.within_text catalog.now advised.now numbers) }
-{
-    if numbers.parts == 0 {
-        write_query_line(out, advised.number, &advised.name, NEVER)
-    } else if numbers.parts == 1 {
-        Ok(())
-    } else {
-        write_parts(out, advised, numbers, catalog)
-    }
+    write_said(out, advised, NO_MORE)?;
+    write_numbers(out, numbers)?;
+    write_dearest(out, advised.advice.dearest.as_slice(), names)?;
+    write_same(out, &advised.advice)
 }
 
 // A query whose pages are not free.
-#[tactic(auto, using(crate::proofs::Texts::writes_behind))]
+#[tactic(auto, using(crate::proofs::Texts::writes_behind, crate::proofs::Texts::broke_off, crate::proofs::Texts::stopped))]
 fn write_without_pages<O: Sink>(
     out: &mut O,
     advised: &AdvisedQuery,
     needed: u32,
-    catalog: &Catalog,
-) -> Result<(), WriteFault>
-    ensures { Writes result (O.seen out.old) (O.seen out.new) (queries.pool_text catalog.now advised.now needed) }
+    names: &Names<'_>,
+) -> Written
+    ensures { Writes result (O.seen out.old) (O.seen out.new) (queries.pool_text names.now.catalog.now names.now.from.now advised.now needed) }
 {
-    match write_pool(out, advised.number, &advised.name, needed, advised.free) {
-        Ok(()) => write_pages_of(out, advised, catalog),
-        Err(fault) => Err(fault),
-    }
+    write_pool(out, advised.number, &advised.name, needed, advised.free)?;
+    write_dearest(out, advised.advice.dearest.as_slice(), names)?;
+    write_changes(out, &advised.advice, names)
 }
 
 // A query that is within the limits.
@@ -140,48 +79,53 @@ fn write_accepted<O: Sink>(
     out: &mut O,
     advised: &AdvisedQuery,
     numbers: Numbers,
-    catalog: &Catalog,
-) -> Result<(), WriteFault>
-    ensures { Writes result (O.seen out.old) (O.seen out.new) (queries.accepted_text catalog.now advised.now numbers) }
+    names: &Names<'_>,
+) -> Written
+    ensures { Writes result (O.seen out.old) (O.seen out.new) (queries.accepted_text names.now.catalog.now names.now.from.now advised.now numbers) }
 {
     let needed = page_count(numbers.cells);
     if advised.free < needed {
-        write_without_pages(out, advised, needed, catalog)
+        write_without_pages(out, advised, needed, names)
+    } else if numbers.parts == 0 {
+        write_said(out, advised, NEVER)
+    } else if numbers.parts == 1 {
+        Ok(())
     } else {
-        write_within(out, advised, numbers, catalog)
+        write_parts(out, advised, numbers, names)
     }
 }
 
+// The parts that keep the most cells, and what lifts the limit that refuses the query.
+#[tactic(auto, using(crate::proofs::Texts::writes_behind, crate::proofs::Texts::broke_off, crate::proofs::Texts::stopped))]
+fn write_limit<O: Sink>(out: &mut O, advised: &AdvisedQuery, names: &Names<'_>) -> Written
+    ensures { Writes result (O.seen out.old) (O.seen out.new) (queries.limit_of names.now.catalog.now names.now.from.now advised.now) }
+{
+    write_dearest(out, advised.advice.dearest.as_slice(), names)?;
+    write_lifting(out, &advised.advice, names)
+}
+
 // A query of which a number is above its limit.
-#[tactic(auto, using(crate::proofs::Texts::writes_behind))]
+#[tactic(auto, using(crate::proofs::Texts::writes_behind, crate::proofs::Texts::broke_off, crate::proofs::Texts::stopped))]
 fn write_over<O: Sink>(
     out: &mut O,
     advised: &AdvisedQuery,
     which: Which,
     value: u64,
-    catalog: &Catalog,
-) -> Result<(), WriteFault>
-    ensures { Writes result (O.seen out.old) (O.seen out.new) (queries.above_text catalog.now advised.now which value) }
+    names: &Names<'_>,
+) -> Written
+    ensures { Writes result (O.seen out.old) (O.seen out.new) (queries.above_text names.now.catalog.now names.now.from.now advised.now which value) }
 {
-    match write_above(out, advised.number, &advised.name, which, value) {
-        Ok(()) => write_limit(out, advised, catalog),
-        Err(fault) => Err(fault),
-    }
+    write_above(out, advised.number, &advised.name, which, value)?;
+    write_limit(out, advised, names)
 }
 
 // A query of too many parts.
-#[tactic(auto, using(crate::proofs::Texts::writes_behind))]
-fn write_many_parts<O: Sink>(
-    out: &mut O,
-    advised: &AdvisedQuery,
-    catalog: &Catalog,
-) -> Result<(), WriteFault>
-    ensures { Writes result (O.seen out.old) (O.seen out.new) (queries.many_text catalog.now advised.now) }
+#[tactic(auto, using(crate::proofs::Texts::writes_behind, crate::proofs::Texts::broke_off, crate::proofs::Texts::stopped))]
+fn write_many_parts<O: Sink>(out: &mut O, advised: &AdvisedQuery, names: &Names<'_>) -> Written
+    ensures { Writes result (O.seen out.old) (O.seen out.new) (queries.many_text names.now.catalog.now names.now.from.now advised.now) }
 {
-    match write_query_line(out, advised.number, &advised.name, MANY) {
-        Ok(()) => write_limit(out, advised, catalog),
-        Err(fault) => Err(fault),
-    }
+    write_said(out, advised, MANY)?;
+    write_limit(out, advised, names)
 }
 
 // The condition that a query breaks first.
@@ -191,90 +135,46 @@ fn write_broken<O: Sink>(
     part: u32,
     condition: Condition,
     attr: Attr,
-    catalog: &Catalog,
-) -> Result<(), WriteFault>
-    ensures { Writes result (O.seen out.old) (O.seen out.new) (queries.broken_line catalog.now advised.now part condition attr) }
+    names: &Names<'_>,
+) -> Written
+    ensures { Writes result (O.seen out.old) (O.seen out.new) (queries.broken_line names.now.catalog.now names.now.from.now advised.now part condition attr) }
 {
+    let column = names_of(attr, names);
+    let distinct = advised.query.distinct();
     write_violation(
         out,
         advised.number,
         &advised.name,
         part,
-        advised.query.distinct(),
+        distinct,
         condition,
-        names_of(attr, advised.query.from(), catalog),
+        column,
     )
-}
-
-// What mends the query.
-fn write_mends_of<O: Sink>(
-    out: &mut O,
-    advised: &AdvisedQuery,
-    catalog: &Catalog,
-) -> Result<(), WriteFault>
-    ensures { Writes result (O.seen out.old) (O.seen out.new) (queries.mends_of catalog.now advised.now) }
-{
-    write_mends(out, &advised.advice, advised.query.from(), catalog)
-}
-
-// The chains of a part.
-fn write_chains_of<O: Sink>(
-    out: &mut O,
-    advised: &AdvisedQuery,
-    part: u32,
-    catalog: &Catalog,
-) -> Result<(), WriteFault>
-    ensures { Writes result (O.seen out.old) (O.seen out.new) (queries.chains_of catalog.now advised.now part) }
-{
-    write_chains(
-        out,
-        part,
-        advised.advice.chains.as_slice(),
-        advised.query.from(),
-        catalog,
-    )
-}
-
-// What the part that breaks a condition orders, and what mends the query.
-#[tactic(auto, using(crate::proofs::Texts::writes_behind))]
-fn write_from_chains<O: Sink>(
-    out: &mut O,
-    advised: &AdvisedQuery,
-    part: u32,
-    catalog: &Catalog,
-) -> Result<(), WriteFault>
-    ensures { Writes result (O.seen out.old) (O.seen out.new) (queries.behind_broken catalog.now advised.now part) }
-{
-    match write_chains_of(out, advised, part, catalog) {
-        Ok(()) => write_mends_of(out, advised, catalog),
-        Err(fault) => Err(fault),
-    }
 }
 
 // A query that breaks a condition, what the part orders that breaks it, and what mends the query.
-#[tactic(auto, using(crate::proofs::Texts::writes_behind))]
+#[tactic(auto, using(crate::proofs::Texts::writes_behind, crate::proofs::Texts::broke_off, crate::proofs::Texts::stopped))]
 fn write_refused<O: Sink>(
     out: &mut O,
     advised: &AdvisedQuery,
     part: u32,
     condition: Condition,
     attr: Attr,
-    catalog: &Catalog,
-) -> Result<(), WriteFault>
-    ensures { Writes result (O.seen out.old) (O.seen out.new) (queries.broken_text catalog.now advised.now part condition attr) }
+    names: &Names<'_>,
+) -> Written
+    ensures { Writes result (O.seen out.old) (O.seen out.new) (queries.broken_text names.now.catalog.now names.now.from.now advised.now part condition attr) }
 {
-    match write_broken(out, advised, part, condition, attr, catalog) {
-        Ok(()) => write_from_chains(out, advised, part, catalog),
-        Err(fault) => Err(fault),
-    }
+    write_broken(out, advised, part, condition, attr, names)?;
+    write_chains(out, part, advised.advice.chains.as_slice(), names)?;
+    write_mends(out, &advised.advice, names)
 }
 
 // A filter: nothing, but where no row meets its comparisons.
-fn write_filter<O: Sink>(out: &mut O, advised: &AdvisedQuery) -> Result<(), WriteFault>
+fn write_filter<O: Sink>(out: &mut O, advised: &AdvisedQuery) -> Written
     ensures { Writes result (O.seen out.old) (O.seen out.new) (queries.filter_text advised.now) }
 {
     if advised.advice.never {
-        write_query_line(out, advised.number, &advised.name, NO_ROW)
+        write_said(out, advised, NO_ROW)
     } else {
         Ok(())
     }
@@ -283,22 +183,22 @@ fn write_filter<O: Sink>(out: &mut O, advised: &AdvisedQuery) -> Result<(), Writ
 /// Writes what is said of a query over these streams: nothing where it is accepted and has one part; its numbers, where they are within the limits,
 /// or why it is refused, and then the parts that keep the most cells, or what the part orders that breaks a condition, and the changes that would better
 /// or mend it.
-pub fn write_query<O: Sink>(
-    out: &mut O,
-    advised: &AdvisedQuery,
-    catalog: &Catalog,
-) -> Result<(), WriteFault>
+pub fn write_query<O: Sink>(out: &mut O, advised: &AdvisedQuery, catalog: &Catalog) -> Written
     ensures { Writes result (O.seen out.old) (O.seen out.new) (queries.query_text catalog.now advised.now) }
 {
+    let names = Names {
+        from: advised.query.from(),
+        catalog,
+    };
     match advised.advice.judgement {
         Judgement::Filter => write_filter(out, advised),
-        Judgement::Accepted(numbers) => write_accepted(out, advised, numbers, catalog),
-        Judgement::Above { which, value } => write_over(out, advised, which, value, catalog),
+        Judgement::Accepted(numbers) => write_accepted(out, advised, numbers, &names),
+        Judgement::Above { which, value } => write_over(out, advised, which, value, &names),
         Judgement::Violation {
             part,
             condition,
             attr,
-        } => write_refused(out, advised, part, condition, attr, catalog),
-        Judgement::ManyParts => write_many_parts(out, advised, catalog),
+        } => write_refused(out, advised, part, condition, attr, &names),
+        Judgement::ManyParts => write_many_parts(out, advised, &names),
     }
 }

@@ -13,7 +13,7 @@ use std::alloc::{AllocError, Global};
 use std::marker::Model;
 
 /// The pages of the pool.
-const PAGES: u32 = 16_384;
+pub const PAGES: u32 = 16_384;
 
 /// A lock.
 #[derive(Drop)]

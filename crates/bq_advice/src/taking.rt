@@ -23,10 +23,7 @@ fn pages_for(judgement: Judgement) -> u32
 {
     match judgement {
         Judgement::Accepted(numbers) => page_count(numbers.cells),
-        Judgement::Filter
-        | Judgement::Above { .. }
-        | Judgement::Violation { .. }
-        | Judgement::ManyParts => 0,
+        _ => 0,
     }
 }
 
@@ -37,7 +34,7 @@ fn is_accepted(free: u32, judgement: Judgement) -> bool
     match judgement {
         Judgement::Filter => true,
         Judgement::Accepted(numbers) => free >= page_count(numbers.cells),
-        Judgement::Above { .. } | Judgement::Violation { .. } | Judgement::ManyParts => false,
+        _ => false,
     }
 }
 

@@ -1,7 +1,6 @@
 -- The lines that name columns of a query: changes with its numbers, sets of columns, and ranges.
 use Rattle.std.specs.Prelude.{ℕ, List, [], ◌∷◌, ◌++◌, codes}
 use Rattle.std.specs.List.{flat_map}
-use Rattle.std.specs.Fmt.{signed_decimal}
 use Rattle.std.specs.declared.option.Option.{Option}
 use Rattle.std.specs.declared.option.Option.TheVariants.{None, Some}
 use Rattle.bq_model.specs.declared.atom.Attr.{Attr}
@@ -12,7 +11,9 @@ use Rattle.bq_model.specs.declared.plan.Numbers.{Numbers}
 use Rattle.bq_schema.specs.Streams.{Shape}
 use Rattle.bq_parser.specs.Resolution.{column_named}
 use Rattle.bq_explain.specs.Text.{element_text}
-use Rattle.bq_advice_lines.specs.declared.comparisons.TheConstants.{WITH_AND}
+use Rattle.bq_advice_lines.specs.declared.items.Remedy.{Remedy}
+use Rattle.bq_advice_lines.specs.declared.items.Remedy.TheVariants.{Comparisons, Domains}
+use Rattle.bq_advice_lines.specs.declared.items.TheConstants.{WITH_AND}
 use Rattle.bq_advice_lines.specs.Lines.{numbers_text, op_text, change_head, bounds_item, domain_item, range_text}
 
 -- a column or an integer behind a text
@@ -29,48 +30,35 @@ abbrev pub change_line : List ℕ → Option Numbers → List ℕ
 change_line change None = []
 change_line change (Some numbers) = change_head change ++ numbers_text numbers
 
--- the right side of a comparison behind its sign, and the numbers of the query that has the comparison
-abbrev pub comparison_rest : List Shape → List ℕ → Atom → Numbers → List ℕ
-comparison_rest streams from t numbers = behind streams from (op_text t.op) t.right ++ numbers_text numbers
-
--- with one comparison more, written behind the others
+-- with one comparison more, written behind the others, and the numbers of the query that has it
 abbrev pub comparison_line : List Shape → List ℕ → Atom → Numbers → List ℕ
-comparison_line streams from t numbers = behind streams from WITH_AND.now t.left ++ comparison_rest streams from t numbers
+comparison_line streams from t numbers = behind streams from WITH_AND.now t.left ++ (behind streams from (op_text t.op) t.right ++ numbers_text numbers)
 
 -- two comparisons on a column
 abbrev pub bounded : List Shape → List ℕ → Attr → List ℕ
 bounded streams from a = bounds_item (column_named streams from a)
 
--- a domain on a column
-abbrev pub in_domain : List Shape → List ℕ → Attr → List ℕ
-in_domain streams from a = domain_item (column_named streams from a)
-
 -- two comparisons on each column of a set
 abbrev pub bounds_items : List Shape → List ℕ → List Attr → List ℕ
 bounds_items streams from set = flat_map (bounded streams from) set
 
--- how a line of comparisons and one of domains begin
-unfoldable pub bounds_head : List ℕ
-bounds_head = codes "    mended by"
+-- how a line of a set of columns begins
+unfoldable pub remedy_text : Remedy → List ℕ
+remedy_text Comparisons = codes "    mended by"
+remedy_text Domains = codes "    mended at CREATE STREAM by"
 
-unfoldable pub domains_head : List ℕ
-domains_head = codes "    mended at CREATE STREAM by"
+-- two comparisons or a domain on a column
+abbrev pub remedy_on : Remedy → List Shape → List ℕ → Attr → List ℕ
+remedy_on Comparisons streams from a = bounded streams from a
+remedy_on Domains streams from a = domain_item (column_named streams from a)
 
--- mended by two comparisons on each column of a set
-abbrev pub bounds_line : List Shape → List ℕ → List Attr → List ℕ
-bounds_line streams from set = bounds_head ++ (bounds_items streams from set ++ 10 ∷ [])
-
--- a domain on each column of a set
-abbrev pub domain_items : List Shape → List ℕ → List Attr → List ℕ
-domain_items streams from set = flat_map (in_domain streams from) set
-
--- mended by a domain on each column of a set, where its stream is created
-abbrev pub domains_line : List Shape → List ℕ → List Attr → List ℕ
-domains_line streams from set = domains_head ++ (domain_items streams from set ++ 10 ∷ [])
+-- mended by two comparisons on each column of a set, or by a domain on each where its stream is created
+abbrev pub set_line : Remedy → List Shape → List ℕ → List Attr → List ℕ
+set_line remedy streams from set = remedy_text remedy ++ (flat_map (remedy_on remedy streams from) set ++ 10 ∷ [])
 
 -- a column with its least and greatest value, behind a text
 abbrev pub range_item : List Shape → List ℕ → List ℕ → Dim → List ℕ
-range_item streams from lead d = range_text lead (column_named streams from d.attr) (signed_decimal d.lo) (signed_decimal d.hi)
+range_item streams from lead d = range_text lead (column_named streams from d.attr) d.lo d.hi
 
 -- the first range, and one behind another
 abbrev pub first_range : List Shape → List ℕ → Dim → List ℕ

@@ -1,5 +1,6 @@
--- The lines and the pieces of lines that tell names and numbers, each by its pieces.
-use Rattle.std.specs.Prelude.{ℕ, ◌-◌, ◌^◌, nat_eq, Bool, true, false, if◌then◌else◌, List, [], ◌∷◌, ◌++◌, codes, decimal}
+-- The lines and the pieces of lines that tell names and numbers, each a template with its holes filled.
+use Rattle.std.specs.Prelude.{ℕ, ◌-◌, ◌^◌, ℤ, nat_eq, Bool, true, false, if◌then◌else◌, List, [], ◌∷◌, ◌++◌, codes, decimal}
+use Rattle.std.specs.Fmt.{signed_decimal}
 use Rattle.bq_model.specs.declared.condition.Condition.{Condition}
 use Rattle.bq_model.specs.declared.condition.Condition.TheVariants.{C1, C2, C3}
 use Rattle.bq_model.specs.declared.atom.Op.{Op}
@@ -9,6 +10,8 @@ use Rattle.bq_model.specs.declared.plan.Numbers.{Numbers}
 use Rattle.bq_model.specs.Verdict.{most}
 use Rattle.bq_parser.specs.declared.tree.ColumnAst.{ColumnAst}
 use Rattle.bq_reply.specs.Texts.{condition_text, which_text}
+use Rattle.bq_templates.specs.Template.{filled}
+use Rattle.bq_advice_lines.specs.declared.templates.TheConstants.{NUMBERS, QUERY, POOL, ABOVE, VIOLATION, CHANGE, DOMAIN, PART, KEPT, MOST_KEPT, RANGE}
 
 -- some pieces, one behind another
 abbrev pub text_of : List (List ℕ) → List ℕ
@@ -17,16 +20,15 @@ text_of (piece ∷ others) = piece ++ text_of others
 
 -- the four numbers of a query behind its name, or behind a change, and the end of the line
 unfoldable pub numbers_text : Numbers → List ℕ
-numbers_text n = text_of (codes ": parts " ∷ decimal n.parts ∷ codes " cells " ∷ decimal n.cells ∷ codes " answers " ∷ decimal n.answers ∷ codes " work " ∷ decimal n.work ∷ codes "\n" ∷ [])
+numbers_text n = filled NUMBERS.now (decimal n.parts ∷ decimal n.cells ∷ decimal n.answers ∷ decimal n.work ∷ [])
 
 -- the query of a line, as `line 5: query wide`, and what is said of it
 unfoldable pub query_line : ℕ → List ℕ → List ℕ → List ℕ
-query_line number name behind = text_of (codes "line " ∷ decimal number ∷ codes ": query " ∷ name ∷ behind ∷ [])
+query_line number name behind = filled QUERY.now (decimal number ∷ name ∷ behind ∷ [])
 
 -- a query whose pages are not free
 unfoldable pub pool_line : ℕ → List ℕ → ℕ → ℕ → List ℕ
-pool_line number name needed free =
-    text_of (codes "line " ∷ decimal number ∷ codes ": query " ∷ name ∷ codes " is refused: pages " ∷ decimal needed ∷ codes " of " ∷ decimal free ∷ codes " that are free\n" ∷ [])
+pool_line number name needed free = filled POOL.now (decimal number ∷ name ∷ decimal needed ∷ decimal free ∷ [])
 
 -- whether a number of 64 bits is the greatest of them, which stands for all numbers from there on
 abbrev pub is_capped : ℕ → Bool
@@ -38,8 +40,7 @@ at_least value = if is_capped value then codes "at least " else []
 
 -- a query of which a number is above its limit
 unfoldable pub above_line : ℕ → List ℕ → Which → ℕ → List ℕ
-above_line number name which value =
-    text_of (codes "line " ∷ decimal number ∷ codes ": query " ∷ name ∷ codes " is refused: " ∷ which_text which ∷ codes " " ∷ at_least value ∷ decimal value ∷ codes " of " ∷ decimal (most which) ∷ codes "\n" ∷ [])
+above_line number name which value = filled ABOVE.now (decimal number ∷ name ∷ which_text which ∷ at_least value ∷ decimal value ∷ decimal (most which) ∷ [])
 
 -- why a column breaks a condition, by whether an answer counts once
 abbrev pub reason_text : Bool → Condition → List ℕ
@@ -52,8 +53,7 @@ reason_text false C3 = codes " is compared with a column of another stream and n
 
 -- a query that breaks a condition first in this part and at this column
 unfoldable pub violation_line : ℕ → List ℕ → ℕ → Bool → Condition → ColumnAst → List ℕ
-violation_line number name part distinct condition c =
-    text_of (codes "line " ∷ decimal number ∷ codes ": query " ∷ name ∷ codes " is refused: " ∷ condition_text condition ∷ codes " in part " ∷ decimal part ∷ codes ", " ∷ c.stream ∷ codes "." ∷ c.column ∷ reason_text distinct condition ∷ [])
+violation_line number name part distinct condition c = filled VIOLATION.now (decimal number ∷ name ∷ condition_text condition ∷ decimal part ∷ c.stream ∷ c.column ∷ reason_text distinct condition ∷ [])
 
 -- a comparison between two spaces
 abbrev pub op_text : Op → List ℕ
@@ -66,7 +66,7 @@ op_text op.Ne = codes " <> "
 
 -- a change that has a name
 unfoldable pub change_head : List ℕ → List ℕ
-change_head change = text_of (codes "    with " ∷ change ∷ [])
+change_head change = filled CHANGE.now (change ∷ [])
 
 -- a column between two integers
 unfoldable pub bounds_item : ColumnAst → List ℕ
@@ -74,11 +74,11 @@ bounds_item c = text_of (codes " AND " ∷ c.stream ∷ codes "." ∷ c.column �
 
 -- a column in a domain
 unfoldable pub domain_item : ColumnAst → List ℕ
-domain_item c = text_of (codes " " ∷ c.stream ∷ codes "." ∷ c.column ∷ codes " IN LO..HI" ∷ [])
+domain_item c = filled DOMAIN.now (c.stream ∷ c.column ∷ [])
 
 -- that a part has the elements that follow, as `  part 23 has`
 unfoldable pub part_head : ℕ → List ℕ
-part_head part = text_of (codes "  part " ∷ decimal part ∷ codes " has" ∷ [])
+part_head part = filled PART.now (decimal part ∷ [])
 
 -- what stands behind a number of cells
 abbrev pub cells_text : ℕ → List ℕ
@@ -92,12 +92,12 @@ is_alone cells kept = if is_capped cells then false else nat_eq cells kept
 unfoldable pub kept_head : ℕ → ℕ → ℕ → List ℕ → List ℕ
 kept_head part cells kept stream =
     if is_alone cells kept
-    then text_of (codes "  part " ∷ decimal part ∷ codes " keeps " ∷ decimal cells ∷ cells_text cells ∷ stream ∷ [])
-    else text_of (codes "  part " ∷ decimal part ∷ codes " keeps " ∷ at_least cells ∷ decimal cells ∷ codes " cells, " ∷ at_least kept ∷ decimal kept ∷ codes " of them of " ∷ stream ∷ [])
+    then filled KEPT.now (decimal part ∷ decimal cells ∷ cells_text cells ∷ stream ∷ [])
+    else filled MOST_KEPT.now (decimal part ∷ at_least cells ∷ decimal cells ∷ at_least kept ∷ decimal kept ∷ stream ∷ [])
 
--- a column with its least and greatest value, by their texts, behind a text
-unfoldable pub range_text : List ℕ → ColumnAst → List ℕ → List ℕ → List ℕ
-range_text lead c lo hi = text_of (lead ∷ c.stream ∷ codes "." ∷ c.column ∷ codes " " ∷ lo ∷ codes ".." ∷ hi ∷ [])
+-- a column with its least and greatest value behind a text
+unfoldable pub range_text : List ℕ → ColumnAst → ℤ → ℤ → List ℕ
+range_text lead c lo hi = filled RANGE.now (lead ∷ c.stream ∷ c.column ∷ signed_decimal lo ∷ signed_decimal hi ∷ [])
 
 -- a text where it is due
 abbrev pub text_if : Bool → List ℕ → List ℕ

@@ -4,19 +4,14 @@
 //! with the numbers of the query that has it, sets of columns, and the ranges of columns. What a query comes to, and which lines are due, is decided above.
 #![tactic(auto)]
 
-mod comparisons;
-mod elements;
+mod items;
 mod lines;
 mod names;
-mod ranges;
-mod sets;
+mod templates;
 
-pub use comparisons::{write_change, write_comparison};
-pub use elements::write_element;
+pub use items::{Remedy, write_change, write_comparison, write_element, write_ranges, write_set};
 pub use lines::{
     write_above, write_if, write_kept, write_numbers, write_part, write_pool, write_query_line,
     write_violation,
 };
-pub use names::{Named, names_of, stream_at};
-pub use ranges::write_ranges;
-pub use sets::{write_bounds_line, write_domains_line};
+pub use names::{Named, Names, names_of, stream_at};

@@ -1,132 +1,62 @@
-//! The lines and the pieces of lines that tell names and numbers. Each is one call that writes a list of pieces.
-ghost use Rattle.std.specs.Prelude.{◌≡◌, ◌∷◌, [], codes};
+//! The lines and the pieces of lines that tell names and numbers. Each is a template with its holes filled.
+ghost use Rattle.std.specs.Prelude.{◌≡◌};
 ghost use Rattle.bq_io.specs.Sink.{Writes};
 ghost use Rattle.bq_model.specs.Verdict.{most};
 ghost use Rattle.bq_reply.specs.Texts as texts;
 ghost use Rattle.bq_advice_lines.specs.Lines as line;
 
 use crate::names::Named;
-use bq_io::{Sink, WriteFault, write_all, write_pieces};
-use bq_model::{Condition, Numbers, Op, Which};
+use crate::templates;
+use bq_io::{Sink, write_all, write_pieces};
+use bq_model::{Condition, Dim, Numbers, Op, Which};
+use bq_reply::condition_text;
+use bq_templates::{Filling, Written, write_filled};
 use bq_text::Name;
-use itoa::Buffer;
-
-// The four numbers, by their digits.
-fn write_digits<'a, O: Sink>(
-    out: &mut O,
-    parts: &'a [u8],
-    cells: &'a [u8],
-    answers: &'a [u8],
-    work: &'a [u8],
-) -> Result<(), WriteFault>
-    ensures { Writes result (O.seen out.old) (O.seen out.new)
-        (line.text_of (codes ": parts " ∷ parts.now ∷ codes " cells " ∷ cells.now ∷ codes " answers " ∷ answers.now ∷ codes " work " ∷ work.now ∷ codes "\n" ∷ [])) }
-{
-    let pieces: [&[u8]; 9] = [
-        b": parts ",
-        parts,
-        b" cells ",
-        cells,
-        b" answers ",
-        answers,
-        b" work ",
-        work,
-        b"\n",
-    ];
-    write_pieces(out, &pieces)
-}
 
 /// Writes the four numbers of a query: `: parts 1 cells 1998 answers 999 work 1`.
 #[tactic(auto, unfolding(crate::specs::Lines::numbers_text))]
-pub fn write_numbers<O: Sink>(out: &mut O, numbers: Numbers) -> Result<(), WriteFault>
+pub fn write_numbers<O: Sink>(out: &mut O, numbers: Numbers) -> Written
     ensures { Writes result (O.seen out.old) (O.seen out.new) (line.numbers_text numbers) }
 {
-    let mut parts = Buffer::new();
-    let mut cells = Buffer::new();
-    let mut answers = Buffer::new();
-    let mut work = Buffer::new();
-    write_digits(
-        out,
-        parts.format(numbers.parts).as_bytes(),
-        cells.format(numbers.cells).as_bytes(),
-        answers.format(numbers.answers).as_bytes(),
-        work.format(numbers.work).as_bytes(),
-    )
-}
-
-// The query of a line, by the text of its number.
-fn write_line_text<'a, O: Sink>(
-    out: &mut O,
-    number: &'a [u8],
-    name: &'a [u8],
-    behind: &'a [u8],
-) -> Result<(), WriteFault>
-    ensures { Writes result (O.seen out.old) (O.seen out.new) (line.text_of (codes "line " ∷ number.now ∷ codes ": query " ∷ name.now ∷ behind.now ∷ [])) }
-{
-    let pieces: [&[u8]; 5] = [b"line ", number, b": query ", name, behind];
-    write_pieces(out, &pieces)
+    let fillings = [
+        Filling::Count(numbers.parts),
+        Filling::Count(numbers.cells),
+        Filling::Count(numbers.answers),
+        Filling::Count(numbers.work),
+    ];
+    write_filled(out, templates::NUMBERS, &fillings)
 }
 
 /// Writes the query of a line, and what is said of it: `line 5: query wide`.
 #[tactic(auto, unfolding(crate::specs::Lines::query_line))]
-pub fn write_query_line<O: Sink>(
+pub fn write_query_line<'a, O: Sink>(
     out: &mut O,
     number: u64,
-    name: &Name,
-    behind: &[u8],
-) -> Result<(), WriteFault>
+    name: &'a Name,
+    behind: &'a [u8],
+) -> Written
     ensures { Writes result (O.seen out.old) (O.seen out.new) (line.query_line number name.now behind.now) }
 {
-    let mut buffer = Buffer::new();
-    write_line_text(out, buffer.format(number).as_bytes(), name.bytes(), behind)
-}
-
-// The pages that a query needs and those that are free, by the texts of the numbers.
-fn write_pool_text<'a, O: Sink>(
-    out: &mut O,
-    number: &'a [u8],
-    name: &'a [u8],
-    needed: &'a [u8],
-    free: &'a [u8],
-) -> Result<(), WriteFault>
-    ensures { Writes result (O.seen out.old) (O.seen out.new)
-        (line.text_of (codes "line " ∷ number.now ∷ codes ": query " ∷ name.now ∷ codes " is refused: pages " ∷ needed.now ∷ codes " of " ∷ free.now ∷ codes " that are free\n" ∷ [])) }
-{
-    let pieces: [&[u8]; 9] = [
-        b"line ",
-        number,
-        b": query ",
-        name,
-        b" is refused: pages ",
-        needed,
-        b" of ",
-        free,
-        b" that are free\n",
+    let fillings = [
+        Filling::Number(number),
+        Filling::Text(name.bytes()),
+        Filling::Text(behind),
     ];
-    write_pieces(out, &pieces)
+    write_filled(out, templates::QUERY, &fillings)
 }
 
 /// Writes that a query needs more pages than are free.
 #[tactic(auto, unfolding(crate::specs::Lines::pool_line))]
-pub fn write_pool<O: Sink>(
-    out: &mut O,
-    number: u64,
-    name: &Name,
-    needed: u32,
-    free: u32,
-) -> Result<(), WriteFault>
+pub fn write_pool<O: Sink>(out: &mut O, number: u64, name: &Name, needed: u32, free: u32) -> Written
     ensures { Writes result (O.seen out.old) (O.seen out.new) (line.pool_line number name.now needed free) }
 {
-    let mut buffer = Buffer::new();
-    let mut pages = Buffer::new();
-    let mut others = Buffer::new();
-    write_pool_text(
-        out,
-        buffer.format(number).as_bytes(),
-        name.bytes(),
-        pages.format(needed).as_bytes(),
-        others.format(free).as_bytes(),
-    )
+    let fillings = [
+        Filling::Number(number),
+        Filling::Text(name.bytes()),
+        Filling::Count(needed),
+        Filling::Count(free),
+    ];
+    write_filled(out, templates::POOL, &fillings)
 }
 
 fn which_text(which: Which) -> &'static [u8]
@@ -166,36 +96,6 @@ fn at_least(value: u64) -> &'static [u8]
     if is_capped(value) { b"at least " } else { b"" }
 }
 
-// A number above its limit, by the texts of both, and what stands before it.
-fn write_above_text<'a, O: Sink>(
-    out: &mut O,
-    number: &'a [u8],
-    name: &'a [u8],
-    which: &'a [u8],
-    lead: &'a [u8],
-    value: &'a [u8],
-    most: &'a [u8],
-) -> Result<(), WriteFault>
-    ensures { Writes result (O.seen out.old) (O.seen out.new)
-        (line.text_of (codes "line " ∷ number.now ∷ codes ": query " ∷ name.now ∷ codes " is refused: " ∷ which.now ∷ codes " " ∷ lead.now ∷ value.now ∷ codes " of " ∷ most.now ∷ codes "\n" ∷ [])) }
-{
-    let pieces: [&[u8]; 12] = [
-        b"line ",
-        number,
-        b": query ",
-        name,
-        b" is refused: ",
-        which,
-        b" ",
-        lead,
-        value,
-        b" of ",
-        most,
-        b"\n",
-    ];
-    write_pieces(out, &pieces)
-}
-
 /// Writes that a number of a query is above its limit; the greatest of 64 bits stands for all from there on.
 #[tactic(auto, unfolding(crate::specs::Lines::above_line))]
 pub fn write_above<O: Sink>(
@@ -204,31 +104,18 @@ pub fn write_above<O: Sink>(
     name: &Name,
     which: Which,
     value: u64,
-) -> Result<(), WriteFault>
+) -> Written
     ensures { Writes result (O.seen out.old) (O.seen out.new) (line.above_line number name.now which value) }
 {
-    let mut buffer = Buffer::new();
-    let mut digits = Buffer::new();
-    let mut limit = Buffer::new();
-    write_above_text(
-        out,
-        buffer.format(number).as_bytes(),
-        name.bytes(),
-        which_text(which),
-        at_least(value),
-        digits.format(value).as_bytes(),
-        limit.format(most_of(which)).as_bytes(),
-    )
-}
-
-fn condition_text(condition: Condition) -> &'static [u8]
-    ensures { result.now ≡ texts.condition_text condition }
-{
-    match condition {
-        Condition::C1 => b"C1",
-        Condition::C2 => b"C2",
-        Condition::C3 => b"C3",
-    }
+    let fillings = [
+        Filling::Number(number),
+        Filling::Text(name.bytes()),
+        Filling::Fixed(which_text(which)),
+        Filling::Fixed(at_least(value)),
+        Filling::Number(value),
+        Filling::Count(most_of(which)),
+    ];
+    write_filled(out, templates::ABOVE, &fillings)
 }
 
 // Why a column breaks a condition, by whether an answer counts once.
@@ -248,61 +135,29 @@ fn reason_text(distinct: bool, condition: Condition) -> &'static [u8]
     }
 }
 
-// A violation, by the texts of its parts.
-fn write_violation_text<'a, O: Sink>(
-    out: &mut O,
-    number: &'a [u8],
-    name: &'a [u8],
-    part: &'a [u8],
-    condition: &'a [u8],
-    column: Named<'a>,
-    reason: &'a [u8],
-) -> Result<(), WriteFault>
-    ensures { Writes result (O.seen out.old) (O.seen out.new)
-        (line.text_of (codes "line " ∷ number.now ∷ codes ": query " ∷ name.now ∷ codes " is refused: " ∷ condition.now ∷ codes " in part " ∷ part.now ∷ codes ", " ∷ column.entry.stream.now ∷ codes "." ∷ column.entry.column.now ∷ reason.now ∷ [])) }
-{
-    let pieces: [&[u8]; 13] = [
-        b"line ",
-        number,
-        b": query ",
-        name,
-        b" is refused: ",
-        condition,
-        b" in part ",
-        part,
-        b", ",
-        column.stream,
-        b".",
-        column.column,
-        reason,
-    ];
-    write_pieces(out, &pieces)
-}
-
 /// Writes that a query breaks a condition first in this part and at this column.
 #[tactic(auto, unfolding(crate::specs::Lines::violation_line))]
-pub fn write_violation<O: Sink>(
+pub fn write_violation<'a, O: Sink>(
     out: &mut O,
     number: u64,
-    name: &Name,
+    name: &'a Name,
     part: u32,
     distinct: bool,
     condition: Condition,
-    column: Named<'_>,
-) -> Result<(), WriteFault>
+    column: Named<'a>,
+) -> Written
     ensures { Writes result (O.seen out.old) (O.seen out.new) (line.violation_line number name.now part distinct condition (record { stream = column.entry.stream.now; column = column.entry.column.now })) }
 {
-    let mut buffer = Buffer::new();
-    let mut digits = Buffer::new();
-    write_violation_text(
-        out,
-        buffer.format(number).as_bytes(),
-        name.bytes(),
-        digits.format(part).as_bytes(),
-        condition_text(condition),
-        column,
-        reason_text(distinct, condition),
-    )
+    let fillings = [
+        Filling::Number(number),
+        Filling::Text(name.bytes()),
+        Filling::Fixed(condition_text(condition)),
+        Filling::Count(part),
+        Filling::Text(column.stream),
+        Filling::Text(column.column),
+        Filling::Fixed(reason_text(distinct, condition)),
+    ];
+    write_filled(out, templates::VIOLATION, &fillings)
 }
 
 /// Returns a comparison between two spaces.
@@ -321,27 +176,27 @@ pub fn op_text(op: Op) -> &'static [u8]
 
 /// Writes a change that has a name: `    with COMPACT`.
 #[tactic(auto, unfolding(crate::specs::Lines::change_head))]
-pub fn write_change_head<O: Sink>(out: &mut O, change: &[u8]) -> Result<(), WriteFault>
+pub fn write_change_head<O: Sink>(out: &mut O, change: &[u8]) -> Written
     ensures { Writes result (O.seen out.old) (O.seen out.new) (line.change_head change.now) }
 {
-    let pieces: [&[u8]; 2] = [b"    with ", change];
-    write_pieces(out, &pieces)
+    write_filled(out, templates::CHANGE, &[Filling::Text(change)])
 }
 
 /// Writes a column between two integers: ` AND S.a > LO AND S.a < HI`.
 #[tactic(auto, unfolding(crate::specs::Lines::bounds_item))]
-pub fn write_bounds_item<O: Sink>(out: &mut O, column: Named<'_>) -> Result<(), WriteFault>
+pub fn write_bounds_item<O: Sink>(out: &mut O, column: Named<'_>) -> Written
     ensures { Writes result (O.seen out.old) (O.seen out.new) (line.bounds_item (record { stream = column.entry.stream.now; column = column.entry.column.now })) }
 {
+    let (stream, name) = (column.stream, column.column);
     let pieces: [&[u8]; 9] = [
         b" AND ",
-        column.stream,
+        stream,
         b".",
-        column.column,
+        name,
         b" > LO AND ",
-        column.stream,
+        stream,
         b".",
-        column.column,
+        name,
         b" < HI",
     ];
     write_pieces(out, &pieces)
@@ -349,64 +204,19 @@ pub fn write_bounds_item<O: Sink>(out: &mut O, column: Named<'_>) -> Result<(), 
 
 /// Writes a column in a domain: ` S.a IN LO..HI`.
 #[tactic(auto, unfolding(crate::specs::Lines::domain_item))]
-pub fn write_domain_item<O: Sink>(out: &mut O, column: Named<'_>) -> Result<(), WriteFault>
+pub fn write_domain_item<O: Sink>(out: &mut O, column: Named<'_>) -> Written
     ensures { Writes result (O.seen out.old) (O.seen out.new) (line.domain_item (record { stream = column.entry.stream.now; column = column.entry.column.now })) }
 {
-    let pieces: [&[u8]; 5] = [b" ", column.stream, b".", column.column, b" IN LO..HI"];
-    write_pieces(out, &pieces)
+    let fillings = [Filling::Text(column.stream), Filling::Text(column.column)];
+    write_filled(out, templates::DOMAIN, &fillings)
 }
 
 /// Writes that a part has the elements that follow: `  part 23 has`.
 #[tactic(auto, unfolding(crate::specs::Lines::part_head))]
-pub fn write_part<O: Sink>(out: &mut O, part: u32) -> Result<(), WriteFault>
+pub fn write_part<O: Sink>(out: &mut O, part: u32) -> Written
     ensures { Writes result (O.seen out.old) (O.seen out.new) (line.part_head part) }
 {
-    let mut buffer = Buffer::new();
-    let pieces: [&[u8]; 3] = [b"  part ", buffer.format(part).as_bytes(), b" has"];
-    write_pieces(out, &pieces)
-}
-
-// That all cells of a part are of one stream, by the texts of the numbers.
-fn write_all_kept<'a, O: Sink>(
-    out: &mut O,
-    part: &'a [u8],
-    cells: &'a [u8],
-    word: &'a [u8],
-    stream: &'a [u8],
-) -> Result<(), WriteFault>
-    ensures { Writes result (O.seen out.old) (O.seen out.new)
-        (line.text_of (codes "  part " ∷ part.now ∷ codes " keeps " ∷ cells.now ∷ word.now ∷ stream.now ∷ [])) }
-{
-    let pieces: [&[u8]; 6] = [b"  part ", part, b" keeps ", cells, word, stream];
-    write_pieces(out, &pieces)
-}
-
-// How many cells of a part are of one stream, by the texts of the numbers and what stands before them.
-fn write_most_kept<'a, O: Sink>(
-    out: &mut O,
-    part: &'a [u8],
-    lead: &'a [u8],
-    cells: &'a [u8],
-    lead_kept: &'a [u8],
-    kept: &'a [u8],
-    stream: &'a [u8],
-) -> Result<(), WriteFault>
-    ensures { Writes result (O.seen out.old) (O.seen out.new)
-        (line.text_of (codes "  part " ∷ part.now ∷ codes " keeps " ∷ lead.now ∷ cells.now ∷ codes " cells, " ∷ lead_kept.now ∷ kept.now ∷ codes " of them of " ∷ stream.now ∷ [])) }
-{
-    let pieces: [&[u8]; 10] = [
-        b"  part ",
-        part,
-        b" keeps ",
-        lead,
-        cells,
-        b" cells, ",
-        lead_kept,
-        kept,
-        b" of them of ",
-        stream,
-    ];
-    write_pieces(out, &pieces)
+    write_filled(out, templates::PART, &[Filling::Count(part)])
 }
 
 // What stands behind the number of cells.
@@ -430,61 +240,51 @@ fn is_alone(cells: u64, kept: u64) -> bool
 /// Writes how many cells a part keeps, and of which stream so many of them are: `  part 5 keeps 1369 cells: Temp`, or
 /// `  part 5 keeps 2738 cells, 1369 of them of Temp`.
 #[tactic(auto, unfolding(crate::specs::Lines::kept_head))]
-pub fn write_kept<O: Sink>(
-    out: &mut O,
-    part: u32,
-    cells: u64,
-    kept: u64,
-    stream: &[u8],
-) -> Result<(), WriteFault>
+pub fn write_kept<O: Sink>(out: &mut O, part: u32, cells: u64, kept: u64, stream: &[u8]) -> Written
     ensures { Writes result (O.seen out.old) (O.seen out.new) (line.kept_head part cells kept stream.now) }
 {
-    let mut number = Buffer::new();
-    let mut all = Buffer::new();
-    let mut some = Buffer::new();
-    let number = number.format(part).as_bytes();
-    let all = all.format(cells).as_bytes();
     if is_alone(cells, kept) {
-        write_all_kept(out, number, all, cells_text(cells), stream)
-    } else {
-        write_most_kept(
-            out,
-            number,
-            at_least(cells),
-            all,
-            at_least(kept),
-            some.format(kept).as_bytes(),
-            stream,
-        )
+        let fillings = [
+            Filling::Count(part),
+            Filling::Number(cells),
+            Filling::Fixed(cells_text(cells)),
+            Filling::Text(stream),
+        ];
+        return write_filled(out, templates::KEPT, &fillings);
     }
+    let fillings = [
+        Filling::Count(part),
+        Filling::Fixed(at_least(cells)),
+        Filling::Number(cells),
+        Filling::Fixed(at_least(kept)),
+        Filling::Number(kept),
+        Filling::Text(stream),
+    ];
+    write_filled(out, templates::MOST_KEPT, &fillings)
 }
 
-/// Writes a column with its least and greatest value, by their texts, behind a text: `, S.b 3..39`.
+/// Writes a column with its least and greatest value behind a text: `, S.b 3..39`.
 #[tactic(auto, unfolding(crate::specs::Lines::range_text))]
-pub fn write_range_text<'a, O: Sink>(
+pub fn write_range<'a, O: Sink>(
     out: &mut O,
     lead: &'a [u8],
     column: Named<'a>,
-    lo: &'a [u8],
-    hi: &'a [u8],
-) -> Result<(), WriteFault>
-    ensures { Writes result (O.seen out.old) (O.seen out.new) (line.range_text lead.now (record { stream = column.entry.stream.now; column = column.entry.column.now }) lo.now hi.now) }
+    dim: &Dim,
+) -> Written
+    ensures { Writes result (O.seen out.old) (O.seen out.new) (line.range_text lead.now (record { stream = column.entry.stream.now; column = column.entry.column.now }) dim.now.lo dim.now.hi) }
 {
-    let pieces: [&[u8]; 8] = [
-        lead,
-        column.stream,
-        b".",
-        column.column,
-        b" ",
-        lo,
-        b"..",
-        hi,
+    let fillings = [
+        Filling::Text(lead),
+        Filling::Text(column.stream),
+        Filling::Text(column.column),
+        Filling::Integer(dim.lo),
+        Filling::Integer(dim.hi),
     ];
-    write_pieces(out, &pieces)
+    write_filled(out, templates::RANGE, &fillings)
 }
 
 /// Writes a text where it is due.
-pub fn write_if<O: Sink>(out: &mut O, due: bool, text: &[u8]) -> Result<(), WriteFault>
+pub fn write_if<O: Sink>(out: &mut O, due: bool, text: &[u8]) -> Written
     ensures { Writes result (O.seen out.old) (O.seen out.new) (line.text_if due text.now) }
 {
     if due { write_all(out, text) } else { Ok(()) }

@@ -7,6 +7,13 @@ ghost use Rattle.bq_parser.specs.Resolution as resolution;
 use bq_model::Attr;
 use bq_schema::Catalog;
 
+/// The streams of a query: their numbers in the order of FROM, and the catalog that names them.
+#[derive(Clone, Copy)]
+pub struct Names<'a> {
+    pub from: &'a [u8],
+    pub catalog: &'a Catalog,
+}
+
 /// A column by its names.
 #[derive(Clone, Copy)]
 pub struct Named<'a> {
@@ -48,20 +55,20 @@ fn column_name(catalog: &Catalog, number: u8, column: u8) -> &[u8]
 }
 
 /// Returns the name of the stream at a place of FROM, and nothing where there is none.
-pub fn stream_at<'a>(place: u8, from: &[u8], catalog: &'a Catalog) -> &'a [u8]
-    ensures { result.now ≡ stream_named catalog.now (slice_index from.now place) }
+pub fn stream_at<'a>(place: u8, names: &Names<'a>) -> &'a [u8]
+    ensures { result.now ≡ stream_named names.now.catalog.now (slice_index names.now.from.now place) }
 {
-    stream_name(catalog, number_at(from, place))
+    stream_name(names.catalog, number_at(names.from, place))
 }
 
-/// Returns a column of a query over these streams of FROM by its names, and nothing for a name that is not there.
-pub fn names_of<'a>(attr: Attr, from: &[u8], catalog: &'a Catalog) -> Named<'a>
-    ensures stream { result.stream.now ≡ (resolution.column_named catalog.now from.now attr).stream }
-    ensures column { result.column.now ≡ (resolution.column_named catalog.now from.now attr).column }
+/// Returns a column of a query by its names, and nothing for a name that is not there.
+pub fn names_of<'a>(attr: Attr, names: &Names<'a>) -> Named<'a>
+    ensures stream { result.stream.now ≡ (resolution.column_named names.now.catalog.now names.now.from.now attr).stream }
+    ensures column { result.column.now ≡ (resolution.column_named names.now.catalog.now names.now.from.now attr).column }
 {
-    let number = number_at(from, attr.stream);
+    let number = number_at(names.from, attr.stream);
     Named {
-        stream: stream_name(catalog, number),
-        column: column_name(catalog, number, attr.column),
+        stream: stream_name(names.catalog, number),
+        column: column_name(names.catalog, number, attr.column),
     }
 }

@@ -1,8 +1,11 @@
 //! What the analysis says of the lines of its input, for the worked cases beside it: one line of output for each.
 //!
-//! A line is a letter, a space and a text. `c` creates the stream of a statement, `p` asks for the number of ordered parts of the
-//! query of a statement, `r` for what is told of each of them, `n` for the numbers of its plan, and `b` for what difference bounds imply: the text has the number of
-//! nodes, and then left node, right node and bound of each constraint, all behind one another with commas between.
+//! A line is a letter, a space and a text, or `f` alone, which forgets all streams. `c` creates the stream of a statement, `p` asks for the number of
+//! ordered parts of the query of a statement, `r` for what is told of each of them, `n` for the numbers of its plan, and `b` for what difference bounds
+//! imply: the text has the number of nodes, and then left node, right node and bound of each constraint, all behind one another with commas between.
+//! `w` asks for the whole form of a query: that its system contradicts itself, the first condition that it breaks and the column that shows it, or the
+//! numbers of its one part, its links, what is kept of each stream, and what the rows of the streams are asked. A column is written as the place of its
+//! stream in FROM, a point and its own place.
 #![tactic(auto)]
 
 mod bounds;
@@ -11,12 +14,14 @@ mod links;
 mod numbers;
 mod parts;
 mod query;
+mod whole;
 
 use crate::bounds::show_bounds;
 use crate::fault::Fault;
 use crate::links::show_refs;
 use crate::numbers::show_planned;
 use crate::parts::{show_parts, show_stream};
+use crate::whole::show_whole;
 use bq_io::{Sink, StdSink, write_all};
 use bq_schema::Catalog;
 use bq_text::first_line;
@@ -35,7 +40,12 @@ fn show<O: Sink>(
         [b'p', b' ', text @ ..] => show_parts(alloc, catalog, text, out)?,
         [b'r', b' ', text @ ..] => show_refs(alloc, catalog, text, out)?,
         [b'n', b' ', text @ ..] => show_planned(alloc, catalog, text, out)?,
+        [b'f'] => {
+            *catalog = Catalog::new(alloc)?;
+            write_all(out, b"no streams")?;
+        }
         [b'b', b' ', text @ ..] => show_bounds(alloc, text, out)?,
+        [b'w', b' ', text @ ..] => show_whole(alloc, catalog, text, out)?,
         _ => return Err(Fault::Line),
     }
     write_all(out, b"\n")?;

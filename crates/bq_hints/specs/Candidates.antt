@@ -37,7 +37,7 @@ sample_of Lock = codes "LOCK 0"
 sample_of Unlock = codes "UNLOCK 0"
 sample_of To = codes "TO x"
 
--- how the candidate is told
+-- how the candidate is told: a word or a parenthesis as it is tried
 abbrev pub told_as : Candidate → List ℕ
 told_as Name = codes "a name"
 told_as Integer = codes "an integer"
@@ -45,29 +45,13 @@ told_as Column = codes "a point and a column"
 told_as Points = codes ".."
 told_as SecondPoint = codes "a second point"
 told_as Comma = codes "a comma"
-told_as Open = codes "("
-told_as Close = codes ")"
 told_as Comparison = codes "one of < = > <= >= <>"
 told_as End = codes "the end"
-told_as Create = codes "CREATE"
-told_as Stream = codes "STREAM"
-told_as Query = codes "QUERY"
-told_as As = codes "AS"
-told_as Select = codes "SELECT"
-told_as Distinct = codes "DISTINCT"
-told_as From = codes "FROM"
-told_as Where = codes "WHERE"
-told_as And = codes "AND"
-told_as Explain = codes "EXPLAIN"
-told_as Drop = codes "DROP"
-told_as In = codes "IN"
-told_as Shared = codes "SHARED"
 told_as Compact = codes "COMPACT"
-told_as Checkpoint = codes "CHECKPOINT"
-told_as Resume = codes "RESUME"
 told_as Lock = codes "LOCK"
 told_as Unlock = codes "UNLOCK"
 told_as To = codes "TO"
+told_as c = sample_of c
 
 -- a front of a statement, and behind a space the text of a candidate
 abbrev pub tried : List ℕ → Candidate → List ℕ

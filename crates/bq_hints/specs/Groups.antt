@@ -1,7 +1,10 @@
 -- Groups of what may stand at a place of a statement.
-use Rattle.std.specs.Prelude.{Bool, true, false}
+use Rattle.std.specs.Prelude.{Bool, true, false, List}
+use Rattle.std.specs.List.{list_any}
 use Rattle.bq_hints.specs.declared.candidates.Candidate.{Candidate}
 use Rattle.bq_hints.specs.declared.candidates.Candidate.TheVariants as candidates
+use Rattle.bq_hints.specs.declared.groups.Group.{Group}
+use Rattle.bq_hints.specs.declared.groups.Group.TheVariants as groups
 
 -- whether a name is tried
 abbrev pub is_name : Candidate → Bool
@@ -55,3 +58,20 @@ is_comma _ = false
 abbrev pub is_create : Candidate → Bool
 is_create candidates.Create = true
 is_create _ = false
+
+-- whether a candidate is of a group
+abbrev pub is_in : Group → Candidate → Bool
+is_in groups.Name candidate = is_name candidate
+is_in groups.Column candidate = is_column candidate
+is_in groups.Comparison candidate = is_comparison candidate
+is_in groups.Operand candidate = is_operand candidate
+is_in groups.BehindOperand candidate = is_behind_operand candidate
+is_in groups.Interval candidate = is_interval candidate
+is_in groups.Domain candidate = is_domain candidate
+is_in groups.Where candidate = is_where candidate
+is_in groups.Comma candidate = is_comma candidate
+is_in groups.Create candidate = is_create candidate
+
+-- whether a candidate of a group may stand there
+abbrev pub wants : Group → List Candidate → Bool
+wants group next = list_any (is_in group) next

@@ -1,6 +1,5 @@
 -- What a statement most likely meant where it leaves the grammar, and what stands there.
 use Rattle.std.specs.Prelude.{ℕ, ◌-◌, Bool, true, false, not, ◌&&◌, ◌||◌, ◌==◌, List, [], ◌∷◌, length, drop, if◌then◌else◌, is_some, codes, Option, Some, None}
-use Rattle.std.specs.List.{list_any}
 use Rattle.std.specs.Option.{option_or}
 use Rattle.std.specs.Str.{str_eq_ignore_ascii_case}
 use Rattle.bq_text.specs.Blank.{trimmed}
@@ -8,7 +7,8 @@ use Rattle.bq_text.specs.Word.{is_letter, word_of}
 use Rattle.bq_text.specs.Key.{key_of}
 use Rattle.bq_schema.specs.Streams.{Shape, stream_number}
 use Rattle.bq_hints.specs.declared.candidates.Candidate.{Candidate}
-use Rattle.bq_hints.specs.Groups.{is_name, is_column, is_comparison, is_operand, is_behind_operand, is_interval, is_domain, is_where, is_comma, is_create}
+use Rattle.bq_hints.specs.declared.groups.Group.TheVariants as groups
+use Rattle.bq_hints.specs.Groups.{wants}
 use Rattle.bq_hints.specs.declared.hints.Hint.{Hint}
 use Rattle.bq_hints.specs.declared.hints.Hint.TheVariants.{ByteOrderMark, Quoted, Unequal, Star, AtMost, AtLeast, Equal, Decimal, Or, BareColumn, ReservedName, BareRow, Comment, Interval, Arithmetic, Hyphen, CommaAtEnd, Function, Parenthesis, Negation, Between, Pattern, Null, Order, Join, Clause, Choice, BareQuery, Alias, Typed, Chained, Streamless, Exponent, DropStream, ExplainQuery, Replace, Show, Continued}
 use Rattle.bq_hints.specs.declared.hints.Standing.{Standing}
@@ -39,7 +39,7 @@ ends_operand before first = not (first == 45) && (is_letter before || is_digit b
 -- whether arithmetic stands there: such a sign behind or before a side of a comparison, and where the statement goes wrong before it, behind a name or an integer
 abbrev pub is_arithmetic : ℕ → ℕ → List Candidate → Bool
 is_arithmetic before first next =
-    if is_empty next then is_operator first && ends_operand before first else is_operator first && (list_any is_behind_operand next || list_any is_operand next)
+    if is_empty next then is_operator first && ends_operand before first else is_operator first && (wants groups.BehindOperand next || wants groups.Operand next)
 
 -- whether the sign of a comparison begins so
 abbrev pub is_relation : ℕ → Bool
@@ -47,7 +47,7 @@ is_relation b = b == 60 || b == 61 || b == 62
 
 -- whether a comparison has ended: what follows may stand there, and neither a sign nor a comma
 abbrev pub ends_comparison : List Candidate → Bool
-ends_comparison next = if list_any is_comparison next || list_any is_comma next then false else list_any is_behind_operand next
+ends_comparison next = if wants groups.Comparison next || wants groups.Comma next then false else wants groups.BehindOperand next
 
 -- whether a comparison goes on with a third side
 abbrev pub is_chained : ℕ → List Candidate → Bool
@@ -55,13 +55,13 @@ is_chained first next = is_relation first && ends_comparison next
 
 -- what is meant by `*`: a function where it stands behind a parenthesis, a column without its stream where it stands behind one, and else all columns
 abbrev pub star_hint : ℕ → List Candidate → Hint
-star_hint before next = if before == 40 then Function else (if list_any is_column next then BareColumn else Star)
+star_hint before next = if before == 40 then Function else (if wants groups.Column next then BareColumn else Star)
 
 -- what is meant by an opening parenthesis
 abbrev pub opening_hint : List Candidate → Option Hint
 opening_hint next =
-    if list_any is_column next then Some Function else
-    (if list_any is_operand next then (if list_any is_name next then Some Parenthesis else Some Interval) else None)
+    if wants groups.Column next then Some Function else
+    (if wants groups.Operand next then (if wants groups.Name next then Some Parenthesis else Some Interval) else None)
 
 -- what is meant by a sign that a name or an integer may have around it
 abbrev pub mark_hint : ℕ → ℕ → ℕ → List Candidate → Option Hint
@@ -80,17 +80,13 @@ sign_hint before first second next =
     (if is_quote first then Some Quoted else
     (if first == 33 then Some Unequal else
     (if begins_comment first second then Some Comment else
-    (if list_any is_interval next then Some Interval else
+    (if wants groups.Interval next then Some Interval else
     (if is_arithmetic before first next then Some Arithmetic else
     (if is_chained first next then Some Chained else mark_hint before first second next))))))
 
 -- whether a word is this one, in any case of letters
 abbrev pub is_word : List ℕ → List ℕ → Bool
 is_word w text = str_eq_ignore_ascii_case w text
-
--- the word OR, in any case of letters
-abbrev pub is_or : List ℕ → Bool
-is_or w = is_word w (codes "OR")
 
 -- a word by which streams are joined elsewhere
 unfoldable pub is_join : List ℕ → Bool
@@ -117,15 +113,15 @@ ends_list w = is_word w (codes "FROM") || is_word w (codes "WHERE")
 -- what is meant by a reserved word, the byte before it, and what may stand there
 unfoldable pub reserved_hint : List ℕ → ℕ → List Candidate → Option Hint
 reserved_hint w before next =
-    if is_word w (codes "IN") && list_any is_comparison next then Some Choice else
-    (if is_word w (codes "SELECT") && list_any is_create next then Some BareQuery else
-    (if is_word w (codes "AS") && list_any is_comma next then Some Alias else
+    if is_word w (codes "IN") && wants groups.Comparison next then Some Choice else
+    (if is_word w (codes "SELECT") && wants groups.Create next then Some BareQuery else
+    (if is_word w (codes "AS") && wants groups.Comma next then Some Alias else
     (if (before == 44) && ends_list w then Some CommaAtEnd else
-    (if list_any is_name next then Some ReservedName else None))))
+    (if wants groups.Name next then Some ReservedName else None))))
 
 -- what is meant by a word that is not reserved, and what may stand there
 abbrev pub other_hint : List Candidate → Option Hint
-other_hint next = if list_any is_domain next then Some Typed else (if list_any is_where next then Some Alias else None)
+other_hint next = if wants groups.Domain next then Some Typed else (if wants groups.Where next then Some Alias else None)
 
 -- what is meant by a word that stands there, and what may stand there; nothing where no word does
 abbrev pub placed_hint : List ℕ → ℕ → List Candidate → Option Hint
@@ -137,31 +133,23 @@ ends_with_not text = is_word (drop (length text - 4) text) (codes " NOT")
 
 -- whether a column is missed behind NOT
 abbrev pub is_negated : List ℕ → List Candidate → Bool
-is_negated front next = list_any is_column next && ends_with_not (trimmed front)
-
--- the word NOT, in any case of letters
-abbrev pub is_not : List ℕ → Bool
-is_not w = is_word w (codes "NOT")
+is_negated front next = wants groups.Column next && ends_with_not (trimmed front)
 
 -- what is meant by OR behind a comparison, and by NOT behind a side of one
-abbrev pub logical_hint : List ℕ → List Candidate → Option Hint
+unfoldable pub logical_hint : List ℕ → List Candidate → Option Hint
 logical_hint word next =
-    if is_or word && list_any is_behind_operand next then Some Or else (if is_not word && list_any is_comparison next then Some Negation else None)
+    if is_word word (codes "OR") && wants groups.BehindOperand next then Some Or else (if is_word word (codes "NOT") && wants groups.Comparison next then Some Negation else None)
 
 -- what is meant by the word at the place, the byte before it, and what may stand there
 abbrev pub word_hint : List ℕ → ℕ → List Candidate → Option Hint
 word_hint word before next =
     option_or (logical_hint word next)
-    (if list_any is_column next then Some BareColumn else
+    (if wants groups.Column next then Some BareColumn else
     (option_or (spelled_hint word) (placed_hint word before next)))
 
--- the word INSERT, in any case of letters
-abbrev pub is_insert : List ℕ → Bool
-is_insert w = is_word w (codes "INSERT")
-
 -- whether a word is the name of a stream, or INSERT
-abbrev pub begins_row : List ℕ → List Shape → Bool
-begins_row word streams = if is_insert word then true else is_some (stream_number streams word)
+unfoldable pub begins_row : List ℕ → List Shape → Bool
+begins_row word streams = if is_word word (codes "INSERT") then true else is_some (stream_number streams word)
 
 -- whether a row begins with its integers
 abbrev pub begins_integers : ℕ → ℕ → Bool

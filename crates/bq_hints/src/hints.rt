@@ -1,17 +1,14 @@
 //! What a statement most likely meant where it leaves the grammar, by the bytes around that place and by what may stand there.
 ghost use Rattle.std.specs.Prelude.{◌≡◌, ◌||◌, ◌&&◌, ◌==◌};
-ghost use Rattle.std.specs.List.{list_any};
 ghost use Rattle.std.specs.Option.{option_or};
 ghost use Rattle.bq_hints.specs.Groups as groups;
+ghost use Rattle.bq_hints.specs.declared.groups.Group.TheVariants as kinds;
 ghost use Rattle.bq_hints.specs.Hints as hints;
 ghost use Rattle.bq_hints.specs.Bytes as bytes;
 
 use crate::bytes::{byte_at, last_byte};
 use crate::candidates::Candidate;
-use crate::groups::{
-    wants_behind_operand, wants_column, wants_comma, wants_comparison, wants_create, wants_domain,
-    wants_interval, wants_name, wants_operand, wants_where,
-};
+use crate::groups::{Group, wants};
 use bq_schema::Catalog;
 use bq_text::{is_letter, key_of, split_word, trim};
 
@@ -151,9 +148,9 @@ fn is_operator(byte: u8) -> bool
 
 // Whether a side of a comparison, or what stands behind one, may stand there.
 fn wants_beside(next: &[Candidate]) -> bool
-    ensures { result ≡ (list_any groups.is_behind_operand next.now || list_any groups.is_operand next.now) }
+    ensures { result ≡ (groups.wants kinds.BehindOperand next.now || groups.wants kinds.Operand next.now) }
 {
-    wants_behind_operand(next) || wants_operand(next)
+    wants(Group::BehindOperand, next) || wants(Group::Operand, next)
 }
 
 // Whether a name or an integer ends with a byte, and the sign behind it can be no hyphen.
@@ -185,10 +182,10 @@ fn is_relation(byte: u8) -> bool
 fn ends_comparison(next: &[Candidate]) -> bool
     ensures { result ≡ hints.ends_comparison next.now }
 {
-    if wants_comparison(next) || wants_comma(next) {
+    if wants(Group::Comparison, next) || wants(Group::Comma, next) {
         false
     } else {
-        wants_behind_operand(next)
+        wants(Group::BehindOperand, next)
     }
 }
 
@@ -205,7 +202,7 @@ fn star_hint(before: u8, next: &[Candidate]) -> Hint
 {
     if before == b'(' {
         Hint::Function
-    } else if wants_column(next) {
+    } else if wants(Group::Column, next) {
         Hint::BareColumn
     } else {
         Hint::Star
@@ -216,10 +213,10 @@ fn star_hint(before: u8, next: &[Candidate]) -> Hint
 fn opening_hint(next: &[Candidate]) -> Option<Hint>
     ensures { result ≡ hints.opening_hint next.now }
 {
-    if wants_column(next) {
+    if wants(Group::Column, next) {
         Some(Hint::Function)
-    } else if wants_operand(next) {
-        if wants_name(next) {
+    } else if wants(Group::Operand, next) {
+        if wants(Group::Name, next) {
             Some(Hint::Parenthesis)
         } else {
             Some(Hint::Interval)
@@ -278,7 +275,7 @@ fn sign_hint(before: u8, first: u8, second: u8, next: &[Candidate]) -> Option<Hi
     if begins_comment(first, second) {
         return Some(Hint::Comment);
     }
-    if wants_interval(next) {
+    if wants(Group::Interval, next) {
         return Some(Hint::Interval);
     }
     if is_arithmetic(before, first, next) {
@@ -288,13 +285,6 @@ fn sign_hint(before: u8, first: u8, second: u8, next: &[Candidate]) -> Option<Hi
         return Some(Hint::Chained);
     }
     mark_hint(before, first, second, next)
-}
-
-// Whether a word is OR, in any case of letters.
-fn is_or(word: &[u8]) -> bool
-    ensures { result ≡ hints.is_or word.now }
-{
-    word.eq_ignore_ascii_case(b"OR")
 }
 
 // Whether streams are joined by this word elsewhere.
@@ -359,19 +349,19 @@ fn ends_list(word: &[u8]) -> bool
 fn reserved_hint(word: &[u8], before: u8, next: &[Candidate]) -> Option<Hint>
     ensures { result ≡ hints.reserved_hint word.now before next.now }
 {
-    if word.eq_ignore_ascii_case(b"IN") && wants_comparison(next) {
+    if word.eq_ignore_ascii_case(b"IN") && wants(Group::Comparison, next) {
         return Some(Hint::Choice);
     }
-    if word.eq_ignore_ascii_case(b"SELECT") && wants_create(next) {
+    if word.eq_ignore_ascii_case(b"SELECT") && wants(Group::Create, next) {
         return Some(Hint::BareQuery);
     }
-    if word.eq_ignore_ascii_case(b"AS") && wants_comma(next) {
+    if word.eq_ignore_ascii_case(b"AS") && wants(Group::Comma, next) {
         return Some(Hint::Alias);
     }
     if before == b',' && ends_list(word) {
         return Some(Hint::CommaAtEnd);
     }
-    if wants_name(next) {
+    if wants(Group::Name, next) {
         Some(Hint::ReservedName)
     } else {
         None
@@ -382,9 +372,9 @@ fn reserved_hint(word: &[u8], before: u8, next: &[Candidate]) -> Option<Hint>
 fn other_hint(next: &[Candidate]) -> Option<Hint>
     ensures { result ≡ hints.other_hint next.now }
 {
-    if wants_domain(next) {
+    if wants(Group::Domain, next) {
         Some(Hint::Typed)
-    } else if wants_where(next) {
+    } else if wants(Group::Where, next) {
         Some(Hint::Alias)
     } else {
         None
@@ -418,23 +408,17 @@ fn ends_with_not(text: &[u8]) -> bool
 fn is_negated(front: &[u8], next: &[Candidate]) -> bool
     ensures { result ≡ hints.is_negated front.now next.now }
 {
-    wants_column(next) && ends_with_not(trim(front))
-}
-
-// Whether a word is NOT, in any case of letters.
-fn is_not(word: &[u8]) -> bool
-    ensures { result ≡ hints.is_not word.now }
-{
-    word.eq_ignore_ascii_case(b"NOT")
+    wants(Group::Column, next) && ends_with_not(trim(front))
 }
 
 // What is meant by OR or NOT where comparisons stand.
+#[tactic(auto, unfolding(crate::specs::Hints::logical_hint))]
 fn logical_hint(word: &[u8], next: &[Candidate]) -> Option<Hint>
     ensures { result ≡ hints.logical_hint word.now next.now }
 {
-    if is_or(word) && wants_behind_operand(next) {
+    if word.eq_ignore_ascii_case(b"OR") && wants(Group::BehindOperand, next) {
         Some(Hint::Or)
-    } else if is_not(word) && wants_comparison(next) {
+    } else if word.eq_ignore_ascii_case(b"NOT") && wants(Group::Comparison, next) {
         Some(Hint::Negation)
     } else {
         None
@@ -458,24 +442,18 @@ fn word_hint(word: &[u8], before: u8, next: &[Candidate]) -> Option<Hint>
     if let Some(hint) = logical_hint(word, next) {
         return Some(hint);
     }
-    if wants_column(next) {
+    if wants(Group::Column, next) {
         return Some(Hint::BareColumn);
     }
     meant_by(word, before, next)
 }
 
-// Whether a word is INSERT, in any case of letters.
-fn is_insert(word: &[u8]) -> bool
-    ensures { result ≡ hints.is_insert word.now }
-{
-    word.eq_ignore_ascii_case(b"INSERT")
-}
-
 // Whether a word is the name of a stream, or INSERT.
+#[tactic(auto, unfolding(crate::specs::Hints::begins_row))]
 fn begins_row(word: &[u8], catalog: &Catalog) -> bool
     ensures { result ≡ hints.begins_row word.now catalog.now }
 {
-    if is_insert(word) {
+    if word.eq_ignore_ascii_case(b"INSERT") {
         true
     } else {
         catalog.find_bytes(word).is_some()

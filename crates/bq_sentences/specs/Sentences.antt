@@ -1,5 +1,5 @@
 -- The sentence of each fault.
-use Rattle.std.specs.Prelude.{ℕ, ◌+◌, ◌==◌, ◌||◌, ℤ, Bool, true, false, List, [], ◌∷◌, ◌++◌, map, take, drop, if◌then◌else◌, decimal, codes, unwrap_or, Option, Some, None}
+use Rattle.std.specs.Prelude.{ℕ, ◌+◌, ◌==◌, ◌||◌, ℤ, Bool, List, [], ◌∷◌, ◌++◌, map, take, drop, if◌then◌else◌, decimal, codes, unwrap_or, Option, Some, None}
 use Rattle.std.specs.List.{find, flat_map, list_any, slice_index_or}
 use Rattle.std.specs.Str.{str_eq_ignore_ascii_case}
 use Rattle.std.specs.Fmt.{signed_decimal}
@@ -10,7 +10,7 @@ use Rattle.bq_schema.specs.Rows.{fields_of}
 use Rattle.bq_parser.specs.declared.parsing.What.{What}
 use Rattle.bq_parser.specs.declared.parsing.What.TheVariants as limits
 use Rattle.bq_parser.specs.declared.tree.ColumnAst.{ColumnAst}
-use Rattle.bq_parser.specs.Naming.{column_text}
+use Rattle.bq_templates.specs.Template.{filled}
 use Rattle.bq_sentences.specs.declared.texts.TheConstants as texts
 use Rattle.bq_hints.specs.declared.candidates.Candidate.{Candidate}
 use Rattle.bq_hints.specs.declared.hints.Hint.{Hint}
@@ -23,38 +23,29 @@ use Rattle.bq_hints.specs.Bytes.{is_quote}
 use Rattle.bq_hints.specs.Candidates.{told_as}
 use Rattle.bq_hints.specs.Hints.{is_empty, hint_of, standing_of}
 
--- a limit that is passed, before the number that is found
-abbrev pub limit_lead : What → List ℕ
-limit_lead limits.Name = texts.LIMIT_NAME.now
-limit_lead limits.Columns = texts.LIMIT_COLUMNS.now
-limit_lead limits.Select = texts.LIMIT_SELECT.now
-limit_lead limits.From = texts.LIMIT_FROM.now
-limit_lead limits.Atoms = texts.LIMIT_ATOMS.now
-limit_lead limits.Soft = texts.LIMIT_SOFT.now
-limit_lead limits.Attrs = texts.LIMIT_ATTRS.now
-limit_lead limits.Value = texts.LIMIT_VALUE.now
-limit_lead limits.Consts = texts.LIMIT_CONSTS.now
-limit_lead limits.Domain = texts.LIMIT_DOMAIN.now
-limit_lead limits.Tuple = texts.LIMIT_TUPLE.now
-limit_lead limits.Streams = texts.LIMIT_STREAMS.now
-
--- and behind it
-abbrev pub limit_tail : What → List ℕ
-limit_tail limits.Soft = texts.LIMIT_SOFT_TAIL.now
-limit_tail _ = []
+-- a limit that is passed
+abbrev pub limit_template : What → List ℕ
+limit_template limits.Name = texts.LIMIT_NAME.now
+limit_template limits.Columns = texts.LIMIT_COLUMNS.now
+limit_template limits.Select = texts.LIMIT_SELECT.now
+limit_template limits.From = texts.LIMIT_FROM.now
+limit_template limits.Atoms = texts.LIMIT_ATOMS.now
+limit_template limits.Soft = texts.LIMIT_SOFT.now
+limit_template limits.Attrs = texts.LIMIT_ATTRS.now
+limit_template limits.Value = texts.LIMIT_VALUE.now
+limit_template limits.Consts = texts.LIMIT_CONSTS.now
+limit_template limits.Domain = texts.LIMIT_DOMAIN.now
+limit_template limits.Tuple = texts.LIMIT_TUPLE.now
+limit_template limits.Streams = texts.LIMIT_STREAMS.now
 
 -- a number, where there is one
 abbrev pub number_text : Option ℕ → List ℕ
 number_text None = []
 number_text (Some n) = decimal n
 
--- a name between two texts
-unfoldable pub around : List ℕ → List ℕ → List ℕ → List ℕ
-around lead name tail = lead ++ (name ++ (tail ++ []))
-
 -- a limit that is passed, with the number that is found
 abbrev pub limit_text : What → Option ℕ → List ℕ
-limit_text what found = around (limit_lead what) (number_text found) (limit_tail what)
+limit_text what found = filled (limit_template what) (number_text found ∷ [])
 
 -- what is meant
 abbrev pub hint_text : Hint → List ℕ
@@ -97,27 +88,22 @@ hint_text hints.Replace = texts.HINT_REPLACE.now
 hint_text hints.Show = texts.HINT_SHOW.now
 hint_text hints.Continued = texts.HINT_CONTINUED.now
 
--- whether an example of a column stands behind it
-abbrev pub is_bare_column : Hint → Bool
-is_bare_column hints.BareColumn = true
-is_bare_column _ = false
-
 -- a text, or another where it is empty
 abbrev pub or_text : List ℕ → List ℕ → List ℕ
 or_text text other = if is_empty text then other else text
 
 -- an example of a column: the first of the first stream, where there is one
 abbrev pub example_text : List Shape → List ℕ
-example_text streams = around (or_text (shape_at streams 0).name texts.STREAM_EXAMPLE.now) texts.POINT.now (or_text (column_at (shape_at streams 0).columns 0) texts.COLUMN_EXAMPLE.now)
+example_text streams = filled texts.EXAMPLE.now (or_text (shape_at streams 0).name texts.STREAM_EXAMPLE.now ∷ or_text (column_at (shape_at streams 0).columns 0) texts.COLUMN_EXAMPLE.now ∷ [])
 
 -- the example, where one stands behind a hint
-abbrev pub example_for : Bool → List Shape → List ℕ
-example_for true streams = example_text streams
-example_for false streams = []
+abbrev pub example_for : Hint → List Shape → List ℕ
+example_for hints.BareColumn streams = example_text streams
+example_for _ streams = []
 
 -- what is meant, with an example where one stands behind it
 abbrev pub hint_sentence : Hint → List Shape → List ℕ
-hint_sentence hint streams = hint_text hint ++ example_for (is_bare_column hint) streams
+hint_sentence hint streams = hint_text hint ++ example_for hint streams
 
 -- what stands at a place
 abbrev pub standing_text : Standing → List ℕ
@@ -149,7 +135,7 @@ alike word names = find (λ n. str_eq_ignore_ascii_case n word) names
 -- that name, where there is one
 abbrev pub alike_text : Option (List ℕ) → List ℕ
 alike_text None = []
-alike_text (Some name) = around texts.ALIKE.now name []
+alike_text (Some name) = filled texts.ALIKE.now (name ∷ [])
 
 -- names that are there, and the one that a word may mean
 abbrev pub there_are_like : List ℕ → List (List ℕ) → List ℕ
@@ -161,12 +147,8 @@ stream_names streams = map (λ s. s.name) streams
 
 -- what is said where no candidate may stand: a byte that begins nothing may stand behind the place where the statement goes wrong
 abbrev pub nothing_text : Standing → List ℕ
-nothing_text standing.End = texts.NOTHING_MAY.now
-nothing_text standing.Word = texts.NOTHING_MAY.now
-nothing_text standing.Reserved = texts.NOTHING_MAY.now
-nothing_text standing.Integer = texts.NOTHING_MAY.now
-nothing_text standing.Sign = texts.NOTHING_MAY.now
 nothing_text standing.Strange = texts.NOTHING_FITS.now
+nothing_text _ = texts.NOTHING_MAY.now
 
 -- what may stand at a place, or else that nothing may
 abbrev pub next_text : List ℕ → List Candidate → List ℕ
@@ -201,60 +183,49 @@ field_at line place = trimmed (slice_index_or (fields_of line) place [])
 
 -- a field that is no integer
 abbrev pub value_text : List ℕ → ℕ → List ℕ
-value_text line field = around texts.FIELD.now (decimal (field + 1)) (field_text (field_at line field))
-
--- how many fields a row wants and has, by the name of its stream and both numbers
-unfoldable pub counts_text : List ℕ → List ℕ → List ℕ → List ℕ
-counts_text name wanted found = texts.ROW_OF.now ++ (name ++ (texts.ROW_WANTS.now ++ (wanted ++ (texts.ROW_HAS.now ++ (found ++ (texts.ROW_COLUMNS.now ++ []))))))
+value_text line field = filled texts.FIELD.now (decimal (field + 1) ∷ field_text (field_at line field) ∷ [])
 
 -- a row of a stream with the wrong number of fields
 abbrev pub arity_text : ℕ → ℕ → ℕ → List Shape → List ℕ
-arity_text stream wanted found streams = counts_text (shape_at streams stream).name (decimal wanted) (decimal found) ++ listed name_text (column_names (shape_at streams stream).columns)
-
--- two ends with points between them
-abbrev pub between : List ℕ → List ℕ → List ℕ
-between lo hi = lo ++ (texts.POINTS.now ++ (hi ++ []))
+arity_text stream wanted found streams = filled texts.ROW_COUNTS.now ((shape_at streams stream).name ∷ decimal wanted ∷ decimal found ∷ []) ++ listed name_text (column_names (shape_at streams stream).columns)
 
 -- the ends of a domain, where there is one
 abbrev pub ends_text : Option (ℤ × ℤ) → List ℕ
 ends_text None = []
-ends_text (Some ends) = between (signed_decimal ends.0) (signed_decimal ends.1)
-
--- a field by its number from 1, and its stream and column, that lies outside a domain
-unfoldable pub outside_text : List ℕ → List ℕ → List ℕ → List ℕ
-outside_text number name column = texts.FIELD.now ++ (number ++ (texts.FIELD_OF.now ++ (name ++ (texts.POINT.now ++ (column ++ (texts.FIELD_OUTSIDE.now ++ []))))))
+ends_text (Some ends) = filled texts.DOMAIN.now (signed_decimal ends.0 ∷ signed_decimal ends.1 ∷ [])
 
 -- a value outside the domain of its column
 abbrev pub domain_text : ℕ → ℕ → List Shape → List ℕ
-domain_text stream field streams = outside_text (decimal (field + 1)) (shape_at streams stream).name (column_at (shape_at streams stream).columns field) ++ ends_text (domain_at streams stream field)
+domain_text stream field streams =
+    filled texts.FIELD_OUTSIDE.now (decimal (field + 1) ∷ (shape_at streams stream).name ∷ column_at (shape_at streams stream).columns field ∷ []) ++ ends_text (domain_at streams stream field)
 
 -- a column that is none of its stream
 abbrev pub column_fault : List Shape → ColumnAst → List ℕ
-column_fault streams c = around texts.NO_COLUMN.now (column_text c) texts.NO_COLUMN_TAIL.now ++ there_are_like c.column (column_names (shape_at streams (unwrap_or (stream_number streams c.stream) 255)).columns)
+column_fault streams c = filled texts.NO_COLUMN.now (c.stream ∷ c.column ∷ []) ++ there_are_like c.column (column_names (shape_at streams (unwrap_or (stream_number streams c.stream) 255)).columns)
 
 -- the sentence of a fault of the name of a stream
 unfoldable pub stream_sentence : Fault → List Shape → List ℕ
-stream_sentence (faults.DuplicateStream name) streams = around texts.STREAM_THERE.now name texts.STREAM_THERE_TAIL.now
-stream_sentence (faults.SelfJoin name) streams = around texts.TWICE_IN_FROM.now name texts.TWICE_IN_FROM_TAIL.now
-stream_sentence (faults.NoStream name) streams = around texts.NO_STREAM.now name texts.NO_STREAM_TAIL.now ++ there_are_like name (stream_names streams)
-stream_sentence (faults.LockTwice name) streams = around texts.LOCK_TWICE.now name texts.LOCK_TWICE_TAIL.now
-stream_sentence (faults.LockNoStream name) streams = around texts.LOCK_NO_STREAM.now name texts.NO_STREAM_TAIL.now ++ there_are_like name (stream_names streams)
+stream_sentence (faults.DuplicateStream name) streams = filled texts.STREAM_THERE.now (name ∷ [])
+stream_sentence (faults.SelfJoin name) streams = filled texts.TWICE_IN_FROM.now (name ∷ [])
+stream_sentence (faults.NoStream name) streams = filled texts.NO_STREAM.now (name ∷ []) ++ there_are_like name (stream_names streams)
+stream_sentence (faults.LockTwice name) streams = filled texts.LOCK_TWICE.now (name ∷ [])
+stream_sentence (faults.LockNoStream name) streams = filled texts.LOCK_NO_STREAM.now (name ∷ []) ++ there_are_like name (stream_names streams)
 stream_sentence _ streams = []
 
 -- the sentence of a fault of names
 unfoldable pub name_sentence : Fault → List Shape → List (List ℕ) → List ℕ
-name_sentence (faults.DuplicateColumn name) streams live = around texts.COLUMN_TWICE.now name texts.COLUMN_TWICE_TAIL.now
-name_sentence (faults.DuplicateQuery name) streams live = around texts.QUERY_LIVE.now name texts.QUERY_LIVE_TAIL.now
-name_sentence (faults.NotInFrom column) streams live = around [] (column_text column) texts.NOT_IN_FROM_TAIL.now
+name_sentence (faults.DuplicateColumn name) streams live = filled texts.COLUMN_TWICE.now (name ∷ [])
+name_sentence (faults.DuplicateQuery name) streams live = filled texts.QUERY_LIVE.now (name ∷ [])
+name_sentence (faults.NotInFrom column) streams live = filled texts.NOT_IN_FROM.now (column.stream ∷ column.column ∷ [])
 name_sentence (faults.NoColumn column) streams live = column_fault streams column
-name_sentence (faults.NoQuery name) streams live = around texts.NO_QUERY.now name texts.NO_QUERY_TAIL.now ++ there_are_like name live
+name_sentence (faults.NoQuery name) streams live = filled texts.NO_QUERY.now (name ∷ []) ++ there_are_like name live
 name_sentence fault streams live = stream_sentence fault streams
 
 -- the sentence of a fault of a row
 unfoldable pub row_sentence : List ℕ → Fault → List Shape → List ℕ
 row_sentence text faults.RowKey streams = texts.ROW_KEY.now
-row_sentence text (faults.RowName bytes) streams = around texts.ROW_NAME.now (decimal bytes) []
-row_sentence text faults.RowStream streams = texts.ROW_STREAM.now ++ there_are_like (word_of text) (stream_names streams)
+row_sentence text (faults.RowName bytes) streams = filled texts.ROW_NAME.now (decimal bytes ∷ [])
+row_sentence text faults.RowStream streams = filled texts.ROW_STREAM.now [] ++ there_are_like (word_of text) (stream_names streams)
 row_sentence text (faults.Arity stream wanted found) streams = arity_text stream wanted found streams
 row_sentence text (faults.Value field) streams = value_text text field
 row_sentence text (faults.Domain stream field) streams = domain_text stream field streams
@@ -265,7 +236,7 @@ unfoldable pub sentence_text : List ℕ → Fault → List Shape → List (List 
 sentence_text text faults.LineTooLong streams live = texts.LONG_LINE.now
 sentence_text text (faults.Syntax at next) streams live = syntax_text text at next.items streams
 sentence_text text (faults.Limit what found) streams live = limit_text what found
-sentence_text text (faults.Locked line) streams live = around texts.LOCKED.now (decimal line) texts.LOCKED_TAIL.now
+sentence_text text (faults.Locked line) streams live = filled texts.LOCKED.now (decimal line ∷ [])
 sentence_text text faults.NoLock streams live = texts.NO_LOCK.now
 sentence_text text faults.TooManyStreams streams live = texts.MANY_STREAMS.now
 sentence_text text faults.TooManyQueries streams live = texts.MANY_QUERIES.now

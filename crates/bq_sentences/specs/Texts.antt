@@ -8,15 +8,17 @@ use Rattle.bq_diagnosis.specs.declared.fault.Fault.{Fault}
 use Rattle.bq_diagnosis.specs.declared.fault.Fault.TheVariants as faults
 use Rattle.bq_diagnosis.specs.FaultWords.{word_of}
 use Rattle.bq_diagnosis.specs.Marks.{place_of}
+use Rattle.bq_templates.specs.Template.{filled}
+use Rattle.bq_sentences.specs.declared.texts.TheConstants as texts
 use Rattle.bq_sentences.specs.Sentences.{sentence_text}
 
 -- the number of a line and the word, as `line 8: Syntax`
 unfoldable pub head_text : ℕ → Refusal → List ℕ
-head_text number word = codes "line " ++ (decimal number ++ (codes ": " ++ (word_text word ++ (10 ∷ []))))
+head_text number word = filled texts.HEAD.now (decimal number ∷ word_text word ∷ [])
 
 -- a text between two spaces and another text at the end of a line
 abbrev pub enclosed : List ℕ → List ℕ → List ℕ
-enclosed text end = codes "  " ++ (text ++ (end ++ 10 ∷ []))
+enclosed text end = filled texts.ENCLOSED.now (text ∷ end ∷ [])
 
 -- the first 200 bytes of a text
 abbrev pub front_shown : List ℕ → List ℕ
@@ -52,30 +54,19 @@ unfoldable pub shown_text : List ℕ → Fault → List ℕ
 shown_text text faults.LineTooLong = []
 shown_text text fault = marked_text text (place_of text fault)
 
--- a place by its number from 1
+-- two spaces, and a place by its number from 1
 abbrev pub byte_text : ℕ → List ℕ
-byte_text at = codes "at byte " ++ (decimal (at + 1) ++ codes ": ")
+byte_text at = filled texts.PLACE.now (decimal (at + 1) ∷ [])
 
--- the place by its number from 1, where it is not shown
+-- two spaces, and the place by its number from 1 where it is not shown
 unfoldable pub place_text : Option ℕ → List ℕ
-place_text None = []
-place_text (Some at) = if nat_lt 200 at then byte_text at else []
+place_text None = texts.INDENT.now
+place_text (Some at) = if nat_lt 200 at then byte_text at else texts.INDENT.now
 
--- the place where it is not shown, the sentence, and the end of its line
-abbrev pub placed_text : List ℕ → Fault → List Shape → List (List ℕ) → List ℕ
-placed_text text fault streams live = place_text (place_of text fault) ++ (sentence_text text fault streams live ++ 10 ∷ [])
-
--- two spaces
-unfoldable pub indent : List ℕ
-indent = codes "  "
-
--- the line with the sentence
-abbrev pub sentence_line : List ℕ → Fault → List Shape → List (List ℕ) → List ℕ
-sentence_line text fault streams live = indent ++ placed_text text fault streams live
-
--- the line, its mark, and the line with the sentence
+-- the line, its mark, and a line with the place where it is not shown and the sentence
 abbrev pub body_text : List ℕ → Fault → List Shape → List (List ℕ) → List ℕ
-body_text text fault streams live = shown_text text fault ++ sentence_line text fault streams live
+body_text text fault streams live =
+    shown_text text fault ++ (place_text (place_of text fault) ++ (sentence_text text fault streams live ++ 10 ∷ []))
 
 -- the text of a fault of a line with this number, over the streams and the names of the live queries
 abbrev pub fault_text : ℕ → List ℕ → Fault → List Shape → List (List ℕ) → List ℕ

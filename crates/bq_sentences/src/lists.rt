@@ -11,12 +11,13 @@ ghost use Rattle.bq_sentences.specs.Sentences.{listed, name_text, there_are, str
 use crate::texts::{ALIKE, MAY_STAND, THERE_ARE, THERE_IS_NONE};
 use arrayvec::ArrayVec;
 use bq_hints::{Candidate, told_as};
-use bq_io::{Sink, WriteFault, write_all, write_pieces};
+use bq_io::{Sink, write_all, write_pieces};
 use bq_schema::{Catalog, ColumnDef};
+use bq_templates::{Filling, Written, write_filled};
 use bq_text::Name;
 
 // A text behind a comma and a space.
-fn write_next<'a, O: Sink>(out: &mut O, text: &'a [u8]) -> Result<(), WriteFault>
+fn write_next<'a, O: Sink>(out: &mut O, text: &'a [u8]) -> Written
     ensures { Writes result (O.seen out.old) (O.seen out.new) (codes ", " ++ text.now) }
 {
     let pieces: [&[u8]; 2] = [b", ", text];
@@ -24,7 +25,7 @@ fn write_next<'a, O: Sink>(out: &mut O, text: &'a [u8]) -> Result<(), WriteFault
 }
 
 // Each name behind a comma and a space.
-fn write_more_names<O: Sink>(out: &mut O, names: &[Name]) -> Result<(), WriteFault>
+fn write_more_names<O: Sink>(out: &mut O, names: &[Name]) -> Written
     ensures { Writes result (O.seen out.old) (O.seen out.new) (flat_map (λ n. codes ", " ++ name_text n) names.now) }
 {
     for name in names {
@@ -34,8 +35,8 @@ fn write_more_names<O: Sink>(out: &mut O, names: &[Name]) -> Result<(), WriteFau
 }
 
 /// Writes names, with a comma and a space between two.
-#[tactic(auto, using(crate::proofs::Writers::writes_after))]
-pub fn write_names<O: Sink>(out: &mut O, names: &[Name]) -> Result<(), WriteFault>
+#[tactic(auto, using(crate::proofs::Writers::writes_after, crate::proofs::Writers::broke_off, crate::proofs::Writers::stopped))]
+pub fn write_names<O: Sink>(out: &mut O, names: &[Name]) -> Written
     ensures { Writes result (O.seen out.old) (O.seen out.new) (listed name_text names.now) }
 {
     match names {
@@ -48,8 +49,8 @@ pub fn write_names<O: Sink>(out: &mut O, names: &[Name]) -> Result<(), WriteFaul
 }
 
 // Which names there are, or that there is none.
-#[tactic(auto, using(crate::proofs::Writers::writes_after))]
-fn write_there_are<O: Sink>(out: &mut O, names: &[Name]) -> Result<(), WriteFault>
+#[tactic(auto, using(crate::proofs::Writers::writes_after, crate::proofs::Writers::broke_off, crate::proofs::Writers::stopped))]
+fn write_there_are<O: Sink>(out: &mut O, names: &[Name]) -> Written
     ensures { Writes result (O.seen out.old) (O.seen out.new) (there_are names.now) }
 {
     match names {
@@ -84,38 +85,27 @@ fn alike(word: &[u8], names: &[Name]) -> Option<Name>
     }
 }
 
-// A name that a word may mean, where there is one.
-#[tactic(auto, unfolding(crate::specs::Sentences::around))]
-fn write_alike<O: Sink>(out: &mut O, meant: Option<Name>) -> Result<(), WriteFault>
+// The name that a word may mean, where there is one.
+fn write_alike<O: Sink>(out: &mut O, meant: Option<Name>) -> Written
     ensures { Writes result (O.seen out.old) (O.seen out.new) (sentences.alike_text meant) }
 {
     match meant {
         None => Ok(()),
-        Some(name) => {
-            let pieces: [&[u8]; 3] = [ALIKE, name.bytes(), b""];
-            write_pieces(out, &pieces)
-        }
+        Some(name) => write_filled(out, ALIKE, &[Filling::Text(name.bytes())]),
     }
 }
 
-// The name among these that a word may mean, where there is one.
-fn write_meant<O: Sink>(out: &mut O, word: &[u8], names: &[Name]) -> Result<(), WriteFault>
-    ensures { Writes result (O.seen out.old) (O.seen out.new) (sentences.alike_text (sentences.alike word.now names.now)) }
-{
-    write_alike(out, alike(word, names))
-}
-
 /// Writes which names there are, or that there is none, and the one that a word may mean.
-#[tactic(auto, using(crate::proofs::Writers::writes_after))]
-pub fn write_there_like<O: Sink>(out: &mut O, word: &[u8], names: &[Name]) -> Result<(), WriteFault>
+#[tactic(auto, using(crate::proofs::Writers::writes_after, crate::proofs::Writers::broke_off, crate::proofs::Writers::stopped))]
+pub fn write_there_like<O: Sink>(out: &mut O, word: &[u8], names: &[Name]) -> Written
     ensures { Writes result (O.seen out.old) (O.seen out.new) (sentences.there_are_like word.now names.now) }
 {
     write_there_are(out, names)?;
-    write_meant(out, word, names)
+    write_alike(out, alike(word, names))
 }
 
 // Each candidate behind a comma and a space.
-fn write_more_candidates<O: Sink>(out: &mut O, candidates: &[Candidate]) -> Result<(), WriteFault>
+fn write_more_candidates<O: Sink>(out: &mut O, candidates: &[Candidate]) -> Written
     ensures { Writes result (O.seen out.old) (O.seen out.new) (flat_map (λ c. codes ", " ++ told.told_as c) candidates.now) }
 {
     for candidate in candidates {
@@ -125,8 +115,8 @@ fn write_more_candidates<O: Sink>(out: &mut O, candidates: &[Candidate]) -> Resu
 }
 
 // Candidates, with a comma and a space between two.
-#[tactic(auto, using(crate::proofs::Writers::writes_after))]
-fn write_candidates<O: Sink>(out: &mut O, candidates: &[Candidate]) -> Result<(), WriteFault>
+#[tactic(auto, using(crate::proofs::Writers::writes_after, crate::proofs::Writers::broke_off, crate::proofs::Writers::stopped))]
+fn write_candidates<O: Sink>(out: &mut O, candidates: &[Candidate]) -> Written
     ensures { Writes result (O.seen out.old) (O.seen out.new) (listed told.told_as candidates.now) }
 {
     match candidates {
@@ -139,12 +129,8 @@ fn write_candidates<O: Sink>(out: &mut O, candidates: &[Candidate]) -> Result<()
 }
 
 /// Writes what may stand at a place, or else a text that says that nothing may.
-#[tactic(auto, using(crate::proofs::Writers::writes_after))]
-pub fn write_may_stand<O: Sink>(
-    out: &mut O,
-    nothing: &[u8],
-    next: &[Candidate],
-) -> Result<(), WriteFault>
+#[tactic(auto, using(crate::proofs::Writers::writes_after, crate::proofs::Writers::broke_off, crate::proofs::Writers::stopped))]
+pub fn write_may_stand<O: Sink>(out: &mut O, nothing: &[u8], next: &[Candidate]) -> Written
     ensures { Writes result (O.seen out.old) (O.seen out.new) (next_text nothing.now next.now) }
 {
     match next {

@@ -1,20 +1,20 @@
 //! Sentences with a name or a number in them.
-ghost use Rattle.std.specs.Prelude.{◌≡◌, ◌≤◌, ◌+◌, ◌++◌, [], length, decimal};
+ghost use Rattle.std.specs.Prelude.{◌≡◌, ◌≤◌, ◌+◌, ◌++◌, ◌∷◌, [], length, decimal};
 ghost use Rattle.bq_io.specs.Sink.{Writes};
 ghost use Rattle.bq_text.specs.Word.{word_of};
 ghost use Rattle.bq_schema.specs.Streams.{column_at, shape_at, domain_at};
-ghost use Rattle.bq_parser.specs.Naming.{column_text};
+ghost use Rattle.bq_templates.specs.Template.{filled};
 ghost use Rattle.bq_sentences.specs.Sentences as sentences;
 ghost use Rattle.bq_sentences.specs.declared.texts.TheConstants as words;
 
 use crate::field_texts::{field_at, field_text};
 use crate::lists::{names_of_columns, names_of_streams, write_names, write_there_like};
 use crate::texts;
-use bq_io::{Sink, WriteFault, write_all, write_pieces};
+use bq_io::Sink;
 use bq_parser::ColumnAst;
 use bq_schema::{Catalog, ColumnDef};
+use bq_templates::{Filling, Written, write_filled};
 use bq_text::{Name, split_word};
-use itoa::Buffer;
 
 // The columns of the stream of a number, none where there is no such stream.
 fn columns_of(catalog: &Catalog, stream: u8) -> &[ColumnDef]
@@ -63,307 +63,153 @@ fn column_name_of(catalog: &Catalog, stream: u8, column: u8) -> &[u8]
     }
 }
 
-/// Writes a name between two texts.
-#[tactic(auto, unfolding(crate::specs::Sentences::around))]
-pub fn write_around<'a, O: Sink>(
-    out: &mut O,
-    lead: &'a [u8],
-    name: &'a [u8],
-    tail: &'a [u8],
-) -> Result<(), WriteFault>
-    ensures { Writes result (O.seen out.old) (O.seen out.new) (sentences.around lead.now name.now tail.now) }
+/// Writes a template that a name fills.
+pub fn write_name<O: Sink>(out: &mut O, template: &[u8], name: &Name) -> Written
+    ensures { Writes result (O.seen out.old) (O.seen out.new) (filled template.now (name.now ∷ [])) }
 {
-    let pieces: [&[u8]; 3] = [lead, name, tail];
-    write_pieces(out, &pieces)
+    write_filled(out, template, &[Filling::Text(name.bytes())])
 }
 
-/// Writes a name between two texts, which names there are, and the one that it may mean.
-#[tactic(auto, using(crate::proofs::Writers::writes_after))]
-pub fn write_around_names<'a, O: Sink>(
+/// Writes a template that a name fills, which names there are, and the one that it may mean.
+#[tactic(auto, using(crate::proofs::Writers::writes_after, crate::proofs::Writers::broke_off, crate::proofs::Writers::stopped))]
+pub fn write_name_among<O: Sink>(
     out: &mut O,
-    lead: &'a [u8],
-    name: &'a [u8],
-    tail: &'a [u8],
+    template: &[u8],
+    name: &Name,
     names: &[Name],
-) -> Result<(), WriteFault>
-    ensures { Writes result (O.seen out.old) (O.seen out.new) (sentences.around lead.now name.now tail.now ++ sentences.there_are_like name.now names.now) }
+) -> Written
+    ensures { Writes result (O.seen out.old) (O.seen out.new) (filled template.now (name.now ∷ []) ++ sentences.there_are_like name.now names.now) }
 {
-    write_around(out, lead, name, tail)?;
-    write_there_like(out, name, names)
-}
-
-// A text, which names there are, and the one that a word may mean.
-#[tactic(auto, using(crate::proofs::Writers::writes_after))]
-fn write_streams<O: Sink>(
-    out: &mut O,
-    lead: &[u8],
-    word: &[u8],
-    names: &[Name],
-) -> Result<(), WriteFault>
-    ensures { Writes result (O.seen out.old) (O.seen out.new) (lead.now ++ sentences.there_are_like word.now names.now) }
-{
-    write_all(out, lead)?;
-    write_there_like(out, word, names)
-}
-
-/// Writes that a row line begins with the name of no stream, and which there are.
-pub fn write_row_stream<O: Sink>(
-    out: &mut O,
-    line: &[u8],
-    catalog: &Catalog,
-) -> Result<(), WriteFault>
-    ensures { Writes result (O.seen out.old) (O.seen out.new) (words.ROW_STREAM.now ++ sentences.there_are_like (word_of line.now) (sentences.stream_names catalog.now)) }
-{
-    let names = names_of_streams(catalog);
-    write_streams(out, texts::ROW_STREAM, split_word(line).0, names.as_slice())
-}
-
-/// Writes, behind the words that lead, that a stream is named that is not there, and which are.
-pub fn write_no_stream<'a, O: Sink>(
-    out: &mut O,
-    lead: &'a [u8],
-    name: &'a Name,
-    catalog: &Catalog,
-) -> Result<(), WriteFault>
-    ensures { Writes result (O.seen out.old) (O.seen out.new) (sentences.around lead.now name.now words.NO_STREAM_TAIL.now ++ sentences.there_are_like name.now (sentences.stream_names catalog.now)) }
-{
-    let names = names_of_streams(catalog);
-    write_around_names(
-        out,
-        lead,
-        name.bytes(),
-        texts::NO_STREAM_TAIL,
-        names.as_slice(),
-    )
-}
-
-/// Writes a column between two texts.
-#[tactic(auto, unfolding(crate::specs::Sentences::around))]
-pub fn write_column<'a, O: Sink>(
-    out: &mut O,
-    lead: &'a [u8],
-    column: &'a ColumnAst,
-    tail: &'a [u8],
-) -> Result<(), WriteFault>
-    ensures { Writes result (O.seen out.old) (O.seen out.new) (sentences.around lead.now (column_text column.now) tail.now) }
-{
-    let pieces: [&[u8]; 5] = [
-        lead,
-        column.stream.bytes(),
-        b".",
-        column.column.bytes(),
-        tail,
-    ];
-    write_pieces(out, &pieces)
-}
-
-// Which names there are, and the one that a name may mean.
-fn write_there_named<O: Sink>(out: &mut O, name: &Name, names: &[Name]) -> Result<(), WriteFault>
-    ensures { Writes result (O.seen out.old) (O.seen out.new) (sentences.there_are_like name.now names.now) }
-{
+    write_name(out, template, name)?;
     write_there_like(out, name.bytes(), names)
 }
 
-// A column between two texts, which names there are, and the one that its name may mean.
-#[tactic(auto, using(crate::proofs::Writers::writes_after))]
-fn write_column_names<'a, O: Sink>(
-    out: &mut O,
-    lead: &'a [u8],
-    column: &'a ColumnAst,
-    tail: &'a [u8],
-    names: &[Name],
-) -> Result<(), WriteFault>
-    ensures { Writes result (O.seen out.old) (O.seen out.new) (sentences.around lead.now (column_text column.now) tail.now ++ sentences.there_are_like column.now.column names.now) }
+/// Writes a template that a number fills.
+pub fn write_number<O: Sink>(out: &mut O, template: &[u8], number: u64) -> Written
+    ensures { Writes result (O.seen out.old) (O.seen out.new) (filled template.now (decimal number ∷ [])) }
 {
-    write_column(out, lead, column, tail)?;
-    write_there_named(out, &column.column, names)
+    write_filled(out, template, &[Filling::Number(number)])
+}
+
+/// Writes that a row line begins with the name of no stream, and which there are.
+#[tactic(auto, using(crate::proofs::Writers::writes_after, crate::proofs::Writers::broke_off, crate::proofs::Writers::stopped))]
+pub fn write_row_stream<O: Sink>(out: &mut O, line: &[u8], catalog: &Catalog) -> Written
+    ensures { Writes result (O.seen out.old) (O.seen out.new) (filled words.ROW_STREAM.now [] ++ sentences.there_are_like (word_of line.now) (sentences.stream_names catalog.now)) }
+{
+    let names = names_of_streams(catalog);
+    write_filled(out, texts::ROW_STREAM, &[])?;
+    write_there_like(out, split_word(line).0, names.as_slice())
+}
+
+/// Writes a template that the name of a stream fills that is not there, and which streams are.
+pub fn write_no_stream<O: Sink>(
+    out: &mut O,
+    template: &[u8],
+    name: &Name,
+    catalog: &Catalog,
+) -> Written
+    ensures { Writes result (O.seen out.old) (O.seen out.new) (filled template.now (name.now ∷ []) ++ sentences.there_are_like name.now (sentences.stream_names catalog.now)) }
+{
+    let names = names_of_streams(catalog);
+    write_name_among(out, template, name, names.as_slice())
+}
+
+/// Writes a template that the two names of a column fill.
+pub fn write_column<O: Sink>(out: &mut O, template: &[u8], column: &ColumnAst) -> Written
+    ensures { Writes result (O.seen out.old) (O.seen out.new) (filled template.now (column.now.stream ∷ column.now.column ∷ [])) }
+{
+    let fillings = [
+        Filling::Text(column.stream.bytes()),
+        Filling::Text(column.column.bytes()),
+    ];
+    write_filled(out, template, &fillings)
+}
+
+// That a column is none of its stream, which are, and the one that its name may mean.
+#[tactic(auto, using(crate::proofs::Writers::writes_after, crate::proofs::Writers::broke_off, crate::proofs::Writers::stopped))]
+fn write_column_among<O: Sink>(out: &mut O, column: &ColumnAst, names: &[Name]) -> Written
+    ensures { Writes result (O.seen out.old) (O.seen out.new) (filled words.NO_COLUMN.now (column.now.stream ∷ column.now.column ∷ []) ++ sentences.there_are_like column.now.column names.now) }
+{
+    write_column(out, texts::NO_COLUMN, column)?;
+    write_there_like(out, column.column.bytes(), names)
 }
 
 /// Writes that a column is none of its stream, and which are.
-pub fn write_no_column<O: Sink>(
-    out: &mut O,
-    column: &ColumnAst,
-    catalog: &Catalog,
-) -> Result<(), WriteFault>
+pub fn write_no_column<O: Sink>(out: &mut O, column: &ColumnAst, catalog: &Catalog) -> Written
     ensures { Writes result (O.seen out.old) (O.seen out.new) (sentences.column_fault catalog.now column.now) }
 {
     let stream = catalog.find(&column.stream).unwrap_or(u8::MAX);
     let names = names_of_columns(columns_of(catalog, stream));
-    write_column_names(
-        out,
-        texts::NO_COLUMN,
-        column,
-        texts::NO_COLUMN_TAIL,
-        names.as_slice(),
-    )
-}
-
-/// Writes how many bytes a name may have, and how many this has.
-pub fn write_long_name<O: Sink>(out: &mut O, bytes: u16) -> Result<(), WriteFault>
-    ensures { Writes result (O.seen out.old) (O.seen out.new) (sentences.around words.ROW_NAME.now (decimal bytes) []) }
-{
-    let mut buffer = Buffer::new();
-    write_around(out, texts::ROW_NAME, buffer.format(bytes).as_bytes(), b"")
-}
-
-/// Writes in which line the session was locked.
-pub fn write_locked<O: Sink>(out: &mut O, line: u64) -> Result<(), WriteFault>
-    ensures { Writes result (O.seen out.old) (O.seen out.new) (sentences.around words.LOCKED.now (decimal line) words.LOCKED_TAIL.now) }
-{
-    let mut buffer = Buffer::new();
-    write_around(
-        out,
-        texts::LOCKED,
-        buffer.format(line).as_bytes(),
-        texts::LOCKED_TAIL,
-    )
+    write_column_among(out, column, names.as_slice())
 }
 
 // How many fields a row wants and has, by the name of its stream and both numbers.
-#[tactic(auto, unfolding(crate::specs::Sentences::counts_text))]
-fn write_counts<'a, O: Sink>(
-    out: &mut O,
-    name: &'a [u8],
-    wanted: &'a [u8],
-    found: &'a [u8],
-) -> Result<(), WriteFault>
-    ensures { Writes result (O.seen out.old) (O.seen out.new) (sentences.counts_text name.now wanted.now found.now) }
+fn write_counts<O: Sink>(out: &mut O, name: &[u8], wanted: u8, found: u16) -> Written
+    ensures { Writes result (O.seen out.old) (O.seen out.new) (filled words.ROW_COUNTS.now (name.now ∷ decimal wanted ∷ decimal found ∷ [])) }
 {
-    let pieces: [&[u8]; 7] = [
-        texts::ROW_OF,
-        name,
-        texts::ROW_WANTS,
-        wanted,
-        texts::ROW_HAS,
-        found,
-        texts::ROW_COLUMNS,
+    let fillings = [
+        Filling::Text(name),
+        Filling::Count(u32::from(wanted)),
+        Filling::Count(u32::from(found)),
     ];
-    write_pieces(out, &pieces)
+    write_filled(out, texts::ROW_COUNTS, &fillings)
 }
 
-// How many fields a row wants and has, by the name of its stream, both numbers, and the names of its columns.
-#[tactic(auto, using(crate::proofs::Writers::writes_after))]
-fn write_counts_names<'a, O: Sink>(
-    out: &mut O,
-    name: &'a [u8],
-    wanted: &'a [u8],
-    found: &'a [u8],
-    columns: &[Name],
-) -> Result<(), WriteFault>
-    ensures { Writes result (O.seen out.old) (O.seen out.new) (sentences.counts_text name.now wanted.now found.now ++ sentences.listed sentences.name_text columns.now) }
-{
-    write_counts(out, name, wanted, found)?;
-    write_names(out, columns)
-}
-
-/// Writes how many fields a row of a stream wants, and how many it has.
+/// Writes how many fields a row of a stream wants, how many it has, and the names of its columns.
+#[tactic(auto, using(crate::proofs::Writers::writes_after, crate::proofs::Writers::broke_off, crate::proofs::Writers::stopped))]
 pub fn write_arity<O: Sink>(
     out: &mut O,
     stream: u8,
     wanted: u8,
     found: u16,
     catalog: &Catalog,
-) -> Result<(), WriteFault>
+) -> Written
     ensures { Writes result (O.seen out.old) (O.seen out.new) (sentences.arity_text stream wanted found catalog.now) }
 {
     let names = names_of_columns(columns_of(catalog, stream));
-    let mut first = Buffer::new();
-    let wanted = first.format(wanted).as_bytes();
-    let mut second = Buffer::new();
-    let found = second.format(found).as_bytes();
-    write_counts_names(
-        out,
-        name_of(catalog, stream),
-        wanted,
-        found,
-        names.as_slice(),
-    )
+    write_counts(out, name_of(catalog, stream), wanted, found)?;
+    write_names(out, names.as_slice())
 }
 
 /// Writes why a field of a row line is no integer.
-pub fn write_value<O: Sink>(out: &mut O, line: &[u8], field: u16) -> Result<(), WriteFault>
+pub fn write_value<O: Sink>(out: &mut O, line: &[u8], field: u16) -> Written
     ensures { Writes result (O.seen out.old) (O.seen out.new) (sentences.value_text line.now field) }
 {
-    let mut buffer = Buffer::new();
-    let number = buffer.format(u32::from(field) + 1).as_bytes();
-    write_around(out, texts::FIELD, number, field_text(field_at(line, field)))
-}
-
-// Two ends with points between them.
-fn write_between<'a, O: Sink>(out: &mut O, lo: &'a [u8], hi: &'a [u8]) -> Result<(), WriteFault>
-    ensures { Writes result (O.seen out.old) (O.seen out.new) (sentences.between lo.now hi.now) }
-{
-    let pieces: [&[u8]; 3] = [lo, texts::POINTS, hi];
-    write_pieces(out, &pieces)
+    let fillings = [
+        Filling::Count(u32::from(field) + 1),
+        Filling::Fixed(field_text(field_at(line, field))),
+    ];
+    write_filled(out, texts::FIELD, &fillings)
 }
 
 // The ends of a domain, where there is one.
-fn write_ends<O: Sink>(out: &mut O, domain: Option<(i64, i64)>) -> Result<(), WriteFault>
+fn write_ends<O: Sink>(out: &mut O, domain: Option<(i64, i64)>) -> Written
     ensures { Writes result (O.seen out.old) (O.seen out.new) (sentences.ends_text domain) }
 {
     match domain {
         None => Ok(()),
         Some((lo, hi)) => {
-            let mut least = Buffer::new();
-            let mut greatest = Buffer::new();
-            write_between(
-                out,
-                least.format(lo).as_bytes(),
-                greatest.format(hi).as_bytes(),
-            )
+            let fillings = [Filling::Integer(lo), Filling::Integer(hi)];
+            write_filled(out, texts::DOMAIN, &fillings)
         }
     }
 }
 
-// That a field, by its number from 1, its stream and its column, lies outside a domain.
-#[tactic(auto, unfolding(crate::specs::Sentences::outside_text))]
-fn write_pieces_outside<'a, O: Sink>(
-    out: &mut O,
-    number: &'a [u8],
-    name: &'a [u8],
-    column: &'a [u8],
-) -> Result<(), WriteFault>
-    ensures { Writes result (O.seen out.old) (O.seen out.new) (sentences.outside_text number.now name.now column.now) }
-{
-    let pieces: [&[u8]; 7] = [
-        texts::FIELD,
-        number,
-        texts::FIELD_OF,
-        name,
-        texts::POINT,
-        column,
-        texts::FIELD_OUTSIDE,
-    ];
-    write_pieces(out, &pieces)
-}
-
 // That a field of a row of a stream, by its number from 0, lies outside a domain.
-fn write_outside<O: Sink>(
-    out: &mut O,
-    stream: u8,
-    field: u8,
-    catalog: &Catalog,
-) -> Result<(), WriteFault>
-    ensures { Writes result (O.seen out.old) (O.seen out.new) (sentences.outside_text (decimal (field + 1)) (shape_at catalog.now stream).name (column_at (shape_at catalog.now stream).columns field)) }
+fn write_outside<O: Sink>(out: &mut O, stream: u8, field: u8, catalog: &Catalog) -> Written
+    ensures { Writes result (O.seen out.old) (O.seen out.new) (filled words.FIELD_OUTSIDE.now (decimal (field + 1) ∷ (shape_at catalog.now stream).name ∷ column_at (shape_at catalog.now stream).columns field ∷ [])) }
 {
-    let mut buffer = Buffer::new();
-    let number = buffer.format(u16::from(field) + 1).as_bytes();
-    write_pieces_outside(
-        out,
-        number,
-        name_of(catalog, stream),
-        column_name_of(catalog, stream, field),
-    )
+    let fillings = [
+        Filling::Count(u32::from(field) + 1),
+        Filling::Text(name_of(catalog, stream)),
+        Filling::Text(column_name_of(catalog, stream, field)),
+    ];
+    write_filled(out, texts::FIELD_OUTSIDE, &fillings)
 }
 
 /// Writes that the value of a field of a row of a stream lies outside the domain of its column.
-#[tactic(auto, using(crate::proofs::Writers::writes_after))]
-pub fn write_domain<O: Sink>(
-    out: &mut O,
-    stream: u8,
-    field: u8,
-    catalog: &Catalog,
-) -> Result<(), WriteFault>
+#[tactic(auto, using(crate::proofs::Writers::writes_after, crate::proofs::Writers::broke_off, crate::proofs::Writers::stopped))]
+pub fn write_domain<O: Sink>(out: &mut O, stream: u8, field: u8, catalog: &Catalog) -> Written
     ensures { Writes result (O.seen out.old) (O.seen out.new) (sentences.domain_text stream field catalog.now) }
 {
     write_outside(out, stream, field, catalog)?;
@@ -378,13 +224,12 @@ fn or_text<'a>(text: &'a [u8], other: &'a [u8]) -> &'a [u8]
 }
 
 /// Writes an example of a column: the first of the first stream, where there is one.
-pub fn write_example<O: Sink>(out: &mut O, catalog: &Catalog) -> Result<(), WriteFault>
+pub fn write_example<O: Sink>(out: &mut O, catalog: &Catalog) -> Written
     ensures { Writes result (O.seen out.old) (O.seen out.new) (sentences.example_text catalog.now) }
 {
-    write_around(
-        out,
-        or_text(name_of(catalog, 0), texts::STREAM_EXAMPLE),
-        texts::POINT,
-        or_text(column_name_of(catalog, 0, 0), texts::COLUMN_EXAMPLE),
-    )
+    let fillings = [
+        Filling::Text(or_text(name_of(catalog, 0), texts::STREAM_EXAMPLE)),
+        Filling::Text(or_text(column_name_of(catalog, 0, 0), texts::COLUMN_EXAMPLE)),
+    ];
+    write_filled(out, texts::EXAMPLE, &fillings)
 }

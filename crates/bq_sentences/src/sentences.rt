@@ -6,20 +6,20 @@ ghost use Rattle.bq_sentences.specs.Sentences as sentences;
 
 use crate::lists::write_may_stand;
 use crate::sayings::{
-    write_arity, write_around, write_around_names, write_column, write_domain, write_example,
-    write_locked, write_long_name, write_no_column, write_no_stream, write_row_stream, write_value,
+    write_arity, write_column, write_domain, write_example, write_name, write_name_among,
+    write_no_column, write_no_stream, write_number, write_row_stream, write_value,
 };
 use crate::texts;
 use bq_diagnosis::{Fault, Known};
 use bq_hints::{Candidate, Hint, Standing, front_of, hint_of, rest_of, standing_of};
-use bq_io::{Sink, WriteFault, write_all};
+use bq_io::{Sink, write_all};
 use bq_parser::What;
 use bq_schema::Catalog;
-use itoa::Buffer;
+use bq_templates::{Filling, Written, write_filled};
 
-// What is said of a limit before the number that is found.
-fn limit_lead(what: What) -> &'static [u8]
-    ensures { result.now ≡ sentences.limit_lead what }
+// What is said of a limit, with a hole for the number that is found where there is one.
+fn limit_template(what: What) -> &'static [u8]
+    ensures { result.now ≡ sentences.limit_template what }
 {
     match what {
         What::Name => texts::LIMIT_NAME,
@@ -37,31 +37,13 @@ fn limit_lead(what: What) -> &'static [u8]
     }
 }
 
-// What is said of a limit behind the number that is found.
-fn limit_tail(what: What) -> &'static [u8]
-    ensures { result.now ≡ sentences.limit_tail what }
-{
-    match what {
-        What::Soft => texts::LIMIT_SOFT_TAIL,
-        _ => b"",
-    }
-}
-
 // The sentence of a limit, with the number that is found where there is one.
-fn write_limit<O: Sink>(out: &mut O, what: What, found: Option<u16>) -> Result<(), WriteFault>
+fn write_limit<O: Sink>(out: &mut O, what: What, found: Option<u16>) -> Written
     ensures { Writes result (O.seen out.old) (O.seen out.new) (sentences.limit_text what found) }
 {
     match found {
-        None => write_around(out, limit_lead(what), b"", limit_tail(what)),
-        Some(number) => {
-            let mut buffer = Buffer::new();
-            write_around(
-                out,
-                limit_lead(what),
-                buffer.format(number).as_bytes(),
-                limit_tail(what),
-            )
-        }
+        None => write_filled(out, limit_template(what), &[Filling::Fixed(b"")]),
+        Some(number) => write_number(out, limit_template(what), u64::from(number)),
     }
 }
 
@@ -111,27 +93,19 @@ fn hint_text(hint: Hint) -> &'static [u8]
     }
 }
 
-// Whether an example of a column stands behind a hint.
-fn is_bare_column(hint: Hint) -> bool
-    ensures { result ≡ sentences.is_bare_column hint }
-{
-    matches!(hint, Hint::BareColumn)
-}
-
 // An example of a column, where one stands behind a hint.
-fn write_example_for<O: Sink>(out: &mut O, hint: Hint, catalog: &Catalog) -> Result<(), WriteFault>
-    ensures { Writes result (O.seen out.old) (O.seen out.new) (sentences.example_for (sentences.is_bare_column hint) catalog.now) }
+fn write_example_for<O: Sink>(out: &mut O, hint: Hint, catalog: &Catalog) -> Written
+    ensures { Writes result (O.seen out.old) (O.seen out.new) (sentences.example_for hint catalog.now) }
 {
-    if is_bare_column(hint) {
-        write_example(out, catalog)
-    } else {
-        Ok(())
+    match hint {
+        Hint::BareColumn => write_example(out, catalog),
+        _ => Ok(()),
     }
 }
 
 // What is meant, with an example where one stands behind it.
-#[tactic(auto, using(crate::proofs::Writers::writes_after))]
-fn write_hint<O: Sink>(out: &mut O, hint: Hint, catalog: &Catalog) -> Result<(), WriteFault>
+#[tactic(auto, using(crate::proofs::Writers::writes_after, crate::proofs::Writers::broke_off, crate::proofs::Writers::stopped))]
+fn write_hint<O: Sink>(out: &mut O, hint: Hint, catalog: &Catalog) -> Written
     ensures { Writes result (O.seen out.old) (O.seen out.new) (sentences.hint_sentence hint catalog.now) }
 {
     write_all(out, hint_text(hint))?;
@@ -158,18 +132,13 @@ fn nothing_text(standing: Standing) -> &'static [u8]
 {
     match standing {
         Standing::Strange => texts::NOTHING_FITS,
-        Standing::End | Standing::Word | Standing::Reserved | Standing::Integer | Standing::Sign =>
-            texts::NOTHING_MAY,
+        _ => texts::NOTHING_MAY,
     }
 }
 
 // What stands at a place, and what may stand there.
-#[tactic(auto, using(crate::proofs::Writers::writes_after))]
-fn write_standing<O: Sink>(
-    out: &mut O,
-    standing: Standing,
-    next: &[Candidate],
-) -> Result<(), WriteFault>
+#[tactic(auto, using(crate::proofs::Writers::writes_after, crate::proofs::Writers::broke_off, crate::proofs::Writers::stopped))]
+fn write_standing<O: Sink>(out: &mut O, standing: Standing, next: &[Candidate]) -> Written
     ensures { Writes result (O.seen out.old) (O.seen out.new) (sentences.standing_text standing ++ sentences.next_text (sentences.nothing_text standing) next.now) }
 {
     write_all(out, standing_text(standing))?;
@@ -183,7 +152,7 @@ fn write_syntax<O: Sink>(
     at: u16,
     next: &[Candidate],
     catalog: &Catalog,
-) -> Result<(), WriteFault>
+) -> Written
     ensures { Writes result (O.seen out.old) (O.seen out.new) (sentences.syntax_text text.now at next.now catalog.now) }
 {
     let rest = rest_of(text, at);
@@ -195,34 +164,14 @@ fn write_syntax<O: Sink>(
 
 // The sentence of a fault of the name of a stream.
 #[tactic(auto, unfolding(crate::specs::Sentences::stream_sentence))]
-fn write_stream_sentence<O: Sink>(
-    out: &mut O,
-    fault: &Fault,
-    catalog: &Catalog,
-) -> Result<(), WriteFault>
+fn write_stream_sentence<O: Sink>(out: &mut O, fault: &Fault, catalog: &Catalog) -> Written
     ensures { Writes result (O.seen out.old) (O.seen out.new) (sentences.stream_sentence fault.now catalog.now) }
 {
     match fault {
-        Fault::DuplicateStream { name } => {
-            write_around(
-                out,
-                texts::STREAM_THERE,
-                name.bytes(),
-                texts::STREAM_THERE_TAIL,
-            )
-        }
-        Fault::SelfJoin { name } => {
-            write_around(
-                out,
-                texts::TWICE_IN_FROM,
-                name.bytes(),
-                texts::TWICE_IN_FROM_TAIL,
-            )
-        }
+        Fault::DuplicateStream { name } => write_name(out, texts::STREAM_THERE, name),
+        Fault::SelfJoin { name } => write_name(out, texts::TWICE_IN_FROM, name),
         Fault::NoStream { name } => write_no_stream(out, texts::NO_STREAM, name, catalog),
-        Fault::LockTwice { name } => {
-            write_around(out, texts::LOCK_TWICE, name.bytes(), texts::LOCK_TWICE_TAIL)
-        }
+        Fault::LockTwice { name } => write_name(out, texts::LOCK_TWICE, name),
         Fault::LockNoStream { name } => write_no_stream(out, texts::LOCK_NO_STREAM, name, catalog),
         _ => Ok(()),
     }
@@ -230,34 +179,15 @@ fn write_stream_sentence<O: Sink>(
 
 // The sentence of a fault of names.
 #[tactic(auto, unfolding(crate::specs::Sentences::name_sentence))]
-fn write_name_sentence<O: Sink>(
-    out: &mut O,
-    fault: &Fault,
-    known: &Known<'_>,
-) -> Result<(), WriteFault>
+fn write_name_sentence<O: Sink>(out: &mut O, fault: &Fault, known: &Known<'_>) -> Written
     ensures { Writes result (O.seen out.old) (O.seen out.new) (sentences.name_sentence fault.now known.now.catalog.now known.now.live.now) }
 {
     match fault {
-        Fault::DuplicateColumn { name } => {
-            write_around(
-                out,
-                texts::COLUMN_TWICE,
-                name.bytes(),
-                texts::COLUMN_TWICE_TAIL,
-            )
-        }
-        Fault::DuplicateQuery { name } => {
-            write_around(out, texts::QUERY_LIVE, name.bytes(), texts::QUERY_LIVE_TAIL)
-        }
-        Fault::NotInFrom { column } => write_column(out, b"", column, texts::NOT_IN_FROM_TAIL),
+        Fault::DuplicateColumn { name } => write_name(out, texts::COLUMN_TWICE, name),
+        Fault::DuplicateQuery { name } => write_name(out, texts::QUERY_LIVE, name),
+        Fault::NotInFrom { column } => write_column(out, texts::NOT_IN_FROM, column),
         Fault::NoColumn { column } => write_no_column(out, column, known.catalog),
-        Fault::NoQuery { name } => write_around_names(
-            out,
-            texts::NO_QUERY,
-            name.bytes(),
-            texts::NO_QUERY_TAIL,
-            known.live,
-        ),
+        Fault::NoQuery { name } => write_name_among(out, texts::NO_QUERY, name, known.live),
         _ => write_stream_sentence(out, fault, known.catalog),
     }
 }
@@ -269,12 +199,12 @@ fn write_row_sentence<O: Sink>(
     text: &[u8],
     fault: &Fault,
     catalog: &Catalog,
-) -> Result<(), WriteFault>
+) -> Written
     ensures { Writes result (O.seen out.old) (O.seen out.new) (sentences.row_sentence text.now fault.now catalog.now) }
 {
     match fault {
         Fault::RowKey => write_all(out, texts::ROW_KEY),
-        Fault::RowName { bytes } => write_long_name(out, *bytes),
+        Fault::RowName { bytes } => write_number(out, texts::ROW_NAME, u64::from(*bytes)),
         Fault::RowStream => write_row_stream(out, text, catalog),
         Fault::Arity {
             stream,
@@ -294,14 +224,14 @@ pub fn write_sentence<O: Sink>(
     text: &[u8],
     fault: &Fault,
     known: &Known<'_>,
-) -> Result<(), WriteFault>
+) -> Written
     ensures { Writes result (O.seen out.old) (O.seen out.new) (sentences.sentence_text text.now fault.now known.now.catalog.now known.now.live.now) }
 {
     match fault {
         Fault::LineTooLong => write_all(out, texts::LONG_LINE),
         Fault::Syntax { at, next } => write_syntax(out, text, *at, next.as_slice(), known.catalog),
         Fault::Limit { what, found } => write_limit(out, *what, *found),
-        Fault::Locked { line } => write_locked(out, *line),
+        Fault::Locked { line } => write_number(out, texts::LOCKED, *line),
         Fault::NoLock => write_all(out, texts::NO_LOCK),
         Fault::TooManyStreams => write_all(out, texts::MANY_STREAMS),
         Fault::TooManyQueries => write_all(out, texts::MANY_QUERIES),

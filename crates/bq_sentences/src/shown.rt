@@ -3,9 +3,11 @@ ghost use Rattle.std.specs.Prelude.{◌≡◌, ◌++◌, ◌≤◌, length, map}
 ghost use Rattle.bq_io.specs.Sink.{Writes};
 ghost use Rattle.bq_sentences.specs.Texts as specs;
 
+use crate::texts;
 use arrayvec::ArrayVec;
 use bq_hints::front_of;
-use bq_io::{Sink, WriteFault, write_pieces};
+use bq_io::Sink;
+use bq_templates::{Filling, Written, write_filled};
 
 /// The most bytes of a line that are shown.
 const MOST_SHOWN: u16 = 200;
@@ -23,7 +25,7 @@ fn more_text(text: &[u8]) -> &'static [u8]
 
 /// Writes a line behind two spaces: its first 200 bytes, and `..` where there are more.
 #[tactic(auto, unfolding(crate::specs::Texts::quoted_text))]
-pub fn write_quoted<O: Sink>(out: &mut O, text: &[u8]) -> Result<(), WriteFault>
+pub fn write_quoted<O: Sink>(out: &mut O, text: &[u8]) -> Written
     ensures { Writes result (O.seen out.old) (O.seen out.new) (specs.quoted_text text.now) }
 {
     write_enclosed(out, front_of(text, MOST_SHOWN), more_text(text))
@@ -49,15 +51,15 @@ fn blanks_for(front: &[u8]) -> ArrayVec<u8, 200>
 }
 
 // A text between two spaces and another text at the end of a line.
-fn write_enclosed<'a, O: Sink>(out: &mut O, text: &'a [u8], end: &'a [u8]) -> Result<(), WriteFault>
+fn write_enclosed<O: Sink>(out: &mut O, text: &[u8], end: &'static [u8]) -> Written
     ensures { Writes result (O.seen out.old) (O.seen out.new) (specs.enclosed text.now end.now) }
 {
-    let pieces: [&[u8]; 4] = [b"  ", text, end, b"\n"];
-    write_pieces(out, &pieces)
+    let fillings = [Filling::Text(text), Filling::Fixed(end)];
+    write_filled(out, texts::ENCLOSED, &fillings)
 }
 
 /// Writes a mark below a place that stands behind these bytes of a line, at most 200.
-pub fn write_mark<O: Sink>(out: &mut O, front: &[u8]) -> Result<(), WriteFault>
+pub fn write_mark<O: Sink>(out: &mut O, front: &[u8]) -> Written
     requires { length front.now ≤ 200 }
     ensures { Writes result (O.seen out.old) (O.seen out.new) (specs.mark_line front.now) }
 {

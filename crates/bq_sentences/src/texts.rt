@@ -1,78 +1,68 @@
-//! The sentences, as they are written. Where one has a name or a number in it, its pieces stand here one behind the other.
+//! The sentences. Each `_` of one that tells a name or a number is a hole, which these fill.
 
+// The lines around a sentence.
+pub const HEAD: &[u8] = b"line _: _\n";
+
+pub const ENCLOSED: &[u8] = b"  __\n";
+
+pub const INDENT: &[u8] = b"  ";
+
+pub const PLACE: &[u8] = b"  at byte _: ";
+
+// Faults of names.
+pub const STREAM_THERE: &[u8] =
+    b"there is a stream _ already: leave this line out, or take another name";
+
+pub const COLUMN_TWICE: &[u8] = b"two columns have the name _: rename one of them";
+
+pub const QUERY_LIVE: &[u8] =
+    b"a live query has the name _: drop that one before, or take another name";
+
+pub const NO_STREAM: &[u8] = b"FROM names _, and there is no such stream; ";
+
+pub const LOCK_NO_STREAM: &[u8] = b"TO names _, and there is no such stream; ";
+
+pub const NOT_IN_FROM: &[u8] =
+    b"_._ is a column of a stream that FROM does not name: add it to FROM";
+
+pub const NO_COLUMN: &[u8] = b"there is no column _._; ";
+
+pub const TWICE_IN_FROM: &[u8] =
+    b"FROM names _ twice: create a second stream with the same columns, and send it the same rows";
+
+pub const LOCK_TWICE: &[u8] = b"TO names _ twice: leave it out once";
+
+pub const NO_QUERY: &[u8] = b"no live query has the name _; ";
+
+pub const THERE_ARE: &[u8] = b"there are: ";
+
+pub const ALIKE: &[u8] = b"; the case of letters counts: write _";
+
+pub const THERE_IS_NONE: &[u8] = b"there is none";
+
+// Lines that come too late, or are too long or too many.
 pub const LONG_LINE: &[u8] = b"a line has at most 1024 bytes, and this has more";
-
-pub const STREAM_THERE: &[u8] = b"there is a stream ";
-
-pub const STREAM_THERE_TAIL: &[u8] = b" already: leave this line out, or take another name";
-
-pub const COLUMN_TWICE: &[u8] = b"two columns have the name ";
-
-pub const COLUMN_TWICE_TAIL: &[u8] = b": rename one of them";
-
-pub const QUERY_LIVE: &[u8] = b"a live query has the name ";
-
-pub const QUERY_LIVE_TAIL: &[u8] = b": drop that one before, or take another name";
 
 pub const MANY_STREAMS: &[u8] =
     b"there are 16 streams, and that is the most: let one stand for two, with a column that tells them apart";
 
 pub const MANY_QUERIES: &[u8] = b"64 queries are live, and that is the most: drop one before";
 
-pub const NO_STREAM: &[u8] = b"FROM names ";
-
-pub const LOCK_NO_STREAM: &[u8] = b"TO names ";
-
-pub const NO_STREAM_TAIL: &[u8] = b", and there is no such stream; ";
-
-pub const NOT_IN_FROM_TAIL: &[u8] =
-    b" is a column of a stream that FROM does not name: add it to FROM";
-
-pub const NO_COLUMN: &[u8] = b"there is no column ";
-
-pub const NO_COLUMN_TAIL: &[u8] = b"; ";
-
-pub const TWICE_IN_FROM: &[u8] = b"FROM names ";
-
-pub const TWICE_IN_FROM_TAIL: &[u8] =
-    b" twice: create a second stream with the same columns, and send it the same rows";
-
-pub const LOCK_TWICE: &[u8] = b"TO names ";
-
-pub const LOCK_TWICE_TAIL: &[u8] = b" twice: leave it out once";
-
-pub const LOCKED: &[u8] = b"the session was locked in line ";
-
-pub const LOCKED_TAIL: &[u8] = b"; lines like this stand before it";
+pub const LOCKED: &[u8] = b"the session was locked in line _; lines like this stand before it";
 
 pub const NO_LOCK: &[u8] = b"no lock stands here";
 
-pub const NO_QUERY: &[u8] = b"no live query has the name ";
-
-pub const NO_QUERY_TAIL: &[u8] = b"; ";
-
-pub const THERE_ARE: &[u8] = b"there are: ";
-
-pub const ALIKE: &[u8] = b"; the case of letters counts: write ";
-
-pub const THERE_IS_NONE: &[u8] = b"there is none";
-
+// Rows, and their fields.
 pub const ROW_KEY: &[u8] = b"a row begins with the name of its stream, and this word is reserved";
 
-pub const ROW_NAME: &[u8] = b"a name has at most 24 bytes, and this has ";
+pub const ROW_NAME: &[u8] = b"a name has at most 24 bytes, and this has _";
 
 pub const ROW_STREAM: &[u8] =
     b"a row begins with the name of its stream, and there is no such stream; ";
 
-pub const ROW_OF: &[u8] = b"fields wanted by a row of ";
+pub const ROW_COUNTS: &[u8] = b"fields wanted by a row of _: _, found: _; its columns are: ";
 
-pub const ROW_WANTS: &[u8] = b": ";
-
-pub const ROW_HAS: &[u8] = b", found: ";
-
-pub const ROW_COLUMNS: &[u8] = b"; its columns are: ";
-
-pub const FIELD: &[u8] = b"field ";
+pub const FIELD: &[u8] = b"field __";
 
 pub const FIELD_EMPTY: &[u8] = b" is empty: a row has an integer for each column";
 
@@ -88,12 +78,11 @@ pub const FIELD_EXPONENT: &[u8] = b" has an exponent: write all digits, as 1000 
 pub const FIELD_OTHER: &[u8] =
     b" is no integer of 64 bits, from -9223372036854775808 to 9223372036854775807";
 
-pub const FIELD_OF: &[u8] = b", ";
+pub const FIELD_OUTSIDE: &[u8] = b"field _, _._, lies outside ";
 
-pub const FIELD_OUTSIDE: &[u8] = b", lies outside ";
+pub const DOMAIN: &[u8] = b"_.._";
 
-pub const POINTS: &[u8] = b"..";
-
+// Limits, with the number that is found.
 pub const LIMIT_NAME: &[u8] = b"a name has at most 24 bytes, and this has ";
 
 pub const LIMIT_COLUMNS: &[u8] = b"a stream has at most 8 columns, and this has ";
@@ -104,9 +93,8 @@ pub const LIMIT_FROM: &[u8] = b"FROM names at most 4 streams, and here it names 
 
 pub const LIMIT_ATOMS: &[u8] = b"a query has at most 16 comparisons, and this has ";
 
-pub const LIMIT_SOFT: &[u8] = b"a query has at most 8 comparisons with <=, >= or <>, and this has ";
-
-pub const LIMIT_SOFT_TAIL: &[u8] = b": write a < 6 for a <= 5, and a > 4 for a >= 5";
+pub const LIMIT_SOFT: &[u8] =
+    b"a query has at most 8 comparisons with <=, >= or <>, and this has _: write a < 6 for a <= 5, and a > 4 for a >= 5";
 
 pub const LIMIT_ATTRS: &[u8] =
     b"the comparisons name at most 12 different columns, and here they name ";
@@ -124,6 +112,7 @@ pub const LIMIT_TUPLE: &[u8] = b"a tuple has at most 8 integers, and this has ";
 
 pub const LIMIT_STREAMS: &[u8] = b"a lock names at most 16 streams, and this names ";
 
+// What was most likely meant.
 pub const HINT_BOM: &[u8] =
     b"a byte order mark stands here, which many editors do not show: save the file without one";
 
@@ -147,12 +136,6 @@ pub const HINT_OR: &[u8] =
     b"comparisons are joined by AND alone: create a query for each side of OR";
 
 pub const HINT_BARE_COLUMN: &[u8] = b"a column is written with its stream, as ";
-
-pub const STREAM_EXAMPLE: &[u8] = b"Stream";
-
-pub const COLUMN_EXAMPLE: &[u8] = b"column";
-
-pub const POINT: &[u8] = b".";
 
 pub const HINT_RESERVED: &[u8] =
     b"this word is reserved, and no name: take another, as one with _ behind it";
@@ -232,6 +215,13 @@ pub const HINT_SHOW: &[u8] =
 pub const HINT_CONTINUED: &[u8] =
     b"a statement stands on one line: put this behind the line before; docs/QUERIES.md tells what may be said";
 
+pub const EXAMPLE: &[u8] = b"_._";
+
+pub const STREAM_EXAMPLE: &[u8] = b"Stream";
+
+pub const COLUMN_EXAMPLE: &[u8] = b"column";
+
+// What stands at a place, and what may stand there.
 pub const STANDS_END: &[u8] = b"a statement stands on one line, and the line ends here";
 
 pub const STANDS_WORD: &[u8] = b"a word stands here";
@@ -244,9 +234,9 @@ pub const STANDS_SIGN: &[u8] = b"a sign stands here";
 
 pub const STANDS_STRANGE: &[u8] = b"a byte stands here that begins no word, integer or sign";
 
-pub const MAY_STAND: &[u8] = b", here may stand: ";
-
 pub const NOTHING_MAY: &[u8] = b", where the statement has ended";
 
 pub const NOTHING_FITS: &[u8] =
     b", where nothing may stand: the statement has ended, or goes wrong before";
+
+pub const MAY_STAND: &[u8] = b", here may stand: ";

@@ -1,35 +1,32 @@
 //! The text of a fault.
-ghost use Rattle.std.specs.Prelude.{◌++◌, ◌∷◌, []};
 ghost use Rattle.bq_io.specs.Sink.{Writes};
-ghost use Rattle.bq_sentences.specs.Sentences.{sentence_text};
 ghost use Rattle.bq_sentences.specs.Texts as specs;
 ghost use Rattle.bq_sentences.specs.Texts.{fault_text};
 
 use crate::sentences::write_sentence;
 use crate::shown::{write_mark, write_quoted};
+use crate::texts;
 use bq_diagnosis::{Fault, Known, place_of, word_of};
 use bq_hints::front_of;
-use bq_io::{Sink, WriteFault, write_all, write_pieces};
+use bq_io::{Sink, write_all};
 use bq_parser::classify;
 use bq_reply::{Refusal, word_text};
-use itoa::Buffer;
+use bq_templates::{Filling, Written, write_filled};
 
 /// The last place that is shown.
 const LAST_SHOWN: u16 = 200;
 
 // `line 8: Syntax`
 #[tactic(auto, unfolding(crate::specs::Texts::head_text))]
-fn write_head<O: Sink>(out: &mut O, number: u64, word: Refusal) -> Result<(), WriteFault>
+fn write_head<O: Sink>(out: &mut O, number: u64, word: Refusal) -> Written
     ensures { Writes result (O.seen out.old) (O.seen out.new) (specs.head_text number word) }
 {
-    let mut buffer = Buffer::new();
-    let digits = buffer.format(number).as_bytes();
-    let pieces: [&[u8]; 5] = [b"line ", digits, b": ", word_text(word), b"\n"];
-    write_pieces(out, &pieces)
+    let fillings = [Filling::Number(number), Filling::Fixed(word_text(word))];
+    write_filled(out, texts::HEAD, &fillings)
 }
 
 // The mark below a place, where the place is shown.
-fn write_mark_at<O: Sink>(out: &mut O, text: &[u8], place: Option<u16>) -> Result<(), WriteFault>
+fn write_mark_at<O: Sink>(out: &mut O, text: &[u8], place: Option<u16>) -> Written
     ensures { Writes result (O.seen out.old) (O.seen out.new) (specs.mark_text text.now place) }
 {
     match place {
@@ -45,8 +42,8 @@ fn write_mark_at<O: Sink>(out: &mut O, text: &[u8], place: Option<u16>) -> Resul
 }
 
 // The line and its mark.
-#[tactic(auto, using(crate::proofs::Writers::writes_after))]
-fn write_marked<O: Sink>(out: &mut O, text: &[u8], place: Option<u16>) -> Result<(), WriteFault>
+#[tactic(auto, using(crate::proofs::Writers::writes_after, crate::proofs::Writers::broke_off, crate::proofs::Writers::stopped))]
+fn write_marked<O: Sink>(out: &mut O, text: &[u8], place: Option<u16>) -> Written
     ensures { Writes result (O.seen out.old) (O.seen out.new) (specs.marked_text text.now place) }
 {
     write_quoted(out, text)?;
@@ -55,7 +52,7 @@ fn write_marked<O: Sink>(out: &mut O, text: &[u8], place: Option<u16>) -> Result
 
 // The line and its mark; a line that is too long is not shown.
 #[tactic(auto, unfolding(crate::specs::Texts::shown_text))]
-fn write_shown<O: Sink>(out: &mut O, text: &[u8], fault: &Fault) -> Result<(), WriteFault>
+fn write_shown<O: Sink>(out: &mut O, text: &[u8], fault: &Fault) -> Written
     ensures { Writes result (O.seen out.old) (O.seen out.new) (specs.shown_text text.now fault.now) }
 {
     match fault {
@@ -64,111 +61,47 @@ fn write_shown<O: Sink>(out: &mut O, text: &[u8], fault: &Fault) -> Result<(), W
     }
 }
 
-// `at byte 310: `
-fn write_byte_number<O: Sink>(out: &mut O, at: u16) -> Result<(), WriteFault>
+// `  at byte 310: `
+fn write_byte_number<O: Sink>(out: &mut O, at: u16) -> Written
     ensures { Writes result (O.seen out.old) (O.seen out.new) (specs.byte_text at) }
 {
-    let mut buffer = Buffer::new();
-    let digits = buffer.format(u32::from(at) + 1).as_bytes();
-    let pieces: [&[u8]; 3] = [b"at byte ", digits, b": "];
-    write_pieces(out, &pieces)
+    write_filled(out, texts::PLACE, &[Filling::Count(u32::from(at) + 1)])
 }
 
-// The place by its number from 1, where it is not shown.
+// Two spaces, and the place by its number from 1 where it is not shown.
 #[tactic(auto, unfolding(crate::specs::Texts::place_text))]
-fn write_place<O: Sink>(out: &mut O, place: Option<u16>) -> Result<(), WriteFault>
+fn write_place<O: Sink>(out: &mut O, place: Option<u16>) -> Written
     ensures { Writes result (O.seen out.old) (O.seen out.new) (specs.place_text place) }
 {
     match place {
-        None => Ok(()),
+        None => write_all(out, texts::INDENT),
         Some(at) => {
             if LAST_SHOWN < at {
                 write_byte_number(out, at)
             } else {
-                Ok(())
+                write_all(out, texts::INDENT)
             }
         }
     }
 }
 
-// The sentence, and the end of its line.
-#[tactic(auto, using(crate::proofs::Writers::writes_after))]
-fn write_ended<O: Sink>(
-    out: &mut O,
-    text: &[u8],
-    fault: &Fault,
-    known: &Known<'_>,
-) -> Result<(), WriteFault>
-    ensures { Writes result (O.seen out.old) (O.seen out.new) (sentence_text text.now fault.now known.now.catalog.now known.now.live.now ++ 10 ∷ []) }
-{
-    write_sentence(out, text, fault, known)?;
-    write_all(out, b"\n")
-}
-
-// The place where it is not shown, the sentence, and the end of its line.
-#[tactic(auto, using(crate::proofs::Writers::writes_after))]
-fn write_placed<O: Sink>(
-    out: &mut O,
-    text: &[u8],
-    fault: &Fault,
-    known: &Known<'_>,
-) -> Result<(), WriteFault>
-    ensures { Writes result (O.seen out.old) (O.seen out.new) (specs.placed_text text.now fault.now known.now.catalog.now known.now.live.now) }
-{
-    write_place(out, place_of(text, fault))?;
-    write_ended(out, text, fault, known)
-}
-
-// Two spaces.
-#[tactic(auto, unfolding(crate::specs::Texts::indent))]
-fn write_indent<O: Sink>(out: &mut O) -> Result<(), WriteFault>
-    ensures { Writes result (O.seen out.old) (O.seen out.new) specs.indent }
-{
-    write_all(out, b"  ")
-}
-
-// The line with the sentence.
-#[tactic(auto, using(crate::proofs::Writers::writes_after))]
-fn write_sentence_line<O: Sink>(
-    out: &mut O,
-    text: &[u8],
-    fault: &Fault,
-    known: &Known<'_>,
-) -> Result<(), WriteFault>
-    ensures { Writes result (O.seen out.old) (O.seen out.new) (specs.sentence_line text.now fault.now known.now.catalog.now known.now.live.now) }
-{
-    write_indent(out)?;
-    write_placed(out, text, fault, known)
-}
-
-// The line, its mark, and the line with the sentence.
-#[tactic(auto, using(crate::proofs::Writers::writes_after))]
-fn write_body<O: Sink>(
-    out: &mut O,
-    text: &[u8],
-    fault: &Fault,
-    known: &Known<'_>,
-) -> Result<(), WriteFault>
-    ensures { Writes result (O.seen out.old) (O.seen out.new) (specs.body_text text.now fault.now known.now.catalog.now known.now.live.now) }
-{
-    write_shown(out, text, fault)?;
-    write_sentence_line(out, text, fault, known)
-}
-
 /// Writes what is wrong with a line: its number and the word, the line without the blanks at its ends, a mark below the place where
 /// there is one, and a sentence. Of a line of more than 200 bytes the first 200 are shown, and a place behind them is told by
 /// its number; a line of more than 1,024 bytes is not shown. Where the sink fails, a front of the text was written.
-#[tactic(auto, using(crate::proofs::Writers::writes_after))]
+#[tactic(auto, using(crate::proofs::Writers::writes_after, crate::proofs::Writers::broke_off, crate::proofs::Writers::stopped))]
 pub fn write_fault<O: Sink>(
     out: &mut O,
     number: u64,
     line: &[u8],
     fault: &Fault,
     known: &Known<'_>,
-) -> Result<(), WriteFault>
+) -> Written
     ensures { Writes result (O.seen out.old) (O.seen out.new) (fault_text number line.now fault.now known.now.catalog.now known.now.live.now) }
 {
     let text = classify(line).1;
     write_head(out, number, word_of(fault))?;
-    write_body(out, text, fault, known)
+    write_shown(out, text, fault)?;
+    write_place(out, place_of(text, fault))?;
+    write_sentence(out, text, fault, known)?;
+    write_all(out, b"\n")
 }

@@ -4,6 +4,6 @@ use Rattle.std.specs.List.{flat_map}
 use Rattle.bq_advice.specs.Changes.{cheaper_line}
 use Rattle.bq_advice.proofs.changes.write_comparisons.Given as goal
 
--- the lines so far were written
+-- the texts so far were written
 abbrev pub invariant-loop-cheaper : goal.invariant-loop-cheaper
-invariant-loop-cheaper g l = Wrote (g.O.Sink.seen l.fn.out) (g.O.Sink.seen l.out) (flat_map (cheaper_line l.catalog l.from) (take l.cheaper-index l.list))
+invariant-loop-cheaper g l = Wrote (g.O.Sink.seen l.fn.out) (g.O.Sink.seen l.out) (flat_map (cheaper_line l.names.catalog.now l.names.from.now) (take l.cheaper-index l.list))
