@@ -29,6 +29,14 @@ def write_domain(random, column):
     return f" IN {low}..{low + random.choice(WIDE if column == 'a' else NARROW) - 1}"
 
 
+def query_line(random, number, words, sources, columns, atoms):
+    """The line that creates a query of these sources and comparisons: it selects one or two of the columns, and begins with one of the words."""
+    word = random.choice(words)
+    select = ", ".join(random.sample(columns, random.randint(1, min(2, len(columns)))))
+    where = f" WHERE {' AND '.join(atoms)}" if atoms else ""
+    return f"CREATE {word}QUERY q{number} AS SELECT {random.choice(('', 'DISTINCT '))}{select} FROM {', '.join(sources)}{where}"
+
+
 def write_query(random, number, streams):
     """A line that creates a query over some of the streams, mostly joined by their first columns."""
     sources = random.sample(list(streams), random.randint(min(2, len(streams)), min(3, len(streams))))
@@ -40,10 +48,7 @@ def write_query(random, number, streams):
             atoms.append(f"{left} {random.choice(OPERATORS)} {random.randint(0, 9)}")
         elif left != right:
             atoms.append(f"{left} {random.choice(OPERATORS)} {right}")
-    words = random.choice(("", "COMPACT ", "COMPACT ", "SHARED "))
-    select = ", ".join(random.sample(columns, random.randint(1, min(2, len(columns)))))
-    where = f" WHERE {' AND '.join(atoms)}" if atoms else ""
-    return f"CREATE {words}QUERY q{number} AS SELECT {random.choice(('', 'DISTINCT '))}{select} FROM {', '.join(sources)}{where}"
+    return query_line(random, number, ("", "COMPACT ", "COMPACT ", "SHARED "), sources, columns, atoms)
 
 
 def write_script(random):

@@ -47,10 +47,7 @@ def write_query(random, number, streams):
             atoms.append(f"{left} {random.choice(language.OPERATORS)} {random.randint(0, 3)}")
         elif left != right:
             atoms.append(f"{left} {random.choice('===<>')} {right}")
-    words = random.choice(("", "", "COMPACT ", "SHARED "))
-    select = ", ".join(random.sample(columns, random.randint(1, min(2, len(columns)))))
-    where = f" WHERE {' AND '.join(atoms)}" if atoms else ""
-    return f"CREATE {words}QUERY q{number} AS SELECT {random.choice(('', 'DISTINCT '))}{select} FROM {', '.join(sources)}{where}"
+    return ranges.query_line(random, number, ("", "", "COMPACT ", "SHARED "), sources, columns, atoms)
 
 
 def write_script(random):
