@@ -1,14 +1,18 @@
 -- What `advise` finds of a query is what a session decides.
-use Rattle.std.proofs.Common.{◌≡◌, ℕ, Bool, true, false, not, if◌then◌else◌, List, refl, sym, ap, ◌∙◌, None, nat_lt}
+use Rattle.std.proofs.Common.{◌≡◌, ℕ, Bool, true, false, not, if◌then◌else◌, List, [], ◌∷◌, inl, inr, refl, sym, ap, ◌∙◌, None, nat_lt}
 use Rattle.bq_model.specs.Query.{QueryValue}
-use Rattle.bq_model.specs.Numbers.{page_count, pages_of}
+use Rattle.bq_model.specs.Numbers.{page_count, pages_of, numbers_of}
 use Rattle.bq_model.specs.declared.decision.Which.TheVariants.{Parts}
+use Rattle.bq_model.specs.declared.plan.Numbers.{Numbers}
 use Rattle.bq_model.specs.declared.plan.Plan.{Plan}
 use Rattle.bq_model.specs.declared.plan.Plan.TheVariants as plans
 use Rattle.bq_model.specs.Sharing.{numbers_for}
 use Rattle.bq_model.specs.Verdict as verdicts
-use Rattle.bq_model.specs.Verdict.{Verdict, IsVerdict, of_filter, of_many_parts, of_violation, of_plan, verdict_after, verdict_by}
-use Rattle.bq_laws.proofs.Verdicts.{has-one-verdict}
+use Rattle.bq_model.specs.Verdict.{Verdict, of_filter, of_many_parts, of_violation, of_plan, verdict_after, verdict_by}
+use Rattle.bq_forms.specs.Forms.{IsFormPlan, IsFormVerdict}
+use Rattle.bq_forms.specs.Forms as forms
+use Rattle.bq_forms.proofs.Forms.{has_one_form_verdict}
+use Rattle.bq_forms.proofs.OnePart.{one_part_numbers}
 use Rattle.bq_mend.specs.declared.judging.Judgement.{Judgement}
 use Rattle.bq_mend.specs.declared.judging.Judgement.TheVariants as judgement
 use Rattle.bq_mend.specs.Numbered.{IsJudgement}
@@ -24,14 +28,26 @@ verdict_for free (judgement.Above which value) = verdicts.limit which
 verdict_for free (judgement.Violation part condition attr) = verdicts.violation (record { part = part; condition = condition; attr = attr })
 verdict_for free judgement.ManyParts = verdicts.limit Parts
 
-judged : (shared : Bool) (q : QueryValue) (free : ℕ) (j : Judgement) → IsJudgement shared q j → IsVerdict shared q free (verdict_for free j)
-judged shared q free judgement.Filter h = of_filter h refl
-judged shared q free (judgement.Accepted numbers) h =
-    of_plan h.0 (h.1.few h.0) h.1.violation h.2.parts h.2.plan (ap (λ o. verdict_after o numbers free) (sym h.2.within) ∙ ap (λ n. verdict_by n free) h.2.are)
+judged : (shared : Bool) (q : QueryValue) (free : ℕ) (j : Judgement) → IsJudgement shared q j → IsFormVerdict shared q free (verdict_for free j)
+judged shared q free judgement.Filter h = forms.parts (inl h) (of_filter h refl)
+judged shared q free (judgement.Accepted numbers) h = by h.2.plan
+  where
+    -- by these numbers, which are its own
+    own : (others : Numbers) → numbers ≡ others → verdict_after None numbers free ≡ verdict_by others free
+    own others e = ap (λ o. verdict_after o numbers free) (sym h.2.within) ∙ ap (λ n. verdict_by n free) e
+
+    by : IsFormPlan shared q h.2.parts → IsFormVerdict shared q free (verdict_after None numbers free)
+    by (forms.whole c part fits follow e) =
+        forms.whole h.0 c part fits follow (own (numbers_of q (part ∷ [])) (h.2.are ∙ ap (numbers_for shared q) e ∙ one_part_numbers shared q part))
+    by (forms.parts none is) =
+        let met = h.1 h.0 none in
+        forms.parts (inr none) (of_plan h.0 met.0 met.1 h.2.parts is (own (numbers_for shared q h.2.parts) h.2.are))
 judged shared q free (judgement.Above which value) h =
-    of_plan h.1.plain (h.0.few h.1.plain) h.0.violation h.1.parts h.1.plan (ap (λ o. verdict_after o (numbers_for shared q h.1.parts) free) (sym h.1.first))
-judged shared q free (judgement.Violation part condition attr) h = of_violation h.0 h.1 (record { part = part; condition = condition; attr = attr }) h.2 refl
-judged shared q free judgement.ManyParts h = of_many_parts h.0 h.1 refl
+    forms.parts (inr h.0)
+    (of_plan h.2.plain (h.1.few h.2.plain) h.1.violation h.2.parts h.2.plan (ap (λ o. verdict_after o (numbers_for shared q h.2.parts) free) (sym h.2.first)))
+judged shared q free (judgement.Violation part condition attr) h =
+    forms.parts (inr h.0) (of_violation h.1 h.2 (record { part = part; condition = condition; attr = attr }) h.3 refl)
+judged shared q free judgement.ManyParts h = forms.parts (inr h.0) (of_many_parts h.1 h.2 refl)
 
 -- a judgement accepts where its verdict does
 accepts_alike : (free : ℕ) (j : Judgement) → is_accepted free j ≡ not (is_refusal (verdict_for free j))
@@ -79,9 +95,9 @@ pub data IsSettled (name : List ℕ) (q : QueryValue) (shared : Bool) (free : �
 
 pub settled : (name : List ℕ) (q : QueryValue) (shared : Bool) (free : ℕ) (j : Judgement) (answer : Answer) → IsJudgement shared q j → IsDecided name q shared free answer → IsSettled name q shared free j answer
 settled name q shared free j answer h (accepted plan p v e) =
-    let same : acceptance plan ≡ verdict_for free j = has-one-verdict shared q free (acceptance plan) (verdict_for free j) v (judged shared q free j h) in
+    let same : acceptance plan ≡ verdict_for free j = has_one_form_verdict shared q free (acceptance plan) (verdict_for free j) v (judged shared q free j h) in
     let sure : is_accepted free j ≡ true = accepts_alike free j ∙ ap (λ w. not (is_refusal w)) (sym same) ∙ ap not (never_refused plan) in
     registers plan e sure (pages_alike free j sure ∙ ap pages_in (sym same) ∙ sym (pages_planned plan))
 settled name q shared free j answer h (rejected verdict v r e) =
-    let same : verdict ≡ verdict_for free j = has-one-verdict shared q free verdict (verdict_for free j) v (judged shared q free j h) in
+    let same : verdict ≡ verdict_for free j = has_one_form_verdict shared q free verdict (verdict_for free j) v (judged shared q free j h) in
     refuses verdict e (accepts_alike free j ∙ ap (λ w. not (is_refusal w)) (sym same) ∙ ap not r)

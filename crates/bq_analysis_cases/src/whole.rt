@@ -3,11 +3,9 @@ use crate::fault::Fault;
 use crate::query::query_of;
 use arrayvec::ArrayVec;
 use bq_io::{Sink, write_all};
-use bq_model::{Break, Condition, Dim, Element, Kind, Link, Op};
+use bq_model::{Break, Condition, Dim, Element, Kind, Link, LocalCondition, Op};
 use bq_schema::Catalog;
-use bq_whole_form::{
-    LocalCondition, PartNumbers, Whole, WholePart, WholeStream, numbers_of, whole_of,
-};
+use bq_whole_form::{PartNumbers, Whole, WholePart, WholeStream, numbers_of, whole_of};
 use bq_whole_plan::ColumnLink;
 use std::alloc::Global;
 

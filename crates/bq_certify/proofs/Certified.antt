@@ -1,21 +1,22 @@
 -- What certifying a script comes to.
-use Rattle.std.proofs.Common.{◌≡◌, ℕ, ◌+◌, None, Some, List, [], ◌∷◌, ◌++◌, length, refl, sym, ap, ◌∙◌, subst, append-nil, length-append, arith, Err}
-use Rattle.std.specs.Prelude.{⊤}
+use Rattle.std.proofs.Common.{◌≡◌, ℕ, ◌+◌, None, Some, List, [], ◌∷◌, ◌++◌, length, refl, sym, ap, ◌∙◌, subst, append-nil, length-append, arith, true, Err}
+use Rattle.std.specs.Prelude.{⊤, IsFalse}
 use Rattle.std.proofs.lemmas.List.Elements.{All-from_recursion}
 use Rattle.bq_io.specs.Source.{SourceState}
 use Rattle.bq_text.specs.Lines.{lines}
 use Rattle.bq_feed.specs.Reading.{Reading}
 use Rattle.bq_feed.specs.Texts.{ended_part}
 use Rattle.bq_feed.proofs.GivenEnds.{front-lines, took-lines, took-all}
+use Rattle.bq_model.specs.Query.{QueryValue, is_filter}
+use Rattle.bq_forms.specs.Forms.{HasWholeForm}
+use Rattle.bq_certmake.specs.Made.{IsTooLarge}
 use Rattle.bq_parser.specs.declared.tree.Statement.{Statement}
 use Rattle.bq_reply.specs.declared.refusal.Refusal.{Refusal}
-use Rattle.bq_reply.specs.declared.refusal.Refusal.TheVariants.{Limit}
 use Rattle.bq_certificate.specs.declared.line.Line.{Line}
 use Rattle.bq_certificate.specs.Nodes.{nodes_of}
 use Rattle.bq_certificate.specs.Certificate.{AreLines}
 use Rattle.bq_certcheck.specs.Reading.{IsGood}
 use Rattle.bq_certificate.specs.Text.{certificate_text}
-use Rattle.bq_certmake.specs.Made.{IsTooLarge}
 use Rattle.bq_script.specs.declared.end.ScriptEnd.{ScriptEnd}
 use Rattle.bq_script.specs.declared.end.ScriptEnd.TheVariants.{Refused, ReadFault, ByteLimit, Memory}
 use Rattle.bq_script.specs.declared.script.Script.{Script}
@@ -24,28 +25,38 @@ use Rattle.bq_script.specs.Texts.{script_text}
 use Rattle.bq_script.specs.Ends.{GaveScript, GaveLine, GaveAll, GaveLast, IsFull, ReadsBlank}
 use Rattle.bq_io.specs.declared.status.Status.TheVariants as status
 use Rattle.bq_script.specs.Commands.{Outcome, ComesTo, TookUnsettled, refusal}
-use Rattle.bq_certify.specs.Certifying.{Certifies, certified}
+use Rattle.bq_certify.specs.Certifying.{Certifies, IsCertified, IsUncertified, certified}
 use Rattle.bq_certify.specs.Certifying as certifying
 use Rattle.bq_script.specs.Ending.{StopsAt}
 use Rattle.bq_script.proofs.Behind.{none-behind, asks-then}
 use Rattle.bq_certify.specs.Certified.{MakesFor, ends_with}
 use Rattle.bq_certify.proofs.OneCertified.{certifies-alike}
 
--- the query of a script is too large
-pub comes-large : (script : Script) (source now : SourceState) (reader : Reading) → GaveScript script source now reader → IsTooLarge script.query → ComesTo Certifies source now (refusal script.line Limit)
-comes-large script source now reader g large =
+-- a filter is none that is no filter
+pub not_plain : (q : QueryValue) → is_filter q ≡ true → IsFalse (is_filter q) → ⊥
+not_plain q t f = cc
+
+-- one is written of a query whose whole form does not fit, and which is not too large
+pub certified_by : (q : QueryValue) → (IsFalse (is_filter q) → ¬ HasWholeForm q) → ¬ IsTooLarge q → IsCertified q
+certified_by q none small word (certifying.formed plain has e) = none plain has
+certified_by q none small word (certifying.large lacks much e) = small much
+
+-- no certificate is written of the query of a script
+pub comes-uncertified : (script : Script) (word : Refusal) (source now : SourceState) (reader : Reading) → GaveScript script source now reader → IsUncertified script.query word
+    → ComesTo Certifies source now (refusal script.line word)
+comes-uncertified script word source now reader g why =
     let none = none-behind g.given script.catalog g.name g.select g.shared script.query script.line g.asks g.last in
     let all : lines g.front ≡ g.given ++ [] = front-lines source now reader g.front g.given g.lines ∙ sym (append-nil g.given) in
     record {
       text = g.front;
       took = took-lines source now reader g.front g.given (omega (arith, g.last, g.asks.number_is)) g.lines;
-      comes = certifying.large script.catalog g.name g.select g.shared script.query script.line
-          (asks-then g.given [] (lines g.front) script.catalog g.name g.select g.shared script.query script.line g.asks none all) large refl;
+      comes = certifying.uncertified script.catalog g.name g.select g.shared script.query script.line
+          (asks-then g.given [] (lines g.front) script.catalog g.name g.select g.shared script.query script.line g.asks none all) word why refl;
       needed = omega (arith, ap length (front-lines source now reader g.front g.given g.lines), g.last);
     }
 
 -- a line behind the query says something
-pub comes-misplaced : (script : Script) (source now now' : SourceState) (old new : Reading) (number : ℕ) (word : Refusal) (g : GaveScript script source now old) → ¬ IsTooLarge script.query
+pub comes-misplaced : (script : Script) (source now now' : SourceState) (old new : Reading) (number : ℕ) (word : Refusal) (g : GaveScript script source now old) → IsCertified script.query
     → GaveLine source now' g.given new (λ place line. (number ≡ place) × IsMisplaced line word) → ComesTo Certifies source now' (refusal number word)
 comes-misplaced script source now now' old new number word g small t =
     let more = t.blanks ++ t.line ∷ [] in
@@ -62,7 +73,7 @@ comes-misplaced script source now now' old new number word g small t =
     }
 
 -- blank lines stand behind the query, up to the end of the source
-pub comes-whole : (script : Script) (certificate : List Line) (source now now' : SourceState) (old new : Reading) (g : GaveScript script source now old) → ¬ IsTooLarge script.query
+pub comes-whole : (script : Script) (certificate : List Line) (source now now' : SourceState) (old new : Reading) (g : GaveScript script source now old) → IsCertified script.query
     → AreLines certificate → IsGood script.query (nodes_of certificate) → GaveAll source now' g.given new → ComesTo Certifies source now' (ends_with script certificate)
 comes-whole script certificate source now now' old new g small are good t =
     let none = none-behind g.given script.catalog g.name g.select g.shared script.query script.line g.asks g.last in
@@ -77,7 +88,7 @@ comes-whole script certificate source now now' old new g small are good t =
     }
 
 -- The reader broke off behind the query. The lines that came whole settle nothing: were they all, the script would be certified.
-unsettled-behind : (script : Script) (certificate : List Line) (source now now' : SourceState) (old new : Reading) (P : List ℕ → Type 0) (g : GaveScript script source now old) → ¬ IsTooLarge script.query
+unsettled-behind : (script : Script) (certificate : List Line) (source now now' : SourceState) (old new : Reading) (P : List ℕ → Type 0) (g : GaveScript script source now old) → IsCertified script.query
     → AreLines certificate → IsGood script.query (nodes_of certificate) → GaveLast source now' g.given new P → TookUnsettled Certifies source now' P
 unsettled-behind script certificate source now now' old new P g small are good t =
     let none = none-behind g.given script.catalog g.name g.select g.shared script.query script.line g.asks g.last in
@@ -94,7 +105,7 @@ unsettled-behind script certificate source now now' old new P g small are good t
     }
 
 -- reading the lines behind the query stops
-pub stops-behind : (script : Script) (certificate : List Line) (end : ScriptEnd) (source now now' : SourceState) (old new : Reading) (g : GaveScript script source now old) → ¬ IsTooLarge script.query
+pub stops-behind : (script : Script) (certificate : List Line) (end : ScriptEnd) (source now now' : SourceState) (old new : Reading) (g : GaveScript script source now old) → IsCertified script.query
     → AreLines certificate → IsGood script.query (nodes_of certificate) → ReadsBlank (Err end) source now' g.given new → StopsAt Certifies end source now'
 stops-behind script certificate (Refused number word) source now now' old new g small are good t = record { needs = Some number; comes = comes-misplaced script source now now' old new number word g small t }
 stops-behind script certificate ReadFault source now now' old new g small are good t = (t.0, unsettled-behind script certificate source now now' old new (λ text. ⊤) g small are good t.1)
@@ -105,8 +116,8 @@ stops-behind script certificate Memory source now now' old new g small are good 
 pub stops-unmade : (script : Script) (end : ScriptEnd) (source now : SourceState) (reader : Reading) → GaveScript script source now reader → MakesFor (Err end) script → StopsAt Certifies end source now
 stops-unmade script (Refused number word) source now reader g m =
     let P : Outcome → Type 0 = λ o. ComesTo Certifies source now o in
-    let same : refusal number word ≡ refusal script.line Limit = ap (λ n. refusal n word) m.0 ∙ ap (λ w. refusal script.line w) m.1 in
-    record { needs = Some number; comes = subst P (sym same) (comes-large script source now reader g m.2) }
+    let same : refusal number word ≡ refusal script.line word = ap (λ n. refusal n word) m.0 in
+    record { needs = Some number; comes = subst P (sym same) (comes-uncertified script word source now reader g m.1) }
 stops-unmade script ReadFault source now reader g m = absurd m
 stops-unmade script ByteLimit source now reader g m = absurd m
 stops-unmade script Memory source now reader g m = tt

@@ -31,8 +31,8 @@ early-stays IsOutcome early all more o n number word (at_end streams create word
 
 pub certifying-stays : StaysWhenMoreFollows Certifies
 certifying-stays all more o n (certifying.early number word refused e) some = early-stays Certifies (λ l i w r p f. certifying.early i w r f) all more o n number word refused e some
-certifying-stays all more o n (certifying.large streams name select shared q number asks large e) some =
-    certifying.large streams name select shared q number (asks-more all more streams name select shared q number asks) large e
+certifying-stays all more o n (certifying.uncertified streams name select shared q number asks word why e) some =
+    certifying.uncertified streams name select shared q number (asks-more all more streams name select shared q number asks) word why e
 certifying-stays all more o n (certifying.misplaced streams name select shared q number asks small blanks line others word is blank wrong e) some =
     certifying.misplaced streams name select shared q number (asks-more all more streams name select shared q number asks) small blanks line (others ++ more) word
     (more-behind asks.behind blanks line others more is) blank wrong e

@@ -2,18 +2,17 @@
 use Rattle.std.proofs.Common.{◌≡◌, ℕ, suc, Bool, None, List, [], ◌∷◌, ◌++◌, length, refl, sym, ap, ap₂, ◌∙◌, subst, arith}
 use Rattle.std.specs.List.{AllByRecursion}
 use Rattle.std.proofs.lemmas.List.Elements.{recursion_from_All}
+use Rattle.bq_model.specs.Query.{QueryValue}
 use Rattle.bq_schema.specs.Streams.{Shape}
 use Rattle.bq_parser.specs.declared.tree.SelectAst.{SelectAst}
 use Rattle.bq_reply.specs.declared.refusal.Refusal.{Refusal}
-use Rattle.bq_reply.specs.declared.refusal.Refusal.TheVariants.{Limit}
 use Rattle.bq_certificate.specs.declared.line.Line.{Line}
-use Rattle.bq_certmake.specs.Made.{IsTooLarge}
 use Rattle.bq_script.specs.Script as scripts
 use Rattle.bq_script.specs.Script.{IsBlank, IsMisplaced}
 use Rattle.bq_script.proofs.OneEnd.{one_end}
 use Rattle.bq_script.specs.Commands.{Outcome, refusal}
 use Rattle.bq_certify.specs.Certifying as certifying
-use Rattle.bq_certify.specs.Certifying.{Certifies, certified}
+use Rattle.bq_certify.specs.Certifying.{Certifies, IsUncertified, formed, large, certified}
 use Rattle.bq_certify.specs.Laws.{AreAlike, same, both}
 use Rattle.bq_script.proofs.OneRefusal.{head-same, tail-same, behind-same, early-same, misplaced-loud, all-placed}
 
@@ -22,6 +21,13 @@ one-word line v w (scripts.IsMisplaced.too_long m p) (scripts.IsMisplaced.too_lo
 one-word line v w (scripts.IsMisplaced.too_long m p) (scripts.loud short n q) = absurd (omega (arith, m, short))
 one-word line v w (scripts.loud short n p) (scripts.IsMisplaced.too_long m q) = absurd (omega (arith, m, short))
 one-word line v w (scripts.loud short n p) (scripts.loud s m q) = p ∙ sym q
+
+-- one word says why no certificate is written
+one-why : (q : QueryValue) (v w : Refusal) → IsUncertified q v → IsUncertified q w → v ≡ w
+one-why q v w (formed plain has e) (formed also it f) = e ∙ sym f
+one-why q v w (formed plain has e) (large none much f) = absurd (none plain has)
+one-why q v w (large none much e) (formed plain has f) = absurd (none plain has)
+one-why q v w (large none much e) (large lacks many f) = e ∙ sym f
 
 -- one line is the first that has no place
 one-misplaced : (xs ys : List (List ℕ)) (x y : List ℕ) (rest others : List (List ℕ)) (v w : Refusal) → AllByRecursion IsBlank xs → AllByRecursion IsBlank ys → IsMisplaced x v → IsMisplaced y w
@@ -40,23 +46,23 @@ certified-same streams shapes name title select choice shared joint c e f g h =
 
 pub alike : (all : List (List ℕ)) (o p : Outcome) → Certifies all o → Certifies all p → AreAlike o p
 alike all o p (certifying.early m v a e) (certifying.early n w b f) = same (e ∙ early-same all m n v w a b ∙ sym f)
-alike all o p (certifying.early m v a e) (certifying.large streams name select shared q n asks large f) = absurd ((one_end all).2 streams name select shared q n m v asks a)
+alike all o p (certifying.early m v a e) (certifying.uncertified streams name select shared q n asks w why f) = absurd ((one_end all).2 streams name select shared q n m v asks a)
 alike all o p (certifying.early m v a e) (certifying.misplaced streams name select shared q n asks small blanks line others w is blank wrong f) = absurd ((one_end all).2 streams name select shared q n m v asks a)
 alike all o p (certifying.early m v a e) (certifying.whole streams name select shared q n asks small blank c are good f) = absurd ((one_end all).2 streams name select shared q n m v asks a)
-alike all o p (certifying.large streams name select shared q n asks large e) (certifying.early m v a f) = absurd ((one_end all).2 streams name select shared q n m v asks a)
-alike all o p (certifying.large streams name select shared q m asks large e) (certifying.large shapes title choice joint r n also great f) =
+alike all o p (certifying.uncertified streams name select shared q n asks w why e) (certifying.early m v a f) = absurd ((one_end all).2 streams name select shared q n m v asks a)
+alike all o p (certifying.uncertified streams name select shared q m asks u why e) (certifying.uncertified shapes title choice joint r n also w reason f) =
     let i = (one_end all).0 streams shapes name title select choice shared joint q r m n asks also in
-    same (e ∙ ap (λ k. refusal k Limit) i.5 ∙ sym f)
-alike all o p (certifying.large streams name select shared q m asks large e) (certifying.misplaced shapes title choice joint r n also small blanks line others w is blank wrong f) =
+    same (e ∙ ap₂ (λ (k : ℕ) (x : Refusal). refusal k x) i.5 (one-why r u w (subst (λ x. IsUncertified x u) i.4 why) reason) ∙ sym f)
+alike all o p (certifying.uncertified streams name select shared q m asks u why e) (certifying.misplaced shapes title choice joint r n also small blanks line others w is blank wrong f) =
     let i = (one_end all).0 streams shapes name title select choice shared joint q r m n asks also in
-    absurd (small (subst IsTooLarge i.4 large))
-alike all o p (certifying.large streams name select shared q m asks large e) (certifying.whole shapes title choice joint r n also small blank c are good f) =
+    absurd (small u (subst (λ x. IsUncertified x u) i.4 why))
+alike all o p (certifying.uncertified streams name select shared q m asks u why e) (certifying.whole shapes title choice joint r n also small blank c are good f) =
     let i = (one_end all).0 streams shapes name title select choice shared joint q r m n asks also in
-    absurd (small (subst IsTooLarge i.4 large))
+    absurd (small u (subst (λ x. IsUncertified x u) i.4 why))
 alike all o p (certifying.misplaced streams name select shared q n asks small blanks line others w is blank wrong e) (certifying.early m v a f) = absurd ((one_end all).2 streams name select shared q n m v asks a)
-alike all o p (certifying.misplaced streams name select shared q m asks small blanks line others v is blank wrong e) (certifying.large shapes title choice joint r n also large f) =
+alike all o p (certifying.misplaced streams name select shared q m asks small blanks line others v is blank wrong e) (certifying.uncertified shapes title choice joint r n also w reason f) =
     let i = (one_end all).0 streams shapes name title select choice shared joint q r m n asks also in
-    absurd (small (subst IsTooLarge (sym i.4) large))
+    absurd (small w (subst (λ x. IsUncertified x w) (sym i.4) reason))
 alike all o p (certifying.misplaced streams name select shared q m asks small blanks line others v is blank wrong e) (certifying.misplaced shapes title choice joint r n also little empty text more w it bare bad f) =
     let i = (one_end all).0 streams shapes name title select choice shared joint q r m n asks also in
     let behind : asks.behind ≡ also.behind = behind-same all streams shapes name title select choice shared joint q r m n asks also i.5 in
@@ -67,9 +73,9 @@ alike all o p (certifying.misplaced streams name select shared q m asks small bl
     let behind : asks.behind ≡ also.behind = behind-same all streams shapes name title select choice shared joint q r m n asks also i.5 in
     absurd (all-placed also.behind blanks line others v (sym behind ∙ is) bare wrong)
 alike all o p (certifying.whole streams name select shared q n asks small blank c are good e) (certifying.early m v a f) = absurd ((one_end all).2 streams name select shared q n m v asks a)
-alike all o p (certifying.whole streams name select shared q m asks small blank c are good e) (certifying.large shapes title choice joint r n also large f) =
+alike all o p (certifying.whole streams name select shared q m asks small blank c are good e) (certifying.uncertified shapes title choice joint r n also w reason f) =
     let i = (one_end all).0 streams shapes name title select choice shared joint q r m n asks also in
-    absurd (small (subst IsTooLarge (sym i.4) large))
+    absurd (small w (subst (λ x. IsUncertified x w) (sym i.4) reason))
 alike all o p (certifying.whole streams name select shared q m asks small blank c are good e) (certifying.misplaced shapes title choice joint r n also little empty text more w it bare bad f) =
     let i = (one_end all).0 streams shapes name title select choice shared joint q r m n asks also in
     let behind : asks.behind ≡ also.behind = behind-same all streams shapes name title select choice shared joint q r m n asks also i.5 in

@@ -1,13 +1,14 @@
 -- What `certify` comes to over the lines of a script.
-use Rattle.std.specs.Prelude.{◌≡◌, ℕ, ◌+◌, Bool, None, List, ◌∷◌, ◌++◌, length}
+use Rattle.std.specs.Prelude.{◌≡◌, ℕ, ◌+◌, Bool, IsFalse, None, List, ◌∷◌, ◌++◌, length}
 use Rattle.std.specs.List.{All}
 use Rattle.bq_io.specs.declared.status.Status.TheVariants as status
-use Rattle.bq_model.specs.Query.{QueryValue}
+use Rattle.bq_model.specs.Query.{QueryValue, is_filter}
+use Rattle.bq_forms.specs.Forms.{HasWholeForm}
 use Rattle.bq_schema.specs.Streams.{Shape}
 use Rattle.bq_parser.specs.declared.tree.SelectAst.{SelectAst}
 use Rattle.bq_parser.specs.declared.tree.Statement.TheVariants.{CreateQuery}
 use Rattle.bq_reply.specs.declared.refusal.Refusal.{Refusal}
-use Rattle.bq_reply.specs.declared.refusal.Refusal.TheVariants.{Limit}
+use Rattle.bq_reply.specs.declared.refusal.Refusal.TheVariants.{Limit, WholeForm}
 use Rattle.bq_certificate.specs.declared.line.Line.{Line}
 use Rattle.bq_certificate.specs.Nodes.{nodes_of}
 use Rattle.bq_certificate.specs.Certificate.{AreLines}
@@ -22,15 +23,25 @@ use Rattle.bq_script.specs.Commands.{Outcome, refusal, early_refusal}
 abbrev pub certified : List Shape → List ℕ → SelectAst → Bool → List Line → Outcome
 certified streams name select shared lines = record { status = status.Done; text = script_text streams (CreateQuery name select shared) ++ certificate_text lines; needs = None }
 
--- What it comes to: the first line that is refused before the query; the line of a query that is too large for a certificate; the first
+-- no certificate is written of the query, and this word says why: the query is compact and its whole form fits, of which no certificate speaks; or it
+-- is too large for one
+pub data IsUncertified (q : QueryValue) (word : Refusal) : Type 0 where
+  formed : IsFalse (is_filter q) → HasWholeForm q → word ≡ WholeForm → IsUncertified q word
+  large : (IsFalse (is_filter q) → ¬ HasWholeForm q) → IsTooLarge q → word ≡ Limit → IsUncertified q word
+
+-- one is written, where nothing but blank lines follows
+abbrev pub IsCertified : QueryValue → Type 0
+IsCertified q = (word : Refusal) → ¬ IsUncertified q word
+
+-- What it comes to: the first line that is refused before the query; the line of a query of which no certificate is written; the first
 -- line behind it that says something; or else the script with a good certificate, whichever it is.
 pub data Certifies (lines : List (List ℕ)) (o : Outcome) : Type 0 where
   early : (number : ℕ) (word : Refusal) (refused : IsRefusedAt lines number word) → o ≡ early_refusal number word refused → Certifies lines o
-  large : (streams : List Shape) (name : List ℕ) (select : SelectAst) (shared : Bool) (q : QueryValue) (number : ℕ) → Asks lines streams name select shared q number
-      → IsTooLarge q → o ≡ refusal number Limit → Certifies lines o
+  uncertified : (streams : List Shape) (name : List ℕ) (select : SelectAst) (shared : Bool) (q : QueryValue) (number : ℕ) → Asks lines streams name select shared q number
+      → (word : Refusal) → IsUncertified q word → o ≡ refusal number word → Certifies lines o
   misplaced : (streams : List Shape) (name : List ℕ) (select : SelectAst) (shared : Bool) (q : QueryValue) (number : ℕ) (asks : Asks lines streams name select shared q number)
-      → ¬ IsTooLarge q → (blanks : List (List ℕ)) (line : List ℕ) (others : List (List ℕ)) (word : Refusal) → asks.behind ≡ blanks ++ line ∷ others → All IsBlank blanks
+      → IsCertified q → (blanks : List (List ℕ)) (line : List ℕ) (others : List (List ℕ)) (word : Refusal) → asks.behind ≡ blanks ++ line ∷ others → All IsBlank blanks
       → IsMisplaced line word → o ≡ refusal (number + length blanks + 1) word → Certifies lines o
   whole : (streams : List Shape) (name : List ℕ) (select : SelectAst) (shared : Bool) (q : QueryValue) (number : ℕ) (asks : Asks lines streams name select shared q number)
-      → ¬ IsTooLarge q → All IsBlank asks.behind → (certificate : List Line) → AreLines certificate → IsGood q (nodes_of certificate)
+      → IsCertified q → All IsBlank asks.behind → (certificate : List Line) → AreLines certificate → IsGood q (nodes_of certificate)
       → o ≡ certified streams name select shared certificate → Certifies lines o

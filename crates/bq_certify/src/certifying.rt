@@ -1,9 +1,11 @@
 //! The command that certifies a script.
-ghost use Rattle.std.specs.Prelude.{◌≡◌, ◌≤◌, []};
+ghost use Rattle.std.specs.Prelude.{◌≡◌, ◌≤◌, ◌↔◌, [], IsTrue, IsFalse, IfOk};
 ghost use Rattle.bq_io.specs.declared.status.Status.TheVariants as status;
 ghost use Rattle.bq_io.specs.Source.{SourceState};
 ghost use Rattle.bq_io.specs.Sink.{Writes};
 ghost use Rattle.bq_feed.specs.Reading.{fresh};
+ghost use Rattle.bq_model.specs.Query.{is_filter};
+ghost use Rattle.bq_forms.specs.Forms.{HasWholeForm};
 ghost use Rattle.bq_script.specs.Ends.{GaveScript};
 ghost use Rattle.bq_script.specs.Commands.{CommandEnds};
 ghost use Rattle.bq_certify.specs.Certifying.{Certifies};
@@ -14,9 +16,11 @@ use bq_certificate::Certificate;
 use bq_certmake::{MakeError, make};
 use bq_feed::LineReader;
 use bq_io::{Gathered, Sink, Source, Status, WriteFault};
+use bq_model::Query;
 use bq_reply::Refusal;
 use bq_script::{Script, ScriptEnd, end_early, print_script, read_blank, read_script};
-use std::alloc::Global;
+use bq_whole_part::whole_form;
+use std::alloc::{AllocError, Global};
 
 /// A script, and a certificate of its query.
 #[derive(Drop)]
@@ -25,8 +29,22 @@ pub struct Certified {
     pub certificate: Certificate,
 }
 
-// Makes a certificate for a script. A query that is too large is refused at its line.
-fn make_for(alloc: Global, script: &Script) -> Result<Certificate, ScriptEnd>
+// Whether a query that is no filter has a whole form that fits.
+fn has_whole_form(alloc: Global, query: &Query) -> Result<bool, AllocError>
+    ensures { IfOk result (λ has. IsTrue has ↔ (IsFalse (is_filter query.now) × HasWholeForm query.now)) }
+{
+    if query.is_filter() {
+        return Ok(false);
+    }
+    match whole_form(alloc, query)? {
+        Some(_plan) => Ok(true),
+        None => Ok(false),
+    }
+}
+
+// Makes a certificate for a script whose query has no whole form that fits. A query that is too large is refused at its line.
+fn make_by_parts(alloc: Global, script: &Script) -> Result<Certificate, ScriptEnd>
+    requires { IsFalse (is_filter script.now.query) → ¬ HasWholeForm script.now.query }
     ensures { MakesFor result script.now }
 {
     match make(alloc, &script.query) {
@@ -40,6 +58,25 @@ fn make_for(alloc: Global, script: &Script) -> Result<Certificate, ScriptEnd>
             word: Refusal::Limit,
         }),
         Err(MakeError::Memory) => Err(ScriptEnd::Memory),
+    }
+}
+
+// Makes a certificate for a script. A query of which none is written is refused at its line.
+fn make_for(alloc: Global, script: &Script) -> Result<Certificate, ScriptEnd>
+    ensures { MakesFor result script.now }
+{
+    match has_whole_form(alloc, &script.query) {
+        Ok(has) => {
+            if has {
+                Err(ScriptEnd::Refused {
+                    line: script.line,
+                    word: Refusal::WholeForm,
+                })
+            } else {
+                make_by_parts(alloc, script)
+            }
+        }
+        Err(_) => Err(ScriptEnd::Memory),
     }
 }
 
@@ -135,8 +172,9 @@ fn end_done<O: Sink>(certified: &Certified, output: &mut O) -> Status
 /// Reads a script to the end of the source, and writes its statements in printed form and a certificate of its query.
 ///
 /// The script is one of CREATE STREAM lines and then one CREATE QUERY line, between blank lines and comments. The first line that is
-/// not is refused with `error L Word` and `Invalid`, as is the line of a query of more than 4,096 parts, or whose certificate has more
-/// than 262,144 nodes, with the word `Limit`. The source is read no further than the read in which such a line ends, so where it fails, or
+/// not is refused with `error L Word` and `Invalid`, as is the line of a compact query whose whole form fits, of which no certificate
+/// speaks, with the word `WholeForm`, and that of a query of more than 4,096 parts, or whose certificate has more than 262,144 nodes, with
+/// the word `Limit`. The source is read no further than the read in which such a line ends, so where it fails, or
 /// has more bytes than can be counted, no line that ended before is refused. Nothing is written before it is known what the command comes
 /// to, so nothing is in these two cases and for want of memory. Where the sink fails, a front of the text was written.
 pub fn certify<I: Source, O: Sink>(alloc: Global, input: &mut I, output: &mut O) -> Status

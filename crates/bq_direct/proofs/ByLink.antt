@@ -7,7 +7,7 @@ use Rattle.std.specs.Ordering.{int_eq}
 use Rattle.bq_model.specs.declared.atom.Attr.{Attr}
 use Rattle.bq_model.specs.declared.plan.Link.{Link}
 use Rattle.bq_model.specs.declared.plan.PartPlan.{PartPlan}
-use Rattle.bq_model.specs.Assignment.{Assignment}
+use Rattle.bq_model.specs.Assignment.{Assignment, compares}
 use Rattle.bq_model.specs.Meaning.{by_column}
 use Rattle.bq_laws.proofs.Tests.{and-left, not_both}
 use Rattle.bq_direct.specs.Known.{IsKnown}
@@ -31,4 +31,4 @@ by_link part pos row a b links i l is within place equal v m =
     holds : (t : Bool) → test link ≡ t → t ≡ true
     holds true e = refl
     holds false e =
-        absurd (not_both (list_all test links) (ap (list_all test) is ∙ and-left (list_all test part.equal.items) _ m.links) (list_all_at test links i l within e))
+        absurd (not_both (list_all test links) (ap (list_all test) is ∙ and-left (list_all test part.equal.items) _ (and-left _ (list_all (λ k. compares k.op (v k.left) (v k.right)) part.soft.items) m.links)) (list_all_at test links i l within e))

@@ -5,7 +5,7 @@ use Rattle.std.specs.Fmt.{decimal, signed_decimal}
 use Rattle.std.specs.Prelude.{slice_index}
 use Rattle.std.proofs.lemmas.List.Elements.{recursion_from_All}
 use Rattle.bq_checkpoint.specs.Lines.{kept_statements, cell_statement, cell_statements, content_in, printed_statements}
-use Rattle.bq_explain.specs.Text.{attr_text, dim_line, element_text, explain_text, kind_text, link_line, links_text, name_line, part_line, part_text, parts_text, plan_text, query_line, sign_line, sign_text, signs_text, stream_text}
+use Rattle.bq_explain.specs.Text.{attr_text, dim_line, element_text, explain_text, kind_text, link_line, links_text, name_line, part_line, part_text, parts_text, plan_text, query_line, sign_line, sign_text, signs_text, soft_line, soft_word, stream_text, unequal_text}
 use Rattle.bq_model.specs.Bases.{Base}
 use Rattle.bq_model.specs.Query.{QueryValue}
 use Rattle.bq_model.specs.declared.atom.Atom.{Atom}
@@ -21,6 +21,7 @@ use Rattle.bq_model.specs.declared.plan.Dim.{Dim}
 use Rattle.bq_model.specs.declared.plan.Kind.{Kind}
 use Rattle.bq_model.specs.declared.plan.Link.{Link}
 use Rattle.bq_model.specs.declared.plan.PartPlan.{PartPlan}
+use Rattle.bq_model.specs.declared.plan.SoftLink.{SoftLink}
 use Rattle.bq_model.specs.declared.plan.Plan.{Plan}
 use Rattle.bq_model.specs.declared.plan.Plan.TheVariants as plans
 use Rattle.bq_model.specs.declared.plan.StreamPlan.{StreamPlan}
@@ -29,6 +30,7 @@ use Rattle.bq_parser.specs.Grammar.{Lexeme, word, number, key, comma, closing, o
 use Rattle.bq_parser.specs.Resolution.{atom_named, column_named, named_select, operand_named, stream_named}
 use Rattle.bq_parser.specs.declared.tree.Statement.{Statement}
 use Rattle.bq_parser.specs.declared.tree.Statement.TheVariants.{CreateQuery, ResumeRows, ResumeTuple}
+use Rattle.bq_print.specs.PrintedParts.{op_text}
 use Rattle.bq_print.specs.Printed.{gap_by, joins, joins_short, key_text, printed, printed_form, short_form, spaced_by, text_for}
 use Rattle.bq_schema.specs.Streams.{IsCatalog, IsShape, IsName, Shape, column_at, no_column, shape_at}
 use Rattle.bq_schema.specs.declared.column.ColumnDef.{ColumnDef}
@@ -124,6 +126,22 @@ op_inner Gt = refl
 op_inner Le = refl
 op_inner Ge = refl
 op_inner Ne = refl
+
+op_text_inner : (op : Op) → Inner (op_text op)
+op_text_inner Lt = refl
+op_text_inner Eq = refl
+op_text_inner Gt = refl
+op_text_inner Le = refl
+op_text_inner Ge = refl
+op_text_inner Ne = refl
+
+soft_word_is : (op : Op) → (0 < length (soft_word op)) × Inner (soft_word op)
+soft_word_is Lt = (omega arith, refl)
+soft_word_is Eq = (omega arith, refl)
+soft_word_is Gt = (omega arith, refl)
+soft_word_is Le = (omega arith, refl)
+soft_word_is Ge = (omega arith, refl)
+soft_word_is Ne = (omega arith, refl)
 
 distinct_inner : (b : Bool) → AllByRecursion InnerToken (distinct_tokens b)
 distinct_inner true = (refl, tt)
@@ -258,10 +276,20 @@ module _ (streams : List Shape) (names : AllByRecursion HasInnerNames streams) w
   link_is : (from front : List ℕ) (s : Sign) (l : Link) → 0 < length front → Inner front → IsLines (link_line streams from front s l)
   link_is from front s l some h = pieces_line front (attr_text streams from l.left ∷ sign_text s ∷ attr_text streams from l.right ∷ []) some h (attr_inner from l.left, (sign_inner s, (attr_inner from l.right, tt)))
 
-  links_are : (from : List ℕ) (part : PartPlan) → IsLines (links_text streams from part)
-  links_are from part = lines_joined (flat_map (link_line streams from (codes "equal ") Sign.Eq) part.equal.items) (flat_map (link_line streams from (codes "less ") Sign.Lt) part.less.items)
-      (lines_all (link_line streams from (codes "equal ") Sign.Eq) (λ l. link_is from (codes "equal ") Sign.Eq l (omega arith) refl) part.equal.items)
+  soft_is : (from : List ℕ) (l : SoftLink) → IsLines (soft_line streams from l)
+  soft_is from l =
+      let lead = soft_word_is l.op in
+      pieces_line (soft_word l.op) (attr_text streams from l.left ∷ op_text l.op ∷ attr_text streams from l.right ∷ []) lead.0 lead.1 (attr_inner from l.left, (op_text_inner l.op, (attr_inner from l.right, tt)))
+
+  unequal_are : (from : List ℕ) (part : PartPlan) → IsLines (unequal_text streams from part)
+  unequal_are from part = lines_joined (flat_map (link_line streams from (codes "less ") Sign.Lt) part.less.items) (flat_map (soft_line streams from) part.soft.items)
       (lines_all (link_line streams from (codes "less ") Sign.Lt) (λ l. link_is from (codes "less ") Sign.Lt l (omega arith) refl) part.less.items)
+      (lines_all (soft_line streams from) (soft_is from) part.soft.items)
+
+  links_are : (from : List ℕ) (part : PartPlan) → IsLines (links_text streams from part)
+  links_are from part = lines_joined (flat_map (link_line streams from (codes "equal ") Sign.Eq) part.equal.items) (unequal_text streams from part)
+      (lines_all (link_line streams from (codes "equal ") Sign.Eq) (λ l. link_is from (codes "equal ") Sign.Eq l (omega arith) refl) part.equal.items)
+      (unequal_are from part)
 
   dims_are : (from : List ℕ) (dims : List Dim) → IsLines (flat_map (dim_line streams from) dims)
   dims_are from dims = lines_all (dim_line streams from)

@@ -23,7 +23,7 @@ use Rattle.bq_parser.specs.Resolution.{column_named}
 use Rattle.bq_registry.specs.Live.{LiveQuery, answers_of, base_in}
 use Rattle.bq_reply.specs.Texts.{condition_text, numbers_text, plan_text, verdict_text, which_text, word_text}
 use Rattle.bq_reply.specs.declared.refusal.Refusal.{Refusal}
-use Rattle.bq_reply.specs.declared.refusal.Refusal.TheVariants.{LineTooLong, Locked, Syntax, Limit, Duplicate, TooMany, UnknownStream, UnknownColumn, SelfJoin, UnknownQuery, Late, Arity, Value, Domain, RowLimit}
+use Rattle.bq_reply.specs.declared.refusal.Refusal.TheVariants.{LineTooLong, Locked, Syntax, Limit, Duplicate, TooMany, UnknownStream, UnknownColumn, SelfJoin, UnknownQuery, Late, Arity, Value, Domain, RowLimit, WholeForm}
 use Rattle.bq_schema.specs.Streams.{Shape}
 use Rattle.bq_session.specs.Answer.{Answer}
 use Rattle.bq_session.specs.Answers.{IsAnswer, IsDecided, Settles, accepted, rejected}
@@ -61,6 +61,7 @@ word_inner Arity = refl
 word_inner Value = refl
 word_inner Domain = refl
 word_inner RowLimit = refl
+word_inner WholeForm = refl
 
 condition_inner : (c : Condition) → Inner (condition_text c)
 condition_inner C1 = refl

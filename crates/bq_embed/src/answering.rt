@@ -112,7 +112,8 @@ fn answer_ahead<O: Sink, L: Ledger>(
     match session.row_ahead(text, &mut row) {
         Some(found) => {
             let (stream, len) = found;
-            let outcome = session.plain_row(stream, &row, false, out, steps);
+            // A query is mostly live here, since the rows before the first one are counted.
+            let outcome = session.plain_row(stream, &row, true, out, steps);
             FirstLine { len, outcome }
         }
         None => answer_any(session, text, out, steps),

@@ -34,7 +34,7 @@ use Rattle.bq_executor.proofs.Spelled.{spelled_is}
 use Rattle.bq_executor.proofs.Answered.{settled-tuples}
 use Rattle.bq_executor.proofs.Settled.{written}
 use Rattle.bq_executor.proofs.Rows.{future-table}
-use Rattle.bq_executor.proofs.PlanFacts.{kept_is}
+use Rattle.bq_executor.proofs.PlanFacts.{serving_in, kept_is}
 
 front : (xs ys : List Cell) (n : ℕ) → n ≡ length xs → take n (xs ++ ys) ≡ xs
 front xs ys n e = take-append-le n xs ys (omega (arith, e)) ∙ take_all n xs (omega (arith, e))
@@ -90,7 +90,7 @@ module _ (e : ExecutorValue) (sound : IsSound e) (pool : PoolValue) (r : Arrival
 -- what an executor keeps of a base and rows is what the whole history comes to, where the base is one
 pub histories : (e : ExecutorValue) → IsSound e → StandsForHistories e.query (parts_in e) (list_in e)
 histories e sound =
-    bases-stand-for-histories e.query (parts_in e) (list_in e) sound.limits sound.accepted.violation (kept_is e.shared e.query e.plan sound.accepted.plan)
+    bases-stand-for-histories e.query (parts_in e) (list_in e) sound.limits (kept_is e.shared e.query e.plan (serving_in e sound))
 
 no-tuples : (ts : List (List ℤ)) → nat_eq (length ts) 0 ≡ true → ts ≡ []
 no-tuples [] h = refl

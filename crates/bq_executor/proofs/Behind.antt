@@ -1,6 +1,6 @@
 -- In a plan, a box that no earlier part has begins no earlier than those of all earlier parts: where cells are shared too, since the different
 -- boxes are laid out in the order in which they come.
-use Rattle.std.proofs.Common.{◌≡◌, ℕ, zero, suc, ◌+◌, ◌<◌, ◌≤◌, cond, Bool, true, false, not, ◌||◌, List, [], ◌∷◌, ◌++◌, map, filter, length, take, drop, slice_get, slice_index_or, Some, inl, inr, refl, sym, ap, ◌∙◌, subst, arith}
+use Rattle.std.proofs.Common.{◌≡◌, ℕ, zero, suc, ◌+◌, ◌<◌, ◌≤◌, cond, Bool, true, false, not, ◌||◌, List, [], ◌∷◌, ◌++◌, map, filter, length, take, drop, slice_get, slice_index_or, Some, inl, inr, refl, sym, ap, ◌∙◌, subst, arith, All}
 use Rattle.std.proofs.lemmas.List.{take-append-drop}
 use Rattle.std.proofs.lemmas.List.Concat.{flat_map-append}
 use Rattle.std.proofs.lemmas.List.Elements.{All-contains, filter-append}
@@ -10,8 +10,9 @@ use Rattle.bq_model.specs.declared.plan.Plan.{Plan}
 use Rattle.bq_model.specs.declared.plan.Plan.TheVariants as plan
 use Rattle.bq_model.specs.Query.{QueryValue}
 use Rattle.bq_model.specs.Numbers.{places, parts_of}
-use Rattle.bq_model.specs.Plan.{stream_at, IsPartPlan, Follow, FollowIn}
-use Rattle.bq_model.specs.Sharing.{Box, box_at, size_in, boxes_in, same_box, different_boxes, boxes, sizes_in, start_in, IsSharedPlan, IsPlanFor, IsPlanOf}
+use Rattle.bq_model.specs.Plan.{stream_at, Follow, FollowIn}
+use Rattle.bq_model.specs.Serving.{KeepsStreams, AreBased, IsServingPlan}
+use Rattle.bq_model.specs.Sharing.{Box, box_at, size_in, boxes_in, same_box, different_boxes, boxes, sizes_in, start_in}
 use Rattle.bq_model.proofs.Has.{Has, first, later, Has-from_contains, Contains-from_has}
 use Rattle.bq_laws.proofs.Tests.{any_from, any_if, not_both, or-false, same_bool, true_or_false}
 use Rattle.bq_laws.proofs.OnePartFits.{has_cases}
@@ -19,10 +20,10 @@ use Rattle.bq_laws.proofs.LaidOut.{no_stream}
 use Rattle.bq_laws.proofs.SameBoxes.{are-same, same-then, same-turned, sizes-cons, stands-for, is-among}
 use Rattle.bq_laws.proofs.GrowingBoxes.{has_same}
 use Rattle.bq_laws.proofs.PlanBoxes.{has-box, alone-of}
+use Rattle.bq_laws.proofs.Walking.{serving-keep}
 use Rattle.bq_index.specs.Owners.{has_base, BeginBehind}
 use Rattle.bq_executor.proofs.Inserting.{get_has}
 use Rattle.bq_index.proofs.Owning.{begins-there}
-use Rattle.bq_loading.proofs.PlanBoxes.{parts_plans}
 
 -- boxes that follow from a number on begin there or behind
 in-from : (next : ℕ) (streams : List StreamPlan) (rest : ℕ → Type 0) → FollowIn next streams rest → (k : ℕ) → k < length streams
@@ -122,7 +123,7 @@ taken-has (o ∷ list) (suc i) p h = elim (has_cases o p (take i list) h) [
   | inr k ↦ later (taken-has list i p k)
 ]
 
-module _ (q : QueryValue) (list : List PartPlan) (is : IsSharedPlan q list) (i : ℕ) (part earlier : PartPlan) (at : slice_get list i ≡ Some part) (before : Has (take i list) earlier)
+module _ (q : QueryValue) (list : List PartPlan) (bases : AreBased true q list) (i : ℕ) (part earlier : PartPlan) (at : slice_get list i ≡ Some part) (before : Has (take i list) earlier)
     (place : ℕ) (l : place < length part.streams.items) (m : place < length earlier.streams.items) (own : has_base (take i list) part place ≡ false) where
   abbrev front : List Box
   front = boxes_in (take i list)
@@ -138,7 +139,7 @@ module _ (q : QueryValue) (list : List PartPlan) (is : IsSharedPlan q list) (i :
       (r.0, ap (different_boxes q) e ∙ r.1)
 
   base-is : (p : PartPlan) → Has list p → (o : ℕ) → o < length p.streams.items → (stream_at p o).base ≡ start_in q (boxes q list) (box_at p o)
-  base-is p h o k = is.bases p (Contains-from_has list p h) o k
+  base-is p h o k = bases p (Contains-from_has list p h) o k
 
   none : has_same q D (box_at part place) ≡ false
   none = elim (true_or_false (has_same q D (box_at part place))) [
@@ -165,14 +166,14 @@ module _ (q : QueryValue) (list : List PartPlan) (is : IsSharedPlan q list) (i :
       = base-is part (get_has list i part at) place l ∙ ap (λ (bs : List Box). start_in q bs (box_at part place)) split.1 in
       omega (arith, a, b, e, f)
 
-pub begin-behind : (shared : Bool) (q : QueryValue) (list : List PartPlan) → IsPlanFor shared q list → BeginBehind (length q.from) list
-begin-behind shared q list is place i part earlier l at c own = by shared is
+pub begin-behind : (shared : Bool) (q : QueryValue) (list : List PartPlan) → All (KeepsStreams q) list → AreBased shared q list → BeginBehind (length q.from) list
+begin-behind shared q list keeps bases place i part earlier l at c own = by shared bases
   where
     before : Has (take i list) earlier
     before = Has-from_contains (take i list) earlier c
 
     there : (p : PartPlan) → Has list p → place < length p.streams.items
-    there p h = (let n = (All-contains (IsPartPlan q) list p (parts_plans shared q list is).plans (Contains-from_has list p h)).count in omega (arith, n, l))
+    there p h = (let n = (All-contains (KeepsStreams q) list p keeps (Contains-from_has list p h)).count in omega (arith, n, l))
 
     in_part : place < length part.streams.items
     in_part = there part (get_has list i part at)
@@ -180,11 +181,11 @@ begin-behind shared q list is place i part earlier l at c own = by shared is
     in_earlier : place < length earlier.streams.items
     in_earlier = there earlier (taken-has list i earlier before)
 
-    by : (shared : Bool) → IsPlanFor shared q list → (stream_at earlier place).base ≤ (stream_at part place).base
-    by false is = follow-behind 0 list is.bases i part earlier at before place in_part in_earlier
-    by true is = shared-behind q list is i part earlier at before place in_part in_earlier own
+    by : (shared : Bool) → AreBased shared q list → (stream_at earlier place).base ≤ (stream_at part place).base
+    by false bases = follow-behind 0 list bases i part earlier at before place in_part in_earlier
+    by true bases = shared-behind q list bases i part earlier at before place in_part in_earlier own
 
 -- of any plan; a filter has no parts
-pub plan-behind : (shared : Bool) (q : QueryValue) (p : Plan) → IsPlanOf shared q p → BeginBehind (length q.from) (parts_of p)
+pub plan-behind : (shared : Bool) (q : QueryValue) (p : Plan) → IsServingPlan shared q p → BeginBehind (length q.from) (parts_of p)
 plan-behind shared q plan.Filter is = λ place i part earlier l at c own. elim (get_has [] i part at) [ ]
-plan-behind shared q (plan.Parts list numbers) is = begin-behind shared q list is.1
+plan-behind shared q (plan.Parts list numbers) is = begin-behind shared q list (serving-keep q list is.1.serves) is.2

@@ -1,16 +1,15 @@
 -- What callers use: an executor beside changes of other extents of the pool.
-use Rattle.std.proofs.Common.{◌≡◌, ◌≢◌, ℕ, List, sym, ap, ◌∙◌, subst, take, drop}
+use Rattle.std.proofs.Common.{◌≡◌, ◌≢◌, List, sym, ap, ◌∙◌, subst, take, drop}
 use Rattle.bq_model.specs.declared.cell.Cell.{Cell}
-use Rattle.bq_model.specs.Meaning.{Arrival}
 use Rattle.bq_model.specs.Sharing.{sizes_in}
 use Rattle.bq_model.specs.Combinations.{read_from}
 use Rattle.bq_saturated.specs.Known.{AreSaturated}
 use Rattle.bq_synopsis.specs.Premises.{AreFitting}
 use Rattle.bq_pool.specs.declared.pool.Extent.{Extent}
-use Rattle.bq_pool.specs.Extents.{PoolValue, cells_of, with_cells, IsLive, IsTaken, IsGivenBack}
-use Rattle.bq_pool.proofs.CallerLemmas.{cells_of_other, live_other, live_beside_taken, live_beside_back}
+use Rattle.bq_pool.specs.Extents.{PoolValue, cells_of, with_cells, IsLive}
+use Rattle.bq_pool.proofs.CallerLemmas.{cells_of_other, live_other}
 use Rattle.bq_executor.specs.Executor.{ExecutorValue, parts_in, list_in, cells_in, tuples_in}
-use Rattle.bq_executor.specs.Standing.{StandsFor, CountsUpto, AreKept, KeepsWithin}
+use Rattle.bq_executor.specs.Standing.{CountsUpto, AreKept, KeepsWithin}
 
 pub kept_same : (e : ExecutorValue) (p o : PoolValue) → IsLive o e.extent → cells_of o e.extent ≡ cells_of p e.extent → AreKept e p → AreKept e o
 kept_same e p o live same k =

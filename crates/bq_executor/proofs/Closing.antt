@@ -21,16 +21,16 @@ use Rattle.bq_model.specs.Bases.{Base}
 use Rattle.bq_model.specs.Meaning.{Arrival}
 use Rattle.bq_executor.specs.CellSteps.{HasParts}
 use Rattle.bq_executor.proofs.Answered.{filter_plain}
-use Rattle.bq_executor.proofs.PlanFacts.{has_parts}
+use Rattle.bq_executor.proofs.PlanFacts.{serving_in, has_parts}
 use Rattle.bq_executor.proofs.Inserting.{get_has}
 
 -- with DISTINCT the parts of an executor are those of a query to which the laws of closed tables apply
 pub distinct-plan : (e : ExecutorValue) → IsSound e → e.query.distinct ≡ true → IsDistinctPlan e.query (parts_in e)
-distinct-plan e sound d = by e.plan (has_parts e.shared e.query e.plan sound.accepted.plan)
+distinct-plan e sound d = by e.plan (has_parts e.shared e.query e.plan (serving_in e sound))
   where
     by : (p : Plan) → HasParts e.query p → IsDistinctPlan e.query (parts_of p)
     by plan.Filter own = absurd (not_both _ d (filter_plain e.query own))
-    by (plan.Parts parts numbers) own = record { limits = sound.limits; several = own.0; plans = own.1; violation = sound.accepted.violation; distinct = d }
+    by (plan.Parts parts numbers) own = record { limits = sound.limits; several = own.0; serving = own.1; distinct = d }
 
 -- saturated cells stay so when the table grows
 pub saturated-more : (known : Saturation) (q : QueryValue) (parts : List PartPlan) (read : Reading) (table more : List (List ℤ))

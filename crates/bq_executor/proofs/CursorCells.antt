@@ -9,13 +9,14 @@ use Rattle.bq_model.specs.declared.plan.Plan.TheVariants as plan
 use Rattle.bq_model.specs.Query.{QueryValue}
 use Rattle.bq_model.specs.Meaning.{Arrival, product}
 use Rattle.bq_model.specs.Boxes.{box_size}
-use Rattle.bq_model.specs.Plan.{IsPartPlan, stream_at, dims_at}
+use Rattle.bq_model.specs.Plan.{stream_at, dims_at}
+use Rattle.bq_model.specs.Serving.{KeepsStreams}
 use Rattle.bq_model.specs.Combinations.{Choice, Reading, choice, cell_choice, chosen_values, linked, found}
 use Rattle.bq_model.specs.Probing.{choices_beside, found_beside}
 use Rattle.bq_model.specs.Future.{spelled_out}
 use Rattle.bq_model.specs.Numbers.{places, parts_of, work}
 use Rattle.bq_model.specs.declared.plan.Numbers.{Numbers}
-use Rattle.bq_model.specs.Sharing.{IsPlanOf}
+use Rattle.bq_model.specs.Serving.{IsServingPlan}
 use Rattle.bq_model.proofs.Has.{Has, first, later, same_map, Contains-from_has}
 use Rattle.bq_laws.specs.Closed.{IsSaturated}
 use Rattle.bq_laws.proofs.ByValues.{choices-go-by-values}
@@ -31,6 +32,7 @@ use Rattle.bq_saturated.specs.Looking.{CanLook, CanLookAt}
 use Rattle.bq_executor.specs.CellSteps.{AreReady, IsPlanReady}
 use Rattle.bq_executor.proofs.Founds.{Agree, choices_at-same}
 use Rattle.bq_executor.proofs.Inserting.{get_has}
+use Rattle.bq_executor.proofs.HeldParts.{held-part}
 
 below-range : (a n i : ℕ) → Has (range_with_len a n) i → i < a + n
 below-range a zero i h = elim h [ ]
@@ -40,12 +42,12 @@ below-range a (suc n) i h = by i h (below-range (a + 1) n i)
     by i first f = omega arith
     by i (later k) f = (let l = f k in omega (arith, l))
 
-module _ (q : QueryValue) (part : PartPlan) (own : IsPartPlan q part) (read other : Reading) (agree : Agree part (length q.from) read other) where
+module _ (q : QueryValue) (part : PartPlan) (own : KeepsStreams q part) (read other : Reading) (agree : Agree part (length q.from) read other) where
   abbrev apart : Arrival
   apart = record { stream = 0; values = [] }
 
   size-is : nat_eq (length q.from) 1 ≡ false → (place : ℕ) → place < length q.from → (stream_at part place).size ≡ box_size (dims_at part place)
-  size-is many place l = (own.streams place l).size ∙ ap (λ b. cond b 0 (box_size (dims_at part place))) many
+  size-is many place l = own.size place l ∙ ap (λ b. cond b 0 (box_size (dims_at part place))) many
 
   beside-same : nat_eq (length q.from) 1 ≡ false → (arriving : ℕ) (v : ℕ → ℤ) (place : ℕ) → place < length q.from
       → choices_beside q part read arriving v place ≡ choices_beside q part other arriving v place
@@ -68,7 +70,7 @@ module _ (q : QueryValue) (part : PartPlan) (own : IsPartPlan q part) (read othe
     where
       by : (b : Bool) → nat_eq (length q.from) 1 ≡ b → b ≡ false
       by false e = refl
-      by true e = absurd (let none = (own.streams place l).size ∙ ap (λ b. cond b 0 (box_size (dims_at part place))) e in omega (arith, none, k))
+      by true e = absurd (let none = own.size place l ∙ ap (λ b. cond b 0 (box_size (dims_at part place))) e in omega (arith, none, k))
 
   pub saturated-same : (table : List (List ℤ)) (place i : ℕ) → place < length q.from → i < (stream_at part place).size
       → IsSaturated q part read table place i → IsSaturated q part other table place i
@@ -77,27 +79,17 @@ module _ (q : QueryValue) (part : PartPlan) (own : IsPartPlan q part) (read othe
       (subst (λ fs. Contains (spelled_out fs) t) (sym (finds-same (many-streams place i l k) place c.values)) finds)
 
 -- so of all cells of which it is known
-pub are-same : (known : Saturation) (q : QueryValue) (parts : List PartPlan) → All (IsPartPlan q) parts → (read other : Reading)
+pub are-same : (known : Saturation) (q : QueryValue) (parts : List PartPlan) → All (KeepsStreams q) parts → (read other : Reading)
     → ((part : PartPlan) → Has parts part → Agree part (length q.from) read other) → (table : List (List ℤ))
     → AreSaturated known q parts read table → AreSaturated known q parts other table
 are-same known q parts plans read other agree table are n part there place i l m is =
     let k : Has parts part = get_has parts n part there in
-    saturated-same q part (All-contains (IsPartPlan q) parts part plans (Contains-from_has parts part k)) read other (agree part k) table place i l m
+    saturated-same q part (All-contains (KeepsStreams q) parts part plans (Contains-from_has parts part k)) read other (agree part k) table place i l m
     (are n part there place i l m is)
 
 -- parts that are ready for a row are ready to be looked at
 each-ready : (q : QueryValue) (parts : List PartPlan) (pool : PoolValue) (e : Extent) → AreReady q parts pool e → (part : PartPlan) → Contains parts part → IsReady q part pool e
-each-ready q parts pool e ready part k =
-    let law = plans-are-walkable q parts ready.plan ready.cells ready.inside part k in
-    record {
-      held =
-          record {
-            live = ready.live;
-            walked = record { cells = ready.cells; few = ready.few; plan = All-contains (IsPartPlan q) parts part ready.plan.plans k; places = law.0; tried = law.1 };
-            within = ready.within;
-          };
-      fitting = ready.fitting part k;
-    }
+each-ready q parts pool e ready part k = record { held = held-part q parts e pool ready pool ready.live part k; fitting = ready.fitting part k }
 
 pub can-look : (q : QueryValue) (parts : List PartPlan) (asked : PreparedPlan) (pool : PoolValue) (e : Extent) (wide most : ℕ) → AreReady q parts pool e
     → q.distinct ≡ true → length q.from ≡ 2 → IsPreparedPlan q parts asked → wide ≡ length q.select → most ≡ work parts → CanLook q parts asked pool e wide most
@@ -107,7 +99,7 @@ can-look q parts asked pool e wide most ready d two prepared width is = record {
   ready = each-ready q parts pool e ready;
   width = sym width;
   two = two;
-  shares = λ part k. (let within = (plans-are-walkable q parts ready.plan ready.cells ready.inside part k).2 in omega (arith, within, is));
+  shares = λ part k. (let within = (plans-are-walkable q parts ready.plan.plans ready.cells ready.inside part k).2 in omega (arith, within, is));
 }
 
 -- a plan announces the work of its parts
@@ -115,10 +107,10 @@ abbrev pub AnnouncesWork : Plan → Type 0
 AnnouncesWork plan.Filter = Unit {0}
 AnnouncesWork (plan.Parts parts numbers) = numbers.work ≡ work parts
 
-pub announces-work : (shared : Bool) (q : QueryValue) (p : Plan) → IsPlanOf shared q p → AnnouncesWork p
+pub announces-work : (shared : Bool) (q : QueryValue) (p : Plan) → IsServingPlan shared q p → AnnouncesWork p
 announces-work shared q plan.Filter is = tt
-announces-work true q (plan.Parts parts numbers) is = ap (λ (n : Numbers). n.work) is.2
-announces-work false q (plan.Parts parts numbers) is = ap (λ (n : Numbers). n.work) is.2
+announces-work true q (plan.Parts parts numbers) is = ap (λ (n : Numbers). n.work) is.3
+announces-work false q (plan.Parts parts numbers) is = ap (λ (n : Numbers). n.work) is.3
 
 pub can-look-at : (q : QueryValue) (p : Plan) (asked : PreparedPlan) (pool : PoolValue) (e : Extent) (wide : ℕ) → IsPlanReady q p pool e → AnnouncesWork p
     → IsPreparedPlan q (parts_of p) asked → wide ≡ length q.select → CanLookAt q p asked pool e wide

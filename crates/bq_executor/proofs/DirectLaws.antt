@@ -202,7 +202,7 @@ direct-short q part d is =
     let short : All IsShort (own_axis d ∷ []) = subst (λ (xs : List Axis). All IsShort xs) is.is.own_axes is.own_layout.axes.short in
     short 0 (own_axis d) (omega arith)
 
--- the ranges tell all signs
+-- the ranges tell all that is asked
 pub direct-signed : (q : QueryValue) (plan : List PartPlan) (d : DirectLookup) → IsDirect q plan d → IsSigned q plan d.pos
 direct-signed q plan d is = λ part at_0 v inside.
     let k = is.only part at_0 in

@@ -6,7 +6,8 @@ use Rattle.bq_model.specs.declared.plan.PartPlan.{PartPlan}
 use Rattle.bq_model.specs.Query.{QueryValue, IsWithinLimits}
 use Rattle.bq_model.specs.Meaning.{by_column}
 use Rattle.bq_model.specs.Boxes.{box_size}
-use Rattle.bq_model.specs.Plan.{IsPartPlan, stream_at, dims_at}
+use Rattle.bq_model.specs.Plan.{stream_at, dims_at}
+use Rattle.bq_model.specs.Serving.{KeepsStreams}
 use Rattle.bq_model.specs.Admission.{admits}
 use Rattle.bq_model.specs.Cells.{row_place, dim_values, content}
 use Rattle.bq_model.specs.Merge.{merged}
@@ -22,23 +23,23 @@ use Rattle.bq_synopsis.specs.Premises.{HasRoom, row_cell}
 use Rattle.bq_executor.specs.FoundTable.{with_found, with_all}
 use Rattle.bq_executor.specs.CellSteps.{arrives, with_row, CanCount}
 
-module _ (q : QueryValue) (part : PartPlan) (within : IsWithinLimits q) (plan : IsPartPlan q part) (pos : ℕ) (here : pos < length q.from) (values : List ℤ) where
+module _ (q : QueryValue) (part : PartPlan) (within : IsWithinLimits q) (keeps : KeepsStreams q part) (pos : ℕ) (here : pos < length q.from) (values : List ℤ) where
   abbrev v : ℕ → ℤ
   v = by_column values
 
   -- a part that admits the row finds what a walk finds, and another finds nothing
   pub found_admitted : (read : Reading) → admits q part pos v ≡ true → found_in q part read (arrives q pos values) ≡ found_beside q part read pos v
   found_admitted read e =
-      walks-find-all q part within plan read (arrives q pos values) pos here refl ∙ ap (λ b. cond b (found_beside q part read pos v) []) e
+      walks-find-all q part within keeps read (arrives q pos values) pos here refl ∙ ap (λ b. cond b (found_beside q part read pos v) []) e
 
   pub found_refused : (read : Reading) → admits q part pos v ≡ false → found_in q part read (arrives q pos values) ≡ []
   found_refused read e =
-      walks-find-all q part within plan read (arrives q pos values) pos here refl ∙ ap (λ b. cond b (found_beside q part read pos v) []) e
+      walks-find-all q part within keeps read (arrives q pos values) pos here refl ∙ ap (λ b. cond b (found_beside q part read pos v) []) e
 
   -- the place of an admitted row is in the box, where cells are kept
   pub place_inside : 1 < length q.from → admits q part pos v ≡ true → row_place (dims_at part pos) v < (stream_at part pos).size
   place_inside several e =
-      let size = (plan.streams pos here).size in
+      let size = keeps.size pos here in
       let one : nat_eq (length q.from) 1 ≡ false = grind (arith, nat_tests) in
       let whole : (stream_at part pos).size ≡ box_size (dims_at part pos) = size ∙ ap (λ b. cond b 0 (box_size (dims_at part pos))) one in
       let b = place-below (dims_at part pos) (dim_values (dims_at part pos) v) (admitted-rows-have-places q part pos v e) in
@@ -48,7 +49,7 @@ module _ (q : QueryValue) (part : PartPlan) (within : IsWithinLimits q) (plan : 
   pub own_room : (cells : List Cell) → CanCount part (read_from cells) → 1 < length q.from → admits q part pos v ≡ true
       → HasRoom (slice_index_or cells (row_cell part pos values) Cell.Empty)
   own_room cells room several e =
-      room pos (row_place (dims_at part pos) v) (omega (arith, here, plan.count)) (place_inside several e)
+      room pos (row_place (dims_at part pos) v) (omega (arith, here, keeps.count)) (place_inside several e)
 
 -- a table to which nothing was added
 pub none_added : (d : Bool) (fs : List Found) (table : TableValue) → fs ≡ [] → table ≡ with_entries table (with_all d fs table.entries)

@@ -12,7 +12,8 @@ use Rattle.bq_model.specs.Query.{QueryValue, IsWithinLimits}
 use Rattle.bq_model.specs.Meaning.{Arrival, by_column}
 use Rattle.bq_model.specs.declared.plan.Dim.{Dim}
 use Rattle.bq_model.specs.Boxes.{dim_size, box_size, AreFull}
-use Rattle.bq_model.specs.Plan.{ArePartPlans, IsPartPlan, stream_at, dims_at}
+use Rattle.bq_model.specs.Plan.{stream_at, dims_at}
+use Rattle.bq_model.specs.Serving.{KeepsStreams}
 use Rattle.bq_model.specs.Admission.{admits}
 use Rattle.bq_model.specs.Cells.{row_place, content}
 use Rattle.bq_model.specs.Combinations.{read_from}
@@ -22,9 +23,8 @@ use Rattle.bq_model.proofs.Has.{Has, Has-from_contains, Contains-from_has}
 use Rattle.bq_laws.specs.Places.{IsBox}
 use Rattle.bq_laws.proofs.Tests.{and-left, and-right, and-both, nat_true, not_both, or-false}
 use Rattle.bq_laws.proofs.SameBoxes.{AreSame, are-same, same-admits}
-use Rattle.bq_laws.proofs.Walking.{full-at}
 use Rattle.bq_model.proofs.BoxLaws.{full-dim-size}
-use Rattle.bq_synopsis.specs.Premises.{row_cell}
+use Rattle.bq_synopsis.specs.Premises.{AreKeeping, row_cell}
 use Rattle.bq_executor.specs.CellSteps.{arrives, lies, IsInserted, MeetWhole}
 use Rattle.bq_index.specs.Owners.{has_base}
 use Rattle.bq_executor.proofs.InPart.{place_inside}
@@ -67,17 +67,17 @@ full-size (d ∷ ds) f = more (dim_size d) (box_size ds) (full-dim-size d f.0) (
     more zero b l k = absurd (omega (arith, l))
     more (suc a) b l k = omega (arith, k)
 
-module _ (q : QueryValue) (plan : List PartPlan) (within : IsWithinLimits q) (is : ArePartPlans q plan) where
-  -- a plan of a part of the plan
-  pub part_plan : (n : ℕ) (part : PartPlan) → slice_get plan n ≡ Some part → IsPartPlan q part
-  part_plan n part e = All-contains (IsPartPlan q) plan part is.plans (Contains-from_has plan part (get_has plan n part e))
+module _ (q : QueryValue) (plan : List PartPlan) (within : IsWithinLimits q) (is : AreKeeping q plan) where
+  -- a part of the plan keeps the streams
+  pub part_plan : (n : ℕ) (part : PartPlan) → slice_get plan n ≡ Some part → KeepsStreams q part
+  part_plan n part e = All-contains (KeepsStreams q) plan part is.plans (Contains-from_has plan part (get_has plan n part e))
 
   -- where a query has several streams, no box is empty
-  some_cells : (part : PartPlan) → IsPartPlan q part → (place : ℕ) → place < length q.from → 1 < length q.from → 0 < (stream_at part place).size
+  some_cells : (part : PartPlan) → KeepsStreams q part → (place : ℕ) → place < length q.from → 1 < length q.from → 0 < (stream_at part place).size
   some_cells part own place l several =
       let one : nat_eq (length q.from) 1 ≡ false = grind (arith, nat_tests) in
-      let e : (stream_at part place).size ≡ box_size (dims_at part place) = (own.streams place l).size ∙ ap (λ b. cond b 0 (box_size (dims_at part place))) one in
-      let f = full-size (dims_at part place) (full-at q part own place l) in
+      let e : (stream_at part place).size ≡ box_size (dims_at part place) = own.size place l ∙ ap (λ b. cond b 0 (box_size (dims_at part place))) one in
+      let f = full-size (dims_at part place) (own.full place l) in
       omega (arith, e, f)
 
   -- FROM has each stream once
@@ -119,7 +119,7 @@ module _ (q : QueryValue) (plan : List PartPlan) (within : IsWithinLimits q) (is
     abbrev meets : PartPlan → ℕ → Bool
     meets other place = nat_eq (stream_at part place).base (stream_at other place).base
 
-    own_plan : IsPartPlan q part
+    own_plan : KeepsStreams q part
     own_plan = part_plan n part at_n
 
     -- what it means that the row lies there
@@ -164,7 +164,7 @@ module _ (q : QueryValue) (plan : List PartPlan) (within : IsWithinLimits q) (is
       | inl h ↦ h
       | inr h ↦ absurd (
           let one : length q.from ≡ 1 = omega (arith, h, l) in
-          let z : (stream_at other place).size ≡ 0 = ((part_plan m other b.at).streams place l).size ∙ ap (λ (k : ℕ). cond (nat_eq k 1) 0 (box_size (dims_at other place))) one in
+          let z : (stream_at other place).size ≡ 0 = (part_plan m other b.at).size place l ∙ ap (λ (k : ℕ). cond (nat_eq k 1) 0 (box_size (dims_at other place))) one in
           let s = b.inside in omega (arith, z, s))
     ]
 

@@ -11,7 +11,6 @@ use Rattle.bq_model.specs.Admission.{admits}
 use Rattle.bq_model.specs.Combinations.{read_from}
 use Rattle.bq_model.proofs.Has.{Contains-from_has}
 use Rattle.bq_laws.proofs.Tests.{true_or_false}
-use Rattle.bq_laws.proofs.Walking.{plans-are-walkable}
 use Rattle.bq_pool.specs.declared.pool.Extent.{Extent}
 use Rattle.bq_pool.specs.Extents.{PoolValue, cells_of, IsLive}
 use Rattle.bq_pool.specs.Counted.{StepsValue}
@@ -25,7 +24,8 @@ use Rattle.bq_index.specs.declared.part_index.PartIndex.{PartIndex}
 use Rattle.bq_executor.specs.CellSteps.{arrives, all_found, HasTaken, AreReady, AnswersNothingNew}
 use Rattle.bq_executor.specs.FoundTable.{with_all}
 use Rattle.bq_index.specs.Leaving.{AreHeld, LeavesCells, IsCellOf, HasPassed, reads_of, LeavesCell}
-use Rattle.bq_executor.proofs.Inserting.{part_plan, get_has}
+use Rattle.bq_executor.proofs.Inserting.{get_has}
+use Rattle.bq_executor.proofs.HeldParts.{held-part}
 use Rattle.bq_executor.proofs.PartCells.{taken_step, table_more, work_more}
 use Rattle.bq_executor.proofs.OldAnswers.{old-adds-none}
 use Rattle.bq_executor.proofs.OwnCells.{left-alone, old-now, known-of}
@@ -38,13 +38,7 @@ or_true false = refl
 -- all parts have their cells in the extent, while the parts take a row
 pub held-parts : (q : QueryValue) (plan : List PartPlan) (e : Extent) (pos : ℕ) (here : pos < length q.from) (values : List ℤ) (before : PoolValue) (ready : AreReady q plan before e) (now : PoolValue)
     → IsLive now e → AreHeld q plan now e
-held-parts q plan e pos here values before ready now live k part at_k =
-    let law = plans-are-walkable q plan ready.plan ready.cells ready.inside part (Contains-from_has plan part (get_has plan k part at_k)) in
-    record {
-      live = live;
-      walked = record { cells = ready.cells; few = ready.few; plan = part_plan q plan ready.limits ready.plan k part at_k; places = law.0; tried = law.1 };
-      within = ready.within;
-    }
+held-parts q plan e pos here values before ready now live k part at_k = held-part q plan e before ready now live part (Contains-from_has plan part (get_has plan k part at_k))
 
 module _ (q : QueryValue) (plan : List PartPlan) (e : Extent) (pos : ℕ) (here : pos < length q.from) (values : List ℤ) (before : PoolValue) (ready : AreReady q plan before e) (start : TableValue) (paid : StepsValue)
     (tells : AnswersNothingNew q plan (read_from (cells_of before e)) start.entries) (now : PoolValue) (table : TableValue) (each same : Bool) (all : each ≡ true → EachTakes q plan pos) (unchanged : same ≡ true → now ≡ before) where

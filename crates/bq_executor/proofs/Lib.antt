@@ -3,6 +3,7 @@ pub mod TakingNew
 pub mod Room
 pub mod Spelled
 pub mod InPart
+pub mod HeldParts
 pub mod Founds
 pub mod Inserting
 pub mod PartCells

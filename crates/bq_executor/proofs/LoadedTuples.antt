@@ -29,7 +29,7 @@ use Rattle.bq_executor.proofs.Room.{Lie, lie_from, lie_all, tuples_changed, chan
 use Rattle.bq_executor.proofs.TakingNew.{tuples_new_all}
 use Rattle.bq_executor.proofs.OldAnswers.{has-changed, has-from-tuples, tuples-from-has}
 use Rattle.bq_executor.proofs.Closing.{saturated-more}
-use Rattle.bq_executor.proofs.PlanFacts.{has_parts}
+use Rattle.bq_executor.proofs.PlanFacts.{serving_in, has_parts}
 use Rattle.bq_executor.proofs.Settled.{settled-spelled}
 use Rattle.bq_executor.proofs.Keeping.{keeps}
 use Rattle.bq_executor.proofs.Loadings.{keeps-base}
@@ -40,7 +40,7 @@ one_more waiting = waiting + 1
 -- with DISTINCT the table has room for a tuple in the ranges of some part
 pub tuple-room : (e : ExecutorValue) → IsSound e → (t : List ℤ) → e.query.distinct ≡ true → list_any (is_same t) (all_tuples e.query (parts_in e)) ≡ true
     → Fits t e.table
-tuple-room e sound t d h none = by e.plan (has_parts e.shared e.query e.plan sound.accepted.plan) sound.capacity h (sound.tuples d)
+tuple-room e sound t d h none = by e.plan (has_parts e.shared e.query e.plan (serving_in e sound)) sound.capacity h (sound.tuples d)
   where
     by : (p : Plan) → HasParts e.query p → e.table.capacity ≡ most_answers p → list_any (is_same t) (all_tuples e.query (parts_of p)) ≡ true
         → All (Contains (all_tuples e.query (parts_of p))) (tuples_of e.table.entries) → length e.table.entries < e.table.capacity
@@ -49,7 +49,7 @@ tuple-room e sound t d h none = by e.plan (has_parts e.shared e.query e.plan sou
         let m = any_from (is_same t) (all_tuples e.query parts) k in
         let is : t ≡ m.0 = same-is t m.0 m.2 in
         let among : Has (all_tuples e.query parts) t = subst (λ z. Has (all_tuples e.query parts) z) (sym is) m.1 in
-        let room = room_for e.query parts sound.limits own.0 own.1 sound.accepted.violation t e.table.entries sound.ascends (lie_from e.query parts (tuples_of e.table.entries) lie) among none in
+        let room = room_for e.query parts sound.limits own.1 t e.table.entries sound.ascends (lie_from e.query parts (tuples_of e.table.entries) lie) among none in
         let bound = own.2 in omega (arith, room, bound, capacity)
 
 -- a table takes a tuple that is not there by merging

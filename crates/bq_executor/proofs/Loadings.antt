@@ -6,13 +6,11 @@ use Rattle.std.proofs.lemmas.List.{get_or-take, drop-set-lt, length-take-le}
 use Rattle.bq_model.specs.declared.cell.Cell.{Cell}
 use Rattle.bq_model.specs.declared.plan.Kind.{Kind}
 use Rattle.bq_model.specs.declared.plan.PartPlan.{PartPlan}
-use Rattle.bq_model.specs.declared.plan.Plan.{Plan}
-use Rattle.bq_model.specs.declared.plan.Plan.TheVariants as plan
-use Rattle.bq_model.specs.Plan.{stream_at, IsPartPlan}
+use Rattle.bq_model.specs.Plan.{stream_at}
+use Rattle.bq_model.specs.Serving.{KeepsStreams}
 use Rattle.bq_model.specs.Cells.{FitsKind}
 use Rattle.bq_model.specs.Combinations.{read_from}
-use Rattle.bq_model.specs.Numbers.{parts_of}
-use Rattle.bq_model.specs.Sharing.{Box, kept_boxes, sizes_in, IsPlanOf}
+use Rattle.bq_model.specs.Sharing.{Box, sizes_in}
 use Rattle.bq_model.specs.Bases.{Base}
 use Rattle.bq_laws.specs.Sharing.{AreBoxesOf}
 use Rattle.bq_laws.proofs.Bases.{bases-keep-on}
@@ -27,8 +25,7 @@ use Rattle.bq_loading.specs.Loadable.{is_empty, kind_at, filled_cell}
 use Rattle.bq_executor.specs.Bases.{kept_in, StandsFrom}
 use Rattle.bq_executor.specs.Loading.{loaded_cell, Loads}
 use Rattle.bq_loading.proofs.CellKinds.{kind-past, kind-of-box}
-use Rattle.bq_loading.proofs.PlanBoxes.{parts_plans, parts_boxes, no_boxes}
-use Rattle.bq_executor.proofs.PlanFacts.{no_parts, cells_of_plan}
+use Rattle.bq_executor.proofs.PlanFacts.{serving_in, parts_keep, boxes_of_plan, cells_of_plan}
 
 -- what stood for no rows since keeps just the base
 pub keeps-base : (e : ExecutorValue) (pool : PoolValue) (base : Base) → StandsFrom e pool base [] → kept_in e base [] ≡ base
@@ -119,23 +116,15 @@ module _ (e : ExecutorValue) (sound : IsSound e) (pool : PoolValue) (live : IsLi
   abbrev pub wanted : Option Cell
   wanted = option_and_then (λ kind. filled_cell e.given kind v) (kind_at list i)
 
-  plans : All (IsPartPlan e.query) (parts_in e)
-  plans = by e.plan sound.accepted.plan
-    where
-      by : (p : Plan) → IsPlanOf e.shared e.query p → All (IsPartPlan e.query) (parts_of p)
-      by plan.Filter h = λ k d l. absurd (omega (arith, l))
-      by (plan.Parts parts numbers) h = (parts_plans e.shared e.query parts h.1).plans
+  plans : All (KeepsStreams e.query) (parts_in e)
+  plans = parts_keep e.shared e.query e.plan (serving_in e sound)
 
   of : AreBoxesOf e.query (parts_in e) list
-  of = by e.plan sound.accepted.plan
-    where
-      by : (p : Plan) → IsPlanOf e.shared e.query p → AreBoxesOf e.query (parts_of p) (kept_boxes e.shared e.query (parts_of p))
-      by plan.Filter h = subst (AreBoxesOf e.query []) (sym (no_boxes e.shared e.query)) no_parts
-      by (plan.Parts parts numbers) h = parts_boxes e.shared e.query parts h.1
+  of = boxes_of_plan e.shared e.query e.plan (serving_in e sound)
 
   pub whole : n ≤ length all
   whole =
-      let c = (cells_of_plan e.shared e.query e.plan sound.accepted.plan sound.accepted.within).0 in
+      let c = (cells_of_plan e.shared e.query e.plan (serving_in e sound) sound.accepted.within).0 in
       let l = live.pages in
       let p = sound.pages in omega (arith, c, l, p)
 
@@ -334,6 +323,6 @@ module _ (e : ExecutorValue) (sound : IsSound e) (pool : PoolValue) (live : IsLi
 -- a cell that is kept stands within the extent
 pub cell-stands : (e x : ExecutorValue) → e ≡ x → IsSound e → (i : ℕ) → i < sizes_in (list_in x) → i < 64 * e.extent.pages
 cell-stands e x same sound i l =
-    let c = (cells_of_plan e.shared e.query e.plan sound.accepted.plan sound.accepted.within).0 in
+    let c = (cells_of_plan e.shared e.query e.plan (serving_in e sound) sound.accepted.within).0 in
     let p = sound.pages in
     let n : sizes_in (list_in e) ≡ sizes_in (list_in x) = ap (λ (o : ExecutorValue). sizes_in (list_in o)) same in omega (arith, c, p, n, l)

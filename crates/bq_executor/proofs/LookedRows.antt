@@ -1,11 +1,11 @@
 -- An executor that looked at cells beside a row, and then took it.
-use Rattle.std.proofs.Common.{◌≡◌, ℕ, ◌+◌, ◌-◌, ◌*◌, ◌/◌, ◌≤◌, nat_eq, cond, Bool, true, false, List, [], length, refl, sym, ap, ◌∙◌, subst, arith, All}
+use Rattle.std.proofs.Common.{◌≡◌, ℕ, ◌+◌, ◌-◌, ◌*◌, ◌/◌, ◌≤◌, nat_eq, cond, Bool, true, false, List, [], length, refl, sym, ◌∙◌, subst, arith, All}
 use Rattle.std.proofs.lemmas.List.Elements.{All-contains}
 use Rattle.bq_model.specs.declared.plan.Plan.{Plan}
 use Rattle.bq_model.specs.declared.plan.Plan.TheVariants as plan
 use Rattle.bq_model.specs.Query.{QueryValue}
 use Rattle.bq_model.specs.Meaning.{Arrival}
-use Rattle.bq_model.specs.Plan.{IsPartPlan}
+use Rattle.bq_model.specs.Serving.{KeepsStreams}
 use Rattle.bq_model.specs.Combinations.{read_from}
 use Rattle.bq_model.specs.Numbers.{parts_of, work}
 use Rattle.bq_model.proofs.Has.{Contains-from_has}
@@ -68,12 +68,12 @@ looked-takes e x pool r after later same takes = by x.saturation (subst (λ (y :
     }
 
 -- a look leaves room for the row
-pub rows-and-spare : (q : QueryValue) (p : Plan) → AnnouncesWork p → All (IsPartPlan q) (parts_of p) → row_reads (parts_of p) + spare_reads q p ≤ 3 * work (parts_of p)
+pub rows-and-spare : (q : QueryValue) (p : Plan) → AnnouncesWork p → All (KeepsStreams q) (parts_of p) → row_reads (parts_of p) + spare_reads q p ≤ 3 * work (parts_of p)
 rows-and-spare q plan.Filter announced own = (let none = rows-upto [] in omega (arith, none))
 rows-and-spare q (plan.Parts parts numbers) announced own = by (nat_eq (length q.from) 2) (nat_true (length q.from) 2)
   where
     by : (b : Bool) → (b ≡ true → length q.from ≡ 2) → row_reads parts + cond b (2 * numbers.work - numbers.work / 2) 0 ≤ 3 * work parts
-    by true two = (let few = rows-two parts (λ part k. (All-contains (IsPartPlan q) parts part own (Contains-from_has parts part k)).count ∙ two refl) in omega (arith, few, announced))
+    by true two = (let few = rows-two parts (λ part k. (All-contains (KeepsStreams q) parts part own (Contains-from_has parts part k)).count ∙ two refl) in omega (arith, few, announced))
     by false two = (let few = rows-upto parts in omega (arith, few))
 
 pub looked-steps : (e x : ExecutorValue) (r : Arrival) (pool : PoolValue) (before looked later : StepsValue)

@@ -6,13 +6,14 @@ use Rattle.bq_model.specs.declared.plan.PartPlan.{PartPlan}
 use Rattle.bq_model.specs.Query.{QueryValue}
 use Rattle.bq_model.specs.Meaning.{by_column}
 use Rattle.bq_executor.specs.Reads.{most_reads, row_reads}
-use Rattle.bq_model.specs.Admission.{admits, alone, in_range, keeps_signs}
+use Rattle.bq_model.specs.Admission.{admits, in_range}
 use Rattle.bq_model.specs.Parts.{pairs}
 use Rattle.bq_model.specs.Plan.{dims_at}
 use Rattle.std.specs.List.{list_all}
 use Rattle.bq_model.specs.Combinations.{Reading, read_from, found_in}
 use Rattle.bq_pool.specs.declared.pool.Extent.{Extent}
 use Rattle.bq_pool.specs.Extents.{PoolValue, cells_of}
+use Rattle.bq_synopsis.specs.Keeping.{keeps_part}
 use Rattle.bq_synopsis.specs.Premises.{IsReady}
 use Rattle.bq_index.specs.Owners.{takes_rows}
 use Rattle.bq_executor.specs.CellSteps.{arrives, all_found, with_row, CanCount, HasTaken, AreReady}
@@ -26,7 +27,7 @@ one-is [] part n e = absurd (omega (arith, n))
 one-is (p ∷ []) part n e = let s : p ≡ part = cc in ap (λ (x : PartPlan). x ∷ []) s
 one-is (p ∷ o ∷ plan) part n e = absurd (omega (arith, n))
 
--- where the ranges of the dims tell all signs, a part admits just the rows that lie in them
+-- where the ranges of the dims tell all that is asked, a part admits just the rows that lie in them
 pub only-signed : (q : QueryValue) (plan : List PartPlan) (pos : ℕ) (part : PartPlan) → slice_get plan 0 ≡ Some part → IsSigned q plan pos → (v : ℕ → ℤ)
     → admits q part pos v ≡ list_all (in_range v) (dims_at part pos)
 only-signed q plan pos part at_0 signed v = by (list_all (in_range v) (dims_at part pos)) refl
@@ -35,9 +36,9 @@ only-signed q plan pos part at_0 signed v = by (list_all (in_range v) (dims_at p
     none true = refl
     none false = refl
 
-    by : (b : Bool) → list_all (in_range v) (dims_at part pos) ≡ b → (keeps_signs pos (alone v) (pairs q) part.signs.items && list_all (in_range v) (dims_at part pos)) ≡ list_all (in_range v) (dims_at part pos)
+    by : (b : Bool) → list_all (in_range v) (dims_at part pos) ≡ b → (keeps_part (pairs q) part pos v && list_all (in_range v) (dims_at part pos)) ≡ list_all (in_range v) (dims_at part pos)
     by true e = ap (λ b. b && list_all (in_range v) (dims_at part pos)) (signed part at_0 v e)
-    by false e = ap (λ b. keeps_signs pos (alone v) (pairs q) part.signs.items && b) e ∙ none (keeps_signs pos (alone v) (pairs q) part.signs.items) ∙ sym e
+    by false e = ap (λ b. keeps_part (pairs q) part pos v && b) e ∙ none (keeps_part (pairs q) part pos v) ∙ sym e
 
 module _ (q : QueryValue) (plan : List PartPlan) (e : Extent) (pos : ℕ) (here : pos < length q.from) (values : List ℤ) (before : PoolValue) (ready : AreReady q plan before e) (one : length plan ≡ 1) (part : PartPlan) (at_0 : slice_get plan 0 ≡ Some part) where
   taken : HasTaken q plan e (arrives q pos values) 0 before before

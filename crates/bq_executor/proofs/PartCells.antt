@@ -16,7 +16,6 @@ use Rattle.bq_model.specs.Merge.{merged}
 use Rattle.bq_executor.specs.Reads.{most_reads, row_reads}
 use Rattle.bq_model.specs.Combinations.{read_from, Reading, Found, found_in}
 use Rattle.bq_model.proofs.Has.{Contains-from_has}
-use Rattle.bq_laws.proofs.Walking.{plans-are-walkable}
 use Rattle.bq_laws.proofs.Tests.{and-left, and-right, true_or_false, nat_true}
 use Rattle.bq_pool.specs.declared.pool.Extent.{Extent}
 use Rattle.bq_pool.specs.Extents.{PoolValue, cells_of, with_cells, IsLive}
@@ -27,6 +26,7 @@ use Rattle.bq_index.specs.Owners.{has_base, takes_rows}
 use Rattle.bq_index.proofs.Owning.{first-has, has-several}
 use Rattle.bq_executor.proofs.Founds.{AgreeBeside, found-beside, all_found-append}
 use Rattle.bq_executor.proofs.InPart.{place_inside}
+use Rattle.bq_executor.proofs.HeldParts.{held-part}
 use Rattle.bq_synopsis.proofs.CallerLemmas.{fits-merged}
 use Rattle.bq_answers.specs.Entries.{TableValue, with_entries}
 use Rattle.bq_executor.specs.FoundTable.{with_all, HaveRoom}
@@ -147,15 +147,8 @@ module _ (q : QueryValue) (plan : List PartPlan) (e : Extent) (pos : ℕ) (here 
     -- the part's cells are those of its kinds, and can count one row more
     pub ready_part : IsReady q part now e
     ready_part =
-        let law = plans-are-walkable q plan ready.plan ready.cells ready.inside part contained in
-        let own = part_plan q plan ready.limits ready.plan n part at_n in
         record {
-          held =
-              record {
-                live = taken.live;
-                walked = record { cells = ready.cells; few = ready.few; plan = own; places = law.0; tried = law.1 };
-                within = ready.within;
-              };
+          held = held-part q plan e before ready now taken.live part contained;
           fitting =
               λ place i l k.
               subst (FitsKind (stream_at part place).kind) (sym (taken.inserted.at n part place i record { at = at_n; there = l; inside = k }))

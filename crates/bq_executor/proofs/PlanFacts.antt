@@ -1,5 +1,5 @@
 -- What an accepted plan says of its cells.
-use Rattle.std.proofs.Common.{◌≡◌, ◌*◌, ◌<◌, ◌≤◌, ◌^◌, ◌==◌, cond, Bool, true, false, List, [], length, refl, ap, ◌∙◌, arith, Option, Contains}
+use Rattle.std.proofs.Common.{◌≡◌, ◌*◌, ◌<◌, ◌≤◌, ◌^◌, ◌==◌, cond, Bool, true, false, List, [], length, refl, sym, ap, ◌∙◌, subst, arith, Option, All, Contains}
 use Rattle.std.specs.List.{list_any}
 use Rattle.std.specs.declared.option.Option.TheVariants as options
 use Rattle.std.proofs.lemmas.Bool.Decides.{nat_tests}
@@ -11,26 +11,30 @@ use Rattle.bq_model.specs.declared.plan.Plan.{Plan}
 use Rattle.bq_model.specs.declared.plan.Plan.TheVariants as plan
 use Rattle.bq_model.specs.Query.{QueryValue, IsWithinLimits}
 use Rattle.bq_model.specs.Meaning.{Arrival}
-use Rattle.bq_model.specs.Plan.{IsPartPlan}
+use Rattle.bq_model.specs.Serving.{KeepsStreams, IsServing, AreBased, IsServingPlan}
 use Rattle.bq_model.specs.Verdict.{is_above, first_above}
 use Rattle.bq_model.specs.Numbers.{parts_of, pages_of, answer_bound}
-use Rattle.bq_model.specs.Sharing.{kept_boxes, sizes_in, IsPlanFor, IsPlanOf, numbers_for}
+use Rattle.bq_model.specs.Sharing.{kept_boxes, sizes_in, numbers_for}
 use Rattle.bq_laws.specs.Probing.{AreWithin}
 use Rattle.bq_laws.specs.Sharing.{AreBoxesOf}
 use Rattle.bq_laws.specs.Bases.{IsKept, alone, boxed}
-use Rattle.bq_laws.proofs.PlanBoxes.{count-of-boxes}
+use Rattle.bq_laws.proofs.PlanBoxes.{count-of-boxes, plans-have-boxes}
 use Rattle.bq_laws.proofs.BoxReadings.{boxes-meet-whole}
+use Rattle.bq_laws.proofs.Walking.{serving-keep}
 use Rattle.std.proofs.lemmas.List.Elements.{All-contains}
 use Rattle.bq_model.specs.Combinations.{Reading, read_from}
 use Rattle.bq_model.proofs.Has.{Has, Has-from_contains, Contains-from_has}
 use Rattle.bq_pool.specs.declared.pool.Extent.{Extent}
 use Rattle.bq_pool.specs.Extents.{PoolValue, cells_of, IsLive}
 use Rattle.bq_synopsis.specs.Premises.{AreFitting}
-use Rattle.bq_executor.specs.Executor.{IsWithin}
+use Rattle.bq_forms.specs.Forms.{IsWithin}
+use Rattle.bq_executor.specs.Executor.{ExecutorValue, IsSound}
 use Rattle.bq_executor.specs.CellSteps.{answered_by, HasParts, MeetWhole, IsPlanReady, CanCount}
 use Rattle.bq_executor.proofs.Inserting.{get_has}
 use Rattle.bq_executor.proofs.Founds.{Agree, all_found-same}
-use Rattle.bq_loading.proofs.PlanBoxes.{no_boxes, parts_boxes, parts_plans}
+use Rattle.bq_synopsis.proofs.CallerLemmas.{serving-keeping}
+use Rattle.bq_loading.proofs.PlanBoxes.{no_boxes}
+use Rattle.bq_forms.proofs.Forms.{form_plans_serve}
 
 same_answers : (shared : Bool) (q : QueryValue) (list : List PartPlan) → (numbers_for shared q list).answers ≡ answer_bound q list
 same_answers false q list = refl
@@ -40,10 +44,6 @@ same_cells : (shared : Bool) (q : QueryValue) (list : List PartPlan) → (number
 same_cells false q list = count-of-boxes list
 same_cells true q list = refl
 
-pub has_parts : (shared : Bool) (q : QueryValue) (p : Plan) → IsPlanOf shared q p → HasParts q p
-has_parts shared q plan.Filter is = is
-has_parts shared q (plan.Parts list numbers) is = (is.0, parts_plans shared q list is.1, ap (λ (m : Numbers). m.answers) is.2 ∙ same_answers shared q list)
-
 -- no boxes are those of no parts
 pub no_parts : {q : QueryValue} → AreBoxesOf q [] []
 no_parts = record {
@@ -52,10 +52,28 @@ no_parts = record {
   covers = λ n l. absurd (omega (arith, l));
 }
 
+-- the plan of an executor serves its query, whichever form it has
+pub serving_in : (e : ExecutorValue) → IsSound e → IsServingPlan e.shared e.query e.plan
+serving_in e sound = form_plans_serve e.shared e.query e.plan sound.limits sound.accepted.met sound.accepted.plan
+
+pub has_parts : (shared : Bool) (q : QueryValue) (p : Plan) → IsServingPlan shared q p → HasParts q p
+has_parts shared q plan.Filter is = is
+has_parts shared q (plan.Parts list numbers) is = (is.0, is.1, ap (λ (m : Numbers). m.answers) is.3 ∙ same_answers shared q list)
+
+-- each part keeps the streams of the query; a filter has none
+pub parts_keep : (shared : Bool) (q : QueryValue) (p : Plan) → IsServingPlan shared q p → All (KeepsStreams q) (parts_of p)
+parts_keep shared q plan.Filter is = λ k d l. absurd (omega (arith, l))
+parts_keep shared q (plan.Parts list numbers) is = serving-keep q list is.1.serves
+
+-- the boxes begin where they should; a filter has none
+pub boxes_of_plan : (shared : Bool) (q : QueryValue) (p : Plan) → IsServingPlan shared q p → AreBoxesOf q (parts_of p) (kept_boxes shared q (parts_of p))
+boxes_of_plan shared q plan.Filter is = subst (AreBoxesOf q []) (sym (no_boxes shared q)) no_parts
+boxes_of_plan shared q (plan.Parts list numbers) is = plans-have-boxes shared q list is.2
+
 -- the cells are those of the boxes of the plan; a filter has none
-pub kept_is : (shared : Bool) (q : QueryValue) (p : Plan) → IsPlanOf shared q p → IsKept q (parts_of p) (kept_boxes shared q (parts_of p))
+pub kept_is : (shared : Bool) (q : QueryValue) (p : Plan) → IsServingPlan shared q p → IsKept q (parts_of p) (kept_boxes shared q (parts_of p))
 kept_is shared q plan.Filter is = alone is refl (no_boxes shared q)
-kept_is shared q (plan.Parts list numbers) is = boxed is.0 (parts_plans shared q list is.1) (parts_boxes shared q list is.1)
+kept_is shared q (plan.Parts list numbers) is = boxed is.0 is.1 (plans-have-boxes shared q list is.2)
 
 -- there are at most as many cells as the limit allows
 few_cells : (numbers : Numbers) → first_above numbers ≡ options.None → numbers.cells ≤ 262144
@@ -69,27 +87,28 @@ few_cells numbers e = by (is_above numbers which.Cells) refl e
     by false f g = grind (arith, nat_tests)
 
 -- the cells stand within the pages
-pub cells_of_plan : (shared : Bool) (q : QueryValue) (p : Plan) → IsPlanOf shared q p → IsWithin p
+pub cells_of_plan : (shared : Bool) (q : QueryValue) (p : Plan) → IsServingPlan shared q p → IsWithin p
     → (sizes_in (kept_boxes shared q (parts_of p)) ≤ 64 * pages_of p) × (sizes_in (kept_boxes shared q (parts_of p)) < 2 ^ 32)
 cells_of_plan shared q plan.Filter is within = (let n : sizes_in (kept_boxes shared q []) ≡ 0 = ap sizes_in (no_boxes shared q) in (omega (arith, n), omega (arith, n)))
 cells_of_plan shared q (plan.Parts list numbers) is within =
     let few = few_cells numbers within in
-    let n : numbers.cells ≡ sizes_in (kept_boxes shared q list) = ap (λ (m : Numbers). m.cells) is.2 ∙ same_cells shared q list in
+    let n : numbers.cells ≡ sizes_in (kept_boxes shared q list) = ap (λ (m : Numbers). m.cells) is.3 ∙ same_cells shared q list in
     (omega (arith, n), omega (arith, n, few))
 
 -- the boxes lie within the cells
-pub inside_of : (shared : Bool) (q : QueryValue) (list : List PartPlan) → IsPlanFor shared q list → AreWithin (length q.from) (sizes_in (kept_boxes shared q list)) list
-inside_of shared q list is part k place l =
-    let own = All-contains (IsPartPlan q) list part (parts_plans shared q list is).plans k in
-    (boxes-meet-whole q list (parts_plans shared q list is).plans (kept_boxes shared q list) (parts_boxes shared q list is)).0 part k place (let c = own.count in omega (arith, c, l))
+pub inside_of : (shared : Bool) (q : QueryValue) (list : List PartPlan) → IsServing q list → AreBased shared q list → AreWithin (length q.from) (sizes_in (kept_boxes shared q list)) list
+inside_of shared q list is bases part k place l =
+    let keeps = serving-keep q list is.serves in
+    let own = All-contains (KeepsStreams q) list part keeps k in
+    (boxes-meet-whole q list keeps (kept_boxes shared q list) (plans-have-boxes shared q list bases)).0 part k place (let c = own.count in omega (arith, c, l))
 
-pub meet_of : (shared : Bool) (q : QueryValue) (list : List PartPlan) → IsPlanFor shared q list → MeetWhole q list
-meet_of shared q list is m n part other place there i j b c e =
-    (boxes-meet-whole q list (parts_plans shared q list is).plans (kept_boxes shared q list) (parts_boxes shared q list is)).1 part other place there i j
+pub meet_of : (shared : Bool) (q : QueryValue) (list : List PartPlan) → IsServing q list → AreBased shared q list → MeetWhole q list
+meet_of shared q list is bases m n part other place there i j b c e =
+    (boxes-meet-whole q list (serving-keep q list is.serves) (kept_boxes shared q list) (plans-have-boxes shared q list bases)).1 part other place there i j
     (Contains-from_has list part (get_has list m part b.at)) (Contains-from_has list other (get_has list n other c.at)) b.there c.there b.inside c.inside e
 
 -- the cells are ready for a row
-pub plan_ready : (shared : Bool) (q : QueryValue) (p : Plan) → IsWithinLimits q → IsPlanOf shared q p → IsWithin p → (pool : PoolValue) (e : Extent) → e.pages ≡ pages_of p → IsLive pool e
+pub plan_ready : (shared : Bool) (q : QueryValue) (p : Plan) → IsWithinLimits q → IsServingPlan shared q p → IsWithin p → (pool : PoolValue) (e : Extent) → e.pages ≡ pages_of p → IsLive pool e
     → ((part : PartPlan) → Contains (parts_of p) part → AreFitting part (read_from (cells_of pool e)))
     → ((part : PartPlan) → Contains (parts_of p) part → CanCount part (read_from (cells_of pool e)))
     → IsPlanReady q p pool e
@@ -98,10 +117,10 @@ plan_ready shared q (plan.Parts list numbers) limits is within pool e pages live
     let c = cells_of_plan shared q (plan.Parts list numbers) is within in
     record {
       limits = limits;
-      plan = parts_plans shared q list is.1;
+      plan = serving-keeping q list is.1.serves;
       cells = sizes_in (kept_boxes shared q list);
-      inside = inside_of shared q list is.1;
-      meet = meet_of shared q list is.1;
+      inside = inside_of shared q list is.1 is.2;
+      meet = meet_of shared q list is.1 is.2;
       few = c.1;
       live = live;
       within = (let w = c.0 in omega (arith, w, pages));

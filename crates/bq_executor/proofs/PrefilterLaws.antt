@@ -9,7 +9,8 @@ use Rattle.bq_model.specs.declared.plan.Plan.{Plan}
 use Rattle.bq_model.specs.declared.plan.Plan.TheVariants as plan
 use Rattle.bq_model.specs.Query.{QueryValue, IsWithinLimits}
 use Rattle.bq_model.specs.Meaning.{Arrival, by_column}
-use Rattle.bq_model.specs.Plan.{ArePartPlans, stream_at}
+use Rattle.bq_model.specs.Plan.{stream_at}
+use Rattle.bq_synopsis.specs.Premises.{AreKeeping}
 use Rattle.bq_model.specs.Numbers.{parts_of}
 use Rattle.bq_model.specs.Admission.{admits}
 use Rattle.bq_model.specs.Cells.{content}
@@ -58,7 +59,7 @@ refused_answers q (plan.Parts parts numbers) pool e ready read r refused = by (l
         subst (λ (s : ℕ). found_in q (get_or parts n d) read (record { stream = s; values = r.values }) ≡ []) k.2
         (found_refused q (get_or parts n d) ready.limits (ready.plan.plans n d l) k.0 k.1 r.values read (refused n d k.0 l k.1 k.2)))
 
-inserted_refused : (q : QueryValue) (parts : List PartPlan) (numbers : Numbers) → IsWithinLimits q → ArePartPlans q parts → (r : Arrival) → IsRefused q (plan.Parts parts numbers) r
+inserted_refused : (q : QueryValue) (parts : List PartPlan) (numbers : Numbers) → IsWithinLimits q → AreKeeping q parts → (r : Arrival) → IsRefused q (plan.Parts parts numbers) r
     → (n : ℕ) (cells : List Cell) → IsInserted q parts r n cells cells
 inserted_refused q parts numbers within is r refused n cells = record {
   size = refl;

@@ -1,13 +1,11 @@
 -- The table has room for what is found.
-use Rattle.std.proofs.Common.{◌≡◌, ℕ, zero, suc, min, ◌^◌, ap₂, ◌+◌, ◌<◌, ◌≤◌, ◌⊎◌, inl, inr, ℤ, Bool, true, false, cond, List, [], ◌∷◌, map, length, refl, sym, ap, ◌∙◌, subst, arith, All, Contains, IsTrue, IsFalse, AllPairs, get_or}
+use Rattle.std.proofs.Common.{◌≡◌, ℕ, zero, suc, min, ◌^◌, ap₂, ◌+◌, ◌<◌, ◌≤◌, ◌⊎◌, inl, inr, ℤ, Bool, true, false, cond, List, [], ◌∷◌, map, length, refl, sym, ap, ◌∙◌, subst, arith, All, Contains, IsTrue, AllPairs, get_or}
 use Rattle.std.proofs.lemmas.List.{length-map, get_or-map}
 use Rattle.std.proofs.lemmas.List.Elements.{All-contains}
-use Rattle.std.specs.declared.option.Option.TheVariants.{None}
 use Rattle.bq_model.specs.declared.plan.PartPlan.{PartPlan}
-use Rattle.bq_model.specs.Query.{QueryValue, IsWithinLimits, is_filter}
+use Rattle.bq_model.specs.Query.{QueryValue, IsWithinLimits}
 use Rattle.bq_model.specs.Tuples.{is_before, insert_sorted}
-use Rattle.bq_model.specs.Violation.{IsViolation}
-use Rattle.bq_model.specs.Plan.{ArePartPlans}
+use Rattle.bq_model.specs.Serving.{IsServing}
 use Rattle.bq_model.specs.Ranges.{all_tuples, at_column, different, selected_ranges}
 use Rattle.bq_model.specs.Boxes.{box}
 use Rattle.bq_model.specs.Numbers.{answer_bound}
@@ -117,7 +115,7 @@ pairs-ascend es a i j d h l =
     let y : get_or (tuples_of es) j d ≡ (get_or es j o).tuple = get_or-map (λ e. e.tuple) es j o d k in
     ap₂ is_before x y ∙ before_less (get_or es i o).tuple (get_or es j o).tuple (ascends_get o es i j a h k)
 
-module _ (q : QueryValue) (plan : List PartPlan) (within : IsWithinLimits q) (no_filter : IsFalse (is_filter q)) (is : ArePartPlans q plan) (violation : IsViolation q None) where
+module _ (q : QueryValue) (plan : List PartPlan) (within : IsWithinLimits q) (is : IsServing q plan) where
   -- a table within the ranges has room for one more tuple of them
   pub room_for : (t : List ℤ) (es : List Entry) → Ascends es → Lie q plan (tuples_of es) → Has (all_tuples q plan) t → has t es ≡ false
       → length es < answer_bound q plan
@@ -129,7 +127,7 @@ module _ (q : QueryValue) (plan : List PartPlan) (within : IsWithinLimits q) (no
         | inr m ↦ lie z m
       ] in
       let n : length (tuples_of more) ≤ answer_bound q plan
-      = (table-has-room q plan within no_filter is violation).1 (tuples_of more) (pairs-ascend more (ascends_changed t own es a)) (lie_all q plan (tuples_of more) all) in
+      = (table-has-room q plan within is).1 (tuples_of more) (pairs-ascend more (ascends_changed t own es a)) (lie_all q plan (tuples_of more) all) in
       let e : length (tuples_of more) ≡ suc (length (tuples_of es)) = ap length (tuples_new t own es none) ∙ length-placed t (tuples_of es) in
       let m : length (tuples_of es) ≡ length es = length-map es (λ e. e.tuple) in
       omega (arith, n, e, m)

@@ -5,16 +5,15 @@ use Rattle.std.specs.Option.{option_to_list}
 use Rattle.std.proofs.lemmas.List.{length-map}
 use Rattle.std.proofs.lemmas.List.Elements.{All-append, All-contains}
 use Rattle.std.proofs.lemmas.Grind.{common_steps}
-use Rattle.std.specs.declared.option.Option.TheVariants as options
 use Rattle.bq_model.specs.declared.plan.PartPlan.{PartPlan}
 use Rattle.bq_model.specs.declared.plan.Plan.{Plan}
 use Rattle.bq_model.specs.declared.plan.Plan.TheVariants as plan
 use Rattle.bq_model.specs.Query.{QueryValue, IsWithinLimits}
 use Rattle.bq_model.specs.Assignment.{projected, holds}
-use Rattle.bq_model.specs.Violation.{IsViolation}
 use Rattle.bq_model.specs.Tuples.{sorted, new_tuples}
 use Rattle.bq_model.specs.Meaning.{Arrival, by_column, assignment_of}
-use Rattle.bq_model.specs.Plan.{ArePartPlans, IsPartPlan, stream_at}
+use Rattle.bq_model.specs.Plan.{stream_at}
+use Rattle.bq_model.specs.Serving.{KeepsStreams, Serves}
 use Rattle.bq_model.specs.Admission.{admits}
 use Rattle.bq_model.specs.Cells.{FitsKind}
 use Rattle.bq_model.specs.Ranges.{all_tuples}
@@ -31,8 +30,8 @@ use Rattle.bq_laws.proofs.Counts.{times}
 use Rattle.bq_laws.proofs.Order.{times-ascending, times-fresh}
 use Rattle.bq_laws.proofs.Interleaving.{occurs-is}
 use Rattle.bq_laws.proofs.ByPlace.{walks-find-all}
-use Rattle.bq_synopsis.specs.Premises.{AreFitting}
-use Rattle.bq_synopsis.proofs.CallerLemmas.{walked}
+use Rattle.bq_synopsis.specs.Premises.{AreFitting, AreKeeping}
+use Rattle.bq_synopsis.proofs.CallerLemmas.{serving-keeping, walked}
 use Rattle.bq_probe.proofs.OneEach.{counts-are-one}
 use Rattle.bq_answers.specs.Entries.{Entry, TableValue, with_entries, Ascends, has, waiting_of, settled, tuples_of}
 use Rattle.bq_answers.proofs.Changed.{ascends_settled}
@@ -49,7 +48,7 @@ use Rattle.bq_executor.proofs.Answered.{cleared-ascends, settled-waits, settled-
 
 -- with DISTINCT each combination that is found counts one
 module _ (q : QueryValue) (within : IsWithinLimits q) (distinct : q.distinct ≡ true) (read : Reading) (r : Arrival) where
-  ones_in : (part : PartPlan) → IsPartPlan q part → (plan : List PartPlan) → ArePartPlans q plan → (cells : ℕ) → AreWithin (length q.from) cells plan → cells < 2 ^ 32 → Contains plan part → AreFitting part read
+  ones_in : (part : PartPlan) → KeepsStreams q part → (plan : List PartPlan) → AreKeeping q plan → (cells : ℕ) → AreWithin (length q.from) cells plan → cells < 2 ^ 32 → Contains plan part → AreFitting part read
       → (pos : ℕ) → pos < length q.from → slice_index_or q.from pos 0 ≡ r.stream → All (λ (f : Found). f.count ≡ 1) (found_in q part read r)
   ones_in part own plan is cells inside few k fitting pos here e =
       subst (All (λ (f : Found). f.count ≡ 1)) (sym (walks-find-all q part within own read r pos here e)) (by (admits q part pos (by_column r.values)))
@@ -58,8 +57,8 @@ module _ (q : QueryValue) (within : IsWithinLimits q) (distinct : q.distinct ≡
       by true = counts-are-one q part (walked q plan is cells inside few part k) read fitting pos (let c = own.count in omega (arith, c, here)) (by_column r.values) distinct
       by false = λ k d l. absurd (omega (arith, l))
 
-  ones_all : (plan : List PartPlan) → ArePartPlans q plan → (cells : ℕ) → AreWithin (length q.from) cells plan → cells < 2 ^ 32 → (pos : ℕ) → pos < length q.from → slice_index_or q.from pos 0 ≡ r.stream
-      → (parts : List PartPlan) → ((part : PartPlan) → Has parts part → Contains plan part × IsPartPlan q part × AreFitting part read)
+  ones_all : (plan : List PartPlan) → AreKeeping q plan → (cells : ℕ) → AreWithin (length q.from) cells plan → cells < 2 ^ 32 → (pos : ℕ) → pos < length q.from → slice_index_or q.from pos 0 ≡ r.stream
+      → (parts : List PartPlan) → ((part : PartPlan) → Has parts part → Contains plan part × KeepsStreams q part × AreFitting part read)
       → All (λ (f : Found). f.count ≡ 1) (all_found q parts read r)
   ones_all plan is cells inside few pos here e [] h = λ k d l. absurd (omega (arith, l))
   ones_all plan is cells inside few pos here e (part ∷ parts) h =
@@ -78,7 +77,9 @@ module _ (q : QueryValue) (within : IsWithinLimits q) (distinct : q.distinct ≡
           let m = any_from (λ stream. r.stream == stream) q.from e in
           let c = Contains-from_has q.from m.0 m.1 in
           let same : slice_index_or q.from c.0 0 ≡ r.stream = at_default q.from c.0 m.0 c.1 ∙ c.2 ∙ sym (nat_true r.stream m.0 m.2) in
-          ones_all parts is.1 cells inside few c.0 c.1 same parts (λ part k. (Contains-from_has parts part k, All-contains (IsPartPlan q) parts part is.1.plans (Contains-from_has parts part k), fitting part k))
+          let keeping : AreKeeping q parts = serving-keeping q parts is.1.serves in
+          ones_all parts keeping cells inside few c.0 c.1 same parts
+          (λ part k. (Contains-from_has parts part k, All-contains (KeepsStreams q) parts part keeping.plans (Contains-from_has parts part k), fitting part k))
         where
           at_default : (xs : List ℕ) (i d : ℕ) → i < length xs → slice_index_or xs i 0 ≡ slice_index_or xs i d
           at_default xs i d l = grind (arith, common_steps)
@@ -140,10 +141,10 @@ lie_start q plan es lie = by q.distinct refl
     by true e = subst (Lie q plan) (sym (settled-tuples es)) (lie_from q plan (tuples_of es) (lie e))
     by false e = λ t h. elim h [ ]
 
-kinds : (q : QueryValue) (read : Reading) (plan : List PartPlan) → ArePartPlans q plan → ((part : PartPlan) → Has plan part → AreFitting part read)
+kinds : (q : QueryValue) (read : Reading) (plan : List PartPlan) → All (Serves q) plan → ((part : PartPlan) → Has plan part → AreFitting part read)
     → (part : PartPlan) → Has plan part → (place i : ℕ) → place < length q.from → i < (stream_at part place).size → FitsKind (stream_at part place).kind (read part place i)
 kinds q read plan own fit part k place i l s =
-    let c = (All-contains (IsPartPlan q) plan part own.plans (Contains-from_has plan part k)).count in
+    let c = (All-contains (Serves q) plan part own (Contains-from_has plan part k)).keeps.count in
     fit part k place i (omega (arith, c, l)) s
 
 own_wide : (q : QueryValue) (r : Arrival) (b : Bool) (table : TableValue) → table.width ≡ length q.select → table.capacity ≡ 1
@@ -155,7 +156,7 @@ own_wide q r true table width capacity = (
   tt,
 )
 
-module _ (q : QueryValue) (within : IsWithinLimits q) (violation : IsViolation q options.None) (read : Reading) (r : Arrival) (table : TableValue) (width : table.width ≡ length q.select) (a : Ascends table.entries) where
+module _ (q : QueryValue) (within : IsWithinLimits q) (read : Reading) (r : Arrival) (table : TableValue) (width : table.width ≡ length q.select) (a : Ascends table.entries) where
   -- the table has room for what is answered
   pub room_row : (p : Plan) → HasParts q p → table.capacity ≡ most_answers p
       → (q.distinct ≡ true → All (Contains (all_tuples q (parts_of p))) (tuples_of table.entries))
@@ -169,9 +170,9 @@ module _ (q : QueryValue) (within : IsWithinLimits q) (violation : IsViolation q
       by : (b : Bool) → HaveRoom q.distinct (cond b (all_found q parts read r) []) (with_entries table (cleared q.distinct table.entries))
       by false = tt
       by true =
-          have_room q parts within is.0 is.1 violation q.distinct (all_found q parts read r) (with_entries table (cleared q.distinct table.entries)) width
+          have_room q parts within is.1 q.distinct (all_found q parts read r) (with_entries table (cleared q.distinct table.entries)) width
           (capacity ∙ is.2) (cleared-ascends q.distinct table.entries a) (lie_start q parts table.entries lie)
-          (found_lies q parts within is.0 is.1 violation read r (kinds q read parts is.1 fitting))
+          (found_lies q parts within is.1.serves read r (kinds q read parts is.1.serves fitting))
 
   -- its tuples stay within the ranges
   pub lie_row : (p : Plan) → HasParts q p
@@ -184,9 +185,9 @@ module _ (q : QueryValue) (within : IsWithinLimits q) (violation : IsViolation q
     where
       by : (b : Bool) → Lie q parts (tuples_of (with_all q.distinct (cond b (all_found q parts read r) []) (cleared q.distinct table.entries)))
       by b =
-          lie_with_all q parts within is.0 is.1 violation q.distinct (cond b (all_found q parts read r) []) (cleared q.distinct table.entries)
+          lie_with_all q parts within is.1 q.distinct (cond b (all_found q parts read r) []) (cleared q.distinct table.entries)
           (cleared-ascends q.distinct table.entries a) (lie_start q parts table.entries lie) (each b)
         where
           each : (b : Bool) → (f : Found) → Has (cond b (all_found q parts read r) []) f → Has (all_tuples q parts) f.tuple
-          each true f h = found_lies q parts within is.0 is.1 violation read r (kinds q read parts is.1 fitting) f h
+          each true f h = found_lies q parts within is.1.serves read r (kinds q read parts is.1.serves fitting) f h
           each false f h = elim h [ ]

@@ -8,7 +8,8 @@ use Rattle.bq_model.specs.declared.plan.Kind.{Kind}
 use Rattle.bq_model.specs.declared.plan.PartPlan.{PartPlan}
 use Rattle.bq_model.specs.Query.{QueryValue}
 use Rattle.bq_model.specs.Meaning.{Arrival}
-use Rattle.bq_model.specs.Plan.{stream_at, IsPartPlan}
+use Rattle.bq_model.specs.Plan.{stream_at}
+use Rattle.bq_model.specs.Serving.{KeepsStreams}
 use Rattle.bq_model.specs.Cells.{content, FitsKind}
 use Rattle.bq_model.specs.Combinations.{read_from}
 use Rattle.bq_model.specs.Merge.{merged}
@@ -33,7 +34,7 @@ drop-same : (n : ℕ) (xs ys : List Cell) → length xs ≡ length ys → ((k : 
 drop-same n xs ys e h = same-lists (drop n xs) (drop n ys) Cell.Empty (length-drop n xs ∙ ap (λ m. m - n) e ∙ sym (length-drop n ys)) (λ k l.
     get_or-drop n xs k Cell.Empty ∙ h (n + k) (omega arith) ∙ sym (get_or-drop n ys k Cell.Empty))
 
-module _ (q : QueryValue) (plan : List PartPlan) (plans : All (IsPartPlan q) plan) (list : List Box) (of : AreBoxesOf q plan list) where
+module _ (q : QueryValue) (plan : List PartPlan) (plans : All (KeepsStreams q) plan) (list : List Box) (of : AreBoxesOf q plan list) where
   -- a box reads only the cells of the plan
   pub read_cut : (cells : List Cell) (part : PartPlan) → Contains plan part → (place i : ℕ) → place < length part.streams.items → i < (stream_at part place).size
       → read_from (take (sizes_in list) cells) part place i ≡ read_from cells part place i

@@ -12,7 +12,8 @@ use Rattle.bq_model.specs.Query.{QueryValue, is_filter}
 use Rattle.bq_model.specs.Tuples.{sorted, new_tuples}
 use Rattle.bq_model.specs.Meaning.{Arrival, new_answers}
 use Rattle.bq_model.specs.Filter.{filter_tuple}
-use Rattle.bq_model.specs.Plan.{IsPartPlan, stream_at}
+use Rattle.bq_model.specs.Plan.{stream_at}
+use Rattle.bq_model.specs.Serving.{KeepsStreams, IsServingPlan}
 use Rattle.bq_model.specs.Cells.{printed, FitsKind}
 use Rattle.bq_model.specs.Combinations.{Reading, Found, found_in, read_from}
 use Rattle.bq_model.specs.Bases.{Base, kept_row}
@@ -23,7 +24,7 @@ use Rattle.bq_laws.proofs.ClosedTables.{cells-stay-saturated}
 use Rattle.bq_model.specs.Future.{waiting, future}
 use Rattle.bq_model.specs.Merge.{merged, merged_table}
 use Rattle.bq_model.specs.Numbers.{parts_of, pages_of}
-use Rattle.bq_model.specs.Sharing.{Box, kept_boxes, sizes_in, synopsis_in, merge_in, IsPlanOf}
+use Rattle.bq_model.specs.Sharing.{Box, kept_boxes, sizes_in, synopsis_in, merge_in}
 use Rattle.bq_laws.specs.Probing.{AreWithin}
 use Rattle.bq_laws.specs.Sharing.{AreBoxesOf}
 use Rattle.bq_laws.specs.Bases.{IsKept}
@@ -57,8 +58,7 @@ use Rattle.bq_executor.proofs.Answered.{future-rises, cleared-ascends}
 use Rattle.bq_executor.proofs.Room.{all_within}
 use Rattle.bq_executor.proofs.RowAnswers.{answered_ones, waits_row, tuples_row, ascends_row, room_row, lie_row}
 use Rattle.bq_executor.proofs.RowCells.{read_cut, read_after, merged_is, rest_is, pool_is, room_kept, kept_by}
-use Rattle.bq_loading.proofs.PlanBoxes.{parts_boxes, no_boxes}
-use Rattle.bq_executor.proofs.PlanFacts.{no_parts, has_parts, kept_is, inside_of, cells_of_plan, plan_ready, answered-same}
+use Rattle.bq_executor.proofs.PlanFacts.{serving_in, has_parts, parts_keep, boxes_of_plan, kept_is, inside_of, cells_of_plan, plan_ready, answered-same}
 use Rattle.bq_executor.proofs.Keeping.{keeps}
 
 -- without DISTINCT the future answers do not look at the table
@@ -97,27 +97,19 @@ module _ (e : ExecutorValue) (sound : IsSound e) (pool : PoolValue) (ready : IsR
   list = list_in e
 
   has : HasParts q e.plan
-  has = has_parts e.shared q e.plan sound.accepted.plan
+  has = has_parts e.shared q e.plan (serving_in e sound)
 
   is_kept : IsKept q parts list
-  is_kept = kept_is e.shared q e.plan sound.accepted.plan
+  is_kept = kept_is e.shared q e.plan (serving_in e sound)
 
-  pub plans : All (IsPartPlan q) parts
-  plans = all_plans e.plan has
-    where
-      all_plans : (p : Plan) → HasParts q p → All (IsPartPlan q) (parts_of p)
-      all_plans plan.Filter h = λ k d l. absurd (omega (arith, l))
-      all_plans (plan.Parts parts_listed numbers) h = h.1.plans
+  pub plans : All (KeepsStreams q) parts
+  plans = parts_keep e.shared q e.plan (serving_in e sound)
 
   of : AreBoxesOf q parts list
-  of = boxes_of e.plan sound.accepted.plan
-    where
-      boxes_of : (p : Plan) → IsPlanOf e.shared q p → AreBoxesOf q (parts_of p) (kept_boxes e.shared q (parts_of p))
-      boxes_of plan.Filter h = subst (AreBoxesOf q []) (sym (no_boxes e.shared q)) no_parts
-      boxes_of (plan.Parts list numbers) h = parts_boxes e.shared q list h.1
+  of = boxes_of_plan e.shared q e.plan (serving_in e sound)
 
   plan_cells : (sizes_in list ≤ 64 * pages_of e.plan) × (sizes_in list < 2 ^ 32)
-  plan_cells = cells_of_plan e.shared q e.plan sound.accepted.plan sound.accepted.within
+  plan_cells = cells_of_plan e.shared q e.plan (serving_in e sound) sound.accepted.within
 
   whole : sizes_in list ≤ length all_cells
   whole = let c = plan_cells.0 in let l = ready.kept.live.pages in let p = sound.pages in omega (arith, c, l, p)
@@ -135,11 +127,11 @@ module _ (e : ExecutorValue) (sound : IsSound e) (pool : PoolValue) (ready : IsR
 
   pub ready_row : IsPlanReady q e.plan pool e.extent
   ready_row =
-      plan_ready e.shared q e.plan sound.limits sound.accepted.plan sound.accepted.within pool e.extent sound.pages ready.kept.live fitting room_cells
+      plan_ready e.shared q e.plan sound.limits (serving_in e sound) sound.accepted.within pool e.extent sound.pages ready.kept.live fitting room_cells
 
   pub room : HaveRoom q.distinct found (with_entries e.table (cleared q.distinct e.table.entries))
   room =
-      room_row q sound.limits sound.accepted.violation (read_from all_cells) r e.table sound.width a e.plan has sound.capacity sound.tuples
+      room_row q sound.limits (read_from all_cells) r e.table sound.width a e.plan has sound.capacity sound.tuples
       (λ part k. fitting part (Contains-from_has parts part k))
 
   -- the table after what waited was given up and all that is answered was taken up
@@ -174,17 +166,14 @@ module _ (e : ExecutorValue) (sound : IsSound e) (pool : PoolValue) (ready : IsR
     entries = (let n = entries in let c = sound.capacity in omega (arith, n, c));
     ascends = ascends;
     tuples =
-        lie_row q sound.limits sound.accepted.violation (read_from all_cells) r e.table sound.width a e.plan has sound.tuples
+        lie_row q sound.limits (read_from all_cells) r e.table sound.width a e.plan has sound.tuples
         (λ part k. fitting part (Contains-from_has parts part k));
   }
 
   pub agree : (part : PartPlan) → Has parts part → Agree part (length q.from) (read_from all_cells) (read_from (cells_in e pool))
-  agree part k place i l s = sym (cut part (Contains-from_has parts part k) place i (there e.plan has k l) s)
-    where
-      there : (p : Plan) → HasParts q p → Has (parts_of p) part → place < length q.from → place < length part.streams.items
-      there plan.Filter is k l = elim k [ ]
-      there (plan.Parts list numbers) is k l =
-          let c = (All-contains (IsPartPlan q) list part is.1.plans (Contains-from_has list part k)).count in omega (arith, c, l)
+  agree part k place i l s =
+      let c : Contains parts part = Contains-from_has parts part k in
+      let n = (All-contains (KeepsStreams q) parts part plans c).count in sym (cut part c place i (omega (arith, n, l)) s)
 
   -- what is answered is what the cells of the plan answer
   same_found : found ≡ answered_by q e.plan (read_from (cells_in e pool)) r
@@ -199,7 +188,7 @@ module _ (e : ExecutorValue) (sound : IsSound e) (pool : PoolValue) (ready : IsR
     old = λ part k pos values here admitted leaves f c.
         let d = once so in
         let dp = distinct-plan e sound d in
-        let own : IsPartPlan q part = All-contains (IsPartPlan q) parts part plans k in
+        let own : KeepsStreams q part = All-contains (KeepsStreams q) parts part plans k in
         let there : pos < length part.streams.items = (let n = own.count in omega (arith, n, here)) in
         let i : ℕ = own_place part pos values in
         let l : i < (stream_at part pos).size = place_inside q part sound.limits own pos here values (several so) admitted in
@@ -216,11 +205,11 @@ module _ (e : ExecutorValue) (sound : IsSound e) (pool : PoolValue) (ready : IsR
   }
 
   inside : AreWithin (length q.from) (sizes_in list) parts
-  inside = within_of e.plan sound.accepted.plan
+  inside = within_of e.plan (serving_in e sound)
     where
-      within_of : (p : Plan) → IsPlanOf e.shared q p → AreWithin (length q.from) (sizes_in (kept_boxes e.shared q (parts_of p))) (parts_of p)
+      within_of : (p : Plan) → IsServingPlan e.shared q p → AreWithin (length q.from) (sizes_in (kept_boxes e.shared q (parts_of p))) (parts_of p)
       within_of plan.Filter h = λ part k. elim (Has-from_contains [] part k) [ ]
-      within_of (plan.Parts list numbers) h = inside_of e.shared q list h.1
+      within_of (plan.Parts list numbers) h = inside_of e.shared q list h.1 h.2
 
   ones : q.distinct ≡ true → All (λ (f : Found). f.count ≡ 1) found
   ones d =
@@ -289,7 +278,7 @@ module _ (e : ExecutorValue) (sound : IsSound e) (pool : PoolValue) (ready : IsR
       future_is =
           ap (λ cs. future q parts (read_from cs) (tuples_in e) r) stands.cells
           ∙ by (true_or_false q.distinct)
-          ∙ suffices q parts list sound.limits sound.accepted.violation is_kept history r stands.rows keeps
+          ∙ suffices q parts list sound.limits is_kept history r stands.rows keeps
         where
           by : (q.distinct ≡ true) ⊎ (q.distinct ≡ false)
               → future q parts (read_from (synopsis_in q list history)) (tuples_in e) r ≡ future q parts (read_from (synopsis_in q list history)) (printed q history) r

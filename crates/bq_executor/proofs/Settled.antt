@@ -16,7 +16,7 @@ use Rattle.bq_answers.specs.Entries.{Entry, entry_of, settled, tuples_of}
 use Rattle.bq_executor.specs.Executor.{ExecutorValue, parts_in, list_in, spelled, IsSound, with_given}
 use Rattle.bq_executor.specs.Standing.{StandsFor}
 use Rattle.bq_executor.proofs.Answered.{settled-tuples, cleared-ascends}
-use Rattle.bq_executor.proofs.PlanFacts.{cells_of_plan}
+use Rattle.bq_executor.proofs.PlanFacts.{serving_in, cells_of_plan}
 
 -- nothing waits
 pub settled-spelled : (es : List Entry) → spelled (settled es) ≡ []
@@ -76,7 +76,7 @@ printed-none q within = by q.distinct
 pub begins : (e : ExecutorValue) → IsSound e → e.given ≡ 0 → e.table.entries ≡ [] → (pool : PoolValue) → IsLive pool e.extent
     → cells_of pool e.extent ≡ replicate (64 * e.extent.pages) Cell.Empty → StandsFor e pool []
 begins e s given none pool live empty =
-    let c = cells_of_plan e.shared e.query e.plan s.accepted.plan s.accepted.within in
+    let c = cells_of_plan e.shared e.query e.plan (serving_in e s) s.accepted.within in
     record {
       live = live;
       cells =

@@ -8,20 +8,22 @@ use Rattle.bq_model.specs.declared.plan.Plan.{Plan}
 use Rattle.bq_model.specs.declared.plan.Plan.TheVariants as plan
 use Rattle.bq_model.specs.Query.{QueryValue}
 use Rattle.bq_model.specs.Meaning.{Arrival, rows}
-use Rattle.bq_model.specs.Plan.{IsPartPlan, stream_at}
+use Rattle.bq_model.specs.Plan.{stream_at}
+use Rattle.bq_model.specs.Serving.{KeepsStreams, IsServingPlan}
 use Rattle.bq_model.specs.Cells.{content, cell_of, rows_of_cell, FitsKind}
 use Rattle.bq_model.specs.Combinations.{read_from}
 use Rattle.bq_model.specs.Numbers.{parts_of}
-use Rattle.bq_model.specs.Sharing.{kept_boxes, synopsis_in, IsPlanOf}
+use Rattle.bq_model.specs.Sharing.{kept_boxes, synopsis_in}
 use Rattle.bq_model.proofs.Has.{Has-from_contains}
 use Rattle.bq_laws.proofs.Fitting.{cells-fit}
 use Rattle.bq_laws.proofs.BoxReadings.{boxes-are-read}
+use Rattle.bq_laws.proofs.PlanBoxes.{plans-have-boxes}
+use Rattle.bq_laws.proofs.Walking.{serving-keep}
 use Rattle.bq_model.specs.declared.cell.Cell.{Cell}
 use Rattle.bq_laws.specs.Sharing.{AreBoxesOf}
 use Rattle.bq_laws.specs.Closed.{IsClosed}
 use Rattle.bq_laws.proofs.ClosedTables.{tables-stay-closed}
-use Rattle.bq_loading.proofs.PlanBoxes.{parts_plans, parts_boxes, no_boxes}
-use Rattle.bq_executor.proofs.PlanFacts.{no_parts}
+use Rattle.bq_executor.proofs.PlanFacts.{serving_in, boxes_of_plan}
 use Rattle.bq_executor.proofs.Closing.{distinct-plan, known-closed}
 use Rattle.bq_pool.specs.Extents.{PoolValue}
 use Rattle.bq_executor.specs.Executor.{ExecutorValue, parts_in, list_in, cells_in, tuples_in, IsSound}
@@ -60,22 +62,18 @@ module _ (e : ExecutorValue) (pool : PoolValue) (history : List Arrival) (sound 
   -- what stands in a box
   cell_is : (part : PartPlan) → Contains (parts_in e) part → (place i : ℕ) → place < length part.streams.items → i < (stream_at part place).size
       → read_from (cells_in e pool) part place i ≡ cell_of e.query history part place i
-  cell_is part c place i l s = ap (λ cs. read_from cs part place i) stands.cells ∙ by e.plan sound.accepted.plan c
+  cell_is part c place i l s = ap (λ cs. read_from cs part place i) stands.cells ∙ by e.plan (serving_in e sound) c
     where
-      by : (p : Plan) → IsPlanOf e.shared e.query p → Contains (parts_of p) part
+      by : (p : Plan) → IsServingPlan e.shared e.query p → Contains (parts_of p) part
           → read_from (synopsis_in e.query (kept_boxes e.shared e.query (parts_of p)) history) part place i ≡ cell_of e.query history part place i
       by plan.Filter is c = elim (Has-from_contains [] part c) [ ]
       by (plan.Parts list numbers) is c =
-          let plans = (parts_plans e.shared e.query list is.1).plans in
-          let own = All-contains (IsPartPlan e.query) list part plans c in
-          boxes-are-read e.query list plans (kept_boxes e.shared e.query list) (parts_boxes e.shared e.query list is.1) history part c place i (let n = own.count in omega (arith, n, l)) s
+          let keeps = serving-keep e.query list is.1.serves in
+          let own = All-contains (KeepsStreams e.query) list part keeps c in
+          boxes-are-read e.query list keeps (kept_boxes e.shared e.query list) (plans-have-boxes e.shared e.query list is.2) history part c place i (let n = own.count in omega (arith, n, l)) s
 
   boxes-are : AreBoxesOf e.query (parts_in e) (list_in e)
-  boxes-are = by e.plan sound.accepted.plan
-    where
-      by : (p : Plan) → IsPlanOf e.shared e.query p → AreBoxesOf e.query (parts_of p) (kept_boxes e.shared e.query (parts_of p))
-      by plan.Filter h = subst (AreBoxesOf e.query []) (sym (no_boxes e.shared e.query)) no_parts
-      by (plan.Parts parts numbers) h = parts_boxes e.shared e.query parts h.1
+  boxes-are = boxes_of_plan e.shared e.query e.plan (serving_in e sound)
 
   kept : length history < 2 ^ 40 → AreKept e pool
   kept few = record {

@@ -8,7 +8,8 @@ use Rattle.bq_model.specs.declared.plan.Plan.{Plan}
 use Rattle.bq_model.specs.declared.plan.Plan.TheVariants as plan
 use Rattle.bq_model.specs.Query.{QueryValue, IsWithinLimits, is_filter}
 use Rattle.bq_model.specs.Meaning.{Arrival, by_column}
-use Rattle.bq_model.specs.Plan.{stream_at, dims_at, ArePartPlans}
+use Rattle.bq_model.specs.Plan.{stream_at, dims_at}
+use Rattle.bq_model.specs.Serving.{IsServing}
 use Rattle.bq_model.specs.Filter.{filter_tuple}
 use Rattle.bq_model.specs.Admission.{admits}
 use Rattle.bq_model.specs.Cells.{row_place, content}
@@ -20,7 +21,7 @@ use Rattle.bq_model.specs.Combinations.{Reading, Found, found_in, read_from}
 use Rattle.bq_laws.specs.Places.{IsBox}
 use Rattle.bq_pool.specs.declared.pool.Extent.{Extent}
 use Rattle.bq_pool.specs.Extents.{PoolValue, cells_of, with_cells, IsLive}
-use Rattle.bq_synopsis.specs.Premises.{AreFitting, HasRoom, row_cell}
+use Rattle.bq_synopsis.specs.Premises.{AreKeeping, AreFitting, HasRoom, row_cell}
 use Rattle.bq_answers.specs.Entries.{Entry, has}
 use Rattle.bq_index.specs.Leaving.{LeavesCell}
 use Rattle.bq_index.specs.Owners.{has_base}
@@ -73,11 +74,11 @@ MeetWhole q parts =
     → (stream_at part place).base + i ≡ (stream_at other there).base + j
     → (same_box q (box_at part place) (box_at other there) ≡ true) × (i ≡ j)
 
--- the parts are those of the query, their boxes lie within some cells of the extent and meet only where they are the same, and each cell
+-- the parts keep the streams of the query, their boxes lie within some cells of the extent and meet only where they are the same, and each cell
 -- is of its kind and can count one row more
 pub record AreReady (q : QueryValue) (parts : List PartPlan) (pool : PoolValue) (extent : Extent) : Type 0 where
   pub limits : IsWithinLimits q
-  pub plan : ArePartPlans q parts
+  pub plan : AreKeeping q parts
   pub cells : ℕ
   pub inside : AreWithin (length q.from) cells parts
   pub meet : MeetWhole q parts
@@ -103,10 +104,10 @@ abbrev pub answered_by : QueryValue → Plan → Reading → Arrival → List Fo
 answered_by q plan.Filter read r = own_found q r
 answered_by q (plan.Parts parts numbers) read r = if list_any (λ stream. r.stream == stream) q.from then all_found q parts read r else []
 
--- the parts of a plan are those of the query, wherever their boxes begin, and as many answers are announced as they have
+-- the parts of a plan serve the query, wherever their boxes begin, and as many answers are announced as they have
 abbrev pub HasParts : QueryValue → Plan → Type 0
 HasParts q plan.Filter = IsTrue (is_filter q)
-HasParts q (plan.Parts parts numbers) = IsFalse (is_filter q) × ArePartPlans q parts × (numbers.answers ≡ answer_bound q parts)
+HasParts q (plan.Parts parts numbers) = IsFalse (is_filter q) × IsServing q parts × (numbers.answers ≡ answer_bound q parts)
 
 -- the cells of a plan are ready for a row; a filter has none
 abbrev pub IsPlanReady : QueryValue → Plan → PoolValue → Extent → Type 0

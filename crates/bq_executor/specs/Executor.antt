@@ -1,21 +1,19 @@
 -- What contracts see of an executor, and what is true of each.
-use Rattle.std.specs.Prelude.{◌≡◌, ◌≤◌, ◌^◌, ℕ, Bool, true, if◌then◌else◌, ℤ, List, [], take, drop, replicate, length, Contains, All, IsFalse}
+use Rattle.std.specs.Prelude.{◌≡◌, ◌≤◌, ◌^◌, ℕ, Bool, true, if◌then◌else◌, ℤ, List, [], take, drop, replicate, length, Contains, All}
 use Rattle.std.specs.List.{flat_map}
-use Rattle.std.specs.declared.option.Option.TheVariants.{None}
 use Rattle.bq_answers.specs.Entries.{Entry, TableValue, with_entries, settled, tuples_of, Ascends}
 use Rattle.bq_model.specs.declared.cell.Cell.{Cell}
 use Rattle.bq_model.specs.declared.decision.Which.TheVariants as which
 use Rattle.bq_model.specs.declared.plan.PartPlan.{PartPlan}
 use Rattle.bq_model.specs.declared.plan.Plan.{Plan}
 use Rattle.bq_model.specs.declared.plan.Plan.TheVariants as plan
-use Rattle.bq_model.specs.Query.{QueryValue, IsWithinLimits, is_filter}
+use Rattle.bq_model.specs.Query.{QueryValue, IsWithinLimits}
 use Rattle.bq_model.specs.Meaning.{Arrival}
-use Rattle.bq_model.specs.Parts.{HasMoreParts}
-use Rattle.bq_model.specs.Violation.{IsViolation}
-use Rattle.bq_model.specs.Verdict.{most, first_above}
+use Rattle.bq_model.specs.Verdict.{most}
 use Rattle.bq_model.specs.Numbers.{parts_of, pages_of}
-use Rattle.bq_model.specs.Sharing.{Box, kept_boxes, sizes_in, IsPlanOf}
+use Rattle.bq_model.specs.Sharing.{Box, kept_boxes, sizes_in}
 use Rattle.bq_model.specs.Ranges.{all_tuples}
+use Rattle.bq_forms.specs.Forms.{IsFormPlanOf, IsWithin, MeetsForm}
 use Rattle.bq_pool.specs.declared.pool.Extent.{Extent}
 use Rattle.bq_pool.specs.Extents.{PoolValue, cells_of}
 use Rattle.bq_saturated.specs.declared.saturation.Saturation.{Saturation}
@@ -59,22 +57,17 @@ spelled entries = flat_map (λ entry. replicate entry.waiting entry.tuple) entri
 abbrev pub waiting_in : ExecutorValue → List (List ℤ)
 waiting_in e = spelled e.table.entries
 
--- no number of the plan is above its limit
-abbrev pub IsWithin : Plan → Type 0
-IsWithin plan.Filter = Unit {0}
-IsWithin (plan.Parts parts numbers) = first_above numbers ≡ None
-
 -- for how many answers there is room: a filter has one at a time
 abbrev pub most_answers : Plan → ℕ
 most_answers plan.Filter = 1
 most_answers (plan.Parts parts numbers) = numbers.answers
 
--- the plan is that of the query, of which no condition is violated and no number is above its limit, that of its parts too
+-- the plan is that of the query, which breaks no condition, and no number is above its limit, that of the plan's parts too
 pub record IsAccepted (shared : Bool) (q : QueryValue) (p : Plan) : Type 0 where
-  pub plan : IsPlanOf shared q p
-  pub violation : IsViolation q None
+  pub plan : IsFormPlanOf shared q p
+  pub met : MeetsForm q
   pub within : IsWithin p
-  pub few : IsFalse (is_filter q) → ¬ HasMoreParts q (most which.Parts)
+  pub few : length (parts_of p) ≤ most which.Parts
 
 -- what is true of each executor: it has just the pages of its plan, and room for just the answers of it; at most 2^40 rows were given; the
 -- table has no more entries than there is room for, in ascending order; and with DISTINCT each of its tuples lies in the ranges of some part

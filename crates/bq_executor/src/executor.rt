@@ -120,6 +120,7 @@ impl Executor {
         ensures bases { IfOk result (λ e. (pool : PoolValue) → IsLive pool extent → cells_of pool extent ≡ replicate (64 * extent.pages) cell.Empty → StandsFrom e pool (first_base (list_in e)) []) }
         ensures within { IfOk result (λ e. (pool : PoolValue) → IsLive pool extent → cells_of pool extent ≡ replicate (64 * extent.pages) cell.Empty → KeepsWithin e pool) }
     {
+        let width = query.select().len() as u8;
         let prepared = match prepare_all(alloc, &query, &plan) {
             Ok(prepared) => prepared,
             Err(error) => return Err((extent, error)),
@@ -128,7 +129,6 @@ impl Executor {
         let plain_filter = plain_filter_of(&query, &plan, &prefilter);
         let direct = direct_lookups(&query, &plan, &prepared);
         let capacity = most_answers(&plan);
-        let width = query.select().len() as u8;
         match Answers::new(alloc, capacity, width) {
             Ok(table) => Ok(Executor {
                 given: 0,

@@ -2,10 +2,10 @@
 ghost use Rattle.std.specs.Prelude.{◌≡◌, ◌<◌, ◌≤◌, ◌+◌, ◌*◌, ◌&&◌, ◌||◌, not, length, slice_get, Some, IfSome, true};
 ghost use Rattle.bq_model.specs.Meaning.{by_column};
 ghost use Rattle.bq_model.specs.Combinations.{read_from};
-ghost use Rattle.bq_model.specs.Plan.{ArePartPlans};
 ghost use Rattle.bq_model.specs.Parts.{pairs};
 ghost use Rattle.bq_pool.specs.Extents.{cells_of};
 ghost use Rattle.bq_answers.specs.Entries.{with_entries};
+ghost use Rattle.bq_synopsis.specs.Premises.{AreKeeping};
 ghost use Rattle.bq_executor.specs.FoundTable.{with_all, HaveRoom};
 ghost use Rattle.bq_executor.specs.Reads.{row_reads};
 ghost use Rattle.bq_executor.specs.CellSteps.{arrives, all_found, HasTaken, AreReady, AnswersNothingNew};
@@ -69,7 +69,7 @@ fn placement_in(
     i: u32,
 ) -> Placement
     requires here { coded.now.pos < length coded.now.q.now.from }
-    requires plan { ArePartPlans coded.now.q.now coded.now.parts.now }
+    requires plan { AreKeeping coded.now.q.now coded.now.parts.now }
     requires inside { i < length coded.now.parts.now }
     requires part_index { IsPartIndex coded.now.q.now coded.now.parts.now coded.now.pos part_index.now }
     requires prepared { IsPreparedPlan coded.now.q.now coded.now.parts.now prepared.now }

@@ -1,5 +1,5 @@
 -- The columns of the plan of a query are columns of its streams.
-use Rattle.std.proofs.Common.{◌≡◌, ℕ, ◌<◌, Bool, true, false, List, length, map, get_or, sym, ap, ◌∙◌, subst, arith, All, Contains, inl, inr}
+use Rattle.std.proofs.Common.{◌≡◌, ℕ, zero, suc, ◌<◌, Bool, true, false, List, [], ◌∷◌, length, map, get_or, sym, ap, ◌∙◌, subst, arith, All, Contains, inl, inr}
 use Rattle.std.proofs.lemmas.List.{length-map, get_or-map, get_or_default}
 use Rattle.std.proofs.lemmas.List.Elements.{All-weaker, All-contains}
 use Rattle.bq_model.specs.declared.atom.Attr.{Attr}
@@ -19,10 +19,13 @@ use Rattle.bq_model.specs.Parts.{pairs, sign_at, IsPart}
 use Rattle.bq_model.specs.Links.{AreAcross}
 use Rattle.bq_model.specs.Plan.{NamesClass, IsDim, IsKind, IsPartPlan, IsStreamPlan, ArePartPlans, stream_at}
 use Rattle.bq_model.specs.Sharing.{IsPlanFor}
+use Rattle.bq_forms.specs.Forms as forms
+use Rattle.bq_forms.specs.Forms.{IsFormPlan}
 use Rattle.bq_schema.specs.Streams.{Shape}
 use Rattle.bq_parser.specs.Resolution.{IsColumnOf, HasSide, HasNamed}
 use Rattle.bq_parser.proofs.NamedAttrs.{attributes_are_named}
 use Rattle.bq_explain.specs.Named.{HasPair, HasDim, HasKind, HasStream, HasPart}
+use Rattle.bq_explain.proofs.NamedWhole.{whole_named}
 
 -- an item is in its list
 inside : {X : Type 0} (xs : List X) (k : ℕ) (d : X) → k < length xs → Contains xs (get_or xs k d)
@@ -74,13 +77,14 @@ across_named streams q x y h a = (attributes_are_named streams q h x a.left, att
 -- the columns of a part are there
 part_named : (streams : List Shape) (q : QueryValue) (part : PartPlan) → HasNamed streams q → IsPart q part.signs.items → IsPartPlan q part → HasPart streams q part
 part_named streams q part h is p = record {
-  signs = signs_fit q part.signs.items is;
+  signs = inl (signs_fit q part.signs.items is);
   equal = λ k d lt.
       let l : Link = get_or part.equal.items k d in
       across_named streams q l.left l.right h ((p.equal l.left l.right).0 (inside part.equal.items k d lt)).1.across;
   less = λ k d lt.
       let l : Link = get_or part.less.items k d in
       across_named streams q l.left l.right h ((p.less l.left l.right).0 (inside part.less.items k d lt)).across;
+  soft = λ k d lt. absurd (let n = ap length p.soft in omega (arith, n, lt));
   kept = λ k d lt.
       let P : StreamPlan → Type 0 = λ s. HasStream streams q.from s in
       subst P (get_or_default part.streams.items k _ d lt) (stream_named streams q part.signs.items k (stream_at part k) h (p.streams k (omega (arith, p.count))));
@@ -91,13 +95,23 @@ All-of_map : {X Y : Type 0} (P : Y → Type 0) (f : X → Y) (xs : List X) → A
 All-of_map P f xs h k d lt = subst P (get_or-map f xs k d (f d) lt) (h k (f d) (rw length-map lt))
 
 -- the parts of a plan, with shared cells or without
-pub parts_plans : (shared : Bool) (q : QueryValue) (parts : List PartPlan) → IsPlanFor shared q parts → ArePartPlans q parts
+parts_plans : (shared : Bool) (q : QueryValue) (parts : List PartPlan) → IsPlanFor shared q parts → ArePartPlans q parts
 parts_plans false q parts p = record { parts = p.parts; plans = p.plans }
 parts_plans true q parts p = record { parts = p.parts; plans = p.plans }
 
 -- the columns of all parts of a plan are there
-pub plan_named : (streams : List Shape) (q : QueryValue) (parts : List PartPlan) → HasNamed streams q → ArePartPlans q parts → All (HasPart streams q) parts
+plan_named : (streams : List Shape) (q : QueryValue) (parts : List PartPlan) → HasNamed streams q → ArePartPlans q parts → All (HasPart streams q) parts
 plan_named streams q parts h p = λ k d lt.
     let signs : PartPlan → List Sign = λ part. part.signs.items in
     let is : All (λ part. IsPart q (signs part)) parts = All-of_map (IsPart q) signs parts p.parts.each in
     part_named streams q (get_or parts k d) h (is k d lt) (p.plans k d lt)
+
+-- one item
+one : {X : Type 0} (P : X → Type 0) (x : X) → P x → All P (x ∷ [])
+one P x p zero d lt = p
+one P x p (suc k) d lt = absurd (omega (arith, lt))
+
+-- and so are those of a plan in either form
+pub form_named : (streams : List Shape) (shared : Bool) (q : QueryValue) (list : List PartPlan) → HasNamed streams q → IsFormPlan shared q list → All (HasPart streams q) list
+form_named streams shared q parts h (forms.whole compact part fits follow e) = subst (λ (list : List PartPlan). All (HasPart streams q) list) (sym e) (one (HasPart streams q) part (whole_named streams q h part fits.plan))
+form_named streams shared q list h (forms.parts none p) = plan_named streams q list h (parts_plans shared q list p)

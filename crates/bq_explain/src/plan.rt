@@ -1,7 +1,7 @@
 //! The text of a plan, between the name of its query and this name again.
 ghost use Rattle.std.specs.Prelude.{◌≡◌, Bool};
 ghost use Rattle.bq_io.specs.Sink.{Writes};
-ghost use Rattle.bq_model.specs.Sharing.{IsPlanOf};
+ghost use Rattle.bq_forms.specs.Forms.{IsFormPlanOf};
 ghost use Rattle.bq_parser.specs.Resolution.{HasNamed};
 ghost use Rattle.bq_explain.specs.Text.{query_line, plan_text, explain_text};
 
@@ -35,7 +35,7 @@ fn write_plan<O: Sink>(
     catalog: &Catalog,
 ) -> Result<(), WriteFault>
     requires named { HasNamed catalog.now query.now }
-    requires plan { (shared : Bool) × IsPlanOf shared query.now plan.now }
+    requires plan { (shared : Bool) × IsFormPlanOf shared query.now plan.now }
     ensures { Writes result (O.seen out.old) (O.seen out.new) (plan_text catalog.now query.now plan.now) }
 {
     match plan {
@@ -55,7 +55,7 @@ pub fn explain<O: Sink>(
     out: &mut O,
 ) -> Result<(), WriteFault>
     requires named { HasNamed catalog.now query.now }
-    requires plan { (shared : Bool) × IsPlanOf shared query.now plan.now }
+    requires plan { (shared : Bool) × IsFormPlanOf shared query.now plan.now }
     ensures { Writes result (O.seen out.old) (O.seen out.new) (explain_text catalog.now name.now query.now plan.now) }
 {
     write_name_line(out, b"explain ", name.bytes())?;

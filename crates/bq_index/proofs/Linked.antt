@@ -11,7 +11,7 @@ use Rattle.bq_model.specs.Query.{QueryValue}
 use Rattle.bq_model.specs.Parts.{pairs, sign_at, is_within}
 use Rattle.bq_model.specs.Meaning.{by_column}
 use Rattle.bq_model.specs.Plan.{dims_at}
-use Rattle.bq_model.specs.Admission.{alone, sign_eq, keeps_signs, in_range, admits}
+use Rattle.bq_model.specs.Admission.{alone, sign_eq, keeps_signs, keeps_local, in_range, admits}
 use Rattle.bq_laws.proofs.Tests.{and-left, and-right, or-cases, not_both, true_or_false, false_if, sign_eq-is, nat_true}
 use Rattle.std.specs.List.{list_all}
 use Rattle.bq_index.specs.declared.part_index.PartIndex.{PartIndex}
@@ -53,24 +53,24 @@ tested_more ps tests tested more i o x within own all are =
     ∙ ap (map g) (sym all)
 
 -- at a pair of its stream a row has the sign that it keeps
-kept_sign : (place : ℕ) (v : ℕ → ℤ) (ps : List Pair) (ss : List Sign) (i : ℕ) → keeps_signs place (alone v) ps ss ≡ true → IsLocal ps place i
+kept_sign : (place : ℕ) (v : ℕ → ℤ) (ps : List Pair) (ss : List Sign) (i : ℕ) → keeps_signs place (alone v) ps ss ≡ true → IsLocal ps place i → i < length ss
     → sign_of_row v (slice_get ps i) ≡ get_or ss i Sign.Lt
-kept_sign place v [] ss i kept local = absurd local
-kept_sign place v (p ∷ ps) [] i kept local = absurd cc
-kept_sign place v (p ∷ ps) (s ∷ ss) zero kept local = elim (or-cases (not (is_within place p.left p.right)) (sign_eq (sign_at (alone v) p) s) (and-left _ (keeps_signs place (alone v) ps ss) kept)) [
+kept_sign place v [] ss i kept local there = absurd local
+kept_sign place v (p ∷ ps) [] i kept local there = absurd (omega (arith, there))
+kept_sign place v (p ∷ ps) (s ∷ ss) zero kept local there = elim (or-cases (not (is_within place p.left p.right)) (sign_eq (sign_at (alone v) p) s) (and-left _ (keeps_signs place (alone v) ps ss) kept)) [
   | inl other ↦ absurd (not_both (not (is_within place p.left p.right)) other (ap not local))
   | inr has ↦ sign_eq-is (sign_at (alone v) p) s has
 ]
-kept_sign place v (p ∷ ps) (s ∷ ss) (suc i) kept local =
-    kept_sign place v ps ss i (and-right (not (is_within place p.left p.right) || sign_eq (sign_at (alone v) p) s) _ kept) local
+kept_sign place v (p ∷ ps) (s ∷ ss) (suc i) kept local there =
+    kept_sign place v ps ss i (and-right (not (is_within place p.left p.right) || sign_eq (sign_at (alone v) p) s) _ kept) local (omega (arith, there))
 
 -- a row has the signs that a part asks, where the part admits it
 pub kept_signs : (place : ℕ) (v : ℕ → ℤ) (ps : List Pair) (part : PartPlan) → keeps_signs place (alone v) ps part.signs.items ≡ true
-    → (tests : List ℕ) → All (IsLocal ps place) tests → signs_of_row ps v tests ≡ signs_of_part part tests
-kept_signs place v ps part kept [] local = refl
-kept_signs place v ps part kept (i ∷ tests) local =
-    ap₂ (λ (s : Sign) (ss : List Sign). s ∷ ss) (kept_sign place v ps part.signs.items i kept (local 0 i (omega arith)))
-    (kept_signs place v ps part kept tests (λ k d l. local (suc k) d (omega (arith, l))))
+    → (tests : List ℕ) → All (IsLocal ps place) tests → All (λ i. i < length part.signs.items) tests → signs_of_row ps v tests ≡ signs_of_part part tests
+kept_signs place v ps part kept [] local there = refl
+kept_signs place v ps part kept (i ∷ tests) local there =
+    ap₂ (λ (s : Sign) (ss : List Sign). s ∷ ss) (kept_sign place v ps part.signs.items i kept (local 0 i (omega arith)) (there 0 i (omega arith)))
+    (kept_signs place v ps part kept tests (λ k d l. local (suc k) d (omega (arith, l))) (λ k d l. there (suc k) d (omega (arith, l))))
 
 -- each part has a bucket
 pub many_buckets : (parts : List PartPlan) (tests : List ℕ) (mask : ℕ) → length (buckets_of parts tests mask) ≡ length parts
@@ -82,11 +82,12 @@ module _ (q : QueryValue) (parts : List PartPlan) (pos : ℕ) (c : PartIndex) (a
   own_bucket : (k : ℕ) (part : PartPlan) → slice_get parts k ≡ Some part → admits q part pos v ≡ true
       → get_or (buckets_of parts c.tests.items c.mask) k 0 ≡ row_bucket (pairs q) c v
   own_bucket k part at_k h =
-      let kept : keeps_signs pos (alone v) (pairs q) part.signs.items ≡ true = and-left _ (list_all (in_range v) (dims_at part pos)) h in
+      let kept : keeps_signs pos (alone v) (pairs q) part.signs.items ≡ true =
+      and-left _ (keeps_local pos (alone v) part.local) (and-left _ (list_all (in_range v) (dims_at part pos)) h) in
       let f : PartPlan → ℕ = λ x. bucket_of c.mask (signs_of_part x c.tests.items) in
       get_or-map f parts k part 0 (slice_get_within parts k part at_k)
       ∙ ap f (get_or_from_slice_get parts k part part at_k)
-      ∙ ap (bucket_of c.mask) (sym (kept_signs pos v (pairs q) part kept c.tests.items are.local))
+      ∙ ap (bucket_of c.mask) (sym (kept_signs pos v (pairs q) part kept c.tests.items are.local (are.signed k part at_k)))
 
   -- no part that the chain passes admits it
   pub passed_by : (n i : ℕ) → IsNext (buckets_of parts c.tests.items c.mask) (row_bucket (pairs q) c v) n i → NoneAdmits q parts pos v n i

@@ -10,10 +10,11 @@ use Rattle.bq_model.specs.Query.{QueryValue}
 use Rattle.bq_model.specs.Parts.{pairs}
 use Rattle.bq_model.specs.Plan.{dims_at}
 use Rattle.bq_model.specs.Meaning.{by_column}
-use Rattle.bq_model.specs.Admission.{alone, keeps_signs, in_range, admits}
+use Rattle.bq_model.specs.Admission.{in_range, admits}
 use Rattle.bq_laws.proofs.Tests.{and-left, and-right, true_or_false}
 use Rattle.bq_synopsis.specs.declared.axes.Placement.TheVariants.{Cell}
 use Rattle.bq_index.specs.declared.shift.Shift.{Shift}
+use Rattle.bq_synopsis.specs.Keeping.{keeps_part}
 use Rattle.bq_synopsis.specs.Axes.{IsPlacement}
 use Rattle.bq_index.specs.Shift.{IsShifted}
 use Rattle.bq_synopsis.proofs.PrepareLaws.{pushed-get}
@@ -67,16 +68,16 @@ module _ (q : QueryValue) (parts : List PartPlan) (place : ℕ) (c : PartIndex) 
   many_codes : length c.codes.items ≡ length parts
   many_codes = ap length are.codes ∙ length-map parts (λ part. code_after 0 (signs_of_part part c.tests.items))
 
-  -- where codes are exact, the code of a part tells whether a row in its ranges has its signs
+  -- where codes are exact, the code of a part tells whether a row in its ranges keeps what it asks
   told_at : (i : ℕ) (part : PartPlan) → slice_get parts i ≡ Some part → c.is_injective ≡ true → list_all (in_range (by_column row)) (dims_at part place) ≡ true
-      → nat_eq (get_or c.codes.items i 0) own ≡ keeps_signs place (alone (by_column row)) (pairs q) part.signs.items
+      → nat_eq (get_or c.codes.items i 0) own ≡ keeps_part (pairs q) part place (by_column row)
   told_at i part at_i is_injective inside =
       told q parts place c are is_injective (by_column row) i (get_or c.codes.items i 0) own part at_i
       (get_or_default c.codes.items i 0 (get_or c.codes.items i 0) (let l = slice_get_within parts i part at_i in let m = many_codes in omega (arith, l, m))) refl inside
 
   -- so does the code that is listed
   pub code_tells : (i : ℕ) (part : PartPlan) → slice_get parts i ≡ Some part → c.is_injective ≡ true → (entry : PartEntry) → IsPartEntry parts place c.is_injective c.codes.items c.links.items i entry
-      → (code : ℕ) → code ≡ own → list_all (in_range (by_column row)) (dims_at part place) ≡ true → nat_eq entry.code code ≡ keeps_signs place (alone (by_column row)) (pairs q) part.signs.items
+      → (code : ℕ) → code ≡ own → list_all (in_range (by_column row)) (dims_at part place) ≡ true → nat_eq entry.code code ≡ keeps_part (pairs q) part place (by_column row)
   code_tells i part at_i is_injective entry is code same inside = ap₂ (λ a b. nat_eq a b) is.code same ∙ told_at i part at_i is_injective inside
 
   module _ (i : ℕ) (shift : Shift) (part next : PartPlan) (at_i : slice_get parts i ≡ Some part) (at_next : slice_get parts (get_or c.links.items i 0) ≡ Some next) (is : IsNextShifted parts place c.is_injective c.codes.items c.links.items i shift) where
@@ -116,7 +117,7 @@ module _ (q : QueryValue) (parts : List PartPlan) (place : ℕ) (c : PartIndex) 
     next_admits next at_next inside =
         let admitted : admits q part place (by_column row) ≡ true = sym stands.inside in
         let here : list_all (in_range (by_column row)) (dims_at part place) ≡ true = and-right _ _ admitted in
-        let signed : keeps_signs place (alone (by_column row)) (pairs q) part.signs.items ≡ true = and-left _ (list_all (in_range (by_column row)) (dims_at part place)) admitted in
+        let signed : keeps_part (pairs q) part place (by_column row) ≡ true = and-left _ (list_all (in_range (by_column row)) (dims_at part place)) admitted in
         ap₂ (λ a b. a && b)
         (sym (told_at (get_or c.links.items i 0) next at_next has.is_injective inside) ∙ ap (λ k. nat_eq k own) (sym has.code) ∙ told_at i part at_i has.is_injective here ∙ signed) inside
 

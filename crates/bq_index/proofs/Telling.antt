@@ -9,8 +9,9 @@ use Rattle.bq_model.specs.declared.plan.PartPlan.{PartPlan}
 use Rattle.bq_model.specs.Query.{QueryValue}
 use Rattle.bq_model.specs.Parts.{pairs}
 use Rattle.bq_model.specs.Plan.{dims_at}
-use Rattle.bq_model.specs.Admission.{alone, keeps_signs, in_range}
-use Rattle.bq_laws.proofs.Tests.{same_bool, nat_true}
+use Rattle.bq_model.specs.Admission.{alone, keeps_local, in_range}
+use Rattle.bq_laws.proofs.Tests.{and-left, same_bool, nat_true}
+use Rattle.bq_synopsis.specs.Keeping.{keeps_part}
 use Rattle.bq_index.specs.declared.part_index.PartIndex.{PartIndex}
 use Rattle.bq_index.specs.PartIndex.{signs_of_row, signs_of_part, number_of, code_after, row_code, TellAll, IsPartIndex}
 use Rattle.bq_index.proofs.Linked.{kept_signs, code_at}
@@ -66,9 +67,9 @@ many_of_part : (part : PartPlan) (tests : List ℕ) → length (signs_of_part pa
 many_of_part part [] = refl
 many_of_part part (i ∷ tests) = ap suc (many_of_part part tests)
 
--- where codes tell all signs, a row in the ranges of a part has the signs of the part if it has its code
+-- where codes tell all that is asked, a row in the ranges of a part keeps what the part asks if it has its code
 kept_if_same : (ps : List Pair) (parts : List PartPlan) (place : ℕ) (tests : List ℕ) (v : ℕ → ℤ) (i : ℕ) (part : PartPlan) → TellAll ps parts place tests → slice_get parts i ≡ Some part
-    → list_all (in_range v) (dims_at part place) ≡ true → code_after 0 (signs_of_row ps v tests) ≡ code_after 0 (signs_of_part part tests) → keeps_signs place (alone v) ps part.signs.items ≡ true
+    → list_all (in_range v) (dims_at part place) ≡ true → code_after 0 (signs_of_row ps v tests) ≡ code_after 0 (signs_of_part part tests) → keeps_part ps part place v ≡ true
 kept_if_same ps parts place tests v i part tell at_i inside same =
     let row = many_of_row ps v tests in
     let asked = many_of_part part tests in
@@ -77,11 +78,11 @@ kept_if_same ps parts place tests v i part tell at_i inside same =
 
 -- the code of a part, compared with that of a row in its ranges
 pub told : (q : QueryValue) (parts : List PartPlan) (place : ℕ) (c : PartIndex) → IsPartIndex q parts place c → c.is_injective ≡ true → (v : ℕ → ℤ) (i o code : ℕ) (part : PartPlan) → slice_get parts i ≡ Some part
-    → o ≡ get_or c.codes.items i o → code ≡ row_code (pairs q) c v → list_all (in_range v) (dims_at part place) ≡ true → nat_eq o code ≡ keeps_signs place (alone v) (pairs q) part.signs.items
+    → o ≡ get_or c.codes.items i o → code ≡ row_code (pairs q) c v → list_all (in_range v) (dims_at part place) ≡ true → nat_eq o code ≡ keeps_part (pairs q) part place v
 told q parts place c are is_injective v i o code part at_i at is inside =
     let own = code_at parts c.tests.items c.codes.items i o part at_i are.codes at in
-    same_bool (nat_eq o code) (keeps_signs place (alone v) (pairs q) part.signs.items)
+    same_bool (nat_eq o code) (keeps_part (pairs q) part place v)
     (λ h. kept_if_same (pairs q) parts place c.tests.items v i part (are.is_injective is_injective) at_i inside (sym is ∙ sym (nat_true o code h) ∙ own))
     (λ k.
-    let same : o ≡ code = own ∙ ap (λ (ss : List Sign). code_after 0 ss) (sym (kept_signs place v (pairs q) part k c.tests.items are.local)) ∙ sym is in
+    let same : o ≡ code = own ∙ ap (λ (ss : List Sign). code_after 0 ss) (sym (kept_signs place v (pairs q) part (and-left _ (keeps_local place (alone v) part.local) k) c.tests.items are.local (are.signed i part at_i))) ∙ sym is in
     grind (arith, nat_tests, same))

@@ -9,8 +9,9 @@ use Rattle.bq_model.specs.declared.plan.PartPlan.{PartPlan}
 use Rattle.bq_model.specs.Query.{QueryValue}
 use Rattle.bq_model.specs.Parts.{pairs, is_within, sign_at}
 use Rattle.bq_model.specs.Plan.{dims_at}
-use Rattle.bq_model.specs.Admission.{alone, keeps_signs, in_range}
+use Rattle.bq_model.specs.Admission.{alone, in_range}
 use Rattle.bq_synopsis.specs.declared.prepared.Prepared.{Prepared}
+use Rattle.bq_synopsis.specs.Keeping.{keeps_part}
 use Rattle.bq_index.specs.declared.part_index.PartIndex.{PartIndex}
 use Rattle.bq_index.specs.Owners.{AreOwners, EachTakes}
 use Rattle.bq_index.specs.PartEntry.{ArePartEntries}
@@ -93,12 +94,16 @@ IsMarked marks i = slice_index_or marks i false ≡ true
 abbrev pub AreMarked : List Bool → Prepared → Type 0
 AreMarked marks prepared = All (IsMarked marks) prepared.tests.items
 
--- a row has all signs of a part, if it lies in the ranges of the part's dims and has the signs at the marked pairs of its stream
+-- nothing is asked of a row but signs and ranges
+abbrev pub AsksSigns : Prepared → Type 0
+AsksSigns prepared = length prepared.asked.items ≡ 0
+
+-- a row keeps all that a part asks, if it lies in the ranges of the part's dims and has the signs at the marked pairs of its stream
 abbrev pub TellPart : List Pair → List Bool → PartPlan → Type 0
 TellPart ps marks part =
     (place : ℕ) (v : ℕ → ℤ) → list_all (in_range v) (dims_at part place) ≡ true
     → ((i : ℕ) → IsMarked marks i → IsLocal ps place i → sign_of_row v (slice_get ps i) ≡ slice_index_or part.signs.items i Sign.Lt)
-    → keeps_signs place (alone v) ps part.signs.items ≡ true
+    → keeps_part ps part place v ≡ true
 
 -- this holds of each part
 abbrev pub AreKeyPairs : List Pair → List PartPlan → List Bool → Type 0
@@ -112,18 +117,23 @@ HasKeyPairs ps marks place tests = (i : ℕ) → IsMarked marks i → IsLocal ps
 abbrev pub AreWhole : List Pair → List PartPlan → Type 0
 AreWhole ps parts = All (λ part. length ps ≤ length part.signs.items) parts
 
--- a code tells all signs of the stream at a place: those of these pairs, which are so few that 32 bits hold their code, and all others
--- of a part where a row lies in the ranges of its dims
+-- each part has a sign for each of these pairs
+abbrev pub AreSigned : List PartPlan → List ℕ → Type 0
+AreSigned parts tests = (k : ℕ) (part : PartPlan) → slice_get parts k ≡ Some part → All (λ i. i < length part.signs.items) tests
+
+-- a code tells all that a part asks of rows of the stream at a place: the signs of these pairs, which are so few that 32 bits hold their code, and
+-- all else where a row lies in the ranges of its dims
 pub record TellAll (ps : List Pair) (parts : List PartPlan) (place : ℕ) (tests : List ℕ) : Type 0 where
   pub few : length tests ≤ 20
   pub all : (k : ℕ) (part : PartPlan) → slice_get parts k ≡ Some part → (v : ℕ → ℤ) → list_all (in_range v) (dims_at part place) ≡ true
-      → signs_of_row ps v tests ≡ signs_of_part part tests → keeps_signs place (alone v) ps part.signs.items ≡ true
+      → signs_of_row ps v tests ≡ signs_of_part part tests → keeps_part ps part place v ≡ true
 
--- only pairs of the stream at this place are tested, those that are listed, each part has its code, which tells all signs where it is exact, and a mark
--- where it takes rows into a box of its own, as each does where that is said, the parts are chained by their buckets, and it is listed what a row
--- meets at each
+-- only pairs of the stream at this place are tested, of which each part has signs, and those that are listed, each part has its code, which tells all
+-- that it asks where it is exact, and a mark where it takes rows into a box of its own, as each does where that is said, the parts are chained by
+-- their buckets, and it is listed what a row meets at each
 pub record IsPartIndex (q : QueryValue) (parts : List PartPlan) (place : ℕ) (c : PartIndex) : Type 0 where
   pub local : All (IsLocal (pairs q) place) c.tests.items
+  pub signed : AreSigned parts c.tests.items
   pub tested : AreOf (pairs q) c.tests.items c.tested.items
   pub codes : c.codes.items ≡ codes_of parts c.tests.items
   pub is_injective : c.is_injective ≡ true → TellAll (pairs q) parts place c.tests.items

@@ -1,18 +1,19 @@
 //! Which pairs a code must tell: those whose signs do not follow from the ranges of some part. The signs of all others are those of the
-//! part wherever a row lies in its ranges, which is tested for each part anyway.
+//! part wherever a row lies in its ranges, which is tested for each part anyway. A code tells nothing else that a part asks of a row.
 ghost use Rattle.std.specs.Prelude.{◌≡◌, ◌<◌, ◌≤◌, ℕ, true, length, slice_index_or, All};
 ghost use Rattle.bq_model.specs.Parts.{pairs};
-ghost use Rattle.bq_index.specs.PartIndex.{IsMarked, AreMarked, AreWhole, AreKeyPairs};
+ghost use Rattle.bq_index.specs.PartIndex.{IsMarked, AreMarked, AsksSigns, AreWhole, AreKeyPairs};
 ghost use Rattle.bq_index.specs.Prepared.{ArePrepared};
 
 use bq_model::{Pair, PartPlans, Query};
 use bq_synopsis::Prepared;
 
-/// A mark at the number of each pair that some part needs, and whether these pairs are enough: a row in the ranges of a part has all its
-/// signs where it has those at the marked pairs.
+/// A mark at the number of each pair that some part needs, whether each part has a sign for each pair, and whether these pairs are enough: a row
+/// in the ranges of a part keeps all that it asks where it has its signs at the marked pairs.
 #[derive(Drop)]
 pub struct KeyPairs {
     pub marks: [bool; 256],
+    pub is_whole: bool,
     pub is_complete: bool,
 }
 
@@ -61,13 +62,39 @@ fn are_whole(pairs: &[Pair], parts: &PartPlans) -> bool
     true
 }
 
+// Whether no part asks anything of a row but signs and ranges.
+fn ask_signs(prepared: &[Prepared]) -> bool
+    ensures { result ≡ true → All AsksSigns prepared.now }
+{
+    'parts: for part in prepared {
+        if !part.asked().is_empty() {
+            return false;
+        }
+    }
+    true
+}
+
+// Whether the marked pairs are enough.
+fn are_enough(pairs: &[Pair], marks: &[bool], prepared: &[Prepared]) -> bool
+    ensures below { result ≡ true → (i : ℕ) → IsMarked marks.now i → i < length pairs.now }
+    ensures signs { result ≡ true → All AsksSigns prepared.now }
+{
+    are_below(marks, pairs.len()) && ask_signs(prepared)
+}
+
 /// Returns the pairs that the parts need.
 pub fn key_pairs_of(q: &Query, parts: &PartPlans, prepared: &[Prepared]) -> KeyPairs
     requires { ArePrepared (pairs q.now) parts.now prepared.now }
-    ensures { result.is_complete ≡ true → AreKeyPairs (pairs q.now) parts.now result.marks }
+    ensures complete { result.is_complete ≡ true → AreKeyPairs (pairs q.now) parts.now result.marks }
+    ensures whole { result.is_whole ≡ true → AreWhole (pairs q.now) parts.now }
 {
     let pairs = q.pairs().as_slice();
     let marks = marks_of(prepared);
-    let is_complete = are_whole(pairs, parts) && are_below(&marks, pairs.len());
-    KeyPairs { marks, is_complete }
+    let is_whole = are_whole(pairs, parts);
+    let is_complete = is_whole && are_enough(pairs, &marks, prepared);
+    KeyPairs {
+        marks,
+        is_whole,
+        is_complete,
+    }
 }

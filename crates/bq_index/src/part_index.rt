@@ -1,11 +1,12 @@
 //! Which parts may admit a row: those that ask for the signs that the row has. Parts that ask for the same signs stand in one bucket, and a
 //! chain leads through them, so that a row is led to them by one look-up.
-ghost use Rattle.std.specs.Prelude.{◌≡◌, ◌+◌, ◌*◌, ◌%◌, ◌^◌, ◌<◌, ◌≤◌, length, map, slice_get, slice_index_or, bit_and, true, false, Some, All, IfOk, IfSome};
+ghost use Rattle.std.specs.Prelude.{◌≡◌, ◌+◌, ◌*◌, ◌%◌, ◌^◌, ◌<◌, ◌≤◌, length, map, slice_get, slice_index_or, bit_and, true, false, [], Some, All, IfOk, IfSome};
 ghost use Rattle.std.specs.List.{list_all};
 ghost use Rattle.bq_model.specs.Parts.{pairs, is_within, sign, sign_at};
 ghost use Rattle.bq_model.specs.Meaning.{by_column};
-ghost use Rattle.bq_model.specs.Admission.{alone, keeps_signs, in_range, admits};
+ghost use Rattle.bq_model.specs.Admission.{alone, in_range, admits};
 ghost use Rattle.bq_model.specs.Plan.{dims_at};
+ghost use Rattle.bq_synopsis.specs.Keeping.{keeps_part};
 ghost use Rattle.bq_synopsis.specs.Preparing.{IsPrepared};
 ghost use Rattle.bq_synopsis.specs.Axes.{IsPlacement};
 ghost use Rattle.bq_index.specs.Prepared.{ArePrepared};
@@ -14,7 +15,7 @@ ghost use Rattle.bq_index.specs.Shifts.{StandsAt};
 ghost use Rattle.bq_index.specs.PartEntry.{IsPartEntry, IsCellIn};
 ghost use Rattle.bq_index.specs.SimpleBox.{IsInBox};
 ghost use Rattle.bq_index.specs.Owners.{BeginBehind, EachTakes, takes_rows};
-ghost use Rattle.bq_index.specs.PartIndex.{IsLocal, signs_at, signs_of_part, number_of, code_after, codes_of, row_code, buckets_of, row_bucket, AreOf, IsNext, IsMarked, AreKeyPairs, HasKeyPairs, TellAll, AreLinked, IsPartIndex};
+ghost use Rattle.bq_index.specs.PartIndex.{IsLocal, signs_at, signs_of_part, number_of, code_after, codes_of, row_code, buckets_of, row_bucket, AreOf, IsNext, IsMarked, AreKeyPairs, HasKeyPairs, AreWhole, AreSigned, TellAll, AreLinked, IsPartIndex};
 
 use crate::key_pairs::KeyPairs;
 use crate::owners::{each_takes, owners_at};
@@ -33,7 +34,7 @@ pub struct PartIndex {
     tests: ArrayVec<u8, 114>,
     /// These pairs, in the same order.
     tested: Vec<Pair>,
-    /// Whether codes are injective: whether a code tells all signs of a row in the ranges of a part.
+    /// Whether codes are injective: whether a code tells that a row in the ranges of a part keeps all that the part asks.
     is_injective: bool,
     /// The code of each part.
     codes: Vec<u32>,
@@ -68,7 +69,7 @@ pub struct CodedRow<'a> {
     pub code: u32,
 }
 
-// The numbers of the pairs whose signs make a code, and whether the code tells all signs of a row in the ranges of a part.
+// The numbers of the pairs whose signs make a code, and whether the code tells that a row in the ranges of a part keeps all that it asks.
 struct Tests {
     numbers: ArrayVec<u8, 114>,
     is_injective: bool,
@@ -290,18 +291,18 @@ impl PartIndex {
         each || mark_of(&self.owns, i)
     }
 
-    // Whether a row has the signs of a part, if it lies in the ranges of the part's dims, where codes are exact.
+    // Whether a row keeps all that a part asks, if it lies in the ranges of the part's dims, where codes are exact.
     fn has_signs(&self, coded: &CodedRow<'_>, part: &PartPlan, i: u32) -> bool
         requires part_index { IsPartIndex coded.now.q.now coded.now.parts.now coded.now.pos self.now }
         requires is_injective { self.now.is_injective ≡ true }
         requires part { slice_get coded.now.parts.now i ≡ Some part.now }
         requires code { coded.now.code ≡ row_code (pairs coded.now.q.now) self.now (by_column coded.now.row.now.items) }
-        ensures { list_all (in_range (by_column coded.now.row.now.items)) (dims_at part.now coded.now.pos) ≡ true → result ≡ keeps_signs coded.now.pos (alone (by_column coded.now.row.now.items)) (pairs coded.now.q.now) part.now.signs.items }
+        ensures { list_all (in_range (by_column coded.now.row.now.items)) (dims_at part.now coded.now.pos) ≡ true → result ≡ keeps_part (pairs coded.now.q.now) part.now coded.now.pos (by_column coded.now.row.now.items) }
     {
         self.entry(coded.q, coded.parts, coded.pos, i).code == coded.code
     }
 
-    // Whether a row may be admitted by a part: where codes are exact, whether it has the signs of the part.
+    // Whether a row may be admitted by a part: where codes are exact, whether it has the part's code.
     fn may_admit(&self, coded: &CodedRow<'_>, part: &PartPlan, i: u32) -> bool
         requires part_index { IsPartIndex coded.now.q.now coded.now.parts.now coded.now.pos self.now }
         requires part { slice_get coded.now.parts.now i ≡ Some part.now }
@@ -451,19 +452,33 @@ fn is_exact(key_pairs: &KeyPairs, tests: &[u8]) -> bool
     key_pairs.is_complete && are_few(tests)
 }
 
-// The numbers of the pairs that are tested at a place, and whether a code of their signs is exact. Few parts need no code that is not.
+// No pair, and a code that tells nothing.
+fn no_tests() -> Tests
+    ensures numbers { result.numbers.items ≡ [] }
+    ensures is_injective { result.is_injective ≡ false }
+{
+    Tests {
+        numbers: ArrayVec::new(),
+        is_injective: false,
+    }
+}
+
+// The numbers of the pairs that are tested at a place, and whether a code of their signs is exact. Few parts need no code that is not, and parts
+// that have not a sign for each pair have none.
 fn tests_for(q: &Query, parts: &PartPlans, key_pairs: &KeyPairs, place: u8) -> Tests
-    requires { key_pairs.now.is_complete ≡ true → AreKeyPairs (pairs q.now) parts.now key_pairs.now.marks }
+    requires complete { key_pairs.now.is_complete ≡ true → AreKeyPairs (pairs q.now) parts.now key_pairs.now.marks }
+    requires whole { key_pairs.now.is_whole ≡ true → AreWhole (pairs q.now) parts.now }
     ensures local { All (IsLocal (pairs q.now) place) result.numbers.items }
+    ensures signed { AreSigned parts.now result.numbers.items }
     ensures is_injective { result.is_injective ≡ true → TellAll (pairs q.now) parts.now place result.numbers.items }
 {
+    if !key_pairs.is_whole {
+        return no_tests();
+    }
     let numbers = tests_at(q, parts, &key_pairs.marks, place);
     let is_injective = is_exact(key_pairs, numbers.as_slice());
     if !is_injective && mask_for(parts.len()) == 0 {
-        return Tests {
-            numbers: ArrayVec::new(),
-            is_injective: false,
-        };
+        return no_tests();
     }
     Tests {
         numbers,
@@ -515,6 +530,7 @@ pub fn part_index_at(
     requires bases { BeginBehind (length q.now.from) parts.now }
     requires prepared { ArePrepared (pairs q.now) parts.now prepared.now }
     requires key_pairs { key_pairs.now.is_complete ≡ true → AreKeyPairs (pairs q.now) parts.now key_pairs.now.marks }
+    requires whole { key_pairs.now.is_whole ≡ true → AreWhole (pairs q.now) parts.now }
     ensures { IfOk result (λ part_index. IsPartIndex q.now parts.now place part_index) }
 {
     let count = parts.len();

@@ -4,7 +4,7 @@ ghost use Rattle.bq_model.specs.declared.plan.PartPlan.{PartPlan};
 ghost use Rattle.bq_model.specs.Parts.{pairs};
 ghost use Rattle.bq_model.specs.Numbers.{parts_of};
 ghost use Rattle.bq_synopsis.specs.Preparing.{IsPrepared};
-ghost use Rattle.bq_index.specs.PartIndex.{AreKeyPairs, IsPartIndex};
+ghost use Rattle.bq_index.specs.PartIndex.{AreKeyPairs, AreWhole, IsPartIndex};
 ghost use Rattle.bq_index.specs.Owners.{BeginBehind};
 ghost use Rattle.bq_index.specs.Prepared.{ArePrepared, ArePartIndexes, IsPreparedPlan};
 
@@ -76,6 +76,7 @@ fn index_parts(
     requires bases { BeginBehind (length q.now.from) parts.now }
     requires prepared { ArePrepared (pairs q.now) parts.now prepared.now }
     requires key_pairs { key_pairs.now.is_complete ≡ true → AreKeyPairs (pairs q.now) parts.now key_pairs.now.marks }
+    requires whole { key_pairs.now.is_whole ≡ true → AreWhole (pairs q.now) parts.now }
     ensures many { IfOk result (λ all. length all.items ≡ length q.now.from) }
     ensures part_index { IfOk result (λ all. ArePartIndexes q.now parts.now all.items) }
 {

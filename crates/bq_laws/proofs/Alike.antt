@@ -17,7 +17,8 @@ use Rattle.bq_model.specs.Parts.{pairs, InPart, IsPart}
 use Rattle.bq_model.specs.Order.{IsElement, IsLess, IsEqual, IsBounded, IsLeast, IsGreatest}
 use Rattle.bq_model.specs.Links.{AreAcross, IsElementOf, IsEquality, IsInequality, IsRedundant, between, equal_left, equal_right, IsMinRef, IsMaxRef, AreOneClass}
 use Rattle.bq_model.specs.Plan.{IsWanted, selected, left_equal, right_equal, left_less, right_less, NamesClass, IsDim, AreDims, IsKind, IsStreamPlan, IsPartPlan, IsPlan, stream_at, dims_at}
-use Rattle.bq_model.specs.Combinations.{tied, any_ties}
+use Rattle.std.specs.List.{list_any}
+use Rattle.bq_model.specs.Combinations.{any_ties, binds, is_tied}
 use Rattle.bq_model.specs.Ranges.{first_tied, selected_ranges, different}
 use Rattle.bq_model.specs.Boxes.{box_size}
 use Rattle.bq_model.specs.Numbers.{answer_bound, numbers_of}
@@ -147,6 +148,8 @@ module _ (q : QueryValue) (b c : Bool) (k : Alike q b c) where
       (λ e. (p.less x y).1 (inequality-so q c b (turned q b c k) part.signs.items x y e)),
     );
     less_ascends = p.less_ascends;
+    local = p.local;
+    soft = p.soft;
     count = p.count;
     streams = λ place l. stream-so q b c k part.signs.items place (stream_at part place) (p.streams place l);
   }
@@ -164,16 +167,16 @@ module _ (q : QueryValue) (b c : Bool) (k : Alike q b c) where
 
 -- the same pairs tie the same columns
 module _ (q : QueryValue) (b c : Bool) (e : pairs (at q b) ≡ pairs (at q c)) where
-  tied-so : (s : List Sign) (x y : Attr) → tied (at q b) s x y ≡ tied (at q c) s x y
-  tied-so s x y = ap (λ ps. attr_eq x y || any_ties x y ps s) e
+  tied-so : (part : PartPlan) (x y : Attr) → is_tied (at q b) part x y ≡ is_tied (at q c) part x y
+  tied-so part x y = ap (λ ps. (attr_eq x y || any_ties x y ps part.signs.items) || list_any (binds x y) part.local) e
 
-  first-so : (s : List Sign) (dims : List Dim) (a : Attr) → first_tied (at q b) s dims a ≡ first_tied (at q c) s dims a
-  first-so s [] a = refl
-  first-so s (d ∷ dims) a =
-      ap (λ t. cond t d (first_tied (at q b) s dims a)) (tied-so s d.attr a) ∙ ap (λ r. cond (tied (at q c) s d.attr a) d r) (first-so s dims a)
+  first-so : (part : PartPlan) (dims : List Dim) (a : Attr) → first_tied (is_tied (at q b) part) dims a ≡ first_tied (is_tied (at q c) part) dims a
+  first-so part [] a = refl
+  first-so part (d ∷ dims) a =
+      ap (λ t. cond t d (first_tied (is_tied (at q b) part) dims a)) (tied-so part d.attr a) ∙ ap (λ r. cond (is_tied (at q c) part d.attr a) d r) (first-so part dims a)
 
   ranges-so : (part : PartPlan) → selected_ranges (at q b) part ≡ selected_ranges (at q c) part
-  ranges-so part = ap (λ f. map f (different q.select)) (λ i a. first-so part.signs.items (dims_at part a.stream) a i)
+  ranges-so part = ap (λ f. map f (different q.select)) (λ i a. first-so part (dims_at part a.stream) a i)
 
   answers-so : (plan : List PartPlan) → answer_bound (at q b) plan ≡ answer_bound (at q c) plan
   answers-so plan = ap (λ f. sum_by f plan) (λ i part. box_size (ranges-so part i))

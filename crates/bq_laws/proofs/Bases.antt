@@ -1,5 +1,5 @@
 -- What a base and the rows since come to.
-use Rattle.std.proofs.Common.{◌≡◌, ℕ, zero, suc, ◌+◌, ◌*◌, ◌^◌, min, ◌<◌, ◌≤◌, List, [], ◌∷◌, ◌++◌, map, filter, length, cond, Bool, true, false, refl, sym, ap, ◌∙◌, arith, ℤ, replicate, length-append, None}
+use Rattle.std.proofs.Common.{◌≡◌, ℕ, zero, suc, ◌+◌, ◌*◌, ◌^◌, min, ◌<◌, ◌≤◌, List, [], ◌∷◌, ◌++◌, map, filter, length, cond, Bool, true, false, refl, sym, ap, ◌∙◌, arith, ℤ, replicate, length-append}
 use Rattle.std.proofs.lemmas.List.{length-replicate}
 use Rattle.std.proofs.lemmas.List.Elements.{All-nil, All-head, All-tail}
 use Rattle.bq_model.specs.declared.cell.Cell.{Cell}
@@ -9,7 +9,6 @@ use Rattle.bq_model.specs.Tuples.{is_same, sorted, distinct_tuples, bag_minus, n
 use Rattle.bq_model.specs.Assignment.{holds, projected}
 use Rattle.bq_model.specs.Meaning.{Arrival, rows, product, assignment_of, answers, new_answers}
 use Rattle.bq_model.specs.Domains.{RowKeeps, RowsKeep}
-use Rattle.bq_model.specs.Violation.{IsViolation}
 use Rattle.bq_model.specs.Cells.{printed}
 use Rattle.bq_model.specs.Combinations.{read_from}
 use Rattle.bq_model.specs.Future.{future}
@@ -28,6 +27,7 @@ use Rattle.bq_laws.proofs.Sufficiency.{readings-suffice, none-read}
 use Rattle.bq_laws.proofs.Keeping.{rows-more-keep}
 use Rattle.bq_laws.proofs.SharedCells.{bases-grow, boxes-merge}
 use Rattle.bq_laws.proofs.BoxReadings.{boxes-are-read}
+use Rattle.bq_laws.proofs.Walking.{serving-keep}
 
 module _ (q : QueryValue) (plan : List PartPlan) (list : List Box) where
   abbrev with_history : List Cell → List Arrival → List Cell
@@ -110,15 +110,15 @@ rises-new q h r = by q.distinct
     by true = ascending-rises (new_tuples (answers q h) (answers q (h ++ r ∷ [])))
     by false = ascending-rises (bag_minus (answers q (h ++ r ∷ [])) (answers q h))
 
-module _ (q : QueryValue) (plan : List PartPlan) (list : List Box) (within : IsWithinLimits q) (violation : IsViolation q None) (is : IsKept q plan list) where
+module _ (q : QueryValue) (plan : List PartPlan) (list : List Box) (within : IsWithinLimits q) (is : IsKept q plan list) where
   pub suffices : (h : List Arrival) (r : Arrival) → RowsKeep q h → RowKeeps q r → future q plan (read_from (synopsis_in q list h)) (printed q h) r ≡ new_answers q h r
   suffices h r keep_h keep_r = by is
     where
       by : IsKept q plan list → future q plan (read_from (synopsis_in q list h)) (printed q h) r ≡ new_answers q h r
       by (alone f p l) =
-          readings-suffice q plan within (nothing f p) violation h keep_h (read_from (synopsis_in q list h)) (none-read q plan h _ p) r keep_r
-      by (boxed n plans of) =
-          readings-suffice q plan within (anywhere n plans) violation h keep_h (read_from (synopsis_in q list h)) (boxes-are-read q plan plans.plans list of h) r keep_r
+          readings-suffice q plan within (nothing f p) h keep_h (read_from (synopsis_in q list h)) (none-read q plan h _ p) r keep_r
+      by (boxed n is of) =
+          readings-suffice q plan within (anywhere n is) h keep_h (read_from (synopsis_in q list h)) (boxes-are-read q plan (serving-keep q plan is.serves) list of h) r keep_r
 
   no_answers : answers q [] ≡ []
   no_answers = by q.from within.streams.0
@@ -178,5 +178,5 @@ module _ (q : QueryValue) (plan : List PartPlan) (list : List Box) (within : IsW
       let o = occurs-is z (new_answers q h r) in omega (arith, c, o))
 
 pub bases-stand-for-histories : BasesStandForHistories
-bases-stand-for-histories q plan list within violation is =
-    record { created = created q plan list within violation is; resumed = resumed q plan list within violation is; answers = answers-from q plan list within violation is }
+bases-stand-for-histories q plan list within is =
+    record { created = created q plan list within is; resumed = resumed q plan list within is; answers = answers-from q plan list within is }

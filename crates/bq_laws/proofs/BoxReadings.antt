@@ -5,7 +5,8 @@ use Rattle.bq_model.specs.declared.cell.Cell.{Cell}
 use Rattle.bq_model.specs.declared.plan.PartPlan.{PartPlan}
 use Rattle.bq_model.specs.Query.{QueryValue}
 use Rattle.bq_model.specs.Meaning.{Arrival, by_column}
-use Rattle.bq_model.specs.Plan.{stream_at, dims_at, IsPartPlan}
+use Rattle.bq_model.specs.Plan.{stream_at, dims_at}
+use Rattle.bq_model.specs.Serving.{KeepsStreams}
 use Rattle.bq_model.specs.Admission.{admits}
 use Rattle.bq_model.specs.Cells.{content, cell_of, row_place}
 use Rattle.bq_model.specs.Combinations.{read_from}
@@ -19,9 +20,9 @@ use Rattle.bq_laws.proofs.Numbering.{same-lists}
 use Rattle.bq_laws.proofs.SameBoxes.{are-same, same-cells, same-size, same-then, same-turned, sizes-cons}
 use Rattle.bq_laws.proofs.SharedCells.{sizes-append, Lies, meet, into-size, into-at, spread-lies}
 
-module _ (q : QueryValue) (plan : List PartPlan) (plans : All (IsPartPlan q) plan) (list : List Box) (of : AreBoxesOf q plan list) where
-  plan_of : (part : PartPlan) → Contains plan part → IsPartPlan q part
-  plan_of part c = All-contains (IsPartPlan q) plan part plans c
+module _ (q : QueryValue) (plan : List PartPlan) (plans : All (KeepsStreams q) plan) (list : List Box) (of : AreBoxesOf q plan list) where
+  plan_of : (part : PartPlan) → Contains plan part → KeepsStreams q part
+  plan_of part c = All-contains (KeepsStreams q) plan part plans c
 
   module _ (part : PartPlan) (known : Contains plan part) (place : ℕ) (there : place < length part.streams.items) where
     begins : Begins q list (box_at part place) (stream_at part place).base

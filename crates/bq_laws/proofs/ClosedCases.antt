@@ -10,6 +10,7 @@ use Rattle.bq_laws.specs.Cases.{hot_room, hot_room_plan}
 use Rattle.bq_laws.specs.Closed.{IsDistinctPlan, IsClosed, AreOfKinds}
 use Rattle.bq_laws.specs.ClosedCases.{loaded, higher, LoadedCellsAreWalked}
 use Rattle.bq_laws.proofs.Examples.{extremes-decide}
+use Rattle.bq_laws.proofs.PlainServes.{plain_plans_serve}
 use Rattle.bq_laws.proofs.Sufficiency.{part-plans}
 use Rattle.bq_laws.proofs.Saturated.{saturated-cells-answer-nothing-new}
 
@@ -17,14 +18,13 @@ premises : IsDistinctPlan hot_room hot_room_plan
 premises = record {
   limits = extremes-decide.within;
   several = extremes-decide.no_filter;
-  plans = part-plans hot_room hot_room_plan extremes-decide.plan;
-  violation = extremes-decide.violation;
+  serving = plain_plans_serve hot_room hot_room_plan extremes-decide.within extremes-decide.no_filter (part-plans hot_room hot_room_plan extremes-decide.plan) extremes-decide.violation;
   distinct = refl;
 }
 
 -- the one part
 abbrev part : PartPlan
-part = slice_index_or hot_room_plan 0 record { signs = record { items = [] }; streams = record { items = [] }; equal = record { items = [] }; less = record { items = [] } }
+part = slice_index_or hot_room_plan 0 record { signs = record { items = [] }; streams = record { items = [] }; equal = record { items = [] }; less = record { items = [] }; local = []; soft = record { items = [] } }
 
 known : Contains hot_room_plan part
 known = (0, omega arith, refl)

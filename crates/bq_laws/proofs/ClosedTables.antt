@@ -25,17 +25,17 @@ use Rattle.bq_laws.specs.Closed.{IsDistinctPlan, IsSaturated, own_place, own_con
 use Rattle.bq_laws.proofs.Tests.{true_or_false, false_if, nat_true, or-false, or-cases}
 use Rattle.bq_laws.proofs.OnePartFits.{has_cases}
 use Rattle.bq_laws.proofs.Weights.{View}
-use Rattle.bq_laws.proofs.RowsAndCells.{Agree}
 use Rattle.bq_laws.proofs.Extremes.{Partnered, flat_map-from, has-flat_map, has-upto, upto-below}
-use Rattle.bq_laws.proofs.StandingIn.{StandsIn, stands-itself, down}
+use Rattle.bq_laws.proofs.ServedCells.{Agree, StandsIn, stands_itself, down}
 use Rattle.bq_laws.proofs.Sufficiency.{future-is}
 use Rattle.bq_laws.proofs.BoxReadings.{rows-merge-in}
+use Rattle.bq_laws.proofs.Walking.{serving-keep}
 use Rattle.bq_laws.proofs.SharedCells.{bases-grow}
 use Rattle.bq_laws.proofs.Bases.{bases-keep-on, bases-stand-for-histories}
 use Rattle.bq_laws.proofs.Crossing.{Tells, Partner, crossed-either, tells-crossed}
 use Rattle.bq_laws.proofs.OwnCells.{stays-or-turns}
 use Rattle.bq_laws.proofs.MergedTables.{in-merged, waits-or-stands}
-use Rattle.bq_laws.proofs.Saturated.{part-plan, is-part, safe, counts-none, itself, own-choices, cell-choices, ends, tells-instead, found-tells, tells-found, found-beside}
+use Rattle.bq_laws.proofs.Saturated.{part-serves, counts-none, itself, own-choices, cell-choices, ends, tells-instead, found-tells, tells-found, found-beside}
 
 -- where a stream stands in FROM
 place-in : (stream : ℕ) (from : List ℕ) → list_any (λ s. stream == s) from ≡ true → (place : ℕ) × (place < length from) × (slice_index_or from place 0 ≡ stream)
@@ -91,14 +91,14 @@ module _ (q : QueryValue) (plan : List PartPlan) (is : IsDistinctPlan q plan) (l
     cell_at read place = flat_map (λ i. cell_choice q part place i (read part place i)) (upto (λ i. i) (stream_at part place).size)
 
     placed : (place : ℕ) → place < length q.from → place < length part.streams.items
-    placed place l = let c = (part-plan q plan is part known).count in omega (arith, c, l)
+    placed place l = let c = (part-serves q plan is part known).keeps.count in omega (arith, c, l)
 
     merges : (place i : ℕ) → place < length q.from → i < (stream_at part place).size
         → new part place i
         ≡ cond ((r.stream == slice_index_or q.from place 0) && (admits q part place v && nat_eq (row_place (dims_at part place) v) i))
         (merged (stream_at part place).kind (old part place i) (content (stream_at part place).kind (r.values ∷ []))) (old part place i)
     merges place i l b =
-        (rows-merge-in q plan is.plans.plans list of base.cells whole r).at part (Contains-from_has plan part known) place i (placed place l) b
+        (rows-merge-in q plan (serving-keep q plan is.serving.serves) list of base.cells whole r).at part (Contains-from_has plan part known) place i (placed place l) b
 
     -- a cell of another stream stays as it is
     off-stream : (place i : ℕ) → place < length q.from → i < (stream_at part place).size → (r.stream == slice_index_or q.from place 0) ≡ false
@@ -190,9 +190,9 @@ module _ (q : QueryValue) (plan : List PartPlan) (is : IsDistinctPlan q plan) (l
           is-row inside c k =
               let k' : Has (cell_choice q part a (own_place part a r.values) (content (stream_at part a).kind (r.values ∷ []))) c
               = subst (λ (d : Cell). Has (cell_choice q part a (own_place part a r.values) d) c) (own-cell inside ∙ turns) k in
-              let x = down q part (part-plan q plan is part known) (is-part q plan is part known) (safe q plan is part known) a there (stream_at part a).kind ((safe q plan is part known).less a there) (own_place part a r.values) (r.values ∷ []) rows-are c k' in
+              let x = down q part (part-serves q plan is part known) a there (stream_at part a).kind refl (own_place part a r.values) (r.values ∷ []) rows-are c k' in
               let e : r.values ≡ x.0 = elim (has_cases r.values x.0 [] x.1) [ inl e ↦ e | inr o ↦ elim o [ ] ] in
-              stands-itself q part a c.values v (subst (λ (y : List ℤ). Agree q part a c.values (by_column y)) (sym e) x.2)
+              stands_itself q part a c.values v (subst (λ (y : List ℤ). Agree q part a c.values (by_column y)) (sym e) x.2)
             where
               rows-are : (y : List ℤ) → Has (r.values ∷ []) y → (admits q part a (by_column y) ≡ true) × (row_place (stream_at part a).dims.items (by_column y) ≡ own_place part a r.values)
               rows-are y h = elim (has_cases r.values y [] h) [
@@ -299,8 +299,8 @@ module _ (q : QueryValue) (plan : List PartPlan) (is : IsDistinctPlan q plan) (l
             split : (t : List ℤ) → told new m c.values t → told old m c.values t ⊎ told old a v t
             split t w =
                 elim (crossed-either (StandsIn q part) (length q.from) a 0 (length part.streams.items) (ends q plan is part known) (omega arith) there (lists new m c.values) (lists old m c.values) (lists old a v) left right at-own w.chosen w.among w.present) [
-                  | inl x ↦ inl (tells-crossed q part (part-plan q plan is part known) (map (lists new m c.values) (places part)) (map (lists old m c.values) (places part)) t w x)
-                  | inr x ↦ inr (tells-crossed q part (part-plan q plan is part known) (map (lists new m c.values) (places part)) (map (lists old a v) (places part)) t w x)
+                  | inl x ↦ inl (tells-crossed q part (part-serves q plan is part known) (map (lists new m c.values) (places part)) (map (lists old m c.values) (places part)) t w x)
+                  | inr x ↦ inr (tells-crossed q part (part-serves q plan is part known) (map (lists new m c.values) (places part)) (map (lists old a v) (places part)) t w x)
                 ]
 
           stays-beside : (m i : ℕ) → m < length q.from → (m ≡ a → ⊥) → i < (stream_at part m).size → IsSaturated q part old base.table m i → IsSaturated q part new table m i
@@ -409,7 +409,7 @@ module _ (q : QueryValue) (plan : List PartPlan) (is : IsDistinctPlan q plan) (l
 
   histories-closed : (h : List Arrival) → RowsKeep q h → IsClosedBase q plan (base_of q list h)
   histories-closed h keep =
-      subst (IsClosedBase q plan) ((bases-stand-for-histories q plan list is.limits is.violation (boxed is.several is.plans of)).created h keep)
+      subst (IsClosedBase q plan) ((bases-stand-for-histories q plan list is.limits (boxed is.several is.serving of)).created h keep)
       (rows-closed (first_base list) h (length-replicate (sizes_in list) Cell.Empty) first-closed)
 
 pub tables-stay-closed : TablesStayClosed

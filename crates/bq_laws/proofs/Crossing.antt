@@ -6,7 +6,7 @@ use Rattle.bq_model.specs.Query.{QueryValue}
 use Rattle.bq_model.specs.Assignment.{projected}
 use Rattle.bq_model.specs.Meaning.{product, joined}
 use Rattle.bq_model.specs.Tuples.{is_same}
-use Rattle.bq_model.specs.Plan.{IsPartPlan}
+use Rattle.bq_model.specs.Serving.{Serves}
 use Rattle.bq_model.specs.Combinations.{Choice, chosen_values, linked, times_of, Found, found}
 use Rattle.bq_model.specs.Future.{spelled_out}
 use Rattle.bq_model.proofs.Has.{Has, first, Has-map, Has-map_from, Has-filter, Has-filter_from}
@@ -17,7 +17,7 @@ use Rattle.bq_laws.proofs.Sums.{bit}
 use Rattle.bq_laws.proofs.Counts.{linked_gives}
 use Rattle.bq_laws.proofs.Weights.{View, values_of}
 use Rattle.bq_laws.proofs.Extremes.{Partnered, Along, has-flat_map, flat_map-from}
-use Rattle.bq_laws.proofs.StandingIn.{StandsIn, linked_over}
+use Rattle.bq_laws.proofs.ServedCells.{StandsIn, linked_over}
 
 left_factor : (a b : ℕ) → 0 < a * b → 0 < a
 left_factor zero b h = absurd (omega (arith, h))
@@ -207,13 +207,13 @@ two_bits true false h k = absurd cc
 two_bits false b h k = absurd cc
 
 -- what a combination tells, one of partners that stand in for its choices tells
-pub tells-crossed : (q : QueryValue) (part : PartPlan) → IsPartPlan q part → (lists others : List (List Choice)) (t : List ℤ)
+pub tells-crossed : (q : QueryValue) (part : PartPlan) → Serves q part → (lists others : List (List Choice)) (t : List ℤ)
     → (w : Tells q part lists t) → Crossed (StandsIn q part) 0 others (values_of w.chosen) → Tells q part others t
-tells-crossed q part plan lists others t w c =
+tells-crossed q part serves lists others t w c =
     let here : is_same t (projected q (joined (values_of w.chosen))) ≡ true
     = subst (λ (u : List ℤ). is_same t u ≡ true) (sym w.tuple) (same-itself t) in
     let there : 0 < linked_gives q part t (values_of c.chosen)
-    = linked_over q part plan t (values_of w.chosen) (values_of c.chosen) c.along (two_bits (linked part (joined (values_of w.chosen))) (is_same t (projected q (joined (values_of w.chosen)))) w.links here) in
+    = linked_over q part serves t (values_of w.chosen) (values_of c.chosen) c.along (two_bits (linked part (joined (values_of w.chosen))) (is_same t (projected q (joined (values_of w.chosen)))) w.links here) in
     let both = both_bits (linked part (joined (values_of c.chosen))) (is_same t (projected q (joined (values_of c.chosen)))) there in
     record {
       chosen = c.chosen;

@@ -15,7 +15,6 @@ pub mod CountsGrow
 pub mod NewAnswers
 pub mod Extremes
 pub mod StandingIn
-pub mod DistinctGrows
 pub mod NoViolation
 pub mod LaidOut
 pub mod Sufficiency
@@ -74,3 +73,8 @@ pub mod MergedTables
 pub mod Saturated
 pub mod ClosedTables
 pub mod ClosedCases
+pub mod ServedCells
+pub mod ServedCounts
+pub mod ServedDistinct
+pub mod ServedLaw
+pub mod PlainServes

@@ -39,11 +39,13 @@ module _ (q : QueryValue) (list : List Box) (part : PartPlan) where
     signs = refl;
     equal = refl;
     less = refl;
+    local = refl;
+    soft = refl;
     count = sym moved-count;
     boxes =
         λ place l.
         let e = sym (put-at place l) in
-        record { place = refl; signs = refl; dims = ap (λ (s : StreamPlan). s.dims.items) e; kind = ap (λ (s : StreamPlan). s.kind) e; size = ap (λ (s : StreamPlan). s.size) e };
+        record { place = refl; signs = refl; local = refl; dims = ap (λ (s : StreamPlan). s.dims.items) e; kind = ap (λ (s : StreamPlan). s.kind) e; size = ap (λ (s : StreamPlan). s.size) e };
   }
 
   moved-plan : IsPartPlan q part → IsPartPlan q (moved q list part)
@@ -52,6 +54,8 @@ module _ (q : QueryValue) (list : List Box) (part : PartPlan) where
     equal_ascends = p.equal_ascends;
     less = p.less;
     less_ascends = p.less_ascends;
+    local = p.local;
+    soft = p.soft;
     count = moved-count ∙ p.count;
     streams =
         λ place l.

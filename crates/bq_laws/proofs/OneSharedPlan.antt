@@ -15,19 +15,20 @@ use Rattle.bq_model.specs.declared.part.Sign.{Sign}
 use Rattle.bq_model.specs.declared.condition.Condition.{Condition}
 use Rattle.bq_model.specs.declared.plan.PartPlan.{PartPlan}
 use Rattle.bq_model.specs.Query.{QueryValue, attr_lt}
-use Rattle.bq_model.specs.Parts.{IsPart, pairs}
+use Rattle.bq_model.specs.Parts.{IsPart, pairs, is_within}
 use Rattle.bq_model.specs.Violation.{Breaks}
 use Rattle.bq_model.specs.Links.{IsEquality, IsInequality}
 use Rattle.bq_model.specs.Boxes.{box_size}
 use Rattle.bq_model.specs.Plan.{IsStreamPlan, IsPartPlan, stream_at, dims_at, link}
 use Rattle.bq_model.specs.Numbers.{places}
-use Rattle.bq_model.specs.Sharing.{Box, box_at, size_in, boxes_in, boxes, same_signs, same_dims, same_kind, same_box, different_boxes, start_in}
+use Rattle.bq_model.specs.Sharing.{same_locals, Box, box_at, size_in, boxes_in, boxes, same_signs, same_dims, same_kind, same_box, different_boxes, start_in}
 use Rattle.bq_laws.specs.Sharing.{HasOneSharedPlan}
 
 -- all that a box is known by
 pub record Alike (b c : Box) : Type 0 where
   pub place : b.place ≡ c.place
   pub signs : b.part.signs.items ≡ c.part.signs.items
+  pub local : b.part.local ≡ c.part.local
   pub dims : dims_at b.part b.place ≡ dims_at c.part c.place
   pub kind : (stream_at b.part b.place).kind ≡ (stream_at c.part c.place).kind
   pub size : size_in b ≡ size_in c
@@ -39,7 +40,7 @@ pub data AllAlike : List Box → List Box → Type 0 where
 same-alike : (q : QueryValue) (b c x y : Box) → Alike b c → Alike x y → same_box q b x ≡ same_box q c y
 same-alike q b c x y g h = λ j.
     nat_eq (g.place j) (h.place j)
-    && (same_signs (g.place j) (pairs q) (g.signs j) (h.signs j)
+    && ((same_signs (g.place j) (pairs q) (g.signs j) (h.signs j) && same_locals (filter (λ t. is_within (g.place j) t.left t.right) (g.local j)) (filter (λ t. is_within (h.place j) t.left t.right) (h.local j)))
     && (same_dims (g.dims j) (h.dims j) && same_kind (g.kind j) (h.kind j)))
 
 filter-alike : (q : QueryValue) (b c : Box) → Alike b c → (xs ys : List Box) → AllAlike xs ys → AllAlike (filter (λ x. not (same_box q b x)) xs) (filter (λ y. not (same_box q c y)) ys)
@@ -78,6 +79,8 @@ pub record AlikeParts (p r : PartPlan) : Type 0 where
   pub signs : p.signs.items ≡ r.signs.items
   pub equal : p.equal.items ≡ r.equal.items
   pub less : p.less.items ≡ r.less.items
+  pub local : p.local ≡ r.local
+  pub soft : p.soft.items ≡ r.soft.items
   pub count : length p.streams.items ≡ length r.streams.items
   pub boxes : (place : ℕ) → place < length p.streams.items → Alike (box_at p place) (box_at r place)
 
@@ -107,7 +110,7 @@ part-same p r g base =
     let a = g.boxes place l in
     let b = base place l in
     λ i. record { dims = record { items = a.dims i }; kind = a.kind i; base = b i; size = a.size i }) in
-    λ i. record { signs = record { items = g.signs i }; streams = record { items = streams i }; equal = record { items = g.equal i }; less = record { items = g.less i } }
+    λ i. record { signs = record { items = g.signs i }; streams = record { items = streams i }; equal = record { items = g.equal i }; less = record { items = g.less i }; local = g.local i; soft = record { items = g.soft i } }
 
 plans-same : (plan other : List PartPlan) → AllAlikeParts plan other
     → ((p r : PartPlan) → Has plan p → Has other r → AlikeParts p r → (place : ℕ) → place < length p.streams.items → (stream_at p place).base ≡ (stream_at r place).base) → plan ≡ other
@@ -135,6 +138,8 @@ parts-alike q (p ∷ plan) (r ∷ other) e f g some fine =
       signs = s;
       equal = links-same (λ x y. IsTrue (attr_lt x y) × IsEquality q p.signs.items x y) p.equal.items r.equal.items x.equal_ascends y.equal_ascends x.equal (subst (λ z. (x y : Attr) → (Contains r.equal.items (link x y) → IsTrue (attr_lt x y) × IsEquality q z x y) × (IsTrue (attr_lt x y) × IsEquality q z x y → Contains r.equal.items (link x y))) (sym s) y.equal);
       less = links-same (IsInequality q p.signs.items) p.less.items r.less.items x.less_ascends y.less_ascends x.less (subst (λ z. (x y : Attr) → (Contains r.less.items (link x y) → IsInequality q z x y) × (IsInequality q z x y → Contains r.less.items (link x y))) (sym s) y.less);
+      local = x.local ∙ sym y.local;
+      soft = x.soft ∙ sym y.soft;
       count = x.count ∙ sym y.count;
       boxes =
           λ i l.
@@ -145,6 +150,7 @@ parts-alike q (p ∷ plan) (r ∷ other) e f g some fine =
           record {
             place = refl;
             signs = s;
+            local = x.local ∙ sym y.local;
             dims = d;
             kind = kinds-same q p.signs.items (some p first) (fine p.signs.items (some p first)) i _ _ u.kind w.kind;
             size = u.size ∙ ap (λ v. cond (nat_eq (length q.from) 1) 0 (box_size v)) d ∙ sym w.size;

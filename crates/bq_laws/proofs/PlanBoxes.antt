@@ -5,11 +5,12 @@ use Rattle.bq_model.specs.declared.plan.Kind.{Kind}
 use Rattle.bq_model.specs.declared.plan.StreamPlan.{StreamPlan}
 use Rattle.bq_model.specs.declared.plan.PartPlan.{PartPlan}
 use Rattle.bq_model.specs.Query.{QueryValue}
-use Rattle.bq_model.specs.Plan.{stream_at, IsPlan, Follow, FollowIn}
+use Rattle.bq_model.specs.Plan.{stream_at, Follow, FollowIn}
 use Rattle.bq_model.specs.Cells.{cell_of, upto, by_box, laid_out, synopsis}
 use Rattle.bq_model.specs.Merge.{merged_cells, merge}
 use Rattle.bq_model.specs.Numbers.{places, cell_count}
-use Rattle.bq_model.specs.Sharing.{Box, box_at, size_in, boxes_in, same_box, different_boxes, boxes, spread, sizes_in, start_in, synopsis_in, merge_in, IsSharedPlan}
+use Rattle.bq_model.specs.Sharing.{Box, box_at, size_in, boxes_in, same_box, different_boxes, boxes, spread, sizes_in, start_in, synopsis_in, merge_in}
+use Rattle.bq_model.specs.Serving.{AreBased}
 use Rattle.bq_model.proofs.Has.{Has, first, Has-from_contains, Contains-from_has, Has-append_left, Has-append_right, Has-map}
 use Rattle.bq_laws.specs.Sharing.{Begins, AreBoxesOf, PlansHaveBoxes, SynopsesAreOfBoxes}
 use Rattle.bq_laws.proofs.Tests.{filter-passes}
@@ -111,7 +112,7 @@ rest-after part start next (s ∷ streams) rest f a =
     let c = sizes-cons (box_at part start) (listed part (start + 1) streams) in
     subst rest (omega (arith, z, c)) (rest-after part (start + 1) (next + s.size) streams rest f.1 (from-next part start s streams a))
 
-stands-plan : (next : ℕ) (plan : List PartPlan) → Follow next plan → (part : PartPlan) → Has plan part → (place : ℕ) → place < length part.streams.items
+pub stands-plan : (next : ℕ) (plan : List PartPlan) → Follow next plan → (part : PartPlan) → Has plan part → (place : ℕ) → place < length part.streams.items
     → Stands (boxes_in plan) (box_at part place) next (stream_at part place).base
 stands-plan next [] f part h place l = elim h [ ]
 stands-plan next (o ∷ plan) f part h place l = elim (has_cases o part plan h) [
@@ -165,11 +166,11 @@ has-box (o ∷ plan) part h place l = elim (has_cases o part plan h) [
   | inr m ↦ Has-append_right (listed o 0 o.streams.items) (has-box plan part m place l)
 ]
 
-plain-boxes : (q : QueryValue) (plan : List PartPlan) → IsPlan q plan → AreBoxesOf q plan (boxes_in plan)
-plain-boxes q plan is = record {
+plain-boxes : (q : QueryValue) (plan : List PartPlan) → Follow 0 plan → AreBoxesOf q plan (boxes_in plan)
+plain-boxes q plan bases = record {
   each =
       λ part known place l.
-      let r = stands-plan 0 plan is.bases part (Has-from_contains plan part known) place l in
+      let r = stands-plan 0 plan bases part (Has-from_contains plan part known) place l in
       record {
         before = r.before;
         same = box_at part place;
@@ -181,7 +182,7 @@ plain-boxes q plan is = record {
   alone = λ b c. alone-of plan b (Has-from_contains (boxes_in plan) b c);
   covers =
       λ n l.
-      let c = cover 0 plan is.bases n (let s = count-of-boxes plan in omega (arith, s, l)) in
+      let c = cover 0 plan bases n (let s = count-of-boxes plan in omega (arith, s, l)) in
       record {
         part = c.part;
         place = c.place;
@@ -194,7 +195,7 @@ plain-boxes q plan is = record {
 }
 
 -- no two of these boxes are the same
-abbrev Apart : QueryValue → List Box → Type 0
+abbrev pub Apart : QueryValue → List Box → Type 0
 Apart q [] = Unit {0}
 Apart q (x ∷ xs) = ((b : Box) → Has xs b → same_box q x b ≡ false) × Apart q xs
 
@@ -206,7 +207,7 @@ apart-filter q p (x ∷ xs) a = by (p x) (apart-filter q p xs a.1)
     by true r = (λ b h. a.0 b (has-of_filter p xs b h), r)
     by false r = r
 
-apart-different : (q : QueryValue) (xs : List Box) → Apart q (different_boxes q xs)
+pub apart-different : (q : QueryValue) (xs : List Box) → Apart q (different_boxes q xs)
 apart-different q [] = tt
 apart-different q (x ∷ xs) = (
   λ b h. turned (same_box q x b) (filter-passes (λ c. not (same_box q x c)) (different_boxes q xs) b h),
@@ -218,19 +219,19 @@ apart-different q (x ∷ xs) = (
     turned false e = refl
 
 -- a box that stands in such a list begins at its own place
-start-own : (q : QueryValue) (before : List Box) (b : Box) (after : List Box) → Apart q (before ++ b ∷ after) → start_in q (before ++ b ∷ after) b ≡ sizes_in before
+pub start-own : (q : QueryValue) (before : List Box) (b : Box) (after : List Box) → Apart q (before ++ b ∷ after) → start_in q (before ++ b ∷ after) b ≡ sizes_in before
 start-own q [] b after a = ap (λ (t : Bool). cond t 0 (size_in b + start_in q after b)) (same-itself q b)
 start-own q (x ∷ before) b after a =
     let f : same_box q x b ≡ false = a.0 b (Has-append_right before first) in
     ap (λ (t : Bool). cond t 0 (size_in x + start_in q (before ++ b ∷ after) b)) f
     ∙ ap (λ (n : ℕ). size_in x + n) (start-own q before b after a.1) ∙ sym (sizes-cons x before)
 
-shared-boxes : (q : QueryValue) (plan : List PartPlan) → IsSharedPlan q plan → AreBoxesOf q plan (boxes q plan)
-shared-boxes q plan is = record {
+shared-boxes : (q : QueryValue) (plan : List PartPlan) → AreBased true q plan → AreBoxesOf q plan (boxes q plan)
+shared-boxes q plan bases = record {
   each =
       λ part known place l.
       let s = stands-for q (boxes_in plan) (box_at part place) (has-box plan part (Has-from_contains plan part known) place l) in
-      subst (Begins q (boxes q plan) (box_at part place)) (sym (is.bases part known place l)) (begins-at_start q (boxes q plan) (box_at part place) s.0 s.1 s.2);
+      subst (Begins q (boxes q plan) (box_at part place)) (sym (bases part known place l)) (begins-at_start q (boxes q plan) (box_at part place) s.0 s.1 s.2);
   alone = λ b c. alone-of plan b (is-among q (boxes_in plan) b (Has-from_contains (boxes q plan) b c));
   covers =
       λ n l.
@@ -246,9 +247,10 @@ shared-boxes q plan is = record {
         known = a.0;
         there = a.1;
         inside = c.inside;
-        at = (let b = is.bases c.box.part a.0 c.box.place a.1 in let t = c.there in omega (arith, b, o, t));
+        at = (let b = bases c.box.part a.0 c.box.place a.1 in let t = c.there in omega (arith, b, o, t));
       };
 }
 
 pub plans-have-boxes : PlansHaveBoxes
-plans-have-boxes q plan = (plain-boxes q plan, shared-boxes q plan)
+plans-have-boxes false q plan bases = plain-boxes q plan bases
+plans-have-boxes true q plan bases = shared-boxes q plan bases

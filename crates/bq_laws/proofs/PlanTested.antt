@@ -27,7 +27,7 @@ use Rattle.bq_model.specs.Plan.{IsWanted, selected, left_equal, right_equal, lef
 use Rattle.bq_laws.proofs.Tests.{and-left, and-right, or-cases, all_at, any_from, any_if, attr_eq-is, attr_eq-itself, nat_true, true_or_false, not_both}
 use Rattle.bq_laws.proofs.Tables.{Bound, Under, bound, bound-holds, at_most, at_most-is}
 use Rattle.bq_laws.proofs.PartsListed.{elements_of, part_table, part_table-holds}
-use Rattle.bq_laws.proofs.PlanTests.{ascends_test, pairs-ascend, all-true, among, among-has, among-if, has_link, has_link-is, has_link-if, each_pair, pair-at, not-true, less_by, equal_by, not_less, not_equal, redundant_by, needed_by, equal_link, less_link, are_named, links_test, has_some, bounded_by, unbounded_by, names_class, in_class, wanted_by, low_by, high_by, dim_test, covered_by, side_bounded, kind_test, stream_test, streams_test, part_test}
+use Rattle.bq_laws.proofs.PlanTests.{is_none, none-if, ascends_test, pairs-ascend, all-true, among, among-has, among-if, has_link, has_link-is, has_link-if, each_pair, pair-at, not-true, less_by, equal_by, not_less, not_equal, redundant_by, needed_by, equal_link, less_link, are_named, links_test, has_some, bounded_by, unbounded_by, names_class, in_class, wanted_by, low_by, high_by, dim_test, covered_by, side_bounded, kind_test, stream_test, streams_test, part_test}
 
 pub int_lt-is : (x y : ℤ) → int_lt x y ≡ true → x <ℤ y
 int_lt-is x y h = grind (arith, ints, h)
@@ -489,6 +489,8 @@ module _ (q : QueryValue) (part : PartPlan) (ws : List Assignment) where
       let r2 = and-right (links_test q t ws part) _ r1 in
       let r3 = and-right (ascends_test link_lt part.equal.items) _ r2 in
       let r4 = and-right (ascends_test link_lt part.less.items) _ r3 in
+      let r5 = and-right (nat_eq (length part.streams.items) (length q.from)) _ r4 in
+      let r6 = and-right (streams_test q t ws part (length q.from)) _ r5 in
       let links = and-left _ _ r1 in
       record {
         equal = λ x y. (
@@ -501,6 +503,8 @@ module _ (q : QueryValue) (part : PartPlan) (ws : List Assignment) where
           (λ i. Contains-from_has part.less.items (link x y) (less-complete q part.signs.items ws inside part links x y i)),
         );
         less_ascends = pairs-ascend link_lt part.less.items (and-left _ _ r3);
+        local = none-if part.local (and-left _ _ r6);
+        soft = none-if part.soft.items (and-right (is_none part.local) _ r6);
         count = nat_true _ _ (and-left _ _ r4);
-        streams = streams-if q part.signs.items ws inside part links (and-left _ _ h) (length q.from) (and-right (nat_eq (length part.streams.items) (length q.from)) _ r4);
+        streams = streams-if q part.signs.items ws inside part links (and-left _ _ h) (length q.from) (and-left _ _ r5);
       }

@@ -25,6 +25,14 @@ use Rattle.bq_laws.proofs.Tests.{and-left, and-right, all_at, any_from, any_if, 
 use Rattle.bq_laws.proofs.Tables.{Bound, bound, at_most}
 use Rattle.bq_laws.proofs.PartsListed.{elements_of}
 
+abbrev pub is_none : {X : Type 0} → List X → Bool
+is_none [] = true
+is_none (x ∷ xs) = false
+
+pub none-if : {X : Type 0} (xs : List X) → is_none xs ≡ true → xs ≡ []
+none-if [] h = refl
+none-if (x ∷ xs) h = absurd cc
+
 -- lists
 
 abbrev pub ascends_test : {X : Type 0} → (X → X → Bool) → List X → Bool
@@ -197,4 +205,5 @@ module _ (q : QueryValue) (table : List (List Bound)) (ws : List Assignment) whe
       && (links_test part
       && (ascends_test link_lt part.equal.items && (ascends_test link_lt part.less.items
       && (nat_eq (length part.streams.items) (length q.from)
-      && streams_test part (length q.from)))))
+      && (streams_test part (length q.from)
+      && (is_none part.local && is_none part.soft.items))))))

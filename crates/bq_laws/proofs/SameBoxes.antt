@@ -6,19 +6,24 @@ use Rattle.std.specs.Ordering.{int_eq}
 use Rattle.std.specs.List.{list_all}
 use Rattle.std.proofs.lemmas.List.Sums.{sum_by-cons}
 use Rattle.bq_model.specs.declared.atom.Attr.{Attr}
+use Rattle.bq_model.specs.declared.atom.Element.{Element}
+use Rattle.bq_model.specs.declared.atom.Element.TheVariants as element
+use Rattle.bq_model.specs.declared.atom.Op.{Op}
 use Rattle.bq_model.specs.declared.part.Sign.{Sign}
 use Rattle.bq_model.specs.declared.part.Pair.{Pair}
 use Rattle.bq_model.specs.declared.plan.Dim.{Dim}
 use Rattle.bq_model.specs.declared.plan.Kind.{Kind}
+use Rattle.bq_model.specs.declared.plan.LocalCondition.{LocalCondition}
 use Rattle.bq_model.specs.Assignment.{Assignment}
 use Rattle.bq_model.specs.Query.{QueryValue, attr_eq}
 use Rattle.bq_model.specs.Meaning.{Arrival, rows, by_column}
-use Rattle.bq_model.specs.Parts.{pairs, is_within, sign_at}
+use Rattle.bq_model.specs.Parts.{pairs, is_within, sign_at, element_eq}
 use Rattle.bq_model.specs.Boxes.{box_size}
-use Rattle.bq_model.specs.Plan.{stream_at, dims_at, IsPartPlan}
-use Rattle.bq_model.specs.Admission.{sign_eq, keeps_signs, in_range, alone, admits}
+use Rattle.bq_model.specs.Plan.{stream_at, dims_at}
+use Rattle.bq_model.specs.Serving.{KeepsStreams}
+use Rattle.bq_model.specs.Admission.{sign_eq, keeps_signs, meets_local, keeps_local, in_range, alone, admits}
 use Rattle.bq_model.specs.Cells.{content, row_place, cell_of}
-use Rattle.bq_model.specs.Sharing.{Box, size_in, same_signs, same_dim, same_dims, same_kind, same_box, different_boxes, sizes_in, start_in}
+use Rattle.bq_model.specs.Sharing.{Box, size_in, same_signs, same_op, same_local, same_locals, locals_at, same_dim, same_dims, same_kind, same_box, different_boxes, sizes_in, start_in}
 use Rattle.bq_model.proofs.Has.{Has, first, later, Has-filter}
 use Rattle.bq_laws.specs.Sharing.{Begins}
 use Rattle.bq_laws.proofs.OnePartFits.{has_cases}
@@ -64,6 +69,69 @@ dims-are (d ∷ ds) (e ∷ es) h =
     let b = dims-are ds es (and-right (same_dim d e) _ h) in
     λ i. a i ∷ b i
 
+op-is : (o p : Op) → same_op o p ≡ true → o ≡ p
+op-is Op.Lt Op.Lt h = refl
+op-is Op.Lt Op.Eq h = absurd cc
+op-is Op.Lt Op.Gt h = absurd cc
+op-is Op.Lt Op.Le h = absurd cc
+op-is Op.Lt Op.Ge h = absurd cc
+op-is Op.Lt Op.Ne h = absurd cc
+op-is Op.Eq Op.Lt h = absurd cc
+op-is Op.Eq Op.Eq h = refl
+op-is Op.Eq Op.Gt h = absurd cc
+op-is Op.Eq Op.Le h = absurd cc
+op-is Op.Eq Op.Ge h = absurd cc
+op-is Op.Eq Op.Ne h = absurd cc
+op-is Op.Gt Op.Lt h = absurd cc
+op-is Op.Gt Op.Eq h = absurd cc
+op-is Op.Gt Op.Gt h = refl
+op-is Op.Gt Op.Le h = absurd cc
+op-is Op.Gt Op.Ge h = absurd cc
+op-is Op.Gt Op.Ne h = absurd cc
+op-is Op.Le Op.Lt h = absurd cc
+op-is Op.Le Op.Eq h = absurd cc
+op-is Op.Le Op.Gt h = absurd cc
+op-is Op.Le Op.Le h = refl
+op-is Op.Le Op.Ge h = absurd cc
+op-is Op.Le Op.Ne h = absurd cc
+op-is Op.Ge Op.Lt h = absurd cc
+op-is Op.Ge Op.Eq h = absurd cc
+op-is Op.Ge Op.Gt h = absurd cc
+op-is Op.Ge Op.Le h = absurd cc
+op-is Op.Ge Op.Ge h = refl
+op-is Op.Ge Op.Ne h = absurd cc
+op-is Op.Ne Op.Lt h = absurd cc
+op-is Op.Ne Op.Eq h = absurd cc
+op-is Op.Ne Op.Gt h = absurd cc
+op-is Op.Ne Op.Le h = absurd cc
+op-is Op.Ne Op.Ge h = absurd cc
+op-is Op.Ne Op.Ne h = refl
+
+element-is : (x y : Element) → element_eq x y ≡ true → x ≡ y
+element-is (element.Attr a) (element.Attr b) h = ap (λ z. element.Attr z) (attr_eq-is a b h)
+element-is (element.Attr a) (element.Const k) h = absurd cc
+element-is (element.Const j) (element.Attr b) h = absurd cc
+element-is (element.Const j) (element.Const k) h = ap (λ z. element.Const z) (int_is j k h)
+
+local-is : (t u : LocalCondition) → same_local t u ≡ true → t ≡ u
+local-is t u h =
+    let x = and-left _ _ h in
+    let y = and-right (attr_eq t.left u.left && element_eq t.right u.right) _ h in
+    let a : t.left ≡ u.left = attr_eq-is t.left u.left (and-left _ _ x) in
+    let b : t.right ≡ u.right = element-is t.right u.right (and-right (attr_eq t.left u.left) _ x) in
+    let c : t.op ≡ u.op = op-is t.op u.op (and-left _ _ y) in
+    let d : t.by ≡ u.by = int_is t.by u.by (and-right (same_op t.op u.op) _ y) in
+    λ i. record { left = a i; op = c i; right = b i; by = d i }
+
+locals-are : (ts us : List LocalCondition) → same_locals ts us ≡ true → ts ≡ us
+locals-are [] [] h = refl
+locals-are [] (u ∷ us) h = absurd cc
+locals-are (t ∷ ts) [] h = absurd cc
+locals-are (t ∷ ts) (u ∷ us) h =
+    let a = local-is t u (and-left _ _ h) in
+    let b = locals-are ts us (and-right (same_local t u) _ h) in
+    λ i. a i ∷ b i
+
 kind-is : (k l : Kind) → same_kind k l ≡ true → k ≡ l
 kind-is Kind.Count Kind.Count h = refl
 kind-is Kind.Count Kind.Present h = absurd cc
@@ -93,6 +161,23 @@ dims-themselves [] = refl
 dims-themselves (d ∷ ds) =
     and-both _ _ (and-both _ _ (attr_eq-itself d.attr) (and-both _ _ (int_itself d.lo) (int_itself d.hi))) (dims-themselves ds)
 
+op-itself : (o : Op) → same_op o o ≡ true
+op-itself Op.Lt = refl
+op-itself Op.Eq = refl
+op-itself Op.Gt = refl
+op-itself Op.Le = refl
+op-itself Op.Ge = refl
+op-itself Op.Ne = refl
+
+element-itself : (x : Element) → element_eq x x ≡ true
+element-itself (element.Attr a) = attr_eq-itself a
+element-itself (element.Const k) = int_itself k
+
+locals-themselves : (ts : List LocalCondition) → same_locals ts ts ≡ true
+locals-themselves [] = refl
+locals-themselves (t ∷ ts) =
+    and-both _ _ (and-both _ _ (and-both _ _ (attr_eq-itself t.left) (element-itself t.right)) (and-both _ _ (op-itself t.op) (int_itself t.by))) (locals-themselves ts)
+
 kind-itself : (k : Kind) → same_kind k k ≡ true
 kind-itself Kind.Count = refl
 kind-itself Kind.Present = refl
@@ -103,23 +188,26 @@ kind-itself (Kind.Greatest a) = attr_eq-itself a
 pub record AreSame (q : QueryValue) (b c : Box) : Type 0 where
   pub place : b.place ≡ c.place
   pub signs : same_signs b.place (pairs q) b.part.signs.items c.part.signs.items ≡ true
+  pub locals : locals_at b.part b.place ≡ locals_at c.part c.place
   pub dims : dims_at b.part b.place ≡ dims_at c.part c.place
   pub kind : (stream_at b.part b.place).kind ≡ (stream_at c.part c.place).kind
 
 pub are-same : (q : QueryValue) (b c : Box) → same_box q b c ≡ true → AreSame q b c
 are-same q b c h =
     let r = and-right (nat_eq b.place c.place) _ h in
-    let u = and-right (same_signs b.place (pairs q) b.part.signs.items c.part.signs.items) _ r in
+    let w = and-left _ _ r in
+    let u = and-right (same_signs b.place (pairs q) b.part.signs.items c.part.signs.items && same_locals (locals_at b.part b.place) (locals_at c.part c.place)) _ r in
     record {
       place = nat_true b.place c.place (and-left _ _ h);
-      signs = and-left _ _ r;
+      signs = and-left _ _ w;
+      locals = locals-are _ _ (and-right (same_signs b.place (pairs q) b.part.signs.items c.part.signs.items) _ w);
       dims = dims-are _ _ (and-left _ _ u);
       kind = kind-is _ _ (and-right (same_dims (dims_at b.part b.place) (dims_at c.part c.place)) _ u);
     }
 
 pub same-itself : (q : QueryValue) (b : Box) → same_box q b b ≡ true
 same-itself q b =
-    and-both _ _ (nat_itself b.place) (and-both _ _ (signs-themselves b.place (pairs q) b.part.signs.items)
+    and-both _ _ (nat_itself b.place) (and-both _ _ (and-both _ _ (signs-themselves b.place (pairs q) b.part.signs.items) (locals-themselves (locals_at b.part b.place)))
     (and-both _ _ (dims-themselves (dims_at b.part b.place)) (kind-itself (stream_at b.part b.place).kind)))
 
 signs-then : (place : ℕ) (ps : List Pair) (ss ts us : List Sign) → same_signs place ps ss ts ≡ true → same_signs place ps ts us ≡ true
@@ -154,7 +242,7 @@ signs-turned place (p ∷ ps) (s ∷ ss) (t ∷ ts) h =
 -- the boxes that are the same, put together again
 same-if : (q : QueryValue) (b c : Box) → AreSame q b c → same_box q b c ≡ true
 same-if q b c s =
-    and-both _ _ (ap (nat_eq b.place) (sym s.place) ∙ nat_itself b.place) (and-both _ _ s.signs
+    and-both _ _ (ap (nat_eq b.place) (sym s.place) ∙ nat_itself b.place) (and-both _ _ (and-both _ _ s.signs (ap (same_locals (locals_at b.part b.place)) (sym s.locals) ∙ locals-themselves (locals_at b.part b.place)))
     (and-both _ _ (ap (same_dims (dims_at b.part b.place)) (sym s.dims) ∙ dims-themselves (dims_at b.part b.place))
     (ap (same_kind (stream_at b.part b.place).kind) (sym s.kind) ∙ kind-itself (stream_at b.part b.place).kind)))
 
@@ -167,6 +255,7 @@ same-then q b c d h k =
       signs =
           signs-then b.place (pairs q) b.part.signs.items c.part.signs.items d.part.signs.items s.signs
           (subst (λ (n : ℕ). same_signs n (pairs q) c.part.signs.items d.part.signs.items ≡ true) (sym s.place) t.signs);
+      locals = s.locals ∙ t.locals;
       dims = s.dims ∙ t.dims;
       kind = s.kind ∙ t.kind;
     }
@@ -179,15 +268,29 @@ same-turned q b c h =
       signs =
           signs-turned c.place (pairs q) b.part.signs.items c.part.signs.items
           (subst (λ (n : ℕ). same_signs n (pairs q) b.part.signs.items c.part.signs.items ≡ true) s.place s.signs);
+      locals = sym s.locals;
       dims = sym s.dims;
       kind = sym s.kind;
     }
 
+-- what else a stream is asked is asked by its own conditions
+local-only : (place : ℕ) (v : Assignment) (ts : List LocalCondition) → keeps_local place v ts ≡ list_all (meets_local v) (filter (λ t. is_within place t.left t.right) ts)
+local-only place v [] = refl
+local-only place v (t ∷ ts) = by (is_within place t.left t.right) (local-only place v ts)
+  where
+    by : (b : Bool) → keeps_local place v ts ≡ list_all (meets_local v) (filter (λ t. is_within place t.left t.right) ts)
+        → ((not b || meets_local v t) && keeps_local place v ts) ≡ list_all (meets_local v) (cond b (t ∷ filter (λ t. is_within place t.left t.right) ts) (filter (λ t. is_within place t.left t.right) ts))
+    by true e = ap (λ r. meets_local v t && r) e
+    by false e = e
+
+locals-keep : (q : QueryValue) (b c : Box) → AreSame q b c → (v : Assignment) → keeps_local b.place v b.part.local ≡ keeps_local c.place v c.part.local
+locals-keep q b c s v = local-only b.place v b.part.local ∙ ap (list_all (meets_local v)) s.locals ∙ sym (local-only c.place v c.part.local)
+
 -- the same boxes admit the same rows
 pub same-admits : (q : QueryValue) (b c : Box) → AreSame q b c → (v : ℕ → ℤ) → admits q b.part b.place v ≡ admits q c.part c.place v
 same-admits q b c s v =
-    (λ j. signs-keep b.place (alone v) (pairs q) b.part.signs.items c.part.signs.items s.signs j && list_all (in_range v) (s.dims j))
-    ∙ ap (λ (n : ℕ). keeps_signs n (alone v) (pairs q) c.part.signs.items && list_all (in_range v) (dims_at c.part c.place)) s.place
+    (λ j. (signs-keep b.place (alone v) (pairs q) b.part.signs.items c.part.signs.items s.signs j && locals-keep q b c s (alone v) j) && list_all (in_range v) (s.dims j))
+    ∙ ap (λ (n : ℕ). (keeps_signs n (alone v) (pairs q) c.part.signs.items && keeps_local c.place (alone v) c.part.local) && list_all (in_range v) (dims_at c.part c.place)) s.place
 
 -- and so they keep the same cells
 pub same-cells : (q : QueryValue) (b c : Box) → same_box q b c ≡ true → (h : List Arrival) (i : ℕ)
@@ -197,11 +300,11 @@ same-cells q b c e h i =
     (λ j. content (s.kind j) (filter (λ row. same-admits q b c s (by_column row) j && nat_eq (row_place (s.dims j) (by_column row)) i) (rows h (slice_index_or q.from (s.place j) 0))))
 
 -- the same boxes have as many cells
-pub same-size : (q : QueryValue) (b c : Box) → same_box q b c ≡ true → IsPartPlan q b.part → IsPartPlan q c.part
+pub same-size : (q : QueryValue) (b c : Box) → same_box q b c ≡ true → KeepsStreams q b.part → KeepsStreams q c.part
     → b.place < length q.from → c.place < length q.from → size_in b ≡ size_in c
 same-size q b c e p r l m =
     let s = are-same q b c e in
-    (p.streams b.place l).size ∙ ap (λ (ds : List Dim). cond (nat_eq (length q.from) 1) 0 (box_size ds)) s.dims ∙ sym (r.streams c.place m).size
+    p.size b.place l ∙ ap (λ (ds : List Dim). cond (nat_eq (length q.from) 1) 0 (box_size ds)) s.dims ∙ sym (r.size c.place m)
 
 -- each box of a list is the same as one of its different boxes
 pub stands-for : (q : QueryValue) (xs : List Box) (b : Box) → Has xs b → (c : Box) × Has (different_boxes q xs) c × (same_box q c b ≡ true)

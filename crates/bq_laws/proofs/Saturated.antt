@@ -6,55 +6,39 @@ use Rattle.bq_model.specs.declared.cell.Cell.{Cell}
 use Rattle.bq_model.specs.declared.plan.Kind.{Kind}
 use Rattle.bq_model.specs.declared.plan.PartPlan.{PartPlan}
 use Rattle.bq_model.specs.Query.{QueryValue}
-use Rattle.bq_model.specs.Parts.{IsPart}
 use Rattle.bq_model.specs.Meaning.{Arrival, product, by_column}
 use Rattle.bq_model.specs.Boxes.{box, box_size, place_of}
-use Rattle.bq_model.specs.Plan.{IsPartPlan, IsKind, stream_at, dims_at}
+use Rattle.bq_model.specs.Plan.{stream_at, dims_at}
 use Rattle.bq_model.specs.Admission.{admits}
 use Rattle.bq_model.specs.Cells.{upto, FitsKind}
 use Rattle.bq_model.specs.Combinations.{Choice, choice, choice_of, cell_choice, chosen_values, linked, Reading, Found, found, found_in}
 use Rattle.bq_model.specs.Numbers.{places}
 use Rattle.bq_model.specs.Probing.{choices_beside, found_beside}
 use Rattle.bq_model.specs.Future.{spelled_out}
-use Rattle.bq_model.proofs.Has.{Has, first, Has-from_contains, Contains-from_has, Has-map, Has-map_from, Has-filter_from}
+use Rattle.bq_model.proofs.Has.{Has, first, Has-from_contains, Contains-from_has, Has-map_from, Has-filter_from}
 use Rattle.bq_laws.specs.Closed.{IsDistinctPlan, IsSaturated, own_place, with_own, AreOfKinds, CellsStayOrTurn, SaturatedCellsAnswerNothingNew}
 use Rattle.bq_laws.proofs.Tests.{true_or_false, filter-passes}
 use Rattle.bq_laws.proofs.OnePartFits.{has_cases}
-use Rattle.bq_laws.proofs.Queries.{query_within}
-use Rattle.bq_laws.proofs.NoViolation.{safe-if, none_breaks}
 use Rattle.bq_laws.proofs.Weights.{View}
 use Rattle.bq_laws.proofs.Extremes.{Partnered, flat_map-from, has-flat_map, upto-below}
-use Rattle.bq_laws.proofs.StandingIn.{IsSafe, StandsIn, stands-itself, up}
+use Rattle.bq_laws.proofs.ServedCells.{StandsIn, stands_itself, up}
 use Rattle.bq_laws.proofs.ByPlace.{walks-find-all}
+use Rattle.bq_model.specs.Serving.{Serves}
 use Rattle.bq_laws.proofs.ByValues.{choices-go-by-values}
 use Rattle.bq_laws.proofs.Crossing.{Tells, spelled-tells, tells-spelled, all-present, crossed, tells-crossed}
 use Rattle.bq_laws.proofs.OwnCells.{CountsNone, stays-or-turns, OfRows, of-rows}
 
 module _ (q : QueryValue) (plan : List PartPlan) (is : IsDistinctPlan q plan) (part : PartPlan) (known : Has plan part) where
-  pub part-plan : IsPartPlan q part
-  part-plan = All-contains (IsPartPlan q) plan part is.plans.plans (Contains-from_has plan part known)
-
-  pub is-part : IsPart q part.signs.items
-  is-part =
-      All-contains (IsPart q) (map (λ p. p.signs.items) plan) part.signs.items is.plans.parts.each (Contains-from_has _ part.signs.items (Has-map (λ p. p.signs.items) known))
-
-  pub safe : IsSafe q part
-  safe =
-      safe-if q (query_within q is.limits) part part-plan is-part (none_breaks q is.several is.violation part.signs.items is-part)
+  pub part-serves : Serves q part
+  part-serves = All-contains (Serves q) plan part is.serving.serves (Contains-from_has plan part known)
 
   -- with DISTINCT no cell counts
   pub counts-none : (place : ℕ) → place < length q.from → CountsNone (stream_at part place).kind
-  counts-none place l e = by (stream_at part place).kind e (part-plan.streams place l).kind
-    where
-      by : (k : Kind) → k ≡ Kind.Count → IsKind q part.signs.items place k → ⊥
-      by Kind.Count e k = absurd (let t : true ≡ false = sym is.distinct ∙ k in cc)
-      by Kind.Present e k = absurd cc
-      by (Kind.Least a) e k = absurd cc
-      by (Kind.Greatest a) e k = absurd cc
+  counts-none place l e = absurd (let t : true ≡ false = sym is.distinct ∙ (part-serves.keeps.kind place l).0 e in cc)
 
   -- a row, or the choice of a cell, stands in for itself
   pub itself : (place : ℕ) (v : View) → StandsIn q part place v v
-  itself place v = stands-itself q part place v v (λ a e w. refl)
+  itself place v = stands_itself q part place v v (λ a e w. refl)
 
   -- the choices of the lists of a walk for a row at a place of FROM
   abbrev pub lists : Reading → ℕ → View → ℕ → List Choice
@@ -73,7 +57,7 @@ module _ (q : QueryValue) (plan : List PartPlan) (is : IsDistinctPlan q plan) (p
   pub whole : (place other : ℕ) → place < length q.from → other < length q.from → (other ≡ place → ⊥) → (stream_at part other).size ≡ box_size (dims_at part other)
   whole place other l m n =
       let long : nat_eq (length q.from) 1 ≡ false = grind (arith, l, m, n) in
-      (part-plan.streams other m).size ∙ ap (λ b. cond b 0 (box_size (dims_at part other))) long
+      part-serves.keeps.size other m ∙ ap (λ b. cond b 0 (box_size (dims_at part other))) long
 
   pub cell-choices : (read : Reading) (arriving : ℕ) (v : View) (place : ℕ) → arriving < length q.from → place < length q.from → (place ≡ arriving → ⊥)
       → lists read arriving v place ≡ cells read place
@@ -86,7 +70,7 @@ module _ (q : QueryValue) (plan : List PartPlan) (is : IsDistinctPlan q plan) (p
 
   -- how many places there are
   pub ends : 0 + length part.streams.items ≡ length q.from
-  ends = let c = part-plan.count in omega (arith, c)
+  ends = let c = part-serves.keeps.count in omega (arith, c)
 
   -- a choice of an own row
   one-choice : (v : View) (n : ℕ) (c : Choice) → Has (choice v n) c → record { values = v; times = n } ≡ c
@@ -97,7 +81,7 @@ module _ (q : QueryValue) (plan : List PartPlan) (is : IsDistinctPlan q plan) (p
       → ((place i : ℕ) → place < length q.from → (place ≡ arriving → ⊥) → i < (stream_at part place).size → read part place i ≡ other part place i)
       → (t : List ℤ) → Tells q part (map (lists read arriving v) (places part)) t → Tells q part (map (lists other arriving w) (places part)) t
   tells-instead read other arriving v w l s same t told =
-      tells-crossed q part part-plan (map (lists read arriving v) (places part)) (map (lists other arriving w) (places part)) t told
+      tells-crossed q part part-serves (map (lists read arriving v) (places part)) (map (lists other arriving w) (places part)) t told
       (crossed (StandsIn q part) (length q.from) 0 (length part.streams.items) ends (lists read arriving v) (lists other arriving w) (λ m low high. at m high (true_or_false (nat_eq m arriving))) told.chosen told.among told.present)
     where
       at : (m : ℕ) → m < length q.from → (nat_eq m arriving ≡ true) ⊎ (nat_eq m arriving ≡ false) → Partnered (StandsIn q part) m (lists read arriving v m) (lists other arriving w m)
@@ -179,14 +163,14 @@ module _ (q : QueryValue) (plan : List PartPlan) (is : IsDistinctPlan q plan) (p
               let n : m ≡ arriving → ⊥ = λ s. absurd (grind (arith, e, s)) in
               let k = subst (λ cs. Has cs c) (cell-choices q plan is part known read arriving v m l b n) h in
               let i = flat_map-from (λ i. cell_choice q part m i (read part m i)) (upto (λ i. i) (stream_at part m).size) c k in
-              let c' = (part-plan q plan is part known).count in
+              let c' = (part-serves q plan is part known).keeps.count in
               one-present q part m _ (stream_at part m).kind (counts-none q plan is part known m b) (read part m i.0)
               (kinds m i.0 (omega (arith, b, c')) (upto-below (stream_at part m).size i.0 i.1)) c i.2
 
   -- what a part answers to a row that it admits, a walk finds, and to any other nothing
   pub found-beside : (read : Reading) (r : Arrival) (place : ℕ) → place < length q.from → slice_index_or q.from place 0 ≡ r.stream
       → found_in q part read r ≡ cond (admits q part place (by_column r.values)) (found_beside q part read place (by_column r.values)) []
-  found-beside read r place l s = walks-find-all q part is.limits (part-plan q plan is part known) read r place l s
+  found-beside read r place l s = walks-find-all q part is.limits (part-serves q plan is part known).keeps read r place l s
 
   module _ (read : Reading) (kinds : AreOfKinds part read) (table : List (List ℤ)) (r : Arrival) (place : ℕ) (l : place < length q.from)
       (stream : slice_index_or q.from place 0 ≡ r.stream) (there : own_place part place r.values < (stream_at part place).size)
@@ -196,10 +180,10 @@ module _ (q : QueryValue) (plan : List PartPlan) (is : IsDistinctPlan q plan) (p
     beside-old f admitted h =
         let k : Kind = (stream_at part place).kind in
         let i : ℕ = own_place part place r.values in
-        let c = (part-plan q plan is part known).count in
+        let c = (part-serves q plan is part known).keeps.count in
         let rows : OfRows k (read part place i) r.values
         = of-rows k (counts-none q plan is part known place l) (read part place i) r.values (kinds place i (omega (arith, l, c)) there) stays in
-        let d = up q part (part-plan q plan is part known) (is-part q plan is part known) (safe q plan is part known) place l k ((safe q plan is part known).less place l) rows.rows r.values rows.among admitted in
+        let d = up q part (part-serves q plan is part known) place l k refl rows.rows r.values rows.among admitted in
         let chosen : Has (cell_choice q part place i (read part place i)) d.0 = subst (λ (c : Cell). Has (cell_choice q part place i c) d.0) rows.is d.1 in
         let w = one-tells read kinds place l (by_column r.values) f h in
         let u = tells-instead q plan is part known read read place (by_column r.values) d.0.values l d.3 (λ place i a n b. refl) f.tuple w in

@@ -54,7 +54,7 @@ inside : InPart twofold s at
 unfolding pairs is_of_group group_of
 inside = record { holds = refl; domains = refl; signs = refl }
 
-part_plan : IsPartPlan twofold (record { signs = record { items = s }; streams = record { items = one_cell (dim (col 0 2) (pos 1) ∷ []) (Kind.Least (col 0 0)) 0 ∷ one_cell [] (Kind.Greatest (col 1 0)) 1 ∷ [] }; equal = record { items = [] }; less = record { items = link (col 0 0) (col 1 0) ∷ link (col 0 1) (col 1 1) ∷ [] } })
+part_plan : IsPartPlan twofold (record { signs = record { items = s }; streams = record { items = one_cell (dim (col 0 2) (pos 1) ∷ []) (Kind.Least (col 0 0)) 0 ∷ one_cell [] (Kind.Greatest (col 1 0)) 1 ∷ [] }; equal = record { items = [] }; less = record { items = link (col 0 0) (col 1 0) ∷ link (col 0 1) (col 1 1) ∷ [] }; local = []; soft = record { items = [] } })
 part_plan = All-contains (IsPartPlan twofold) plan _ planned.plans (0, omega arith, refl)
 
 unbounded : (a : Attr) → at a ≡ pos 5 → ¬ IsBounded twofold s a

@@ -1,12 +1,10 @@
 -- What a base and the rows since come to, and that it is what the whole history comes to.
 use Rattle.std.specs.Prelude.{◌≡◌, ◌≤◌, ◌^◌, List, [], ◌∷◌, ◌++◌, length, IsTrue, IsFalse}
-use Rattle.std.specs.declared.option.Option.TheVariants.{None}
 use Rattle.bq_model.specs.declared.plan.PartPlan.{PartPlan}
 use Rattle.bq_model.specs.Query.{QueryValue, IsWithinLimits, is_filter}
 use Rattle.bq_model.specs.Meaning.{Arrival, new_answers}
 use Rattle.bq_model.specs.Domains.{RowKeeps, RowsKeep}
-use Rattle.bq_model.specs.Violation.{IsViolation}
-use Rattle.bq_model.specs.Plan.{ArePartPlans}
+use Rattle.bq_model.specs.Serving.{IsServing}
 use Rattle.bq_model.specs.Sharing.{Box, sizes_in}
 use Rattle.bq_model.specs.Bases.{Base, first_base, base_of, answers_from, kept, kept_row}
 use Rattle.bq_laws.specs.Sharing.{AreBoxesOf}
@@ -20,10 +18,10 @@ pub record KeepsOn (q : QueryValue) (plan : List PartPlan) (list : List Box) (ba
 abbrev pub BasesKeepOn : Type 0
 BasesKeepOn = (q : QueryValue) (plan : List PartPlan) (list : List Box) (base : Base) → length base.cells ≡ sizes_in list → KeepsOn q plan list base
 
--- the boxes are those of the plan of a query of which no condition is violated; a filter has none
+-- the boxes are those of parts that serve the query; a filter has none
 pub data IsKept (q : QueryValue) (plan : List PartPlan) (list : List Box) : Type 0 where
   alone : IsTrue (is_filter q) → plan ≡ [] → list ≡ [] → IsKept q plan list
-  boxed : IsFalse (is_filter q) → ArePartPlans q plan → AreBoxesOf q plan list → IsKept q plan list
+  boxed : IsFalse (is_filter q) → IsServing q plan → AreBoxesOf q plan list → IsKept q plan list
 
 -- where the rows keep to the domains: after creation, what is kept is the base of the history; so from the base of one history on it is
 -- that of both; and a base of at most 2^40 rows answers what the whole history answers
@@ -36,4 +34,4 @@ pub record StandsForHistories (q : QueryValue) (plan : List PartPlan) (list : Li
 
 abbrev pub BasesStandForHistories : Type 0
 BasesStandForHistories =
-    (q : QueryValue) (plan : List PartPlan) (list : List Box) → IsWithinLimits q → IsViolation q None → IsKept q plan list → StandsForHistories q plan list
+    (q : QueryValue) (plan : List PartPlan) (list : List Box) → IsWithinLimits q → IsKept q plan list → StandsForHistories q plan list

@@ -2,14 +2,13 @@
 -- other places of FROM, and a table is closed where each cell is. A row that leaves a saturated cell as it is answers nothing new.
 use Rattle.std.specs.Prelude.{◌≡◌, ◌⊎◌, ℕ, ◌<◌, true, ℤ, List, [], ◌∷◌, length, IsTrue, IsFalse, Contains}
 use Rattle.std.specs.List.{slice_index_or}
-use Rattle.std.specs.declared.option.Option.TheVariants.{None}
 use Rattle.bq_model.specs.declared.cell.Cell.{Cell}
 use Rattle.bq_model.specs.declared.plan.PartPlan.{PartPlan}
 use Rattle.bq_model.specs.Query.{QueryValue, IsWithinLimits, is_filter}
 use Rattle.bq_model.specs.Meaning.{Arrival, by_column}
 use Rattle.bq_model.specs.Domains.{RowsKeep}
-use Rattle.bq_model.specs.Violation.{IsViolation}
-use Rattle.bq_model.specs.Plan.{ArePartPlans, stream_at, dims_at}
+use Rattle.bq_model.specs.Plan.{stream_at, dims_at}
+use Rattle.bq_model.specs.Serving.{IsServing}
 use Rattle.bq_model.specs.Admission.{admits}
 use Rattle.bq_model.specs.Cells.{row_place, content, FitsKind}
 use Rattle.bq_model.specs.Combinations.{Choice, cell_choice, Reading, read_from, Found, found_in}
@@ -20,12 +19,11 @@ use Rattle.bq_model.specs.Sharing.{Box, sizes_in}
 use Rattle.bq_model.specs.Bases.{Base, first_base, base_of, kept, kept_row}
 use Rattle.bq_laws.specs.Sharing.{AreBoxesOf}
 
--- a query with DISTINCT, of which no condition is violated, and its parts
+-- a query with DISTINCT that is no filter, and parts that serve it
 pub record IsDistinctPlan (q : QueryValue) (plan : List PartPlan) : Type 0 where
   pub limits : IsWithinLimits q
   pub several : IsFalse (is_filter q)
-  pub plans : ArePartPlans q plan
-  pub violation : IsViolation q None
+  pub serving : IsServing q plan
   pub distinct : q.distinct ≡ true
 
 -- the cell at place i of the box of a part and a place of FROM is saturated: the table has each tuple that the cell, read as a row, is

@@ -24,7 +24,7 @@ use Rattle.bq_laws.specs.SoftCases.{told, meant}
 -- a plan of one part
 abbrev pub one_part : List Sign → List StreamPlan → List Link → List Link → List PartPlan
 one_part signs streams equal less =
-    record { signs = record { items = signs }; streams = record { items = streams }; equal = record { items = equal }; less = record { items = less } } ∷ []
+    record { signs = record { items = signs }; streams = record { items = streams }; equal = record { items = equal }; less = record { items = less }; local = []; soft = record { items = [] } } ∷ []
 
 -- compact, SELECT X.b FROM X, T WHERE X.a < 6 AND T.c > 5 AND X.b = 1
 abbrev pub apart : QueryValue

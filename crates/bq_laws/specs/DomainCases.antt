@@ -39,6 +39,8 @@ one_part dims kind size others other_kind other_size equal less = record {
   streams = record { items = record { dims = record { items = dims }; kind = kind; base = 0; size = size } ∷ record { dims = record { items = others }; kind = other_kind; base = size; size = other_size } ∷ [] };
   equal = record { items = equal };
   less = record { items = less };
+  local = [];
+  soft = record { items = [] };
 } ∷ []
 
 -- SELECT S.a FROM S, T WHERE S.a = T.c: the domain bounds both sides

@@ -81,6 +81,8 @@ hot_part temp lim of_r of_l equal less = record {
   streams = record { items = of_r ∷ of_l ∷ [] };
   equal = record { items = equal };
   less = record { items = less };
+  local = [];
+  soft = record { items = [] };
 }
 
 -- the 25 parts, by the place of the temperature and then of the limit

@@ -1,6 +1,6 @@
 -- Cells that are laid out by a list of boxes: what they tell of a history, and how they grow. The boxes of a plan are one such list,
 -- and its different boxes are another.
-use Rattle.std.specs.Prelude.{◌≡◌, ℕ, ◌+◌, ◌<◌, ◌≤◌, true, false, ◌&&◌, ◌==◌, nat_eq, if◌then◌else◌, List, [], ◌∷◌, ◌++◌, map, length, replicate, IsFalse, Contains, All}
+use Rattle.std.specs.Prelude.{◌≡◌, ℕ, ◌+◌, ◌<◌, ◌≤◌, Bool, true, false, ◌&&◌, ◌==◌, nat_eq, if◌then◌else◌, List, [], ◌∷◌, ◌++◌, map, length, replicate, IsFalse, Contains, All}
 use Rattle.std.specs.List.{slice_index_or, list_any}
 use Rattle.std.specs.declared.option.Option.TheVariants.{None}
 use Rattle.bq_model.specs.declared.cell.Cell.{Cell}
@@ -9,14 +9,15 @@ use Rattle.bq_model.specs.Query.{QueryValue, IsWithinLimits, is_filter}
 use Rattle.bq_model.specs.Meaning.{Arrival, by_column, new_answers}
 use Rattle.bq_model.specs.Domains.{RowKeeps, RowsKeep}
 use Rattle.bq_model.specs.Violation.{IsViolation}
-use Rattle.bq_model.specs.Plan.{stream_at, dims_at, IsPartPlan, ArePartPlans, IsPlan}
+use Rattle.bq_model.specs.Plan.{stream_at, dims_at, ArePartPlans, IsPlan}
+use Rattle.bq_model.specs.Serving.{KeepsStreams, AreBased}
 use Rattle.bq_model.specs.Admission.{admits}
 use Rattle.bq_model.specs.Cells.{row_place, content, synopsis, printed}
 use Rattle.bq_model.specs.Combinations.{read_from}
 use Rattle.bq_model.specs.Future.{future}
 use Rattle.bq_model.specs.Merge.{merged, merge}
 use Rattle.bq_model.specs.Numbers.{cell_count, places}
-use Rattle.bq_model.specs.Sharing.{Box, box_at, boxes_in, same_box, different_boxes, boxes, sizes_in, start_in, synopsis_in, merge_in, shared_synopsis, IsSharedPlan}
+use Rattle.bq_model.specs.Sharing.{Box, box_at, boxes_in, same_box, different_boxes, boxes, sizes_in, start_in, synopsis_in, merge_in, shared_synopsis, kept_boxes, IsSharedPlan}
 use Rattle.bq_laws.specs.Sufficiency.{IsReadingOf}
 
 -- among cells that are laid out by a list of boxes, those of a box that is the same as this one begin at this number
@@ -47,9 +48,7 @@ pub record AreBoxesOf (q : QueryValue) (plan : List PartPlan) (list : List Box) 
 
 -- the boxes of a plan are laid out by its bases, and so are the different boxes of a plan with shared cells
 abbrev pub PlansHaveBoxes : Type 0
-PlansHaveBoxes =
-    (q : QueryValue) (plan : List PartPlan)
-    → (IsPlan q plan → AreBoxesOf q plan (boxes_in plan)) × (IsSharedPlan q plan → AreBoxesOf q plan (boxes q plan))
+PlansHaveBoxes = (shared : Bool) (q : QueryValue) (plan : List PartPlan) → AreBased shared q plan → AreBoxesOf q plan (kept_boxes shared q plan)
 
 -- the synopsis, the merge and the number of cells of a plan are those of its boxes
 pub record AreOfBoxes (q : QueryValue) (plan : List PartPlan) : Type 0 where
@@ -63,7 +62,7 @@ SynopsesAreOfBoxes = (q : QueryValue) (plan : List PartPlan) → AreOfBoxes q pl
 -- cells that are laid out by boxes of the plan, read by its bases, are the cells of the history
 abbrev pub BoxesAreRead : Type 0
 BoxesAreRead =
-    (q : QueryValue) (plan : List PartPlan) → All (IsPartPlan q) plan → (list : List Box) → AreBoxesOf q plan list
+    (q : QueryValue) (plan : List PartPlan) → All (KeepsStreams q) plan → (list : List Box) → AreBoxesOf q plan list
     → (history : List Arrival) → IsReadingOf q plan history (read_from (synopsis_in q list history))
 
 -- the cells of each part and stream in the synopsis are those of its box in the shared synopsis
@@ -105,13 +104,13 @@ pub record MergesRowIn (q : QueryValue) (plan : List PartPlan) (list : List Box)
 
 abbrev pub RowsMergeIn : Type 0
 RowsMergeIn =
-    (q : QueryValue) (plan : List PartPlan) → All (IsPartPlan q) plan → (list : List Box) → AreBoxesOf q plan list
+    (q : QueryValue) (plan : List PartPlan) → All (KeepsStreams q) plan → (list : List Box) → AreBoxesOf q plan list
     → (cells : List Cell) → length cells ≡ sizes_in list → (r : Arrival) → MergesRowIn q plan list cells r
 
 -- two boxes of a plan have a cell in common only where they are the same, and then all, place by place
 abbrev pub BoxesMeetWhole : Type 0
 BoxesMeetWhole =
-    (q : QueryValue) (plan : List PartPlan) → All (IsPartPlan q) plan → (list : List Box) → AreBoxesOf q plan list
+    (q : QueryValue) (plan : List PartPlan) → All (KeepsStreams q) plan → (list : List Box) → AreBoxesOf q plan list
     → ((part : PartPlan) → Contains plan part → (place : ℕ) → place < length part.streams.items
     → (stream_at part place).base + (stream_at part place).size ≤ sizes_in list)
     × ((part other : PartPlan) (place there i j : ℕ) → Contains plan part → Contains plan other
@@ -122,7 +121,7 @@ BoxesMeetWhole =
 -- cells that are laid out by boxes of a plan are fixed by what stands at each place of each of its boxes
 abbrev pub BoxesFixCells : Type 0
 BoxesFixCells =
-    (q : QueryValue) (plan : List PartPlan) → All (IsPartPlan q) plan → (list : List Box) → AreBoxesOf q plan list
+    (q : QueryValue) (plan : List PartPlan) → All (KeepsStreams q) plan → (list : List Box) → AreBoxesOf q plan list
     → (cells others : List Cell) → length cells ≡ sizes_in list → length others ≡ sizes_in list
     → ((part : PartPlan) → Contains plan part → (place i : ℕ) → place < length part.streams.items → i < (stream_at part place).size
     → read_from cells part place i ≡ read_from others part place i)

@@ -48,6 +48,8 @@ part_at k low high = record {
   streams = record { items = record { dims = record { items = dim (col 0 0) k ∷ [] }; kind = Kind.Present; base = 0; size = 0 } ∷ [] };
   equal = record { items = [] };
   less = record { items = [] };
+  local = [];
+  soft = record { items = [] };
 }
 
 -- its three parts
@@ -79,12 +81,16 @@ unlike_plan =
       streams = record { items = one_cell (dim (col 0 0) (pos 1) ∷ []) Kind.Present 0 ∷ one_cell (dim (col 1 0) (pos 2) ∷ []) Kind.Present 1 ∷ [] };
       equal = record { items = [] };
       less = record { items = link (col 0 0) (col 1 0) ∷ [] };
+      local = [];
+      soft = record { items = [] };
     }
     ∷ record {
       signs = record { items = Sign.Gt ∷ Sign.Gt ∷ Sign.Lt ∷ Sign.Gt ∷ Sign.Lt ∷ [] };
       streams = record { items = one_cell (dim (col 0 0) (pos 2) ∷ []) Kind.Present 2 ∷ one_cell (dim (col 1 0) (pos 1) ∷ []) Kind.Present 3 ∷ [] };
       equal = record { items = [] };
       less = record { items = link (col 1 0) (col 0 0) ∷ [] };
+      local = [];
+      soft = record { items = [] };
     }
     ∷ []
 

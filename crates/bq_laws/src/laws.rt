@@ -17,6 +17,7 @@ ghost use Rattle.bq_laws.specs.Bases.{BasesKeepOn, BasesStandForHistories};
 ghost use Rattle.bq_laws.specs.Closed.{CellsStayOrTurn, SaturatedCellsAnswerNothingNew, CellsStaySaturated, TablesStayClosed};
 ghost use Rattle.bq_laws.specs.ClosedCases.{LoadedCellsAreWalked};
 ghost use Rattle.bq_laws.specs.Rooms.{TableHasRoom, WaitingFits, CountsFit, WaitingCountsFit, CellsFit, AnswersAreCounted};
+ghost use Rattle.bq_laws.specs.ServingLaws.{ServingPlansSuffice, PlainPlansServe};
 
 /// A combination is in a part exactly where the part admits each of its rows and the links hold.
 pub fn admission_is_exact()
@@ -370,4 +371,14 @@ pub fn tables_stay_closed()
 /// A worked base whose table is not closed: a row that leaves all cells as they are is answered.
 pub fn loaded_cells_are_walked()
     ensures { LoadedCellsAreWalked }
+{}
+
+/// Where the parts of a plan serve and take each combination once, the cells of a history and the printed tuples tell the answers to the next row.
+pub fn serving_plans_suffice()
+    ensures { ServingPlansSuffice }
+{}
+
+/// The plan of a query that violates no condition is such a plan.
+pub fn plain_plans_serve()
+    ensures { PlainPlansServe }
 {}

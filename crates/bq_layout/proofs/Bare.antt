@@ -8,7 +8,7 @@ use Rattle.bq_model.specs.declared.plan.PartPlan.{PartPlan}
 use Rattle.bq_model.specs.Query.{QueryValue}
 use Rattle.bq_model.specs.Parts.{pairs}
 use Rattle.bq_model.specs.Plan.{stream_at, dims_at}
-use Rattle.bq_model.specs.Sharing.{Box, box_at, size_in, same_signs, same_dims, same_kind, same_box}
+use Rattle.bq_model.specs.Sharing.{Box, box_at, size_in, same_signs, same_locals, locals_at, same_dims, same_kind, same_box}
 use Rattle.bq_layout.specs.Capped.{capped}
 use Rattle.bq_layout.specs.Boxed.{cells_over, size_for, boxed_part, cells_for, boxed}
 use Rattle.bq_layout.specs.Codes.{code_after, sign_numbers, dim_numbers, kind_numbers, code_of}
@@ -30,13 +30,13 @@ module _ (q : QueryValue) where
   left-alike : (next : ℕ) (part : PartPlan) (k : ℕ) (b : Box) → same_box q (box_at (boxed_part q next part) k) b ≡ same_box q (box_at part k) b
   left-alike next part k b = λ i.
       nat_eq k b.place
-      && (same_signs k (pairs q) part.signs.items b.part.signs.items
+      && ((same_signs k (pairs q) part.signs.items b.part.signs.items && same_locals (locals_at part k) (locals_at b.part b.place))
       && (same_dims (dims-same q next part k i) (dims_at b.part b.place) && same_kind (kind-same next part k i) (stream_at b.part b.place).kind))
 
   right-alike : (next : ℕ) (part : PartPlan) (k : ℕ) (b : Box) → same_box q b (box_at (boxed_part q next part) k) ≡ same_box q b (box_at part k)
   right-alike next part k b = λ i.
       nat_eq b.place k
-      && (same_signs b.place (pairs q) b.part.signs.items part.signs.items
+      && ((same_signs b.place (pairs q) b.part.signs.items part.signs.items && same_locals (locals_at b.part b.place) (locals_at part k))
       && (same_dims (dims_at b.part b.place) (dims-same q next part k i) && same_kind (stream_at b.part b.place).kind (kind-same next part k i)))
 
   code-alike : (next : ℕ) (part : PartPlan) (k : ℕ) → code_of q (box_at (boxed_part q next part) k) ≡ code_of q (box_at part k)

@@ -88,13 +88,16 @@ module _ (q : QueryValue) where
           by a b c = omega arith
 
   -- the plan of a part, of what is told of it
-  pub draft_of : (refs : Refs) (part : PartPlan) → AreRefs q part.signs.items refs → part.equal ≡ refs.equal → part.less ≡ refs.less → AreStreamDrafts q part.signs.items (length q.from) part.streams.items → IsDraft q part
-  draft_of refs part r f g h = record {
+  pub draft_of : (refs : Refs) (part : PartPlan) → AreRefs q part.signs.items refs → part.equal ≡ refs.equal → part.less ≡ refs.less → part.local ≡ [] → part.soft.items ≡ []
+      → AreStreamDrafts q part.signs.items (length q.from) part.streams.items → IsDraft q part
+  draft_of refs part r f g none alone h = record {
     plan = λ next. record {
       equal = λ x y. subst (λ z. (Contains z.items (link x y)) ↔ (IsTrue (attr_lt x y) × IsEquality q part.signs.items x y)) (sym f) (r.equal x y);
       equal_ascends = subst (λ z. AllPairs (λ x y. IsTrue (link_lt x y)) z.items) (sym f) r.equal_ascends;
       less = λ x y. subst (λ z. (Contains z.items (link x y)) ↔ IsInequality q part.signs.items x y) (sym g) (r.less x y);
       less_ascends = subst (λ z. AllPairs (λ x y. IsTrue (link_lt x y)) z.items) (sym g) r.less_ascends;
+      local = none;
+      soft = alone;
       count = as_many-streams q next part.streams.items ∙ h.size;
       streams = λ place l. stream_plan next place l;
     };

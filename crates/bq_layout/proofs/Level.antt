@@ -11,7 +11,7 @@ use Rattle.bq_model.specs.Query.{QueryValue}
 use Rattle.bq_model.specs.Parts.{AreParts, pairs}
 use Rattle.bq_model.specs.Plan.{stream_at, IsStreamPlan, IsPartPlan, IsPlan}
 use Rattle.bq_model.specs.Numbers.{places, answer_bound, work}
-use Rattle.bq_model.specs.Sharing.{Box, box_at, size_in, boxes_in, same_signs, same_dims, same_kind, same_box, different_boxes, boxes, sizes_in, start_in, shared_cells, IsSharedPlan}
+use Rattle.bq_model.specs.Sharing.{Box, box_at, size_in, boxes_in, same_signs, same_locals, locals_at, same_dims, same_kind, same_box, different_boxes, boxes, sizes_in, start_in, shared_cells, IsSharedPlan}
 use Rattle.bq_model.proofs.Has.{Has, first, later, Has-from_contains}
 use Rattle.bq_layout.specs.Boxed.{size_for, boxed_streams, boxed_part, cells_for, boxed}
 use Rattle.bq_layout.specs.Drafts.{signs_of}
@@ -44,7 +44,7 @@ size-level b = ap (λ (s : StreamPlan). s.size) (stream-level b)
 same-level : (q : QueryValue) (b c : Box) → same_box q (level_box b) (level_box c) ≡ same_box q b c
 same-level q b c = λ i.
     nat_eq b.place c.place
-    && (same_signs b.place (pairs q) b.part.signs.items c.part.signs.items
+    && ((same_signs b.place (pairs q) b.part.signs.items c.part.signs.items && same_locals (locals_at b.part b.place) (locals_at c.part c.place))
     && (same_dims (stream-level b i).dims.items (stream-level c i).dims.items && same_kind (stream-level b i).kind (stream-level c i).kind))
 
 filter-level : (q : QueryValue) (b : Box) (xs : List Box) → filter (λ c. not (same_box q (level_box b) c)) (map level_box xs) ≡ map level_box (filter (λ c. not (same_box q b c)) xs)
@@ -125,6 +125,8 @@ module _ (q : QueryValue) (list : List Box) where
     equal_ascends = h.equal_ascends;
     less = h.less;
     less_ascends = h.less_ascends;
+    local = h.local;
+    soft = h.soft;
     count = length-started part 0 part.streams.items ∙ h.count;
     streams =
         λ k l.

@@ -20,3 +20,4 @@ pub mod Level
 pub mod Adding
 pub mod Planning
 pub mod UnsetPlans
+pub mod AskedAlike

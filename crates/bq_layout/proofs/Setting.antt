@@ -10,6 +10,7 @@ use Rattle.bq_model.specs.declared.plan.PartPlan.{PartPlan}
 use Rattle.bq_model.specs.Query.{QueryValue, attr_eq}
 use Rattle.bq_model.specs.Boxes.{box_size}
 use Rattle.bq_model.specs.Plan.{FollowIn, Follow, dims_at}
+use Rattle.bq_model.specs.Combinations.{is_tied}
 use Rattle.bq_model.specs.Ranges.{range_of, first_tied, selected_ranges, different}
 use Rattle.bq_model.specs.Numbers.{cell_count, answer_bound, equals_some, is_earlier_dim, is_fixed, free_dims, places, share_of, greatest_of, share, work}
 use Rattle.bq_layout.specs.Boxed.{size_for, boxed_streams, boxed_part, cells_for, boxed}
@@ -103,7 +104,7 @@ module _ (q : QueryValue) where
     share-same = λ i. greatest_of (map (λ a. share_of-same a i) (places-same i))
 
     pub range-same : (a : Attr) → range_of q (boxed_part q next part) a ≡ range_of q part a
-    range-same a = ap (λ (ds : List Dim). first_tied q part.signs.items ds a) (dims-same a.stream)
+    range-same a = ap (λ (ds : List Dim). first_tied (is_tied q part) ds a) (dims-same a.stream)
 
     ranges-same : selected_ranges q (boxed_part q next part) ≡ selected_ranges q part
     ranges-same = λ i. map (λ a. range-same a i) (different q.select)

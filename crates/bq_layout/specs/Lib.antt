@@ -1,6 +1,7 @@
 pub mod Capped
 pub mod ColumnPlaces
 pub mod Classes
+pub mod Alike
 pub mod Boxed
 pub mod Drafts
 pub mod Sums

@@ -12,7 +12,7 @@ use Rattle.bq_layout.specs.Codes.{code_of}
 
 -- no part
 abbrev pub no_part : PartPlan
-no_part = record { signs = record { items = [] }; streams = record { items = [] }; equal = record { items = [] }; less = record { items = [] } }
+no_part = record { signs = record { items = [] }; local = []; streams = record { items = [] }; equal = record { items = [] }; less = record { items = [] }; soft = record { items = [] } }
 
 -- the box of the stream at a place of FROM in the part of a number
 abbrev pub box_in : List PartPlan → ℕ → ℕ → Box

@@ -55,7 +55,7 @@ fn drafted(alloc: Global, q: &Query, parts: &[Part]) -> Result<PlanDraft, Layout
         if let Some(found) = violation_of(q, part, &refs) {
             return Err(violation_at(i, found));
         }
-        let Ok(()) = add_part(q, part, refs, columns.as_slice(), &mut draft) else {
+        let Ok(()) = add_part(alloc, q, part, refs, columns.as_slice(), &mut draft) else {
             return Err(LayoutError::Memory);
         };
     }

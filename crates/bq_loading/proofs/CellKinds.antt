@@ -11,15 +11,18 @@ use Rattle.bq_model.specs.declared.plan.Numbers.{Numbers}
 use Rattle.bq_model.specs.declared.plan.Plan.{Plan}
 use Rattle.bq_model.specs.declared.plan.Plan.TheVariants as variants
 use Rattle.bq_model.specs.Query.{QueryValue}
-use Rattle.bq_model.specs.Plan.{stream_at, IsPartPlan}
-use Rattle.bq_model.specs.Sharing.{Box, box_at, size_in, sizes_in, kept_boxes, IsPlanOf}
+use Rattle.bq_model.specs.Plan.{stream_at}
+use Rattle.bq_model.specs.Sharing.{Box, box_at, size_in, sizes_in, kept_boxes}
+use Rattle.bq_model.specs.Serving.{KeepsStreams, IsServingPlan}
 use Rattle.bq_model.specs.Numbers.{parts_of}
 use Rattle.bq_model.proofs.Has.{Has, first, later, Has-append_right, Has-from_contains, Contains-from_has, Has-flat_map, Has-flat_map_from}
 use Rattle.bq_laws.specs.Sharing.{Begins, IsCovered, AreBoxesOf}
 use Rattle.bq_laws.proofs.Tests.{and-left, and-right, not_both}
 use Rattle.bq_laws.proofs.OnePartFits.{has_cases}
 use Rattle.bq_laws.proofs.SameBoxes.{are-same, same-size, sizes-cons}
-use Rattle.bq_loading.proofs.PlanBoxes.{parts_plans, parts_boxes, no_boxes}
+use Rattle.bq_laws.proofs.PlanBoxes.{plans-have-boxes}
+use Rattle.bq_laws.proofs.Walking.{serving-keep}
+use Rattle.bq_loading.proofs.PlanBoxes.{no_boxes}
 use Rattle.bq_loading.specs.Loadable.{kind_at, kind_in, has_cell}
 
 -- a stream whose box has the cell of a number, and the kind of its cells
@@ -98,16 +101,16 @@ stands-in [] place d l = absurd (omega (arith, l))
 stands-in (s ∷ streams) zero d l = first
 stands-in (s ∷ streams) (suc place) d l = later (stands-in streams place d (omega (arith, l)))
 
-module _ (q : QueryValue) (plan : List PartPlan) (plans : All (IsPartPlan q) plan) (list : List Box) (of : AreBoxesOf q plan list) where
+module _ (q : QueryValue) (plan : List PartPlan) (plans : All (KeepsStreams q) plan) (list : List Box) (of : AreBoxesOf q plan list) where
   -- each cell of the box of a part is of its kind
   pub kind-of-box : (part : PartPlan) → Contains plan part → (place n i : ℕ) → place < length part.streams.items → n ≡ (stream_at part place).base + i
       → i < (stream_at part place).size → kind_at list n ≡ Some (stream_at part place).kind
   kind-of-box part c place n i l e k =
       let b : Begins q list (box_at part place) (stream_at part place).base = of.each part c place l in
-      let own : IsPartPlan q part = All-contains (IsPartPlan q) plan part plans c in
+      let own : KeepsStreams q part = All-contains (KeepsStreams q) plan part plans c in
       let has : Has list b.same = subst (λ (bs : List Box). Has bs b.same) (sym b.whole) (Has-append_right b.before first) in
       let among = of.alone b.same (Contains-from_has list b.same has) in
-      let other : IsPartPlan q b.same.part = All-contains (IsPartPlan q) plan b.same.part plans among.0 in
+      let other : KeepsStreams q b.same.part = All-contains (KeepsStreams q) plan b.same.part plans among.0 in
       let size : size_in b.same ≡ (stream_at part place).size
       = same-size q b.same (box_at part place) b.is other own
       (let m = other.count in let t = among.1 in omega (arith, m, t)) (let m = own.count in omega (arith, m, l)) in
@@ -182,9 +185,9 @@ unfolding kind_at
 kind-none-told shared q p i is =
     ap (λ (bs : List Box). kind_at bs i) (sym (no_boxes shared q)) ∙ ap (λ (o : Plan). kind_at (kept_boxes shared q (parts_of o)) i) (sym is)
 
-pub kind-plan-told : (shared : Bool) (q : QueryValue) (p : Plan) (parts : List PartPlan) (numbers : Numbers) (i : ℕ) → p ≡ variants.Parts parts numbers → IsPlanOf shared q p
+pub kind-plan-told : (shared : Bool) (q : QueryValue) (p : Plan) (parts : List PartPlan) (numbers : Numbers) (i : ℕ) → p ≡ variants.Parts parts numbers → IsServingPlan shared q p
     → kind_in (flat_map (λ (part : PartPlan). part.streams.items) parts) i ≡ kind_at (kept_boxes shared q (parts_of p)) i
 kind-plan-told shared q p parts numbers i is own =
-    let of = subst (IsPlanOf shared q) is own in
-    kind-told q parts (parts_plans shared q parts of.1).plans (kept_boxes shared q parts) (parts_boxes shared q parts of.1) i
+    let of = subst (IsServingPlan shared q) is own in
+    kind-told q parts (serving-keep q parts of.1.serves) (kept_boxes shared q parts) (plans-have-boxes shared q parts of.2) i
     ∙ ap (λ (o : Plan). kind_at (kept_boxes shared q (parts_of o)) i) (sym is)

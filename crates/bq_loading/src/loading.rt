@@ -7,7 +7,8 @@ ghost use Rattle.bq_model.specs.Parts.{pairs};
 ghost use Rattle.bq_model.specs.Tuples.{is_same};
 ghost use Rattle.bq_model.specs.Ranges.{range_of, at_column, all_tuples};
 ghost use Rattle.bq_model.specs.Numbers.{parts_of};
-ghost use Rattle.bq_model.specs.Sharing.{kept_boxes, sizes_in, IsPlanOf};
+ghost use Rattle.bq_model.specs.Serving.{IsServingPlan};
+ghost use Rattle.bq_model.specs.Sharing.{kept_boxes, sizes_in};
 ghost use Rattle.bq_pool.specs.Extents.{cells_of, with_cells, IsLive};
 ghost use Rattle.bq_answers.specs.Entries.{with_entries, added, settled, tuples_of, Fits};
 ghost use Rattle.bq_synopsis.specs.Preparing.{IsPrepared};
@@ -60,7 +61,7 @@ fn kind_among(parts: &PartPlans, i: u32) -> Option<Kind>
 
 // The kind of the cell of a number, where the query keeps that cell. The boxes that have a cell are the same, so the first of them tells it.
 fn kind_of(q: &Query, shared: bool, plan: &Plan, i: u32) -> Option<Kind>
-    requires { IsPlanOf shared q.now plan.now }
+    requires { IsServingPlan shared q.now plan.now }
     ensures { result ≡ kind_at (kept_boxes shared q.now (parts_of plan.now)) i }
 {
     // Named for the proof alone: the contract speaks of them.
@@ -106,7 +107,7 @@ pub fn cell_to_load(
     i: u32,
     v: i64,
 ) -> Option<Cell>
-    requires { IsPlanOf shared q.now plan.now }
+    requires { IsServingPlan shared q.now plan.now }
     ensures { result ≡ option_and_then (λ kind. filled_cell given kind v) (kind_at (kept_boxes shared q.now (parts_of plan.now)) i) }
 {
     match kind_of(q, shared, plan, i) {

@@ -44,7 +44,7 @@ pub shows : (shared : Bool) (q : QueryValue) (own : Judgement) → IsJudgement s
 shows shared q judgement.Filter h = tt
 shows shared q (judgement.Accepted numbers) h = tt
 shows shared q (judgement.Above which value) h = tt
-shows shared q (judgement.Violation part condition attr) h = (h.1, h.2)
+shows shared q (judgement.Violation part condition attr) h = (h.2, h.3)
 shows shared q judgement.ManyParts h = tt
 
 -- two facts of a list on success make a third

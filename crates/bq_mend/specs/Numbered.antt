@@ -8,8 +8,9 @@ use Rattle.bq_model.specs.declared.plan.Numbers.{Numbers}
 use Rattle.bq_model.specs.Query.{QueryValue, is_filter, IsWithinLimits}
 use Rattle.bq_model.specs.Parts.{HasMoreParts}
 use Rattle.bq_model.specs.Violation.{IsViolation}
-use Rattle.bq_model.specs.Sharing.{IsPlanFor, numbers_for}
+use Rattle.bq_model.specs.Sharing.{numbers_for}
 use Rattle.bq_model.specs.Verdict.{most, first_above}
+use Rattle.bq_forms.specs.Forms.{HasWholeForm, MeetsForm, IsFormPlan}
 use Rattle.bq_layout.specs.Layout.{IsOver}
 use Rattle.bq_mend.specs.declared.judging.Judgement.{Judgement}
 use Rattle.bq_mend.specs.declared.judging.Judgement.TheVariants as judgement
@@ -21,18 +22,19 @@ use Rattle.bq_mend.specs.Meeting.{Meets}
 -- these are the numbers of a plan of the query, and none is above its limit
 pub record HasNumbers (shared : Bool) (q : QueryValue) (numbers : Numbers) : Type 0 where
   pub parts : List PartPlan
-  pub plan : IsPlanFor shared q parts
+  pub plan : IsFormPlan shared q parts
   pub are : numbers ≡ numbers_for shared q parts
   pub within : first_above numbers ≡ None
 
--- a filter; its numbers, where it meets all conditions and none is above its limit; the first that is; the first violation; or that there are too many parts
+-- a filter; its numbers, where it meets all conditions and none is above its limit; and where its whole form does not fit, the first that is; the first violation; or that there are too
+-- many parts
 abbrev pub IsJudgement : Bool → QueryValue → Judgement → Type 0
 IsJudgement shared q judgement.Filter = IsTrue (is_filter q)
-IsJudgement shared q (judgement.Accepted numbers) = IsFalse (is_filter q) × Meets q × HasNumbers shared q numbers
-IsJudgement shared q (judgement.Above which value) = Meets q × IsOver shared q which value
+IsJudgement shared q (judgement.Accepted numbers) = IsFalse (is_filter q) × MeetsForm q × HasNumbers shared q numbers
+IsJudgement shared q (judgement.Above which value) = (¬ HasWholeForm q) × Meets q × IsOver shared q which value
 IsJudgement shared q (judgement.Violation part condition attr) =
-    IsFalse (is_filter q) × (¬ HasMoreParts q (most Parts)) × IsViolation q (Some record { part = part; condition = condition; attr = attr })
-IsJudgement shared q judgement.ManyParts = IsFalse (is_filter q) × HasMoreParts q (most Parts)
+    (¬ HasWholeForm q) × IsFalse (is_filter q) × (¬ HasMoreParts q (most Parts)) × IsViolation q (Some record { part = part; condition = condition; attr = attr })
+IsJudgement shared q judgement.ManyParts = (¬ HasWholeForm q) × IsFalse (is_filter q) × HasMoreParts q (most Parts)
 
 -- whether boxes that are the same have their cells once, with a change
 abbrev pub shares : Mend → Bool → Bool

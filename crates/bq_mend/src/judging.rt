@@ -1,7 +1,8 @@
 //! What a query comes to.
-ghost use Rattle.std.specs.Prelude.{◌≡◌, ◌≤◌, IsFalse, length, IfOk};
+ghost use Rattle.std.specs.Prelude.{◌≡◌, ◌≤◌, IsFalse, Some, length, IfOk};
 ghost use Rattle.bq_model.specs.Query.{is_filter};
 ghost use Rattle.bq_model.specs.Parts.{AreParts, sign_lists};
+ghost use Rattle.bq_forms.specs.Forms.{HasWholeForm, IsWholeFormOr};
 ghost use Rattle.bq_mend.specs.Sets.{IsMendOf};
 ghost use Rattle.bq_mend.specs.Numbered.{IsJudgement, IsJudgementWith, AreNumbersWith, accepted, shares};
 
@@ -10,6 +11,7 @@ use crate::writing::written;
 use bq_layout::{LayoutError, lay_out};
 use bq_lto_split::{SplitError, split};
 use bq_model::{Attr, Condition, Numbers, Part, Plan, Query, Which};
+use bq_whole_part::whole_form;
 use std::alloc::{AllocError, Global};
 
 /// What a query comes to, whatever pages are free.
@@ -17,7 +19,7 @@ use std::alloc::{AllocError, Global};
 pub enum Judgement {
     /// It answers each row by that row alone.
     Filter,
-    /// It meets all conditions, and its numbers are within their limits.
+    /// It meets all conditions, or is compact and has a whole form that fits, and its numbers are within their limits.
     Accepted(Numbers),
     /// It meets all conditions. The first of cells, answers and work that is above its limit, and that number, or 2^64 - 1 where it is above that.
     Above {
@@ -34,7 +36,7 @@ pub enum Judgement {
     ManyParts,
 }
 
-// What a query that is no filter comes to, by its parts.
+// What a query that is no filter, and whose whole form does not fit, comes to, by its parts.
 fn judge_parts(
     alloc: Global,
     query: &Query,
@@ -44,6 +46,7 @@ fn judge_parts(
     requires plain { IsFalse (is_filter query.now) }
     requires parts { AreParts query.now (sign_lists parts.now) }
     requires few { length parts.now ≤ 4096 }
+    requires split { ¬ HasWholeForm query.now }
     ensures { IfOk result (IsJudgement shared query.now) }
 {
     match lay_out(alloc, query, parts, shared) {
@@ -65,18 +68,44 @@ fn judge_parts(
     }
 }
 
+// The same, where the parts have still to be found.
+fn judge_split(alloc: Global, query: &Query, shared: bool) -> Result<Judgement, AllocError>
+    requires plain { IsFalse (is_filter query.now) }
+    requires split { ¬ HasWholeForm query.now }
+    ensures { IfOk result (IsJudgement shared query.now) }
+{
+    match split(alloc, query) {
+        Ok(parts) => judge_parts(alloc, query, shared, &parts),
+        Err(SplitError::TooManyParts) => Ok(Judgement::ManyParts),
+        Err(SplitError::Memory) => Err(AllocError),
+    }
+}
+
+// What a query comes to of which this plan is the whole form that fits.
+fn judge_whole(query: &Query, shared: bool, plan: &Plan) -> Judgement
+    requires plain { IsFalse (is_filter query.now) }
+    requires whole { IsWholeFormOr query.now (Some plan.now) }
+    ensures { IsJudgement shared query.now result }
+{
+    // Named for the proof alone: the contract speaks of them.
+    let (_query, _shared) = (query, shared);
+    match plan {
+        Plan::Filter => Judgement::Filter,
+        Plan::Parts { parts: _, numbers } => Judgement::Accepted(*numbers),
+    }
+}
+
 /// Returns what the query comes to, with shared cells or without, as CREATE QUERY judges it but for the pages that are free. `AllocError` where the list of
-/// parts, or the plan, finds no memory.
+/// parts, or a plan, finds no memory.
 pub fn judge(alloc: Global, query: &Query, shared: bool) -> Result<Judgement, AllocError>
     ensures { IfOk result (IsJudgement shared query.now) }
 {
     if query.is_filter() {
         return Ok(Judgement::Filter);
     }
-    match split(alloc, query) {
-        Ok(parts) => judge_parts(alloc, query, shared, &parts),
-        Err(SplitError::TooManyParts) => Ok(Judgement::ManyParts),
-        Err(SplitError::Memory) => Err(AllocError),
+    match whole_form(alloc, query)? {
+        Some(plan) => Ok(judge_whole(query, shared, &plan)),
+        None => judge_split(alloc, query, shared),
     }
 }
 

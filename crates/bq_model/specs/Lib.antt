@@ -16,6 +16,7 @@ pub mod Plan
 pub mod Admission
 pub mod Cells
 pub mod Combinations
+pub mod Serving
 pub mod Ranges
 pub mod Numbers
 pub mod Probing

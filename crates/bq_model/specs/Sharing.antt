@@ -5,15 +5,17 @@ use Rattle.std.specs.Ordering.{int_eq}
 use Rattle.bq_model.specs.declared.cell.Cell.{Cell}
 use Rattle.bq_model.specs.declared.part.Sign.{Sign}
 use Rattle.bq_model.specs.declared.part.Pair.{Pair}
+use Rattle.bq_model.specs.declared.atom.Op.{Op}
 use Rattle.bq_model.specs.declared.plan.Dim.{Dim}
 use Rattle.bq_model.specs.declared.plan.Kind.{Kind}
+use Rattle.bq_model.specs.declared.plan.LocalCondition.{LocalCondition}
 use Rattle.bq_model.specs.declared.plan.Numbers.{Numbers}
 use Rattle.bq_model.specs.declared.plan.PartPlan.{PartPlan}
 use Rattle.bq_model.specs.declared.plan.Plan.{Plan}
 use Rattle.bq_model.specs.declared.plan.Plan.TheVariants as plan
 use Rattle.bq_model.specs.Query.{QueryValue, attr_eq, is_filter}
 use Rattle.bq_model.specs.Meaning.{Arrival}
-use Rattle.bq_model.specs.Parts.{AreParts, pairs, is_within}
+use Rattle.bq_model.specs.Parts.{AreParts, pairs, is_within, element_eq}
 use Rattle.bq_model.specs.Plan.{stream_at, dims_at, IsPartPlan, IsPlan}
 use Rattle.bq_model.specs.Admission.{sign_eq}
 use Rattle.bq_model.specs.Cells.{upto, cell_of}
@@ -44,6 +46,28 @@ same_signs place (p ∷ ps) [] (t ∷ ts) = false
 same_signs place (p ∷ ps) (s ∷ ss) [] = false
 same_signs place (p ∷ ps) (s ∷ ss) (t ∷ ts) = (not (is_within place p.left p.right) || sign_eq s t) && same_signs place ps ss ts
 
+abbrev pub same_op : Op → Op → Bool
+same_op Op.Lt Op.Lt = true
+same_op Op.Eq Op.Eq = true
+same_op Op.Gt Op.Gt = true
+same_op Op.Le Op.Le = true
+same_op Op.Ge Op.Ge = true
+same_op Op.Ne Op.Ne = true
+same_op o p = false
+
+abbrev pub same_local : LocalCondition → LocalCondition → Bool
+same_local t u = (attr_eq t.left u.left && element_eq t.right u.right) && (same_op t.op u.op && int_eq t.by u.by)
+
+abbrev pub same_locals : List LocalCondition → List LocalCondition → Bool
+same_locals [] [] = true
+same_locals [] (u ∷ us) = false
+same_locals (t ∷ ts) [] = false
+same_locals (t ∷ ts) (u ∷ us) = same_local t u && same_locals ts us
+
+-- what else the stream at a place is asked
+abbrev pub locals_at : PartPlan → ℕ → List LocalCondition
+locals_at part place = filter (λ t. is_within place t.left t.right) part.local
+
 abbrev pub same_dim : Dim → Dim → Bool
 same_dim d e = attr_eq d.attr e.attr && (int_eq d.lo e.lo && int_eq d.hi e.hi)
 
@@ -60,11 +84,11 @@ same_kind (Kind.Least a) (Kind.Least b) = attr_eq a b
 same_kind (Kind.Greatest a) (Kind.Greatest b) = attr_eq a b
 same_kind k l = false
 
--- two boxes are the same: of one stream, with the same signs of its pairs, the same dims in the same ranges, and the same kind of cells
+-- two boxes are the same: of one stream that is asked the same, with the same dims in the same ranges, and the same kind of cells
 abbrev pub same_box : QueryValue → Box → Box → Bool
 same_box q b c =
     nat_eq b.place c.place
-    && (same_signs b.place (pairs q) b.part.signs.items c.part.signs.items
+    && ((same_signs b.place (pairs q) b.part.signs.items c.part.signs.items && same_locals (locals_at b.part b.place) (locals_at c.part c.place))
     && (same_dims (dims_at b.part b.place) (dims_at c.part c.place)
     && same_kind (stream_at b.part b.place).kind (stream_at c.part c.place).kind))
 

@@ -6,14 +6,14 @@ use Rattle.std.proofs.lemmas.List.{get_or_past}
 use Rattle.std.proofs.lemmas.Iterator.Adapters.{position_from-zero}
 use Rattle.bq_model.specs.declared.atom.Attr.{Attr}
 use Rattle.bq_model.specs.declared.part.Pair.{Pair}
-use Rattle.bq_model.specs.declared.part.Sign.{Sign}
 use Rattle.bq_model.specs.declared.plan.Dim.{Dim}
+use Rattle.bq_model.specs.declared.plan.PartPlan.{PartPlan}
 use Rattle.bq_synopsis.specs.Classes.{are_tied}
 use Rattle.bq_narrow.specs.Values.{valued, value_or}
 
-module _ (ps : List Pair) (ss : List Sign) (z : ℤ) (a : Attr) where
+module _ (ps : List Pair) (part : PartPlan) (z : ℤ) (a : Attr) where
   abbrev is_own : Dim → Bool
-  is_own d = are_tied ps ss d.attr a
+  is_own d = are_tied ps part d.attr a
 
   -- past the end no value is found
   none-past : (dims : List Dim) (xs : List ℤ) (i : ℕ) → length xs ≤ i → value_or xs z (position_from is_own i dims) ≡ z
@@ -36,15 +36,15 @@ module _ (ps : List Pair) (ss : List Sign) (z : ℤ) (a : Attr) where
       by true e = next
       by false e = e
 
-  from-start : (dims : List Dim) (xs : List ℤ) → valued ps ss dims xs z a ≡ value_or xs z (position_from is_own 0 dims)
+  from-start : (dims : List Dim) (xs : List ℤ) → valued ps part dims xs z a ≡ value_or xs z (position_from is_own 0 dims)
   from-start [] xs = refl
   from-start (d ∷ dims) [] = sym (none-past (d ∷ dims) [] 0 (omega arith))
   from-start (d ∷ dims) (x ∷ xs) = by (is_own d) (from-start dims xs ∙ sym (shifted dims x xs 0))
     where
-      by : (t : Bool) → valued ps ss dims xs z a ≡ value_or (x ∷ xs) z (position_from is_own 1 dims)
-          → (if t then x else valued ps ss dims xs z a) ≡ value_or (x ∷ xs) z (cond t (Some 0) (position_from is_own 1 dims))
+      by : (t : Bool) → valued ps part dims xs z a ≡ value_or (x ∷ xs) z (position_from is_own 1 dims)
+          → (if t then x else valued ps part dims xs z a) ≡ value_or (x ∷ xs) z (cond t (Some 0) (position_from is_own 1 dims))
       by true e = refl
       by false e = e
 
-  pub valued_at : (dims : List Dim) (xs : List ℤ) → valued ps ss dims xs z a ≡ value_or xs z (position (λ d. are_tied ps ss d.attr a) dims)
+  pub valued_at : (dims : List Dim) (xs : List ℤ) → valued ps part dims xs z a ≡ value_or xs z (position (λ d. are_tied ps part d.attr a) dims)
   valued_at dims xs = from-start dims xs ∙ ap (value_or xs z) (sym (position_from-zero is_own dims))

@@ -3,7 +3,6 @@ use Rattle.std.specs.Prelude.{ℕ, ◌==◌, List, [], ◌∷◌, ℤ, pos, if�
 use Rattle.bq_model.specs.declared.atom.Attr.{Attr}
 use Rattle.bq_model.specs.declared.cell.Cell.{Cell}
 use Rattle.bq_model.specs.declared.cell.Cell.TheVariants.{Empty, Count, Present, Extreme}
-use Rattle.bq_model.specs.declared.part.Sign.{Sign}
 use Rattle.bq_model.specs.declared.part.Pair.{Pair}
 use Rattle.bq_model.specs.declared.plan.Dim.{Dim}
 use Rattle.bq_model.specs.declared.plan.PartPlan.{PartPlan}
@@ -13,10 +12,10 @@ use Rattle.bq_narrow.specs.declared.binding.Binding.{Binding}
 use Rattle.bq_synopsis.specs.Classes.{are_tied}
 
 -- the value of a column where the dims have these values: that of its class, or the extreme z where no dim is of its class
-abbrev pub valued : List Pair → List Sign → List Dim → List ℤ → ℤ → Attr → ℤ
-valued ps ss [] xs z a = z
-valued ps ss (d ∷ dims) [] z a = z
-valued ps ss (d ∷ dims) (x ∷ xs) z a = if are_tied ps ss d.attr a then x else valued ps ss dims xs z a
+abbrev pub valued : List Pair → PartPlan → List Dim → List ℤ → ℤ → Attr → ℤ
+valued ps part [] xs z a = z
+valued ps part (d ∷ dims) [] z a = z
+valued ps part (d ∷ dims) (x ∷ xs) z a = if are_tied ps part d.attr a then x else valued ps part dims xs z a
 
 -- the value at a place, where there is one, or else another
 abbrev pub value_or : List ℤ → ℤ → Option ℕ → ℤ
@@ -40,7 +39,7 @@ rows_in (Extreme z) = 1
 -- the value of a column in the cell that was chosen for its stream, 0 where none was
 abbrev pub chosen_value : List Pair → PartPlan → Attr → Option Binding → ℤ
 chosen_value ps part a None = pos 0
-chosen_value ps part a (Some c) = valued ps part.signs.items (dims_at part a.stream) c.values.items (extreme_of c.cell) a
+chosen_value ps part a (Some c) = valued ps part (dims_at part a.stream) c.values.items (extreme_of c.cell) a
 
 -- the value of a column for a walk that has chosen at some places: the arriving row's own, or that of the chosen cell
 unfoldable pub value_in : List Pair → PartPlan → ℕ → List ℤ → List Binding → Attr → ℤ

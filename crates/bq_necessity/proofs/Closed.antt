@@ -121,6 +121,8 @@ part_of sign base = record {
   streams = record { items = one_cell [] Kind.Count base ∷ record { dims = record { items = one_or_two ∷ [] }; kind = Kind.Count; base = suc base; size = 2 } ∷ [] };
   equal = record { items = [] };
   less = record { items = [] };
+  local = [];
+  soft = record { items = [] };
 }
 
 plan : List PartPlan
@@ -130,6 +132,8 @@ plan =
       streams = record { items = one_cell (dim s_a (pos 2) ∷ []) Kind.Count 0 ∷ one_cell (dim t_c (pos 1) ∷ []) Kind.Count 1 ∷ [] };
       equal = record { items = [] };
       less = record { items = link t_c s_a ∷ [] };
+      local = [];
+      soft = record { items = [] };
     }
     ∷ part_of Sign.Eq 2
     ∷ part_of Sign.Gt 5

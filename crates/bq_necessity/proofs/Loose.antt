@@ -168,6 +168,8 @@ plan = record {
   streams = record { items = one_cell (dim s_b (pos 5) ∷ []) (Kind.Greatest s_a) 0 ∷ one_cell [] (Kind.Least t_c) 1 ∷ [] };
   equal = record { items = [] };
   less = record { items = link t_c s_a ∷ [] };
+  local = [];
+  soft = record { items = [] };
 } ∷ []
 
 inside : List (List Assignment)

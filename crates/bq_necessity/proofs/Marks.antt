@@ -17,6 +17,7 @@ use Rattle.bq_laws.proofs.Counts.{times}
 use Rattle.bq_laws.proofs.Order.{Rises, rises_nil, same-itself, same-is, ascending-rises, times-ascending, times-once, any-times, times-any, same-counts}
 use Rattle.bq_laws.proofs.NewAnswers.{none-times}
 use Rattle.bq_laws.proofs.Merge.{times-printed-is}
+use Rattle.bq_laws.proofs.PlainServes.{plain_plans_serve}
 use Rattle.bq_laws.proofs.Sufficiency.{part-plans}
 use Rattle.bq_laws.proofs.TableRoom.{table-has-room}
 use Rattle.bq_necessity.specs.Plain.{HasNoDomains}
@@ -106,7 +107,7 @@ printed-is q plan within none (parts n is) violation h = by q.distinct refl
       rises = subst Rises (sym (ap (λ b. cond b (sorted (distinct_tuples (answers q h))) []) d)) (ascending-rises (distinct_tuples (answers q h)));
       single = λ z. at_most_one _ _ (times-printed-is q h z d);
       among = λ z k. has-times z (all_tuples q plan) (Has-from_contains (all_tuples q plan) z
-          ((table-has-room q plan within n (part-plans q plan is) violation).0 h (rows-none q none h) z (Contains-from_has (answers q h) z
+          ((table-has-room q plan within (plain_plans_serve q plan within n (part-plans q plan is) violation)).0 h (rows-none q none h) z (Contains-from_has (answers q h) z
           (any-has z (answers q h) (times-any z (answers q h) (omega (arith, k, times-printed-is q h z d)))))));
     }
     by false d = no-table (all_tuples q plan) (printed q h) (ap (λ b. cond b (sorted (distinct_tuples (answers q h))) []) d)

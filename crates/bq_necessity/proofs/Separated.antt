@@ -1,10 +1,10 @@
 -- Histories that are all answered differently later lead to different states.
-use Rattle.std.proofs.Common.{◌≡◌, ℕ, suc, ◌*◌, ◌<◌, ◌≤◌, ◌^◌, List, [], ◌∷◌, ◌++◌, length, Bool, refl, sym, ap, ◌∙◌, arith}
+use Rattle.std.proofs.Common.{◌≡◌, ℕ, suc, ◌*◌, ◌≤◌, ◌^◌, List, [], ◌∷◌, ◌++◌, length, Bool, refl, sym, ap, ◌∙◌, arith}
 use Rattle.bq_model.specs.Query.{QueryValue}
 use Rattle.bq_model.specs.Meaning.{Arrival}
 use Rattle.bq_necessity.specs.States.{Evaluator, after, IsRight, HasStates, AreWithin, HasFewFor, HasFewStates, NeedsStates, AnsweredAlike}
-use Rattle.bq_model.proofs.Has.{Has-from_contains, Contains-from_has}
-use Rattle.bq_necessity.proofs.Pigeons.{states-needed, below, length-below, has-below}
+use Rattle.bq_model.proofs.Has.{Has-from_contains}
+use Rattle.bq_necessity.proofs.Pigeons.{states-needed}
 
 after-append : (e : Evaluator) (s : ℕ) (g h : List Arrival) → after e s (g ++ h) ≡ after e (after e s g) h
 after-append e s [] h = refl

@@ -53,6 +53,8 @@ module _ (q : QueryValue) (none : HasNoDomains q) where
     streams = record { items = streams_from next b.streams };
     equal = record { items = b.equal };
     less = record { items = b.less };
+    local = [];
+    soft = record { items = [] };
   }
 
   plan_from : ℕ → List Bare → List PartPlan
@@ -146,6 +148,8 @@ module _ (q : QueryValue) (none : HasNoDomains q) where
     equal_ascends = is.equal.ascend;
     less = is.less.each;
     less_ascends = is.less.ascend;
+    local = refl;
+    soft = refl;
     count = length-streams next b.streams ∙ is.size;
     streams = λ place l. stands b.signs 0 next b.streams is.streams place place (omega arith) (omega (arith, l, is.size));
   }

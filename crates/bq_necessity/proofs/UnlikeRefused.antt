@@ -47,7 +47,7 @@ abbrev signs : Sign → Sign → Sign → Sign → Sign → Sign → List Sign
 signs ac bc a ab b c = ac ∷ bc ∷ a ∷ ab ∷ a ∷ b ∷ b ∷ Sign.Eq ∷ c ∷ []
 
 abbrev part : List Sign → List Link → List Link → PartPlan
-part s equal below = record { signs = record { items = s }; streams = record { items = [] }; equal = record { items = equal }; less = record { items = below } }
+part s equal below = record { signs = record { items = s }; streams = record { items = [] }; equal = record { items = equal }; less = record { items = below }; local = []; soft = record { items = [] } }
 
 -- S.a, S.b and T.c, where S.e is 1
 abbrev at : ℤ → ℤ → ℤ → Assignment

@@ -1,5 +1,5 @@
 -- Worked queries that are refused.
-use Rattle.std.proofs.Common.{◌≡◌, List, [], ◌∷◌, Bool, true, false, inl, inr, refl, sym, ap, ◌∙◌, arith, cond, nat_eq, ℤ, pos, ◌<ℤ◌, ◌+ℤ◌, Contains, Some}
+use Rattle.std.proofs.Common.{◌≡◌, List, [], ◌∷◌, Bool, true, false, inl, inr, refl, sym, ap, ◌∙◌, arith, cond, nat_eq, ℤ, pos, ◌<ℤ◌, ◌+ℤ◌, Some}
 use Rattle.std.proofs.lemmas.Int.{ints}
 use Rattle.bq_model.proofs.Has.{first, later}
 use Rattle.bq_model.proofs.Holding.{Compares-from_test, Holds-each}
@@ -324,6 +324,8 @@ under_plan = record {
   streams = record { items = one_cell (dim s_b (pos 5) ∷ []) (Kind.Least s_a) 0 ∷ one_cell [] (Kind.Greatest t_c) 1 ∷ [] };
   equal = record { items = [] };
   less = record { items = link s_a t_c ∷ [] };
+  local = [];
+  soft = record { items = [] };
 } ∷ []
 
 under_within : List (List Assignment)

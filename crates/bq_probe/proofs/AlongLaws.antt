@@ -1,14 +1,13 @@
 -- Cells equally far apart that the links leave at a place, dim by dim.
-use Rattle.std.proofs.Common.{◌≡◌, ℕ, zero, suc, ◌+◌, ◌*◌, ◌<◌, ◌≤◌, ◌⊎◌, inl, inr, List, [], ◌∷◌, length, drop, get_or, map, refl, sym, ap, ◌∙◌, subst, arith, ℤ, pos, ◌-ℤ◌, ◌≤ℤ◌}
+use Rattle.std.proofs.Common.{◌≡◌, ℕ, zero, suc, ◌+◌, ◌*◌, ◌<◌, ◌≤◌, ◌⊎◌, inl, inr, List, [], ◌∷◌, length, drop, get_or, map, refl, sym, ap, ◌∙◌, arith, ℤ, pos, ◌-ℤ◌, ◌≤ℤ◌}
 use Rattle.std.specs.Prelude.{nat_abs, Option, None, Some}
-use Rattle.std.proofs.lemmas.Int.{ints}
 use Rattle.std.proofs.lemmas.List.{drop_more, drop_all}
 use Rattle.std.proofs.Math.Nat.{mul-le-mul}
 use Rattle.bq_model.specs.Boxes.{dim_size, box_size, place_of, values_at, AreInside, AreFull}
 use Rattle.bq_model.specs.declared.atom.Attr.{Attr}
 use Rattle.bq_model.specs.declared.plan.Dim.{Dim}
 use Rattle.bq_model.specs.declared.plan.Link.{Link}
-use Rattle.bq_model.proofs.BoxLaws.{size-at, range-inside, full-dim-size, values-inside, place-values, as-many}
+use Rattle.bq_model.proofs.BoxLaws.{size-at, range-inside, full-dim-size, values-inside, place-values}
 use Rattle.bq_model.specs.declared.cell.Cell.{Cell}
 use Rattle.bq_pool.specs.Strides.{Scanned}
 use Rattle.bq_pool.specs.declared.scan.Occupied.{Occupied}

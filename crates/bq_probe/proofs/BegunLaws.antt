@@ -1,6 +1,6 @@
 -- A walk behind a look along the cells where it begins.
-use Rattle.std.proofs.Common.{◌≡◌, ◌≢◌, ℕ, zero, suc, ◌+◌, ◌*◌, ◌<◌, ◌≤◌, ◌++◌, List, [], ◌∷◌, length, false, refl, sym, ap, ◌∙◌, subst, arith, ℤ}
-use Rattle.std.specs.Prelude.{None, Some}
+use Rattle.std.proofs.Common.{◌≡◌, ◌≢◌, ℕ, zero, suc, ◌+◌, ◌*◌, ◌<◌, ◌≤◌, List, [], ◌∷◌, length, false, refl, sym, ap, ◌∙◌, subst, arith, ℤ}
+use Rattle.std.specs.Prelude.{None}
 use Rattle.bq_model.specs.Boxes.{box, box_size, values_at}
 use Rattle.bq_model.proofs.BoxLaws.{length-box, at-box, values-inside}
 use Rattle.bq_model.specs.declared.cell.Cell.{Cell}
@@ -24,7 +24,7 @@ use Rattle.bq_probe.proofs.BreakLaws.{breaks, breaks-inequality}
 use Rattle.bq_probe.proofs.CostLaws.{cost-skip, cost-enter}
 use Rattle.bq_probe.proofs.ExactLaws.{walk-is}
 use Rattle.bq_probe.proofs.ModelLaws.{combinations-are}
-use Rattle.bq_probe.proofs.NothingLaws.{walk-own, start-beside}
+use Rattle.bq_probe.proofs.NothingLaws.{walk-own}
 use Rattle.bq_probe.proofs.StepLaws.{few-candidates, read-beside, light-cell}
 use Rattle.bq_probe.proofs.UnderwayLaws.{own-dims}
 use Rattle.bq_probe.specs.Along.{tried_cell, tried_count, SeenAlong, IsCandidate}

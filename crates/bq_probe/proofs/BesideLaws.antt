@@ -23,6 +23,7 @@ use Rattle.bq_model.specs.Parts.{pairs}
 use Rattle.bq_model.specs.Plan.{stream_at, dims_at}
 use Rattle.bq_model.specs.Probing.{is_known, found_beside}
 use Rattle.bq_model.specs.Query.{QueryValue}
+use Rattle.bq_model.specs.Assignment.{compares}
 use Rattle.bq_pool.specs.declared.scan.StridedCells.{StridedCells}
 use Rattle.bq_pool.specs.Strides.{NoneOccupied}
 use Rattle.bq_probe.specs.Beside.{last_beside, beside_dims, IsEmptyBeside, IsInnerBox, IsEmptyIn}
@@ -95,9 +96,10 @@ module _ (w : Setting) (name : IsNamed w.pairs w.part) (place : ℕ) (other : pl
       let here : slice_get whole place ≡ Some (chosen vs c) = subst (λ p. slice_get whole p ≡ Some (chosen vs c)) at (get-here known cs (chosen vs c)) in
       let is : value w whole dim.attr ≡ get_or vs k (pos 0) =
       value-chosen w.pairs w.part w.arriving place w.row whole dim.attr (chosen vs c) (get_or vs k (pos 0))
-      (n.streams k d l) away here (valued-own w.pairs w.part.signs.items (dims_at w.part place) vs k d (extreme_of c) n.names l m) in
-      not-both (list_all (λ l. int_eq (value w whole l.left) (value w whole l.right)) w.part.equal.items) _
-      (breaks-less w.arriving 0 dim.attr (λ a. by_column w.row a.column) (value w whole) (λ y t. row-value w.pairs w.part w.arriving w.row whole y t) (get_or vs k (pos 0)) is w.part.less.items f)
+      (n.streams k d l) away here (valued-own w.pairs w.part (dims_at w.part place) vs k d (extreme_of c) n.names l m) in
+      ap (λ b. b && list_all (λ l. compares l.op (value w whole l.left) (value w whole l.right)) w.part.soft.items)
+      (not-both (list_all (λ l. int_eq (value w whole l.left) (value w whole l.right)) w.part.equal.items) _
+      (breaks-less w.arriving 0 dim.attr (λ a. by_column w.row a.column) (value w whole) (λ y t. row-value w.pairs w.part w.arriving w.row whole y t) (get_or vs k (pos 0)) is w.part.less.items f))
     where
       apart : (t : Bool) → (place == w.arriving) ≡ t → t ≡ false
       apart true e = absurd (other (grind (arith, nat_tests)))

@@ -1,20 +1,20 @@
 -- A value that a link excludes breaks this link.
 use Rattle.std.proofs.Common.{◌≡◌, ◌≢◌, ℕ, zero, suc, ◌<◌, ◌==◌, Bool, true, false, get_or, List, [], ◌∷◌, ◌++◌, length, refl, sym, ap, ◌∙◌, arith, ℤ, pos, if◌then◌else◌, ◌&&◌, ◌||◌, append_assoc, AllPairs}
 use Rattle.std.specs.Prelude.{Option, Some, None, slice_get, nat_lt, int_lt}
-use Rattle.std.specs.List.{list_all}
+use Rattle.std.specs.List.{list_all, list_any}
 use Rattle.std.specs.Ordering.{int_eq}
 use Rattle.std.proofs.lemmas.Bool.Decides.{nat_tests}
 use Rattle.std.proofs.lemmas.Int.{ints}
 use Rattle.bq_model.specs.declared.atom.Attr.{Attr}
 use Rattle.bq_model.specs.declared.part.Pair.{Pair}
-use Rattle.bq_model.specs.declared.part.Sign.{Sign}
 use Rattle.bq_model.specs.declared.plan.Dim.{Dim}
 use Rattle.bq_model.specs.declared.plan.Link.{Link}
 use Rattle.bq_model.specs.declared.plan.PartPlan.{PartPlan}
 use Rattle.bq_model.specs.Query.{attr_eq}
+use Rattle.bq_model.specs.Assignment.{compares}
 use Rattle.bq_model.specs.Meaning.{by_column}
 use Rattle.bq_model.specs.Plan.{dims_at}
-use Rattle.bq_model.specs.Combinations.{any_ties}
+use Rattle.bq_model.specs.Combinations.{any_ties, binds}
 use Rattle.bq_model.specs.Probing.{is_known}
 use Rattle.bq_narrow.specs.declared.binding.Binding.{Binding}
 use Rattle.bq_synopsis.specs.Classes.{are_tied}
@@ -90,21 +90,21 @@ attr_eq-self : (a : Attr) → attr_eq a a ≡ true
 attr_eq-self a = grind (arith, nat_tests)
 
 -- a dim has its own value
-pub valued-own : (ps : List Pair) (ss : List Sign) (dims : List Dim) (xs : List ℤ) (k : ℕ) (o : Dim) (z : ℤ)
-    → AllPairs (λ (d e : Dim). are_tied ps ss d.attr e.attr ≡ false) dims
-    → k < length dims → k < length xs → valued ps ss dims xs z (get_or dims k o).attr ≡ get_or xs k (pos 0)
-valued-own ps ss [] xs k o z names l m = absurd (omega (arith, l))
-valued-own ps ss (d ∷ dims) [] k o z names l m = absurd (omega (arith, m))
-valued-own ps ss (d ∷ dims) (x ∷ xs) zero o z names l m =
-    ap (λ b. if b || any_ties d.attr d.attr ps ss then x else valued ps ss dims xs z d.attr) (attr_eq-self d.attr)
-valued-own ps ss (d ∷ dims) (x ∷ xs) (suc k) o z names l m =
+pub valued-own : (ps : List Pair) (part : PartPlan) (dims : List Dim) (xs : List ℤ) (k : ℕ) (o : Dim) (z : ℤ)
+    → AllPairs (λ (d e : Dim). are_tied ps part d.attr e.attr ≡ false) dims
+    → k < length dims → k < length xs → valued ps part dims xs z (get_or dims k o).attr ≡ get_or xs k (pos 0)
+valued-own ps part [] xs k o z names l m = absurd (omega (arith, l))
+valued-own ps part (d ∷ dims) [] k o z names l m = absurd (omega (arith, m))
+valued-own ps part (d ∷ dims) (x ∷ xs) zero o z names l m =
+    ap (λ b. if (b || any_ties d.attr d.attr ps part.signs.items) || list_any (binds d.attr d.attr) part.local then x else valued ps part dims xs z d.attr) (attr_eq-self d.attr)
+valued-own ps part (d ∷ dims) (x ∷ xs) (suc k) o z names l m =
     let e = names 0 (suc k) o (omega arith) l in
-    ap (λ b. if b then x else valued ps ss dims xs z (get_or dims k o).attr) e
-    ∙ valued-own ps ss dims xs k o z (λ i j p h g. names (suc i) (suc j) p (omega (arith, h)) (omega (arith, g))) (omega (arith, l)) (omega (arith, m))
+    ap (λ b. if b then x else valued ps part dims xs z (get_or dims k o).attr) e
+    ∙ valued-own ps part dims xs k o z (λ i j p h g. names (suc i) (suc j) p (omega (arith, h)) (omega (arith, g))) (omega (arith, l)) (omega (arith, m))
 
 pub value-chosen : (ps : List Pair) (part : PartPlan) (arriving place : ℕ) (row : List ℤ) (cs : List Binding) (a : Attr) (c : Binding) (v : ℤ)
     → a.stream ≡ place → (place == arriving) ≡ false → slice_get cs place ≡ Some c
-    → valued ps part.signs.items (dims_at part place) c.values.items (extreme_of c.cell) a ≡ v
+    → valued ps part (dims_at part place) c.values.items (extreme_of c.cell) a ≡ v
     → value_in ps part arriving row cs a ≡ v
 unfolding value_in
 value-chosen ps part arriving place row cs a c v s e g h =
@@ -114,7 +114,7 @@ value-chosen ps part arriving place row cs a c v s e g h =
   where
     from : ℕ → Option Binding → ℤ
     from n None = pos 0
-    from n (Some d) = valued ps part.signs.items (dims_at part n) d.values.items (extreme_of d.cell) a
+    from n (Some d) = valued ps part (dims_at part n) d.values.items (extreme_of d.cell) a
 
 pub value-known : (ps : List Pair) (part : PartPlan) (arriving : ℕ) (row : List ℤ) (known more : List Binding) (a : Attr) → is_known arriving (length known) a ≡ true → value_in ps part arriving row (known ++ more) a ≡ value_in ps part arriving row known a
 unfolding value_in
@@ -138,11 +138,12 @@ breaks w named known k d a vs c cs = by (length known == w.arriving) refl
         let here : dim.attr.stream ≡ length known = n.streams k d l in
         let is : value w ((known ++ chosen vs c ∷ []) ++ cs) dim.attr ≡ get_or vs k (pos 0) =
         value-chosen w.pairs w.part w.arriving (length known) w.row ((known ++ chosen vs c ∷ []) ++ cs) dim.attr (chosen vs c) (get_or vs k (pos 0))
-        here e (get-here known cs (chosen vs c)) (valued-own w.pairs w.part.signs.items (dims_at w.part (length known)) vs k d (extreme_of c) n.names l m) in
+        here e (get-here known cs (chosen vs c)) (valued-own w.pairs w.part (dims_at w.part (length known)) vs k d (extreme_of c) n.names l m) in
         let broken = breaks-link w.arriving (length known) dim.attr (value w known) (value w ((known ++ chosen vs c ∷ []) ++ cs))
         (λ y t. (λ i. value w (append_assoc known (chosen vs c ∷ []) cs i) y) ∙ value-known w.pairs w.part w.arriving w.row known (chosen vs c ∷ cs) y t)
         w.part.equal.items a f (λ i. h (sym is ∙ i)) in
-        ap (λ b. b && list_all (λ l. int_lt (value w ((known ++ chosen vs c ∷ []) ++ cs) l.left) (value w ((known ++ chosen vs c ∷ []) ++ cs) l.right)) w.part.less.items) broken
+        ap (λ b. (b && list_all (λ l. int_lt (value w ((known ++ chosen vs c ∷ []) ++ cs) l.left) (value w ((known ++ chosen vs c ∷ []) ++ cs) l.right)) w.part.less.items)
+        && list_all (λ l. compares l.op (value w ((known ++ chosen vs c ∷ []) ++ cs) l.left) (value w ((known ++ chosen vs c ∷ []) ++ cs) l.right)) w.part.soft.items) broken
 
 pub breaks-inequality : (w : Setting) → IsNamed w.pairs w.part → BreaksLess w
 unfolding meets_links dims_in
@@ -158,8 +159,9 @@ breaks-inequality w named known k d vs c cs = by (length known == w.arriving) re
         let here : dim.attr.stream ≡ length known = n.streams k d l in
         let is : value w ((known ++ chosen vs c ∷ []) ++ cs) dim.attr ≡ get_or vs k (pos 0) =
         value-chosen w.pairs w.part w.arriving (length known) w.row ((known ++ chosen vs c ∷ []) ++ cs) dim.attr (chosen vs c) (get_or vs k (pos 0))
-        here e (get-here known cs (chosen vs c)) (valued-own w.pairs w.part.signs.items (dims_at w.part (length known)) vs k d (extreme_of c) n.names l m) in
+        here e (get-here known cs (chosen vs c)) (valued-own w.pairs w.part (dims_at w.part (length known)) vs k d (extreme_of c) n.names l m) in
         let broken = breaks-less w.arriving (length known) dim.attr (value w known) (value w ((known ++ chosen vs c ∷ []) ++ cs))
         (λ y t. (λ i. value w (append_assoc known (chosen vs c ∷ []) cs i) y) ∙ value-known w.pairs w.part w.arriving w.row known (chosen vs c ∷ cs) y t)
         (get_or vs k (pos 0)) is w.part.less.items f in
-        no-and (list_all (λ l. int_eq (value w ((known ++ chosen vs c ∷ []) ++ cs) l.left) (value w ((known ++ chosen vs c ∷ []) ++ cs) l.right)) w.part.equal.items) _ broken
+        ap (λ b. b && list_all (λ l. compares l.op (value w ((known ++ chosen vs c ∷ []) ++ cs) l.left) (value w ((known ++ chosen vs c ∷ []) ++ cs) l.right)) w.part.soft.items)
+        (no-and (list_all (λ l. int_eq (value w ((known ++ chosen vs c ∷ []) ++ cs) l.left) (value w ((known ++ chosen vs c ∷ []) ++ cs) l.right)) w.part.equal.items) _ broken)

@@ -15,6 +15,7 @@ use Rattle.bq_model.specs.declared.cell.Cell.TheVariants.{Empty, Present}
 use Rattle.bq_model.specs.declared.part.Pair.{Pair}
 use Rattle.bq_model.specs.declared.plan.Dim.{Dim}
 use Rattle.bq_model.specs.declared.plan.Link.{Link}
+use Rattle.bq_model.specs.declared.plan.SoftLink.{SoftLink}
 use Rattle.bq_model.specs.declared.plan.PartPlan.{PartPlan}
 use Rattle.bq_model.specs.Combinations.{Reading, read_from}
 use Rattle.bq_model.specs.Meaning.{by_column}
@@ -22,6 +23,7 @@ use Rattle.bq_model.specs.Parts.{pairs}
 use Rattle.bq_model.specs.Plan.{dims_at}
 use Rattle.bq_model.specs.Probing.{found_beside}
 use Rattle.bq_model.specs.Query.{QueryValue}
+use Rattle.bq_model.specs.Assignment.{compares}
 use Rattle.bq_synopsis.specs.declared.key_columns.KeyColumn.{KeyColumn}
 use Rattle.bq_synopsis.specs.declared.join_lookup.JoinLookup.{JoinLookup}
 use Rattle.bq_synopsis.specs.Joining.{key_dim, number_of, column_at, or_none, told_column, same_column, is_told, class_at, IsJoinLookup}
@@ -176,7 +178,7 @@ module _ (ps : List Pair) (part : PartPlan) (arriving : ℕ) (listed : JoinLooku
       by (Some t) f =
           let is_c : slice_get listed.told.items a.column ≡ Some (Some c) = f ∙ ap (λ (o : Option ℕ). Some o) (sym (ap or_none f) ∙ e) in
           ap (chosen_value ps part a) there
-          ∙ valued_at ps part.signs.items (extreme_of cell) a (dims_at part a.stream) (key_values row is.keys)
+          ∙ valued_at ps part (extreme_of cell) a (dims_at part a.stream) (key_values row is.keys)
           ∙ class-value row is.keys (extreme_of cell) (class_at ps part a.stream a.column) c (class (is.told a.column c is_c))
 
   -- a column that is told has the value of the row
@@ -217,10 +219,14 @@ module _ (ps : List Pair) (part : PartPlan) (arriving : ℕ) (listed : JoinLooku
   none-less [] e = refl
   none-less (l ∷ links) e = absurd (omega (arith, e))
 
+  none-soft : (links : List SoftLink) → length links ≡ 0 → list_all (λ l. compares l.op (value l.left) (value l.right)) links ≡ true
+  none-soft [] e = refl
+  none-soft (l ∷ links) e = absurd (omega (arith, e))
+
   -- all links of the part hold
   pub join-meets : meets_links ps part arriving row cs ≡ true
   unfolding meets_links
-  join-meets = λ i. links-hold part.equal.items is.equal i && none-less part.less.items is.less i
+  join-meets = λ i. (links-hold part.equal.items is.equal i && none-less part.less.items is.less i) && none-soft part.soft.items is.soft i
 
   values-told : (select : List Attr) → are_told listed arriving select ≡ true → told_values listed arriving row select ≡ map value select
   values-told [] e = refl

@@ -8,15 +8,15 @@ use Rattle.std.proofs.lemmas.List.Folds.{flat_map-map}
 use Rattle.bq_model.specs.declared.atom.Attr.{Attr}
 use Rattle.bq_model.specs.declared.cell.Cell.{Cell}
 use Rattle.bq_model.specs.declared.cell.Cell.TheVariants.{Empty, Count, Present, Extreme}
-use Rattle.bq_model.specs.declared.part.Sign.{Sign}
 use Rattle.bq_model.specs.declared.plan.Dim.{Dim}
 use Rattle.bq_model.specs.declared.plan.PartPlan.{PartPlan}
 use Rattle.bq_model.specs.Query.{QueryValue}
+use Rattle.bq_model.specs.Assignment.{compares}
 use Rattle.bq_model.specs.Boxes.{box, place_of}
 use Rattle.bq_model.specs.Meaning.{by_column, product, at_place}
 use Rattle.bq_model.specs.Parts.{pairs}
 use Rattle.bq_model.specs.Plan.{dims_at}
-use Rattle.bq_model.specs.Combinations.{Choice, choice, choice_of, looked_up, tied, row_of_values, Reading, Found, chosen_values, linked, times_of}
+use Rattle.bq_model.specs.Combinations.{Choice, choice, choice_of, looked_up, is_tied, row_of_values, Reading, Found, chosen_values, linked, times_of}
 use Rattle.bq_model.specs.Combinations as model
 use Rattle.bq_model.specs.Probing.{choices_beside, found_beside}
 use Rattle.bq_narrow.specs.declared.binding.Binding.{Binding}
@@ -25,10 +25,10 @@ use Rattle.bq_probe.specs.Choosing.{Setting, setting, cell_in, meets, meets_link
 use Rattle.bq_narrow.specs.Narrowed.{dims_in}
 use Rattle.bq_probe.proofs.ExactLaws.{kept, choices, combinations_from, flat_map-same}
 
-valued-is : (q : QueryValue) (ss : List Sign) (dims : List Dim) (xs : List ℤ) (z : ℤ) (a : Attr) → valued (pairs q) ss dims xs z a ≡ looked_up q ss dims xs z a
-valued-is q ss [] xs z a = refl
-valued-is q ss (d ∷ dims) [] z a = refl
-valued-is q ss (d ∷ dims) (x ∷ xs) z a = ap (λ r. if tied q ss d.attr a then x else r) (valued-is q ss dims xs z a)
+valued-is : (q : QueryValue) (part : PartPlan) (dims : List Dim) (xs : List ℤ) (z : ℤ) (a : Attr) → valued (pairs q) part dims xs z a ≡ looked_up (is_tied q part) dims xs z a
+valued-is q part [] xs z a = refl
+valued-is q part (d ∷ dims) [] z a = refl
+valued-is q part (d ∷ dims) (x ∷ xs) z a = ap (λ r. if is_tied q part d.attr a then x else r) (valued-is q part dims xs z a)
 
 module _ {X Y Z : Type 0} where
   map-flat_map : (f : Y → Z) (g : X → List Y) (xs : List X) → map f (flat_map g xs) ≡ flat_map (λ x. map f (g x)) xs
@@ -138,7 +138,7 @@ module _ (q : QueryValue) (part : PartPlan) (arriving : ℕ) (row : List ℤ) (r
       by true e (Some c) g = ap (λ t. (if t then by_column row else row_of_values q part a.stream c.values.items (extreme_of c.cell)) a.column) (sym e)
       by false e None g = refl
       by false e (Some c) g =
-          valued-is q part.signs.items (dims_at part a.stream) c.values.items (extreme_of c.cell) a
+          valued-is q part (dims_at part a.stream) c.values.items (extreme_of c.cell) a
           ∙ ap (λ t. (if t then by_column row else row_of_values q part a.stream c.values.items (extreme_of c.cell)) a.column) (sym e)
 
   times-same : (place : ℕ) (cs : List Binding) → product_of cs ≡ times_of (as_choices place cs)
@@ -149,7 +149,8 @@ module _ (q : QueryValue) (part : PartPlan) (arriving : ℕ) (row : List ℤ) (r
   unfolding meets_links
   meets-same cs l =
       let F : value_in (pairs q) part arriving row cs ≡ chosen_values (as_choices 0 cs) = λ k a. value-same cs l a k in
-      ap (λ (v : Attr → ℤ). list_all (λ m. int_eq (v m.left) (v m.right)) part.equal.items && list_all (λ m. int_lt (v m.left) (v m.right)) part.less.items) F
+      ap (λ (v : Attr → ℤ). (list_all (λ m. int_eq (v m.left) (v m.right)) part.equal.items && list_all (λ m. int_lt (v m.left) (v m.right)) part.less.items)
+      && list_all (λ m. compares m.op (v m.left) (v m.right)) part.soft.items) F
 
   found-same : (cs : List Binding) → arriving < length cs → found w cs ≡ model.found q (as_choices 0 cs)
   unfolding tuple_of

@@ -9,6 +9,7 @@ use Rattle.bq_model.specs.declared.cell.Cell.TheVariants.{Present}
 use Rattle.bq_model.specs.declared.part.Pair.{Pair}
 use Rattle.bq_model.specs.declared.plan.Dim.{Dim}
 use Rattle.bq_model.specs.declared.plan.PartPlan.{PartPlan}
+use Rattle.bq_model.specs.Assignment.{compares}
 use Rattle.bq_model.specs.Plan.{dims_at}
 use Rattle.bq_model.specs.Combinations.{Reading, Found}
 use Rattle.bq_narrow.specs.declared.binding.Binding.{Binding}
@@ -51,8 +52,9 @@ value w known = value_in w.pairs w.part w.arriving w.row known
 -- the links of the part hold of the values that were chosen
 unfoldable pub meets_links : List Pair → PartPlan → ℕ → List ℤ → List Binding → Bool
 meets_links ps part arriving row known =
-    list_all (λ l. int_eq (value_in ps part arriving row known l.left) (value_in ps part arriving row known l.right)) part.equal.items
-    && list_all (λ l. int_lt (value_in ps part arriving row known l.left) (value_in ps part arriving row known l.right)) part.less.items
+    (list_all (λ l. int_eq (value_in ps part arriving row known l.left) (value_in ps part arriving row known l.right)) part.equal.items
+    && list_all (λ l. int_lt (value_in ps part arriving row known l.left) (value_in ps part arriving row known l.right)) part.less.items)
+    && list_all (λ l. compares l.op (value_in ps part arriving row known l.left) (value_in ps part arriving row known l.right)) part.soft.items
 
 -- the links hold in a setting
 abbrev pub meets : Setting → List Binding → Bool

@@ -2,11 +2,12 @@
 ghost use Rattle.std.specs.Prelude.{◌≡◌, ◌≤◌, length, int_lt, map};
 ghost use Rattle.std.specs.List.{list_all};
 ghost use Rattle.std.specs.Ordering.{int_eq};
+ghost use Rattle.bq_model.specs.Assignment.{compares};
 ghost use Rattle.bq_synopsis.specs.Preparing.{IsPrepared};
 ghost use Rattle.bq_narrow.specs.Values.{value_in};
 ghost use Rattle.bq_probe.specs.Choosing.{meets_links, tuple_of};
 
-use bq_model::{Attr, Link, Tuple};
+use bq_model::{Attr, Link, SoftLink, Tuple};
 use bq_narrow::{Binding, RowAt, value_in};
 
 // Whether the two sides of each link are equal.
@@ -41,6 +42,22 @@ fn all_less(at: &RowAt<'_>, known: &[Binding], links: &[Link]) -> bool
     true
 }
 
+// Whether the two sides of each other link stand to each other as it says.
+#[inline(always)]
+fn all_soft(at: &RowAt<'_>, known: &[Binding], links: &[SoftLink]) -> bool
+    requires prepared { IsPrepared at.now.pairs.now at.now.part.now at.now.prepared.now }
+    ensures { result ≡ list_all (λ l. compares l.op (value_in at.now.pairs.now at.now.part.now at.now.arriving at.now.row.now known.now l.left) (value_in at.now.pairs.now at.now.part.now at.now.arriving at.now.row.now known.now l.right)) links.now }
+{
+    'links: for l in links {
+        let left = value_in(at, known, l.left);
+        let right = value_in(at, known, l.right);
+        if !l.op.compares(left, right) {
+            return false;
+        }
+    }
+    true
+}
+
 /// Returns whether all links of the part hold.
 #[tactic(auto, unfolding(crate::specs::Choosing::meets_links))]
 #[inline(always)]
@@ -49,7 +66,9 @@ pub fn meets_links(at: &RowAt<'_>, known: &[Binding]) -> bool
     ensures { result ≡ meets_links at.now.pairs.now at.now.part.now at.now.arriving at.now.row.now known.now }
 {
     // The inequalities first: an equality mostly holds of what it left to choose.
-    all_less(at, known, at.part.less.as_slice()) && all_equal(at, known, at.part.equal.as_slice())
+    all_less(at, known, at.part.less.as_slice())
+        && all_equal(at, known, at.part.equal.as_slice())
+        && all_soft(at, known, at.part.soft.as_slice())
 }
 
 /// Puts the values of the selected columns into `tuple`.

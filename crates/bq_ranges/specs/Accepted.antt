@@ -6,7 +6,8 @@ use Rattle.bq_model.specs.declared.decision.Which.{Which}
 use Rattle.bq_model.specs.declared.decision.Which.TheVariants.{Parts}
 use Rattle.bq_model.specs.declared.plan.Numbers.{Numbers}
 use Rattle.bq_model.specs.Query.{QueryValue, IsWithinLimits}
-use Rattle.bq_model.specs.Verdict.{IsVerdict, limit, accepted}
+use Rattle.bq_model.specs.Verdict.{limit, accepted}
+use Rattle.bq_forms.specs.Forms.{IsFormVerdict}
 use Rattle.bq_mend.specs.declared.judging.Judgement.{Judgement}
 use Rattle.bq_mend.specs.declared.judging.Judgement.TheVariants as judgement
 
@@ -14,12 +15,12 @@ use Rattle.bq_mend.specs.declared.judging.Judgement.TheVariants as judgement
 pub record IsAccepted (shared : Bool) (q : QueryValue) : Type 0 where
   pub limits : IsWithinLimits q
   pub numbers : Numbers
-  pub verdict : IsVerdict shared q 16384 (accepted numbers)
+  pub verdict : IsFormVerdict shared q 16384 (accepted numbers)
 
 -- the limit that refuses it there, or that none does
 abbrev pub IsLimitOf : Bool → QueryValue → Option Which → Type 0
-IsLimitOf shared q None = (which : Which) → ¬ IsVerdict shared q 16384 (limit which)
-IsLimitOf shared q (Some which) = IsVerdict shared q 16384 (limit which)
+IsLimitOf shared q None = (which : Which) → ¬ IsFormVerdict shared q 16384 (limit which)
+IsLimitOf shared q (Some which) = IsFormVerdict shared q 16384 (limit which)
 
 -- ---- by judgements
 

@@ -4,7 +4,8 @@ use Rattle.std.specs.declared.option.Option.{Option}
 use Rattle.std.specs.declared.option.Option.TheVariants.{None, Some}
 use Rattle.bq_model.specs.declared.decision.Which.{Which}
 use Rattle.bq_model.specs.Query.{QueryValue}
-use Rattle.bq_model.specs.Verdict.{IsVerdict, limit}
+use Rattle.bq_model.specs.Verdict.{limit}
+use Rattle.bq_forms.specs.Forms.{IsFormVerdict}
 use Rattle.bq_partition.specs.Keys.{Keys}
 use Rattle.bq_mend.specs.declared.mend.Ends.{Ends}
 use Rattle.bq_ranges.specs.declared.ranges.Ranges.{Ranges}
@@ -13,7 +14,7 @@ use Rattle.bq_ranges.specs.Least.{IsLeastFound}
 
 -- a limit refuses the query, and these are the ends of the values that the domains of its keys have in common
 pub record IsCut (shared : Bool) (q : QueryValue) (keys : Keys) (which : Which) (ends : Ends) : Type 0 where
-  pub refused : IsVerdict shared q 16384 (limit which)
+  pub refused : IsFormVerdict shared q 16384 (limit which)
   pub range : key_range q (read_keys q keys) ≡ Some ends
 
 -- the least number of ranges of these values, or that there is nothing to cut

@@ -1,6 +1,7 @@
 //! What is said of the ranges of a query.
 ghost use Rattle.std.specs.Prelude.{IfOk};
-ghost use Rattle.bq_model.specs.Verdict.{IsVerdict, limit};
+ghost use Rattle.bq_model.specs.Verdict.{limit};
+ghost use Rattle.bq_forms.specs.Forms.{IsFormVerdict};
 ghost use Rattle.bq_split.specs.Judged.{by_stream};
 ghost use Rattle.bq_ranges.specs.Accepted.{IsLimitOf};
 ghost use Rattle.bq_ranges.specs.Ranges.{AreRanges};
@@ -28,7 +29,7 @@ fn ranges_of_refused(
     which: Which,
     choice: &[Option<u8>],
 ) -> Result<Option<Ranges>, AllocError>
-    requires { IsVerdict shared query.now 16384 (limit which) }
+    requires { IsFormVerdict shared query.now 16384 (limit which) }
     ensures { IfOk result (AreRanges shared query.now (by_stream choice.now)) }
 {
     let columns = read_keys(query, choice);

@@ -7,13 +7,15 @@ use Rattle.bq_model.specs.declared.plan.PartPlan.{PartPlan}
 use Rattle.bq_model.specs.declared.plan.Plan.{Plan}
 use Rattle.bq_model.specs.declared.plan.Plan.TheVariants as plans
 use Rattle.bq_model.specs.Query.{QueryValue}
-use Rattle.bq_model.specs.Plan.{stream_at, IsPartPlan}
+use Rattle.bq_model.specs.Plan.{stream_at}
+use Rattle.bq_model.specs.Serving.{KeepsStreams, IsServingPlan}
 use Rattle.bq_model.specs.Numbers.{parts_of}
-use Rattle.bq_model.specs.Sharing.{Box, box_at, size_in, sizes_in, kept_boxes, IsPlanFor, IsPlanOf}
+use Rattle.bq_model.specs.Sharing.{Box, box_at, size_in, sizes_in, kept_boxes}
 use Rattle.bq_model.proofs.Has.{Has, first, Has-append_right, Contains-from_has}
 use Rattle.bq_laws.specs.Sharing.{Begins, IsCovered, AreBoxesOf}
 use Rattle.bq_laws.proofs.PlanBoxes.{plans-have-boxes}
 use Rattle.bq_laws.proofs.SameBoxes.{are-same, same-size, sizes-cons}
+use Rattle.bq_laws.proofs.Walking.{serving-keep}
 use Rattle.bq_loading.specs.Loadable.{kind_at}
 
 less : (n m : ℕ) → n < m → nat_lt n m ≡ true
@@ -46,13 +48,13 @@ pub record IsKindAt (plan : List PartPlan) (list : List Box) (n : ℕ) : Type 0 
   pub cell : IsCovered plan n
   pub kind : kind_at list n ≡ Some (stream_at cell.part cell.place).kind
 
-of_boxes : (q : QueryValue) (plan : List PartPlan) → All (IsPartPlan q) plan → (list : List Box) → AreBoxesOf q plan list → (n : ℕ) → n < sizes_in list → IsKindAt plan list n
+of_boxes : (q : QueryValue) (plan : List PartPlan) → All (KeepsStreams q) plan → (list : List Box) → AreBoxesOf q plan list → (n : ℕ) → n < sizes_in list → IsKindAt plan list n
 of_boxes q plan plans list of n below =
     let c : IsCovered plan n = of.covers n below in
     let b : Begins q list (box_at c.part c.place) (stream_at c.part c.place).base = of.each c.part c.known c.place c.there in
     let own = of.alone b.same (Contains-from_has list b.same (subst (λ (l : List Box). Has l b.same) (sym b.whole) (Has-append_right b.before first))) in
-    let p : IsPartPlan q c.part = All-contains (IsPartPlan q) plan c.part plans c.known in
-    let r : IsPartPlan q b.same.part = All-contains (IsPartPlan q) plan b.same.part plans own.0 in
+    let p : KeepsStreams q c.part = All-contains (KeepsStreams q) plan c.part plans c.known in
+    let r : KeepsStreams q b.same.part = All-contains (KeepsStreams q) plan b.same.part plans own.0 in
     let size : size_in b.same ≡ (stream_at c.part c.place).size
     = same-size q b.same (box_at c.part c.place) b.is r p (let m = r.count in let l = own.1 in omega (arith, m, l)) (let m = p.count in let l = c.there in omega (arith, m, l)) in
     let inside : c.i < size_in b.same = (let i = c.inside in omega (arith, size, i)) in
@@ -62,19 +64,11 @@ of_boxes q plan plans list of n below =
           ∙ ap (λ (k : Kind). Some k) (are-same q b.same (box_at c.part c.place) b.is).kind;
     }
 
-part_plans : (shared : Bool) (q : QueryValue) (list : List PartPlan) → IsPlanFor shared q list → All (IsPartPlan q) list
-part_plans false q list is = is.plans
-part_plans true q list is = is.plans
-
-part_boxes : (shared : Bool) (q : QueryValue) (list : List PartPlan) → IsPlanFor shared q list → AreBoxesOf q list (kept_boxes shared q list)
-part_boxes false q list is = (plans-have-boxes q list).0 is
-part_boxes true q list is = (plans-have-boxes q list).1 is
-
 none : (shared : Bool) (q : QueryValue) → sizes_in (kept_boxes shared q []) ≡ 0
 none false q = refl
 none true q = refl
 
--- each cell of a plan has its kind
-pub kind_there : (shared : Bool) (q : QueryValue) (p : Plan) → IsPlanOf shared q p → (n : ℕ) → n < sizes_in (kept_boxes shared q (parts_of p)) → IsKindAt (parts_of p) (kept_boxes shared q (parts_of p)) n
+-- each cell of a plan that serves has its kind
+pub kind_there : (shared : Bool) (q : QueryValue) (p : Plan) → IsServingPlan shared q p → (n : ℕ) → n < sizes_in (kept_boxes shared q (parts_of p)) → IsKindAt (parts_of p) (kept_boxes shared q (parts_of p)) n
 kind_there shared q plans.Filter is n below = absurd (let e = none shared q in omega (arith, e, below))
-kind_there shared q (plans.Parts list numbers) is n below = of_boxes q list (part_plans shared q list is.1) (kept_boxes shared q list) (part_boxes shared q list is.1) n below
+kind_there shared q (plans.Parts list numbers) is n below = of_boxes q list (serving-keep q list is.1.serves) (kept_boxes shared q list) (plans-have-boxes shared q list is.2) n below

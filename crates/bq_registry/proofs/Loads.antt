@@ -13,9 +13,10 @@ use Rattle.bq_model.specs.declared.plan.PartPlan.{PartPlan}
 use Rattle.bq_model.specs.Query.{QueryValue}
 use Rattle.bq_model.specs.Meaning.{Arrival}
 use Rattle.bq_model.specs.Numbers.{parts_of}
-use Rattle.bq_model.specs.Sharing.{kept_boxes, sizes_in, numbers_for, IsPlanOf}
+use Rattle.bq_model.specs.Sharing.{kept_boxes, sizes_in, numbers_for}
 use Rattle.bq_model.specs.Bases.{Base}
 use Rattle.bq_laws.proofs.PlanBoxes.{count-of-boxes}
+use Rattle.bq_forms.specs.Forms.{IsFormPlanOf}
 use Rattle.bq_pool.specs.Extents.{PoolValue, cells_of, with_cells}
 use Rattle.bq_executor.specs.Executor as executor
 use Rattle.bq_saturated.specs.declared.saturation.Saturation.{Saturation}
@@ -42,7 +43,7 @@ same_cells false q list = count-of-boxes list
 same_cells true q list = refl
 
 -- the boxes have as many cells as the plan announces
-cells_announced : (shared : Bool) (q : QueryValue) (p : Plan) → IsPlanOf shared q p → sizes_in (kept_boxes shared q (parts_of p)) ≡ plan_cells p
+cells_announced : (shared : Bool) (q : QueryValue) (p : Plan) → IsFormPlanOf shared q p → sizes_in (kept_boxes shared q (parts_of p)) ≡ plan_cells p
 cells_announced shared q plans.Filter is = no_boxes shared q
 cells_announced shared q (plans.Parts list numbers) is = sym (ap (λ (n : Numbers). n.cells) is.2 ∙ same_cells shared q list)
 

@@ -16,6 +16,7 @@ use Rattle.bq_executor.specs.Executor as executor
 use Rattle.bq_executor.specs.Executor.{ExecutorValue, parts_in, list_in, cells_in, tuples_in, most_answers}
 use Rattle.bq_executor.specs.Standing.{CountsUpto, AreKept}
 use Rattle.bq_executor.specs.Bases.{StandsFrom, kept_in}
+use Rattle.bq_executor.proofs.PlanFacts.{serving_in}
 use Rattle.bq_registry.specs.Live.{Live, LiveQuery, base_in}
 use Rattle.bq_registry.specs.Registry.{IsLiveFor}
 use Rattle.bq_registry.specs.Sound.{IsCellOf, AreAscending, IsSoundLive, LiveQueriesAreSound, LiveQueriesAreGiven}
@@ -66,7 +67,7 @@ module _ (pool : PoolValue) (l : Live) (q : LiveQuery) (sound : executor.IsSound
 
   cell_there : (i : ℕ) (d : Cell) → i < sizes_in (list_in e) → IsCellOf (list_in e) now.given i (slice_index_or now.cells i d)
   cell_there i d within =
-      let k : IsKindAt (parts_in e) (list_in e) i = kind_there e.shared e.query e.plan sound.accepted.plan i within in
+      let k : IsKindAt (parts_in e) (list_in e) i = kind_there e.shared e.query e.plan (serving_in e sound) i within in
       let c = k.cell in
       let is : slice_index_or (cells_in e pool) ((stream_at c.part c.place).base + c.i) Cell.Empty ≡ slice_index_or now.cells i d
       = (λ j. slice_index_or (stands.cells j) (c.at j) Cell.Empty) ∙ get_or_default now.cells i Cell.Empty d (omega (arith, whole, within)) in

@@ -13,8 +13,9 @@ use Rattle.bq_model.specs.Parts.{HasMoreParts}
 use Rattle.bq_model.specs.Numbers.{pages_of}
 use Rattle.bq_model.specs.Violation.{IsViolation}
 use Rattle.bq_model.specs.Verdict as model
-use Rattle.bq_model.specs.Verdict.{most, IsVerdict}
+use Rattle.bq_model.specs.Verdict.{most}
 use Rattle.bq_layout.specs.Layout.{IsOver}
+use Rattle.bq_forms.specs.Forms.{HasWholeForm, IsFormVerdict}
 use Rattle.bq_executor.specs.Executor.{IsAccepted}
 use Rattle.bq_registry.specs.declared.refusal.CreateError.{CreateError}
 use Rattle.bq_registry.specs.declared.refusal.CreateError.TheVariants as refusals
@@ -23,17 +24,18 @@ use Rattle.bq_registry.specs.declared.verdict.Verdict.TheVariants as verdicts
 use Rattle.bq_registry.specs.Live.{Live, LiveQuery, newly}
 use Rattle.bq_registry.specs.Registry.{RegistryValue, StandsFor, IsQuiet, GivenUpto}
 
--- a number of the query that is above its limit: there are too many parts, or else it is the first that its plan has
+-- a number of a query whose whole form does not fit that is above its limit: there are too many parts, or else it is the first that its plan
+-- has
 pub data IsTooLarge (shared : Bool) (q : QueryValue) (which : Which) (value : ℕ) : Type 0 where
-  many : IsFalse (is_filter q) → HasMoreParts q (most Parts) → which ≡ Parts → value ≡ 4097 → IsTooLarge shared q which value
-  large : ¬ HasMoreParts q (most Parts) → IsViolation q None → IsOver shared q which value → IsTooLarge shared q which value
+  many : IsFalse (is_filter q) → ¬ HasWholeForm q → HasMoreParts q (most Parts) → which ≡ Parts → value ≡ 4097 → IsTooLarge shared q which value
+  large : ¬ HasWholeForm q → ¬ HasMoreParts q (most Parts) → IsViolation q None → IsOver shared q which value → IsTooLarge shared q which value
 
 -- the plan of a query that is accepted if its pages are free; or why it is refused, whatever pages are free
 abbrev pub IsJudged : Bool → QueryValue → Result Plan CreateError → Type 0
 IsJudged shared q (Ok plan) = IsAccepted shared q plan
 IsJudged shared q (Err (refusals.Limit which value limit)) = IsTooLarge shared q which value × (limit ≡ most which)
 IsJudged shared q (Err (refusals.Violation part condition attr)) =
-    IsFalse (is_filter q) × (¬ HasMoreParts q (most Parts)) × IsViolation q (Some record { part = part; condition = condition; attr = attr })
+    (¬ HasWholeForm q) × IsFalse (is_filter q) × (¬ HasMoreParts q (most Parts)) × IsViolation q (Some record { part = part; condition = condition; attr = attr })
 IsJudged shared q (Err (refusals.Pool needed free)) = ⊥
 IsJudged shared q (Err refusals.Memory) = ⊤
 
@@ -53,16 +55,18 @@ told (Err refusals.Memory) = None
 
 -- what an answer tells is the verdict
 abbrev pub TellsVerdict : Bool → QueryValue → ℕ → Result Verdict CreateError → Type 0
-TellsVerdict shared q free result = IfSome (told result) (IsVerdict shared q free)
+TellsVerdict shared q free result = IfSome (told result) (IsFormVerdict shared q free)
 
 -- so many pages are needed by the plan of a query that meets all conditions
 abbrev pub NeedsPages : Bool → QueryValue → ℕ → Type 0
 NeedsPages shared q needed = (plan : Plan) × IsAccepted shared q plan × (needed ≡ pages_of plan)
 
--- what a refusal carries: the violation; the number that is too large and its limit; how many pages are needed and how many are free
+-- what a refusal carries: the violation of a query whose whole form does not fit; the number that is too large and its limit; how many pages are
+-- needed and how many are free
 abbrev pub CarriesWhy : Bool → QueryValue → ℕ → Result Verdict CreateError → Type 0
 CarriesWhy shared q available (Ok verdict) = ⊤
-CarriesWhy shared q available (Err (refusals.Violation part condition attr)) = IsViolation q (Some record { part = part; condition = condition; attr = attr })
+CarriesWhy shared q available (Err (refusals.Violation part condition attr)) =
+    (¬ HasWholeForm q) × IsViolation q (Some record { part = part; condition = condition; attr = attr })
 CarriesWhy shared q available (Err (refusals.Limit which value limit)) = IsTooLarge shared q which value × (limit ≡ most which)
 CarriesWhy shared q available (Err (refusals.Pool needed free)) = (available < needed) × (free ≡ available) × NeedsPages shared q needed
 CarriesWhy shared q available (Err refusals.Memory) = ⊤

@@ -3,8 +3,8 @@ ghost use Rattle.std.specs.Prelude.{◌≡◌, ◌<◌, ◌≤◌, ◌+◌, ◌^
 ghost use Rattle.std.specs.List.{flat_map, position, list_any};
 ghost use Rattle.std.specs.Str.{bytes_eq};
 ghost use Rattle.bq_io.specs.Sink.{Writes};
-ghost use Rattle.bq_model.specs.Sharing.{IsPlanOf};
 ghost use Rattle.bq_model.specs.Numbers.{parts_of};
+ghost use Rattle.bq_forms.specs.Forms.{IsFormPlanOf};
 ghost use Rattle.bq_pool.specs.Extents.{IsLive};
 ghost use Rattle.bq_executor.specs.Executor as running;
 ghost use Rattle.bq_executor.specs.Executor.{arrival, with_given};
@@ -169,7 +169,7 @@ impl Registry {
     pub fn plan(&self, place: usize) -> &Plan
         requires { place < length self.now.live }
         ensures value { (d : Live) → result.now ≡ (slice_index_or self.now.live place d).executor.plan }
-        ensures plan { (d : Live) → IsPlanOf (slice_index_or self.now.live place d).executor.shared (slice_index_or self.now.live place d).executor.query result.now }
+        ensures plan { (d : Live) → IsFormPlanOf (slice_index_or self.now.live place d).executor.shared (slice_index_or self.now.live place d).executor.query result.now }
     {
         self.live.executor_at(place).plan()
     }

@@ -224,6 +224,7 @@ pub fn word_text(word: Refusal) -> &'static [u8]
         Refusal::Value => b"Value",
         Refusal::Domain => b"Domain",
         Refusal::RowLimit => b"RowLimit",
+        Refusal::WholeForm => b"WholeForm",
     }
 }
 

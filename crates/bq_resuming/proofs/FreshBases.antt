@@ -13,6 +13,7 @@ use Rattle.bq_laws.proofs.Bases.{bases-keep-on, bases-stand-for-histories}
 use Rattle.bq_laws.proofs.Keeping.{rows-more-keep}
 use Rattle.bq_loading.specs.Loadable.{is_empty}
 use Rattle.bq_executor.specs.Bases.{is_fresh}
+use Rattle.bq_forms.proofs.Forms.{form_plans_serve}
 use Rattle.bq_executor.proofs.PlanFacts.{kept_is}
 use Rattle.bq_schema.specs.Streams.{Shape, KeepsDomains}
 use Rattle.bq_parser.proofs.DomainRows.{rows_keep_domains}
@@ -66,7 +67,7 @@ answers_by_kept streams taken q r sound few keeps = by (is_fresh q.base) refl
     given = sound.given
 
     law : StandsForHistories q.query (parts_of q.plan) (boxes_of q)
-    law = bases-stand-for-histories q.query (parts_of q.plan) (boxes_of q) sound.limits sound.violation (kept_is q.shared q.query q.plan sound.plan)
+    law = bases-stand-for-histories q.query (parts_of q.plan) (boxes_of q) sound.limits (kept_is q.shared q.query q.plan (form_plans_serve q.shared q.query q.plan sound.limits sound.met sound.plan))
 
     row : RowKeeps q.query r
     row = rows_keep_domains streams q.query r sound.named keeps
@@ -90,7 +91,7 @@ pub sound_after_row : (streams : List Shape) (taken : ℕ) (q : LiveQuery) (r : 
     → IsSoundIn streams (taken + 1) (with_row r q)
 sound_after_row streams taken q r sound keeps = record {
   limits = sound.limits;
-  violation = sound.violation;
+  met = sound.met;
   named = sound.named;
   plan = sound.plan;
   rows = rows-more-keep q.query q.history r sound.rows (rows_keep_domains streams q.query r sound.named keeps);

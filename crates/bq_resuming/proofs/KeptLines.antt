@@ -24,6 +24,7 @@ use Rattle.bq_laws.proofs.Tests.{any_if, and-both}
 use Rattle.bq_loading.specs.Loadable.{is_empty, kind_at, filled_cell}
 use Rattle.bq_executor.specs.Loading.{loaded_given, loaded_cell, loaded_tuple}
 use Rattle.bq_executor.specs.Standing.{CountsUpto}
+use Rattle.bq_forms.proofs.Forms.{form_plans_serve}
 use Rattle.bq_executor.proofs.PlanFacts.{cells_of_plan}
 use Rattle.bq_parser.specs.declared.tree.Statement.{Statement}
 use Rattle.bq_parser.specs.declared.tree.Statement.TheVariants.{ResumeGiven, ResumeCell}
@@ -176,7 +177,7 @@ module _ (s : State) (q : LiveQuery) (began : s.began ≡ false) (unlocked : s.l
   short_name = (name_facts q.name has.name).short
 
   few_cells : sizes_in (boxes_of q) < 2 ^ 63
-  few_cells = (let size = (cells_of_plan q.shared q.query q.plan sound.accepted.plan sound.accepted.within).1 in omega (arith, size))
+  few_cells = (let size = (cells_of_plan q.shared q.query q.plan (form_plans_serve q.shared q.query q.plan sound.limits sound.accepted.met sound.accepted.plan) sound.accepted.within).1 in omega (arith, size))
 
   -- a line that tells one thing more
   tells : (base next : Base) (n : ℕ) (x : Statement) → IsTold x → length (printed_form x) ≤ 1024 → statement_request (going base n) x ≡ based q.name next

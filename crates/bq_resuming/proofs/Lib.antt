@@ -18,6 +18,8 @@ pub mod KeptLines
 pub mod Creating
 pub mod QueryLines
 pub mod Restored
+pub mod Spreading
+pub mod OwnRanges
 pub mod ReachedRanges
 pub mod ReachedTables
 pub mod ReachedCells

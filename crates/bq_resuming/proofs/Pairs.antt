@@ -105,7 +105,7 @@ more_rows streams taken r keeps (q ∷ qs) (p ∷ ps) h = (one_more_row streams 
 sound_with_more : (streams more : List Shape) (taken : ℕ) (q : LiveQuery) → IsSoundIn streams taken q → IsSoundIn (streams ++ more) taken q
 sound_with_more streams more taken q s = record {
   limits = s.limits;
-  violation = s.violation;
+  met = s.met;
   named = stays_named streams more q.query s.named;
   plan = s.plan;
   rows = s.rows;

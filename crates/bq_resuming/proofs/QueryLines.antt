@@ -1,5 +1,5 @@
 -- The lines that create live queries again lead to these queries.
-use Rattle.std.proofs.Common.{◌≡◌, ℕ, suc, ◌+◌, ◌<◌, ◌≤◌, Bool, true, false, cond, not, ◌||◌, nat_lt, nat_le, List, [], ◌∷◌, ◌++◌, map, flat_map, length, Option, None, Err, refl, sym, ap, ◌∙◌, subst, arith, append_assoc, append-nil, length-append, codes, IsTrue, All}
+use Rattle.std.proofs.Common.{◌≡◌, ℕ, suc, ◌+◌, ◌<◌, ◌≤◌, Bool, true, false, cond, not, ◌||◌, nat_lt, nat_le, List, [], ◌∷◌, ◌++◌, map, flat_map, length, Option, None, Err, refl, sym, ap, ◌∙◌, subst, arith, append_assoc, append-nil, length-append, codes, IsTrue, All, inl, inr}
 use Rattle.std.specs.List.{list_any, sum_by, AllByRecursion}
 use Rattle.std.specs.Str.{bytes_eq}
 use Rattle.std.specs.declared.result.Result.{Result}
@@ -16,12 +16,16 @@ use Rattle.bq_model.specs.declared.plan.Plan.TheVariants as plans
 use Rattle.bq_model.specs.declared.plan.Numbers.{Numbers}
 use Rattle.bq_model.specs.declared.decision.Which.{Which}
 use Rattle.bq_model.specs.Query.{QueryValue}
-use Rattle.bq_model.specs.Numbers.{pages_of, page_count}
+use Rattle.bq_model.specs.Numbers.{pages_of, page_count, numbers_of}
+use Rattle.bq_model.specs.Sharing.{numbers_for}
 use Rattle.bq_model.specs.Verdict as verdicts
-use Rattle.bq_model.specs.Verdict.{IsVerdict, of_filter, of_plan, first_above, verdict_after, verdict_by}
+use Rattle.bq_model.specs.Verdict.{of_filter, of_plan, first_above, verdict_after, verdict_by}
 use Rattle.bq_laws.proofs.PlanTests.{not-true}
 use Rattle.bq_laws.proofs.Tests.{and-left, and-right, or-false}
 use Rattle.bq_schema.specs.Streams.{Shape, IsCatalog, all_differ}
+use Rattle.bq_forms.specs.Forms.{IsFormPlan, IsFormVerdict}
+use Rattle.bq_forms.specs.Forms as forms
+use Rattle.bq_forms.proofs.OnePart.{one_part_numbers}
 use Rattle.bq_executor.specs.Executor.{IsAccepted}
 use Rattle.bq_parser.specs.declared.tree.Statement.{Statement}
 use Rattle.bq_parser.specs.declared.tree.SelectAst.{SelectAst}
@@ -118,10 +122,20 @@ decided_by : (n : Numbers) (free : ℕ) → first_above n ≡ None → page_coun
 decided_by n free none fits =
     sym (ap (λ (o : Option Which). verdict_after o n free) none ∙ ap (λ b. cond b verdicts.pool (verdicts.accepted n)) (enough (page_count n.cells) free fits))
 
-verdict_again : (shared : Bool) (q : QueryValue) (p : Plan) (free : ℕ) → IsAccepted shared q p → pages_of p ≤ free → IsVerdict shared q free (acceptance p)
-verdict_again shared q plans.Filter free a fits = of_filter a.plan refl
-verdict_again shared q (plans.Parts ps n) free a fits =
-    of_plan a.plan.0 (a.few a.plan.0) a.violation ps a.plan.1 (decided_by n free a.within fits ∙ ap (λ (m : Numbers). verdict_by m free) a.plan.2)
+verdict_again : (shared : Bool) (q : QueryValue) (p : Plan) (free : ℕ) → IsAccepted shared q p → pages_of p ≤ free → IsFormVerdict shared q free (acceptance p)
+verdict_again shared q plans.Filter free a fits = forms.parts (inl a.plan) (of_filter a.plan refl)
+verdict_again shared q (plans.Parts ps n) free a fits = by a.plan.1
+  where
+    -- by these numbers, which are its own
+    again : (own : Numbers) → n ≡ own → verdicts.accepted n ≡ verdict_by own free
+    again own e = decided_by n free a.within fits ∙ ap (λ (m : Numbers). verdict_by m free) e
+
+    by : IsFormPlan shared q ps → IsFormVerdict shared q free (verdicts.accepted n)
+    by (forms.whole c part whole follow e) =
+        forms.whole a.plan.0 c part whole follow (again (numbers_of q (part ∷ [])) (a.plan.2 ∙ ap (numbers_for shared q) e ∙ one_part_numbers shared q part))
+    by (forms.parts none is) =
+        let met = a.met a.plan.0 none in
+        forms.parts (inr none) (of_plan a.plan.0 met.0 met.1 ps is (again (numbers_for shared q ps) a.plan.2))
 
 -- no name before is its own
 no_later : (p : List ℕ → Bool) (before : List (List ℕ)) (n : List ℕ) (rest : List (List ℕ)) → list_any p (before ++ n ∷ rest) ≡ false → p n ≡ false
@@ -160,7 +174,7 @@ module _ (s : State) (taken : ℕ) (unlocked : s.lock ≡ None) (catalog : IsCat
       ∙ ap (λ b. found_request q.name q.shared (cond b (Err TooMany) (query_named (resolved s.streams (named_select s.streams q.query))))) (ap (nat_le 64) (length-map done (λ (l : LiveQuery). l.name)) ∙ below (length done) few)
       ∙ ap (λ (r : Result QueryValue ResolveError). found_request q.name q.shared (query_named r)) (resolves_back s.streams q.query catalog is.sound.limits is.named) in
       let answer : Answer = registered q.name q.query q.shared q.plan in
-      let verdict : IsVerdict q.shared q.query (free_pages s.pages done) (acceptance q.plan) = verdict_again q.shared q.query q.plan (free_pages s.pages done) is.sound.accepted (omega (arith, fits)) in
+      let verdict : IsFormVerdict q.shared q.query (free_pages s.pages done) (acceptance q.plan) = verdict_again q.shared q.query q.plan (free_pages s.pages done) is.sound.accepted (omega (arith, fits)) in
       let count : s.lines + n + 1 ≡ s.lines + (n + 1) = omega arith in
       one_line now (having (done ++ anew q ∷ []) (n + 1)) line answer c.text.whole refl
       (record { request = asked q.name q.query q.shared; asks = subst (IsRequest now line) same asks; settles = accepted q.plan is.sound.accepted.plan verdict refl })

@@ -1,7 +1,6 @@
 -- What is kept of a live query: after creation, after a row, and after a line that tells a part of it.
 use Rattle.std.proofs.Common.{◌≡◌, ℕ, ◌<◌, ◌≤◌, ◌^◌, inl, inr, Bool, true, false, cond, not, ◌&&◌, nat_eq, int_le, nat_abs, ℤ, pos, List, [], ◌∷◌, length, slice_set, slice_index_or, Option, Some, None, option_and_then, option_map, refl, sym, ◌∙◌, subst, arith, AllPairs}
 use Rattle.std.specs.List.{list_any, AllByRecursion}
-use Rattle.std.specs.declared.option.Option.TheVariants as options
 use Rattle.std.proofs.lemmas.Bool.Decides.{nat_tests}
 use Rattle.std.proofs.lemmas.Int.{ints}
 use Rattle.std.proofs.lemmas.List.{length-replicate, length-set}
@@ -11,13 +10,13 @@ use Rattle.bq_model.specs.declared.plan.Plan.TheVariants as plans
 use Rattle.bq_model.specs.Query.{QueryValue, IsWithinLimits}
 use Rattle.bq_model.specs.Meaning.{Arrival}
 use Rattle.bq_model.specs.Tuples.{is_before, is_same}
-use Rattle.bq_model.specs.Violation.{IsViolation}
 use Rattle.bq_model.specs.Combinations.{read_from}
 use Rattle.bq_model.specs.Future.{waiting, future}
 use Rattle.bq_model.specs.Merge.{merged_table}
 use Rattle.bq_model.specs.Numbers.{parts_of}
 use Rattle.bq_model.specs.Ranges.{all_tuples}
-use Rattle.bq_model.specs.Sharing.{Box, sizes_in, IsPlanOf}
+use Rattle.bq_model.specs.Sharing.{Box, sizes_in}
+use Rattle.bq_model.specs.Serving.{IsServingPlan}
 use Rattle.bq_model.specs.Bases.{Base, first_base, kept_row}
 use Rattle.bq_model.proofs.Has.{Has, Has-from_contains, Contains-from_has}
 use Rattle.bq_laws.proofs.AnyCells.{waiting-fits}
@@ -76,13 +75,13 @@ module _ (q : QueryValue) (shared : Bool) (plan : Plan) where
   }
 
   -- the tuples after a row
-  module _ (within : IsWithinLimits q) (is : IsPlanOf shared q plan) (violation : IsViolation q options.None) where
+  module _ (within : IsWithinLimits q) (is : IsServingPlan shared q plan) where
     future_inside : (p : Plan) → HasParts q p → q.distinct ≡ true → (cells : List Cell) (table : List (List ℤ)) (r : Arrival) (t : List ℤ)
         → Has (future q (parts_of p) (read_from cells) table r) t → Has (all_tuples q (parts_of p)) t
     future_inside plans.Filter has distinct cells table r t h = absurd (not_both q.distinct distinct (filter_plain q has))
     future_inside (plans.Parts parts numbers) has distinct cells table r t h =
         Has-from_contains (all_tuples q parts) t
-        (waiting-fits q parts within has.0 has.1 violation (read_from cells) r t (Contains-from_has (waiting q parts (read_from cells) r) t (future_waits q parts (read_from cells) table r t has.0 h)))
+        (waiting-fits q parts within has.1.serves (read_from cells) r t (Contains-from_has (waiting q parts (read_from cells) r) t (future_waits q parts (read_from cells) table r t has.0 h)))
 
     row_table : (base : Base) (r : Arrival) → IsKeptBase q shared plan base → (b : Bool) → q.distinct ≡ b
         → AllPairs (λ t u. is_before t u ≡ true) (cond b (merged_table base.table (future q (parts_of plan) (read_from base.cells) base.table r)) [])

@@ -1,9 +1,10 @@
 -- Live queries of a state that lines lead to.
-use Rattle.std.proofs.Common.{◌≡◌, ℕ, ◌+◌, ◌<◌, ◌≤◌, ◌^◌, Bool, true, false, cond, nat_lt, ℤ, List, [], ◌∷◌, ◌++◌, length, get_or, zero, suc, IsTrue, All, AllPairs, refl, sym, ap, ◌∙◌, subst, arith}
+use Rattle.std.proofs.Common.{◌≡◌, ℕ, ◌+◌, ◌<◌, ◌≤◌, ◌^◌, ◌⊎◌, inl, inr, map, Bool, true, false, cond, nat_lt, ℤ, List, [], ◌∷◌, ◌++◌, length, get_or, zero, suc, IsTrue, All, AllPairs, refl, sym, ap, ◌∙◌, subst, arith}
 use Rattle.std.specs.List.{AllByRecursion}
 use Rattle.std.specs.declared.option.Option.{Option}
 use Rattle.std.specs.declared.option.Option.TheVariants as options
 use Rattle.std.proofs.lemmas.Bool.Decides.{nat_tests}
+use Rattle.std.proofs.lemmas.List.{length-map}
 use Rattle.std.proofs.lemmas.List.Elements.{All-nil, All-from_recursion}
 use Rattle.bq_text.specs.Value.{fits_i64}
 use Rattle.bq_model.specs.declared.decision.Which.{Which}
@@ -13,14 +14,15 @@ use Rattle.bq_model.specs.declared.plan.Plan.TheVariants as plans
 use Rattle.bq_model.specs.Query.{QueryValue, IsWithinLimits, is_filter}
 use Rattle.bq_model.specs.Domains.{RowKeeps, RowsKeep}
 use Rattle.bq_model.specs.Meaning.{Arrival}
-use Rattle.bq_model.specs.Violation.{IsViolation}
-use Rattle.bq_model.specs.Violation as violations
+use Rattle.bq_model.specs.declared.plan.PartPlan.{PartPlan}
+use Rattle.bq_model.specs.Parts.{HasMoreParts}
 use Rattle.bq_model.specs.Verdict as verdicts
-use Rattle.bq_model.specs.Verdict.{Verdict, IsVerdict, of_filter, of_many_parts, of_violation, of_plan, first_above, verdict_after}
+use Rattle.bq_model.specs.Verdict.{IsVerdict, of_filter, of_many_parts, of_violation, of_plan, first_above, verdict_after, verdict_by}
 use Rattle.bq_model.specs.Tuples.{is_before}
-use Rattle.bq_model.specs.Numbers.{parts_of, pages_of, page_count, answer_bound}
+use Rattle.bq_model.specs.Numbers.{parts_of, pages_of, page_count, answer_bound, numbers_of}
 use Rattle.bq_model.specs.Ranges.{all_tuples}
-use Rattle.bq_model.specs.Sharing.{sizes_in, numbers_for, IsPlanOf}
+use Rattle.bq_model.specs.Sharing.{sizes_in, numbers_for, IsPlanFor}
+use Rattle.bq_model.specs.Serving.{IsServingPlan}
 use Rattle.bq_model.specs.Bases.{Base, first_base}
 use Rattle.bq_model.proofs.Has.{Has, first, later}
 use Rattle.bq_laws.proofs.Bases.{bases-keep-on}
@@ -29,6 +31,11 @@ use Rattle.bq_laws.proofs.Tests.{not_both}
 use Rattle.bq_schema.specs.Streams.{Shape, IsName, KeepsDomains}
 use Rattle.bq_parser.specs.Resolution.{HasNamed}
 use Rattle.bq_parser.proofs.Placed.{stays_named}
+use Rattle.bq_laws.proofs.CountedParts.{parts_are_counted}
+use Rattle.bq_forms.specs.Fitting.{FitsWhole}
+use Rattle.bq_forms.specs.Forms.{HasWholeForm, IsFormPlan, IsFormPlanOf, MeetsForm, IsFormVerdict}
+use Rattle.bq_forms.specs.Forms as forms
+use Rattle.bq_forms.proofs.Forms.{form_plans_serve, plans_of}
 use Rattle.bq_executor.specs.CellSteps.{HasParts}
 use Rattle.bq_executor.specs.Executor.{IsAccepted, most_answers}
 use Rattle.bq_executor.proofs.Answered.{filter_plain}
@@ -45,7 +52,7 @@ use Rattle.bq_resuming.specs.Sound.{IsSoundIn}
 use Rattle.bq_resuming.specs.Restores.{IsRestorable}
 use Rattle.bq_resuming.proofs.FreshBases.{kept_after_row, sound_after_row}
 use Rattle.bq_resuming.proofs.ReachedBases.{IsKeptBase, first_is_kept, row_is_kept}
-use Rattle.bq_resuming.proofs.ReachedRanges.{Fits, tuple_fits}
+use Rattle.bq_resuming.proofs.ReachedRanges.{Fits, form_tuple_fits}
 
 -- a live query that was created by a line and accepted, with what was kept of it since
 pub record IsReachedIn (streams : List Shape) (taken : ℕ) (q : LiveQuery) : Type 0 where
@@ -62,7 +69,7 @@ pub record IsReachedIn (streams : List Shape) (taken : ℕ) (q : LiveQuery) : Ty
 pub sound_in : (streams : List Shape) (taken : ℕ) (q : LiveQuery) → IsReachedIn streams taken q → IsSoundIn streams taken q
 sound_in streams taken q r = record {
   limits = r.limits;
-  violation = r.accepted.violation;
+  met = r.accepted.met;
   named = r.named;
   plan = r.accepted.plan;
   rows = r.rows;
@@ -70,18 +77,22 @@ sound_in streams taken q r = record {
   given = r.given;
 }
 
+-- its plan serves the query
+serving_of : (streams : List Shape) (taken : ℕ) (q : LiveQuery) → IsReachedIn streams taken q → IsServingPlan q.shared q.query q.plan
+serving_of streams taken q r = form_plans_serve q.shared q.query q.plan r.limits r.accepted.met r.accepted.plan
+
 -- with DISTINCT the tuples are no more than announced, and of integers of 64 bits
-module _ (q : QueryValue) (within : IsWithinLimits q) (violation : IsViolation q options.None) (distinct : q.distinct ≡ true) where
+module _ (q : QueryValue) (within : IsWithinLimits q) (distinct : q.distinct ≡ true) where
   few_tuples : (p : Plan) (table : List (List ℤ)) → HasParts q p → AllPairs (λ t u. is_before t u ≡ true) table → ((t : List ℤ) → Has table t → Has (all_tuples q (parts_of p)) t) → length table ≤ most_answers p
   few_tuples plans.Filter table has up inside = absurd (not_both q.distinct distinct (filter_plain q has))
   few_tuples (plans.Parts parts numbers) table has up inside =
-      let most : length table ≤ answer_bound q parts = (table-has-room q parts within has.0 has.1 violation).1 table up (lie_all q parts table inside) in
+      let most : length table ≤ answer_bound q parts = (table-has-room q parts within has.1).1 table up (lie_all q parts table inside) in
       let same = has.2 in
       omega (arith, most, same)
 
-  tuples_fit : (p : Plan) → HasParts q p → (t : List ℤ) → Has (all_tuples q (parts_of p)) t → AllByRecursion Fits t
-  tuples_fit plans.Filter has t m = absurd (not_both q.distinct distinct (filter_plain q has))
-  tuples_fit (plans.Parts parts numbers) has t m = tuple_fits q parts within has.0 has.1 violation t m
+  tuples_fit : (shared : Bool) (p : Plan) → MeetsForm q → IsFormPlanOf shared q p → (t : List ℤ) → Has (all_tuples q (parts_of p)) t → AllByRecursion Fits t
+  tuples_fit shared plans.Filter met is t m = absurd (not_both q.distinct distinct (filter_plain q is))
+  tuples_fit shared (plans.Parts parts numbers) met is t m = form_tuple_fits shared q parts within is.0 met is.1 t m
 
 has_at : (ts : List (List ℤ)) (i : ℕ) (d : List ℤ) → i < length ts → Has ts (get_or ts i d)
 has_at [] i d l = absurd (omega (arith, l))
@@ -96,13 +107,13 @@ module _ (streams : List Shape) (taken : ℕ) (few : taken ≤ 2 ^ 40) (q : Live
   base = base_in q
 
   has : HasParts q.query q.plan
-  has = has_parts q.shared q.query q.plan r.accepted.plan
+  has = has_parts q.shared q.query q.plan (serving_of streams taken q r)
 
   all_fit : (b : Bool) → q.query.distinct ≡ b → All OfWidth base.table
   all_fit true e =
       λ i d l.
       All-from_recursion (λ z. IsTrue (fits_i64 z)) (get_or base.table i d)
-      (tuples_fit q.query r.limits r.accepted.violation e q.plan has (get_or base.table i d) (r.kept.inside (get_or base.table i d) (has_at base.table i d l)))
+      (tuples_fit q.query r.limits e q.shared q.plan r.accepted.met r.accepted.plan (get_or base.table i d) (r.kept.inside (get_or base.table i d) (has_at base.table i d l)))
   all_fit false e = subst (λ (ts : List (List ℤ)). All OfWidth ts) (sym (r.kept.plain e)) (All-nil OfWidth)
 
   sound_live : IsSoundLive q
@@ -114,7 +125,7 @@ module _ (streams : List Shape) (taken : ℕ) (few : taken ≤ 2 ^ 40) (q : Live
     whole = r.kept.whole;
     cells = λ i d l. (r.kept.cells i d l).own;
     ascends = λ e. r.kept.ascends;
-    few = λ e. few_tuples q.query r.limits r.accepted.violation e q.plan base.table has r.kept.ascends r.kept.inside;
+    few = λ e. few_tuples q.query r.limits e q.plan base.table has r.kept.ascends r.kept.inside;
     tuples = λ e. lie_all q.query (parts_of q.plan) base.table r.kept.inside;
   }
 
@@ -175,7 +186,7 @@ reached_after_row streams taken q row few keeps fit r =
       size = r.size;
       given = more.given;
       kept = subst (IsKeptBase q.query q.shared q.plan) (sym (kept_after_row streams taken q row sound))
-          (row_is_kept q.query q.shared q.plan r.limits r.accepted.plan r.accepted.violation (base_in q) row (omega (arith, g, few)) fit r.kept);
+          (row_is_kept q.query q.shared q.plan r.limits (serving_of streams taken q r) (base_in q) row (omega (arith, g, few)) fit r.kept);
     }
 
 -- on another base
@@ -229,15 +240,52 @@ passed n m options.None free e = by (nat_lt free (page_count m.cells)) refl e
     by true h f = absurd cc
     by false h f = (let same : n ≡ m = cc in record { numbers = same; none = refl; fits = grind (arith, nat_tests, h) })
 
-pub accepted_by : (shared : Bool) (q : QueryValue) (plan : Plan) (free : ℕ) → IsPlanOf shared q plan → IsVerdict shared q free (acceptance plan) → IsAccepted shared q plan × (pages_of plan ≤ free)
-accepted_by shared q plans.Filter free is v = (record { plan = is; violation = violations.filter is refl; within = tt; few = λ n. absurd (not_both (is_filter q) is n) }, omega arith)
-accepted_by shared q (plans.Parts parts numbers) free is (of_filter f e) = absurd cc
-accepted_by shared q (plans.Parts parts numbers) free is (of_many_parts n m e) = absurd cc
-accepted_by shared q (plans.Parts parts numbers) free is (of_violation n m f v e) = absurd cc
-accepted_by shared q (plans.Parts parts numbers) free is (of_plan n m v own other e) =
-    let p = passed numbers (numbers_for shared q own) (first_above (numbers_for shared q own)) free e in
-    let same : numbers_for shared q own ≡ numbers = sym p.numbers in
-    let fits = p.fits in (
-      record { plan = is; violation = v; within = ap first_above p.numbers ∙ p.none; few = λ k. m },
-      subst (λ (x : Numbers). page_count x.cells ≤ free) same fits,
-    )
+-- parts of which there are not more than so many
+few_parts : (shared : Bool) (q : QueryValue) (parts : List PartPlan) → IsPlanFor shared q parts → (¬ HasMoreParts q 4096) → length parts ≤ 4096
+few_parts shared q parts is none = elim (below_or 4096 (length parts)) [
+  | inl l ↦ absurd (
+      let e : length (map (λ (p : PartPlan). p.signs.items) parts) ≡ length parts = length-map parts (λ (p : PartPlan). p.signs.items) in
+      none ((parts_are_counted q (map (λ (p : PartPlan). p.signs.items) parts) 4096 (plans_of shared q parts is).parts).1 (omega (arith, l, e))))
+  | inr l ↦ l
+]
+  where
+    below_or : (n m : ℕ) → (n < m) ⊎ (m ≤ n)
+    below_or n m = grind arith
+
+module _ (shared : Bool) (q : QueryValue) (parts : List PartPlan) (numbers : Numbers) (free : ℕ) (is : IsFormPlanOf shared q (plans.Parts parts numbers)) where
+  abbrev Accepted : Type 0
+  Accepted = IsAccepted shared q (plans.Parts parts numbers) × (page_count numbers.cells ≤ free)
+
+  -- by these numbers the pages fit
+  pages_fit : (own : Numbers) → verdicts.accepted numbers ≡ verdict_after (first_above own) own free → (first_above numbers ≡ options.None) × (page_count numbers.cells ≤ free)
+  pages_fit own e =
+      let p = passed numbers own (first_above own) free e in
+      let fits = p.fits in
+      (ap first_above p.numbers ∙ p.none, subst (λ (x : Numbers). page_count x.cells ≤ free) (sym p.numbers) fits)
+
+  by_whole : (part : PartPlan) → IsTrue q.compact → FitsWhole q part → verdicts.accepted numbers ≡ verdict_by (numbers_of q (part ∷ [])) free → Accepted
+  by_whole part c fits e =
+      let p = pages_fit (numbers_of q (part ∷ [])) e in
+      (record { plan = is; met = λ plain none. absurd (none (c, part, fits)); within = p.0; few = few is.1 }, p.1)
+    where
+      few : IsFormPlan shared q parts → length parts ≤ 4096
+      few (forms.whole d one gits follow f) = (let n : length parts ≡ 1 = ap length f in omega (arith, n))
+      few (forms.parts none own) = absurd (none (c, part, fits))
+
+  by_parts : (¬ HasWholeForm q) → IsVerdict shared q free (verdicts.accepted numbers) → Accepted
+  by_parts none (of_filter f e) = absurd cc
+  by_parts none (of_many_parts n m e) = absurd cc
+  by_parts none (of_violation n m f v e) = absurd cc
+  by_parts none (of_plan n m v own other e) =
+      let p = pages_fit (numbers_for shared q own) e in
+      (record { plan = is; met = λ plain gone. (m, v); within = p.0; few = few is.1 }, p.1)
+    where
+      few : IsFormPlan shared q parts → length parts ≤ 4096
+      few (forms.whole d one gits follow f) = (let n : length parts ≡ 1 = ap length f in omega (arith, n))
+      few (forms.parts gone mine) = few_parts shared q parts mine m
+
+pub accepted_by : (shared : Bool) (q : QueryValue) (plan : Plan) (free : ℕ) → IsFormPlanOf shared q plan → IsFormVerdict shared q free (acceptance plan) → IsAccepted shared q plan × (pages_of plan ≤ free)
+accepted_by shared q plans.Filter free is v = (record { plan = is; met = λ plain none. absurd (not_both (is_filter q) is plain); within = tt; few = omega arith }, omega arith)
+accepted_by shared q (plans.Parts parts numbers) free is (forms.whole plain c part fits follow e) = by_whole shared q parts numbers free is part c fits e
+accepted_by shared q (plans.Parts parts numbers) free is (forms.parts (inl filter) v) = absurd (not_both (is_filter q) filter is.0)
+accepted_by shared q (plans.Parts parts numbers) free is (forms.parts (inr none) v) = by_parts shared q parts numbers free is none v

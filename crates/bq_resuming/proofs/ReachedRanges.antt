@@ -1,5 +1,5 @@
 -- The ranges of the selected columns lie among the integers that may be written, so that their tuples are of integers of 64 bits.
-use Rattle.std.proofs.Common.{◌≡◌, ℕ, zero, suc, ◌<◌, ◌≤◌, ◌^◌, inl, inr, Bool, true, false, cond, not, int_lt, int_eq, nat_lt, ℤ, pos, negsuc, neg_ℤ, ◌+ℤ◌, ◌-ℤ◌, ◌≤ℤ◌, ◌<ℤ◌, List, [], ◌∷◌, map, Contains, IsFalse, refl, sym, ap, ap₂, ◌∙◌, subst, arith}
+use Rattle.std.proofs.Common.{◌≡◌, ℕ, zero, suc, ◌<◌, ◌≤◌, ◌^◌, inl, inr, Bool, true, false, cond, not, int_eq, nat_lt, ℤ, pos, negsuc, ◌+ℤ◌, ◌-ℤ◌, ◌≤ℤ◌, List, [], ◌∷◌, map, Contains, IsFalse, refl, sym, ap, ap₂, ◌∙◌, subst, arith}
 use Rattle.std.specs.List.{AllByRecursion}
 use Rattle.std.specs.declared.option.Option.TheVariants.{None}
 use Rattle.std.proofs.lemmas.Bool.Decides.{nat_tests, Decides-int_eq}
@@ -33,49 +33,17 @@ use Rattle.bq_model.proofs.BoxLaws.{range-below}
 use Rattle.bq_laws.proofs.OnePartFits.{has_cases}
 use Rattle.bq_laws.proofs.Tests.{same_bool}
 use Rattle.bq_laws.proofs.Tying.{ranges-are-exact}
+use Rattle.bq_forms.specs.Part.{IsWholePartPlan}
+use Rattle.bq_forms.proofs.WholeServes.{selected_own}
+use Rattle.bq_forms.specs.Forms.{MeetsForm, IsFormPlan}
+use Rattle.bq_forms.specs.Forms as forms
+use Rattle.bq_forms.proofs.Forms.{plans_of}
+use Rattle.bq_resuming.proofs.Spreading.{lowest, highest, Spreads, lowered, raised, lowering, raising, lower_still, higher_still}
+use Rattle.bq_resuming.proofs.OwnRanges.{low_written, high_written}
 
 -- an integer of 64 bits
 abbrev pub Fits : ℤ → Type 0
 Fits z = fits_i64 z ≡ true
-
--- the least and the greatest integer that may be written
-abbrev lowest : ℤ
-lowest = neg_ℤ (pos 999999999999999)
-
-abbrev highest : ℤ
-highest = pos 999999999999999
-
--- integers are moved apart, and those that may be written stay
-record Spreads (f : ℤ → ℤ) : Type 0 where
-  pub less : (x y : ℤ) → int_lt (f x) (f y) ≡ int_lt x y
-  pub same : (x y : ℤ) → f x ≡ f y → x ≡ y
-  pub stays : (z : ℤ) → lowest ≤ℤ z → z ≤ℤ highest → f z ≡ z
-
-abbrev lowered : ℤ → ℤ
-lowered z = cond (int_lt z lowest) (z -ℤ pos 1) z
-
-abbrev raised : ℤ → ℤ
-raised z = cond (int_lt highest z) (z +ℤ pos 1) z
-
-lowering : Spreads lowered
-lowering = record {
-  less = λ x y. grind (arith, ints);
-  same = λ x y e. grind (arith, ints, e);
-  stays = λ z l u. grind (arith, ints, l);
-}
-
-raising : Spreads raised
-raising = record {
-  less = λ x y. grind (arith, ints);
-  same = λ x y e. grind (arith, ints, e);
-  stays = λ z l u. grind (arith, ints, u);
-}
-
-lower_still : (z : ℤ) → z <ℤ lowest → lowered z ≡ z -ℤ pos 1
-lower_still z l = grind (arith, ints, l)
-
-higher_still : (z : ℤ) → highest <ℤ z → raised z ≡ z +ℤ pos 1
-higher_still z l = grind (arith, ints, l)
 
 module _ (f : ℤ → ℤ) (s : Spreads f) where
   equal_kept : (x y : ℤ) → int_eq (f x) (f y) ≡ int_eq x y
@@ -198,12 +166,34 @@ different_among (b ∷ columns) a h = elim (has_cases b a _ h) [
   | inr k ↦ later (different_among columns a (Has-filter_from (λ c. not (attr_eq b c)) (different columns) a k))
 ]
 
-module _ (q : QueryValue) (plan : List PartPlan) (within : IsWithinLimits q) (no_filter : IsFalse (is_filter q)) (is : ArePartPlans q plan) (violation : IsViolation q None) where
+-- the ranges of the selected columns go between integers that may be written
+abbrev AreWritten : QueryValue → List PartPlan → Type 0
+AreWritten q plan = (part : PartPlan) → Has plan part → (a : Attr) → Has q.select a → (lowest ≤ℤ (range_of q part a).lo) × ((range_of q part a).hi ≤ℤ highest)
+
+parts_written : (q : QueryValue) (plan : List PartPlan) → IsWithinLimits q → IsFalse (is_filter q) → ArePartPlans q plan → IsViolation q None → AreWritten q plan
+parts_written q plan within plain is violation part k a i =
+    let r = ranges-are-exact q plan within plain is violation part (Contains-from_has plan part k) a (Contains-from_has q.select a i) in
+    (least_within q within part.signs.items a (range_of q part a).lo r.0, greatest_within q within part.signs.items a (range_of q part a).hi r.1)
+
+-- those of the whole form are the own ranges of the columns
+whole_written : (q : QueryValue) (part : PartPlan) → IsWithinLimits q → IsWholePartPlan q part → AreWritten q (part ∷ [])
+whole_written q part within is other k a i = elim (has_cases part other [] k) [
+  | inl e ↦ subst (λ (p : PartPlan). (lowest ≤ℤ (range_of q p a).lo) × ((range_of q p a).hi ≤ℤ highest)) e (
+      let own = selected_own q within part is a (Contains-from_has q.select a i) in
+      (low_written q within a (range_of q part a).lo own.low, high_written q within a (range_of q part a).hi own.high))
+  | inr n ↦ elim n [ ]
+]
+
+plan_written : (shared : Bool) (q : QueryValue) (plan : List PartPlan) → IsWithinLimits q → IsFalse (is_filter q) → MeetsForm q → IsFormPlan shared q plan → AreWritten q plan
+plan_written shared q plan within plain met (forms.whole c part fits follow e) = subst (AreWritten q) (sym e) (whole_written q part within fits.plan)
+plan_written shared q plan within plain met (forms.parts none is) = parts_written q plan within plain (plans_of shared q plan is) (met plain none).1
+
+module _ (q : QueryValue) (plan : List PartPlan) (written : AreWritten q plan) where
   range_fits : (part : PartPlan) → Has plan part → (a : Attr) → Has q.select a → (x : ℤ) → (range_of q part a).lo ≤ℤ x → x ≤ℤ (range_of q part a).hi → Fits x
   range_fits part k a i x l u =
-      let r = ranges-are-exact q plan within no_filter is violation part (Contains-from_has plan part k) a (Contains-from_has q.select a i) in
-      let low : lowest ≤ℤ (range_of q part a).lo = least_within q within part.signs.items a (range_of q part a).lo r.0 in
-      let high : (range_of q part a).hi ≤ℤ highest = greatest_within q within part.signs.items a (range_of q part a).hi r.1 in
+      let r = written part k a i in
+      let low : lowest ≤ℤ (range_of q part a).lo = r.0 in
+      let high : (range_of q part a).hi ≤ℤ highest = r.1 in
       within_fits x (omega (arith, ints, l, low)) (omega (arith, ints, u, high))
 
   box_fits : (part : PartPlan) → Has plan part → (cs : List Attr) → ((a : Attr) → Has cs a → Has q.select a) → (xs : List ℤ) → Has (box (map (range_of q part) cs)) xs → AllByRecursion Fits xs
@@ -223,9 +213,14 @@ module _ (q : QueryValue) (plan : List PartPlan) (within : IsWithinLimits q) (no
       (range_fits part k c (own c first) m.0 (omega (arith, ints, at)) (omega (arith, ints, at, high)), box_fits part k cs (λ a i. own a (later i)) o.0 o.1)
 
   -- each tuple in the ranges of some part is of such integers
-  pub tuple_fits : (t : List ℤ) → Has (all_tuples q plan) t → AllByRecursion Fits t
+  tuple_fits : (t : List ℤ) → Has (all_tuples q plan) t → AllByRecursion Fits t
   tuple_fits t h =
       let m = Has-flat_map_from (λ part. map (λ xs. map (at_column (different q.select) xs) q.select) (box (selected_ranges q part))) plan t h in
       let o = Has-map_from (λ xs. map (at_column (different q.select) xs) q.select) (box (selected_ranges q m.0)) t m.2 in
       subst (λ (ys : List ℤ). AllByRecursion Fits ys) o.2
       (all_columns_fit (different q.select) o.0 (box_fits m.0 m.1 (different q.select) (λ a i. different_among q.select a i) o.0 o.1) q.select)
+
+-- of a plan of any form
+pub form_tuple_fits : (shared : Bool) (q : QueryValue) (plan : List PartPlan) → IsWithinLimits q → IsFalse (is_filter q) → MeetsForm q → IsFormPlan shared q plan
+    → (t : List ℤ) → Has (all_tuples q plan) t → AllByRecursion Fits t
+form_tuple_fits shared q plan within plain met is t h = tuple_fits q plan (plan_written shared q plan within plain met is) t h

@@ -1,12 +1,10 @@
 -- A state to which the lines of a checkpoint lead goes on as the one that it tells of.
 use Rattle.std.proofs.Common.{ℕ, ◌≤◌, Bool, List, [], ◌∷◌, sym, subst, arith, All}
-use Rattle.std.specs.declared.option.Option.TheVariants.{None}
 use Rattle.std.proofs.lemmas.List.Elements.{All-nil, All-head, All-tail}
 use Rattle.bq_model.specs.declared.plan.Plan.{Plan}
 use Rattle.bq_model.specs.Query.{QueryValue, IsWithinLimits}
 use Rattle.bq_model.specs.Domains.{RowKeeps, RowsKeep}
-use Rattle.bq_model.specs.Violation.{IsViolation}
-use Rattle.bq_model.specs.Sharing.{IsPlanOf}
+use Rattle.bq_forms.specs.Forms.{MeetsForm, IsFormPlanOf}
 use Rattle.bq_model.specs.Bases.{Base}
 use Rattle.bq_schema.specs.Streams.{Shape}
 use Rattle.bq_parser.specs.Resolution.{HasNamed}
@@ -26,11 +24,11 @@ turned q p a = record { name = sym a.name; query = sym a.query; shared = sym a.s
 sound_at_base : (streams : List Shape) (taken : ℕ) (q p : LiveQuery) → IsAlike q p → IsSoundIn streams taken q → IsAtBase p → IsSoundIn streams taken p
 sound_at_base streams taken q p a s b = record {
   limits = subst IsWithinLimits a.query s.limits;
-  violation = subst (λ (x : QueryValue). IsViolation x None) a.query s.violation;
+  met = subst MeetsForm a.query s.met;
   named = subst (HasNamed streams) a.query s.named;
   plan =
-      subst (λ (x : Plan). IsPlanOf p.shared p.query x) a.plan
-      (subst (λ (x : QueryValue). IsPlanOf p.shared x q.plan) a.query (subst (λ (x : Bool). IsPlanOf x q.query q.plan) a.shared s.plan));
+      subst (λ (x : Plan). IsFormPlanOf p.shared p.query x) a.plan
+      (subst (λ (x : QueryValue). IsFormPlanOf p.shared x q.plan) a.query (subst (λ (x : Bool). IsFormPlanOf x q.query q.plan) a.shared s.plan));
   rows = subst (RowsKeep p.query) (sym b.none) (All-nil (RowKeeps p.query));
   size = b.size;
   given = subst (λ (x : Base). x.given ≤ taken) a.kept s.given;

@@ -16,6 +16,7 @@ use Rattle.bq_model.specs.Ranges.{all_tuples}
 use Rattle.bq_model.proofs.Has.{Has-from_contains, Has-map_from, Has-flat_map_from}
 use Rattle.bq_schema.specs.declared.column.ColumnDef.{ColumnDef}
 use Rattle.bq_schema.specs.Streams.{Shape, IsShape, HasEnds}
+use Rattle.bq_forms.proofs.Forms.{form_plans_serve}
 use Rattle.bq_executor.proofs.PlanFacts.{cells_of_plan}
 use Rattle.bq_print.specs.Printed.{printed_form}
 use Rattle.bq_parser.specs.declared.tree.Statement.TheVariants.{ResumeRows}
@@ -125,7 +126,7 @@ printed_short q false d short sound fits = tt
 pub kept_short : (streams : List Shape) (q : LiveQuery) → IsSoundLive q → HasShortLines streams q → AreShort (kept_lines q)
 kept_short streams q sound has =
     let short : length q.name ≤ 24 = (name_facts q.name has.name).short in
-    let size = (cells_of_plan q.shared q.query q.plan sound.accepted.plan sound.accepted.within).1 in
+    let size = (cells_of_plan q.shared q.query q.plan (form_plans_serve q.shared q.query q.plan sound.limits sound.accepted.met sound.accepted.plan) sound.accepted.within).1 in
     let whole = sound.whole in
     let told : All (λ c. Told (content_in c)) (base_in q).cells
     = λ i d within. (let is : IsCellOf (boxes_of q) (base_in q).given i (slice_index_or (base_in q).cells i d) = sound.cells i d (omega (arith, within, whole)) in

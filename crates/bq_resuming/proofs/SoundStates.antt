@@ -22,7 +22,7 @@ told_sound streams taken pool l q sound stands named given =
     let same = stands.given in
     record {
       limits = sound.limits;
-      violation = sound.accepted.violation;
+      met = sound.accepted.met;
       named = named;
       plan = sound.accepted.plan;
       rows = stands.rows;

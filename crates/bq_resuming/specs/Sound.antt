@@ -1,10 +1,9 @@
 -- What is true of each state that a session stands for.
 use Rattle.std.specs.Prelude.{◌≡◌, ℕ, ◌≤◌, ◌^◌, List, length, All}
-use Rattle.std.specs.declared.option.Option.TheVariants.{None}
 use Rattle.bq_model.specs.Query.{IsWithinLimits}
 use Rattle.bq_model.specs.Domains.{RowsKeep}
-use Rattle.bq_model.specs.Violation.{IsViolation}
-use Rattle.bq_model.specs.Sharing.{IsPlanOf, sizes_in}
+use Rattle.bq_model.specs.Sharing.{sizes_in}
+use Rattle.bq_forms.specs.Forms.{MeetsForm, IsFormPlanOf}
 use Rattle.bq_schema.specs.Streams.{Shape}
 use Rattle.bq_parser.specs.Resolution.{HasNamed}
 use Rattle.bq_registry.specs.Live.{LiveQuery, boxes_of, base_in}
@@ -17,9 +16,9 @@ use Rattle.bq_session.specs.Session.{SessionValue}
 -- the rows since its base keep to the domains, the base has a cell for each place in its boxes, and no more rows were given than were taken
 pub record IsSoundIn (streams : List Shape) (taken : ℕ) (q : LiveQuery) : Type 0 where
   pub limits : IsWithinLimits q.query
-  pub violation : IsViolation q.query None
+  pub met : MeetsForm q.query
   pub named : HasNamed streams q.query
-  pub plan : IsPlanOf q.shared q.query q.plan
+  pub plan : IsFormPlanOf q.shared q.query q.plan
   pub rows : RowsKeep q.query q.history
   pub size : length q.base.cells ≡ sizes_in (boxes_of q)
   pub given : (base_in q).given ≤ taken

@@ -6,7 +6,7 @@ use Rattle.bq_model.specs.declared.plan.PartPlan.{PartPlan}
 use Rattle.bq_model.specs.Query.{QueryValue, IsWithinLimits}
 use Rattle.bq_model.specs.Boxes.{values_at}
 use Rattle.bq_model.specs.Meaning.{by_column}
-use Rattle.bq_model.specs.Plan.{IsPartPlan, dims_at}
+use Rattle.bq_model.specs.Plan.{dims_at}
 use Rattle.bq_model.specs.Cells.{FitsKind}
 use Rattle.bq_model.specs.Combinations.{Choice, choice, choice_of, cell_choice, row_of_values, row_of_cell, Reading}
 use Rattle.bq_model.specs.Future.{spelled_out}
@@ -15,6 +15,7 @@ use Rattle.bq_model.proofs.Has.{Has, first, Has-from_contains, Contains-from_has
 use Rattle.bq_laws.specs.Closed.{IsSaturated}
 use Rattle.bq_laws.proofs.OnePartFits.{has_cases}
 use Rattle.bq_narrow.specs.Values.{extreme_of, rows_in}
+use Rattle.bq_synopsis.specs.Premises.{IsWalked}
 use Rattle.bq_saturated.specs.Saturated.{HasColumns, HasEach}
 use Rattle.bq_saturated.proofs.Beside.{found-alike}
 
@@ -36,7 +37,7 @@ some-rows (Kind.Greatest a) (Cell.Count m) f n = absurd f
 some-rows kind Cell.Present f n = omega arith
 some-rows kind (Cell.Extreme z) f n = omega arith
 
-module _ (q : QueryValue) (part : PartPlan) (within : IsWithinLimits q) (plan : IsPartPlan q part) (read : Reading) (table : List (List ℤ)) (place i : ℕ) (kind : Kind)
+module _ (q : QueryValue) (part : PartPlan) (within : IsWithinLimits q) (walked : IsWalked q part) (read : Reading) (table : List (List ℤ)) (place i : ℕ) (kind : Kind)
     (held : Cell) (is : held ≡ read part place i) (fits : FitsKind kind held) (some : held ≡ Cell.Empty → ⊥)
     (row : List ℤ) (columns : HasColumns (row_of_cell q part place i (extreme_of held)) row) where
   abbrev own : Choice
@@ -57,9 +58,9 @@ module _ (q : QueryValue) (part : PartPlan) (within : IsWithinLimits q) (plan : 
   pub saturated-by-row : HasEach table (spelled_out (found_beside q part read place (by_column row))) ↔ IsSaturated q part read table place i
   saturated-by-row = (
     λ each c k p t h.
-        each t (Contains-from_has _ t (found-alike q part within plan read place (row_of_cell q part place i (extreme_of held)) (by_column row) (λ column l. sym (columns column l)) t
+        each t (Contains-from_has _ t (found-alike q part within walked read place (row_of_cell q part place i (extreme_of held)) (by_column row) (λ column l. sym (columns column l)) t
         (Has-from_contains _ t (subst (λ (d : Choice). Contains (spelled_out (found_beside q part read place d.values)) t) (sym (only c k)) h)))),
     λ saturated t h.
-        saturated own there (some-rows kind held fits some) t (Contains-from_has _ t (found-alike q part within plan read place (by_column row) (row_of_cell q part place i (extreme_of held)) columns t
+        saturated own there (some-rows kind held fits some) t (Contains-from_has _ t (found-alike q part within walked read place (by_column row) (row_of_cell q part place i (extreme_of held)) columns t
         (Has-from_contains _ t h))),
   )

@@ -5,7 +5,8 @@ use Rattle.bq_model.specs.declared.plan.Dim.{Dim}
 use Rattle.bq_model.specs.declared.plan.PartPlan.{PartPlan}
 use Rattle.bq_model.specs.Query.{QueryValue}
 use Rattle.bq_model.specs.Boxes.{dim_size, box_size, AreFull}
-use Rattle.bq_model.specs.Plan.{IsPartPlan, stream_at, dims_at}
+use Rattle.bq_model.specs.Plan.{stream_at, dims_at}
+use Rattle.bq_model.specs.Serving.{KeepsStreams}
 use Rattle.bq_model.specs.Numbers.{is_fixed, free_dims, greatest_of, share}
 use Rattle.bq_model.proofs.BoxLaws as Boxes
 use Rattle.bq_saturated.specs.Looking.{look_cost}
@@ -31,13 +32,13 @@ fewer p (d ∷ dims) f = by (p d) (fewer p dims f.1)
     by true h = times (dim_size d) (box_size (filter p dims)) (box_size dims) h
     by false h = more (dim_size d) (box_size (filter p dims)) (box_size dims) (Boxes.full-dim-size d f.0) h
 
-module _ (q : QueryValue) (part : PartPlan) (own : IsPartPlan q part) (two : length q.from ≡ 2) (full : (place : ℕ) → place < length q.from → AreFull (dims_at part place)) where
+module _ (q : QueryValue) (part : PartPlan) (own : KeepsStreams q part) (two : length q.from ≡ 2) (full : (place : ℕ) → place < length q.from → AreFull (dims_at part place)) where
   left : ℕ → ℕ → List Dim
   left arriving place = filter (λ d. not (is_fixed part arriving place d)) (dims_at part place)
 
   within : (arriving place : ℕ) → place < length q.from → box_size (filter (λ d. not (is_fixed part arriving place d)) (dims_at part place)) ≤ (stream_at part place).size
   within arriving place l =
-      let size = (own.streams place l).size ∙ ap (λ n. cond (nat_eq n 1) 0 (box_size (dims_at part place))) two in
+      let size = own.size place l ∙ ap (λ n. cond (nat_eq n 1) 0 (box_size (dims_at part place))) two in
       let few = fewer (λ d. not (is_fixed part arriving place d)) (dims_at part place) (full place l) in omega (arith, size, few)
 
   by-two : (n : ℕ) → n ≡ 2

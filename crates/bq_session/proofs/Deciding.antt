@@ -8,8 +8,8 @@ use Rattle.bq_model.specs.declared.decision.Which.{Which}
 use Rattle.bq_model.specs.declared.plan.Plan.{Plan}
 use Rattle.bq_model.specs.declared.plan.Plan.TheVariants as plans
 use Rattle.bq_model.specs.Query.{QueryValue}
-use Rattle.bq_model.specs.Verdict.{IsVerdict}
 use Rattle.bq_model.specs.Verdict as verdicts
+use Rattle.bq_forms.specs.Forms.{IsFormVerdict}
 use Rattle.bq_parser.specs.declared.tree.ColumnAst.{ColumnAst}
 use Rattle.bq_parser.specs.Resolution.{column_named}
 use Rattle.bq_registry.specs.declared.refusal.CreateError.{CreateError}
@@ -41,7 +41,7 @@ same_text : (name : List ℕ) (plan : Plan) → acceptance_text name (verdict_of
 same_text name plans.Filter = refl
 same_text name (plans.Parts ps numbers) = refl
 
-same_verdict : (shared : Bool) (q : QueryValue) (free : ℕ) (plan : Plan) → TellsVerdict shared q free (Ok (verdict_of plan)) → IsVerdict shared q free (acceptance plan)
+same_verdict : (shared : Bool) (q : QueryValue) (free : ℕ) (plan : Plan) → TellsVerdict shared q free (Ok (verdict_of plan)) → IsFormVerdict shared q free (acceptance plan)
 same_verdict shared q free plans.Filter t = t
 same_verdict shared q free (plans.Parts ps numbers) t = t
 
@@ -94,7 +94,7 @@ unchanged k r s u old = record {
 
 -- a number of the query is above its limit
 pub too_large : {T E : Type 0} (written : Result T E) (outcome : LineOutcome) (s : State) (name : List ℕ) (q : QueryValue) (shared : Bool) (k : SessionValue) (r : RegistryValue) (which : Which) (before after : SinkState)
-    → outcome ≡ outcome_of written → StandsFor k (one_line_more s) → IsVerdict shared q (free_pages s.pages s.queries) (verdicts.limit which) → IsUnchanged k.registry r
+    → outcome ≡ outcome_of written → StandsFor k (one_line_more s) → IsFormVerdict shared q (free_pages s.pages s.queries) (verdicts.limit which) → IsUnchanged k.registry r
     → Writes written before after (codes "refused " ++ name ++ codes " limit " ++ which_text which ++ 10 ∷ [])
     → Does outcome s (asked name q shared) (with_registry k r) before after
 too_large written outcome s name q shared k r which before after o old v u w =
@@ -102,7 +102,7 @@ too_large written outcome s name q shared k r which before after o old v u w =
 
 -- too few pages are free
 pub no_room : {T E : Type 0} (written : Result T E) (outcome : LineOutcome) (s : State) (name : List ℕ) (q : QueryValue) (shared : Bool) (k : SessionValue) (r : RegistryValue) (before after : SinkState)
-    → outcome ≡ outcome_of written → StandsFor k (one_line_more s) → IsVerdict shared q (free_pages s.pages s.queries) verdicts.pool → IsUnchanged k.registry r
+    → outcome ≡ outcome_of written → StandsFor k (one_line_more s) → IsFormVerdict shared q (free_pages s.pages s.queries) verdicts.pool → IsUnchanged k.registry r
     → Writes written before after (codes "refused " ++ name ++ codes " limit pool" ++ 10 ∷ [])
     → Does outcome s (asked name q shared) (with_registry k r) before after
 no_room written outcome s name q shared k r before after o old v u w =
@@ -110,7 +110,7 @@ no_room written outcome s name q shared k r before after o old v u w =
 
 -- a part of a query breaks a condition
 pub violated : {T E : Type 0} (written : Result T E) (outcome : LineOutcome) (s : State) (name : List ℕ) (q : QueryValue) (shared : Bool) (k : SessionValue) (r : RegistryValue) (part : ℕ) (condition : Condition) (attr : Attr) (column : ColumnAst) (before after : SinkState)
-    → outcome ≡ outcome_of written → StandsFor k (one_line_more s) → IsVerdict shared q (free_pages s.pages s.queries) (verdicts.violation record { part = part; condition = condition; attr = attr }) → IsUnchanged k.registry r
+    → outcome ≡ outcome_of written → StandsFor k (one_line_more s) → IsFormVerdict shared q (free_pages s.pages s.queries) (verdicts.violation record { part = part; condition = condition; attr = attr }) → IsUnchanged k.registry r
     → column ≡ column_named k.streams q.from attr
     → Writes written before after (codes "refused " ++ name ++ codes " part " ++ decimal part ++ 32 ∷ condition_text condition ++ 32 ∷ column_text column ++ 10 ∷ [])
     → Does outcome s (asked name q shared) (with_registry k r) before after

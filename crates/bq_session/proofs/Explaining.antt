@@ -11,7 +11,7 @@ use Rattle.bq_pool.specs.Extents.{PoolValue}
 use Rattle.bq_explain.specs.Text.{explain_text}
 use Rattle.bq_registry.specs.Live.{Live, LiveQuery}
 use Rattle.bq_model.specs.declared.plan.Plan.{Plan}
-use Rattle.bq_model.specs.Sharing.{IsPlanOf}
+use Rattle.bq_forms.specs.Forms.{IsFormPlanOf}
 use Rattle.std.specs.declared.result.Result.{Result}
 use Rattle.bq_registry.specs.declared.refusal.CreateError.{CreateError}
 use Rattle.bq_registry.specs.declared.verdict.Verdict.{Verdict}
@@ -73,10 +73,10 @@ query_is_named streams q [] place within all e = absurd (omega (arith, within))
 query_is_named streams q (l ∷ live) place within all e = subst (HasNamed streams) (sym (e l)) (all place l within)
 
 pub plan_is_its : (q : QueryValue) (p : Plan) (live : List Live) (place : ℕ) → place < length live → ((d : Live) → q ≡ (slice_index_or live place d).executor.query)
-    → ((d : Live) → IsPlanOf (slice_index_or live place d).executor.shared (slice_index_or live place d).executor.query p) → (shared : Bool) × IsPlanOf shared q p
+    → ((d : Live) → IsFormPlanOf (slice_index_or live place d).executor.shared (slice_index_or live place d).executor.query p) → (shared : Bool) × IsFormPlanOf shared q p
 plan_is_its q p [] place within e i = absurd (omega (arith, within))
 plan_is_its q p (l ∷ live) place within e i =
-    let shared : Bool = (slice_index_or (l ∷ live) place l).executor.shared in (shared, subst (λ (x : QueryValue). IsPlanOf shared x p) (sym (e l)) (i l))
+    let shared : Bool = (slice_index_or (l ∷ live) place l).executor.shared in (shared, subst (λ (x : QueryValue). IsFormPlanOf shared x p) (sym (e l)) (i l))
 
 pub text_is_its : (streams : List Shape) (name : List ℕ) (pool : PoolValue) (live : List Live) (queries : List LiveQuery) (place : ℕ) (q : QueryValue) (p : Plan) → AreLiveFor pool live queries
     → position (λ (l : Live). bytes_eq l.name name) live ≡ Some place → place < length live → ((d : Live) → q ≡ (slice_index_or live place d).executor.query)

@@ -7,7 +7,7 @@ use Rattle.bq_model.specs.declared.cell.Cell.{Cell}
 use Rattle.bq_model.specs.declared.plan.Plan.{Plan}
 use Rattle.bq_model.specs.declared.plan.Plan.TheVariants as plans
 use Rattle.bq_model.specs.Query.{QueryValue}
-use Rattle.bq_model.specs.Sharing.{IsPlanOf}
+use Rattle.bq_forms.specs.Forms.{IsFormPlanOf}
 use Rattle.bq_parser.specs.declared.tree.Statement.TheVariants.{ResumeRows, ResumeTuple}
 use Rattle.bq_print.specs.Printed.{printed_form}
 use Rattle.bq_executor.specs.Executor.{most_answers}
@@ -31,7 +31,7 @@ few_cells name i (c ∷ cells) =
     omega (arith, one_cell name i (content_in c), few_cells name (i + 1) cells, length-append (cell_statement name i (content_in c)) (cell_statements name (i + 1) cells))
 
 -- one for each printed tuple, of which there are no more than announced
-few_tuples : (name : List ℕ) (q : QueryValue) (shared : Bool) (plan : Plan) (tuples : List (List ℤ)) → IsPlanOf shared q plan → (q.distinct ≡ true → length tuples ≤ most_answers plan)
+few_tuples : (name : List ℕ) (q : QueryValue) (shared : Bool) (plan : Plan) (tuples : List (List ℤ)) → IsFormPlanOf shared q plan → (q.distinct ≡ true → length tuples ≤ most_answers plan)
     → length (printed_statements name q.distinct tuples) ≤ answers_of plan
 few_tuples name q shared plan tuples is few = by q.distinct refl
   where
@@ -42,7 +42,7 @@ few_tuples name q shared plan tuples is few = by q.distinct refl
     none true one e f = cc
     none false one e f = cc
 
-    rest : (p : Plan) → IsPlanOf shared q p → q.distinct ≡ true → length tuples ≤ most_answers p → length (tuple_statements name tuples) ≤ answers_of p
+    rest : (p : Plan) → IsFormPlanOf shared q p → q.distinct ≡ true → length tuples ≤ most_answers p → length (tuple_statements name tuples) ≤ answers_of p
     rest plans.Filter f d n = absurd (none q.distinct _ f d)
     rest (plans.Parts parts numbers) f d n = omega (arith, told, n)
 

@@ -6,7 +6,8 @@ use Rattle.bq_model.specs.declared.cell.Cell.{Cell}
 use Rattle.bq_model.specs.declared.plan.Plan.{Plan}
 use Rattle.bq_model.specs.Query.{QueryValue}
 use Rattle.bq_model.specs.Numbers.{parts_of}
-use Rattle.bq_model.specs.Sharing.{kept_boxes, sizes_in, IsPlanOf}
+use Rattle.bq_model.specs.Sharing.{kept_boxes, sizes_in}
+use Rattle.bq_forms.specs.Forms.{IsFormPlanOf}
 use Rattle.bq_model.specs.declared.plan.Plan.TheVariants as plans
 use Rattle.bq_model.specs.Bases.{Base, kept}
 use Rattle.bq_schema.specs.Streams.{Shape}
@@ -106,12 +107,12 @@ pub text_is : (a b : List (List ℕ)) (line : List ℕ) (c : List (List ℕ)) �
 text_is a b line c = lines_append (a ++ b) (line ∷ c) ∙ ap (λ t. t ++ text_of_lines (line ∷ c)) (lines_append a b)
 
 -- a plan announces the cells that are kept
-pub announced_are_kept : (shared : Bool) (q : QueryValue) (p : Plan) → IsPlanOf shared q p → plan_cells p ≡ sizes_in (kept_boxes shared q (parts_of p))
+pub announced_are_kept : (shared : Bool) (q : QueryValue) (p : Plan) → IsFormPlanOf shared q p → plan_cells p ≡ sizes_in (kept_boxes shared q (parts_of p))
 announced_are_kept shared q plans.Filter is = sym (no_cells shared q)
 announced_are_kept shared q (plans.Parts parts numbers) is = cells_announced shared q parts numbers is.2
 
 pub kept_announced : (live : List Live) (place : ℕ) (d : Live) (e : ExecutorValue) (p : Plan) → list_in e ≡ list_in (slice_index_or live place d).executor → p ≡ (slice_index_or live place d).executor.plan
-    → IsPlanOf (slice_index_or live place d).executor.shared (slice_index_or live place d).executor.query p → sizes_in (list_in e) ≡ plan_cells (slice_index_or live place d).executor.plan
+    → IsFormPlanOf (slice_index_or live place d).executor.shared (slice_index_or live place d).executor.query p → sizes_in (list_in e) ≡ plan_cells (slice_index_or live place d).executor.plan
 kept_announced live place d e p same its is =
     let x = (slice_index_or live place d).executor in
     ap sizes_in same

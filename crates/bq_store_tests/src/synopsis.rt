@@ -1,5 +1,5 @@
 //! Cells and the probe: rows go into cells, and all that a walk over them gives is compared with a list written by hand.
-ghost use Rattle.std.specs.Prelude.{◌≡◌, ℕ, ◌+◌, ◌*◌, ◌<◌, ◌≤◌, ◌^◌, false, length, replicate, slice_index_or};
+ghost use Rattle.std.specs.Prelude.{◌≡◌, ℕ, ◌+◌, ◌*◌, ◌<◌, ◌≤◌, ◌^◌, false, length, replicate, slice_index_or, IfOk};
 ghost use Rattle.bq_model.specs.Cells.{FitsKind};
 ghost use Rattle.bq_model.specs.Numbers.{share};
 ghost use Rattle.bq_model.specs.Parts.{pairs};
@@ -10,10 +10,12 @@ ghost use Rattle.bq_pool.specs.Extents.{cells_of};
 ghost use Rattle.bq_synopsis.specs.Premises.{IsHeld, IsReady, IsWalked};
 ghost use Rattle.bq_synopsis.specs.Preparing.{IsPrepared};
 ghost use Rattle.bq_narrow.specs.Values.{rows_in};
+ghost use Rattle.bq_store_tests.specs.Asked.{asked};
 
 use arrayvec::ArrayVec;
 use bq_model::{
-    Atom, Attr, Dim, Element, Kind, Link, Op, PartPlan, Query, Row, Sign, StreamPlan, Tuple,
+    Atom, Attr, Dim, Element, Kind, Link, LocalCondition, Locals, Op, PartPlan, Query, Row, Sign,
+    SoftLink, StreamPlan, Tuple,
 };
 use bq_narrow::PartAt;
 use bq_pool::{Pool, Steps};
@@ -221,6 +223,12 @@ fn link(left: Attr, right: Attr) -> Link
     Link { left, right }
 }
 
+fn soft_link(left: Attr, op: Op, right: Attr) -> SoftLink
+    ensures { result ≡ record { left = left; op = op; right = right } }
+{
+    SoftLink { left, op, right }
+}
+
 // SELECT R.a, S.b FROM R, S WHERE R.a = S.a AND S.b < R.c AND R.a > 0 AND R.c < 6, in its part with R.a < S.b < R.c.
 fn of_two_streams<L: Ledger>(
     alloc: Global,
@@ -260,6 +268,8 @@ fn of_two_streams<L: Ledger>(
         streams,
         equal: listed(&[link(R_A, S_A)]),
         less: listed(&[link(R_A, S_B), link(S_B, R_C)]),
+        local: Locals::of(Vec::new(alloc)),
+        soft: ArrayVec::new(),
     };
     let mut steps = Steps::<L>::new(blank);
     answers(alloc, &q, &part, rows, pos, values, &mut steps)
@@ -300,6 +310,95 @@ fn an_equality_and_an_inequality(rt: HostRuntime) -> Result<(), Fail> {
     Ok(())
 }
 
+// What rows of one stream are asked beside signs: R.c = R.a and S.b <= S.a.
+fn conditions(alloc: Global) -> Result<Vec<LocalCondition>, AllocError>
+    ensures { IfOk result (λ list. list.items ≡ asked) }
+{
+    let tie = LocalCondition {
+        left: R_C,
+        op: Op::Eq,
+        right: Element::Attr(R_A),
+        by: 0,
+    };
+    let below = LocalCondition {
+        left: S_B,
+        op: Op::Le,
+        right: Element::Attr(S_A),
+        by: 0,
+    };
+    Vec::from_slice(alloc, &[tie, below])
+}
+
+// SELECT R.c, S.b FROM R, S WHERE R.a <= S.a AND R.a <> S.b AND R.c = R.a AND S.b <= S.a AND R.a > 0 AND S.a < 4 AND S.b > 0, as one part that has no
+// signs: its rows are asked by conditions, and its links are `<=` and `<>`.
+fn of_other_links<L: Ledger>(
+    alloc: Global,
+    blank: Blank,
+    rows: &[(u8, &[i64])],
+    pos: u8,
+    values: &[i64],
+) -> Result<Vec<i64>, AllocError>
+    requires name { blank.name ≡ L.name }
+    requires parts { blank.parts ≡ L.parts }
+    requires two { 2 ≤ L.parts }
+    requires few { length rows.now < 1000 }
+{
+    let atoms = [
+        compared(R_A, Op::Le, Element::Attr(S_A)),
+        compared(R_A, Op::Ne, Element::Attr(S_B)),
+        compared(R_C, Op::Eq, Element::Attr(R_A)),
+        compared(S_B, Op::Le, Element::Attr(S_A)),
+        compared(R_A, Op::Gt, Element::Const(0)),
+        compared(S_A, Op::Lt, Element::Const(4)),
+        compared(S_B, Op::Gt, Element::Const(0)),
+    ];
+    let q = Query::new(false, &[0, 1], &[R_C, S_B], &atoms, &[], true);
+    let mut streams = ArrayVec::new();
+    streams.push(counted(&[range(R_A, 1, 3)], 0, 3));
+    streams.push(counted(&[range(S_A, 1, 3), range(S_B, 1, 3)], 3, 9));
+    let part = PartPlan {
+        signs: ArrayVec::new(),
+        local: Locals::of(conditions(alloc)?),
+        streams,
+        equal: ArrayVec::new(),
+        less: ArrayVec::new(),
+        soft: listed(&[soft_link(R_A, Op::Le, S_A), soft_link(R_A, Op::Ne, S_B)]),
+    };
+    let mut steps = Steps::<L>::new(blank);
+    answers(alloc, &q, &part, rows, pos, values, &mut steps)
+}
+
+// The part does not admit R(2, 3), R(4, 4) and S(1, 2).
+#[test]
+fn conditions_and_other_links(rt: HostRuntime) -> Result<(), Fail> {
+    let rows: [(u8, &[i64]); 11] = [
+        (0, &[1, 1]),
+        (0, &[1, 1]),
+        (0, &[2, 2]),
+        (0, &[3, 3]),
+        (0, &[2, 3]),
+        (0, &[4, 4]),
+        (1, &[2, 1]),
+        (1, &[1, 2]),
+        (1, &[3, 3]),
+        (1, &[2, 2]),
+        (1, &[3, 1]),
+    ];
+    let cases: [(u8, &[i64], &[i64]); 6] = [
+        (1, &[2, 1], &[2, 1, 1]),
+        (1, &[3, 3], &[1, 3, 2, 2, 3, 1]),
+        (1, &[1, 1], &[]),
+        (0, &[1, 1], &[1, 2, 1, 1, 3, 1]),
+        (0, &[2, 2], &[2, 1, 1, 2, 1, 1, 2, 3, 1]),
+        (0, &[3, 3], &[3, 1, 1]),
+    ];
+    for (pos, values, wanted) in cases {
+        let told = of_other_links::<Brand>(rt.alloc(), Blank::new(2), &rows, pos, values)?;
+        assert_eq!(rt; told.as_slice(), wanted, "{values:?} at {pos}");
+    }
+    Ok(())
+}
+
 // SELECT R.a FROM R, S, T WHERE R.a = S.a AND S.a = T.a AND R.a > 0 AND R.a < 101. A walk reads three cells at most.
 fn of_a_chain<L: Ledger>(
     alloc: Global,
@@ -328,6 +427,8 @@ fn of_a_chain<L: Ledger>(
         streams,
         equal: listed(&[link(R_A, S_A), link(R_A, T_A), link(S_A, T_A)]),
         less: listed(&[]),
+        local: Locals::of(Vec::new(alloc)),
+        soft: ArrayVec::new(),
     };
     answers(alloc, &q, &part, rows, pos, values, steps)
 }

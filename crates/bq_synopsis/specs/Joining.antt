@@ -1,18 +1,21 @@
 -- The one cell of the other stream that can answer with a row, as the row's own columns tell it.
-use Rattle.std.specs.Prelude.{◌≡◌, ℕ, ℤ, ◌+◌, ◌-◌, ◌<◌, ◌^◌, ◌==◌, Bool, false, true, List, map, length, nat_eq, position, slice_get, if◌then◌else◌, Option, Some, None}
+use Rattle.std.specs.Prelude.{◌≡◌, ℕ, ℤ, ◌+◌, ◌-◌, ◌<◌, ◌^◌, ◌==◌, not, Bool, false, true, List, map, length, nat_eq, position, slice_get, if◌then◌else◌, Option, Some, None}
 use Rattle.std.specs.List.{list_all}
 use Rattle.bq_model.specs.declared.atom.Attr.{Attr}
 use Rattle.bq_model.specs.declared.part.Pair.{Pair}
 use Rattle.bq_model.specs.declared.plan.Dim.{Dim}
 use Rattle.bq_model.specs.declared.plan.Link.{Link}
+use Rattle.bq_model.specs.declared.plan.LocalCondition.{LocalCondition}
 use Rattle.bq_model.specs.declared.plan.PartPlan.{PartPlan}
-use Rattle.bq_model.specs.Admission.{alone, in_range, keeps_signs}
+use Rattle.bq_model.specs.Admission.{in_range}
+use Rattle.bq_model.specs.Parts.{is_within}
 use Rattle.bq_model.specs.Boxes.{box_size}
 use Rattle.bq_model.specs.Plan.{stream_at, dims_at}
 use Rattle.bq_synopsis.specs.declared.key_columns.KeyColumn.{KeyColumn}
 use Rattle.bq_synopsis.specs.declared.join_lookup.JoinLookup.{JoinLookup}
 use Rattle.bq_synopsis.specs.Axes.{AreAxes}
 use Rattle.bq_synopsis.specs.Classes.{are_tied}
+use Rattle.bq_synopsis.specs.Keeping.{keeps_part}
 use Rattle.bq_synopsis.specs.Pinning.{AreKeyColumns}
 
 -- the range of a dim, of the column that fixes the dim
@@ -50,11 +53,15 @@ is_told told place arriving l = same_column (told_column told place arriving l.l
 
 -- the dim of the class of a column of the stream at a place, by its place among the dims
 abbrev pub class_at : List Pair → PartPlan → ℕ → ℕ → Option ℕ
-class_at ps part place column = position (λ d. are_tied ps part.signs.items d.attr (record { stream = place; column = column })) (dims_at part place)
+class_at ps part place column = position (λ d. are_tied ps part d.attr (record { stream = place; column = column })) (dims_at part place)
+
+-- no condition is of the stream at this place
+abbrev pub asks_none : ℕ → List LocalCondition → Bool
+asks_none place ts = list_all (λ t. not (is_within place t.left t.right)) ts
 
 -- over two streams: columns of the arriving row fix all dims of the other place, each listed column has the value of the class of a column
 -- there, and no link but equalities of what is told so stands in the part; where it is marked as signed, a row in the ranges of the dims of its
--- own place has all signs
+-- own place has all signs, and stands as else it is asked
 pub record IsJoinLookup (ps : List Pair) (part : PartPlan) (arriving : ℕ) (listed : JoinLookup) : Type 0 where
   pub keys : List KeyColumn
   pub two : length part.streams.items ≡ 2
@@ -68,4 +75,6 @@ pub record IsJoinLookup (ps : List Pair) (part : PartPlan) (arriving : ℕ) (lis
   pub told : (column c : ℕ) → slice_get listed.told.items column ≡ Some (Some c) → column_at keys (class_at ps part listed.place column) ≡ Some c
   pub equal : list_all (is_told listed.told.items listed.place arriving) part.equal.items ≡ true
   pub less : length part.less.items ≡ 0
-  pub signed : listed.signed ≡ true → (v : ℕ → ℤ) → list_all (in_range v) (dims_at part arriving) ≡ true → keeps_signs arriving (alone v) ps part.signs.items ≡ true
+  pub soft : length part.soft.items ≡ 0
+  pub signed : listed.signed ≡ true → (v : ℕ → ℤ) → list_all (in_range v) (dims_at part arriving) ≡ true
+      → keeps_part ps part arriving v ≡ true

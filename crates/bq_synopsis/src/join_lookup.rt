@@ -1,26 +1,28 @@
 //! Parts over two streams in which columns of a row tell the one cell of the other stream that can answer with it, listed when a part is
 //! prepared: such a row is answered by one look-up, and no walk is made.
-ghost use Rattle.std.specs.Prelude.{◌≡◌, ◌+◌, ◌-◌, ◌<◌, ◌≤◌, ◌^◌, ℕ, ℤ, length, map, Option, Some, slice_get, IfSome, MatchOption, true, false};
+ghost use Rattle.std.specs.Prelude.{◌≡◌, not, ◌+◌, ◌-◌, ◌<◌, ◌≤◌, ◌^◌, ℕ, ℤ, length, map, Option, Some, slice_get, IfSome, MatchOption, true, false};
 ghost use Rattle.std.specs.List.{list_all};
 ghost use Rattle.bq_model.specs.Boxes.{box_size};
-ghost use Rattle.bq_model.specs.Admission.{alone, in_range, keeps_signs};
+ghost use Rattle.bq_model.specs.Admission.{alone, in_range, keeps_signs, keeps_local};
 ghost use Rattle.bq_model.specs.Cells.{row_place};
 ghost use Rattle.bq_model.specs.Meaning.{by_column};
+ghost use Rattle.bq_model.specs.Parts.{is_within};
 ghost use Rattle.bq_model.specs.Plan.{dims_at};
 ghost use Rattle.bq_synopsis.specs.Axes.{AreAxes};
-ghost use Rattle.bq_synopsis.specs.Joining.{key_dim, column_at, or_none, told_column, same_column, is_told, class_at, IsJoinLookup};
-ghost use Rattle.bq_synopsis.specs.Preparing.{AreTests, asks_nothing, ask_nothing};
+ghost use Rattle.bq_synopsis.specs.Joining.{key_dim, column_at, or_none, told_column, same_column, is_told, class_at, asks_none, IsJoinLookup};
+ghost use Rattle.bq_synopsis.specs.Keeping.{keeps_part};
+ghost use Rattle.bq_synopsis.specs.Preparing.{AreTests, AreAsked, asks_nothing, ask_nothing};
 
 use crate::admission::stream_at;
 use crate::axes::{Axis, are_numbered, place_among, put_axes};
 use crate::key_columns::{KeyColumn, key_columns_at};
 use arrayvec::ArrayVec;
-use bq_model::{Attr, Dim, Link, Pair, PartPlan, Sign, is_within};
+use bq_model::{Attr, Dim, Link, LocalCondition, Pair, PartPlan, Sign, is_within};
 
 /// How a row finds the one cell of the other stream that can answer with it: the ranges of the dims there, each of the column of the row that
 /// fixes the dim, also as a row is asked of them; for the first eight columns there the column of the row that has the same value in
 /// all answers, where there is one; the first cell of the box; its place of FROM; and whether a row that lies in the ranges of the dims of its own
-/// place has all signs of the part.
+/// place is admitted.
 #[derive(Drop, Default)]
 pub struct JoinLookup {
     dims: ArrayVec<Dim, 2>,
@@ -32,7 +34,7 @@ pub struct JoinLookup {
 }
 
 impl JoinLookup {
-    /// Returns whether a row that lies in the ranges of the dims of its own place has all signs of the part.
+    /// Returns whether a row that lies in the ranges of the dims of its own place is admitted.
     pub fn is_signed(&self) -> bool
         ensures { result ≡ self.now.signed }
     {
@@ -202,26 +204,76 @@ fn ask_nothing(place: u8, pairs: &[Pair], signs: &[Sign], tests: &[u8]) -> bool
 }
 
 // Whether a row that lies in the ranges of the dims of a place has all signs of the part.
-fn is_signed(pairs: &[Pair], part: &PartPlan, place: u8, tests: &[u8]) -> bool
+fn has_signs(pairs: &[Pair], part: &PartPlan, place: u8, tests: &[u8]) -> bool
     requires { AreTests pairs.now part.now tests.now }
     ensures { result ≡ true → (v : ℕ → ℤ) → list_all (in_range v) (dims_at part.now place) ≡ true → keeps_signs place (alone v) pairs.now part.now.signs.items ≡ true }
 {
     ask_nothing(place, pairs, part.signs.as_slice(), tests)
 }
 
+// Whether no condition is of the stream at a place.
+fn asks_none(place: u8, conditions: &[LocalCondition]) -> bool
+    ensures { result ≡ asks_none place conditions.now }
+{
+    conditions
+        .iter()
+        .all(|condition| is_beside(place, *condition))
+}
+
+// Whether a condition is not of the stream at a place.
+fn is_beside(place: u8, condition: LocalCondition) -> bool
+    ensures { result ≡ not (is_within place condition.left condition.right) }
+{
+    let (left, right) = (condition.left, condition.right);
+    !is_within(usize::from(place), Pair { left, right })
+}
+
+// Whether a row that lies in the ranges of the dims of a place stands as else it is asked.
+fn meets_all(part: &PartPlan, place: u8, asked: &[LocalCondition]) -> bool
+    requires { AreAsked part.now asked.now }
+    ensures { result ≡ true → (v : ℕ → ℤ) → list_all (in_range v) (dims_at part.now place) ≡ true → keeps_local place (alone v) part.now.local ≡ true }
+{
+    asks_none(place, asked)
+}
+
+// Whether a row that lies in the ranges of the dims of a place is admitted.
+fn is_signed(
+    pairs: &[Pair],
+    part: &PartPlan,
+    place: u8,
+    tests: &[u8],
+    asked: &[LocalCondition],
+) -> bool
+    requires tests { AreTests pairs.now part.now tests.now }
+    requires asked { AreAsked part.now asked.now }
+    ensures { result ≡ true → (v : ℕ → ℤ) → list_all (in_range v) (dims_at part.now place) ≡ true → keeps_part pairs.now part.now place v ≡ true }
+{
+    has_signs(pairs, part, place, tests) && meets_all(part, place, asked)
+}
+
+// Whether each link of a part is an equality.
+fn has_equalities_alone(part: &PartPlan) -> bool
+    ensures less { result ≡ true → length part.now.less.items ≡ 0 }
+    ensures soft { result ≡ true → length part.now.soft.items ≡ 0 }
+{
+    part.less.as_slice().is_empty() && part.soft.as_slice().is_empty()
+}
+
 /// Returns how a row that arrives at a place of FROM finds the one cell that can answer with it, where its columns tell it: columns of the row
 /// fix all dims of the other place, which has these classes, and no link stands in the part but equalities that then hold. The tests are the
-/// numbers of the pairs whose signs do not follow from the ranges of the dims.
+/// numbers of the pairs whose signs do not follow from the ranges of the dims, and what else is asked are the conditions that do not.
 pub fn join_lookup_at(
     pairs: &[Pair],
     part: &PartPlan,
     tests: &[u8],
+    asked: &[LocalCondition],
     classes: &[Option<u8>],
     arriving: u8,
 ) -> Option<JoinLookup>
     requires two { length part.now.streams.items ≡ 2 }
     requires here { arriving < 2 }
     requires tests { AreTests pairs.now part.now tests.now }
+    requires asked { AreAsked part.now asked.now }
     requires few { length classes.now ≤ 8 }
     requires classes { (column : ℕ) (class : Option ℕ) → slice_get classes.now column ≡ Some class → class ≡ class_at pairs.now part.now (1 - arriving) column }
     ensures { IfSome result (λ listed. IsJoinLookup pairs.now part.now arriving listed) }
@@ -231,9 +283,10 @@ pub fn join_lookup_at(
         return None;
     };
     let told = told_at(pairs, part, place, keys.as_slice(), classes);
-    if !part.less.as_slice().is_empty()
-        || !are_told(told.as_slice(), place, arriving, part.equal.as_slice())
-    {
+    if !has_equalities_alone(part) {
+        return None;
+    }
+    if !are_told(told.as_slice(), place, arriving, part.equal.as_slice()) {
         return None;
     }
     let dims = key_dims(keys.as_slice());
@@ -251,6 +304,6 @@ pub fn join_lookup_at(
         told,
         base,
         place,
-        signed: is_signed(pairs, part, arriving, tests),
+        signed: is_signed(pairs, part, arriving, tests, asked),
     })
 }

@@ -5,7 +5,7 @@ use Rattle.bq_model.specs.declared.atom.Atom.{Atom}
 use Rattle.bq_model.specs.declared.first_break.Break.{Break}
 use Rattle.bq_model.specs.declared.plan.Dim.{Dim}
 use Rattle.bq_model.specs.declared.plan.Kind.{Kind}
-use Rattle.bq_model.specs.Admission.{alone}
+use Rattle.bq_model.specs.Admission.{alone, keeps_local}
 use Rattle.bq_model.specs.Query.{QueryValue, IsWithinLimits}
 use Rattle.bq_model.proofs.Has.{Has, first, later, Has-map_from}
 use Rattle.bq_whole.specs.Links.{AreLinks}
@@ -23,10 +23,10 @@ use Rattle.bq_whole_plan.specs.Closed.{IsSolvable}
 use Rattle.bq_whole_plan.specs.Columns.{atom_of}
 use Rattle.bq_whole_plan.specs.Streams as Planned
 use Rattle.bq_whole_plan.specs.Streams.{keep_of, ArePlanned}
-use Rattle.bq_whole_form.specs.declared.conditions.LocalCondition.{LocalCondition}
+use Rattle.bq_model.specs.declared.plan.LocalCondition.{LocalCondition}
 use Rattle.bq_whole_form.specs.declared.whole.WholePart.{WholePart}
 use Rattle.bq_whole_form.specs.declared.whole.Whole.TheVariants.{Contradiction, Broken, Part}
-use Rattle.bq_whole_form.specs.Conditions.{keeps_local, AreConditions}
+use Rattle.bq_whole_form.specs.Conditions.{AreConditions}
 use Rattle.bq_whole_form.specs.Laws.{WholesTellViolations}
 use Rattle.bq_whole_form.specs.Part.{end_or_zero, kept_dim, kept_stream, stream_in, form_of, AreSelectedRanges, IsWholePart, IsBroken}
 use Rattle.bq_whole_form.specs.Streams.{dim_of, stream_of}

@@ -19,7 +19,7 @@ use Rattle.bq_whole.specs.Laws.{IsLeastBound}
 use Rattle.bq_whole.proofs.Unbroken.{class_turned, class_on}
 use Rattle.bq_whole_plan.specs.Classes.{IsNameOf}
 use Rattle.bq_whole_plan.specs.Columns.{listed}
-use Rattle.bq_whole_form.specs.declared.conditions.LocalCondition.{LocalCondition}
+use Rattle.bq_model.specs.declared.plan.LocalCondition.{LocalCondition}
 use Rattle.bq_whole_form.specs.Conditions.{condition, IsTie, IsLeastEnd, IsGreatestEnd, IsSaid, IsUnsaid, AreTwoNames, IsBetween, IsOwnUnlike, IsTurned, IsUnlikeAt}
 use Rattle.bq_whole_form.specs.Listed.{AreListed, AreUnlikes}
 

@@ -10,7 +10,7 @@ use Rattle.bq_model.specs.declared.atom.Domain.{Domain}
 use Rattle.bq_model.specs.declared.atom.Element.{Element}
 use Rattle.bq_model.specs.declared.atom.Element.TheVariants as element
 use Rattle.bq_model.specs.declared.atom.Op.{Op}
-use Rattle.bq_model.specs.Admission.{alone}
+use Rattle.bq_model.specs.Admission.{alone, meets_local, keeps_local}
 use Rattle.bq_model.specs.Assignment.{Assignment, value, compares, IsAmong, AtomHolds}
 use Rattle.bq_model.specs.Parts.{is_within}
 use Rattle.bq_model.specs.Query.{QueryValue, attr_eq, attrs_of, is_attr, HasAttr, IsColumn, IsDomain, IsWithinLimits}
@@ -30,9 +30,9 @@ use Rattle.bq_whole_plan.specs.Classes.{beside, IsNameOf}
 use Rattle.bq_whole_plan.proofs.Classing.{NoneBefore, none_first, none_more, named_by, named_itself}
 use Rattle.bq_whole_plan.proofs.Following.{ranges_told}
 use Rattle.bq_whole_plan.proofs.Named.{atom_known, domain_sides}
-use Rattle.bq_whole_form.specs.declared.conditions.LocalCondition.{LocalCondition}
+use Rattle.bq_model.specs.declared.plan.LocalCondition.{LocalCondition}
 use Rattle.bq_whole_form.specs.Conditions as Conditions
-use Rattle.bq_whole_form.specs.Conditions.{meets_local, keeps_local, condition, IsSaid, AreTwoNames, IsOwnUnlike, IsTurned, IsUnlikeAt, IsColumnAt, IsAsked, AreConditions}
+use Rattle.bq_whole_form.specs.Conditions.{condition, IsSaid, AreTwoNames, IsOwnUnlike, IsTurned, IsUnlikeAt, IsColumnAt, IsAsked, AreConditions}
 use Rattle.bq_whole_form.proofs.Conditioned.{differ}
 
 -- the integer of a bound that is there and at most another

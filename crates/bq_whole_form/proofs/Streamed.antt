@@ -4,7 +4,7 @@ use Rattle.bq_model.specs.declared.atom.Attr.{Attr}
 use Rattle.bq_model.specs.Query.{QueryValue}
 use Rattle.bq_model.proofs.Has.{Has, Has-nil, Has-append_left, Has-append_right, Has-append_cases}
 use Rattle.bq_whole_plan.specs.Extremes.{column_at}
-use Rattle.bq_whole_form.specs.declared.conditions.LocalCondition.{LocalCondition}
+use Rattle.bq_model.specs.declared.plan.LocalCondition.{LocalCondition}
 use Rattle.bq_whole_form.specs.Conditions as Conditions
 use Rattle.bq_whole_form.specs.Conditions.{IsTie, IsLeastEnd, IsGreatestEnd, IsBetween, IsColumnAt, IsAsked, AreConditions}
 use Rattle.bq_whole_form.specs.Listed.{AreListed, AreUnlikes, IsWithStream}

@@ -1,6 +1,5 @@
 -- The local conditions of a stream, one by one.
-use Rattle.std.specs.Prelude.{◌≡◌, ◌≢◌, ℕ, ◌<◌, ◌↔◌, ◌||◌, ℤ, pos, ◌+ℤ◌, Bool, not, List, length}
-use Rattle.std.specs.List.{list_all}
+use Rattle.std.specs.Prelude.{◌≡◌, ◌≢◌, ℕ, ◌<◌, ◌↔◌, ℤ, pos, List, length}
 use Rattle.std.specs.declared.option.Option.{Option}
 use Rattle.std.specs.declared.option.Option.TheVariants.{None, Some}
 use Rattle.bq_model.specs.declared.atom.Attr.{Attr}
@@ -8,9 +7,7 @@ use Rattle.bq_model.specs.declared.atom.Atom.{Atom}
 use Rattle.bq_model.specs.declared.atom.Element.{Element}
 use Rattle.bq_model.specs.declared.atom.Element.TheVariants as element
 use Rattle.bq_model.specs.declared.atom.Op.{Op}
-use Rattle.bq_model.specs.Assignment.{Assignment, value, compares}
 use Rattle.bq_model.specs.Members.{Has}
-use Rattle.bq_model.specs.Parts.{is_within}
 use Rattle.bq_model.specs.Query.{QueryValue, HasAttr}
 use Rattle.bq_whole.specs.System.{system, IsOf}
 use Rattle.bq_whole.specs.Kept.{IsLowest, IsHighest}
@@ -18,15 +15,7 @@ use Rattle.bq_whole.specs.Plan.{NamesClass}
 use Rattle.bq_whole.specs.Laws.{IsLeastBound}
 use Rattle.bq_whole_plan.specs.Classes.{IsNameOf}
 use Rattle.bq_whole_plan.specs.Columns.{FollowsByRanges}
-use Rattle.bq_whole_form.specs.declared.conditions.LocalCondition.{LocalCondition}
-
--- the column stands so to the other side, moved by the number
-abbrev pub meets_local : Assignment → LocalCondition → Bool
-meets_local v t = compares t.op (v t.left) (value t.right v +ℤ t.by)
-
--- all that is asked of the stream at this place
-abbrev pub keeps_local : ℕ → Assignment → List LocalCondition → Bool
-keeps_local place v ts = list_all (λ t. not (is_within place t.left t.right) || meets_local v t) ts
+use Rattle.bq_model.specs.declared.plan.LocalCondition.{LocalCondition}
 
 abbrev pub condition : Attr → Op → Element → ℤ → LocalCondition
 condition a o e k = record { left = a; op = o; right = e; by = k }

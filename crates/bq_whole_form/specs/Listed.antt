@@ -5,7 +5,7 @@ use Rattle.std.specs.declared.option.Option.TheVariants.{Some}
 use Rattle.bq_model.specs.declared.atom.Atom.{Atom}
 use Rattle.bq_model.specs.Members.{Has}
 use Rattle.bq_model.specs.Query.{QueryValue}
-use Rattle.bq_whole_form.specs.declared.conditions.LocalCondition.{LocalCondition}
+use Rattle.bq_model.specs.declared.plan.LocalCondition.{LocalCondition}
 use Rattle.bq_whole_form.specs.Conditions.{IsUnlikeAt, IsAsked}
 
 -- those that the first numbers give, by what each gives or that it gives none

@@ -18,7 +18,14 @@ stream_with dims = record { dims = record { items = dims }; kind = Kind.Present;
 
 -- a part that keeps these dims of its streams and has these links `=`
 abbrev pub part_with : List (List Dim) → List Link → PartPlan
-part_with dims equal = record { signs = record { items = [] }; streams = record { items = map stream_with dims }; equal = record { items = equal }; less = record { items = [] } }
+part_with dims equal = record {
+  signs = record { items = [] };
+  local = [];
+  streams = record { items = map stream_with dims };
+  equal = record { items = equal };
+  less = record { items = [] };
+  soft = record { items = [] };
+}
 
 -- how many cells the streams with these dims have: a query over one stream keeps none
 abbrev pub cells_with : List (List Dim) → ℕ

@@ -8,7 +8,7 @@ use Rattle.bq_model.specs.declared.atom.Atom.{Atom}
 use Rattle.bq_model.specs.declared.first_break.Break.{Break}
 use Rattle.bq_model.specs.declared.plan.Dim.{Dim}
 use Rattle.bq_model.specs.declared.plan.Kind.{Kind}
-use Rattle.bq_model.specs.Admission.{alone}
+use Rattle.bq_model.specs.Admission.{alone, keeps_local}
 use Rattle.bq_model.specs.Query.{QueryValue}
 use Rattle.bq_model.specs.Ranges.{different}
 use Rattle.bq_model.specs.Violation.{Failure}
@@ -26,7 +26,7 @@ use Rattle.bq_whole_form.specs.declared.part.WholeStream.{WholeStream}
 use Rattle.bq_whole_form.specs.declared.whole.WholePart.{WholePart}
 use Rattle.bq_whole_form.specs.declared.whole.Whole.{Whole}
 use Rattle.bq_whole_form.specs.declared.whole.Whole.TheVariants.{Contradiction, Broken, Part}
-use Rattle.bq_whole_form.specs.Conditions.{keeps_local, AreConditions}
+use Rattle.bq_whole_form.specs.Conditions.{AreConditions}
 
 -- an end, or 0 where there is none
 abbrev pub end_or_zero : Option ℤ → ℤ

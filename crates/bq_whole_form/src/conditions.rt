@@ -2,28 +2,19 @@
 ghost use Rattle.std.specs.Prelude.{◌≡◌, ◌≢◌, ◌⊎◌, ◌↔◌, ◌≤◌, ◌<◌, ◌++◌, ◌/◌, ◌%◌, ℕ, ℤ, length, IsTrue, IfOk, OnOk};
 ghost use Rattle.bq_model.specs.declared.atom.Op.{Op};
 ghost use Rattle.bq_model.specs.Query.{is_attr};
-ghost use Rattle.bq_model.specs.Admission.{alone};
+ghost use Rattle.bq_model.specs.Admission.{alone, keeps_local};
 ghost use Rattle.bq_whole.specs.System.{IsOf};
 ghost use Rattle.bq_whole.specs.Whole.{RowMeets};
 ghost use Rattle.bq_whole.specs.Plan.{NamesClass};
 ghost use Rattle.bq_whole_plan.specs.Columns.{listed};
 ghost use Rattle.bq_whole_plan.specs.Extremes.{column_at};
-ghost use Rattle.bq_whole_form.specs.Conditions.{condition, keeps_local, AreTwoNames, IsTie, IsLeastEnd, IsGreatestEnd, IsUnsaid, IsBetween, IsOwnUnlike, IsTurned, IsUnlikeAt, AreConditions};
+ghost use Rattle.bq_whole_form.specs.Conditions.{condition, AreTwoNames, IsTie, IsLeastEnd, IsGreatestEnd, IsUnsaid, IsBetween, IsOwnUnlike, IsTurned, IsUnlikeAt, AreConditions};
 ghost use Rattle.bq_whole_form.specs.Listed.{AreListed, AreUnlikes, IsWithStream};
 
 use arrayvec::ArrayVec;
-use bq_model::{Atom, Attr, Element, Op, is_same};
+use bq_model::{Atom, Attr, Element, LocalCondition, Op, is_same};
 use bq_whole_plan::{ClosedSystem, ColumnBound, follows_by_ranges, name_of};
 use std::alloc::{AllocError, Global};
-
-/// What rows of one stream are asked: how a column stands to an integer, or to another column of the stream, moved by a number.
-#[derive(Clone, Copy, Debug, Default, PartialEq, Eq)]
-pub struct LocalCondition {
-    pub left: Attr,
-    pub op: Op,
-    pub right: Element,
-    pub by: i64,
-}
 
 fn condition(left: Attr, op: Op, right: Element, by: i64) -> LocalCondition
     ensures { result ≡ condition left op right by }

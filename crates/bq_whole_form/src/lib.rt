@@ -16,8 +16,9 @@ mod sizes;
 mod whole;
 
 pub use breaking::first_break;
-pub use conditions::{LocalCondition, conditions_of};
+pub use conditions::conditions_of;
 pub use numbers::{PartNumbers, numbers_of};
 pub use part::WholeStream;
 pub use selected::selected_ranges;
-pub use whole::{Whole, WholePart, whole_of};
+pub use sizes::box_size;
+pub use whole::{Whole, WholePart, whole_of, whole_over};

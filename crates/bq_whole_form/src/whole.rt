@@ -8,11 +8,11 @@ ghost use Rattle.bq_whole_form.specs.Part.{IsWholePart, IsWhole};
 ghost use Rattle.bq_whole_form.specs.Streams.{dim_of, stream_of};
 
 use crate::breaking::first_break;
-use crate::conditions::{LocalCondition, conditions_of};
+use crate::conditions::conditions_of;
 use crate::part::WholeStream;
 use crate::selected::{dim_in, selected_ranges};
 use arrayvec::ArrayVec;
-use bq_model::{Break, Dim, Query};
+use bq_model::{Break, Dim, LocalCondition, Query};
 use bq_whole_plan::{ClosedSystem, ColumnLink, KeptClass, KeptStream, WholeKeeps, keeps_of};
 use std::alloc::{AllocError, Global};
 
@@ -89,8 +89,9 @@ fn part_of(alloc: Global, closed: &ClosedSystem, keeps: WholeKeeps) -> Result<Wh
     })
 }
 
-// The whole form of a query whose system does not contradict itself. An error says that memory was not found.
-fn decided(alloc: Global, closed: &ClosedSystem) -> Result<Whole, AllocError>
+/// Returns the whole form of a query whose system does not contradict itself: the first condition that the form breaks and the first column that
+/// shows it, or its one part. An error says that memory was not found.
+pub fn whole_over(alloc: Global, closed: &ClosedSystem) -> Result<Whole, AllocError>
     ensures { IfOk result (IsWhole closed.now) }
 {
     // Named for the proof alone: the system of the query has a solution.
@@ -112,6 +113,6 @@ pub fn whole_of(alloc: Global, q: &Query) -> Result<Whole, AllocError>
 {
     match ClosedSystem::of_query(q) {
         None => Ok(Whole::Contradiction),
-        Some(closed) => decided(alloc, &closed),
+        Some(closed) => whole_over(alloc, &closed),
     }
 }

@@ -1,7 +1,8 @@
 use Rattle.std.proofs.Common.{sym, ap, ◌∙◌, subst}
 use Rattle.bq_model.specs.declared.plan.Plan.{Plan}
 use Rattle.bq_model.specs.Numbers.{parts_of}
-use Rattle.bq_model.specs.Sharing.{kept_boxes, sizes_in, IsPlanOf}
+use Rattle.bq_model.specs.Sharing.{kept_boxes, sizes_in}
+use Rattle.bq_forms.specs.Forms.{IsFormPlanOf}
 use Rattle.bq_checkpoint.proofs.KeptCells.{cells_announced}
 use Rattle.bq_checkpoint.proofs.writing.cells_kept.Goals as goal
 
@@ -9,6 +10,6 @@ pub returns-in-Parts : goal.returns-in-Parts
 returns-in-Parts c =
     let e = c.args.kept.now in
     let plan = sym c.plan.ensures.value ∙ c.in-Parts.is in
-    let its = subst (IsPlanOf e.shared e.query) plan c.plan.ensures.sound.accepted.plan in
+    let its = subst (IsFormPlanOf e.shared e.query) plan c.plan.ensures.sound.accepted.plan in
     cells_announced e.shared e.query c.in-Parts.parts c.in-Parts.numbers its.2
     ∙ ap (λ (p : Plan). sizes_in (kept_boxes e.shared e.query (parts_of p))) (sym plan)

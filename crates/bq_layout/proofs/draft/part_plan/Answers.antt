@@ -1,4 +1,4 @@
-use Rattle.std.proofs.Common.{refl, sym, ◌∙◌, subst, length, List}
+use Rattle.std.proofs.Common.{◌≡◌, [], refl, sym, ◌∙◌, subst, length, List, rules}
 use Rattle.bq_model.specs.declared.part.Sign.{Sign}
 use Rattle.bq_refs.specs.Refs.{AreRefs}
 use Rattle.bq_layout.specs.Drafts.{AreStreamDrafts}
@@ -8,6 +8,9 @@ use Rattle.bq_layout.proofs.draft.part_plan.Goals as goal
 pub returns-clause-draft : goal.returns-clause-draft
 returns-clause-draft c =
     let e = sym (c.copied.ensures ∙ c.as_slice.ensures.value) in
-    draft_of c.args.q.now c.args.refs record { signs = c.copied.result; streams = c.streams-streams.result.0; equal = c.args.refs.equal; less = c.args.refs.less }
-    (subst (λ (z : List Sign). AreRefs c.args.q.now z c.args.refs) e c.requires.refs) refl refl
+    let none : c.of.result ≡ [] = search rules in
+    let alone : c.new-2.result.items ≡ [] = search rules in
+    draft_of c.args.q.now c.args.refs
+    record { signs = c.copied.result; local = c.of.result; streams = c.streams-streams.result.0; equal = c.args.refs.equal; less = c.args.refs.less; soft = c.new-2.result }
+    (subst (λ (z : List Sign). AreRefs c.args.q.now z c.args.refs) e c.requires.refs) refl refl none alone
     (subst (λ (z : List Sign). AreStreamDrafts c.args.q.now z (length c.args.q.now.from) c.streams-streams.result.0.items) e c.streams-streams.ensures.drafts)

@@ -13,5 +13,5 @@ returns c =
     rw to_z-of_z (
     given
     ∙ (λ k. value_or (c.as_slice.ensures.value k) (c.extreme_of.ensures k) (c.class_of-place.ensures k))
-    ∙ sym (valued_at c.args.pairs.now c.args.part.now.signs.items _ c.args.a (dims_at c.args.part.now c.args.a.stream) _)
+    ∙ sym (valued_at c.args.pairs.now c.args.part.now _ c.args.a (dims_at c.args.part.now c.args.a.stream) _)
     )

@@ -1,4 +1,4 @@
-use Rattle.std.proofs.Common.{◌≡◌, ◌∙◌, ◌<◌, ◌+◌, ◌*◌, ◌^◌, List, length, map, sym, ap, subst, arith, pos}
+use Rattle.std.proofs.Common.{◌≡◌, ◌∙◌, ◌<◌, ◌^◌, List, length, map, sym, ap, subst, arith, pos}
 use Rattle.bq_model.specs.Boxes.{box_size, place_of, values_at, AreFull}
 use Rattle.bq_model.specs.declared.plan.Dim.{Dim}
 use Rattle.bq_model.specs.Plan.{dims_at}
@@ -7,7 +7,7 @@ use Rattle.bq_narrow.specs.Narrowed.{narrowed_dims}
 use Rattle.bq_narrow.specs.Values.{value_in}
 use Rattle.bq_narrow.proofs.DimLaws.{dims-beside}
 use Rattle.bq_synopsis.specs.Narrowing.{narrow}
-use Rattle.bq_probe.proofs.AlongLaws.{along-none, along-next, along-line, along-count, along-first, low-fits, wide-fits, far-fits, one-full}
+use Rattle.bq_probe.proofs.AlongLaws.{along-none, along-next, along-line, along-count, low-fits, wide-fits, far-fits, one-full}
 use Rattle.bq_probe.proofs.along.line_ahead.Goals as goal
 
 abbrev none : Dim

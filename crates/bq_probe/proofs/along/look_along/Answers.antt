@@ -1,14 +1,11 @@
-use Rattle.std.proofs.Common.{◌≡◌, ◌∙◌, ◌<◌, ◌+◌, ◌*◌, ◌≢◌, ℕ, Some, None, length, sym, arith}
+use Rattle.std.proofs.Common.{◌*◌, Some, None, sym, arith}
 use Rattle.bq_model.specs.Combinations.{read_from}
-use Rattle.bq_model.specs.Plan.{stream_at}
-use Rattle.bq_model.specs.declared.cell.Cell.{Cell}
 use Rattle.bq_pool.specs.Extents.{cells_of}
 use Rattle.bq_pool.specs.Strides.{at_stride}
 use Rattle.bq_pool.specs.declared.scan.StridedCells.{StridedCells}
 use Rattle.bq_probe.specs.Along.{tried_cell, tried_count}
 use Rattle.bq_probe.proofs.AlongLaws.{scanned-alike}
 use Rattle.bq_probe.proofs.StepLaws.{line-within, line-cell}
-use Rattle.bq_synopsis.specs.Premises.{IsLaidOut}
 use Rattle.bq_probe.proofs.along.look_along.Goals as goal
 
 pub first_occupied-requires-clause-within : goal.first_occupied-requires-clause-within

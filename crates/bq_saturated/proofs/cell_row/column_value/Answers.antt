@@ -20,6 +20,6 @@ returns c =
     rw to_z-of_z (
     given
     ∙ (λ k. value_or c.args.values.now (c.extreme_of.ensures k) (class k))
-    ∙ sym (valued_at (pairs c.args.part.now.q.now) c.args.part.now.plan.now.signs.items (extreme_of c.args.held) a (dims_at c.args.part.now.plan.now c.args.pos) c.args.values.now)
-    ∙ looked-up c.args.part.now.q.now c.args.part.now.plan.now.signs.items (dims_at c.args.part.now.plan.now c.args.pos) c.args.values.now (extreme_of c.args.held) a
+    ∙ sym (valued_at (pairs c.args.part.now.q.now) c.args.part.now.plan.now (extreme_of c.args.held) a (dims_at c.args.part.now.plan.now c.args.pos) c.args.values.now)
+    ∙ looked-up c.args.part.now.q.now c.args.part.now.plan.now (dims_at c.args.part.now.plan.now c.args.pos) c.args.values.now (extreme_of c.args.held) a
     )

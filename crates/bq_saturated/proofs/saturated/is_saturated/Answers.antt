@@ -17,6 +17,6 @@ returns-clause-value g c =
     let n = c.requires.ready.held.walked.plan.count in
     let fits : FitsKind (stream_at plan place).kind c.args.cell.held
     = subst (λ (d : Cell). FitsKind (stream_at plan place).kind d) (sym c.requires.held) (c.requires.ready.fitting place c.args.cell.i (omega (arith, c.requires.here, n)) c.requires.inside) in
-    let law = saturated-by-row q plan c.select-select.ensures.limits c.requires.ready.held.walked.plan read (tuples_of c.args.table.now.entries) place c.args.cell.i
+    let law = saturated-by-row q plan c.select-select.ensures.limits c.requires.ready.held.walked read (tuples_of c.args.table.now.entries) place c.args.cell.i
     (stream_at plan place).kind c.args.cell.held c.requires.held fits (c.is_empty.ensures.no c.if-is_empty.false) c.row_of_cell.result.items c.row_of_cell.ensures.columns in
     (λ t. law.0 (c.has_each.ensures.value.0 t), λ s. c.has_each.ensures.value.1 (law.1 s))

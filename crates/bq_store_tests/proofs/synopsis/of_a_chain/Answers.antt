@@ -20,6 +20,8 @@ answers-requires-clause-walked g c =
     c.push-3.ensures.items
     ∙ ap (λ (xs : List StreamPlan). xs ++ c.counted-3.result ∷ []) (c.push-2.ensures.items ∙ ap (λ (xs : List StreamPlan). xs ++ c.counted-2.result ∷ []) (c.push.ensures.items ∙ ap (λ (xs : List StreamPlan). xs ++ c.counted.result ∷ []) none))
     ∙ (λ k. r k ∷ s k ∷ t k ∷ []) in
-    let p : record { signs = c.listed.result; streams = c.push-3.new.self; equal = c.listed-2.result; less = c.listed-3.result } ≡ part =
-    λ k. record { signs = record { items = c.listed.ensures k }; streams = record { items = streams k }; equal = record { items = (c.listed-2.ensures ∙ (λ j. c.link.ensures j ∷ c.link-2.ensures j ∷ c.link-3.ensures j ∷ [])) k }; less = record { items = c.listed-3.ensures k } } in
+    let nothing : c.of.result ≡ [] = search rules in
+    let alone : c.new-2.result.items ≡ [] = search rules in
+    let p : record { signs = c.listed.result; streams = c.push-3.new.self; equal = c.listed-2.result; less = c.listed-3.result; local = c.of.result; soft = c.new-2.result } ≡ part =
+    λ k. record { signs = record { items = c.listed.ensures k }; streams = record { items = streams k }; equal = record { items = (c.listed-2.ensures ∙ (λ j. c.link.ensures j ∷ c.link-2.ensures j ∷ c.link-3.ensures j ∷ [])) k }; less = record { items = c.listed-3.ensures k }; local = nothing k; soft = record { items = alone k } } in
     walked_as _ _ q p

@@ -11,6 +11,7 @@ use Rattle.bq_executor.specs.Row.{KeepsToWork, TakesRow}
 use Rattle.bq_executor.proofs.TakenRow.{filter-plan, row-taken}
 use Rattle.bq_executor.proofs.Rows.{ready_row, room_clear, table_later, sound_later}
 use Rattle.bq_executor.proofs.RowReads.{rows-upto}
+use Rattle.bq_executor.proofs.PlanFacts.{serving_in}
 use Rattle.bq_executor.proofs.executor.Executor.apply_by_cells.Goals as goal
 
 pub meet_by_cells-there-requires-clause-direct : goal.meet_by_cells-there-requires-clause-direct
@@ -62,7 +63,7 @@ returns-clause-steps g c =
     = record {
       reads = (let few = rows-upto (parts_in e) in let r = c.meet_by_cells-there.ensures.reads in omega (arith, few, r));
       writes = c.meet_by_cells-there.ensures.writes;
-      alone = λ filter. c.meet_by_cells-there.ensures.alone (filter-plan e.shared e.query e.plan c.self.invariant.0.accepted.plan filter);
+      alone = λ filter. c.meet_by_cells-there.ensures.alone (filter-plan e.shared e.query e.plan (serving_in e c.self.invariant.0) filter);
       outside = c.meet_by_cells-there.ensures.outside;
     } in
     subst (λ (x : ExecutorValue). KeepsToWork x r c.args.steps.now c.meet_by_cells-there.new.steps) c.self.view_is own

@@ -8,6 +8,7 @@ use Rattle.bq_executor.specs.Row.{KeepsToReads, TakesRow}
 use Rattle.bq_executor.proofs.TakenRow.{filter-plan, row-taken}
 use Rattle.bq_executor.proofs.Rows.{nothing-new, ready_row, room_clear, table_later, sound_later}
 use Rattle.bq_executor.proofs.Refused.{quiet-spelled}
+use Rattle.bq_executor.proofs.PlanFacts.{serving_in}
 use Rattle.bq_executor.proofs.executor.Executor.apply_known.Goals as goal
 
 pub apply_row-requires-clause-prefilter : goal.apply_row-requires-clause-prefilter
@@ -65,7 +66,7 @@ returns-clause-steps g c =
     = record {
       reads = c.apply_row.ensures.reads;
       writes = c.apply_row.ensures.writes;
-      alone = λ filter. c.apply_row.ensures.alone (filter-plan e.shared e.query e.plan c.self.invariant.0.accepted.plan filter);
+      alone = λ filter. c.apply_row.ensures.alone (filter-plan e.shared e.query e.plan (serving_in e c.self.invariant.0) filter);
       outside = c.apply_row.ensures.outside;
     } in
     subst (λ (x : ExecutorValue). KeepsToReads x r c.args.steps.now c.apply_row.new.steps) c.self.view_is own

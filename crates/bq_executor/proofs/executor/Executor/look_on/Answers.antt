@@ -10,6 +10,7 @@ use Rattle.bq_executor.proofs.CursorCells.{announces-work, can-look-at}
 use Rattle.bq_executor.proofs.LookedRows.{known-in-extent, kept-looked, rows-and-spare}
 use Rattle.bq_executor.proofs.Rows.{plans, ready_row}
 use Rattle.bq_executor.proofs.TakenRow.{filter-plan}
+use Rattle.bq_executor.proofs.PlanFacts.{serving_in}
 use Rattle.bq_executor.proofs.executor.Executor.look_on.Goals as goal
 
 pub look_beside_row-self-inside-requires-clause-look : goal.look_beside_row-self-inside-requires-clause-look
@@ -18,7 +19,7 @@ look_beside_row-self-inside-requires-clause-look g c =
     let ready : IsReady e c.args.pool.now = subst (λ (x : ExecutorValue). IsReady x c.args.pool.now) (sym c.self.view_is) c.requires.ready in
     let sound = c.self.invariant.0 in
     can-look-at e.query e.plan c.self.inside.prepared c.args.pool.now e.extent e.table.width (ready_row e sound c.args.pool.now ready (arrival 0 []) sound.ascends)
-    (announces-work e.shared e.query e.plan sound.accepted.plan) c.self.invariant.1 sound.width
+    (announces-work e.shared e.query e.plan (serving_in e sound)) c.self.invariant.1 sound.width
 
 pub look_beside_row-self-inside-requires-clause-known : goal.look_beside_row-self-inside-requires-clause-known
 look_beside_row-self-inside-requires-clause-known g c = λ d.
@@ -38,10 +39,10 @@ returns g c =
       same = refl;
       kept = kept-looked e c.self.invariant.0 c.args.pool.now ready looked.result looked.ensures.known;
       reads =
-          (let room = rows-and-spare e.query e.plan (announces-work e.shared e.query e.plan c.self.invariant.0.accepted.plan) (plans e c.self.invariant.0 c.args.pool.now ready (arrival 0 []) c.self.invariant.0.ascends) in
+          (let room = rows-and-spare e.query e.plan (announces-work e.shared e.query e.plan (serving_in e c.self.invariant.0)) (plans e c.self.invariant.0 c.args.pool.now ready (arrival 0 []) c.self.invariant.0.ascends) in
           let few = looked.ensures.reads in omega (arith, room, few));
       writes = looked.ensures.writes;
-      alone = λ filter. looked.ensures.alone (filter-plan e.shared e.query e.plan c.self.invariant.0.accepted.plan filter);
+      alone = λ filter. looked.ensures.alone (filter-plan e.shared e.query e.plan (serving_in e c.self.invariant.0) filter);
       outside = looked.ensures.outside;
     } in
     subst (λ (x : ExecutorValue). HasLooked x c.args.pool.now c.args.stream later c.args.steps.now looked.new.steps) c.self.view_is own

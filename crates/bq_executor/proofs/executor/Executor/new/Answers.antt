@@ -1,6 +1,7 @@
 use Rattle.std.proofs.Common.{[], ap, sym, subst, refl, ◌∙◌, length, arith}
 use Rattle.bq_answers.specs.Entries.{TableValue, Ascends}
 use Rattle.bq_model.specs.Numbers.{parts_of}
+use Rattle.bq_forms.proofs.Forms.{form_plans_serve}
 use Rattle.bq_executor.proofs.Bases.{bases-and-histories}
 use Rattle.bq_executor.proofs.Behind.{plan-behind}
 use Rattle.bq_executor.proofs.Keeping.{keeps}
@@ -10,7 +11,8 @@ use Rattle.bq_executor.specs.Executor.{ExecutorValue}
 use Rattle.bq_executor.proofs.executor.Executor.new.Goals as goal
 
 pub prepare_all-requires : goal.prepare_all-requires
-prepare_all-requires c = plan-behind c.args.shared c.args.query c.args.plan c.requires.accepted.plan
+prepare_all-requires c =
+    plan-behind c.args.shared c.args.query c.args.plan (form_plans_serve c.args.shared c.args.query c.args.plan c.select.ensures.limits c.requires.accepted.met c.requires.accepted.plan)
 
 pub invariant_of-result : goal.invariant_of-result
 invariant_of-result c =

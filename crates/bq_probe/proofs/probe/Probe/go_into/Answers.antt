@@ -1,5 +1,5 @@
-use Rattle.std.proofs.Common.{◌≡◌, ◌∙◌, ℕ, ◌+◌, ◌-◌, ◌*◌, ◌<◌, length, refl, ap, subst, arith, List}
-use Rattle.bq_model.specs.Boxes.{box_size, values_at}
+use Rattle.std.proofs.Common.{◌≡◌, ◌∙◌, ◌-◌, ◌*◌, ◌<◌, length, refl, ap, arith, List}
+use Rattle.bq_model.specs.Boxes.{box_size}
 use Rattle.bq_model.specs.declared.plan.Dim.{Dim}
 use Rattle.bq_probe.specs.Costs.{reads, turns, tried_size, read_at}
 use Rattle.bq_probe.specs.Remaining.{dims_now}

@@ -1,4 +1,4 @@
-use Rattle.std.proofs.Common.{◌≡◌, ◌≢◌, ◌-◌, ◌*◌, ◌<◌, ◌≤◌, List, length, refl, sym, ap, ◌∙◌, subst, arith}
+use Rattle.std.proofs.Common.{◌≡◌, ◌≢◌, ◌-◌, ◌*◌, ◌<◌, ◌≤◌, List, length, sym, ap, ◌∙◌, subst, arith}
 use Rattle.bq_model.specs.Boxes.{box_size, values_at}
 use Rattle.bq_model.specs.declared.plan.Dim.{Dim}
 use Rattle.bq_model.specs.Plan.{stream_at}
@@ -7,7 +7,6 @@ use Rattle.bq_model.proofs.BoxLaws.{values-inside}
 use Rattle.bq_pool.specs.Extents.{cells_of}
 use Rattle.bq_probe.specs.declared.probe.Probe.{Probe}
 use Rattle.bq_narrow.specs.Values.{rows_in}
-use Rattle.bq_probe.specs.Choosing.{cell_in}
 use Rattle.bq_probe.specs.Costs.{reads, turns, tried_size, read_at}
 use Rattle.bq_synopsis.specs.Premises.{IsLaidOut}
 use Rattle.bq_probe.specs.Remaining.{limit, dims_now}

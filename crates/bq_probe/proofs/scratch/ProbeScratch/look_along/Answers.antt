@@ -1,4 +1,4 @@
-use Rattle.std.proofs.Common.{◌≡◌, ◌<◌, ◌*◌, ◌∙◌, List, length, sym, ap, subst, arith}
+use Rattle.std.proofs.Common.{◌<◌, ◌*◌, ◌∙◌, List, length, sym, ap, subst, arith}
 use Rattle.bq_model.specs.Combinations.{read_from}
 use Rattle.bq_model.specs.Plan.{stream_at}
 use Rattle.bq_model.specs.Parts.{pairs}

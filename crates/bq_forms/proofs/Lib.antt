@@ -1,0 +1,4 @@
+pub mod WholeServes
+pub mod One
+pub mod OnePart
+pub mod Forms

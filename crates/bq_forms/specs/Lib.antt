@@ -1,0 +1,5 @@
+pub mod Order
+pub mod Part
+pub mod Fitting
+pub mod Forms
+pub mod Laws

@@ -1,5 +1,0 @@
-mod ServedCells
-mod ServedCounts
-mod ServedDistinct
-mod ServedLaw
-mod PlainServes
