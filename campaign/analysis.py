@@ -13,9 +13,10 @@ ends of a domain are no constants: they bound a column, and no pair has them.
 A query that is shared keeps the cells of a stream once where several parts would keep equal ones;
 all else of the analysis is the same.
 
-A query that is compact is read by groups: columns that comparisons of two columns join, with the
-constants that comparisons name with one of them. Pairs, links and classes are of one group, and what
-makes an inequality redundant is. The conditions and the numbers are counted over all groups together.
+A query that is compact has its whole form where that fits (`whole.py`), and else is read by groups:
+columns that comparisons of two columns join, with the constants that comparisons name with one of them.
+Pairs, links and classes are of one group, and what makes an inequality redundant is. The conditions and
+the numbers are counted over all groups together.
 """
 from collections import namedtuple
 from functools import lru_cache
@@ -205,6 +206,8 @@ class Facts:
         self.stands.update((it, (0, it)) for it in constants)
         self.links()
         self.references()
+        # comparisons that are no sign, which parts by groups have none of
+        self.soft = []
 
     def upper(self, x, y):
         """The least bound of x - y, or None."""
@@ -270,6 +273,12 @@ class Facts:
     def is_given(self, x, others):
         """Whether one of these attributes equals x and is of its group."""
         return not self.is_alone(x) and any(self.is_mate(x, it) and self.equal(x, it) for it in others)
+
+
+    def are_linked(self, value):
+        """Whether values meet the links."""
+        return (all(value(x) == value(y) for x, y in self.equalities)
+                and all(value(x) < value(y) for x, y in self.inequalities))
 
 
 def violation_of(query, facts):
@@ -414,13 +423,20 @@ def numbers_of(query, parts, shared):
 
 
 def analyse(query, shared=False):
-    """The verdict on a query, the pool aside, and its parts.
+    """The verdict on a query, the pool aside, and its parts: of a compact one its whole form where that fits.
 
     A verdict is ("filter",), ("limit", word), ("violation", part, condition, attribute) or
     ("ok", parts, cells, answers, work).
     """
+    import whole
     if query.places == 1 and not query.distinct:
         return Analysis(("filter",), [])
+    form = whole.fitting(query) if query.compact else None
+    return of_parts(query, [form], shared) if form else by_parts(query, shared)
+
+
+def by_parts(query, shared=False):
+    """The same of a query that is no filter by its ordered parts, of which certificates and families speak."""
     try:
         vectors = walk_parts(query, MOST_PARTS)
     except TooManyParts:

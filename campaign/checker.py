@@ -7,6 +7,7 @@ import re
 import analysis
 import evaluator
 import language
+import whole
 from language import CreateQuery, CreateStream, Refused
 
 MOST_NODES = 262_144
@@ -248,6 +249,12 @@ def too_large(query):
         return True
 
 
+def has_whole_form(query):
+    """Whether a query is accepted by its whole form, of which no certificate speaks."""
+    is_filter = query.places == 1 and not query.distinct
+    return query.compact and not is_filter and whole.fitting(query) is not None
+
+
 def certify_refusal(text):
     """What `certify` must write where it refuses a script, else None."""
     head = None
@@ -256,6 +263,8 @@ def certify_refusal(text):
         query, line = script.query, script.query_line
     except Refused as refusal:
         head, query, line = refusal, *query_before(text, refusal.line)
+    if query is not None and has_whole_form(query):
+        return b"error %d WholeForm\n" % line
     if query is not None and too_large(query):
         return b"error %d Limit\n" % line
     return refusal_line(head) if head else None

@@ -2,15 +2,16 @@
 
 Each random query is created four times in one session: as it is, shared, compact, and both. The output
 is compared with the evaluator's. Then the answers to each row are compared among those of the four that
-were accepted. A query whose columns are all of one group is the same either way: decision, numbers and
-plan too.
+were accepted. Where the whole form of a query fits, it has the same numbers and the same plan shared or not.
+What one of the forms alone accepts is counted.
 """
 import re
 from collections import namedtuple
 
-import analysis
 import evaluator
 import language
+import linked
+import whole
 from common import Part, fault_of, run as run_program, scaled
 from evaluator import session_text
 from generator import Writer
@@ -30,12 +31,18 @@ def write(writer):
     random, texts = writer.random, []
     if writer.chance(0.3):
         writer.extremes(3)
+    is_linked = writer.chance(0.5)
     while len(writer.session.streams) < random.choice([2, 3]):
-        writer.stream(random.choice([2, 3, 4]))
+        if is_linked:
+            writer.write(linked.stream_text(writer, random.choice([b"S", b"T", b"U", b"W"])))
+        else:
+            writer.stream(random.choice([2, 3, 4]))
     for number in range(random.choice([1, 2, 3])):
         kind = random.random()
         if b"X" in writer.session.streams and kind < 0.5:
             text = writer.extreme_query()
+        elif is_linked:
+            text = linked.query_text(writer)
         else:
             text = (writer.keyed_query() if kind < 0.75 else None) or writer.query_text()
         texts.append(text)
@@ -74,10 +81,10 @@ def query_of(session, text):
         return None
 
 
-def is_one_group(session, text):
-    """Whether the columns that a query compares are all of one group."""
+def has_whole_form(session, text):
+    """Whether a query is no filter, and its whole form fits."""
     query = query_of(session, text)
-    return query is not None and len({tuple(it.attributes) for it in analysis.groups_of(query).values()}) <= 1
+    return query is not None and (query.places > 1 or query.distinct) and whole.fitting(query) is not None
 
 
 def count_numbers(part, plain, compact):
@@ -105,14 +112,12 @@ def judge(part, writer, lines, number, text):
         for other in accepted.values():
             if not are_same_answers(one, other):
                 return f"{one.reply} and {other.reply} answer differently"
-    if is_one_group(writer.session, text):
-        part.count("of one group")
-        for plain, compact in ((b"p", b"c"), (b"s", b"b")):
-            said = [it.reply.replace(b" %s%d " % (form, number), b" ")
-                    for form, it in ((plain, of[plain]), (compact, of[compact]))]
-            is_whole = not (of[plain].is_dropped or of[compact].is_dropped)
-            if said[0] != said[1] or (is_whole and of[plain].plan != of[compact].plan):
-                return f"one group, and {of[plain].reply} differs from {of[compact].reply}"
+    if has_whole_form(writer.session, text):
+        part.count("with a whole form")
+        said = [of[form].reply.replace(b" %s%d " % (form, number), b" ") for form in (b"c", b"b")]
+        is_live = not (of[b"c"].is_dropped or of[b"b"].is_dropped)
+        if said[0] != said[1] or not said[0].startswith(b"ok query parts 1 ") or (is_live and of[b"c"].plan != of[b"b"].plan):
+            return f"a whole form, and {of[b'c'].reply} differs from {of[b'b'].reply}"
     return None
 
 

@@ -8,6 +8,7 @@ from itertools import product
 
 import analysis
 import language
+import whole
 
 BOX = range(-5, 9)
 COLUMNS = [(0, 0), (0, 1), (1, 0), (1, 1)]
@@ -111,6 +112,36 @@ def parts_by_enumeration(query, pairs):
     return found, loose
 
 
+def ends_of(query, values):
+    """The least and the greatest value of a column, each None where no constant and no end of a domain is beyond it."""
+    ends = analysis.constants_of(query) + [it for _, *both in query.domains for it in both]
+    low, high = min(values), max(values)
+    return low if ends and low >= min(ends) else None, high if ends and high <= max(ends) else None
+
+
+def fault_of_whole(query):
+    """What the whole form and the enumeration say differently of a query, or None: its ranges, and what rows and links together say."""
+    attributes, nodes = analysis.attributes_of(query), whole.nodes_of(query)
+    bounds = whole.closed(query, nodes)
+    every = [dict(zip(attributes, it)) for it in product(*boxes_of(query, attributes))]
+    kept = [it for it in every if holds(it, [atom for atom in query.atoms if atom[1] != "<>"])]
+    if bounds.possible != bool(kept):
+        return "a contradiction"
+    if not kept:
+        return None
+    form = whole.Whole(query, nodes, bounds.at)
+    for x in attributes:
+        if form.ends(x) != ends_of(query, [it[x] for it in kept]):
+            return f"another range of {x} in the whole form"
+    chosen = [it for it in query.select if it not in attributes]
+    for of in every:
+        of.update((it, form.ends(it)[0] or 0) for it in chosen)
+        taken = all(form.admits(place, of) for place in range(query.places)) and form.are_linked(of.get)
+        if taken != holds(of, query.atoms):
+            return f"the whole form and the query differ at {of}"
+    return None
+
+
 def range_of(query, values):
     """The range of a bounded column, else None.
 
@@ -155,7 +186,7 @@ def fault_of(query):
         fault = fault_of_facts(facts, members) or fault_of_links(pairs, signs, facts, members)
         if fault:
             return f"{fault} in {signs}"
-    return fault_of_numbers(query, pairs, by_box)
+    return fault_of_numbers(query, pairs, by_box) or fault_of_whole(query)
 
 
 def fault_of_facts(facts, members):
@@ -295,7 +326,7 @@ def fault_of_numbers(query, pairs, by_box):
         work += seen.work(dims)
     for is_shared, kept in ((False, cells), (True, sum(shared.values()))):
         numbers = wanted or ("ok", len(by_box), kept, answers, work)
-        got = analysis.analyse(query, is_shared).verdict
+        got = analysis.by_parts(query, is_shared).verdict
         if got != numbers:
             return f"verdict {got}, wanted {numbers}"
     return None

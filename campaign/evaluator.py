@@ -23,6 +23,8 @@ MOST_ROWS = 2**40
 
 COMPARE = {"<": operator.lt, "=": operator.eq, ">": operator.gt,
            "<=": operator.le, ">=": operator.ge, "<>": operator.ne}
+# the words of links that are neither `=` nor `<`
+SOFT_LINKS = {"<=": b"most", "<>": b"unlike"}
 VERDICTS = {}
 
 
@@ -340,8 +342,9 @@ class Session:
 
         lines = [text(b"sign", left, sign.encode(), right)
                  for (left, right), sign in zip(analysis.pairs_of(live.query), part.signs)]
-        lines += [text(b"equal", x, b"=", y) for x, y in sorted(facts.equalities)]
-        lines += [text(b"less", x, b"<", y) for x, y in sorted(facts.inequalities)]
+        lines += [text(b"equal", x, b"=", y) for x, y in facts.equalities]
+        lines += [text(b"less", x, b"<", y) for x, y in facts.inequalities]
+        lines += [text(SOFT_LINKS[sign], x, sign.encode(), y) for x, sign, y in facts.soft]
         for dims, extreme in zip(part.dims, part.extremes):
             for column in dims:
                 named = self.column_name(live.statement.streams, column)

@@ -2,7 +2,7 @@
 
 A query with soft comparisons is split into one query for each choice of signs of what it compares
 softly. The parts of these, one after the other, are its parts; its numbers are their sums, and its
-answers are all of theirs. So the evaluator's reply to it, its plan and its answers can be told from
+answers are all of theirs. No query is compact: the whole form of one has no parts by signs. So the evaluator's reply to it, its plan and its answers can be told from
 what the program says of queries without soft comparisons. Where random queries have no soft
 comparisons there is nothing to try.
 """
@@ -13,7 +13,6 @@ import analysis
 import language
 from common import Part, run as run_program, scaled
 from generator import Writer
-from language import COMPACT_SHARE
 
 SCRIPTS = 700
 ROWS = 40
@@ -169,8 +168,7 @@ def one_query(part):
         writer.stream(3)
     text = writer.extreme_query() if extreme else writer.query_text()
     try:
-        word = b"COMPACT " if COMPACT_SHARE and writer.chance(COMPACT_SHARE) else b""
-        statement = language.parse(b"CREATE " + word + b"QUERY whole AS " + text)
+        statement = language.parse(b"CREATE QUERY whole AS " + text)
         query = writer.session.resolve(statement)
     except language.Refused:
         return None
@@ -194,7 +192,6 @@ def run(program, seed, scale):
         part.count("queries" if told else "queries that pass a limit")
         part.count("queries without soft comparisons", len(split.choices))
         part.count("accepted", int(b"whole" in split.session.queries))
-        part.count("compact", int(split.query.compact))
         if fault:
             printed = language.print_statement(split.statement)
             part.differs(f"{fault}: {printed!r}", split.text())

@@ -49,7 +49,9 @@ class Synopsis:
     # rows
 
     def admits(self, part, place, of):
-        """Whether a row meets the signs within its stream and lies in each range."""
+        """Whether a row meets the local conditions, or the signs within its stream and each range."""
+        if not isinstance(part.facts, analysis.Facts):
+            return part.facts.admits(place, of)
         for (left, right), sign in zip(self.pairs, part.signs):
             if not analysis.is_local((left, right), place):
                 continue
@@ -128,8 +130,7 @@ class Synopsis:
             # a cell has the value of each of its classes under the name of the class
             return values[x] if x in values else values[facts.class_of(x)]
 
-        if (all(value(x) == value(y) for x, y in facts.equalities)
-                and all(value(x) < value(y) for x, y in facts.inequalities)):
+        if facts.are_linked(value):
             found[tuple(value(it) for it in self.query.select)] += count
 
     # cells by their numbers

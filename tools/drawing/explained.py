@@ -3,8 +3,11 @@ import re
 from collections import namedtuple
 
 Explained = namedtuple("Explained", "name text parts")
-Part = namedtuple("Part", "number signs equal less dims extremes")
+Part = namedtuple("Part", "number signs links dims extremes")
 Box = namedtuple("Box", "stream signs dims kind")
+LINKS = ("equal", "less", "most", "unlike")
+TURNED = {"<": ">", "=": "=", ">": "<", "<=": ">=", "<>": "<>"}
+
 
 def read_explained(lines, wanted):
     """The query of this name that is explained, or the first one; None where there is none."""
@@ -23,11 +26,11 @@ def read_parts(lines, name):
         if line == f"end {name}":
             break
         if words[0] == "part":
-            parts.append(Part(int(words[1]), [], [], [], [], []))
+            parts.append(Part(int(words[1]), [], [], [], []))
         elif words[0] == "sign":
             parts[-1].signs.append(tuple(words[1:4]))
-        elif words[0] in ("equal", "less"):
-            getattr(parts[-1], words[0]).append((words[1], words[3]))
+        elif words[0] in LINKS:
+            parts[-1].links.append(tuple(words[1:4]))
         elif words[0] == "dim":
             parts[-1].dims.append((words[1], int(words[2]), int(words[3])))
         elif words[0] in ("least", "greatest"):
@@ -92,7 +95,7 @@ def chains_of(box, columns, constants):
     signs = {}
     for left, sign, right in box.signs:
         signs[left, right] = sign
-        signs[right, left] = {"<": ">", "=": "=", ">": "<"}[sign]
+        signs[right, left] = TURNED[sign]
     elements = [it for it in dict.fromkeys([*constants, *columns]) if is_column(it) or any(it in pair for pair in signs)]
     return [chain_of(them, signs) for them in related(elements, signs)]
 
@@ -135,7 +138,7 @@ def columns_of(explained, part, stream):
     """The columns of a stream that the query compares or that have a range, each once, as they come in the text."""
     named = [it for sign in part.signs for it in (sign[0], sign[2]) if is_column(it)]
     named += [dim[0] for dim in part.dims] + [column for _, column in part.extremes]
-    named += [side for pair in part.equal + part.less for side in pair]
+    named += [side for left, _, right in part.links for side in (left, right)]
     return [it for it in dict.fromkeys(named) if stream_of(it) == stream]
 
 
@@ -148,7 +151,7 @@ def constants_of(explained):
 
 def links_of(part):
     """The comparisons between streams, each as left, sign, right and whether answers look at it; the others are settled by the order."""
-    asked = [(left, "=", right, True) for left, right in part.equal] + [(left, "<", right, True) for left, right in part.less]
+    asked = [(*link, True) for link in part.links]
     seen = {frozenset((left, right)) for left, _, right, _ in asked}
     settled = [(left, sign, right, False) for left, sign, right in part.signs
                if is_column(right) and stream_of(left) != stream_of(right) and frozenset((left, right)) not in seen]

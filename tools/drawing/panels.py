@@ -1,5 +1,5 @@
 """The picture of a query: panels for the dearest parts, and a list of the others."""
-from drawing.explained import (boxes_of, chains_of, columns_of, constants_of, cost_of, counted, is_column, links_of, saying, size_of,
+from drawing.explained import (TURNED, boxes_of, chains_of, columns_of, constants_of, cost_of, counted, is_column, links_of, saying, size_of,
                                stream_of, streams_of)
 from drawing.picture import WIDTH, Picture
 
@@ -203,6 +203,6 @@ class Panel:
         bend = (max(passed) / 2 + 24) / 0.75 if passed else 0
         middle, x = (top + bottom) / 2, (x1 + x2) / 2 - 0.75 * bend
         self.picture.curve((x1, top), (x1 - bend, middle), (x2 - bend, middle), (x2, bottom), colour, colour == "soft")
-        turned = sign if self.where[left][1] <= self.where[right][1] else {"<": ">", "=": "=", ">": "<"}[sign]
+        turned = sign if self.where[left][1] <= self.where[right][1] else TURNED[sign]
         self.picture.circle(x, middle, 10, "panel", colour, 1.5)
-        self.picture.text(x, middle + 5, turned, colour, 14, "middle", "bold")
+        self.picture.text(x, middle + 5, turned, colour, 14 if len(turned) == 1 else 11, "middle", "bold")
