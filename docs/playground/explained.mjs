@@ -1,6 +1,7 @@
 // What EXPLAIN says of a query, its parts and what each part keeps of each stream, as tools/drawing/explained.py reads it.
 
 const INTEGER = /^[+-]?\d+$/;
+const LINKS = ["equal", "less", "most", "unlike"];
 
 export const isColumn = (element) => !INTEGER.test(element);
 export const streamOf = (column) => column.split(".")[0];
@@ -25,9 +26,9 @@ function readParts(lines, name) {
     if (line === `end ${name}`) break;
     const [kind, one, two, three] = line.split(" ");
     const part = parts.at(-1);
-    if (kind === "part") parts.push({ number: Number(one), signs: [], equal: [], less: [], dims: [], extremes: [] });
+    if (kind === "part") parts.push({ number: Number(one), signs: [], links: [], dims: [], extremes: [] });
     else if (kind === "sign") part.signs.push([one, two, three]);
-    else if (kind === "equal" || kind === "less") part[kind].push([one, three]);
+    else if (LINKS.includes(kind)) part.links.push([one, two, three]);
     else if (kind === "dim") part.dims.push([one, Number(two), Number(three)]);
     else if (kind === "least" || kind === "greatest") part.extremes.push([kind, one]);
   }
@@ -68,7 +69,7 @@ export function costOf(explained, part) {
   return boxesOf(explained, part).reduce((sum, box) => sum + sizeOf(explained, box), 0);
 }
 
-const turnedSign = { "<": ">", "=": "=", ">": "<" };
+const turnedSign = { "<": ">", "=": "=", ">": "<", "<=": ">=", "<>": "<>" };
 export const turned = (sign) => turnedSign[sign];
 const pairOf = (left, right) => `${left} ${right}`;
 
@@ -117,8 +118,7 @@ export function columnsOf(part, stream) {
     ...part.signs.flatMap(([left, , right]) => [left, right]).filter(isColumn),
     ...part.dims.map(([column]) => column),
     ...part.extremes.map(([, column]) => column),
-    ...part.equal.flat(),
-    ...part.less.flat(),
+    ...part.links.flatMap(([left, , right]) => [left, right]),
   ];
   return once(named).filter((it) => streamOf(it) === stream);
 }
@@ -133,13 +133,12 @@ export function constantsOf(explained) {
 
 // The comparisons between streams, each as left, sign, right and whether answers look at it; the others are settled by the order.
 export function linksOf(part) {
-  const bothWays = ([left, right]) => [pairOf(left, right), pairOf(right, left)];
-  const seen = new Set([...part.equal, ...part.less].flatMap(bothWays));
+  const bothWays = ([left, , right]) => [pairOf(left, right), pairOf(right, left)];
+  const seen = new Set(part.links.flatMap(bothWays));
   const settled = part.signs.filter(([left, , right]) =>
     isColumn(right) && streamOf(left) !== streamOf(right) && !seen.has(pairOf(left, right)));
   return [
-    ...part.equal.map(([left, right]) => [left, "=", right, true]),
-    ...part.less.map(([left, right]) => [left, "<", right, true]),
+    ...part.links.map((link) => [...link, true]),
     ...settled.map(([left, sign, right]) => [left, sign, right, false]),
   ];
 }

@@ -229,6 +229,6 @@ class Panel {
     this.picture.curve([upper.x, top], [upper.x - bend, middle], [lower.x - bend, middle], [lower.x, bottom], colour, colour === "soft");
     this.picture.circle(x, middle, 10, "panel", colour, 1.5);
     const shown = one.y <= other.y ? sign : turned(sign);
-    this.picture.text(x, middle + 5, shown, { colour, size: 14, anchor: "middle", weight: "bold" });
+    this.picture.text(x, middle + 5, shown, { colour, size: shown.length === 1 ? 14 : 11, anchor: "middle", weight: "bold" });
   }
 }

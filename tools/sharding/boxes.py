@@ -49,7 +49,7 @@ def read_parts(lines, streams):
             parts[-1].dims[words[1].split(".")[0]].append((words[1], int(words[2]), int(words[3])))
         elif words[0] in ("least", "greatest"):
             parts[-1].extremes[words[1].split(".")[0]] = f"{words[0]} {words[1]}"
-        elif words[0] not in ("filter", "equal", "less"):
+        elif words[0] not in ("filter", "equal", "less", "most", "unlike"):
             raise Refused(f"EXPLAIN answers a line that this tool does not know: {line}")
     return parts
 
@@ -109,4 +109,7 @@ class Boxes:
                         return None, box.kind
                     place = place * (high - low + 1) + value - low
                 return box.base + place, box.kind
+        if self.boxes and bool(name.signs) != any(signs for box in self.boxes for signs in box.parts):
+            raise Refused(f"{self.query.name} is one part without signs in one of these scripts and has parts by signs in another, as EXPLAIN "
+                          "tells; its cells cannot be carried over: leave COMPACT out, or give it domains with which all are alike")
         return None, None
