@@ -2,7 +2,7 @@ use Rattle.std.proofs.Common.{◌≡◌, ◌<◌, ◌/◌, length, get_or, arith
 use Rattle.std.proofs.lemmas.List.{get_or_default}
 use Rattle.bq_answers.specs.Tiers.{place_of}
 use Rattle.bq_answers.proofs.Tiers.{length-items_of, get_or-items_of, place_within, is_plain}
-use Rattle.bq_answers.proofs.tiered.TieredVec.get.Goals as goal
+use Rattle.bq_answers.proofs.tiered.TieredVec.number_in_block.Goals as goal
 
 pub index-requires : goal.index-requires
 index-requires c =
