@@ -1,16 +1,21 @@
-"""The text of a checkpoint: what it holds, how it is written, and how it is read.
+"""A checkpoint: what it holds, its text, and the folder in which it stands.
 
-A checkpoint is a script for bq, the reply to CHECKPOINT, between comment lines of the keeper's own: first what wrote it
-and what it goes with, a key and a value each, last how many lines there are and their SHA-256 sum. So a file that was
-torn or changed shows.
+It is a script for bq, the reply to CHECKPOINT, between comment lines of the keeper's own: first what wrote it and what
+it goes with, a key and a value each, last how many lines there are and their SHA-256 sum. So a file that was torn or
+changed shows.
 """
+import fcntl
 import hashlib
+import os
 import re
+import time
 from collections import namedtuple
+from contextlib import suppress
 
-from keeper import Fault
+from keeper import Busy, Fault, log
 
-FORMAT = 2
+FORMAT, ENDS = 2, 1024
+NAME = re.compile(r"checkpoint-(\d{8,})\.bq\Z")
 HEAD, HEADS = re.compile(rb"-- (\w+) (.*)\n"), re.compile(rb"(?:-- .*\n)*")
 WHOLE = re.compile(rb"-- whole lines (\d+) sum ([0-9a-f]{64})\n\Z")
 OLDEST = re.compile(rb"-- whole rows (\d+) lines (\d+) bytes (\d+) output (\d+)"
@@ -28,6 +33,12 @@ Checkpoint = namedtuple("Checkpoint", "body place plan program script output_sum
 
 def sum_of(text):
     return hashlib.sha256(text).hexdigest().encode()
+
+
+def sum_at(fd, offset):
+    """A sum of the first and the last bytes of a file before an offset, by which it is known again."""
+    near = min(offset, ENDS)
+    return sum_of(os.pread(fd, near, 0) + os.pread(fd, near, offset - near))
 
 
 def creates_of(body):
@@ -54,8 +65,8 @@ def read(text, number):
         return None
     if found.re is OLDEST:
         return Checkpoint(front, Place(*map(int, found.groups()[:4])), number=number)
-    heads = HEADS.match(front)
-    values = HEAD.findall(heads[0])
+    heads = HEADS.match(front)[0]
+    values = HEAD.findall(heads)
     known, (form, program) = dict(values), values[0][1].split(b" ", 1)
     if values[0][0] != b"keep" or int(form) > FORMAT:
         raise Fault(f"checkpoint {number} was written by a later keeper, which has to go on from it")
@@ -63,4 +74,64 @@ def read(text, number):
     mark = Mark(*map(int, file[1:6:2]), file[7]) if file else None
     place = Place(*map(int, known[b"place"].split()[1::2]), mark, known.get(b"token", b""))
     plan = tuple(b"%s %s" % it for it in values if it[0] in (b"reply", b"plan"))
-    return Checkpoint(front[heads.end():], place, plan, program, known[b"script"], known.get(b"output", b""), number)
+    return Checkpoint(front[len(heads):], place, plan, program, known[b"script"], known.get(b"output", b""), number)
+
+
+def locked(path, way=os.O_RDONLY | os.O_DIRECTORY):
+    """Opens what this run alone may have until it ends; who only looks has it for a moment."""
+    handle = os.open(path, way, 0o644)
+    for _ in range(20):
+        with suppress(BlockingIOError):
+            fcntl.flock(handle, fcntl.LOCK_EX | fcntl.LOCK_NB)
+            return handle
+        time.sleep(0.01)
+    os.close(handle)
+    raise Busy(f"another run has {path}")
+
+
+def path_of(folder, number):
+    return os.path.join(folder, f"checkpoint-{number:08}.bq")
+
+
+def numbers_in(folder):
+    """The numbers of the checkpoints of a folder, the newest first."""
+    return sorted((int(found[1]) for found in map(NAME.match, os.listdir(folder)) if found), reverse=True)
+
+
+def whole_in(folder):
+    """The whole checkpoints of a folder, the newest first."""
+    for number in numbers_in(folder):
+        with open(path_of(folder, number), "rb") as file:
+            if found := read(file.read(), number):
+                yield found
+            else:
+                log.warning("%s is not whole, and is passed by", file.name)
+
+
+def choose(folder, acked=None, begins=None):
+    """The newest checkpoint, of those whose replies are acknowledged and that stand at byte `begins`, where given."""
+    for one in whole_in(folder):
+        if (acked is None or one.place.output <= acked) and begins in (None, one.place.bytes):
+            return one
+    if acked or begins or numbers_in(folder):
+        at = "" if begins is None else f" at byte {begins} of the input"
+        has = "" if acked is None else f" with at most the {acked} bytes of replies that the consumer has"
+        raise Fault(f"{folder} has no whole checkpoint{at}{has}: ask --where once more, or begin anew elsewhere")
+    return Checkpoint()
+
+
+def save(path, text, folder=None):
+    """Writes a file, which is seen whole or not at all; with a handle of its folder it is on the disk too."""
+    try:
+        with open(path + ".new", "wb") as file:
+            file.write(text)
+            file.flush()
+            if folder:
+                os.fsync(file.fileno())
+        os.rename(path + ".new", path)
+        if folder:
+            os.fsync(folder)
+    except OSError as fault:
+        with suppress(OSError):
+            os.remove(path + ".new")
+        raise OSError(fault.errno, fault.strerror, path) from None

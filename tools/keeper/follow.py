@@ -2,14 +2,13 @@
 
 A file is known again by its identity, which is device and inode, and by a sum of bytes that were read of it.
 """
-import contextlib
 import glob
 import os
 import re
+from contextlib import suppress
 
 from keeper import Fault, log
-from keeper.checkpoint import Mark
-from keeper.sink import sum_at
+from keeper.checkpoint import Mark, sum_at
 from keeper.source import PIECE, Source
 
 RENAMED = re.compile(r"(?:\.(\d{1,4})|[-.]\d[-.\d_:T]*)?\Z")
@@ -20,28 +19,36 @@ def identity(file):
     return status.st_dev, status.st_ino
 
 
+def opened(name, file):
+    """A handle of the file that has this name and identity; None where it was renamed meanwhile."""
+    with suppress(FileNotFoundError):
+        fd = os.open(name, os.O_RDONLY)
+        if identity(fd) == file:
+            return fd
+        os.close(fd)
+    return None
+
+
 def left(fd):
     """How many bytes of a file were not read; fewer than none where it was cut."""
     return os.fstat(fd).st_size - os.lseek(fd, 0, os.SEEK_CUR)
 
 
-def listed(path):
-    """A file and those it was renamed to, the oldest first, by name and identity: f.2, f.1, f; or f-20261130, f."""
-    found = []
-    for name in glob.glob(glob.escape(path) + "*"):
-        if (renamed := RENAMED.match(name[len(path):])) and os.path.isfile(name):
-            # of numbers the greater is the older, of dates the lesser
-            with contextlib.suppress(FileNotFoundError):
-                found.append((name == path, renamed[1] is not None, -int(renamed[1] or 0), name, identity(name)))
-    return [it[-2:] for it in sorted(found)]
+def source_for(options, place):
+    """The source that the words name."""
+    path = options.follow or options.input
+    if path and (os.path.isfile(path) or not os.path.exists(path)):
+        return File(path, bool(options.follow), place, options.input_anew)
+    # a named pipe that is followed is held open
+    way = (os.O_RDWR if options.follow else os.O_RDONLY) | os.O_NONBLOCK
+    return Source(os.open(path, way) if path else 0, place)
 
 
 class File(Source):
     """A source, as a pipe is one; where it is followed it never ends."""
 
     def __init__(self, path, is_followed, place, begins_anew=False):
-        mark = None if begins_anew else place.mark
-        self.path, self.is_followed = path, is_followed
+        self.path, self.is_followed, mark = path, is_followed, None if begins_anew else place.mark
         super().__init__(self.known(mark) if mark else os.open(path, os.O_RDONLY), place)
         # the oldest form of a checkpoint has bytes alone
         os.lseek(self.fd, 0 if begins_anew else mark.offset if mark else place.bytes, os.SEEK_SET)
@@ -51,51 +58,57 @@ class File(Source):
         self.later()
 
     def family(self):
-        """All files that are looked at, listed when nothing was renamed meanwhile."""
-        if not self.is_followed:
-            return [(self.path, identity(self.path))]
-        before = None
-        while (now := listed(self.path)) != before:
-            before = now
-        return now
+        """The file and those it was renamed to, the oldest first, by name and identity: f.2, f.1, f; or f-2026, f."""
+        before, now = None, []
+        # until nothing was renamed meanwhile
+        while now != before:
+            before, now = now, []
+            for name in glob.glob(glob.escape(self.path) + "*") if self.is_followed else [self.path]:
+                # of numbers the greater is the older, of dates the lesser
+                with suppress(FileNotFoundError):
+                    if (renamed := RENAMED.match(name[len(self.path):])) and os.path.isfile(name):
+                        order = name == self.path, renamed[1] is not None, -int(renamed[1] or 0)
+                        now.append((*order, name, identity(name)))
+            now.sort()
+        return [it[-2:] for it in now]
 
     def known(self, mark):
         """Opens the file that was read, whatever its name is now; a copy, as on another machine, by what is in it."""
-        alike = []
-        for name, _ in self.family():
-            try:
-                fd = os.open(name, os.O_RDONLY)
-            except FileNotFoundError:
-                # it was renamed just now
+        alike = {}
+        for name, file in self.family():
+            if (fd := opened(name, file)) is None:
                 return self.known(mark)
             if left(fd) >= mark.offset and sum_at(fd, mark.offset) == mark.sum:
-                alike.append(fd)
+                alike[file] = fd
             else:
                 os.close(fd)
-        exact = [it for it in alike if identity(it) == mark[:2] or not self.is_followed]
-        if not exact and not (len(alike) == 1 and mark.offset):
-            raise Fault(f"{self.path} is not the file that was read (inode {mark.inode}, {mark.offset} bytes), or is"
-                        " shorter than what was read, and no renamed one beside it is: rows may be lost. To read what"
-                        " is there from its first byte on say --input-anew")
-        return (exact or alike)[0]
+        if mark[:2] in alike:
+            return alike[mark[:2]]
+        if len(alike) == 1 and (mark.offset or not self.is_followed):
+            return alike.popitem()[1]
+        raise Fault(f"{self.path} is not the file that was read (inode {mark.inode}, {mark.offset} bytes), or is"
+                    " shorter than what was read, and no renamed one beside it is: rows may be lost. To read what is"
+                    " there from its first byte on say --input-anew")
 
-    def take(self, piece):
-        """Whole lines of what was read; a last line of a renamed file without its end is a line."""
-        if piece or not self.is_followed:
-            return super().take(piece)
+    def at_end(self):
+        """What is left of a renamed file when there is another behind it; a last line without its end is a line."""
+        if not self.is_followed:
+            return super().at_end()
         self.look_at_lengths()
         behind = self.successor()
         self.is_at_rest = behind is None
         if self.is_at_rest:
             return b""
         # what was written before the renaming comes first
-        text = self.cut(b"".join(iter(lambda: os.read(self.fd, PIECE), b""))) + self.cut_end()
+        if piece := os.read(self.fd, PIECE):
+            os.close(behind)
+            return piece
         if self.old is not None:
             os.close(self.old)
         self.old, self.fd = self.fd, behind
         self.later()
         log.info("%s was renamed: read to its end, and the new one begun", self.path)
-        return text
+        return self.end_of_line()
 
     def later(self):
         """The files behind this one, the oldest first."""
@@ -110,13 +123,11 @@ class File(Source):
     def successor(self):
         """Opens the next file with a byte in it, where there is one: what is written to this one was written before."""
         # a file that is not there, or is another one, is being renamed
-        with contextlib.suppress(FileNotFoundError):
-            behind = self.later() if identity(self.path) != identity(self.fd) else []
-            for name, file in [it for it in behind if os.path.getsize(it[0])][:1]:
-                fd = os.open(name, os.O_RDONLY)
-                if identity(fd) == file:
-                    return fd
-                os.close(fd)
+        with suppress(FileNotFoundError):
+            if identity(self.path) != identity(self.fd):
+                for name, file in self.later():
+                    if os.path.getsize(name):
+                        return opened(name, file)
         return None
 
     def look_at_lengths(self):
@@ -129,11 +140,11 @@ class File(Source):
 
     @property
     def mark(self):
-        offset = os.lseek(self.fd, 0, os.SEEK_CUR) - self.behind()
+        offset = os.lseek(self.fd, 0, os.SEEK_CUR) - self.behind
         return Mark(*identity(self.fd), offset, sum_at(self.fd, offset))
 
     def lag(self):
         """How many bytes wait, in this file and those behind it; none while it is being renamed."""
-        with contextlib.suppress(OSError):
+        with suppress(OSError):
             return left(self.fd) + sum(os.path.getsize(name) for name, _ in self.later())
         return 0

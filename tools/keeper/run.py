@@ -3,7 +3,6 @@
 Two threads stand beside it. One brings checkpoints to the disk; the other minds signals, and ends the run where bq, a
 disk or a reader does not let the loop come to its end in time.
 """
-import contextlib
 import functools
 import os
 import re
@@ -13,190 +12,162 @@ import threading
 import time
 from collections import deque
 from concurrent.futures import ThreadPoolExecutor
+from contextlib import suppress
 
 from keeper import Fault, log
 from keeper.agree import plan_of, script_of, version_of
-from keeper.change import Changes
-from keeper.checkpoint import Checkpoint, creates_of
-from keeper.follow import File
+from keeper.checkpoint import Checkpoint, Place, choose, creates_of, locked, numbers_in, path_of, save, sum_at, written
+from keeper.follow import source_for
+from keeper.heard import Acks, Changes
 from keeper.session import ERROR, Session
-from keeper.sink import Acks, Sink
-from keeper.source import LONGEST, PIECE, Source
-from keeper.store import Store, choose, locked
+from keeper.sink import Sink
+from keeper.source import PIECE
 from keeper.watch import Watch
 
-# how many bytes of the input are kept for a bq that has to be begun again, and after how many a checkpoint is asked for
-KEPT, MUCH = 64 << 20, 16 << 20
+# how many bytes of the input are kept for a bq that has to be begun again, in how many pieces, as each has its own cost;
+# and after how many bytes a checkpoint is asked for
+KEPT, PIECES, MUCH = 64 << 20, 1 << 20, 16 << 20
 # seconds: the longest pause before bq is begun again, how long a good one lives, between two looks, and a file rests
 LONGEST_PAUSE, SOON, TICK, REST = 30, 60, 0.1, 0.02
-# how often it is looked for what comes next, for some 50 us; where that was in vain, how often not
+# how often it is looked for what comes next, for some 50 us; where that was in vain twice, behind how many waits again
 LOOKS, REFRAINS = 120 if len(os.sched_getaffinity(0)) > 1 else 0, 100
-TAKEN = re.compile(rb"^RESUME (\d+)$", re.MULTILINE)
-# whole lines, none of which is a mark or an error
-USUAL = re.compile(rb"(?:(?!--@ |error )[^\n]*\n)+").fullmatch
+# of how many checkpoints the replies may be unacknowledged
+NEWER = 30
+BLANK, TAKEN = ord(" "), re.compile(rb"^RESUME (\d+)$", re.MULTILINE)
 # what each signal sets
 SIGNALS = {signal.SIGTERM: "is_told", signal.SIGINT: "is_told",
            signal.SIGHUP: "is_wanted", signal.SIGUSR1: "is_curious"}
 
 
-def source_for(options, place):
-    """The source that the words name."""
-    path = options.follow or options.input
-    if path and (os.path.isfile(path) or not os.path.exists(path)):
-        return File(path, bool(options.follow), place, options.input_anew)
-    # a named pipe that is followed is held open
-    way = (os.O_RDWR if options.follow else os.O_RDONLY) | os.O_NONBLOCK
-    return Source(os.open(path, way) if path else 0, place)
-
-
 class Run:
-    """A session over as many programs as it takes, from its beginning to its status."""
+    """A session over as many programs as it takes, from its beginning to its end."""
 
     def __init__(self, options):
-        self.options = options
-        os.makedirs(options.folder, exist_ok=True)
-        if not os.access(options.folder, os.W_OK):
-            raise Fault(f"{options.folder} is a folder in which this user may not write: change its owner or mode")
-        lock = locked(options.folder)
-        self.sink, self.acks = Sink(options.output), Acks(options.ack)
-        acked = self.acks.first()
-        self.kept = choose(options.folder, acked, options.begins)
+        self.options, folder = options, options.folder
+        os.makedirs(folder, exist_ok=True)
+        if not os.access(folder, os.W_OK):
+            raise Fault(f"{folder} is a folder in which this user may not write: change its owner or mode")
+        self.lock, self.sink, self.acks = locked(folder), Sink(options.output), Acks(options.ack)
+        # the newest checkpoint; pieces of the input behind it, each with the number of lines before its end
+        self.kept, self.pieces = choose(folder, self.acks.number, options.begins), deque()
         self.version = version_of(options.program, self.kept)
         self.script, self.script_sum = script_of(options, self.kept)
         self.source = source_for(options, self.kept.place)
         if self.kept.number:
-            self.sink.begin(self.kept, acked)
-            log.info("goes on behind %d rows, %d lines or %d bytes of the input, with %d bytes of replies",
-                     *self.kept.place[:4])
-        else:
-            log.info("begins anew with %s", options.script)
-        self.changes = Changes(options.folder, options.control, not self.kept.number)
-        self.store = Store(options.folder, lock, self.kept, self.acks)
-        self.watch = Watch(options, self.source.lines)
-        # lines of the input behind the newest checkpoint, with the number of lines before the end of each piece
-        self.pieces, self.lost_to = deque(), 0
-        # the bq that runs; a checkpoint that waits for replies to be out; and one that is brought to the disk
-        self.session = self.due = self.keeping = None
+            self.sink.begin(self.kept, self.acks.number)
+        # what the operator said, and how much of it this session has
+        self.changes, self.applied = Changes(folder, options.control, not self.kept.number), 0
+        # no later run may go on from what is newer than the chosen one; what is older has fewer replies before it
+        for number in numbers_in(folder):
+            if number > self.kept.number:
+                os.rename(path_of(folder, number), path_of(folder, number) + ".aside")
+        self.standing = dict.fromkeys(reversed(numbers_in(folder)), self.kept.place.output)
+        # where a checkpoint was asked for last, and when; and one that is brought to the disk
+        self.asked, self.asked_at, self.keeping = self.kept.place, time.monotonic(), None
         self.disk = ThreadPoolExecutor(1)
-        self.is_asked = self.is_wanted = self.is_ending = self.is_told = self.is_curious = False
-        self.asked, self.asked_at = self.kept.place, time.monotonic()
-        # what the operator said in an earlier run and is to be said again, and how much was said
-        self.replay, self.applied = deque(), 0
-        self.deaths = self.begun_at = self.begin_at = self.next_tick = self.moved = self.stuck = self.refrains = 0
-        self.status = None
+        self.is_asked = self.is_wanted = self.is_ending = self.is_told = self.is_curious = self.is_done = False
+        self.pause = self.begun_at = self.begin_at = self.next_tick = self.moved = self.stuck = self.vain = 0
+        # the bq that runs
+        self.session = None
+        self.watch = Watch(self, options)
 
     def run(self):
-        """Gives the status."""
+        """Runs to the end."""
         told, wake = os.pipe()
         os.set_blocking(wake, False)
         signal.set_wakeup_fd(wake)
         for one in SIGNALS:
             signal.signal(one, lambda *_: None)
         threading.Thread(target=self.mind_signals, args=(told,), daemon=True).start()
+        # who reads this may send signals
+        if self.kept.number:
+            log.info("goes on behind %d rows, %d lines or %d bytes of the input, with %d bytes of replies",
+                     *self.kept.place[:4])
+        else:
+            log.info("begins anew with %s", self.options.script)
         try:
             self.begin()
-            while self.status is None:
-                self.turn()
-            return self.status
+            while not self.is_done:
+                self.turn() if self.session else time.sleep(TICK)
+                if (now := time.monotonic()) >= self.next_tick:
+                    self.next_tick = now + TICK
+                    self.tick(now)
         finally:
             if self.session:
                 self.session.process.kill()
-            self.watch.show(self, time.monotonic())
+            self.watch.show(time.monotonic())
 
     def mind_signals(self, told):
-        """Minds signals, also while the loop waits for a disk."""
+        """Notes what signals ask for, also while the loop waits for a disk; behind one that ends the run it has its grace."""
         while not self.is_told:
             setattr(self, SIGNALS[os.read(told, 1)[0]], True)
         time.sleep(self.options.grace)
-        # it ends also where nobody reads what is said
-        signal.alarm(1)
-        if self.session:
-            self.session.process.kill()
-        with contextlib.suppress(OSError):
+        if session := self.session:
+            session.process.kill()
+        # where somebody reads it
+        if select.select([], [2], [], 0)[1]:
             os.write(2, b"keep: ends without a last checkpoint, as bq, a disk or who reads replies did not go on for"
                         b" %g s\n" % self.options.grace)
         os._exit(1)
 
     def turn(self):
-        """Waits for what comes first, and goes on with it."""
-        session, sink, source, wanted = self.session, self.sink, self.source, {}
-        if sink.pending:
-            wanted[sink.fd] = select.POLLOUT, sink.flush
-        elif session:
-            wanted[session.of] = select.POLLIN, lambda: self.receive(os.read(session.of, PIECE))
-        if session and session.pending:
-            wanted[session.fd] = select.POLLOUT, session.flush
-        elif session and not (session.is_gone or self.is_ending or source.is_at_rest):
-            wanted[source.fd] = select.POLLIN, lambda: self.feed(os.read(source.fd, PIECE))
-        poll = select.poll()
-        for fd, (event, _) in wanted.items():
-            poll.register(fd, event)
-        if self.refrains or len(wanted) < 2 or self.pass_along(poll.poll):
-            ready = poll.poll(1000 * (REST if source.is_at_rest else TICK))
-            self.refrains, source.is_at_rest = max(0, self.refrains - 1), False
-            for fd, _ in ready[:1]:
-                wanted[fd][1]()
-        if self.keeping or self.due:
-            self.go_on_keeping()
-        if self.session and not self.is_asked and not self.is_ending and self.is_due():
-            self.ask()
-        if (now := time.monotonic()) >= self.next_tick:
-            self.next_tick = now + TICK
-            self.tick(now)
+        """Goes on with what comes first, as long as the same is waited for.
 
-    def pass_along(self, poll):
-        """Passes on rows and replies that come at once and are usual; whether that ended because nothing more came.
-
-        To be woken takes long, so what comes is looked for, where that was not in vain just now. It does what `feed`
-        and `receive` would do, in as few steps as may be.
+        To be woken takes long, so what comes is looked for before the run sleeps, where that was not in vain of late.
         """
-        source, session, sink, looks, is_vain = self.source, self.session, self.sink, 0, True
-        due = self.asked.lines + self.options.every
-        if session.pending or sink.pending or self.replay or source.rest or sink.is_passing_by() \
-                or not session.is_plain():
-            return True
-        while looks < LOOKS:
-            looks += 1
-            for fd, _ in poll(0):
-                piece, looks, is_vain = os.read(fd, PIECE), 0, False
-                is_row = fd == source.fd
-                if len(piece) > LONGEST or not USUAL(piece):
-                    self.feed(piece) if is_row else self.receive(piece)
-                    return False
-                is_out = (session if is_row else sink).passes(piece)
-                # while those whom it woke begin to run
-                if is_row:
-                    source.came += len(piece)
-                    source.lines += piece.count(b"\n")
-                    self.pieces.append((source.lines, piece))
-                else:
-                    session.received += len(piece)
-                    sink.total += len(piece)
-                    self.watch.uncounted.append(piece)
-                if not is_out or source.lines >= due or time.monotonic() >= self.next_tick:
-                    return False
-        self.refrains = REFRAINS if is_vain else 0
-        return True
+        session, sink, source, poll = self.session, self.sink, self.source, select.poll()
+        # replies only where they go on, a row only where bq takes it
+        does = {sink.fd: sink.put} if sink.pending else {session.replies.fd: self.receive}
+        if session.pending:
+            does[session.fd] = session.put
+        elif not (session.is_gone or self.is_ending or source.is_at_rest):
+            does[source.fd] = self.feed
+        for fd in does:
+            poll.register(fd, select.POLLOUT if fd in (sink.fd, session.fd) else select.POLLIN)
+        pause, source.is_at_rest = 1000 * (REST if source.is_at_rest else TICK), False
+        is_same, look = True, poll.poll
+        while is_same:
+            looks = LOOKS if self.vain % REFRAINS < 2 else 0
+            while not (ready := look(0 if looks else pause)) and looks:
+                looks -= 1
+            is_same = ready and does[ready[0][0]]() and time.monotonic() < self.next_tick
+            self.vain = 0 if looks else self.vain + 1
 
-    def feed(self, piece):
-        """Sends what came, and has the last checkpoint taken where it ends."""
-        before, text = self.source.lines, self.source.take(piece)
+    def feed(self):
+        """Sends what came, and has the last checkpoint taken where it ends. Whether the same is waited for then."""
+        source, session = self.source, self.session
+        text = source.cut(os.read(source.fd, PIECE) or source.at_end())
+        session.put(self.say(text, source.lines) if self.applied < len(self.changes.known) else text)
+        source.count(text)
         if text:
-            self.pieces.append((self.source.lines, text))
-            self.pass_on(text, before)
-        if self.source.is_ended:
+            self.pieces.append((source.lines, text))
+        if source.is_ended:
             self.end()
+        return text and not (session.pending or session.is_gone or source.is_ended)
 
-    def pass_on(self, text, before):
-        """Sends lines of the input, and what the operator said between them in an earlier run."""
-        while self.replay and self.replay[0].lines <= self.source.lines:
-            change, cut = self.replay.popleft(), 0
-            for _ in range(change.lines - before):
-                cut = text.index(b"\n", cut) + 1
-            self.session.put(text[:cut])
-            text, before = text[cut:], change.lines
-            self.change(change.statement)
-        self.session.put(text)
+    def receive(self):
+        """Takes replies, or the end of bq. Whether the same is waited for then."""
+        session, sink, piece = self.session, self.sink, os.read(self.session.replies.fd, PIECE)
+        text = session.replies.cut(piece)
+        # most are answers, which have no blank
+        if session.groups or BLANK in text:
+            session.take(text)
+        elif text:
+            sink.take(text)
+        if not piece:
+            self.on_end_of_bq()
+        return piece and not sink.pending
+
+    def say(self, text, before):
+        """Sends what the operator said among lines behind so many others, with those before it; gives the rest."""
+        known = self.changes.known
+        while self.applied < len(known) and known[self.applied][0] <= before + text.count(b"\n"):
+            (place, statement), self.applied = known[self.applied], self.applied + 1
+            rest = text.split(b"\n", place - before)[-1]
+            self.session.put(text[:len(text) - len(rest)])
+            self.session.ask(statement + b"\n", functools.partial(self.on_changed, statement, self.applied))
+            text, before = rest, place
+        return text
 
     def end(self):
         """Takes a last checkpoint, where one is needed, and tells bq that no more comes."""
@@ -208,106 +179,107 @@ class Run:
     def begin(self):
         """Begins bq from the newest checkpoint and what came behind it, or from the script."""
         options, kept, place = self.options, self.kept, self.kept.place
-        if self.deaths:
+        if self.pause:
             self.version = version_of(options.program, kept)
         words = [options.program, "run", *(["--rows", options.rows] if options.rows else [])]
-        self.session = Session(words, options.to, kept.body if kept.number else self.script, place.lines,
-                               lambda replies: self.watch.see(self.sink.take(replies)))
-        self.begun_at, self.is_asked = time.monotonic(), False
-        self.replay, self.applied = deque(self.changes.known[place.changes:]), place.changes
+        text = kept.body if kept.number else self.script
+        self.session = Session(words, options.to, text, place.lines, self.sink.take)
+        self.begun_at, self.applied, self.asked, self.is_asked = time.monotonic(), place.changes, place, False
         if kept.number:
-            self.sink.rewind(place.output)
+            self.sink.behind = self.sink.written - place.output
         else:
             # no reply may be out before a checkpoint says where replies begin
             self.ask()
-        self.pass_on(b"".join(it for _, it in self.pieces), place.lines)
+        self.session.put(self.say(b"".join(it for _, it in self.pieces), place.lines))
         if self.is_ending:
             self.end()
 
-    def receive(self, piece):
-        """Takes replies. Where bq has ended the run ends, or bq is begun again."""
-        self.session.take(piece)
-        if piece:
-            return
-        status, session, self.session, now = self.session.end(), self.session, None, time.monotonic()
+    def on_end_of_bq(self):
+        """Ends the run, or has bq be begun again."""
+        session, status, now = self.session, self.session.end(), time.monotonic()
+        self.session = None
         # a checkpoint that is under way may stand
-        while self.due or self.keeping:
-            self.go_on_keeping(True)
-        if session.is_closed and status == 0:
-            self.status = 0
+        if self.keeping:
+            self.settle()
+        self.is_done = session.is_closed and status == 0 and not session.groups
+        if self.is_done:
             return
-        what = f"bq ended by itself, with {status}"
+        what, place = f"bq ended by itself, with {status}", self.kept.place
         if not self.kept.number:
             raise Fault(f"{what}, before the first checkpoint stood")
-        if self.is_told or self.lost_to > self.kept.place.lines:
+        if self.is_told or sum(it.count(b"\n") for _, it in self.pieces) < self.source.lines - place.lines:
             raise Fault(f"{what}, and what came behind the newest checkpoint is no more kept: start again, from where"
                         " --where says")
-        self.deaths = self.deaths + 1 if now - self.begun_at < SOON else 1
-        pause = min(LONGEST_PAUSE, 0.1 * 2 ** (self.deaths - 1))
-        log.error("%s; it is begun again in %.1f s from the newest checkpoint", what, pause)
-        self.begin_at = now + pause
-        self.watch.numbers["restarts_total"] += 1
+        self.pause = min(LONGEST_PAUSE, 2 * self.pause) if self.pause and now - self.begun_at < SOON else 0.1
+        log.error("%s; it is begun again in %.1f s from the newest checkpoint", what, self.pause)
+        self.begin_at = now + self.pause
+        self.watch.restarts += 1
 
-    def look_at_bq(self):
+    def look_at_bq(self, session):
         """Has a bq end that takes and gives nothing for long. Looks are counted: a busy machine has fewer."""
-        session, is_held_up = self.session, self.sink.pending or self.keeping
-        moved = session.written + session.received
-        is_awaited = (session.pending or session.groups or session.is_closed) and not is_held_up
-        self.stuck = self.stuck + 1 if is_awaited and moved == self.moved else 0
-        self.moved = moved
+        if session.is_closed:
+            session.close()
+        moved = session.written + session.replies.came
+        is_awaited = session.pending or session.groups or session.is_closed
+        is_still = is_awaited and moved == self.moved and not self.sink.pending and not self.keeping
+        self.moved, self.stuck = moved, self.stuck + 1 if is_still else 0
         if self.stuck > self.options.stuck / TICK:
             log.error("bq did not answer for %g s", self.options.stuck)
             session.process.kill()
-            self.stuck = 0
-
-    def is_due(self):
-        """Whether one is wanted, or so much came that one is."""
-        at, asked = self.source, self.asked
-        return self.is_wanted or at.lines - asked.lines >= self.options.every or at.bytes - asked.bytes > MUCH
 
     def ask(self):
-        """Asks for a checkpoint of where the input stands."""
-        self.asked, self.asked_at = self.source.place(self.applied), time.monotonic()
+        """Asks for a checkpoint of where the input stands, and for no other until it is settled."""
+        at = self.source
+        self.asked, self.asked_at = Place(0, at.lines, at.bytes, 0, self.applied, at.mark, at.token), time.monotonic()
         self.is_asked, self.is_wanted = True, False
-        self.session.ask(b"CHECKPOINT", functools.partial(self.on_checkpoint, self.asked))
+        self.session.ask(b"CHECKPOINT\n", functools.partial(self.on_checkpoint, self.asked))
 
     def on_checkpoint(self, place, body):
         """The reply came, so all replies to what was sent before came too."""
         place = place._replace(rows=int(TAKEN.search(body)[1]), output=self.sink.total)
-        self.due = Checkpoint(body, place, None, self.version, self.script_sum)
-        while not self.kept.number:
-            self.go_on_keeping(True)
+        self.keeping = self.disk.submit(self.keep, Checkpoint(body, place, None, self.version, self.script_sum))
+        if not self.kept.number:
+            self.settle()
 
-    def go_on_keeping(self, is_waiting=False):
-        """Has a checkpoint be brought to the disk when the replies before it are out, and then lets go of the input."""
-        if self.due and not self.keeping and not self.sink.pending:
-            self.due, self.keeping = None, self.disk.submit(self.keep, self.due)
-        if not self.keeping or not self.keeping.done() and not is_waiting:
-            return
-        keeping, self.keeping, self.is_asked, numbers = self.keeping, None, False, self.watch.numbers
+    def keep(self, checkpoint):
+        """Brings a checkpoint to the disk, behind the replies before it; gives it, its size, and how long it took."""
+        folder, place, output_sum = self.options.folder, checkpoint.place, b""
+        while self.sink.written < place.output:
+            time.sleep(REST)
+        began = time.monotonic()
+        if self.options.output:
+            os.fsync(self.sink.fd)
+            output_sum = sum_at(self.sink.fd, place.output)
+        plan = plan_of(self.options.program, creates_of(checkpoint.body))
+        number = max(self.standing, default=self.kept.number) + 1
+        checkpoint = checkpoint._replace(plan=plan, output_sum=output_sum, number=number)
+        text = written(checkpoint)
+        save(path_of(folder, number), text, self.lock)
+        self.standing[number] = place.output
+        # of those whose replies are acknowledged the newest two stay, and of those that are newer so many and the last
+        acked = self.acks.number
+        covered = [it for it, output in self.standing.items() if acked is None or output <= acked]
+        newer = [it for it in self.standing if it not in covered]
+        for old in covered[:-2] + newer[NEWER:-1]:
+            del self.standing[old]
+            with suppress(FileNotFoundError):
+                os.remove(path_of(folder, old))
+        return checkpoint, len(text), time.monotonic() - began
+
+    def settle(self):
+        """Lets go of the input before a checkpoint that was brought to the disk."""
+        keeping, self.keeping, self.is_asked, watch = self.keeping, None, False, self.watch
         try:
-            self.kept, numbers["checkpoint_bytes"], numbers["checkpoint_seconds"] = keeping.result()
+            self.kept, watch.size, watch.seconds = keeping.result()
         except OSError as fault:
-            numbers["checkpoint_failures_total"] += 1
+            watch.failures += 1
             if not self.kept.number or self.is_ending:
                 raise
             log.error("no checkpoint could be written: %s; the one before it stands", fault)
             return
-        self.watch.stored_at = time.monotonic()
+        watch.stored_at = time.monotonic()
         while self.pieces and self.pieces[0][0] <= self.kept.place.lines:
             self.pieces.popleft()
-
-    def keep(self, checkpoint):
-        """Brings a checkpoint to the disk, behind the replies before it; gives it, its size, and how long it took."""
-        began = time.monotonic()
-        output_sum = self.sink.to_disk(checkpoint.place.output)
-        plan = plan_of(self.options.program, creates_of(checkpoint.body))
-        checkpoint, size = self.store.add(checkpoint._replace(plan=plan, output_sum=output_sum))
-        return checkpoint, size, time.monotonic() - began
-
-    def change(self, statement):
-        self.applied += 1
-        self.session.ask(statement, functools.partial(self.on_changed, statement, self.applied))
 
     def on_changed(self, statement, number, said):
         said = ERROR.sub(rb"error \2", said.rstrip(b"\n"))
@@ -318,26 +290,30 @@ class Run:
 
     def tick(self, now):
         """What a clock, a signal or the operator asks for."""
+        source = self.source
         self.acks.read()
+        if self.keeping and self.keeping.done():
+            self.settle()
         if self.session:
-            self.look_at_bq()
-            if self.source.bytes - self.kept.place.bytes > KEPT:
+            self.look_at_bq(self.session)
+            if source.bytes - self.kept.place.bytes > KEPT or len(self.pieces) > PIECES:
                 self.pieces.clear()
-                self.lost_to = self.source.lines
         elif now >= self.begin_at or self.is_told:
             self.begin()
         if self.session and not self.is_ending:
+            asked = self.asked
             # what is said now stands behind what an earlier run heard, and behind rows whose replies may have been seen
-            is_later = not self.replay and not self.sink.is_passing_by()
-            for statement in self.changes.pipe.lines() if is_later else []:
-                if self.changes.add(self.source.lines, statement):
-                    self.change(statement)
-            if now - self.asked_at >= self.options.seconds and self.source.lines != self.asked.lines:
-                self.is_wanted = True
+            if self.applied == len(self.changes.known) and not self.sink.behind:
+                self.changes.hear(source.lines)
+                self.say(b"", source.lines)
+            is_much = source.lines - asked.lines >= self.options.every or source.bytes - asked.bytes > MUCH
+            is_late = source.lines != asked.lines and now - self.asked_at >= self.options.seconds
             if self.is_told:
                 self.end()
+            elif not self.is_asked and (self.is_wanted or is_much or is_late):
+                self.ask()
         if self.is_curious:
             self.is_curious = False
-            log.info("%s", self.watch.look(self, now))
+            log.info("%s", self.watch.line())
         if now >= self.watch.next_look:
-            self.watch.show(self, now)
+            self.watch.show(now)

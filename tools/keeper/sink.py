@@ -1,25 +1,54 @@
-"""Where replies go: the end of a file, or a pipe whose consumer may tell what it has made durable.
+"""Where bytes go that nobody waits for, and replies among them: to the end of a file, or into a pipe.
 
 What a reader may have seen is never cut or written again. A session that goes on from a checkpoint gives replies that
 were given before; they are passed by, and in a file they are compared with what stands there.
 """
-import contextlib
 import os
+import re
 import select
-import stat
+from collections import Counter
 
 from keeper import Fault, log
-from keeper.checkpoint import sum_of
-from keeper.handles import Fifo, Outlet
-from keeper.store import locked
+from keeper.checkpoint import locked, sum_at
 
-ENDS = 1024
+ERROR, ANSWER = re.compile(rb"^error \d+ (\w+)$", re.MULTILINE), re.compile(rb"^(\w+),", re.MULTILINE)
+# how many bytes are counted at once, and how many a file or a pipe of its own is given at once
+FEW, AT_ONCE = 1 << 12, 1 << 20
 
 
-def sum_at(fd, offset):
-    """A sum of the first and the last bytes of a file before an offset, by which it is known again."""
-    near = min(offset, ENDS)
-    return sum_of(os.pread(fd, near, 0) + os.pread(fd, near, offset - near))
+class Outlet:
+    """Bytes on their way to a file or into a pipe; of one that takes some without waiting so many are written at once.
+
+    A handle is left as it was, as others may share it. A pipe that has room takes PIPE_BUF bytes without waiting.
+    """
+
+    def __init__(self, fd, name, most=select.PIPE_BUF):
+        self.fd, self.name, self.most, self.pending, self.written, self.room = fd, name, most, b"", 0, 0
+        self.poll = select.poll()
+        self.poll.register(fd, select.POLLOUT)
+
+    def put(self, text=b""):
+        """Takes bytes, and writes what is taken without waiting."""
+        if self.pending:
+            text = memoryview(bytes(self.pending) + text) if text else self.pending
+        try:
+            while part := text:
+                if len(text) > self.room:
+                    text, self.room = memoryview(text), self.most if self.poll.poll(0) else 0
+                    part = text[:self.room]
+                    if not part:
+                        break
+                count = os.write(self.fd, part)
+                text, self.written, self.room = text[count:], self.written + count, self.room - count
+        except BlockingIOError:
+            # it has less room, or others who share it took some
+            self.room = 0
+        except OSError as fault:
+            text = self.fail(fault)
+        self.pending = text
+
+    def fail(self, fault):
+        raise OSError(fault.errno, fault.strerror, self.name) from None
 
 
 class Sink(Outlet):
@@ -29,10 +58,16 @@ class Sink(Outlet):
         if path and os.path.exists(path) and not os.path.isfile(path):
             raise Fault(f"{path} is no file: write to it over standard output")
         self.path, fd = path, locked(path, os.O_RDWR | os.O_CREAT | os.O_APPEND) if path else 1
-        super().__init__(fd, path or "standard output")
-        # so many bytes came, so many are out, and so many may have been seen
-        self.total = self.written = os.fstat(fd).st_size if path else 0
-        self.seen = 0
+        super().__init__(fd, path or "standard output", AT_ONCE if path else select.PIPE_BUF)
+        # so many bytes are out, and of them so many are to come again
+        self.written, self.behind = os.fstat(fd).st_size if path else 0, 0
+        # of lines that no reader can have seen whole before errors by word and answers by query, but for the last few
+        self.errors, self.answers, self.uncounted = Counter(), Counter(), bytearray()
+
+    @property
+    def total(self):
+        """Behind how many bytes the next reply stands."""
+        return self.written + len(self.pending) - self.behind
 
     def begin(self, checkpoint, acked):
         """A run goes on from a checkpoint. Of a pipe what was acknowledged is out, or else what came before it."""
@@ -43,64 +78,31 @@ class Sink(Outlet):
             raise Fault(f"{self.path} is not the output that stood there at the checkpoint, or is shorter than its"
                         f" {before} bytes")
 
-    def rewind(self, before):
-        """The next reply is the one behind so many bytes."""
-        self.total, self.seen = before, max(before, self.written)
-
-    def is_passing_by(self):
-        """Whether the next reply was given before."""
-        return self.total < self.seen
-
     def take(self, text):
-        """Takes replies, and gives the lines among them that no reader can have seen whole."""
-        passed = self.pass_by(text) if self.is_passing_by() else 0
-        self.total += len(text)
-        self.put(text[passed:])
-        return text[text.rfind(b"\n", 0, passed) + 1:] if passed else text
+        """Takes replies."""
+        if self.behind:
+            text = self.pass_by(text)
+        self.put(text)
+        self.uncounted += text
+        if len(self.uncounted) > FEW:
+            self.count()
 
     def pass_by(self, text):
-        """How many bytes a reader may have seen. Where a file has others, as behind a torn disk, it is cut there."""
-        same = min(len(text), self.seen - self.total)
-        there = os.pread(self.fd, same, self.total) if self.path else text[:same]
-        if there != text[:same]:
-            same = len(os.path.commonprefix([there, text[:same]]))
-            self.seen = self.written = self.total + same
-            log.error("%s holds other bytes than the replies behind byte %d, and is cut there", self.path, self.seen)
-            os.ftruncate(self.fd, self.seen)
-        return same
+        """Leaves out what a reader may have seen. A file with other bytes, as behind a torn disk, is cut there."""
+        place, front = self.total, text[:self.behind]
+        there = os.pread(self.fd, len(front), place) if self.path else front
+        self.behind -= len(front)
+        if there != front:
+            front = os.path.commonprefix([there, front])
+            self.written, self.behind = place + len(front), 0
+            log.error("%s holds other bytes than the replies behind byte %d, and is cut there", self.path, self.written)
+            os.ftruncate(self.fd, self.written)
+        # a line of which it saw the front alone counts
+        self.uncounted += front[front.rfind(b"\n") + 1:]
+        return text[len(front):]
 
-    def to_disk(self, offset):
-        """Brings replies to the disk, and gives a sum of those before an offset."""
-        if self.path:
-            os.fsync(self.fd)
-        return sum_at(self.fd, offset) if self.path else b""
-
-
-class Acks:
-    """What the consumer says that it has made durable: whole lines, each a number of bytes; the last one counts."""
-
-    def __init__(self, path):
-        self.path, self.number = path, None
-        self.pipe = Fifo(path) if path and os.path.exists(path) and stat.S_ISFIFO(os.stat(path).st_mode) else None
-
-    def read(self):
-        """Takes what was said meanwhile."""
-        lines = self.pipe.lines() if self.pipe else []
-        if self.path and not self.pipe:
-            with contextlib.suppress(FileNotFoundError), open(self.path, "rb") as file:
-                lines = file.read().split(b"\n")[:-1]
-        if lines and lines[-1].strip().isdigit():
-            self.number = int(lines[-1])
-
-    def first(self):
-        """The number before a run begins, which over a named pipe is waited for; None where nothing is acknowledged."""
-        self.read()
-        while self.pipe and self.number is None:
-            select.select([self.pipe.fd], [], [])
-            self.read()
-        self.number = self.number or (0 if self.path else None)
-        return self.number
-
-    def cover(self, output):
-        """Whether so many bytes of replies are durable, or need not be."""
-        return self.number is None or output <= self.number
+    def count(self):
+        """Counts what was taken, not at once, so that no row waits for it."""
+        self.errors.update(ERROR.findall(self.uncounted) if b"error " in self.uncounted else ())
+        self.answers.update(ANSWER.findall(self.uncounted))
+        self.uncounted.clear()

@@ -1,72 +1,73 @@
-"""The input: how what is read from a pipe becomes whole lines. A file is read by follow.py."""
+"""The input as whole lines, from a pipe or from a file to its end; follow.py follows a file that grows."""
+import fcntl
 import re
+import sys
+import termios
+from contextlib import suppress
 
-from keeper.checkpoint import Place
-from keeper.handles import waiting
-
-PIECE, LONGEST = 1 << 16, 1024
-TOO_LONG = b"x" * (LONGEST + 1)
-TOKEN = re.compile(rb"^--@ ([^\r\n]{1,200})\r?\n", re.MULTILINE)
+PIECE, LONGEST = 1 << 14, 1024
+AT, TOKEN = ord("@"), re.compile(rb"^--@ ([^\r\n]{1,200})\r?\n", re.MULTILINE)
 
 
-class Source:
-    """What is read from a handle, as whole lines, counted with their bytes, and the newest mark of the producer.
+def waiting(fd):
+    """How many bytes wait in a pipe; none where it is closed, or is no pipe."""
+    with suppress(OSError):
+        return int.from_bytes(fcntl.ioctl(fd, termios.FIONREAD, bytes(4)), sys.byteorder)
+    return 0
 
-    A line of more than 1,024 bytes, which bq answers by LineTooLong whatever it says, is given as 1,025, so that memory
-    does not grow with it.
+
+class Lines:
+    """What is read from a handle, as whole lines.
+
+    bq answers a line of more than 1,024 bytes by LineTooLong whatever it says, and writes none. So of one that has not
+    ended no more is kept than shows that, and memory does not grow with it.
     """
+
+    def __init__(self, fd, came=0):
+        # how many bytes came, how many of them are of a line that has not ended, and its front
+        self.fd, self.came, self.behind, self.rest = fd, came, 0, b""
+
+    def cut(self, piece):
+        """Whole lines of what came."""
+        self.came += len(piece)
+        # most pieces are whole lines
+        if not self.rest and piece[-1:] == b"\n":
+            return piece
+        text = self.rest + piece
+        end = text.rfind(b"\n") + 1
+        self.behind = len(text) - end if end else self.behind + len(piece)
+        self.rest = text[end:][:LONGEST + 1]
+        return text[:end]
+
+
+class Source(Lines):
+    """The input: its lines are counted, and the newest mark of the producer is known."""
 
     mark = None
 
     def __init__(self, fd, place):
-        self.fd, self.is_ended, self.is_at_rest = fd, False, False
-        # lines that were given, bytes that were read
-        self.lines, self.came, self.token = place.lines, place.bytes, place.token
-        # the front of a line that has not ended, and how many bytes of it were let go
-        self.rest, self.dropped = b"", 0
-
-    def cut(self, piece):
-        """Whole lines, as they are sent on."""
-        self.came += len(piece)
-        text = self.rest + piece
-        end = text.rfind(b"\n") + 1
-        text, self.rest = text[:end], text[end:]
-        if end:
-            self.dropped = 0
-        if len(self.rest) > LONGEST:
-            self.dropped += len(self.rest) - LONGEST - 1
-            self.rest = self.rest[:LONGEST + 1]
-        if b"--@ " in text:
-            self.token = (TOKEN.findall(text) or [self.token])[-1]
-        self.lines += text.count(b"\n")
-        at = 0
-        while end - at > LONGEST + 1:
-            at = text.rfind(b"\n", at, at + LONGEST + 1) + 1
-            if not at:
-                return b"\n".join(it if len(it) <= LONGEST else TOO_LONG for it in text.split(b"\n"))
-        return text
-
-    def cut_end(self):
-        """A last line without its end, which is a line; the end that is added is no byte of the input."""
-        self.came -= bool(self.rest)
-        return self.cut(b"\n") if self.rest else b""
-
-    def behind(self):
-        """How many bytes that were read are of no whole line yet."""
-        return len(self.rest) + self.dropped
+        super().__init__(fd, place.bytes)
+        self.lines, self.token, self.is_ended, self.is_at_rest = place.lines, place.token, False, False
 
     @property
     def bytes(self):
-        return self.came - self.behind()
+        return self.came - self.behind
 
-    def place(self, changes):
-        """How far the reading is."""
-        return Place(0, self.lines, self.bytes, 0, changes, self.mark, self.token)
+    def count(self, text):
+        """Counts lines that were cut and, as that comes first, sent on."""
+        self.lines += text.count(b"\n")
+        if AT in text:
+            self.token = (TOKEN.findall(text) or [self.token])[-1]
 
-    def take(self, piece):
-        """Whole lines of what was read."""
-        self.is_ended = not piece
-        return self.cut(piece) if piece else self.cut_end()
+    def end_of_line(self):
+        """What makes a last line without its end a line; it is no byte of the input."""
+        self.came -= bool(self.rest)
+        return b"\n" if self.rest else b""
+
+    def at_end(self):
+        """What is left where no more comes."""
+        self.is_ended = True
+        return self.end_of_line()
 
     def lag(self):
         """How many bytes wait."""

@@ -1,100 +1,87 @@
 """What there is to look at: lines for a log, numbers for Prometheus, a page for people, and words for systemd."""
-import contextlib
 import logging
 import os
 import re
 import socket
-import sys
 import time
 from collections import Counter
+from contextlib import suppress
 
-from keeper import log
-from keeper.handles import waiting
-from keeper.store import is_free, numbers_in, path_of, save
+from keeper import Busy, log
+from keeper.checkpoint import locked, numbers_in, path_of, save
+from keeper.source import waiting
 
 CELLS = re.compile(rb"reply ok query \w+ parts \d+ cells (\d+) ")
-ERROR, ANSWER = re.compile(rb"^error \d+ (\w+)$", re.MULTILINE), re.compile(rb"^(\w+),", re.MULTILINE)
-CELLS_A_PAGE, FEW = 64, 1 << 12
-# what each number says; those that end in `total` only grow
-NUMBERS = {
-    "up": "1 where the session takes lines",
-    "rows_total": "rows taken by the newest checkpoint, those of earlier runs too",
-    "rows_per_second": "lines taken in the last second, without those in error",
-    "lines_total": "lines of the input",
-    "output_bytes_total": "bytes of replies",
-    "lag_bytes": "bytes of the input that wait",
-    "unwritten_bytes": "bytes of replies that wait for who reads them",
-    "checkpoint_age_seconds": "since the newest checkpoint of this run",
-    "checkpoint_bytes": "its size",
-    "checkpoint_seconds": "how long the disk took for it",
-    "checkpoint_failures_total": "checkpoints that could not be written",
-    "pages_used": "pages of the pool that live queries take, of 16384",
-    "restarts_total": "how often bq was begun again in this run",
-    "errors_total": "lines of the input in error, by word",
-    "answers_total": "answers, by query",
-}
+CELLS_A_PAGE = 64
 
 
 class Watch:
     """Counts what a run does, and shows it once a second."""
 
-    def __init__(self, options, lines):
-        self.paths = [os.path.join(options.folder, "metrics"), *([options.metrics] if options.metrics else [])]
-        self.numbers = {**dict.fromkeys(NUMBERS, 0), "errors_total": Counter(), "answers_total": Counter()}
-        # replies that are not counted yet, and files that could not be written
-        self.uncounted, self.untold = [], set()
-        self.next_look, self.stored_at, self.good_lines = 0, time.monotonic(), lines
+    def __init__(self, run, options):
+        self.run, self.restarts, self.failures = run, 0, 0
+        self.paths = [it for it in (os.path.join(options.folder, "metrics"), options.metrics) if it]
+        # those that could not be written
+        self.untold = set()
+        # of the newest checkpoint of this run its size, how long the disk took for it, and when it stood
+        self.size, self.seconds, self.stored_at = 0, 0, time.monotonic()
+        self.next_look, self.rate, self.good_lines = 0, 0, run.source.lines
         # systemd names a socket for words to it
         self.address = re.sub("^@", "\0", os.environ.pop("NOTIFY_SOCKET", ""))
         self.socket = socket.socket(socket.AF_UNIX, socket.SOCK_DGRAM)
 
-    def see(self, replies):
-        """Has errors be counted by word and answers by query: few replies when there is time, so that no row waits."""
-        self.uncounted.append(replies)
-        if len(replies) > FEW:
-            self.count()
+    def numbers(self):
+        """What each number says, and the number; those that end in `total` only grow."""
+        run, kept, session = self.run, self.run.kept, self.run.session
+        run.sink.count()
+        unwritten = len(run.sink.pending) + (waiting(session.replies.fd) if session else 0)
+        pages = sum(-(-int(found[1]) // CELLS_A_PAGE) for found in map(CELLS.match, kept.plan or ()) if found)
+        return {
+            "up": ("1 where the session takes lines", int(bool(kept.number and session and session.is_begun))),
+            "rows_total": ("rows taken by the newest checkpoint, those of earlier runs too", kept.place.rows),
+            "rows_per_second": ("lines taken in the last second, without those in error", self.rate),
+            "lines_total": ("lines of the input", run.source.lines),
+            "output_bytes_total": ("bytes of replies", run.sink.total),
+            "lag_bytes": ("bytes of the input that wait", run.source.lag()),
+            "unwritten_bytes": ("bytes of replies that wait for who reads them", unwritten),
+            "checkpoint_age_seconds": ("since the newest checkpoint of this run", time.monotonic() - self.stored_at),
+            "checkpoint_bytes": ("its size", self.size),
+            "checkpoint_seconds": ("how long the disk took for it", self.seconds),
+            "checkpoint_failures_total": ("checkpoints that could not be written", self.failures),
+            "pages_used": ("pages of the pool that live queries take, of 16384", pages),
+            "restarts_total": ("how often bq was begun again in this run", self.restarts),
+            "errors_total": ("lines of the input in error, by word", run.sink.errors),
+            "answers_total": ("answers, by query", run.sink.answers)}
 
-    def count(self):
-        text, self.uncounted = b"".join(self.uncounted), []
-        self.numbers["errors_total"].update(ERROR.findall(text) if b"error " in text else ())
-        self.numbers["answers_total"].update(ANSWER.findall(text))
+    def line(self):
+        """A line that says how the run is."""
+        return (f"{self.run.kept.place.rows} rows, {self.rate:.0f} a second, {self.run.source.lag()} bytes wait,"
+                f" checkpoint {time.monotonic() - self.stored_at:.0f} s ago")
 
-    def look(self, run, now):
-        """Reads what changes by itself, and gives a line that says how the run is."""
-        self.count()
-        kept, session, found = run.kept, run.session, filter(None, map(CELLS.match, run.kept.plan or ()))
-        self.numbers.update(
-            up=int(bool(kept.number and session and session.is_begun)), rows_total=kept.place.rows,
-            lines_total=run.source.lines, lag_bytes=run.source.lag(), output_bytes_total=run.sink.total,
-            unwritten_bytes=len(run.sink.pending) + (waiting(session.of) if session else 0),
-            checkpoint_age_seconds=now - self.stored_at, pages_used=sum(-(-int(it[1]) // CELLS_A_PAGE) for it in found))
-        return ("{rows_total} rows, {rows_per_second:.0f} a second, {lag_bytes} bytes wait,"
-                " checkpoint {checkpoint_age_seconds:.0f} s ago").format(**self.numbers)
-
-    def show(self, run, now):
+    def show(self, now):
         """Writes the numbers, and tells systemd how it is."""
-        line, before, seconds = self.look(run, now), self.good_lines, max(1, now - self.next_look + 1)
-        self.good_lines = run.source.lines - sum(self.numbers["errors_total"].values())
-        self.numbers["rows_per_second"], self.next_look = max(0, self.good_lines - before) / seconds, now + 1
+        numbers, before, seconds = self.numbers(), self.good_lines, max(1, now - self.next_look + 1)
+        self.good_lines = self.run.source.lines - sum(self.run.sink.errors.values())
+        self.rate, self.next_look = max(0, self.good_lines - before) / seconds, now + 1
         for path in self.paths:
             try:
-                save(path, text_of(self.numbers).encode())
+                save(path, text_of(numbers).encode())
                 self.untold.discard(path)
             except OSError as fault:
                 if path not in self.untold:
                     log.warning("no numbers in %s: %s", path, fault)
                 self.untold.add(path)
         if self.address:
-            words = f"WATCHDOG=1\nSTATUS={line}" + ("\nREADY=1" if self.numbers["up"] else "")
-            with contextlib.suppress(OSError):
+            words = f"WATCHDOG=1\nSTATUS={self.line()}" + ("\nREADY=1" if numbers["up"][1] else "")
+            with suppress(OSError):
                 self.socket.sendto(words.encode(), socket.MSG_DONTWAIT, self.address)
 
 
 def text_of(numbers):
     """The text that Prometheus reads."""
     lines = []
-    for name, value in numbers.items():
-        says, kind = NUMBERS[name], "counter" if name.endswith("total") else "gauge"
+    for name, (says, value) in numbers.items():
+        kind = "counter" if name.endswith("total") else "gauge"
         lines += [f"# HELP keep_{name} {says}", f"# TYPE keep_{name} {kind}"]
         if isinstance(value, Counter):
             label = says.split()[-1]
@@ -107,23 +94,26 @@ def text_of(numbers):
 def begin_log(path):
     """Has what is logged be said on standard error, and stand with time and level at the end of a file."""
     logging.raiseExceptions = False  # that nothing can be said ends no session
-    log.setLevel(logging.INFO)
-    handlers = {logging.StreamHandler(sys.stderr): "keep: %(message)s"}
+    logging.basicConfig(level=logging.INFO, format="keep: %(message)s")
     if path:
-        handlers[logging.FileHandler(path)] = "%(asctime)s.%(msecs)03dZ %(levelname)s %(message)s"
-    for handler, form in handlers.items():
-        handler.setFormatter(logging.Formatter(form, "%Y-%m-%dT%H:%M:%S"))
-        handler.formatter.converter = time.gmtime
+        handler = logging.FileHandler(path)
+        form = logging.Formatter("%(asctime)s.%(msecs)03dZ %(levelname)s %(message)s", "%Y-%m-%dT%H:%M:%S")
+        form.converter = time.gmtime
+        handler.setFormatter(form)
         log.addHandler(handler)
 
 
 def page(folder):
     """What a folder looks like, for people."""
-    lines = [f"{folder}: {'no' if is_free(folder) else 'a'} run has it"]
+    try:
+        os.close(locked(folder))
+        lines = [f"{folder}: no run has it"]
+    except Busy:
+        lines = [f"{folder}: a run has it"]
     for number in numbers_in(folder):
         status = os.stat(path_of(folder, number))
         lines.append(f"  checkpoint {number}: {status.st_size} bytes, written {time.ctime(status.st_mtime)}")
-    with contextlib.suppress(FileNotFoundError), open(os.path.join(folder, "metrics"), encoding="utf-8") as file:
+    with suppress(FileNotFoundError), open(os.path.join(folder, "metrics"), encoding="utf-8") as file:
         lines.append(f"  as of {time.ctime(os.fstat(file.fileno()).st_mtime)}:")
         for name, value in (line.rstrip("\n").rsplit(" ", 1) for line in file if not line.startswith("#")):
             lines.append(f"    {name[5:].replace('_', ' '):<36}{value:>16}")

@@ -2,6 +2,7 @@
 
 What is wanted comes from one `bq run` over the same lines that nothing interrupts, or is written down here.
 """
+import contextlib
 import hashlib
 import os
 import re
@@ -81,9 +82,9 @@ class Faults(unittest.TestCase):
         """Runs it to its end."""
         return subprocess.run(self.words(*more, **how), input=given, capture_output=True, timeout=PATIENCE, check=False)
 
-    def start(self, *more, stdin=subprocess.DEVNULL, stdout=subprocess.DEVNULL, limit=None, **how):
+    def start(self, *more, stdin=subprocess.DEVNULL, stdout=subprocess.DEVNULL, limit=None, flags=("-S",), **how):
         """Has it run beside the test; what it says stands in the file `said`. No file gets more bytes than the limit."""
-        words = [*(["prlimit", f"--fsize={limit}:{limit}"] if limit else []), *self.words(*more)]
+        words = [*(["prlimit", f"--fsize={limit}:{limit}"] if limit else []), *self.words(*more, flags=flags)]
         with open(self.path("said"), "ab") as said:
             process = subprocess.Popen(words, stdin=stdin, stdout=stdout, stderr=said, bufsize=0, **how)
         self.running.append(process)
@@ -162,6 +163,12 @@ class Input(Faults):
         process.stdin.close()
         self.assertEqual(process.wait(PATIENCE), 0)
 
+    def test_a_line_whose_front_would_be_short_enough_is_too_long(self):
+        """Of one that comes in pieces its front alone is sent on, which ends with a CR here."""
+        front = b"S," + b" " * 1021 + b"7"
+        for behind, said in ((b"", answers(7)), (b"\r" + b"x" * 40_000, b"error 1 LineTooLong\n")):
+            self.assertEqual(self.keep(given=front + behind + b"\n", folder=f"kept{len(behind)}").stdout, said)
+
     def test_statements_among_the_rows_are_locked(self):
         ran = self.keep(given=b"S,1\nDROP QUERY q\nCREATE STREAM T (a)\nCHECKPOINT\nRESUME 7\nUNLOCK 1\nS,2\n")
         self.assertEqual(ran.stdout, answers(1) + b"".join(b"error %d Locked\n" % it for it in range(2, 7)) + answers(2))
@@ -169,6 +176,11 @@ class Input(Faults):
     def test_rows_of_other_streams_are_locked(self):
         self.put("script", b"CREATE STREAM T (b)\n" + FLAT)
         self.assertEqual(self.keep("--to", "S", given=b"S,1\nT,1\n").stdout, answers(1) + b"error 2 Locked\n")
+
+    def test_a_stream_that_the_script_has_not_is_refused(self):
+        ran = self.keep("--to", "S,T", given=rows(1))
+        self.assertEqual((ran.returncode, ran.stdout), (1, b""))
+        self.assertIn(b"does not take what begins the session: error 3 UnknownStream", ran.stderr)
 
     def test_rows_one_by_one_are_taken_as_all_at_once(self):
         """Each piece is sent when the replies to those before have come."""
@@ -238,7 +250,7 @@ class Output(Faults):
         """Both sides of a pipe are killed; the consumer has the replies to 5 of 20 rows, and a checkpoint was taken behind each."""
         source, durable = rows(*range(1, 21)), b""
         self.put("ack", b"0\n")
-        process = self.start("--every", "1", "--ack", self.path("ack"), stdin=subprocess.PIPE, stdout=subprocess.PIPE)
+        process = self.start("--every", "1", "--seconds", "1000", "--ack", self.path("ack"), stdin=subprocess.PIPE, stdout=subprocess.PIPE)
         sent = 0
         for line in source.splitlines(keepends=True):
             process.stdin.write(line)
@@ -252,6 +264,26 @@ class Output(Faults):
         place = int(ran.stdout.split()[5])
         ran = self.keep("--ack", self.path("ack"), "--from", str(place), given=source[place:])
         self.assertEqual((durable + ran.stdout, ran.returncode), (answers(*range(1, 21)), 0))
+
+    def test_a_consumer_that_tells_nothing_leaves_no_more_checkpoints_than_some(self):
+        """It has the replies to 37 of 50 rows when it says so at last, and a checkpoint was taken behind each."""
+        source, durable, sent = rows(*range(1, 51)), b"", 0
+        self.put("ack", b"0\n")
+        process = self.start("--every", "1", "--seconds", "1000", "--ack", self.path("ack"), stdin=subprocess.PIPE, stdout=subprocess.PIPE)
+        for line in source.splitlines(keepends=True):
+            process.stdin.write(line)
+            sent += len(line)
+            self.until(lambda: self.has_bytes(sent))
+            self.assertLessEqual(len(self.checkpoints()), 33)
+        while len(durable) < len(answers(*range(1, 38))):
+            durable += os.read(process.stdout.fileno(), 1)
+        self.kill(process)
+        self.put("ack", b"%d\n" % len(durable), "ab")
+        ran = self.keep("--where", "--ack", self.path("ack"), script=None)
+        place = int(ran.stdout.split()[5])
+        self.assertGreater(place, 0)
+        ran = self.keep("--ack", self.path("ack"), "--from", str(place), given=source[place:])
+        self.assertEqual((durable + ran.stdout, ran.returncode), (answers(*range(1, 51)), 0))
 
     def test_two_runs_have_neither_one_folder_nor_one_output(self):
         os.mkfifo(self.path("rows"))
@@ -335,6 +367,44 @@ class Checkpoints(Faults):
             self.assertEqual((ran.returncode, ran.stdout), (1, b""))
             self.assertIn(b"whole", ran.stderr)
 
+    def test_a_query_that_was_edited_is_refused_also_where_the_sum_fits(self):
+        """Cells are numbered, so the contents of one query would answer for another."""
+        self.keep(given=self.limits)
+        for name in self.checkpoints()[:-1]:
+            os.remove(self.path("kept/" + name))
+        with open(self.newest(), "rb") as file:
+            *lines, last = file.read().splitlines(keepends=True)
+        front = b"".join(lines).replace(b"< 40", b"< 42")
+        self.assertNotEqual(front, b"".join(lines))
+        self.put("kept/" + self.checkpoints()[-1], front + re.sub(rb"[0-9a-f]{64}", hashlib.sha256(front).hexdigest().encode(), last))
+        ran = self.keep(given=b"Temp,8,22\nTemp,7,9\n")
+        self.assertEqual((ran.returncode, ran.stdout), (1, b""))
+        self.assertIn(b"keeps hot otherwise", ran.stderr)
+
+    def test_a_checkpoint_is_on_the_disk_behind_the_replies_before_it(self):
+        """Whatever a power failure leaves: the replies are synced first, then the file, which is renamed, then its folder."""
+        self.put("sitecustomize.py", f"""
+import os
+fsync, rename = os.fsync, os.rename
+def note(text):
+    with open({self.path("done")!r}, "a") as file:
+        file.write(text + "\\n")
+def noted_fsync(file):
+    fsync(file)
+    note("sync " + os.readlink("/proc/self/fd/%d" % (file if isinstance(file, int) else file.fileno())))
+def noted_rename(old, new):
+    rename(old, new)
+    if new.endswith(".bq"):
+        note("rename " + new)
+os.fsync, os.rename = noted_fsync, noted_rename
+""".encode())
+        ran = subprocess.run(self.words("--output", self.path("out"), flags=()), input=self.limits, capture_output=True, timeout=PATIENCE, env={**os.environ, "PYTHONPATH": self.folder.name})
+        self.assertEqual(ran.returncode, 0, ran.stderr)
+        steps = []
+        for name in (self.path("kept/" + it) for it in self.checkpoints()):
+            steps += [f"sync {self.path('out')}", f"sync {name}.new", f"rename {name}", f"sync {self.path('kept')}"]
+        self.assertEqual(self.get("done").decode().splitlines(), steps)
+
     def test_a_program_that_keeps_a_query_otherwise_is_refused(self):
         self.keep(given=self.limits)
         other = self.path("other-bq")
@@ -343,6 +413,15 @@ class Checkpoints(Faults):
         ran = self.keep("--program", other, given=b"Temp,8,22\n")
         self.assertEqual((ran.returncode, ran.stdout), (1, b""))
         self.assertIn(b"keeps hot otherwise", ran.stderr)
+
+    def test_another_program_that_keeps_each_query_alike_goes_on(self):
+        self.keep(given=self.limits)
+        other = self.path("other-bq")
+        self.put("other-bq", b"#!/bin/sh\n[ \"$1\" = --version ] && { echo bq 9; exit; }\nexec '%s' \"$@\"\n" % BQ.encode())
+        os.chmod(other, 0o755)
+        ran = self.keep("--program", other, given=b"Temp,8,22\n")
+        self.assertEqual((ran.returncode, ran.stdout), (0, b"hot,8\n"))
+        self.assertRegex(ran.stderr, rb"the program was bq .* and is bq 9; it keeps each query as before")
 
     def test_a_changed_script_is_told(self):
         self.keep(given=self.limits)
@@ -407,6 +486,12 @@ class Control(Faults):
         self.end(process)
         self.assertNotIn(b"is cut there", self.get("said"))
 
+    def test_a_control_that_is_no_named_pipe_is_refused(self):
+        self.put("control", b"DROP QUERY q\n")
+        ran = self.keep("--control", self.path("control"), given=rows(1))
+        self.assertEqual((ran.returncode, ran.stdout), (1, b""))
+        self.assertIn(b"control is no named pipe", ran.stderr)
+
     def test_a_change_that_cannot_be_listed_is_told(self):
         """No file gets more than 700 bytes, so the list takes not all that is said."""
         process = self.start("--output", self.path("out"), stdin=subprocess.PIPE, limit=700)
@@ -464,6 +549,27 @@ class Signals(Faults):
         self.assertEqual(process.wait(PATIENCE), 1)
         self.assertIn(b"did not go on for 1 s", self.get("said"))
 
+    def test_it_ends_while_a_disk_stalls(self):
+        """The write of a reply does not come back, and no signal interrupts it."""
+        self.put("sitecustomize.py", f"""
+import ctypes, os
+write, lock, mutex = os.write, ctypes.CDLL(None).pthread_mutex_lock, ctypes.create_string_buffer(64)
+def stalls(fd, text):
+    if b"q,7" in bytes(text):
+        open({self.path("stalls")!r}, "w").close()
+        lock(mutex), lock(mutex)
+    return write(fd, text)
+os.write = stalls
+""".encode())
+        process = self.start("--grace", "1", "--output", self.path("out"), flags=(), stdin=subprocess.PIPE, env={**os.environ, "PYTHONPATH": self.folder.name})
+        process.stdin.write(rows(1, 7))
+        self.until(lambda: os.path.exists(self.path("stalls")))
+        self.end(process, 1)
+        self.assertIn(b"did not go on for 1 s", self.get("said"))
+        # what was answered stands there when it goes on
+        self.assertEqual(self.keep("--output", self.path("out"), given=rows(1, 7)).returncode, 0)
+        self.assertEqual(self.get("out"), answers(1, 7))
+
     def test_a_consumer_that_stalls_goes_on_where_it_was(self):
         """The input is sent by a thread, which waits as long as the consumer does."""
         process = self.start(stdin=subprocess.PIPE, stdout=subprocess.PIPE)
@@ -474,6 +580,14 @@ class Signals(Faults):
         came = b"".join(iter(lambda: process.stdout.read(1 << 16), b""))
         self.assertEqual((process.wait(PATIENCE), came == answers(*numbers)), (0, True), self.get("said"))
         feeding.join()
+
+    def test_it_minds_signals_from_when_it_says_where_it_begins(self):
+        for begins in (b"begins anew", b"goes on", b"goes on"):
+            process = subprocess.Popen(self.words(), stdin=subprocess.PIPE, stdout=subprocess.DEVNULL, stderr=subprocess.PIPE)
+            self.running.append(process)
+            self.assertIn(begins, process.stderr.readline())
+            process.terminate()
+            self.assertEqual(process.wait(PATIENCE), 0)
 
     def test_hup_and_usr1_do_not_end_it(self):
         process = self.start("--seconds", "1000", "--output", self.path("out"), stdin=subprocess.PIPE)
@@ -512,6 +626,60 @@ class Signals(Faults):
         self.until(lambda: self.get("out") == answers(1, 2))
         self.assertIn(b"did not answer", self.get("said"))
         self.end(process)
+
+
+class Speed(Faults):
+    """What does not depend on how busy the machine is; bench/keep has times."""
+
+    def test_rows_are_answered_while_a_checkpoint_goes_to_the_disk(self):
+        """The disk stands still until the file `disk` is there."""
+        self.put("sitecustomize.py", f"""
+import os, time
+fsync = os.fsync
+def slow(file):
+    while not os.path.exists({self.path("disk")!r}):
+        time.sleep(0.01)
+    fsync(file)
+os.fsync = slow
+""".encode())
+        self.put("disk", b"")
+        process = self.start("--seconds", "1000", flags=(), stdin=subprocess.PIPE, stdout=subprocess.PIPE, env={**os.environ, "PYTHONPATH": self.folder.name})
+        self.until(lambda: os.path.isdir(self.path("kept")) and self.checkpoints())
+        os.remove(self.path("disk"))
+        for number in range(300):
+            if number == 1:
+                process.send_signal(signal.SIGHUP)
+                self.until(lambda: any(it.endswith(".new") for it in os.listdir(self.path("kept"))))
+            process.stdin.write(rows(number))
+            self.assertEqual(os.read(process.stdout.fileno(), 100), answers(number))
+        self.assertFalse(self.has_bytes(4))
+        self.put("disk", b"")
+        self.until(lambda: self.has_bytes(4))
+        self.end(process)
+
+    def test_a_checkpoint_of_many_cells_takes_little_beside_what_bq_takes(self):
+        """Of the processor, and of five the least: else the keeper would answer no row for long."""
+        half, took = 20_000, []
+        self.put("script", b"CREATE STREAM T (room, val)\nCREATE STREAM L (room, val)\n" + b"".join(
+            b"CREATE COMPACT QUERY h%d AS SELECT DISTINCT T.room FROM T, L WHERE T.room = L.room AND T.val > L.val AND T.room > %d AND T.room <= %d\n" % it for it in ((1, 0, half), (2, half, 2 * half))))
+        process = self.start("--every", "1000000000", "--seconds", "1000000", "--output", self.path("out"), stdin=subprocess.PIPE)
+        process.stdin.write(b"".join(b"L,%d,9\nT,%d,5\n" % (it, it) for it in range(1, 2 * half + 1)) + b"T,1,10\n")
+        self.until(lambda: self.get("out") == b"h1,1\n")
+        for room in range(2, 7):
+            before, known = list(self.spent(process)), self.checkpoints()
+            process.stdin.write(b"T,%d,10\n" % room)
+            process.send_signal(signal.SIGHUP)
+            self.until(lambda: self.checkpoints()[-1] != known[-1])
+            took.append([after - it for after, it in zip(self.spent(process), before)])
+        self.assertLess(min(keeper / bq for keeper, bq in took), 4, took)
+        self.end(process)
+
+    def spent(self, process):
+        """Nanoseconds of the processor that the keeper and its bq took."""
+        for pid in (process.pid, *self.children(process)):
+            with contextlib.ExitStack() as stack:
+                files = [stack.enter_context(open(f"/proc/{pid}/task/{it}/schedstat", encoding="ascii")) for it in os.listdir(f"/proc/{pid}/task")]
+                yield sum(int(it.read().split()[0]) for it in files)
 
 
 class ToLookAt(Faults):

@@ -12,24 +12,29 @@ sys.dont_write_bytecode = True
 sys.path.insert(0, os.path.dirname(os.path.dirname(os.path.dirname(os.path.abspath(__file__)))))
 
 from keeper import Fault  # noqa: E402
-from keeper.change import Changes  # noqa: E402
-from keeper.checkpoint import Checkpoint, Mark, Place, read, sum_of, written  # noqa: E402
+from keeper.checkpoint import Checkpoint, Mark, Place, choose, path_of, read, save, sum_of, written  # noqa: E402
 from keeper.follow import File  # noqa: E402
-from keeper.run import KEPT, Run  # noqa: E402
-from keeper.sink import Sink  # noqa: E402
-from keeper.source import LONGEST, TOO_LONG, Source  # noqa: E402
-from keeper.store import choose, path_of, save  # noqa: E402
+from keeper.heard import Acks, Changes  # noqa: E402
+from keeper.run import KEPT, PIECES, Run  # noqa: E402
+from keeper.sink import Outlet, Sink  # noqa: E402
+from keeper.source import LONGEST, Source  # noqa: E402
 
 
 def plain_lines(text):
-    """Lines as they are to be sent on: each with its end, too long ones as 1,025 bytes."""
+    """Lines as bq takes them: each with its end, and those that are too long are all alike."""
     pieces = text.split(b"\n")
     if not pieces[-1]:
         pieces.pop()
-    return b"".join((it if len(it) <= LONGEST else TOO_LONG) + b"\n" for it in pieces)
+    return [it if len(it) <= LONGEST else None for it in pieces]
 
 
 class LinesAreCut(unittest.TestCase):
+    @staticmethod
+    def cut(lines, piece):
+        text = lines.cut(piece)
+        lines.count(text)
+        return text
+
     def test_in_any_pieces(self):
         one = random.Random(1)
         for _ in range(300):
@@ -38,21 +43,22 @@ class LinesAreCut(unittest.TestCase):
             lines, sent, place = Source(None, Place()), b"", 0
             while place < len(text):
                 length = one.choice([1, 7, 1024, 1025, 4000])
-                sent += lines.cut(text[place:place + length])
+                sent += self.cut(lines, text[place:place + length])
                 place += length
-                self.assertEqual(lines.bytes + lines.behind(), min(place, len(text)))
+                self.assertEqual(lines.came, min(place, len(text)))
+                self.assertEqual(lines.bytes, text.rfind(b"\n", 0, lines.came) + 1)
                 self.assertLessEqual(len(lines.rest), LONGEST + 1)
-            sent += lines.cut_end()
+            sent += self.cut(lines, lines.at_end())
             wanted = plain_lines(text)
-            self.assertEqual(sent, wanted)
-            self.assertEqual((lines.lines, lines.bytes), (wanted.count(b"\n"), len(text)))
+            self.assertEqual(plain_lines(sent), wanted)
+            self.assertEqual((lines.lines, lines.bytes), (len(wanted), len(text)))
             self.assertEqual(lines.token, b"7 8" if b"--@ 7 8\n" in text else b"")
 
     def test_a_mark_has_200_bytes_at_most(self):
         lines = Source(None, Place())
-        lines.cut(b"--@ " + b"a" * 200 + b"\n")
+        self.cut(lines, b"--@ " + b"a" * 200 + b"\n")
         self.assertEqual(lines.token, b"a" * 200)
-        lines.cut(b"--@ " + b"b" * 201 + b"\n")
+        self.cut(lines, b"--@ " + b"b" * 201 + b"\n")
         self.assertEqual(lines.token, b"a" * 200)
 
 
@@ -78,7 +84,9 @@ class FilesAreFollowed(InAFolder):
         """What comes until the file rests at two looks."""
         text, rests = b"", 0
         while rests < 2:
-            text += source.take(os.read(source.fd, 1 << 16))
+            more = source.cut(os.read(source.fd, 1 << 16) or source.at_end())
+            source.count(more)
+            text += more
             rests = rests + 1 if source.is_at_rest else 0
             source.is_at_rest = False
         return text
@@ -179,17 +187,21 @@ class ChangesAreListed(InAFolder):
         self.addCleanup(os.close, changes.pipe.fd)
         return changes
 
+    def hear(self, changes, lines, said):
+        os.write(changes.pipe.fd, said + b"\n")
+        changes.hear(lines)
+
     def test_whole_lines_are_known_again(self):
         changes = self.changes()
         said = [(0, b"CREATE QUERY q AS SELECT\rS.a FROM S"), (3, b"DROP QUERY q")]
         for lines, statement in said:
-            changes.add(lines, statement)
+            self.hear(changes, lines, statement)
             changes.append(b"= ok\n")
-        changes.append(b"! CREATE and DROP lines alone\n")
+        self.hear(changes, 5, b"EXPLAIN q")
         self.put("changes", b"7 DROP QUE", "ab")
         changes = self.changes()
         self.assertEqual((changes.known, changes.replied), (said, 2))
-        changes.add(8, b"DROP QUERY r")
+        self.hear(changes, 8, b"DROP QUERY r")
         self.assertEqual(self.changes().known, [*said, (8, b"DROP QUERY r")])
         self.assertEqual(self.changes(is_anew=True).known, [])
         self.assertEqual(self.changes().known, [])
@@ -202,25 +214,75 @@ class ChangesAreListed(InAFolder):
             self.assertRaises(Fault, Changes, self.folder.name, None, False)
 
 
-class RowsGoTheShortWay(unittest.TestCase):
-    def test_only_where_nothing_waits(self):
-        plain = {"session": SimpleNamespace(pending=b"", is_plain=lambda: True), "sink": SimpleNamespace(pending=b"", is_passing_by=lambda: False),
-                 "source": SimpleNamespace(rest=b"", lines=0), "replay": (), "asked": Place(), "options": SimpleNamespace(every=1), "refrains": 0}
-        for name, other in (("session", SimpleNamespace(pending=b"S,1\n")), ("session", SimpleNamespace(pending=b"", is_plain=lambda: False)), ("sink", SimpleNamespace(pending=b"q,1\n")),
-                            ("sink", SimpleNamespace(pending=b"", is_passing_by=lambda: True)), ("source", SimpleNamespace(rest=b"S")), ("replay", ("DROP QUERY q",))):
-            run = Run.__new__(Run)
-            vars(run).update({**plain, name: other})
-            self.assertTrue(run.pass_along(lambda _: self.fail(f"looked for what comes, with {name} {other}")))
+class AcknowledgementsAreRead(InAFolder):
+    def test_the_last_whole_line_of_however_many(self):
+        for text, number in ((b"", 0), (b"7", 0), (b"7\n12", 7), (b"".join(b"%d\n" % it for it in range(100_000)) + b"10", 99_999), (b"5\nmany\n", 0)):
+            self.put("ack", text)
+            self.assertEqual(Acks(self.path("ack")).number, number)
+        self.assertEqual(Acks(self.path("none")).number, 0)
+        self.assertIsNone(Acks(None).number)
+
+    def test_what_is_no_number_leaves_the_one_before(self):
+        self.put("ack", b"5\n")
+        acks = Acks(self.path("ack"))
+        for text, number in ((b"-9\n", 5), (b"many\n", 5), (b"8\n", 8), (b"9", 8), (b"0\n", 90)):
+            self.put("ack", text, "ab")
+            acks.read()
+            self.assertEqual(acks.number, number)
+
+
+class NobodyIsWaitedFor(unittest.TestCase):
+    def test_what_a_full_pipe_does_not_take_stays_and_goes_first(self):
+        """The handle is one that others share, so it is as it was: a write to it could wait."""
+        of, to = os.pipe()
+        with open(of, "rb", buffering=0) as reader, open(to, "wb", buffering=0):
+            outlet, text = Outlet(to, "pipe"), b"".join(b"%d\n" % it for it in range(50_000))
+            outlet.put(text[:7])
+            outlet.put(text[7:200_000])
+            outlet.put(text[200_000:])
+            self.assertTrue(os.get_blocking(to))
+            self.assertEqual((outlet.written + len(outlet.pending), bool(outlet.pending)), (len(text), True))
+            came = b""
+            while len(came) < len(text):
+                came += reader.read(5000)
+                outlet.put()
+            self.assertEqual((came == text, outlet.written, len(outlet.pending)), (True, len(text), 0))
+
+    def test_what_others_that_share_it_left_no_room_for_stays(self):
+        of, to = os.pipe()
+        with open(of, "rb", buffering=0) as reader, open(to, "wb", buffering=0) as other:
+            os.set_blocking(to, False)
+            outlet = Outlet(to, "pipe")
+            outlet.put(b"a")
+            while other.write(b"b" * 4096):
+                pass
+            outlet.put(b"c")
+            self.assertEqual((outlet.written, bytes(outlet.pending)), (1, b"c"))
+            while not reader.read(1 << 20).endswith(b"c"):
+                outlet.put()
+            self.assertEqual((outlet.written, bytes(outlet.pending)), (2, b""))
 
 
 class LinesAreKept(unittest.TestCase):
-    def test_for_a_bq_that_is_to_be_begun_again(self):
-        """However many they are, they are let go only while one runs, which has them."""
+    """For a bq that is to be begun again."""
+
+    @staticmethod
+    def left(count, size, session):
+        """How many pieces are left of so many that have so many bytes, behind a look at the clock."""
         run = Run.__new__(Run)
-        vars(run).update(session=None, begin_at=1, is_told=False, is_curious=False, pieces=deque([(1, b"S,1\n")]), lost_to=0, kept=Checkpoint(),
-                         source=SimpleNamespace(bytes=KEPT + 1, lines=1), acks=SimpleNamespace(read=lambda: None), watch=SimpleNamespace(next_look=1))
+        vars(run).update(session=session, keeping=None, begin_at=1, is_told=False, is_curious=False, is_ending=True, pieces=deque([(1, b"S,1\n")] * count), kept=Checkpoint(),
+                         look_at_bq=lambda _: None, source=SimpleNamespace(bytes=size, lines=1), acks=SimpleNamespace(read=lambda: None), watch=SimpleNamespace(next_look=1))
         run.tick(0)
-        self.assertEqual((list(run.pieces), run.lost_to), ([(1, b"S,1\n")], 0))
+        return len(run.pieces)
+
+    def test_however_many_until_it_runs(self):
+        self.assertEqual(self.left(1, KEPT + 1, None), 1)
+        self.assertEqual(self.left(PIECES + 1, KEPT, None), PIECES + 1)
+
+    def test_no_more_than_so_many_while_one_runs(self):
+        self.assertEqual(self.left(PIECES, KEPT, object()), PIECES)
+        self.assertEqual(self.left(1, KEPT + 1, object()), 0)
+        self.assertEqual(self.left(PIECES + 1, KEPT, object()), 0)
 
 
 class OutputsAreNeverCut(InAFolder):
@@ -229,7 +291,7 @@ class OutputsAreNeverCut(InAFolder):
         sink = Sink(self.path("out"))
         self.addCleanup(os.close, sink.fd)
         sink.begin(Checkpoint(b"", Place(output=before)), None)
-        sink.rewind(before)
+        sink.behind = sink.written - before
         return sink
 
     def out(self):
@@ -238,12 +300,14 @@ class OutputsAreNeverCut(InAFolder):
 
     def test_what_stands_there_is_passed_by(self):
         sink = self.sink(2, b"a\nb\nc\n")
-        given = [sink.take(text) for text in (b"b\n", b"c\nd\n", b"e\n")]
-        self.assertEqual((self.out(), sink.total, sink.written, given), (b"a\nb\nc\nd\ne\n", 10, 10, [b"", b"d\n", b"e\n"]))
+        for text in (b"b\n", b"c\nd\n", b"e\n"):
+            sink.take(text)
+        self.assertEqual((self.out(), sink.total, sink.written, bytes(sink.uncounted)), (b"a\nb\nc\nd\ne\n", 10, 10, b"d\ne\n"))
 
     def test_a_line_whose_front_stands_there_is_counted_whole(self):
         sink = self.sink(2, b"a\nb")
-        self.assertEqual((sink.take(b"bcd\n"), self.out(), sink.total), (b"bcd\n", b"a\nbcd\n", 6))
+        sink.take(b"bcd\n")
+        self.assertEqual((bytes(sink.uncounted), self.out(), sink.total), (b"bcd\n", b"a\nbcd\n", 6))
 
     def test_a_torn_end_is_cut_where_it_differs(self):
         sink = self.sink(2, b"a\nb\n\0\0\0\0")
