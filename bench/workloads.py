@@ -320,6 +320,75 @@ def payments(name, columns, keys, more=()):
     return Workload(name, head, one, python="\n".join(python))
 
 
+# a peer for a compact query: what a row adds to what is known of its stream and key, and for which keys an answer is found
+FOUND = """import sys
+out = sys.stdout.write
+{known}told = set()
+for line in sys.stdin:
+    name, *fields = line.split(',')
+    row = list(map(int, fields))
+    if name == 'S':
+{one}
+    else:
+{other}
+    for key in {keys}:
+        if key not in told and {holds}:
+            told.add(key)
+            out('q,%d\\n' % key)
+"""
+
+
+def unlike():
+    """A compact query of 256 parts, by the sides of eight `<>`, of which a row of S is in four."""
+    others = "cdefgh"
+    head = [f"CREATE STREAM S (a IN 1..39, v, {', '.join(others)})", "CREATE STREAM T (v, c)"]
+    head += [f"CREATE COMPACT QUERY q AS SELECT DISTINCT S.a FROM S, T WHERE S.v <> T.v AND {' AND '.join(f'S.{it} <> 0' for it in others)} AND T.c <> 0"]
+
+    def one(r):
+        if r.randrange(2):
+            return f"S,{1 + r.randrange(39)},{r.randrange(1000)},{','.join(str(r.choice((-1, 1, 1, 2, 0))) for _ in others)}"
+        return f"T,{r.randrange(1000)},{r.randrange(-2, 3)}"
+
+    python = FOUND.format(
+        known="values, others = [set() for _ in range(40)], set()\n",
+        one="        if 0 not in row[2:]: values[row[0]].add(row[1])",
+        other="        if row[1]: others.add(row[0])",
+        keys="range(1, 40)", holds="values[key] and others and (len(values[key]) > 1 or len(others) > 1 or values[key] != others)")
+    return Workload("COMPACT, 256 parts by eight <>", head, one, python=python)
+
+
+def between():
+    """A compact query of 20 parts: what lies between two marks, and that something else does."""
+    head = ["CREATE STREAM S (x)", "CREATE STREAM T (z, y)", "CREATE STREAM U (e)"]
+    head += ["CREATE COMPACT QUERY q AS SELECT DISTINCT U.e FROM S, T, U WHERE T.z < U.e AND U.e < T.y AND T.z < S.x AND S.x < T.y AND U.e > 0 AND U.e < 3"]
+
+    def one(r):
+        return r.choice((f"S,{r.randrange(-5, 8)}", f"T,{r.randrange(-5, 8)},{r.randrange(-5, 8)}", f"U,{r.randrange(5)}"))
+
+    return Workload("COMPACT, 20 parts between two marks", head, one)
+
+
+def below_one():
+    """A compact query of 856 parts: three columns of a stream below one of another, and three integers that one of them is not."""
+    head = ["CREATE STREAM S (k IN 1..9, a, b, d)", "CREATE STREAM T (k, c)"]
+    head += [
+        "CREATE COMPACT QUERY q AS SELECT DISTINCT S.k FROM S, T WHERE S.k = T.k AND S.a < T.c AND S.b < T.c AND S.d < T.c "
+        "AND S.a <> 10 AND S.a <> 20 AND S.a <> 30"
+    ]
+
+    def one(r):
+        if r.randrange(2):
+            return f"S,{1 + r.randrange(9)},{r.randrange(41)},{r.randrange(41)},{r.randrange(41)}"
+        return f"T,{1 + r.randrange(9)},{r.randrange(41)}"
+
+    python = FOUND.format(
+        known="least, most = {}, {}\n",
+        one="        if row[1] not in (10, 20, 30): least[row[0]] = min(max(row[1:]), least.get(row[0], 99))",
+        other="        most[row[0]] = max(row[1], most.get(row[0], 0))",
+        keys="row[:1]", holds="key in least and key in most and least[key] < most[key]")
+    return Workload("COMPACT, 856 parts by three columns below one", head, one, python=python)
+
+
 WORKLOADS = [
     no_query(), with_cr(no_query()), filters(), filters_apart(), four_conditions(False), four_conditions(True), with_cr(filters()),
     joins(), joins_apart(), distinct(), rooms(False), rooms(True), rooms_that_count(False), rooms_that_count(True),
@@ -329,4 +398,5 @@ WORKLOADS = [
     payments("payments by region, status and key", ("region", "status", "id"), 10000),
     payments("payments by region, key and status", ("region", "id", "status"), 10000),
     payments("payments by status and key, of orders that are sent", ("status", "id"), 20000, ("Sent",)),
+    unlike(), between(), below_one(),
 ]

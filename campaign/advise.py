@@ -16,6 +16,8 @@ from itertools import combinations
 import analysis
 import evaluator
 import language
+import splitform
+import whole
 from analysis import MOST_ANSWERS, MOST_CELLS, MOST_PARTS, MOST_WORK
 from common import Part, fault_of, run as run_program, scaled
 from evaluator import POOL_PAGES
@@ -261,17 +263,13 @@ def part_at(query, number):
 
 
 def chains_of(query, part):
-    """What a part orders with its columns: for each place of FROM and group the columns of the stream and the
-    constants, ascending, each with whether it equals the one before it.
+    """What a part orders with its columns: for each place of FROM the columns of the stream and the constants, ascending,
+    each with whether it equals the one before it.
     """
-    groups, chains, seen = analysis.groups_of(query), [], set()
-    for column in analysis.attributes_of(query):
-        if column in seen:
-            continue
-        mates = [it for it in groups[column].attributes if it[0] == column[0]]
-        seen.update(mates)
+    chains, attributes = [], analysis.attributes_of(query)
+    for here in sorted({place for place, _ in attributes}):
         chain = []
-        for element in mates + groups[column].constants:
+        for element in [it for it in attributes if it[0] == here] + analysis.constants_of(query):
             place = sum(not part.facts.less(element, it) for it in chain)
             chain.insert(place, element)
         chains.append([(it, i > 0 and part.facts.equal(chain[i - 1], it)) for i, it in enumerate(chain)])
@@ -527,9 +525,10 @@ class Trial:
         return b"%d" % element if analysis.is_constant(element) else self.session.column_name(self.statement.streams, element)
 
     def try_chains(self, lines):
+        """The chains of the part that breaks a condition; of a compact query none is told."""
         number = self.verdict.verdict[1]
         wanted = []
-        for chain in chains_of(self.query, part_at(self.query, number)):
+        for chain in [] if self.query.compact else chains_of(self.query, part_at(self.query, number)):
             text = b"".join((b" = " if equal else b" < ") + self.name(it) for it, equal in chain)
             if len(chain) > 1:
                 wanted.append(b"  part %d has " % number + text[3:])
@@ -745,6 +744,8 @@ def meets_by_analysis(query):
 
 def parts_by_analysis(query):
     """How many parts a query has, or -1 where one breaks a condition; None where it has more than are tried."""
+    if query.compact and (query.places > 1 or query.distinct):
+        return forms_by_analysis(query)
     parts, length = 0, len(analysis.pairs_of(query))
     for signs, at in analysis.walk(query, MOST_PARTS):
         if len(signs) < length:
@@ -754,6 +755,23 @@ def parts_by_analysis(query):
             return -1
         if parts > FEW_PARTS:
             return None
+    return parts
+
+
+def forms_by_analysis(query):
+    """The same of a compact query: one part where its whole form fits, and else those of its split form."""
+    if whole.fitting(query):
+        return 1
+    parts = 0
+    try:
+        for form in splitform.parts_of(query):
+            parts += 1
+            if splitform.violation(form):
+                return -1
+            if parts > FEW_PARTS:
+                return None
+    except analysis.TooManyParts:
+        return None
     return parts
 
 

@@ -13,10 +13,8 @@ ends of a domain are no constants: they bound a column, and no pair has them.
 A query that is shared keeps the cells of a stream once where several parts would keep equal ones;
 all else of the analysis is the same.
 
-A query that is compact has its whole form where that fits (`whole.py`), and else is read by groups:
-columns that comparisons of two columns join, with the constants that comparisons name with one of them.
-Pairs, links and classes are of one group, and what makes an inequality redundant is. The conditions and
-the numbers are counted over all groups together.
+A query that is compact has its whole form where that fits (`whole.py`), and else its split form
+(`splitform.py`).
 """
 from collections import namedtuple
 from functools import lru_cache
@@ -391,13 +389,15 @@ def extreme_of(facts, place):
 
 
 def box_of(query, part, place):
-    """What tells a box of a part from others: its stream, the signs within it, the dims with their
-    ranges, and what a cell keeps.
+    """What tells a box of a part from others: its stream, the signs within it or what else it is asked, the dims with their ranges, and
+    what a cell keeps.
     """
-    signs = tuple(sign for pair, sign in zip(pairs_of(query), part.signs) if is_local(pair, place))
+    asked = tuple(sign for pair, sign in zip(pairs_of(query), part.signs) if is_local(pair, place))
+    if not isinstance(part.facts, Facts):
+        asked = part.facts.conditions(place)
     dims = tuple((it, part.facts.range(it)) for it in part.dims[place])
     kept = part.extremes[place] or "present" if query.distinct else "count"
-    return place, signs, dims, kept
+    return place, asked, dims, kept
 
 
 def boxes_of(query, parts):
@@ -423,16 +423,19 @@ def numbers_of(query, parts, shared):
 
 
 def analyse(query, shared=False):
-    """The verdict on a query, the pool aside, and its parts: of a compact one its whole form where that fits.
+    """The verdict on a query, the pool aside, and its parts: of a compact one its whole form where that fits, else its split form.
 
     A verdict is ("filter",), ("limit", word), ("violation", part, condition, attribute) or
     ("ok", parts, cells, answers, work).
     """
+    import splitform
     import whole
     if query.places == 1 and not query.distinct:
         return Analysis(("filter",), [])
-    form = whole.fitting(query) if query.compact else None
-    return of_parts(query, [form], shared) if form else by_parts(query, shared)
+    if not query.compact:
+        return by_parts(query, shared)
+    form = whole.fitting(query)
+    return of_parts(query, [form], shared) if form else splitform.analyse(query, shared)
 
 
 def by_parts(query, shared=False):

@@ -170,12 +170,12 @@ def change_certificates(part, program, certificates, scale):
 
 
 def small_query(part):
-    """A random one-query script with its query, or None where it has many parts or is refused."""
+    """A random one-query script with its query, or None where it has many parts, has forms or is refused."""
     head = random_query(part)
     try:
         script = checker.read_script(head, False)
         checker.analysis.walk_parts(script.query, MOST_OWN_PARTS)
-        return head, script
+        return None if checker.is_formed(script.query) else (head, script)
     except (Refused, checker.analysis.TooManyParts):
         return None
 

@@ -7,7 +7,6 @@ import re
 import analysis
 import evaluator
 import language
-import whole
 from language import CreateQuery, CreateStream, Refused
 
 MOST_NODES = 262_144
@@ -236,9 +235,12 @@ def certificate_reply(text):
     """What `check` must write about a text, and its exit status."""
     try:
         script = read_script(text, True)
+        query, line = script.query, script.query_line
     except Refused as refusal:
-        return refusal_line(refusal), 1
-    return judge(script)
+        query, line = query_before(text, refusal.line, True)
+        if query is None or not is_formed(query):
+            return refusal_line(refusal), 1
+    return (b"error %d WholeForm\n" % line, 1) if is_formed(query) else judge(script)
 
 
 def too_large(query):
@@ -249,10 +251,9 @@ def too_large(query):
         return True
 
 
-def has_whole_form(query):
-    """Whether a query is accepted by its whole form, of which no certificate speaks."""
-    is_filter = query.places == 1 and not query.distinct
-    return query.compact and not is_filter and whole.fitting(query) is not None
+def is_formed(query):
+    """Whether a query is compact and no filter: of its forms no certificate speaks."""
+    return query.compact and (query.places > 1 or query.distinct)
 
 
 def certify_refusal(text):
@@ -263,17 +264,17 @@ def certify_refusal(text):
         query, line = script.query, script.query_line
     except Refused as refusal:
         head, query, line = refusal, *query_before(text, refusal.line)
-    if query is not None and has_whole_form(query):
+    if query is not None and is_formed(query):
         return b"error %d WholeForm\n" % line
     if query is not None and too_large(query):
         return b"error %d Limit\n" % line
     return refusal_line(head) if head else None
 
 
-def query_before(text, refused):
+def query_before(text, refused, with_certificate=False):
     """The query of a script that is refused at a later line, and its line."""
     try:
-        script = read_script(b"\n".join(language.lines_of(text)[:refused - 1]), False)
+        script = read_script(b"\n".join(language.lines_of(text)[:refused - 1]), with_certificate)
     except Refused:
         return None, None
     return script.query, script.query_line

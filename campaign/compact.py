@@ -2,12 +2,14 @@
 
 Each random query is created four times in one session: as it is, shared, compact, and both. The output
 is compared with the evaluator's. Then the answers to each row are compared among those of the four that
-were accepted. Where the whole form of a query fits, it has the same numbers and the same plan shared or not.
-What one of the forms alone accepts is counted.
+were accepted. Where the whole form of a query fits, it has the same numbers and the same plan shared or not;
+else it has its split form, of which it is counted how many parts there are. What one of the forms alone accepts
+is counted.
 """
 import re
 from collections import namedtuple
 
+import crossed
 import evaluator
 import language
 import linked
@@ -42,7 +44,7 @@ def write(writer):
         if b"X" in writer.session.streams and kind < 0.5:
             text = writer.extreme_query()
         elif is_linked:
-            text = linked.query_text(writer)
+            text = (crossed.query_text(writer) if kind < 0.6 else None) or linked.query_text(writer)
         else:
             text = (writer.keyed_query() if kind < 0.75 else None) or writer.query_text()
         texts.append(text)
@@ -81,10 +83,21 @@ def query_of(session, text):
         return None
 
 
-def has_whole_form(session, text):
-    """Whether a query is no filter, and its whole form fits."""
+def forms_of(session, text):
+    """Whether a query is read by its forms, as it is no filter, and whether its whole form fits."""
     query = query_of(session, text)
-    return query is not None and (query.places > 1 or query.distinct) and whole.fitting(query) is not None
+    has_forms = query is not None and (query.places > 1 or query.distinct)
+    return has_forms, has_forms and whole.fitting(query) is not None
+
+
+def count_split(part, reply):
+    """Counts a query that is read by its split form, by the reply to it."""
+    found = NUMBERS.match(reply)
+    part.count("by the split form")
+    part.count("of these accepted", int(bool(found)))
+    part.count("of these without a part", int(bool(found) and found.group(1) == b"0"))
+    part.count("of these by several parts", int(bool(found) and int(found.group(1)) > 1))
+    part.count("refused by the split form in a later part", int(b" part " in reply and b" part 1 " not in reply))
 
 
 def count_numbers(part, plain, compact):
@@ -112,7 +125,10 @@ def judge(part, writer, lines, number, text):
         for other in accepted.values():
             if not are_same_answers(one, other):
                 return f"{one.reply} and {other.reply} answer differently"
-    if has_whole_form(writer.session, text):
+    has_forms, is_whole = forms_of(writer.session, text)
+    if has_forms and not is_whole:
+        count_split(part, of[b"c"].reply)
+    if is_whole:
         part.count("with a whole form")
         said = [of[form].reply.replace(b" %s%d " % (form, number), b" ") for form in (b"c", b"b")]
         is_live = not (of[b"c"].is_dropped or of[b"b"].is_dropped)

@@ -8,6 +8,7 @@ from itertools import product
 
 import analysis
 import language
+import splitform
 import whole
 
 BOX = range(-5, 9)
@@ -142,6 +143,42 @@ def fault_of_whole(query):
     return None
 
 
+def differs_from(form, members, every, query):
+    """What a part of the split form says otherwise than its assignments do, or None: ranges, and what rows and links together say.
+
+    The signs of the part stand among its comparisons, so that their integers bound too.
+    """
+    for x in analysis.attributes_of(query):
+        if form.ends(x) != ends_of(form.query, [it[x] for it in members]):
+            return f"another range of {x}"
+    for of in every:
+        taken = all(form.admits(place, of) for place in range(query.places)) and form.are_linked(of.get)
+        if taken != (of in members):
+            return f"it differs at {of}"
+    return None
+
+
+def fault_of_split(query):
+    """What the split form and the enumeration say differently of a compact query, or None: its parts, and each of them."""
+    attributes, pairs = analysis.attributes_of(query), splitform.split_pairs(query)
+    every = [dict(zip(attributes, it)) for it in product(*boxes_of(query, attributes))]
+    chosen = [(it, low) for it, low, _ in query.domains if it not in attributes]
+    found = {}
+    for of in every:
+        of.update(chosen)
+        of.update((it, 0) for it in query.select if it not in of)
+        if holds(of, query.atoms):
+            found.setdefault("".join(sign(of.get(x, x), of.get(y, y)) for x, y in pairs), []).append(of)
+    forms = list(splitform.parts_of(query))
+    if sorted(found) != [signs for signs, _ in splitform.walk(query, pairs, whole.nodes_of(query))]:
+        return "other parts of the split form"
+    for number, (signs, form) in enumerate(zip(sorted(found), forms), 1):
+        fault = differs_from(form, found[signs], every, query)
+        if fault:
+            return f"{fault} in part {number} of the split form"
+    return None
+
+
 def range_of(query, values):
     """The range of a bounded column, else None.
 
@@ -186,7 +223,7 @@ def fault_of(query):
         fault = fault_of_facts(facts, members) or fault_of_links(pairs, signs, facts, members)
         if fault:
             return f"{fault} in {signs}"
-    return fault_of_numbers(query, pairs, by_box) or fault_of_whole(query)
+    return fault_of_numbers(query, pairs, by_box) or fault_of_whole(query) or (fault_of_split(query) if query.compact else None)
 
 
 def fault_of_facts(facts, members):

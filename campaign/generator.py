@@ -7,6 +7,7 @@ compact, and what share of the scripts has lines about checkpoints, the environm
 """
 import re
 
+import crossed
 from evaluator import Session
 from language import (CHECKPOINT_SHARE, COMPACT_SHARE, DOMAIN_SHARE, GREATEST_VALUE, LARGEST_INTEGER,
                       LEAST_VALUE, MOST_SOFT, SHARED_SHARE, SOFT_SHARE)
@@ -296,7 +297,7 @@ class Writer:
     def query(self, name=None, text=None):
         name = name or self.random.choice(QUERY_NAMES[:8])
         if not text and COMPACT_SHARE and self.chance(COMPACT_SHARE / 2):
-            text = self.keyed_query()
+            text = (crossed.query_text(self) if self.chance(0.4) else None) or self.keyed_query()
         text = text or self.query_text()
         if self.chance(0.03):
             text = self.spoiled(text)

@@ -9,6 +9,7 @@ import operator
 
 import analysis
 import checker
+import crossed
 import language
 import maker
 from certificates import MOST_OWN_PARTS, changes, small_query, wanted_decision
@@ -71,7 +72,9 @@ def try_cells(part, scale):
             writer.stream(3)
         for _ in range(6):
             text = writer.extreme_query() if number % 2 else writer.query_text()
-            writer.query(text=text)
+            # every other time one that has a split form rather than a whole one, if it is compact
+            crossed_text = crossed.query_text(writer) if number % 4 > 1 else None
+            writer.query(text=crossed_text or text)
         for live in list(writer.session.queries.values()):
             if live.found.verdict[0] == "ok" and len(live.found.parts) <= MOST_OWN_PARTS:
                 compare_over_cells(part, writer, live)

@@ -2,13 +2,15 @@
 
 Each random query is written again in ways that change no answer: by other operators and integers, turned, in another order, with comparisons
 said twice or more weakly besides, with bounds as comparisons in place of a domain and the reverse, and with one of two equal columns of a stream
-in place of the other. Where the whole form of one fits, that of all must, with the same numbers. Where it does not the parts of the groups
-decide, in which integers that are written count: these are compared too, and counted by what was changed.
+in place of the other. Where the whole form of one fits, that of all must, with the same numbers. Where it does not, the split form of all is
+accepted or refused alike. Which parts there are the spelling decides, as it has other integers or another order of comparisons: so numbers, and the
+condition that is told, are compared too, and counted by what was changed; so is what passes a limit in one spelling alone.
 """
 import re
 from collections import namedtuple
 
 import analysis
+import crossed
 import language
 import linked
 import whole
@@ -18,6 +20,7 @@ from generator import Writer
 from language import COMPACT_SHARE, Atom, CreateStream, Refused
 
 QUERIES = 4000
+CROSSED_SHARE = 0.5
 NAMES = [b"S", b"T", b"U", b"W"]
 STRICTER = {"<": ("<=", -1), ">": (">=", 1)}
 SOFTER = {"<=": ("<", 1), ">=": (">", -1)}
@@ -155,8 +158,9 @@ def base_query(writer):
     """Streams and a query over them that is no filter, or None."""
     for name in NAMES[:writer.random.choice([1, 2, 2, 3, 3, 4])]:
         writer.session.reply(linked.stream_text(writer, name))
+    text = (crossed.query_text(writer) if writer.chance(CROSSED_SHARE) else None) or linked.query_text(writer)
     try:
-        query = language.parse(b"CREATE COMPACT QUERY q AS " + linked.query_text(writer))
+        query = language.parse(b"CREATE COMPACT QUERY q AS " + text)
     except Refused:
         return None
     if len(query.streams) == 1 and not query.distinct:
@@ -221,6 +225,20 @@ def outline(reply):
     return reply if b"parts" in reply or b"filter" in reply else b"refused " + reply.split(b" ")[-1 if b"limit" in reply else -2]
 
 
+def is_limit(reply):
+    return reply.startswith(b"limit ")
+
+
+def compare(part, base, way, spelled, first, other):
+    """Compares the replies to a query without a whole form, and to another spelling of it."""
+    if is_limit(first) != is_limit(other):
+        part.count(f"beyond a limit in one spelling: {way}")
+    elif first.startswith(b"parts") != other.startswith(b"parts"):
+        part.differs(f"{way}: {first} and {other}", b"\n".join(renamed(base, 0) + renamed(spelled, 1)))
+    elif outline(first) != outline(other):
+        part.count(f"with other {'numbers' if first.startswith(b'parts') else 'words'}: {way}")
+
+
 def judge(part, program, base):
     ways = spellings(part, base)
     part.count("queries")
@@ -230,19 +248,15 @@ def judge(part, program, base):
         part.differs("a query is missing", said["short"])
         return
     whole_of = {way: fits(it) for way, it in ways.items()}
-    first = outline(said[""])
     part.count("with a whole form", int(bool(whole_of[""])))
+    part.count("accepted by the split form", int(said[""].startswith(b"parts") and not whole_of[""]))
     for way, spelled in ways.items():
         if whole_of[way] != whole_of[""]:
             part.differs(f"{way}: the whole form of one alone fits", b"\n".join(renamed(base, 0) + renamed(spelled, 1)))
-        other = outline(said[way])
-        if other == first:
-            continue
-        if whole_of[""]:
-            part.differs(f"{way}: {first} and {other}", b"\n".join(renamed(base, 0) + renamed(spelled, 1)))
-        else:
-            word = "decided otherwise" if first[:2] != other[:2] and b"parts" in first + other else "otherwise refused or with other numbers"
-            part.count(f"by groups {word}: {way}")
+        if not whole_of[""]:
+            compare(part, base, way, spelled, said[""], said[way])
+        elif outline(said[""]) != outline(said[way]):
+            part.differs(f"{way}: {said['']} and {said[way]}", b"\n".join(renamed(base, 0) + renamed(spelled, 1)))
 
 
 def run(program, seed, scale):

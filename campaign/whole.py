@@ -210,6 +210,26 @@ class Whole:
         """Whether values meet the links."""
         return all(MEANING[sign](value(x), value(y)) for x, sign, y in self.links)
 
+    def between(self, x, y):
+        """The condition that x is at most so much above y, or none where their ranges say so; both are the first columns of classes."""
+        bound, high, low = self.upper(x, y), self.ends(x)[1], self.ends(y)[0]
+        is_said = bound is None or (high is not None and low is not None and high - low <= bound)
+        return [] if is_said else [(x, "<=", y, bound)]
+
+    def conditions(self, place):
+        """What is asked of the rows of a stream, as a set that says it in one way: a comparison with a number on top of its right side."""
+        own = [it for it in self.attributes if it[0] == place]
+        names = sorted({self.class_of(it) for it in own})
+        asked = [(it, "=", self.class_of(it), 0) for it in own if it not in names]
+        for it in names:
+            low, high = self.ends(it)
+            asked += [(it, sign, end, 0) for sign, end in ((">=", low), ("<=", high)) if end is not None]
+        asked += [condition for x in names for y in names if x != y for condition in self.between(x, y)]
+        for left, sign, right in self.query.atoms:
+            if sign == "<>" and all(is_constant(it) or it[0] == place for it in (left, right)):
+                asked.append((right, sign, left, 0) if is_constant(left) else (left, sign, right, 0))
+        return frozenset(asked)
+
 
 def fitting(query):
     """The one part of the whole form, or None where it does not fit: a column that is kept has no end, or a number is above its limit."""

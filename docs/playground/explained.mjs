@@ -42,12 +42,14 @@ export function streamsOf(explained) {
 
 export const isDistinct = (explained) => explained.text.startsWith("SELECT DISTINCT ");
 
-// What is kept of each stream of FROM: its own signs, the ranges of its cells and what a cell holds. Boxes that keep the same have one key.
+// What is kept of each stream of FROM: its own signs, the ranges of its cells and what a cell holds. Boxes that keep the same have one key. Of
+// several parts without signs EXPLAIN does not tell which rows each counts, so a box is told by its part too, and is like no other.
 export function boxesOf(explained, part) {
+  const number = explained.parts.length > 1 && part.signs.length === 0 ? part.number : null;
   return streamsOf(explained).map((stream) => {
     const signs = part.signs.filter(([left, , right]) => [left, right].every((it) => !isColumn(it) || streamOf(it) === stream));
     const dims = part.dims.filter(([column]) => streamOf(column) === stream);
-    const box = { stream, signs, dims, kind: kindOf(explained, part, stream) };
+    const box = { stream, signs, dims, kind: kindOf(explained, part, stream), part: number };
     return { ...box, key: JSON.stringify(box) };
   });
 }

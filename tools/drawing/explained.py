@@ -4,7 +4,7 @@ from collections import namedtuple
 
 Explained = namedtuple("Explained", "name text parts")
 Part = namedtuple("Part", "number signs links dims extremes")
-Box = namedtuple("Box", "stream signs dims kind")
+Box = namedtuple("Box", "stream signs dims kind part")
 LINKS = ("equal", "less", "most", "unlike")
 TURNED = {"<": ">", "=": "=", ">": "<", "<=": ">=", "<>": "<>"}
 
@@ -57,13 +57,16 @@ def is_distinct(explained):
 
 
 def boxes_of(explained, part):
-    """What is kept of each stream of FROM: its own signs, the ranges of its cells and what a cell holds."""
-    boxes = []
+    """What is kept of each stream of FROM: its own signs, the ranges of its cells and what a cell holds.
+
+    Of several parts without signs EXPLAIN does not tell which rows each counts, so a box is told by its part too, and is like no other.
+    """
+    boxes, number = [], part.number if len(explained.parts) > 1 and not part.signs else None
     for stream in streams_of(explained):
         own = tuple(sign for sign in part.signs if all(
             not is_column(it) or stream_of(it) == stream for it in (sign[0], sign[2])))
         dims = tuple(dim for dim in part.dims if stream_of(dim[0]) == stream)
-        boxes.append(Box(stream, own, dims, kind_of(explained, part, stream)))
+        boxes.append(Box(stream, own, dims, kind_of(explained, part, stream), number))
     return boxes
 
 

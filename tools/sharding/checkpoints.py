@@ -21,7 +21,8 @@ class Kept:
         for name, announced in zip(names, replies[at:]):
             end = explained.index(f"end {name}") + 1
             cells = COUNT.search(announced)
-            self.boxes[name] = Boxes(self.script.queries[name], explained[:end], int(cells[1]) if cells else None)
+            query = self.script.queries[name]
+            self.boxes[name] = Boxes(query, explained[:end], int(cells[1]) if cells else None, [self.script.streams[it] for it in query.streams])
             explained = explained[end:]
         self.rows = 0
         self.given = dict.fromkeys(names, 0)
@@ -102,7 +103,7 @@ def key_value(name, key):
     values = dict(name.values)
     if key in values:
         return values[key]
-    for left, sign, right in name.signs:
+    for left, sign, right in name.part.signs:
         if sign == "=" and key in (left, right):
             other = right if key == left else left
             if "." not in other:

@@ -6,9 +6,9 @@ use Rattle.bq_model.specs.declared.decision.Which.TheVariants.{Parts}
 use Rattle.bq_model.specs.declared.plan.Numbers.{Numbers}
 use Rattle.bq_model.specs.declared.plan.Plan.{Plan}
 use Rattle.bq_model.specs.declared.plan.Plan.TheVariants as plans
-use Rattle.bq_model.specs.Sharing.{numbers_for}
 use Rattle.bq_model.specs.Verdict as verdicts
-use Rattle.bq_model.specs.Verdict.{Verdict, of_filter, of_many_parts, of_violation, of_plan, verdict_after, verdict_by}
+use Rattle.bq_model.specs.Verdict.{Verdict, verdict_after, verdict_by}
+use Rattle.bq_forms.specs.Parts.{form_numbers, of_filter, of_many_parts, of_violation, of_plan}
 use Rattle.bq_forms.specs.Forms.{IsFormPlan, IsFormVerdict}
 use Rattle.bq_forms.specs.Forms as forms
 use Rattle.bq_forms.proofs.Forms.{has_one_form_verdict}
@@ -38,13 +38,13 @@ judged shared q free (judgement.Accepted numbers) h = by h.2.plan
 
     by : IsFormPlan shared q h.2.parts → IsFormVerdict shared q free (verdict_after None numbers free)
     by (forms.whole c part fits follow e) =
-        forms.whole h.0 c part fits follow (own (numbers_of q (part ∷ [])) (h.2.are ∙ ap (numbers_for shared q) e ∙ one_part_numbers shared q part))
+        forms.whole h.0 c part fits follow (own (numbers_of q (part ∷ [])) (h.2.are ∙ ap (form_numbers shared q) e ∙ one_part_numbers shared q part))
     by (forms.parts none is) =
         let met = h.1 h.0 none in
-        forms.parts (inr none) (of_plan h.0 met.0 met.1 h.2.parts is (own (numbers_for shared q h.2.parts) h.2.are))
+        forms.parts (inr none) (of_plan h.0 met.0 met.1 h.2.parts is (own (form_numbers shared q h.2.parts) h.2.are))
 judged shared q free (judgement.Above which value) h =
     forms.parts (inr h.0)
-    (of_plan h.2.plain (h.1.few h.2.plain) h.1.violation h.2.parts h.2.plan (ap (λ o. verdict_after o (numbers_for shared q h.2.parts) free) (sym h.2.first)))
+    (of_plan h.2.plain (h.1.few h.2.plain) h.1.violation h.2.parts h.2.plan (ap (λ o. verdict_after o (form_numbers shared q h.2.parts) free) (sym h.2.first)))
 judged shared q free (judgement.Violation part condition attr) h =
     forms.parts (inr h.0) (of_violation h.1 h.2 (record { part = part; condition = condition; attr = attr }) h.3 refl)
 judged shared q free judgement.ManyParts h = forms.parts (inr h.0) (of_many_parts h.1 h.2 refl)

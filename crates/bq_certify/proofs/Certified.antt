@@ -1,5 +1,5 @@
 -- What certifying a script comes to.
-use Rattle.std.proofs.Common.{◌≡◌, ℕ, ◌+◌, None, Some, List, [], ◌∷◌, ◌++◌, length, refl, sym, ap, ◌∙◌, subst, append-nil, length-append, arith, true, Err}
+use Rattle.std.proofs.Common.{◌≡◌, ℕ, ◌+◌, None, Some, List, [], ◌∷◌, ◌++◌, length, refl, sym, ap, ◌∙◌, subst, append-nil, length-append, arith, Err}
 use Rattle.std.specs.Prelude.{⊤, IsFalse}
 use Rattle.std.proofs.lemmas.List.Elements.{All-from_recursion}
 use Rattle.bq_io.specs.Source.{SourceState}
@@ -7,8 +7,7 @@ use Rattle.bq_text.specs.Lines.{lines}
 use Rattle.bq_feed.specs.Reading.{Reading}
 use Rattle.bq_feed.specs.Texts.{ended_part}
 use Rattle.bq_feed.proofs.GivenEnds.{front-lines, took-lines, took-all}
-use Rattle.bq_model.specs.Query.{QueryValue, is_filter}
-use Rattle.bq_forms.specs.Forms.{HasWholeForm}
+use Rattle.bq_model.specs.Query.{QueryValue}
 use Rattle.bq_certmake.specs.Made.{IsTooLarge}
 use Rattle.bq_parser.specs.declared.tree.Statement.{Statement}
 use Rattle.bq_reply.specs.declared.refusal.Refusal.{Refusal}
@@ -25,21 +24,19 @@ use Rattle.bq_script.specs.Texts.{script_text}
 use Rattle.bq_script.specs.Ends.{GaveScript, GaveLine, GaveAll, GaveLast, IsFull, ReadsBlank}
 use Rattle.bq_io.specs.declared.status.Status.TheVariants as status
 use Rattle.bq_script.specs.Commands.{Outcome, ComesTo, TookUnsettled, refusal}
+use Rattle.bq_certify.specs.Formed.{goes_by_form}
 use Rattle.bq_certify.specs.Certifying.{Certifies, IsCertified, IsUncertified, certified}
 use Rattle.bq_certify.specs.Certifying as certifying
 use Rattle.bq_script.specs.Ending.{StopsAt}
 use Rattle.bq_script.proofs.Behind.{none-behind, asks-then}
 use Rattle.bq_certify.specs.Certified.{MakesFor, ends_with}
+use Rattle.bq_certify.proofs.ByForm.{not_both}
 use Rattle.bq_certify.proofs.OneCertified.{certifies-alike}
 
--- a filter is none that is no filter
-pub not_plain : (q : QueryValue) → is_filter q ≡ true → IsFalse (is_filter q) → ⊥
-not_plain q t f = cc
-
--- one is written of a query whose whole form does not fit, and which is not too large
-pub certified_by : (q : QueryValue) → (IsFalse (is_filter q) → ¬ HasWholeForm q) → ¬ IsTooLarge q → IsCertified q
-certified_by q none small word (certifying.formed plain has e) = none plain has
-certified_by q none small word (certifying.large lacks much e) = small much
+-- one is written of a query that is judged by its parts, and is not too large
+pub certified_by : (q : QueryValue) → IsFalse (goes_by_form q) → ¬ IsTooLarge q → IsCertified q
+certified_by q parts small word (certifying.formed by e) = not_both by parts
+certified_by q parts small word (certifying.large other much e) = small much
 
 -- no certificate is written of the query of a script
 pub comes-uncertified : (script : Script) (word : Refusal) (source now : SourceState) (reader : Reading) → GaveScript script source now reader → IsUncertified script.query word

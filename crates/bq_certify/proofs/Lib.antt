@@ -1,3 +1,4 @@
+pub mod ByForm
 pub mod Certified
 pub mod Checks
 pub mod Collected

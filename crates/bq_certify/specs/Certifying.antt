@@ -1,9 +1,8 @@
 -- What `certify` comes to over the lines of a script.
-use Rattle.std.specs.Prelude.{◌≡◌, ℕ, ◌+◌, Bool, IsFalse, None, List, ◌∷◌, ◌++◌, length}
+use Rattle.std.specs.Prelude.{◌≡◌, ℕ, ◌+◌, Bool, IsTrue, IsFalse, None, List, ◌∷◌, ◌++◌, length}
 use Rattle.std.specs.List.{All}
 use Rattle.bq_io.specs.declared.status.Status.TheVariants as status
-use Rattle.bq_model.specs.Query.{QueryValue, is_filter}
-use Rattle.bq_forms.specs.Forms.{HasWholeForm}
+use Rattle.bq_model.specs.Query.{QueryValue}
 use Rattle.bq_schema.specs.Streams.{Shape}
 use Rattle.bq_parser.specs.declared.tree.SelectAst.{SelectAst}
 use Rattle.bq_parser.specs.declared.tree.Statement.TheVariants.{CreateQuery}
@@ -18,16 +17,17 @@ use Rattle.bq_certmake.specs.Made.{IsTooLarge}
 use Rattle.bq_script.specs.Script.{Asks, IsRefusedAt, IsBlank, IsMisplaced}
 use Rattle.bq_script.specs.Texts.{script_text}
 use Rattle.bq_script.specs.Commands.{Outcome, refusal, early_refusal}
+use Rattle.bq_certify.specs.Formed.{goes_by_form}
 
 -- the statements of a script in printed form, and a certificate
 abbrev pub certified : List Shape → List ℕ → SelectAst → Bool → List Line → Outcome
 certified streams name select shared lines = record { status = status.Done; text = script_text streams (CreateQuery name select shared) ++ certificate_text lines; needs = None }
 
--- no certificate is written of the query, and this word says why: the query is compact and its whole form fits, of which no certificate speaks; or it
--- is too large for one
+-- no certificate is written of the query, and this word says why: the query is compact and no filter, and no certificate speaks of its form; or it is too
+-- large for one
 pub data IsUncertified (q : QueryValue) (word : Refusal) : Type 0 where
-  formed : IsFalse (is_filter q) → HasWholeForm q → word ≡ WholeForm → IsUncertified q word
-  large : (IsFalse (is_filter q) → ¬ HasWholeForm q) → IsTooLarge q → word ≡ Limit → IsUncertified q word
+  formed : IsTrue (goes_by_form q) → word ≡ WholeForm → IsUncertified q word
+  large : IsFalse (goes_by_form q) → IsTooLarge q → word ≡ Limit → IsUncertified q word
 
 -- one is written, where nothing but blank lines follows
 abbrev pub IsCertified : QueryValue → Type 0

@@ -1,3 +1,4 @@
+pub mod Formed
 pub mod Certifying
 pub mod Certified
 pub mod Checking

@@ -1,26 +1,24 @@
 //! The command that certifies a script.
-ghost use Rattle.std.specs.Prelude.{◌≡◌, ◌≤◌, ◌↔◌, [], IsTrue, IsFalse, IfOk};
+ghost use Rattle.std.specs.Prelude.{◌≡◌, ◌≤◌, [], IsFalse};
 ghost use Rattle.bq_io.specs.declared.status.Status.TheVariants as status;
 ghost use Rattle.bq_io.specs.Source.{SourceState};
 ghost use Rattle.bq_io.specs.Sink.{Writes};
 ghost use Rattle.bq_feed.specs.Reading.{fresh};
-ghost use Rattle.bq_model.specs.Query.{is_filter};
-ghost use Rattle.bq_forms.specs.Forms.{HasWholeForm};
 ghost use Rattle.bq_script.specs.Ends.{GaveScript};
 ghost use Rattle.bq_script.specs.Commands.{CommandEnds};
+ghost use Rattle.bq_certify.specs.Formed.{goes_by_form};
 ghost use Rattle.bq_certify.specs.Certifying.{Certifies};
 ghost use Rattle.bq_script.specs.Ending.{EndsWith, WritesText};
 ghost use Rattle.bq_certify.specs.Certified.{MakesFor, ReadsCertified, text_with};
 
+use crate::formed::goes_by_form;
 use bq_certificate::Certificate;
 use bq_certmake::{MakeError, make};
 use bq_feed::LineReader;
 use bq_io::{Gathered, Sink, Source, Status, WriteFault};
-use bq_model::Query;
 use bq_reply::Refusal;
 use bq_script::{Script, ScriptEnd, end_early, print_script, read_blank, read_script};
-use bq_whole_part::whole_form;
-use std::alloc::{AllocError, Global};
+use std::alloc::Global;
 
 /// A script, and a certificate of its query.
 #[derive(Drop)]
@@ -29,22 +27,9 @@ pub struct Certified {
     pub certificate: Certificate,
 }
 
-// Whether a query that is no filter has a whole form that fits.
-fn has_whole_form(alloc: Global, query: &Query) -> Result<bool, AllocError>
-    ensures { IfOk result (λ has. IsTrue has ↔ (IsFalse (is_filter query.now) × HasWholeForm query.now)) }
-{
-    if query.is_filter() {
-        return Ok(false);
-    }
-    match whole_form(alloc, query)? {
-        Some(_plan) => Ok(true),
-        None => Ok(false),
-    }
-}
-
-// Makes a certificate for a script whose query has no whole form that fits. A query that is too large is refused at its line.
+// Makes a certificate for a script whose query is judged by its parts. A query that is too large is refused at its line.
 fn make_by_parts(alloc: Global, script: &Script) -> Result<Certificate, ScriptEnd>
-    requires { IsFalse (is_filter script.now.query) → ¬ HasWholeForm script.now.query }
+    requires { IsFalse (goes_by_form script.now.query) }
     ensures { MakesFor result script.now }
 {
     match make(alloc, &script.query) {
@@ -65,19 +50,13 @@ fn make_by_parts(alloc: Global, script: &Script) -> Result<Certificate, ScriptEn
 fn make_for(alloc: Global, script: &Script) -> Result<Certificate, ScriptEnd>
     ensures { MakesFor result script.now }
 {
-    match has_whole_form(alloc, &script.query) {
-        Ok(has) => {
-            if has {
-                Err(ScriptEnd::Refused {
-                    line: script.line,
-                    word: Refusal::WholeForm,
-                })
-            } else {
-                make_by_parts(alloc, script)
-            }
-        }
-        Err(_) => Err(ScriptEnd::Memory),
+    if goes_by_form(&script.query) {
+        return Err(ScriptEnd::Refused {
+            line: script.line,
+            word: Refusal::WholeForm,
+        });
     }
+    make_by_parts(alloc, script)
 }
 
 // Makes the certificate of a script, and reads the lines behind its query, which say nothing.
@@ -172,7 +151,7 @@ fn end_done<O: Sink>(certified: &Certified, output: &mut O) -> Status
 /// Reads a script to the end of the source, and writes its statements in printed form and a certificate of its query.
 ///
 /// The script is one of CREATE STREAM lines and then one CREATE QUERY line, between blank lines and comments. The first line that is
-/// not is refused with `error L Word` and `Invalid`, as is the line of a compact query whose whole form fits, of which no certificate
+/// not is refused with `error L Word` and `Invalid`, as is the line of a compact query that is no filter, of whose form no certificate
 /// speaks, with the word `WholeForm`, and that of a query of more than 4,096 parts, or whose certificate has more than 262,144 nodes, with
 /// the word `Limit`. The source is read no further than the read in which such a line ends, so where it fails, or
 /// has more bytes than can be counted, no line that ended before is refused. Nothing is written before it is known what the command comes

@@ -8,6 +8,7 @@ mod answering;
 mod certifying;
 mod checking;
 mod collecting;
+mod formed;
 pub mod laws;
 
 pub use certifying::certify;

@@ -6,7 +6,7 @@ use Rattle.bq_model.specs.declared.atom.Attr.{Attr}
 use Rattle.bq_model.specs.declared.atom.Element.{Element}
 use Rattle.bq_model.specs.declared.atom.Element.TheVariants as element
 use Rattle.bq_model.proofs.Elements.{HasElement}
-use Rattle.bq_model.proofs.Has.{Has-from_contains, Contains-from_has}
+use Rattle.bq_model.proofs.Has.{Has, Has-from_contains, Contains-from_has}
 use Rattle.bq_model.proofs.Local.{PairIn, pair_named}
 use Rattle.bq_model.specs.declared.part.Pair.{Pair}
 use Rattle.bq_model.specs.declared.part.Sign.{Sign}
@@ -14,17 +14,27 @@ use Rattle.bq_model.specs.declared.plan.Kind.{Kind}
 use Rattle.bq_model.specs.declared.plan.Link.{Link}
 use Rattle.bq_model.specs.declared.plan.PartPlan.{PartPlan}
 use Rattle.bq_model.specs.declared.plan.StreamPlan.{StreamPlan}
-use Rattle.bq_model.specs.Query.{QueryValue, attrs_of, consts_of}
+use Rattle.bq_model.specs.Query.{QueryValue, IsWithinLimits, attrs_of, consts_of}
 use Rattle.bq_model.specs.Parts.{pairs, sign_at, IsPart}
 use Rattle.bq_model.specs.Links.{AreAcross}
 use Rattle.bq_model.specs.Plan.{NamesClass, IsDim, IsKind, IsPartPlan, IsStreamPlan, ArePartPlans, stream_at}
 use Rattle.bq_model.specs.Sharing.{IsPlanFor}
+use Rattle.bq_form_pairs.specs.Pairs.{split_pairs}
+use Rattle.bq_form_pairs.specs.SplitParts.{IsSplitPart}
+use Rattle.bq_whole.proofs.Signed.{signed_attrs}
+use Rattle.bq_forms.specs.Part.{IsWholePartPlan}
+use Rattle.bq_forms.specs.Split.{part_query}
+use Rattle.bq_forms.specs.Parts as parted
+use Rattle.bq_forms.specs.Parts.{IsPartsFor}
 use Rattle.bq_forms.specs.Forms as forms
 use Rattle.bq_forms.specs.Forms.{IsFormPlan}
+use Rattle.bq_forms.proofs.PartQueries.{split_pairs_are_signed, as_many_signs}
+use Rattle.bq_forms.proofs.SplitServes.{zip_right}
 use Rattle.bq_schema.specs.Streams.{Shape}
 use Rattle.bq_parser.specs.Resolution.{IsColumnOf, HasSide, HasNamed}
 use Rattle.bq_parser.proofs.NamedAttrs.{attributes_are_named}
 use Rattle.bq_explain.specs.Named.{HasPair, HasDim, HasKind, HasStream, HasPart}
+use Rattle.bq_explain.proofs.NamedLinks.{HasAttributes}
 use Rattle.bq_explain.proofs.NamedWhole.{whole_named}
 
 -- an item is in its list
@@ -106,12 +116,37 @@ plan_named streams q parts h p = λ k d lt.
     let is : All (λ part. IsPart q (signs part)) parts = All-of_map (IsPart q) signs parts p.parts.each in
     part_named streams q (get_or parts k d) h (is k d lt) (p.plans k d lt)
 
+-- the columns of each attribute are there
+attrs_named : (streams : List Shape) (q : QueryValue) → HasNamed streams q → HasAttributes streams q
+attrs_named streams q h a k = attributes_are_named streams q h a (Contains-from_has (attrs_of q.atoms) a k)
+
+-- the query of a part names no other columns
+pub part_attrs_named : (streams : List Shape) (q : QueryValue) → IsWithinLimits q → HasNamed streams q → (ss : List Sign) → IsSplitPart q ss → HasAttributes streams (part_query q ss)
+part_attrs_named streams q within h ss of a k =
+    let attrs : attrs_of (part_query q ss).atoms ≡ attrs_of q.atoms = signed_attrs q (split_pairs q) ss (split_pairs_are_signed q within ss (as_many_signs q ss of)) in
+    attrs_named streams q h a (subst (λ (xs : List Attr). Has xs a) attrs k)
+
+-- so the columns of the plan of a part of the split form are there
+split_named : (streams : List Shape) (q : QueryValue) → IsWithinLimits q → HasNamed streams q → (ss : List Sign) → IsSplitPart q ss → (part : PartPlan) → IsWholePartPlan (part_query q ss) part → HasPart streams q part
+split_named streams q within h ss of part is =
+    let p : HasPart streams (part_query q ss) part = whole_named streams (part_query q ss) (part_attrs_named streams q within h ss of) h.select part is in
+    record { signs = inr is.signs; equal = p.equal; less = p.less; soft = p.soft; kept = p.kept }
+
+-- those of the plans of parts of either kind
+parts_named : (streams : List Shape) (shared : Bool) (q : QueryValue) (list : List PartPlan) → IsWithinLimits q → HasNamed streams q → IsPartsFor shared q list → All (HasPart streams q) list
+parts_named streams shared q list within h (parted.IsPartsFor.plain compact is) = plan_named streams q list h (parts_plans shared q list is)
+parts_named streams shared q list within h (parted.IsPartsFor.split compact is) = λ k d lt.
+    let part : PartPlan = get_or list k d in
+    let own = zip_right (λ ss p. IsWholePartPlan (part_query q ss) p) is.0.parts list is.0.plans part (Has-from_contains list part (inside list k d lt)) in
+    split_named streams q within h own.0 (All-contains (IsSplitPart q) is.0.parts own.0 is.0.are.each (Contains-from_has is.0.parts own.0 own.1)) part own.2
+
 -- one item
 one : {X : Type 0} (P : X → Type 0) (x : X) → P x → All P (x ∷ [])
 one P x p zero d lt = p
 one P x p (suc k) d lt = absurd (omega (arith, lt))
 
 -- and so are those of a plan in either form
-pub form_named : (streams : List Shape) (shared : Bool) (q : QueryValue) (list : List PartPlan) → HasNamed streams q → IsFormPlan shared q list → All (HasPart streams q) list
-form_named streams shared q parts h (forms.whole compact part fits follow e) = subst (λ (list : List PartPlan). All (HasPart streams q) list) (sym e) (one (HasPart streams q) part (whole_named streams q h part fits.plan))
-form_named streams shared q list h (forms.parts none p) = plan_named streams q list h (parts_plans shared q list p)
+pub form_named : (streams : List Shape) (shared : Bool) (q : QueryValue) (list : List PartPlan) → IsWithinLimits q → HasNamed streams q → IsFormPlan shared q list → All (HasPart streams q) list
+form_named streams shared q list within h (forms.whole compact part fits follow e) =
+    subst (λ (list : List PartPlan). All (HasPart streams q) list) (sym e) (one (HasPart streams q) part (whole_named streams q (attrs_named streams q h) h.select part fits.plan))
+form_named streams shared q list within h (forms.parts none is) = parts_named streams shared q list within h is

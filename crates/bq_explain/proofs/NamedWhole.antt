@@ -1,4 +1,4 @@
--- The columns of the plan of the whole form are columns of the query's streams.
+-- The columns of the plan of the whole form are columns of the query's streams, where those of its comparisons and the selected ones are.
 use Rattle.std.proofs.Common.{◌≡◌, ℕ, zero, suc, ◌<◌, ◌≤◌, ◌⊎◌, inl, inr, Bool, true, false, List, [], ◌∷◌, map, filter, length, get_or, cond, refl, sym, ap, subst, arith, All}
 use Rattle.std.proofs.lemmas.Bool.Decides.{nat_tests}
 use Rattle.std.proofs.lemmas.Bool.{cases_lt}
@@ -14,30 +14,20 @@ use Rattle.bq_model.specs.declared.plan.Link.{Link}
 use Rattle.bq_model.specs.declared.plan.PartPlan.{PartPlan}
 use Rattle.bq_model.specs.declared.plan.SoftLink.{SoftLink}
 use Rattle.bq_model.specs.declared.plan.StreamPlan.{StreamPlan}
-use Rattle.bq_model.specs.Query.{QueryValue, attr_lt, attrs_of}
+use Rattle.bq_model.specs.Query.{QueryValue}
 use Rattle.bq_model.specs.Plan.{stream_at, dims_at}
 use Rattle.bq_model.proofs.Has.{Has, first, later, Has-nil, Contains-from_has, Has-map, Has-map_from, Has-filter_from, Has-filter_holds}
 use Rattle.bq_schema.specs.Streams.{Shape}
-use Rattle.bq_parser.specs.Resolution.{IsColumnOf, HasNamed}
-use Rattle.bq_parser.proofs.NamedAttrs.{attributes_are_named}
+use Rattle.bq_parser.specs.Resolution.{IsColumnOf}
 use Rattle.bq_whole.specs.System.{system}
 use Rattle.bq_whole.specs.Links.{are_across, comparison, comes_late, turned_by, across, between_streams, AreLinks}
 use Rattle.bq_whole.specs.Whole as whole
 use Rattle.bq_whole.specs.Whole.{KeptDim, StreamKeep, IsRead}
 use Rattle.bq_whole.specs.Plan.{NamesClass, HasRead, IsPlannedKind, IsPlannedStream}
 use Rattle.bq_whole.proofs.Suffice.{once_from, thins_among}
-use Rattle.bq_whole.proofs.Unbroken.{class_turned}
-use Rattle.bq_whole_plan.proofs.Choosing.{link_named}
 use Rattle.bq_forms.specs.Part.{read_as, soft_as, has_op, is_soft, AreOwnDims, IsOwnStream, AreEqualDims, IsWholePartPlan}
+use Rattle.bq_explain.proofs.NamedLinks.{HasAttributes, read_there, class_there}
 use Rattle.bq_explain.specs.Named.{HasLink, HasSoftLink, HasDim, HasKind, HasStream, HasPart}
-
--- a column that no other one comes before
-not_above : (m b : Attr) → (attr_lt m b ≡ true → ⊥) → b.stream ≡ m.stream → b.column ≤ m.column
-not_above m b n e = by (attr_lt m b) refl
-  where
-    by : (c : Bool) → attr_lt m b ≡ c → b.column ≤ m.column
-    by true h = absurd (n h)
-    by false h = grind (arith, nat_tests, h, e)
 
 -- what is neither `=` nor `<` among the links reads `<=` or `<>`
 abbrev ReadsSoft : Atom → Type 0
@@ -86,23 +76,12 @@ has_at (x ∷ xs) (suc k) d l = later (has_at xs k d (omega (arith, l)))
 each_at : {X : Type 0} (P : X → Type 0) (xs : List X) → ((x : X) → Has xs x → P x) → All P xs
 each_at P xs f k d l = f (get_or xs k d) (has_at xs k d l)
 
-module _ (streams : List Shape) (q : QueryValue) (named : HasNamed streams q) (part : PartPlan) (is : IsWholePartPlan q part) where
-  attr_there : (a : Attr) → Has (attrs_of q.atoms) a → IsColumnOf streams q.from a
-  attr_there a h = attributes_are_named streams q named a (Contains-from_has (attrs_of q.atoms) a h)
+module _ (streams : List Shape) (q : QueryValue) (attr_there : HasAttributes streams q) (select : All (IsColumnOf streams q.from) q.select) (part : PartPlan) (is : IsWholePartPlan q part) where
+  read : (a : Attr) → IsRead q is.links a → IsColumnOf streams q.from a
+  read a h = read_there streams q attr_there select is.links is.plan.links a h
 
-  -- a column that is selected or stands in a link
-  read_there : (a : Attr) → IsRead q is.links a → IsColumnOf streams q.from a
-  read_there a (whole.selected k) = All-contains (IsColumnOf streams q.from) q.select a named.select k
-  read_there a (whole.left t k e) = attr_there a ((link_named q is.links is.plan.links t k).0 a e)
-  read_there a (whole.right t k e) = attr_there a ((link_named q is.links is.plan.links t k).1 a e)
-
-  -- the name of its class stands no further right
-  class_there : (a : Attr) → NamesClass q a → HasRead q is.links a → IsColumnOf streams q.from a
-  class_there a n r =
-      let m : IsColumnOf streams q.from r.member = read_there r.member r.read in
-      let low : a.column ≤ r.member.column = not_above r.member a (n r.member (class_turned (system q) a r.member r.inside)) r.inside.stream in
-      subst (λ (s : ℕ). IsColumnOf streams q.from record { stream = s; column = a.column }) (sym r.inside.stream)
-      (record { stream = m.stream; column = omega (arith, low, m.column) })
+  named : (a : Attr) → NamesClass q a → HasRead q is.links a → IsColumnOf streams q.from a
+  named a n r = class_there streams q attr_there select is.links is.plan.links a n r
 
   among : {L : Type 0} (f : L → Atom) (p : Atom → Bool) (ls : List L) (l : L) → map f ls ≡ filter p is.links → Has ls l → Has is.links (f l) × (p (f l) ≡ true)
   among f p ls l e k =
@@ -112,28 +91,28 @@ module _ (streams : List Shape) (q : QueryValue) (named : HasNamed streams q) (p
   less_there : (l : Link) → Has part.less.items l → HasLink streams q.from l
   less_there l k =
       let a = among (read_as Op.Lt) (has_op Op.Lt) part.less.items l is.less k in
-      (read_there l.left (whole.left (read_as Op.Lt l) a.0 refl), read_there l.right (whole.right (read_as Op.Lt l) a.0 refl))
+      (read l.left (whole.left (read_as Op.Lt l) a.0 refl), read l.right (whole.right (read_as Op.Lt l) a.0 refl))
 
   soft_there : (l : SoftLink) → Has part.soft.items l → HasSoftLink streams q.from l
   soft_there l k =
       let a = among soft_as is_soft part.soft.items l is.soft k in
       record {
-        left = read_there l.left (whole.left (soft_as l) a.0 refl);
-        right = read_there l.right (whole.right (soft_as l) a.0 refl);
+        left = read l.left (whole.left (soft_as l) a.0 refl);
+        right = read l.right (whole.right (soft_as l) a.0 refl);
         reads = link_soft q is.links is.plan.links (soft_as l) a.0 a.1;
       }
 
   kind_there : (place : ℕ) (kind : Kind) → IsPlannedKind q is.links place kind → HasKind streams q.from kind
   kind_there place Kind.Count p = tt
   kind_there place Kind.Present p = tt
-  kind_there place (Kind.Least e) p = class_there e p.1.may.name p.1.may.read
-  kind_there place (Kind.Greatest e) p = class_there e p.1.may.name p.1.may.read
+  kind_there place (Kind.Least e) p = named e p.1.may.name p.1.may.read
+  kind_there place (Kind.Greatest e) p = named e p.1.may.name p.1.may.read
 
   dim_there : (keep : StreamKeep) (place : ℕ) → IsPlannedStream q is.links place keep → (ds : List Dim) → AreOwnDims q keep.dims ds → (d : Dim) → Has ds d → HasDim streams q.from d
   dim_there keep place p ds own d h =
       let r = own_attr q keep.dims ds own h in
       let k = p.dims r.0 r.1 in
-      subst (λ (a : Attr). IsColumnOf streams q.from a) r.2 (class_there r.0.attr k.name k.read)
+      subst (λ (a : Attr). IsColumnOf streams q.from a) r.2 (named r.0.attr k.name k.read)
 
   stream_there : (place : ℕ) → place < length q.from → HasStream streams q.from (stream_at part place)
   stream_there place l =

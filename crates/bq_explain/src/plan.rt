@@ -40,7 +40,11 @@ fn write_plan<O: Sink>(
 {
     match plan {
         Plan::Filter => write_all(out, b"filter\n"),
-        Plan::Parts { parts, .. } => write_parts(out, query, parts, catalog),
+        Plan::Parts { parts, .. } => {
+            // No effect at run time. The proof reads from this call that the query is within its limits.
+            let _from = query.from();
+            write_parts(out, query, parts, catalog)
+        }
     }
 }
 

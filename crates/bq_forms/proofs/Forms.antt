@@ -1,18 +1,16 @@
 -- The plan of any query tells the answers; it is one, and so is the verdict.
-use Rattle.std.proofs.Common.{◌≡◌, ◌∷◌, [], inl, inr, IsTrue, Some, Bool, true, false, List, refl, sym, ap, ◌∙◌, subst}
+use Rattle.std.proofs.Common.{◌≡◌, ◌∷◌, [], inl, inr, IsTrue, Some, Bool, List, refl, sym, ap, ◌∙◌, subst}
 use Rattle.std.specs.Prelude.{IsFalse}
 use Rattle.bq_model.specs.declared.plan.Numbers.{Numbers}
 use Rattle.bq_model.specs.declared.plan.PartPlan.{PartPlan}
 use Rattle.bq_model.specs.declared.plan.Plan.TheVariants as variants
 use Rattle.bq_model.specs.Query.{QueryValue, IsWithinLimits, is_filter}
 use Rattle.bq_model.specs.Numbers.{numbers_of}
-use Rattle.bq_model.specs.Plan.{Follow, ArePartPlans}
+use Rattle.bq_model.specs.Plan.{Follow}
 use Rattle.bq_model.specs.Serving.{IsServing, AreBased}
-use Rattle.bq_model.specs.Sharing.{IsPlanFor}
 use Rattle.bq_model.specs.Verdict.{first_above, verdict_by}
-use Rattle.bq_laws.proofs.PlainServes.{plain_plans_serve}
 use Rattle.bq_laws.proofs.Tests.{not_both}
-use Rattle.bq_laws.proofs.Verdicts.{one-plan_for, has-one-verdict}
+use Rattle.bq_whole.proofs.Formed.{well_formed}
 use Rattle.bq_forms.proofs.One.{one_whole_part}
 use Rattle.bq_forms.proofs.WholeServes.{whole_parts_serve}
 use Rattle.bq_forms.specs.Fitting.{FitsWhole}
@@ -20,21 +18,14 @@ use Rattle.bq_forms.specs.Forms.{IsFormPlan, MeetsForm, IsWholeFormOr}
 use Rattle.bq_forms.specs.Forms as forms
 use Rattle.bq_forms.specs.Laws.{FormPlansServe, HasOneFormPlan, HasOneFormVerdict}
 use Rattle.bq_forms.proofs.OnePart.{one_part_numbers, one_part_based}
-
-pub plans_of : (shared : Bool) (q : QueryValue) (plan : List PartPlan) → IsPlanFor shared q plan → ArePartPlans q plan
-plans_of false q plan is = record { parts = is.parts; plans = is.plans }
-plans_of true q plan is = record { parts = is.parts; plans = is.plans }
-
-based : (shared : Bool) (q : QueryValue) (plan : List PartPlan) → IsPlanFor shared q plan → AreBased shared q plan
-based false q plan is = is.bases
-based true q plan is = is.bases
+use Rattle.bq_forms.proofs.PartsVerdicts.{parts_plans_serve, parts_based, one_parts_plan, one_parts_verdict}
+pub use Rattle.bq_forms.proofs.PartsVerdicts.{plans_of, parts_are_few}
 
 -- the parts of a query that is no filter serve, and their boxes begin where they should
 serve : (shared : Bool) (q : QueryValue) (plan : List PartPlan) → IsWithinLimits q → IsFalse (is_filter q) → MeetsForm q → IsFormPlan shared q plan → IsServing q plan × AreBased shared q plan
 serve shared q plan within plain meets (forms.whole c part fits follow e) =
-    subst (λ ps. IsServing q ps × AreBased shared q ps) (sym e) (whole_parts_serve q within part fits.plan, one_part_based shared q part follow)
-serve shared q plan within plain meets (forms.parts none is) =
-    (plain_plans_serve q plan within plain (plans_of shared q plan is) (meets plain none).1, based shared q plan is)
+    subst (λ ps. IsServing q ps × AreBased shared q ps) (sym e) (whole_parts_serve q (well_formed q within) part fits.plan, one_part_based shared q part follow)
+serve shared q plan within plain meets (forms.parts none is) = (parts_plans_serve shared q plan within plain (meets plain none).1 is, parts_based shared q plan is)
 
 pub form_plans_serve : FormPlansServe
 form_plans_serve shared q variants.Filter within meets is = is
@@ -47,7 +38,7 @@ has_one_form_plan shared q plan other plain meets (forms.whole c part fits follo
     e ∙ ap (λ (p : PartPlan). p ∷ []) (one_whole_part q part one fits.plan gits.plan follow gollow) ∙ sym f
 has_one_form_plan shared q plan other plain meets (forms.whole c part fits follow e) (forms.parts none is) = absurd (none (c, part, fits))
 has_one_form_plan shared q plan other plain meets (forms.parts none is) (forms.whole c part fits follow e) = absurd (none (c, part, fits))
-has_one_form_plan shared q plan other plain meets (forms.parts none is) (forms.parts gone also) = one-plan_for shared q plan other plain (meets plain none).1 is also
+has_one_form_plan shared q plan other plain meets (forms.parts none is) (forms.parts gone also) = one_parts_plan shared q plan other plain (meets plain none).1 is also
 
 pub has_one_form_verdict : HasOneFormVerdict
 has_one_form_verdict shared q free v w (forms.whole plain c part fits follow e) (forms.whole also d one gits gollow f) =
@@ -56,7 +47,7 @@ has_one_form_verdict shared q free v w (forms.whole plain c part fits follow e) 
 has_one_form_verdict shared q free v w (forms.whole plain c part fits follow e) (forms.parts (inr none) is) = absurd (none (c, part, fits))
 has_one_form_verdict shared q free v w (forms.parts (inl filter) is) (forms.whole plain c part fits follow e) = absurd (not_both (is_filter q) filter plain)
 has_one_form_verdict shared q free v w (forms.parts (inr none) is) (forms.whole plain c part fits follow e) = absurd (none (c, part, fits))
-has_one_form_verdict shared q free v w (forms.parts m is) (forms.parts n also) = has-one-verdict shared q free v w is also
+has_one_form_verdict shared q free v w (forms.parts m is) (forms.parts n also) = one_parts_verdict shared q free v w is also
 
 -- the whole form that fits is the plan of the query, with shared cells and without, and within its limits
 pub whole_is : (q : QueryValue) (part : PartPlan) (numbers : Numbers) → IsTrue q.compact → IsFalse (is_filter q) → FitsWhole q part → Follow 0 (part ∷ [])

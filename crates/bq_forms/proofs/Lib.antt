@@ -1,4 +1,11 @@
+pub mod FormLinks
 pub mod WholeServes
+pub mod PlansAlike
 pub mod One
 pub mod OnePart
+pub mod PartQueries
+pub mod SplitServes
+pub mod SplitOne
+pub mod PartBreaks
+pub mod PartsVerdicts
 pub mod Forms

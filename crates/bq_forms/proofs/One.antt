@@ -1,14 +1,13 @@
--- A query has one plan of the whole form, and its kept ranges are finite.
-use Rattle.std.proofs.Common.{◌≡◌, ℕ, suc, ◌+◌, ◌<◌, ℤ, List, [], ◌∷◌, map, filter, length, slice_index_or, ◌↔◌, Contains, Bool, true, false, ◌&&◌, ◌||◌, nat_eq, nat_lt, int_lt, cond, Option, Some, None, inl, inr, refl, sym, ◌∙◌, ap, subst, arith}
+-- A query has one plan of the whole form, wherever its boxes begin, and its kept ranges are finite.
+use Rattle.std.proofs.Common.{◌≡◌, ℕ, ◌<◌, ◌≤◌, ℤ, List, [], ◌∷◌, map, filter, length, ◌↔◌, Contains, Bool, true, false, ◌&&◌, ◌||◌, nat_eq, nat_lt, int_lt, cond, Option, Some, None, inl, inr, refl, sym, ◌∙◌, ap, subst, arith}
 use Rattle.std.proofs.lemmas.Int.{ints}
 use Rattle.std.proofs.lemmas.Bool.Decides.{nat_tests}
-use Rattle.std.proofs.lemmas.List.{get_or_default}
+use Rattle.std.proofs.lemmas.List.{get_or_past}
 use Rattle.bq_model.specs.declared.atom.Attr.{Attr}
 use Rattle.bq_model.specs.declared.atom.Element.{Element}
 use Rattle.bq_model.specs.declared.atom.Element.TheVariants as element
 use Rattle.bq_model.specs.declared.atom.Op.{Op}
 use Rattle.bq_model.specs.declared.plan.Dim.{Dim}
-use Rattle.bq_model.specs.declared.plan.Kind.{Kind}
 use Rattle.bq_model.specs.declared.plan.Link.{Link}
 use Rattle.bq_model.specs.declared.plan.LocalCondition.{LocalCondition}
 use Rattle.bq_model.specs.declared.plan.PartPlan.{PartPlan}
@@ -17,22 +16,25 @@ use Rattle.bq_model.specs.declared.plan.StreamPlan.{StreamPlan}
 use Rattle.bq_model.specs.Query.{QueryValue, attr_eq, attr_lt}
 use Rattle.bq_model.specs.Parts.{element_eq}
 use Rattle.bq_model.specs.Boxes.{box_size}
-use Rattle.bq_model.specs.Plan.{stream_at, dims_at, FollowIn, link}
+use Rattle.bq_model.specs.Plan.{stream_at, dims_at, link}
+use Rattle.bq_model.specs.Sharing.{box_at}
 use Rattle.bq_model.proofs.Unique.{IsStrict, ascends_from, same_members}
+use Rattle.bq_laws.proofs.OneSharedPlan.{Alike, AlikeParts, nothing, another}
 use Rattle.bq_laws.proofs.PlanMembers.{links-same}
 use Rattle.bq_laws.proofs.Tests.{and-left, and-right, or-cases, attr_eq-is}
 use Rattle.bq_whole.specs.System.{system}
 use Rattle.bq_whole.specs.Links.{op_index}
 use Rattle.bq_whole.specs.Ranges.{range, later, sooner, widest, cut}
 use Rattle.bq_whole.specs.Kept.{IsRange, IsKeptRange}
-use Rattle.bq_whole.specs.Whole.{KeptDim, StreamKeep}
+use Rattle.bq_whole.specs.Whole.{KeptDim}
 use Rattle.bq_whole.specs.Plan.{AreOneForm}
 use Rattle.bq_whole.proofs.Cases.{range_one}
 use Rattle.bq_whole.proofs.Planned.{one_whole_plan}
 use Rattle.bq_forms.specs.Order.{element_lt, side_lt, rest_lt, local_lt}
-use Rattle.bq_forms.specs.Part.{read_as, soft_as, has_op, is_soft, AreOwnDims, AreEqualDims, IsOwnStream, form_with}
+use Rattle.bq_forms.specs.Part.{read_as, soft_as, has_op, is_soft, AreOwnDims, AreEqualDims, IsOwnStream, form_with, IsWholePartPlan}
 use Rattle.bq_forms.specs.Laws.{HasOneWholePart, WholePartsAreFinite}
-use Rattle.bq_forms.proofs.WholeServes.{OwnOf, own_to}
+use Rattle.bq_forms.proofs.FormLinks.{OwnOf, own_to, no_stream}
+use Rattle.bq_forms.proofs.PlansAlike.{plans_follow}
 
 -- ---- the order of conditions is strict
 
@@ -122,9 +124,6 @@ soft_one x y e =
     let b : x.right ≡ y.right = cc in
     λ i. record { left = a i; op = o i; right = b i }
 
-abbrev no_stream : StreamPlan
-no_stream = record { dims = record { items = [] }; kind = Kind.Present; base = 0; size = 0 }
-
 -- how many cells a stream with these dims has
 abbrev size_over : ℕ → List Dim → ℕ
 size_over n dims = cond (nat_eq n 1) 0 (box_size dims)
@@ -148,69 +147,73 @@ module _ (q : QueryValue) where
       let rest : ds ≡ es = dims_one ks ds es o.2 p.2 in
       λ i. record { attr = a i; lo = l i; hi = h i } ∷ rest i
 
-  -- streams that keep the same, with boxes that follow each other from one number on
-  streams_one : (keep : ℕ → StreamKeep) (next : ℕ) (ss ts : List StreamPlan) (P R : ℕ → Type 0) → length ss ≡ length ts → FollowIn next ss P → FollowIn next ts R
-      → ((place : ℕ) (d : StreamPlan) → place < length ss → IsOwnStream q (keep place) (slice_index_or ss place d))
-      → ((place : ℕ) (d : StreamPlan) → place < length ts → IsOwnStream q (keep place) (slice_index_or ts place d)) → ss ≡ ts
-  streams_one keep next [] [] P R n f g x y = refl
-  streams_one keep next [] (t ∷ ts) P R n f g x y = absurd (omega (arith, n))
-  streams_one keep next (s ∷ ss) [] P R n f g x y = absurd (omega (arith, n))
-  streams_one keep next (s ∷ ss) (t ∷ ts) P R n f g x y =
-      let u : IsOwnStream q (keep 0) s = x 0 s (omega arith) in
-      let v : IsOwnStream q (keep 0) t = y 0 t (omega arith) in
-      let d : s.dims.items ≡ t.dims.items = dims_one (keep 0).dims s.dims.items t.dims.items u.dims v.dims in
-      let k : s.kind ≡ t.kind = u.kind ∙ sym v.kind in
-      let b : s.base ≡ t.base = f.0 ∙ sym g.0 in
-      let z : s.size ≡ t.size = u.size ∙ ap (size_over (length q.from)) d ∙ sym v.size in
-      let rest : ss ≡ ts = streams_one (λ place. keep (suc place)) (next + s.size) ss ts P R (omega (arith, n)) f.1 (subst (λ m. FollowIn (next + m) ts R) (sym z) g.1)
-      (λ place e l. x (suc place) e (omega (arith, l))) (λ place e l. y (suc place) e (omega (arith, l))) in
-      λ i. record { dims = record { items = d i }; kind = k i; base = b i; size = z i } ∷ rest i
+-- ---- the plan, but for where its boxes begin
 
--- ---- the plan
+module _ (q : QueryValue) (part other : PartPlan) (x : IsWholePartPlan q part) (y : IsWholePartPlan q other) where
+  form : AreOneForm q (form_with x.links x.keeps part.local) (form_with y.links y.keeps other.local)
+  form = one_whole_plan q (form_with x.links x.keeps part.local) (form_with y.links y.keeps other.local) x.plan y.plan
+
+  local_one : part.local ≡ other.local
+  local_one = same_members local_lt local_strict part.local other.local (ascends_from local_lt part.local x.local_ascends) (ascends_from local_lt other.local y.local_ascends)
+      (λ t h. (y.local t).1 ((x.local t).0 h)) (λ t h. (x.local t).1 ((y.local t).0 h))
+
+  less_one : part.less.items ≡ other.less.items
+  less_one = map_one (read_as Op.Lt) (link_one Op.Lt) part.less.items other.less.items (x.less ∙ ap (filter (has_op Op.Lt)) form.links ∙ sym y.less)
+
+  soft_ones : part.soft.items ≡ other.soft.items
+  soft_ones = map_one soft_as soft_one part.soft.items other.soft.items (x.soft ∙ ap (filter is_soft) form.links ∙ sym y.soft)
+
+  own_other : (place : ℕ) → place < length q.from → IsOwnStream q (x.keeps place) (stream_at other place)
+  own_other place l = subst (λ k. IsOwnStream q k (stream_at other place)) (sym (form.keeps place l)) (y.streams place l)
+
+  dims_within : (place : ℕ) → place < length q.from → dims_at part place ≡ dims_at other place
+  dims_within place l = dims_one q (x.keeps place).dims (dims_at part place) (dims_at other place) (x.streams place l).dims (own_other place l).dims
+
+  dims_all : (place : ℕ) → dims_at part place ≡ dims_at other place
+  dims_all place = by (nat_lt place (length q.from)) refl
+    where
+      past : (p : PartPlan) → length p.streams.items ≡ length q.from → length q.from ≤ place → dims_at p place ≡ []
+      past p n m = ap (λ (s : StreamPlan). s.dims.items) (get_or_past p.streams.items place no_stream (omega (arith, n, m)))
+
+      by : (b : Bool) → nat_lt place (length q.from) ≡ b → dims_at part place ≡ dims_at other place
+      by true l = dims_within place (grind (arith, nat_tests, l))
+      by false l = (let m : length q.from ≤ place = grind (arith, nat_tests, l) in past part x.count m ∙ sym (past other y.count m))
+
+  equal_one : part.equal.items ≡ other.equal.items
+  equal_one = links-same (AreEqualDims q (dims_at part)) part.equal.items other.equal.items x.equal_ascends y.equal_ascends x.equal
+      (λ a b. subst (λ ds. Contains other.equal.items (link a b) ↔ AreEqualDims q ds a b) (sym same_dims) (y.equal a b))
+    where
+      same_dims : dims_at part ≡ dims_at other
+      same_dims = λ i place. dims_all place i
+
+  box_one : (place : ℕ) → place < length part.streams.items → Alike (box_at part place) (box_at other place)
+  box_one place l =
+      let m : place < length q.from = subst (λ n. place < n) x.count l in
+      record {
+        place = refl;
+        signs = x.signs ∙ sym y.signs;
+        local = local_one;
+        dims = dims_within place m;
+        kind = (x.streams place m).kind ∙ sym (own_other place m).kind;
+        size = (x.streams place m).size ∙ ap (size_over (length q.from)) (dims_within place m) ∙ sym (own_other place m).size;
+      }
+
+  pub parts_alike : AlikeParts part other
+  parts_alike = record {
+    signs = x.signs ∙ sym y.signs;
+    equal = equal_one;
+    less = less_one;
+    local = local_one;
+    soft = soft_ones;
+    count = x.count ∙ sym y.count;
+    boxes = box_one;
+  }
+
+head_one : (p r : PartPlan) → p ∷ [] ≡ r ∷ [] → p ≡ r
+head_one p r e = cc
 
 pub one_whole_part : HasOneWholePart
-one_whole_part q part other x y f g =
-    λ i. record {
-      signs = record { items = signs i };
-      local = local i;
-      streams = record { items = streams i };
-      equal = record { items = equal i };
-      less = record { items = less i };
-      soft = record { items = soft i };
-    }
-  where
-    form : AreOneForm q (form_with x.links x.keeps part.local) (form_with y.links y.keeps other.local)
-    form = one_whole_plan q (form_with x.links x.keeps part.local) (form_with y.links y.keeps other.local) x.plan y.plan
-
-    signs : part.signs.items ≡ other.signs.items
-    signs = x.signs ∙ sym y.signs
-
-    local : part.local ≡ other.local
-    local = same_members local_lt local_strict part.local other.local (ascends_from local_lt part.local x.local_ascends) (ascends_from local_lt other.local y.local_ascends)
-        (λ t h. (y.local t).1 ((x.local t).0 h)) (λ t h. (x.local t).1 ((y.local t).0 h))
-
-    less : part.less.items ≡ other.less.items
-    less = map_one (read_as Op.Lt) (link_one Op.Lt) part.less.items other.less.items (x.less ∙ ap (filter (has_op Op.Lt)) form.links ∙ sym y.less)
-
-    soft : part.soft.items ≡ other.soft.items
-    soft = map_one soft_as soft_one part.soft.items other.soft.items (x.soft ∙ ap (filter is_soft) form.links ∙ sym y.soft)
-
-    own_at : (p : PartPlan) (keeps : ℕ → StreamKeep) (place : ℕ) (d : StreamPlan) → place < length p.streams.items → IsOwnStream q (keeps place) (stream_at p place)
-        → IsOwnStream q (keeps place) (slice_index_or p.streams.items place d)
-    own_at p keeps place d l o = subst (IsOwnStream q (keeps place)) (get_or_default p.streams.items place no_stream d l) o
-
-    streams : part.streams.items ≡ other.streams.items
-    streams = streams_one q x.keeps 0 part.streams.items other.streams.items _ _ (x.count ∙ sym y.count) f g
-        (λ place d l. own_at part x.keeps place d l (x.streams place (subst (λ n. place < n) x.count l)))
-        (λ place d l. (let m : place < length q.from = subst (λ n. place < n) y.count l in
-        own_at other x.keeps place d l (subst (λ k. IsOwnStream q k (stream_at other place)) (sym (form.keeps place m)) (y.streams place m))))
-
-    equal : part.equal.items ≡ other.equal.items
-    equal = links-same (AreEqualDims q (dims_at part)) part.equal.items other.equal.items x.equal_ascends y.equal_ascends x.equal
-        (λ a b. subst (λ ds. Contains other.equal.items (link a b) ↔ AreEqualDims q ds a b) (sym same_dims) (y.equal a b))
-      where
-        same_dims : dims_at part ≡ dims_at other
-        same_dims = λ i place. (slice_index_or (streams i) place no_stream).dims.items
+one_whole_part q part other x y f g = head_one part other (plans_follow 0 (part ∷ []) (other ∷ []) (another (parts_alike q part other x y) nothing) f g)
 
 later_there : (l : ℤ) (o : Option ℤ) → (k : ℤ) × (later (Some l) o ≡ Some k)
 later_there l None = (l, refl)

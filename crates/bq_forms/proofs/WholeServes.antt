@@ -1,5 +1,5 @@
 -- The plan of the one part of the whole form serves.
-use Rattle.std.proofs.Common.{◌≡◌, ℕ, zero, suc, ◌*◌, ◌<◌, ◌≤◌, ◌⊎◌, inl, inr, ◌↔◌, IsTrue, ℤ, pos, int_lt, List, [], ◌∷◌, map, filter, length, Contains, All, AllPairs, slice_index_or, Bool, true, false, not, ◌&&◌, ◌||◌, nat_eq, nat_lt, cond, Some, refl, sym, ◌∙◌, ap, ap₂, subst, arith}
+use Rattle.std.proofs.Common.{◌≡◌, ℕ, zero, suc, ◌*◌, ◌<◌, ◌≤◌, ◌⊎◌, inl, inr, ◌↔◌, IsTrue, ℤ, pos, int_lt, List, [], ◌∷◌, map, filter, length, Contains, All, AllPairs, Bool, true, false, not, ◌&&◌, ◌||◌, nat_eq, nat_lt, Some, refl, sym, ◌∙◌, ap, ap₂, subst, arith}
 use Rattle.std.proofs.lemmas.Bool.Decides.{nat_tests}
 use Rattle.std.proofs.lemmas.Int.{ints}
 use Rattle.std.proofs.lemmas.List.{get_or_past}
@@ -11,7 +11,6 @@ use Rattle.bq_model.specs.declared.atom.Atom.{Atom}
 use Rattle.bq_model.specs.declared.atom.Element.{Element}
 use Rattle.bq_model.specs.declared.atom.Element.TheVariants as element
 use Rattle.bq_model.specs.declared.atom.Op.{Op}
-use Rattle.bq_model.specs.declared.part.Pair.{Pair}
 use Rattle.bq_model.specs.declared.plan.Dim.{Dim}
 use Rattle.bq_model.specs.declared.plan.Kind.{Kind}
 use Rattle.bq_model.specs.declared.plan.Link.{Link}
@@ -22,12 +21,12 @@ use Rattle.bq_model.specs.declared.plan.StreamPlan.{StreamPlan}
 use Rattle.bq_model.specs.Admission.{alone, keeps_local, in_range, keeps_signs, admits}
 use Rattle.bq_model.specs.Assignment.{Assignment, compares, value, AtomHolds, Holds, KeepsDomains}
 use Rattle.bq_model.specs.Boxes.{range_size, dim_size, box_size, AreFull}
-use Rattle.bq_model.specs.Ranges.{different, first_tied, range_of, selected_ranges}
+use Rattle.bq_model.specs.Ranges.{different, range_of, selected_ranges}
 use Rattle.bq_model.specs.Plan.{stream_at, dims_at, link}
 use Rattle.bq_model.specs.Combinations.{compares_both, any_ties, is_equality, binds, is_tied, linked}
 use Rattle.bq_model.specs.Meaning.{at_place, joined}
 use Rattle.bq_model.specs.Parts.{pairs}
-use Rattle.bq_model.specs.Query.{QueryValue, IsWithinLimits, attr_eq, attr_lt, IsColumn}
+use Rattle.bq_model.specs.Query.{QueryValue, attr_eq, attr_lt, IsColumn}
 use Rattle.bq_model.specs.Serving.{AreTied, IsKept, IsLeastKept, IsGreatestKept, CanBeAsked, KeepsStreams, Serves, Takes}
 use Rattle.bq_model.proofs.Has.{Has, first, later, Has-nil, Has-from_contains, Contains-from_has, Has-append_left, Has-flat_map, Has-map, Has-map_from, Has-filter, Has-filter_from, Has-filter_holds}
 use Rattle.bq_model.proofs.Holding.{Compares, Compares-from_test, compares-true}
@@ -35,10 +34,9 @@ use Rattle.bq_model.proofs.Unique.{ascends_from}
 use Rattle.bq_model.specs.Members.{Ascends, more}
 use Rattle.bq_laws.proofs.Tests.{true_or_false, not_both, false_if, and-left, and-right, and-both, or-cases, or-left, or-right, all_at, all_if, any_from, any_if, attr_eq-is, attr_eq-itself}
 use Rattle.bq_laws.proofs.OnePartFits.{has_cases}
-use Rattle.bq_laws.proofs.Queries.{query_within}
 use Rattle.bq_constraints.proofs.Joined.{All-from_has}
 use Rattle.bq_whole.specs.System.{atom_bounds, domain_bounds, system, Solves, Bound, MeetsLocal, AreOneClass}
-use Rattle.bq_whole.specs.Links.{are_across, comparison, comes_late, turned_by, op_index, across, between_streams, AreLinks}
+use Rattle.bq_whole.specs.Links.{are_across, turned_by, op_index, across, between_streams}
 use Rattle.bq_whole.specs.Ranges.{range, IsIn}
 use Rattle.bq_whole.specs.Kept as Kept
 use Rattle.bq_whole.specs.Kept.{IsRange}
@@ -51,6 +49,8 @@ use Rattle.bq_whole.proofs.Cases.{range_one}
 use Rattle.bq_whole.proofs.Cells.{local_alike}
 use Rattle.bq_whole.proofs.CutLaw.{in_range as in_own, own_ordered, class_itself}
 use Rattle.bq_whole.proofs.Stands.{AreColumnsOf, class_equal, link_columns}
+use Rattle.bq_whole.specs.Signed.{IsWellFormed}
+use Rattle.bq_whole.proofs.Formed.{query_formed}
 use Rattle.bq_whole.proofs.Suffice.{atom_if, met_holds, turns, once_from, thins_among, solves_query, links_suffice}
 use Rattle.bq_whole.proofs.Unbroken.{class_turned}
 use Rattle.bq_whole_plan.specs.Classes.{IsNameOf}
@@ -62,179 +62,12 @@ use Rattle.bq_whole_form.specs.Conditions as Conditions
 use Rattle.bq_whole_form.specs.Conditions.{condition, IsColumnAt, IsAsked}
 use Rattle.bq_whole_form.specs.Part.{end_or_zero, IsRangeOf, AreRangesOf}
 use Rattle.bq_whole_form.proofs.Conditioned.{name_one}
+use Rattle.bq_forms.proofs.FormLinks.{no_signs, no_ties, both_if, differ, not_above, pairs_cons, first_is, from_different, Reads, lt, le, eq, ne, link_reads, OwnDim, own_from, turned_unlike, unequal, across_apart, link_across, no_stream}
+pub use Rattle.bq_forms.proofs.FormLinks.{OwnOf, own_to}
 use Rattle.bq_forms.specs.Part.{read_as, soft_as, has_op, is_soft, AreOwnDims, AreEqualDims, IsWholePartPlan}
 use Rattle.bq_forms.specs.Laws.{WholePartsServe, WholeAnswersAreCounted}
 
-no_signs : (place : ℕ) (v : Assignment) (ps : List Pair) → keeps_signs place v ps [] ≡ true
-no_signs place v [] = refl
-no_signs place v (p ∷ ps) = refl
-
-no_ties : (a b : Attr) (ps : List Pair) → any_ties a b ps [] ≡ false
-no_ties a b [] = refl
-no_ties a b (p ∷ ps) = refl
-
--- ---- ties
-
-both_or : (a b left : Attr) (e : Element) → compares_both a b left e ≡ true → (right : Attr) × (e ≡ element.Attr right) × (((left ≡ a) × (right ≡ b)) ⊎ ((left ≡ b) × (right ≡ a)))
-both_or a b left (element.Attr right) h = (
-  right,
-  refl,
-  elim (or-cases (attr_eq left a && attr_eq right b) (attr_eq left b && attr_eq right a) h) [
-    | inl i ↦ inl (attr_eq-is left a (and-left (attr_eq left a) (attr_eq right b) i), attr_eq-is right b (and-right (attr_eq left a) (attr_eq right b) i))
-    | inr i ↦ inr (attr_eq-is left b (and-left (attr_eq left b) (attr_eq right a) i), attr_eq-is right a (and-right (attr_eq left b) (attr_eq right a) i))
-  ],
-)
-both_or a b left (element.Const k) h = absurd cc
-
-both_if : (a b : Attr) → compares_both a b b (element.Attr a) ≡ true
-both_if a b = or-right (attr_eq b a && attr_eq a b) (attr_eq b b && attr_eq a a) (and-both (attr_eq b b) (attr_eq a a) (attr_eq-itself b) (attr_eq-itself a))
-
-differ : (a b : Attr) → attr_eq a b ≡ false → a ≡ b → ⊥
-differ a b e f = not_both (attr_eq a b) (subst (λ z. attr_eq a z ≡ true) f (attr_eq-itself a)) e
-
-not_above : (m b : Attr) → (attr_lt m b ≡ true → ⊥) → b.stream ≡ m.stream → b.column ≤ m.column
-not_above m b n e = by (attr_lt m b) refl
-  where
-    by : (c : Bool) → attr_lt m b ≡ c → b.column ≤ m.column
-    by true h = absurd (n h)
-    by false h = grind (arith, nat_tests, h, e)
-
-has_at : {A : Type 0} (xs : List A) (k : ℕ) (d : A) → k < length xs → Has xs (slice_index_or xs k d)
-has_at [] k d l = absurd (omega (arith, l))
-has_at (x ∷ xs) zero d l = first
-has_at (x ∷ xs) (suc k) d l = later (has_at xs k d (omega (arith, l)))
-
-pairs_cons : {A : Type 0} (P : A → A → Type 0) (x : A) (xs : List A) → ((y : A) → Has xs y → P x y) → AllPairs P xs → AllPairs P (x ∷ xs)
-pairs_cons P x xs f h zero zero d a b = absurd (omega (arith, a))
-pairs_cons P x xs f h zero (suc j) d a b = f (slice_index_or xs j d) (has_at xs j d (omega (arith, b)))
-pairs_cons P x xs f h (suc i) zero d a b = absurd (omega (arith, a))
-pairs_cons P x xs f h (suc i) (suc j) d a b = h i j d (omega (arith, a)) (omega (arith, b))
-
--- the first dim that is tied to a column to which one is tied
-with_first : (t : Attr → Attr → Bool) (d : Dim) (ds : List Dim) (a : Attr) (b : Bool) → t d.attr a ≡ b → (b ≡ false → (f : Dim) × Has ds f × (t f.attr a ≡ true) × (first_tied t ds a ≡ f))
-    → (f : Dim) × Has (d ∷ ds) f × (t f.attr a ≡ true) × (first_tied t (d ∷ ds) a ≡ f)
-with_first t d ds a true i r = (d, first, i, ap (λ b. cond b d (first_tied t ds a)) i)
-with_first t d ds a false i r = (let k = r refl in (k.0, later k.1, k.2, ap (λ b. cond b d (first_tied t ds a)) i ∙ k.3))
-
-behind : (t : Attr → Attr → Bool) (d : Dim) (ds : List Dim) (a : Attr) (e : Dim) → t e.attr a ≡ true → t d.attr a ≡ false → Has (d ∷ ds) e → Has ds e
-behind t d ds a e k n i = elim (has_cases d e ds i) [ inl f ↦ absurd (not_both (t d.attr a) (subst (λ z. t z.attr a ≡ true) (sym f) k) n) | inr j ↦ j ]
-
-first_is : (t : Attr → Attr → Bool) (ds : List Dim) (a : Attr) (e : Dim) → Has ds e → t e.attr a ≡ true → (f : Dim) × Has ds f × (t f.attr a ≡ true) × (first_tied t ds a ≡ f)
-first_is t [] a e h k = Has-nil h
-first_is t (d ∷ ds) a e h k = with_first t d ds a (t d.attr a) refl (λ n. first_is t ds a e (behind t d ds a e k n h) k)
-
-from_different : (xs : List Attr) (a : Attr) → Has (different xs) a → Has xs a
-from_different [] a h = Has-nil h
-from_different (x ∷ xs) a h = elim (has_cases x a (filter (λ b. not (attr_eq x b)) (different xs)) h) [
-  | inl e ↦ subst (Has (x ∷ xs)) e first
-  | inr i ↦ later (from_different xs a (Has-filter_from (λ b. not (attr_eq x b)) (different xs) a i))
-]
-
--- the operators that links have
-data Reads (o : Op) : Type 0 where
-  lt : o ≡ Op.Lt → Reads o
-  le : o ≡ Op.Le → Reads o
-  eq : o ≡ Op.Eq → Reads o
-  ne : o ≡ Op.Ne → Reads o
-
-turned_reads : (o : Op) (x y : Element) → Reads (turned_by o x y).op
-turned_reads Op.Lt x y = lt refl
-turned_reads Op.Le x y = le refl
-turned_reads Op.Gt x y = lt refl
-turned_reads Op.Ge x y = le refl
-turned_reads Op.Eq x y = by (comes_late x y)
-  where
-    by : (b : Bool) → Reads (cond b (comparison y Op.Eq x) (comparison x Op.Eq y)).op
-    by true = eq refl
-    by false = eq refl
-turned_reads Op.Ne x y = by (comes_late x y)
-  where
-    by : (b : Bool) → Reads (cond b (comparison y Op.Ne x) (comparison x Op.Ne y)).op
-    by true = ne refl
-    by false = ne refl
-
-link_reads : (q : QueryValue) (links : List Atom) → AreLinks q links → (t : Atom) → Has links t → Reads t.op
-link_reads q links are t h =
-    let r : (u : Atom) × Has (filter (λ t. are_across t.left t.right) q.atoms) u × (turned_by u.op u.left u.right ≡ t)
-    = Has-map_from (λ t. turned_by t.op t.left t.right) (filter (λ t. are_across t.left t.right) q.atoms) t (once_from (between_streams q.atoms) t (thins_among (system q) [] (across q.atoms) links are t h)) in
-    subst (λ t. Reads t.op) r.2 (turned_reads r.0.op r.0.left r.0.right)
-
--- a dim of the plan has the column and the own range of one of the form
-record OwnDim (q : QueryValue) (kept : List KeptDim) (d : Dim) : Type 0 where
-  dim : KeptDim
-  among : Has kept dim
-  attr : d.attr ≡ dim.attr
-  own : IsRange (system q) d.attr (range (Some d.lo) (Some d.hi))
-
-own_from : (q : QueryValue) (ks : List KeptDim) (ds : List Dim) → AreOwnDims q ks ds → (d : Dim) → Has ds d → OwnDim q ks d
-own_from q [] [] o d h = Has-nil h
-own_from q [] (e ∷ ds) o d h = absurd o
-own_from q (k ∷ ks) [] o d h = absurd o
-own_from q (k ∷ ks) (e ∷ ds) o d h = elim (has_cases e d ds h) [
-  | inl i ↦ subst (OwnDim q (k ∷ ks)) i record { dim = k; among = first; attr = o.0; own = o.1 }
-  | inr i ↦ (let r : OwnDim q ks d = own_from q ks ds o.2 d i in record { dim = r.dim; among = later r.among; attr = r.attr; own = r.own })
-]
-
--- and back
-pub record OwnOf (q : QueryValue) (dims : List Dim) (k : KeptDim) : Type 0 where
-  pub dim : Dim
-  pub among : Has dims dim
-  pub attr : dim.attr ≡ k.attr
-  pub own : IsRange (system q) dim.attr (range (Some dim.lo) (Some dim.hi))
-
-pub own_to : (q : QueryValue) (ks : List KeptDim) (ds : List Dim) → AreOwnDims q ks ds → (k : KeptDim) → Has ks k → OwnOf q ds k
-own_to q [] [] o k h = Has-nil h
-own_to q [] (e ∷ ds) o k h = absurd o
-own_to q (j ∷ ks) [] o k h = absurd o
-own_to q (j ∷ ks) (d ∷ ds) o k h = elim (has_cases j k ks h) [
-  | inl i ↦ subst (OwnOf q (d ∷ ds)) i record { dim = d; among = first; attr = o.0; own = o.1 }
-  | inr i ↦ (let r : OwnOf q ds k = own_to q ks ds o.2 k i in record { dim = r.dim; among = later r.among; attr = r.attr; own = r.own })
-]
-
-turned_unlike : (x y : Element) → (turned_by Op.Ne x y).op ≡ Op.Ne
-turned_unlike x y = by (comes_late x y)
-  where
-    by : (b : Bool) → (cond b (comparison y Op.Ne x) (comparison x Op.Ne y)).op ≡ Op.Ne
-    by true = refl
-    by false = refl
-
-unequal : Op.Ne ≡ Op.Eq → ⊥
-unequal e = absurd cc
-
--- the sides of a link are of different streams
-across_apart : (a b : Attr) → are_across (element.Attr a) (element.Attr b) ≡ true → a.stream ≡ b.stream → ⊥
-across_apart a b h e = grind (arith, nat_tests, h, e)
-
-across_turned : (o : Op) (x y : Element) → are_across x y ≡ true → are_across (turned_by o x y).left (turned_by o x y).right ≡ true
-across_turned o x y h = turned_sides_across o x y h (across_back x y h)
-  where
-    across_back : (x y : Element) → are_across x y ≡ true → are_across y x ≡ true
-    across_back (element.Attr a) (element.Attr b) h = grind (arith, nat_tests, h)
-    across_back (element.Attr a) (element.Const k) h = absurd cc
-    across_back (element.Const k) y h = absurd cc
-
-    by : (b : Bool) (o : Op) (x y : Element) → are_across x y ≡ true → are_across y x ≡ true → are_across (cond b (comparison y o x) (comparison x o y)).left (cond b (comparison y o x) (comparison x o y)).right ≡ true
-    by true o x y h k = k
-    by false o x y h k = h
-
-    turned_sides_across : (o : Op) (x y : Element) → are_across x y ≡ true → are_across y x ≡ true → are_across (turned_by o x y).left (turned_by o x y).right ≡ true
-    turned_sides_across Op.Lt x y h k = h
-    turned_sides_across Op.Le x y h k = h
-    turned_sides_across Op.Gt x y h k = k
-    turned_sides_across Op.Ge x y h k = k
-    turned_sides_across Op.Eq x y h k = by (comes_late x y) Op.Eq x y h k
-    turned_sides_across Op.Ne x y h k = by (comes_late x y) Op.Ne x y h k
-
-link_across : (q : QueryValue) (links : List Atom) → AreLinks q links → (t : Atom) → Has links t → are_across t.left t.right ≡ true
-link_across q links are t h =
-    let r : (u : Atom) × Has (filter (λ t. are_across t.left t.right) q.atoms) u × (turned_by u.op u.left u.right ≡ t)
-    = Has-map_from (λ t. turned_by t.op t.left t.right) (filter (λ t. are_across t.left t.right) q.atoms) t (once_from (between_streams q.atoms) t (thins_among (system q) [] (across q.atoms) links are t h)) in
-    subst (λ t. are_across t.left t.right ≡ true) r.2 (across_turned r.0.op r.0.left r.0.right (Has-filter_holds (λ t. are_across t.left t.right) q.atoms r.0 r.1))
-
-abbrev no_stream : StreamPlan
-no_stream = record { dims = record { items = [] }; kind = Kind.Present; base = 0; size = 0 }
-
-module _ (q : QueryValue) (w : IsWithinLimits q) (part : PartPlan) (is : IsWholePartPlan q part) where
+module _ (q : QueryValue) (w : IsWellFormed q) (part : PartPlan) (is : IsWholePartPlan q part) where
   abbrev links : List Atom
   links = is.links
 
@@ -389,7 +222,7 @@ module _ (q : QueryValue) (w : IsWithinLimits q) (part : PartPlan) (is : IsWhole
   module _ (k : ColumnLink) (among : Has links (atom_of k)) where
     columns : (k.left.stream < length q.from) × (k.right.stream < length q.from)
     columns =
-        let c = link_columns q (query_within q w) links is.plan.links (atom_of k) among in
+        let c = link_columns q (query_formed q w) links is.plan.links (atom_of k) among in
         (subst (λ a. a.stream < length q.from) (side k.left c.left.attr c.left.is) c.left.stream, subst (λ a. a.stream < length q.from) (side k.right c.right.attr c.right.is) c.right.stream)
       where
         side : (a b : Attr) → element.Attr a ≡ element.Attr b → b ≡ a
@@ -640,7 +473,7 @@ module _ (q : QueryValue) (w : IsWithinLimits q) (part : PartPlan) (is : IsWhole
   of_columns : (k : ColumnLink) → Has links (atom_of k) → (k.left.column < 8) × (k.right.column < 8)
   of_columns k among = (column_of_read k.left (left_read k among), column_of_read k.right (right_read k among))
 
-  serves : Serves q part
+  pub serves : Serves q part
   serves = record {
     keeps = keeps;
     links = record {
@@ -705,19 +538,19 @@ module _ (q : QueryValue) (w : IsWithinLimits q) (part : PartPlan) (is : IsWhole
             = Has-map_from (read_as Op.Lt) part.less.items t (subst (λ ts. Has ts t) (sym is.less) (Has-filter (has_op Op.Lt) (ap (λ o. nat_eq (op_index o) (op_index Op.Lt)) e) k)) in
             subst (AtomHolds v) r.2 (all_at (λ l. int_lt (v l.left) (v l.right)) part.less.items r.0 (and-right equal_holds less_holds strict) r.1)
         by (eq e) =
-            let c : AreColumnsOf q t = link_columns q (query_within q w) links is.plan.links t k in
+            let c : AreColumnsOf q t = link_columns q (query_formed q w) links is.plan.links t k in
             let a : t ≡ atom_of record { left = c.left.attr; op = t.op; right = c.right.attr } = (λ i. record { left = c.left.is i; op = t.op; right = c.right.is i }) in
             let n : v c.left.attr ≡ v c.right.attr = link_holds record { left = c.left.attr; op = t.op; right = c.right.attr } (subst (Has links) a k) e v m (and-left equal_holds less_holds strict) in
             atom_if v t (subst (λ o. Compares o (value t.left v) (value t.right v)) (sym e) (ap (λ x. value x v) c.left.is ∙ n ∙ ap (λ x. value x v) (sym c.right.is)))
         by (le e) = soft (ap (λ o. not (nat_eq (op_index o) (op_index Op.Eq)) && not (nat_eq (op_index o) (op_index Op.Lt))) e)
         by (ne e) = soft (ap (λ o. not (nat_eq (op_index o) (op_index Op.Eq)) && not (nat_eq (op_index o) (op_index Op.Lt))) e)
 
-    takes : KeepsDomains q (joined rows) → Holds q (joined rows) → Takes q part rows
+    pub takes : KeepsDomains q (joined rows) → Holds q (joined rows) → Takes q part rows
     takes k h =
         let m : MeetsWhole q links (joined rows) = (links_suffice q w links is.plan.links (joined rows)).0 (h, k) in
         record { each = λ place l. (admitted place l (at_place rows place)).1 ((at_own place).1 (m.local place l)); links = linked_if (solves_query q (joined rows) h k) m.linked }
 
-    taken : Takes q part rows → Holds q (joined rows)
+    pub taken : Takes q part rows → Holds q (joined rows)
     taken t =
         let local : (place : ℕ) → place < length q.from → MeetsLocal q place (joined rows) = λ place l. (at_own place).0 ((admitted place l (at_place rows place)).0 (t.each place l)) in
         let m : MeetsWhole q links (joined rows) = record { local = local; linked = link_from local t.links } in

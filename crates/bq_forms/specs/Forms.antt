@@ -1,17 +1,14 @@
 -- The plan and the verdict of any query: of a compact one its whole form where that fits, and else its parts.
 use Rattle.std.specs.Prelude.{◌≡◌, ℕ, ◌⊎◌, Bool, IsTrue, IsFalse, Option, None, Some, List, [], ◌∷◌}
-use Rattle.bq_model.specs.declared.decision.Which.TheVariants as which
 use Rattle.bq_model.specs.declared.plan.PartPlan.{PartPlan}
 use Rattle.bq_model.specs.declared.plan.Plan.{Plan}
 use Rattle.bq_model.specs.declared.plan.Plan.TheVariants as plan
 use Rattle.bq_model.specs.Query.{QueryValue, is_filter}
 use Rattle.bq_model.specs.Numbers.{numbers_of}
-use Rattle.bq_model.specs.Parts.{HasMoreParts}
 use Rattle.bq_model.specs.Plan.{Follow}
-use Rattle.bq_model.specs.Sharing.{IsPlanFor, numbers_for}
-use Rattle.bq_model.specs.Verdict.{Verdict, IsVerdict, most, first_above, verdict_by}
-use Rattle.bq_model.specs.Violation.{IsViolation}
+use Rattle.bq_model.specs.Verdict.{Verdict, first_above, verdict_by}
 use Rattle.bq_forms.specs.Fitting.{FitsWhole}
+use Rattle.bq_forms.specs.Parts.{HasTooManyParts, IsFormViolation, IsPartsFor, form_numbers, IsPartsVerdict}
 
 -- the query is compact, and its whole form fits
 abbrev pub HasWholeForm : QueryValue → Type 0
@@ -21,22 +18,22 @@ HasWholeForm q = IsTrue q.compact × (part : PartPlan) × FitsWhole q part
 -- else its parts
 pub data IsFormPlan (shared : Bool) (q : QueryValue) (plan : List PartPlan) : Type 0 where
   whole : IsTrue q.compact → (part : PartPlan) → FitsWhole q part → Follow 0 (part ∷ []) → plan ≡ part ∷ [] → IsFormPlan shared q plan
-  parts : ¬ HasWholeForm q → IsPlanFor shared q plan → IsFormPlan shared q plan
+  parts : ¬ HasWholeForm q → IsPartsFor shared q plan → IsFormPlan shared q plan
 
 -- the plan of a query with its numbers
 abbrev pub IsFormPlanOf : Bool → QueryValue → Plan → Type 0
 IsFormPlanOf shared q plan.Filter = IsTrue (is_filter q)
-IsFormPlanOf shared q (plan.Parts list numbers) = IsFalse (is_filter q) × IsFormPlan shared q list × (numbers ≡ numbers_for shared q list)
+IsFormPlanOf shared q (plan.Parts list numbers) = IsFalse (is_filter q) × IsFormPlan shared q list × (numbers ≡ form_numbers shared q list)
 
 -- no condition is broken: the query is a filter, or its whole form fits, or there are not too many parts and none breaks one
 abbrev pub MeetsForm : QueryValue → Type 0
-MeetsForm q = IsFalse (is_filter q) → ¬ HasWholeForm q → (¬ HasMoreParts q (most which.Parts)) × IsViolation q None
+MeetsForm q = IsFalse (is_filter q) → ¬ HasWholeForm q → (¬ HasTooManyParts q) × IsFormViolation q None
 
 -- the verdict on a query, with so many free pages: by the numbers of the whole form where that fits, and else as the parts have it
 pub data IsFormVerdict (shared : Bool) (q : QueryValue) (free : ℕ) (verdict : Verdict) : Type 0 where
   whole : IsFalse (is_filter q) → IsTrue q.compact → (part : PartPlan) → FitsWhole q part → Follow 0 (part ∷ [])
       → verdict ≡ verdict_by (numbers_of q (part ∷ [])) free → IsFormVerdict shared q free verdict
-  parts : (IsTrue (is_filter q) ⊎ ¬ HasWholeForm q) → IsVerdict shared q free verdict → IsFormVerdict shared q free verdict
+  parts : (IsTrue (is_filter q) ⊎ ¬ HasWholeForm q) → IsPartsVerdict shared q free verdict → IsFormVerdict shared q free verdict
 
 -- no number of the plan is above its limit
 abbrev pub IsWithin : Plan → Type 0

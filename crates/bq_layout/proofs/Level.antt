@@ -110,11 +110,11 @@ module _ (q : QueryValue) (list : List Box) where
       let at : (place + 1) + k ≡ place + suc k = omega arith in
       started-at part (place + 1) streams k d (omega (arith, l)) ∙ ap (λ (n : ℕ). record (slice_index_or streams k d) { base = start_in q list (box_at part n) }) at
 
-  length-started : (part : PartPlan) (place : ℕ) (streams : List StreamPlan) → length (started_streams q list part place streams) ≡ length streams
+  pub length-started : (part : PartPlan) (place : ℕ) (streams : List StreamPlan) → length (started_streams q list part place streams) ≡ length streams
   length-started part place [] = refl
   length-started part place (s ∷ streams) = ap suc (length-started part (place + 1) streams)
 
-  stream-started : (part : PartPlan) (k : ℕ) → k < length part.streams.items → stream_at (started_part q list part) k ≡ record (stream_at part k) { base = start_in q list (box_at part k) }
+  pub stream-started : (part : PartPlan) (k : ℕ) → k < length part.streams.items → stream_at (started_part q list part) k ≡ record (stream_at part k) { base = start_in q list (box_at part k) }
   stream-started part k l =
       let at : 0 + k ≡ k = omega arith in
       started-at part 0 part.streams.items k _ l ∙ ap (λ (n : ℕ). record (stream_at part k) { base = start_in q list (box_at part n) }) at
@@ -154,7 +154,7 @@ module _ (q : QueryValue) (list : List Box) where
 
 -- ---- the plan with shared cells
 
-from-map : (f : PartPlan → PartPlan) (xs : List PartPlan) (y : PartPlan) → Has (map f xs) y → (x : PartPlan) × Has xs x × (y ≡ f x)
+pub from-map : (f : PartPlan → PartPlan) (xs : List PartPlan) (y : PartPlan) → Has (map f xs) y → (x : PartPlan) × Has xs x × (y ≡ f x)
 from-map f [] y h = elim h [ ]
 from-map f (x ∷ xs) y first = (x, first, refl)
 from-map f (x ∷ xs) y (later h) = let r = from-map f xs y h in (r.0, later r.1, r.2)
@@ -163,7 +163,7 @@ module _ (q : QueryValue) (plan : List PartPlan) where
   lists : map level_box (boxes q (shared q plan)) ≡ map level_box (boxes q plan)
   lists = sym (all-level q (shared q plan)) ∙ ap (boxes q) (plan-level q (boxes q plan) plan) ∙ all-level q plan
 
-  start-shared : (part : PartPlan) (k : ℕ) → start_in q (boxes q plan) (box_at part k) ≡ start_in q (boxes q (shared q plan)) (box_at (started_part q (boxes q plan) part) k)
+  pub start-shared : (part : PartPlan) (k : ℕ) → start_in q (boxes q plan) (box_at part k) ≡ start_in q (boxes q (shared q plan)) (box_at (started_part q (boxes q plan) part) k)
   start-shared part k =
       sym (start-level q (boxes q plan) (box_at part k))
       ∙ (λ i. start_in q (sym lists i) (box_at (sym (part-level q (boxes q plan) part) i) k))

@@ -28,6 +28,8 @@ mod sizes;
 #[cfg(test)]
 mod tests;
 
-pub use draft::cells_over;
+pub use draft::{PlanDraft, cells_over, narrowed};
 pub use error::LayoutError;
-pub use plan::{lay_out, layout, layout_shared, part_plans};
+pub use plan::{
+    lay_out, layout, layout_shared, part_plans, parts_of, planned, violation_at, with_shared,
+};

@@ -18,8 +18,8 @@ use bq_model::{Break, Part, PartPlan, PartPlans, Plan, Query};
 use bq_refs::{Basis, refs};
 use std::alloc::{AllocError, Global};
 
-// The violation that the part at a place shows.
-fn violation_at(i: usize, found: Break) -> LayoutError
+/// Returns the violation that the part at a place shows.
+pub fn violation_at(i: usize, found: Break) -> LayoutError
     requires { i < 4096 }
     ensures { result ≡ violation_at i found }
 {
@@ -62,8 +62,8 @@ fn drafted(alloc: Global, q: &Query, parts: &[Part]) -> Result<PlanDraft, Layout
     Ok(draft)
 }
 
-// The plans of the parts.
-fn parts_of(draft: PlanDraft) -> Vec<PartPlan>
+/// Returns the plans of the parts.
+pub fn parts_of(draft: PlanDraft) -> Vec<PartPlan>
     ensures { result.items ≡ draft.parts.items }
 {
     let PlanDraft {
@@ -75,8 +75,8 @@ fn parts_of(draft: PlanDraft) -> Vec<PartPlan>
     parts
 }
 
-// The drafts with shared cells.
-fn with_shared(alloc: Global, q: &Query, draft: PlanDraft) -> Result<PlanDraft, AllocError>
+/// Returns the drafts, whose boxes follow each other, with shared cells. An error says that memory was not found.
+pub fn with_shared(alloc: Global, q: &Query, draft: PlanDraft) -> Result<PlanDraft, AllocError>
     requires few { length draft.parts.items ≤ 4096 }
     ensures { IfOk result (IsSharedDraft q.now draft) }
 {
@@ -85,8 +85,8 @@ fn with_shared(alloc: Global, q: &Query, draft: PlanDraft) -> Result<PlanDraft, 
     Ok(draft)
 }
 
-// The plan with its numbers, or the first number that is above its limit.
-fn planned(draft: PlanDraft) -> Result<Plan, LayoutError>
+/// Returns the plan of the drafts with its numbers. `Limit` tells the first of cells, answers and work that is above its limit; no other error is answered.
+pub fn planned(draft: PlanDraft) -> Result<Plan, LayoutError>
     requires { length draft.parts.items ≤ 4096 }
     ensures { IsNumbered draft result }
 {

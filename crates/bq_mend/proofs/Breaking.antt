@@ -1,5 +1,5 @@
 -- The part that breaks a condition first is in the list of parts.
-use Rattle.std.proofs.Common.{◌≡◌, ℕ, ◌-◌, ◌<◌, ◌≤◌, Bool, List, length, Result, Ok, Err, IfOk, ap, sym, ◌∙◌, arith}
+use Rattle.std.proofs.Common.{◌≡◌, ℕ, ◌-◌, ◌<◌, ◌≤◌, Bool, IsFalse, List, length, Result, Ok, Err, IfOk, ap, sym, ◌∙◌, arith}
 use Rattle.std.specs.Option.{option_map}
 use Rattle.std.specs.List.{slice_index_or}
 use Rattle.std.specs.declared.option.Option.TheVariants.{Some}
@@ -13,6 +13,9 @@ use Rattle.bq_model.specs.Violation.{Failure, IsViolation, filter, first}
 use Rattle.bq_model.proofs.Unique.{one_list_of_parts}
 use Rattle.bq_chains.specs.declared.chains.Chain.{Chain}
 use Rattle.bq_chains.specs.Chains.{chains_of, chains_in}
+use Rattle.bq_laws.proofs.Tests.{not_both}
+use Rattle.bq_forms.specs.Parts as parts
+use Rattle.bq_forms.specs.Parts.{IsFormViolation}
 use Rattle.bq_mend.specs.Violating.{AreChainsAt, Shows}
 use Rattle.bq_mend.specs.Numbered.{IsJudgement}
 use Rattle.bq_mend.specs.declared.judging.Judgement.{Judgement}
@@ -25,6 +28,12 @@ number_within q parts f are (first plain others a fails) =
     let size : length others ≡ length parts = ap length same ∙ length-map parts _ in
     let there : f.part - 1 < length others = slice_get_within others (f.part - 1) fails.0.signs fails.0.at in
     (fails.0.number, omega (arith, fails.0.number, there, size))
+
+-- a failure of a query that is not compact is one of its plain parts
+pub failure_plain : (q : QueryValue) (f : Failure) → IsFalse q.compact → IsFormViolation q (Some f) → IsViolation q (Some f)
+failure_plain q f n (parts.filter t e) = absurd cc
+failure_plain q f n (parts.plain t c v) = v
+failure_plain q f n (parts.split t c v) = absurd (not_both q.compact c n)
 
 -- the chains of the part at a place
 pub chains-at : (q : QueryValue) (parts : List Part) (number : ℕ) (p : Part) (list : List Chain) → AreParts q (sign_lists parts) → 0 < number → number ≤ length parts

@@ -2,16 +2,12 @@
 use Rattle.std.specs.Prelude.{◌≡◌, Bool, true, IsTrue, IsFalse, List}
 use Rattle.std.specs.declared.option.Option.{Option}
 use Rattle.std.specs.declared.option.Option.TheVariants.{None, Some}
-use Rattle.bq_model.specs.declared.decision.Which.TheVariants.{Parts}
 use Rattle.bq_model.specs.declared.plan.PartPlan.{PartPlan}
 use Rattle.bq_model.specs.declared.plan.Numbers.{Numbers}
 use Rattle.bq_model.specs.Query.{QueryValue, is_filter, IsWithinLimits}
-use Rattle.bq_model.specs.Parts.{HasMoreParts}
-use Rattle.bq_model.specs.Violation.{IsViolation}
-use Rattle.bq_model.specs.Sharing.{numbers_for}
-use Rattle.bq_model.specs.Verdict.{most, first_above}
+use Rattle.bq_model.specs.Verdict.{first_above}
 use Rattle.bq_forms.specs.Forms.{HasWholeForm, MeetsForm, IsFormPlan}
-use Rattle.bq_layout.specs.Layout.{IsOver}
+use Rattle.bq_forms.specs.Parts.{HasTooManyParts, IsFormViolation, form_numbers, IsOverLimit}
 use Rattle.bq_mend.specs.declared.judging.Judgement.{Judgement}
 use Rattle.bq_mend.specs.declared.judging.Judgement.TheVariants as judgement
 use Rattle.bq_mend.specs.declared.mend.Mend.{Mend}
@@ -23,7 +19,7 @@ use Rattle.bq_mend.specs.Meeting.{Meets}
 pub record HasNumbers (shared : Bool) (q : QueryValue) (numbers : Numbers) : Type 0 where
   pub parts : List PartPlan
   pub plan : IsFormPlan shared q parts
-  pub are : numbers ≡ numbers_for shared q parts
+  pub are : numbers ≡ form_numbers shared q parts
   pub within : first_above numbers ≡ None
 
 -- a filter; its numbers, where it meets all conditions and none is above its limit; and where its whole form does not fit, the first that is; the first violation; or that there are too
@@ -31,10 +27,10 @@ pub record HasNumbers (shared : Bool) (q : QueryValue) (numbers : Numbers) : Typ
 abbrev pub IsJudgement : Bool → QueryValue → Judgement → Type 0
 IsJudgement shared q judgement.Filter = IsTrue (is_filter q)
 IsJudgement shared q (judgement.Accepted numbers) = IsFalse (is_filter q) × MeetsForm q × HasNumbers shared q numbers
-IsJudgement shared q (judgement.Above which value) = (¬ HasWholeForm q) × Meets q × IsOver shared q which value
+IsJudgement shared q (judgement.Above which value) = (¬ HasWholeForm q) × Meets q × IsOverLimit shared q which value
 IsJudgement shared q (judgement.Violation part condition attr) =
-    (¬ HasWholeForm q) × IsFalse (is_filter q) × (¬ HasMoreParts q (most Parts)) × IsViolation q (Some record { part = part; condition = condition; attr = attr })
-IsJudgement shared q judgement.ManyParts = (¬ HasWholeForm q) × IsFalse (is_filter q) × HasMoreParts q (most Parts)
+    (¬ HasWholeForm q) × IsFalse (is_filter q) × (¬ HasTooManyParts q) × IsFormViolation q (Some record { part = part; condition = condition; attr = attr })
+IsJudgement shared q judgement.ManyParts = (¬ HasWholeForm q) × IsFalse (is_filter q) × HasTooManyParts q
 
 -- whether boxes that are the same have their cells once, with a change
 abbrev pub shares : Mend → Bool → Bool

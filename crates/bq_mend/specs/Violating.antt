@@ -1,13 +1,11 @@
 -- What the part orders that breaks a condition first.
-use Rattle.std.specs.Prelude.{◌≡◌, ℕ, ◌-◌, ⊤, List, [], slice_get}
+use Rattle.std.specs.Prelude.{◌≡◌, ℕ, ◌-◌, ⊤, IsTrue, IsFalse, List, [], slice_get}
 use Rattle.std.specs.declared.option.Option.TheVariants.{Some}
-use Rattle.bq_model.specs.declared.decision.Which.TheVariants.{Parts}
 use Rattle.bq_model.specs.declared.part.Sign.{Sign}
 use Rattle.bq_model.specs.Query.{QueryValue}
 use Rattle.bq_model.specs.Assignment.{Assignment}
-use Rattle.bq_model.specs.Parts.{AreParts, HasMoreParts, InPart}
-use Rattle.bq_model.specs.Violation.{IsViolation}
-use Rattle.bq_model.specs.Verdict.{most}
+use Rattle.bq_model.specs.Parts.{AreParts, InPart}
+use Rattle.bq_forms.specs.Parts.{HasTooManyParts, IsFormViolation}
 use Rattle.bq_chains.specs.declared.chains.Chain.{Chain}
 use Rattle.bq_chains.specs.Chains.{chains_of, chains_in}
 use Rattle.bq_mend.specs.declared.judging.Judgement.{Judgement}
@@ -22,12 +20,17 @@ pub record AreChainsAt (q : QueryValue) (number : ℕ) (chains : List Chain) : T
   pub is : chains ≡ chains_of q signs
   pub order : (v : Assignment) → InPart q signs v → chains ≡ chains_in q v
 
+-- the chains of the part of a number, where the query is not compact
+pub record AreChainsOf (q : QueryValue) (number : ℕ) (chains : List Chain) : Type 0 where
+  pub plain : IsFalse q.compact → AreChainsAt q number chains
+  pub other : IsTrue q.compact → chains ≡ []
+
 -- the chains of the part that breaks a condition first, where one does
 abbrev pub AreChainsFor : QueryValue → Judgement → List Chain → Type 0
 AreChainsFor q judgement.Filter chains = chains ≡ []
 AreChainsFor q (judgement.Accepted numbers) chains = chains ≡ []
 AreChainsFor q (judgement.Above which value) chains = chains ≡ []
-AreChainsFor q (judgement.Violation part condition attr) chains = AreChainsAt q part chains
+AreChainsFor q (judgement.Violation part condition attr) chains = AreChainsOf q part chains
 AreChainsFor q judgement.ManyParts chains = chains ≡ []
 
 -- the violation that is named is the first of the query, where one is
@@ -35,5 +38,5 @@ abbrev pub Shows : QueryValue → Judgement → Type 0
 Shows q judgement.Filter = ⊤
 Shows q (judgement.Accepted numbers) = ⊤
 Shows q (judgement.Above which value) = ⊤
-Shows q (judgement.Violation part condition attr) = (¬ HasMoreParts q (most Parts)) × IsViolation q (Some record { part = part; condition = condition; attr = attr })
+Shows q (judgement.Violation part condition attr) = (¬ HasTooManyParts q) × IsFormViolation q (Some record { part = part; condition = condition; attr = attr })
 Shows q judgement.ManyParts = ⊤

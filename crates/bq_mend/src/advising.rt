@@ -29,7 +29,7 @@ pub struct QueryAdvice {
     pub judgement: Judgement,
     /// Whether no combination of rows meets its comparisons. With more than 4,096 parts some does.
     pub never: bool,
-    /// What the first part that breaks a condition orders, where one does.
+    /// What the first part that breaks a condition orders, where one does and the query is not compact.
     pub chains: Vec<Chain>,
     /// The parts that keep most cells, at most three, the most cells first: where it is accepted with more than one part, or passes a limit on cells, answers or
     /// work.

@@ -1,17 +1,14 @@
 //! What a query comes to.
-ghost use Rattle.std.specs.Prelude.{◌≡◌, ◌≤◌, IsFalse, Some, length, IfOk};
+ghost use Rattle.std.specs.Prelude.{◌≡◌, IsFalse, Some, IfOk};
 ghost use Rattle.bq_model.specs.Query.{is_filter};
-ghost use Rattle.bq_model.specs.Parts.{AreParts, sign_lists};
 ghost use Rattle.bq_forms.specs.Forms.{HasWholeForm, IsWholeFormOr};
 ghost use Rattle.bq_mend.specs.Sets.{IsMendOf};
 ghost use Rattle.bq_mend.specs.Numbered.{IsJudgement, IsJudgementWith, AreNumbersWith, accepted, shares};
 
 use crate::mend::Mend;
 use crate::writing::written;
-use bq_layout::{LayoutError, lay_out};
-use bq_lto_split::{SplitError, split};
-use bq_model::{Attr, Condition, Numbers, Part, Plan, Query, Which};
-use bq_whole_part::whole_form;
+use bq_form_plan::{PartsRefusal, parts_plan, whole_form};
+use bq_model::{Attr, Condition, Numbers, Plan, Query, Which};
 use std::alloc::{AllocError, Global};
 
 /// What a query comes to, whatever pages are free.
@@ -32,28 +29,22 @@ pub enum Judgement {
         condition: Condition,
         attr: Attr,
     },
-    /// It has more than 4,096 parts.
+    /// It has more than 4,096 parts, or is compact and has more than 114 pairs that cut them.
     ManyParts,
 }
 
 // What a query that is no filter, and whose whole form does not fit, comes to, by its parts.
-fn judge_parts(
-    alloc: Global,
-    query: &Query,
-    shared: bool,
-    parts: &[Part],
-) -> Result<Judgement, AllocError>
+fn judge_parts(alloc: Global, query: &Query, shared: bool) -> Result<Judgement, AllocError>
     requires plain { IsFalse (is_filter query.now) }
-    requires parts { AreParts query.now (sign_lists parts.now) }
-    requires few { length parts.now ≤ 4096 }
     requires split { ¬ HasWholeForm query.now }
     ensures { IfOk result (IsJudgement shared query.now) }
 {
-    match lay_out(alloc, query, parts, shared) {
+    match parts_plan(alloc, query, shared) {
         Ok(Plan::Filter) => Ok(Judgement::Filter),
         Ok(Plan::Parts { parts: _, numbers }) => Ok(Judgement::Accepted(numbers)),
+        Err(PartsRefusal::TooManyParts) => Ok(Judgement::ManyParts),
         Err(
-            LayoutError::Violation {
+            PartsRefusal::Violation {
                 part,
                 condition,
                 attr,
@@ -63,21 +54,8 @@ fn judge_parts(
             condition,
             attr,
         }),
-        Err(LayoutError::Limit { which, value }) => Ok(Judgement::Above { which, value }),
-        Err(LayoutError::Memory) => Err(AllocError),
-    }
-}
-
-// The same, where the parts have still to be found.
-fn judge_split(alloc: Global, query: &Query, shared: bool) -> Result<Judgement, AllocError>
-    requires plain { IsFalse (is_filter query.now) }
-    requires split { ¬ HasWholeForm query.now }
-    ensures { IfOk result (IsJudgement shared query.now) }
-{
-    match split(alloc, query) {
-        Ok(parts) => judge_parts(alloc, query, shared, &parts),
-        Err(SplitError::TooManyParts) => Ok(Judgement::ManyParts),
-        Err(SplitError::Memory) => Err(AllocError),
+        Err(PartsRefusal::Limit { which, value }) => Ok(Judgement::Above { which, value }),
+        Err(PartsRefusal::Memory) => Err(AllocError),
     }
 }
 
@@ -105,7 +83,7 @@ pub fn judge(alloc: Global, query: &Query, shared: bool) -> Result<Judgement, Al
     }
     match whole_form(alloc, query)? {
         Some(plan) => Ok(judge_whole(query, shared, &plan)),
-        None => judge_split(alloc, query, shared),
+        None => judge_parts(alloc, query, shared),
     }
 }
 

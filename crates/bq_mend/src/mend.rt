@@ -20,7 +20,7 @@ pub enum Mend {
     Bounds(ColumnSet, Ends),
     /// One comparison more, of a column with an integer.
     Comparison(Atom),
-    /// It is planned by its whole form where that fits, and else by the groups of its columns.
+    /// It is planned by its whole form where that fits, and else by its split form.
     Compact,
     /// Boxes that are the same have their cells once. The query stays as it is.
     Shared,

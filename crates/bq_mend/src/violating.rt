@@ -24,11 +24,14 @@ fn chains_at(
     chains_of(alloc, query, &parts[number as usize - 1])
 }
 
-/// Returns the chains of the part that breaks a condition first, where one does. `AllocError` where a list finds no memory.
+/// Returns the chains of the part that breaks a condition first, where one does and the query is not compact. `AllocError` where a list finds no memory.
 pub fn chains_for(alloc: Global, query: &Query, own: Judgement) -> Result<Vec<Chain>, AllocError>
     requires { Shows query.now own }
     ensures { IfOk result (λ list. AreChainsFor query.now own list.items) }
 {
+    if query.compact() {
+        return Ok(Vec::new(alloc));
+    }
     match own {
         Judgement::Violation { part, .. } => match split(alloc, query) {
             Ok(parts) => chains_at(alloc, query, &parts, part),

@@ -222,14 +222,6 @@ along-count narrows full i line so_far done =
     let g : drop i (map narrows full) ≡ [] = drop_all i (map narrows full) (omega (arith, done, longs)) in
     (let r : line.count ≡ line.count * 1 = omega arith in r) ∙ ap (λ (ds : List Dim). line.count * box_size ds) (sym g) ∙ so_far.all
 
--- where the line begins
-pub along-first : (narrows : Dim → Dim) (full : List Dim) (i : ℕ) (line : CellLine) → AreAlong narrows full i line → length full ≤ i → line.first < box_size full
-along-first narrows full i line so_far done =
-    let e : drop i full ≡ [] = drop_all i full done in
-    let s = so_far.low in
-    let o = ap (λ (ds : List Dim). (line.first + 1) * box_size ds) e in
-    omega (arith, s, o)
-
 -- cells that agree are scanned alike
 pub scanned-alike : (at other : ℕ → Cell) (count many before : ℕ) (found : Option Occupied) (after : ℕ) → count ≡ many → ((i : ℕ) → i < many → at i ≡ other i) → Scanned at 0 count before found after → Scanned other 0 many before found after
 scanned-alike at other count many before None after e same s = (λ i a b. sym (same i b) ∙ s.0 i a (omega (arith, b, e)), (let r = s.1 in omega (arith, r, e)))

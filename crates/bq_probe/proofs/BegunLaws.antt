@@ -129,20 +129,3 @@ found-candidate q part arriving row contents walked here fitting cells laid befo
     let inside = inside-narrowed (pairs q) part arriving row cells (start arriving) (laid there) (values_at D filled.next) (values-inside D filled.next first.below) in
     let w = light-cell part arriving (read_from contents) (length (start arriving)) (values_at D filled.next) fitting there cells (laid there) inside in
     (there, first.below, subst (λ x. rows_in x ≤ limit arriving (length (start arriving))) first.cell w)
-
--- what was found is found at the level where the walk stands
-pub found-here : (ps : List Pair) (part : PartPlan) (read : Reading) (arriving : ℕ) (row : List ℤ) (p : Probe) (filled : Occupied) → IsAtStart ps arriving row p → p.size ≡ box_size (dims_now part p)
-    → IsFirst (tried_cell ps part read arriving row (start arriving)) 0 (tried_count ps part arriving row (start arriving)) filled
-    → IsFirst (tried_cell p.pairs.now.items part read p.arriving p.row.now.items p.room.now.chosen.items) p.next p.size filled
-found-here ps part read arriving row p filled s size first =
-    let many : box_size (dims_now part p) ≡ tried_count ps part arriving row (start arriving) = λ k. tried_count (s.pairs k) part (s.arriving k) (s.row k) (s.chosen k) in
-    record {
-      after = (let n = s.next in omega (arith, n));
-      below = (let b = first.below in omega (arith, b, size, many));
-      before = λ i a b. same i ∙ first.before i (omega arith) b;
-      cell = same filled.next ∙ first.cell;
-      some = first.some;
-    }
-  where
-    same : (i : ℕ) → tried_cell p.pairs.now.items part read p.arriving p.row.now.items p.room.now.chosen.items i ≡ tried_cell ps part read arriving row (start arriving) i
-    same i = λ k. tried_cell (s.pairs k) part read (s.arriving k) (s.row k) (s.chosen k) i

@@ -7,9 +7,9 @@ use Rattle.bq_model.specs.declared.decision.Which.{Which}
 use Rattle.bq_model.specs.declared.decision.Which.TheVariants.{Parts, Cells, Answers, Work}
 use Rattle.bq_model.specs.declared.plan.Numbers.{Numbers}
 use Rattle.bq_model.specs.declared.plan.PartPlan.{PartPlan}
-use Rattle.bq_model.specs.Sharing.{numbers_for}
 use Rattle.bq_model.specs.Verdict as verdicts
-use Rattle.bq_model.specs.Verdict.{Verdict, of_filter, of_many_parts, of_violation, of_plan, verdict_after, verdict_by, first_above}
+use Rattle.bq_model.specs.Verdict.{Verdict, verdict_after, verdict_by, first_above}
+use Rattle.bq_forms.specs.Parts.{form_numbers, of_filter, of_many_parts, of_violation, of_plan}
 use Rattle.bq_forms.specs.Forms as forms
 use Rattle.bq_forms.specs.Forms.{MeetsForm, IsFormPlan, IsFormVerdict}
 use Rattle.bq_forms.proofs.Forms.{has_one_form_verdict}
@@ -39,10 +39,10 @@ within : (numbers : Numbers) → first_above numbers ≡ None → verdicts.accep
 within numbers e =
     sym (ap (λ (b : Bool). if b then verdicts.pool else verdicts.accepted numbers) (few_pages numbers e)) ∙ ap (λ o. verdict_after o numbers 16384) (sym e)
 
-accepted_as : (shared : Bool) (q : QueryValue) (numbers : Numbers) → IsFalse (is_filter q) → MeetsForm q → (list : List PartPlan) → IsFormPlan shared q list → numbers ≡ numbers_for shared q list → first_above numbers ≡ None
+accepted_as : (shared : Bool) (q : QueryValue) (numbers : Numbers) → IsFalse (is_filter q) → MeetsForm q → (list : List PartPlan) → IsFormPlan shared q list → numbers ≡ form_numbers shared q list → first_above numbers ≡ None
     → IsFormVerdict shared q 16384 (verdicts.accepted numbers)
 accepted_as shared q numbers plain met list (forms.whole compact part fits follow e) are w =
-    let own : numbers ≡ numbers_of q (part ∷ []) = are ∙ ap (numbers_for shared q) e ∙ one_part_numbers shared q part in
+    let own : numbers ≡ numbers_of q (part ∷ []) = are ∙ ap (form_numbers shared q) e ∙ one_part_numbers shared q part in
     forms.whole plain compact part fits follow (within numbers w ∙ ap (λ n. verdict_by n 16384) own)
 accepted_as shared q numbers plain met list (forms.parts none p) are w =
     let m = met plain none in
@@ -52,7 +52,7 @@ judged : (shared : Bool) (q : QueryValue) (j : Judgement) → IsJudgement shared
 judged shared q judgement.Filter h = forms.parts (inl h) (of_filter h refl)
 judged shared q (judgement.Accepted numbers) h = accepted_as shared q numbers h.0 h.1 h.2.parts h.2.plan h.2.are h.2.within
 judged shared q (judgement.Above which value) h =
-    forms.parts (inr h.0) (of_plan h.2.plain (h.1.few h.2.plain) h.1.violation h.2.parts h.2.plan (ap (λ o. verdict_after o (numbers_for shared q h.2.parts) 16384) (sym h.2.first)))
+    forms.parts (inr h.0) (of_plan h.2.plain (h.1.few h.2.plain) h.1.violation h.2.parts h.2.plan (ap (λ o. verdict_after o (form_numbers shared q h.2.parts) 16384) (sym h.2.first)))
 judged shared q (judgement.Violation part condition attr) h = forms.parts (inr h.0) (of_violation h.1 h.2 (record { part = part; condition = condition; attr = attr }) h.3 refl)
 judged shared q judgement.ManyParts h = forms.parts (inr h.0) (of_many_parts h.1 h.2 refl)
 

@@ -6,7 +6,6 @@ pub mod InWriting
 pub mod Loads
 pub mod KindThere
 pub mod SoundLive
-pub mod FewParts
 pub mod Verdicts
 pub mod Admitting
 pub mod Whole

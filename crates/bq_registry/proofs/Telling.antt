@@ -8,11 +8,11 @@ use Rattle.bq_model.specs.declared.plan.Numbers.{Numbers}
 use Rattle.bq_model.specs.declared.plan.PartPlan.{PartPlan}
 use Rattle.bq_model.specs.Query.{QueryValue, is_filter}
 use Rattle.bq_model.specs.Numbers.{page_count, pages_of, numbers_of}
-use Rattle.bq_model.specs.Sharing.{numbers_for}
-use Rattle.bq_model.specs.Verdict.{most, first_above, verdict_after, verdict_by, of_filter, of_many_parts, of_violation, of_plan}
+use Rattle.bq_model.specs.Verdict.{most, first_above, verdict_after, verdict_by}
 use Rattle.bq_model.specs.Verdict as model
 use Rattle.bq_forms.specs.Forms as forms
 use Rattle.bq_forms.specs.Forms.{MeetsForm, IsFormPlan, IsFormVerdict}
+use Rattle.bq_forms.specs.Parts.{form_numbers, of_filter, of_many_parts, of_violation, of_plan}
 use Rattle.bq_forms.proofs.OnePart.{one_part_numbers}
 use Rattle.bq_executor.specs.Executor.{IsAccepted}
 use Rattle.bq_registry.specs.declared.refusal.CreateError.{CreateError}
@@ -32,9 +32,9 @@ decides numbers free b e p = ap (λ w. verdict_after w numbers free) e ∙ ap (�
 
 -- the verdict of the plan of a query, in either form
 of_form : (shared : Bool) (q : QueryValue) (list : List PartPlan) (numbers : Numbers) (free : ℕ) (verdict : model.Verdict) → IsFalse (is_filter q) → MeetsForm q
-    → IsFormPlan shared q list → numbers ≡ numbers_for shared q list → verdict_by numbers free ≡ verdict → IsFormVerdict shared q free verdict
+    → IsFormPlan shared q list → numbers ≡ form_numbers shared q list → verdict_by numbers free ≡ verdict → IsFormVerdict shared q free verdict
 of_form shared q list numbers free verdict plain met (forms.whole compact part fits follow is) e v =
-    let own : numbers ≡ numbers_of q (part ∷ []) = e ∙ ap (numbers_for shared q) is ∙ one_part_numbers shared q part in
+    let own : numbers ≡ numbers_of q (part ∷ []) = e ∙ ap (form_numbers shared q) is ∙ one_part_numbers shared q part in
     forms.whole plain compact part fits follow (sym v ∙ ap (λ n. verdict_by n free) own)
 of_form shared q list numbers free verdict plain met (forms.parts none p) e v =
     let m = met plain none in
@@ -53,7 +53,7 @@ tells_pool shared q (plans.Parts ps numbers) free needed a e short =
 pub tells_limit : (shared : Bool) (q : QueryValue) (which : Which) (value free : ℕ) → IsTooLarge shared q which value → IsFormVerdict shared q free (model.limit which)
 tells_limit shared q which value free (many f none m e v) = forms.parts (inr none) (of_many_parts f m (ap (λ w. model.limit w) e))
 tells_limit shared q which value free (large none n v o) =
-    forms.parts (inr none) (of_plan o.plain n v o.parts o.plan (sym (ap (λ w. verdict_after w (numbers_for shared q o.parts) free) o.first)))
+    forms.parts (inr none) (of_plan o.plain n v o.parts o.plan (sym (ap (λ w. verdict_after w (form_numbers shared q o.parts) free) o.first)))
 
 pub tells_refusal : (shared : Bool) (q : QueryValue) (free : ℕ) (why : CreateError) → IsJudged shared q (Err why) → TellsVerdict shared q free (Err why) × CarriesWhy shared q free (Err why)
 tells_refusal shared q free (refusals.Violation p c a) j = (forms.parts (inr j.0) (of_violation j.1 j.2 (record { part = p; condition = c; attr = a }) j.3 refl), (j.0, j.3))

@@ -9,13 +9,11 @@ use Rattle.bq_model.specs.declared.decision.Which.TheVariants.{Parts}
 use Rattle.bq_model.specs.declared.plan.Plan.{Plan}
 use Rattle.bq_model.specs.declared.plan.Plan.TheVariants as plans
 use Rattle.bq_model.specs.Query.{QueryValue, is_filter}
-use Rattle.bq_model.specs.Parts.{HasMoreParts}
 use Rattle.bq_model.specs.Numbers.{pages_of}
-use Rattle.bq_model.specs.Violation.{IsViolation}
 use Rattle.bq_model.specs.Verdict as model
 use Rattle.bq_model.specs.Verdict.{most}
-use Rattle.bq_layout.specs.Layout.{IsOver}
 use Rattle.bq_forms.specs.Forms.{HasWholeForm, IsFormVerdict}
+use Rattle.bq_forms.specs.Parts.{HasTooManyParts, IsFormViolation, IsOverLimit}
 use Rattle.bq_executor.specs.Executor.{IsAccepted}
 use Rattle.bq_registry.specs.declared.refusal.CreateError.{CreateError}
 use Rattle.bq_registry.specs.declared.refusal.CreateError.TheVariants as refusals
@@ -27,15 +25,15 @@ use Rattle.bq_registry.specs.Registry.{RegistryValue, StandsFor, IsQuiet, GivenU
 -- a number of a query whose whole form does not fit that is above its limit: there are too many parts, or else it is the first that its plan
 -- has
 pub data IsTooLarge (shared : Bool) (q : QueryValue) (which : Which) (value : ℕ) : Type 0 where
-  many : IsFalse (is_filter q) → ¬ HasWholeForm q → HasMoreParts q (most Parts) → which ≡ Parts → value ≡ 4097 → IsTooLarge shared q which value
-  large : ¬ HasWholeForm q → ¬ HasMoreParts q (most Parts) → IsViolation q None → IsOver shared q which value → IsTooLarge shared q which value
+  many : IsFalse (is_filter q) → ¬ HasWholeForm q → HasTooManyParts q → which ≡ Parts → value ≡ 4097 → IsTooLarge shared q which value
+  large : ¬ HasWholeForm q → ¬ HasTooManyParts q → IsFormViolation q None → IsOverLimit shared q which value → IsTooLarge shared q which value
 
 -- the plan of a query that is accepted if its pages are free; or why it is refused, whatever pages are free
 abbrev pub IsJudged : Bool → QueryValue → Result Plan CreateError → Type 0
 IsJudged shared q (Ok plan) = IsAccepted shared q plan
 IsJudged shared q (Err (refusals.Limit which value limit)) = IsTooLarge shared q which value × (limit ≡ most which)
 IsJudged shared q (Err (refusals.Violation part condition attr)) =
-    (¬ HasWholeForm q) × IsFalse (is_filter q) × (¬ HasMoreParts q (most Parts)) × IsViolation q (Some record { part = part; condition = condition; attr = attr })
+    (¬ HasWholeForm q) × IsFalse (is_filter q) × (¬ HasTooManyParts q) × IsFormViolation q (Some record { part = part; condition = condition; attr = attr })
 IsJudged shared q (Err (refusals.Pool needed free)) = ⊥
 IsJudged shared q (Err refusals.Memory) = ⊤
 
@@ -66,7 +64,7 @@ NeedsPages shared q needed = (plan : Plan) × IsAccepted shared q plan × (neede
 abbrev pub CarriesWhy : Bool → QueryValue → ℕ → Result Verdict CreateError → Type 0
 CarriesWhy shared q available (Ok verdict) = ⊤
 CarriesWhy shared q available (Err (refusals.Violation part condition attr)) =
-    (¬ HasWholeForm q) × IsViolation q (Some record { part = part; condition = condition; attr = attr })
+    (¬ HasWholeForm q) × IsFormViolation q (Some record { part = part; condition = condition; attr = attr })
 CarriesWhy shared q available (Err (refusals.Limit which value limit)) = IsTooLarge shared q which value × (limit ≡ most which)
 CarriesWhy shared q available (Err (refusals.Pool needed free)) = (available < needed) × (free ≡ available) × NeedsPages shared q needed
 CarriesWhy shared q available (Err refusals.Memory) = ⊤

@@ -8,13 +8,14 @@ use Rattle.bq_model.specs.declared.atom.Domain.{Domain}
 use Rattle.bq_model.specs.declared.atom.Element.{Element}
 use Rattle.bq_model.specs.declared.atom.Element.TheVariants as element
 use Rattle.bq_model.specs.declared.atom.Op.{Op}
-use Rattle.bq_model.specs.Query.{QueryValue, IsWithinLimits, IsShort, IsDomain, consts_of}
+use Rattle.bq_model.specs.Query.{QueryValue, IsShort, IsDomain, consts_of}
 use Rattle.bq_model.specs.Assignment.{Assignment, value}
 use Rattle.bq_model.specs.Order.{IsElement}
 use Rattle.bq_model.proofs.Has.{Has, first, later, Has-nil, Contains-from_has, Has-append_cases, Has-flat_map_from}
 use Rattle.bq_model.proofs.Elements.{SidesIn, sides_in, element_from_has}
 use Rattle.bq_whole.specs.System.{Difference, Meets, bounds_of, atom_bounds, domain_bounds, system, Solves}
 use Rattle.bq_whole.specs.Kept.{IsLowest, IsHighest}
+use Rattle.bq_whole.specs.Signed.{IsWellFormed}
 use Rattle.bq_whole.proofs.Suffice.{bounds_sides}
 use Rattle.bq_resuming.proofs.Spreading.{lowest, highest, Spreads, lowered, raised, lowering, raising, lower_still, higher_still}
 
@@ -40,7 +41,7 @@ module _ (f : ℤ → ℤ) (s : Spreads f) where
   below : (x y : ℤ) → x <ℤ y → f x <ℤ f y
   below x y l = let e : int_lt (f x) (f y) ≡ int_lt x y = s.less x y in grind (arith, ints, e, l)
 
-  module _ (q : QueryValue) (w : IsWithinLimits q) (v : Assignment) where
+  module _ (q : QueryValue) (w : IsWellFormed q) (v : Assignment) where
     unfoldable moved : Assignment
     moved a = f (v a)
 
@@ -88,7 +89,7 @@ module _ (f : ℤ → ℤ) (s : Spreads f) where
           of_domain r.0 (All-contains (IsDomain q) q.domains r.0 w.domains (Contains-from_has q.domains r.0 r.1)) d r.2 (m d i))
     ]
 
-pub low_written : (q : QueryValue) → IsWithinLimits q → (a : Attr) (lo : ℤ) → IsLowest (system q) a (Some lo) → lowest ≤ℤ lo
+pub low_written : (q : QueryValue) → IsWellFormed q → (a : Attr) (lo : ℤ) → IsLowest (system q) a (Some lo) → lowest ≤ℤ lo
 low_written q w a lo is = by_lt_z lo lowest (λ l. (let u = is.1 (lo +ℤ pos 1) (λ v s. higher v s l) in omega (arith, ints, u))) (λ l. omega (arith, ints, l))
   where
     higher : (v : Assignment) → Solves (system q) v → lo <ℤ lowest → (lo +ℤ pos 1) ≤ℤ (pos 0 +ℤ v a)
@@ -98,7 +99,7 @@ low_written q w a lo is = by_lt_z lo lowest (λ l. (let u = is.1 (lo +ℤ pos 1)
         let e : moved lowered lowering q w v a ≡ v a -ℤ pos 1 = moved_at lowered lowering q w v a ∙ lower_still (v a) (omega (arith, ints, under, l)) in
         omega (arith, ints, m, n, e, under))
 
-pub high_written : (q : QueryValue) → IsWithinLimits q → (a : Attr) (hi : ℤ) → IsHighest (system q) a (Some hi) → hi ≤ℤ highest
+pub high_written : (q : QueryValue) → IsWellFormed q → (a : Attr) (hi : ℤ) → IsHighest (system q) a (Some hi) → hi ≤ℤ highest
 high_written q w a hi is = by_lt_z highest hi (λ l. (let u = is.1 (hi -ℤ pos 1) (λ v s. lower v s l) in omega (arith, ints, u))) (λ l. omega (arith, ints, l))
   where
     lower : (v : Assignment) → Solves (system q) v → highest <ℤ hi → v a ≤ℤ (pos 0 +ℤ (hi -ℤ pos 1))

@@ -17,12 +17,12 @@ use Rattle.bq_model.specs.declared.plan.Numbers.{Numbers}
 use Rattle.bq_model.specs.declared.decision.Which.{Which}
 use Rattle.bq_model.specs.Query.{QueryValue}
 use Rattle.bq_model.specs.Numbers.{pages_of, page_count, numbers_of}
-use Rattle.bq_model.specs.Sharing.{numbers_for}
 use Rattle.bq_model.specs.Verdict as verdicts
-use Rattle.bq_model.specs.Verdict.{of_filter, of_plan, first_above, verdict_after, verdict_by}
+use Rattle.bq_model.specs.Verdict.{first_above, verdict_after, verdict_by}
 use Rattle.bq_laws.proofs.PlanTests.{not-true}
 use Rattle.bq_laws.proofs.Tests.{and-left, and-right, or-false}
 use Rattle.bq_schema.specs.Streams.{Shape, IsCatalog, all_differ}
+use Rattle.bq_forms.specs.Parts.{form_numbers, of_filter, of_plan}
 use Rattle.bq_forms.specs.Forms.{IsFormPlan, IsFormVerdict}
 use Rattle.bq_forms.specs.Forms as forms
 use Rattle.bq_forms.proofs.OnePart.{one_part_numbers}
@@ -132,10 +132,10 @@ verdict_again shared q (plans.Parts ps n) free a fits = by a.plan.1
 
     by : IsFormPlan shared q ps → IsFormVerdict shared q free (verdicts.accepted n)
     by (forms.whole c part whole follow e) =
-        forms.whole a.plan.0 c part whole follow (again (numbers_of q (part ∷ [])) (a.plan.2 ∙ ap (numbers_for shared q) e ∙ one_part_numbers shared q part))
+        forms.whole a.plan.0 c part whole follow (again (numbers_of q (part ∷ [])) (a.plan.2 ∙ ap (form_numbers shared q) e ∙ one_part_numbers shared q part))
     by (forms.parts none is) =
         let met = a.met a.plan.0 none in
-        forms.parts (inr none) (of_plan a.plan.0 met.0 met.1 ps is (again (numbers_for shared q ps) a.plan.2))
+        forms.parts (inr none) (of_plan a.plan.0 met.0 met.1 ps is (again (form_numbers shared q ps) a.plan.2))
 
 -- no name before is its own
 no_later : (p : List ℕ → Bool) (before : List (List ℕ)) (n : List ℕ) (rest : List (List ℕ)) → list_any p (before ++ n ∷ rest) ≡ false → p n ≡ false

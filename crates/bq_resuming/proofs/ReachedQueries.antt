@@ -1,10 +1,9 @@
 -- Live queries of a state that lines lead to.
-use Rattle.std.proofs.Common.{◌≡◌, ℕ, ◌+◌, ◌<◌, ◌≤◌, ◌^◌, ◌⊎◌, inl, inr, map, Bool, true, false, cond, nat_lt, ℤ, List, [], ◌∷◌, ◌++◌, length, get_or, zero, suc, IsTrue, All, AllPairs, refl, sym, ap, ◌∙◌, subst, arith}
+use Rattle.std.proofs.Common.{◌≡◌, ℕ, ◌+◌, ◌<◌, ◌≤◌, ◌^◌, inl, inr, Bool, true, false, cond, nat_lt, ℤ, List, [], ◌∷◌, ◌++◌, length, get_or, zero, suc, IsTrue, All, AllPairs, refl, sym, ap, ◌∙◌, subst, arith}
 use Rattle.std.specs.List.{AllByRecursion}
 use Rattle.std.specs.declared.option.Option.{Option}
 use Rattle.std.specs.declared.option.Option.TheVariants as options
 use Rattle.std.proofs.lemmas.Bool.Decides.{nat_tests}
-use Rattle.std.proofs.lemmas.List.{length-map}
 use Rattle.std.proofs.lemmas.List.Elements.{All-nil, All-from_recursion}
 use Rattle.bq_text.specs.Value.{fits_i64}
 use Rattle.bq_model.specs.declared.decision.Which.{Which}
@@ -15,13 +14,12 @@ use Rattle.bq_model.specs.Query.{QueryValue, IsWithinLimits, is_filter}
 use Rattle.bq_model.specs.Domains.{RowKeeps, RowsKeep}
 use Rattle.bq_model.specs.Meaning.{Arrival}
 use Rattle.bq_model.specs.declared.plan.PartPlan.{PartPlan}
-use Rattle.bq_model.specs.Parts.{HasMoreParts}
 use Rattle.bq_model.specs.Verdict as verdicts
-use Rattle.bq_model.specs.Verdict.{IsVerdict, of_filter, of_many_parts, of_violation, of_plan, first_above, verdict_after, verdict_by}
+use Rattle.bq_model.specs.Verdict.{first_above, verdict_after, verdict_by}
 use Rattle.bq_model.specs.Tuples.{is_before}
 use Rattle.bq_model.specs.Numbers.{parts_of, pages_of, page_count, answer_bound, numbers_of}
 use Rattle.bq_model.specs.Ranges.{all_tuples}
-use Rattle.bq_model.specs.Sharing.{sizes_in, numbers_for, IsPlanFor}
+use Rattle.bq_model.specs.Sharing.{sizes_in}
 use Rattle.bq_model.specs.Serving.{IsServingPlan}
 use Rattle.bq_model.specs.Bases.{Base, first_base}
 use Rattle.bq_model.proofs.Has.{Has, first, later}
@@ -31,11 +29,11 @@ use Rattle.bq_laws.proofs.Tests.{not_both}
 use Rattle.bq_schema.specs.Streams.{Shape, IsName, KeepsDomains}
 use Rattle.bq_parser.specs.Resolution.{HasNamed}
 use Rattle.bq_parser.proofs.Placed.{stays_named}
-use Rattle.bq_laws.proofs.CountedParts.{parts_are_counted}
 use Rattle.bq_forms.specs.Fitting.{FitsWhole}
+use Rattle.bq_forms.specs.Parts.{form_numbers, IsPartsVerdict, of_filter, of_many_parts, of_violation, of_plan}
 use Rattle.bq_forms.specs.Forms.{HasWholeForm, IsFormPlan, IsFormPlanOf, MeetsForm, IsFormVerdict}
 use Rattle.bq_forms.specs.Forms as forms
-use Rattle.bq_forms.proofs.Forms.{form_plans_serve, plans_of}
+use Rattle.bq_forms.proofs.Forms.{form_plans_serve, parts_are_few}
 use Rattle.bq_executor.specs.CellSteps.{HasParts}
 use Rattle.bq_executor.specs.Executor.{IsAccepted, most_answers}
 use Rattle.bq_executor.proofs.Answered.{filter_plain}
@@ -240,18 +238,6 @@ passed n m options.None free e = by (nat_lt free (page_count m.cells)) refl e
     by true h f = absurd cc
     by false h f = (let same : n ≡ m = cc in record { numbers = same; none = refl; fits = grind (arith, nat_tests, h) })
 
--- parts of which there are not more than so many
-few_parts : (shared : Bool) (q : QueryValue) (parts : List PartPlan) → IsPlanFor shared q parts → (¬ HasMoreParts q 4096) → length parts ≤ 4096
-few_parts shared q parts is none = elim (below_or 4096 (length parts)) [
-  | inl l ↦ absurd (
-      let e : length (map (λ (p : PartPlan). p.signs.items) parts) ≡ length parts = length-map parts (λ (p : PartPlan). p.signs.items) in
-      none ((parts_are_counted q (map (λ (p : PartPlan). p.signs.items) parts) 4096 (plans_of shared q parts is).parts).1 (omega (arith, l, e))))
-  | inr l ↦ l
-]
-  where
-    below_or : (n m : ℕ) → (n < m) ⊎ (m ≤ n)
-    below_or n m = grind arith
-
 module _ (shared : Bool) (q : QueryValue) (parts : List PartPlan) (numbers : Numbers) (free : ℕ) (is : IsFormPlanOf shared q (plans.Parts parts numbers)) where
   abbrev Accepted : Type 0
   Accepted = IsAccepted shared q (plans.Parts parts numbers) × (page_count numbers.cells ≤ free)
@@ -272,17 +258,17 @@ module _ (shared : Bool) (q : QueryValue) (parts : List PartPlan) (numbers : Num
       few (forms.whole d one gits follow f) = (let n : length parts ≡ 1 = ap length f in omega (arith, n))
       few (forms.parts none own) = absurd (none (c, part, fits))
 
-  by_parts : (¬ HasWholeForm q) → IsVerdict shared q free (verdicts.accepted numbers) → Accepted
+  by_parts : (¬ HasWholeForm q) → IsPartsVerdict shared q free (verdicts.accepted numbers) → Accepted
   by_parts none (of_filter f e) = absurd cc
   by_parts none (of_many_parts n m e) = absurd cc
   by_parts none (of_violation n m f v e) = absurd cc
   by_parts none (of_plan n m v own other e) =
-      let p = pages_fit (numbers_for shared q own) e in
+      let p = pages_fit (form_numbers shared q own) e in
       (record { plan = is; met = λ plain gone. (m, v); within = p.0; few = few is.1 }, p.1)
     where
       few : IsFormPlan shared q parts → length parts ≤ 4096
       few (forms.whole d one gits follow f) = (let n : length parts ≡ 1 = ap length f in omega (arith, n))
-      few (forms.parts gone mine) = few_parts shared q parts mine m
+      few (forms.parts gone mine) = parts_are_few shared q parts m mine
 
 pub accepted_by : (shared : Bool) (q : QueryValue) (plan : Plan) (free : ℕ) → IsFormPlanOf shared q plan → IsFormVerdict shared q free (acceptance plan) → IsAccepted shared q plan × (pages_of plan ≤ free)
 accepted_by shared q plans.Filter free is v = (record { plan = is; met = λ plain none. absurd (not_both (is_filter q) is plain); within = tt; few = omega arith }, omega arith)

@@ -1,6 +1,6 @@
 -- The ranges of the selected columns lie among the integers that may be written, so that their tuples are of integers of 64 bits.
-use Rattle.std.proofs.Common.{◌≡◌, ℕ, zero, suc, ◌<◌, ◌≤◌, ◌^◌, inl, inr, Bool, true, false, cond, not, int_eq, nat_lt, ℤ, pos, negsuc, ◌+ℤ◌, ◌-ℤ◌, ◌≤ℤ◌, List, [], ◌∷◌, map, Contains, IsFalse, refl, sym, ap, ap₂, ◌∙◌, subst, arith}
-use Rattle.std.specs.List.{AllByRecursion}
+use Rattle.std.proofs.Common.{◌≡◌, ℕ, zero, suc, ◌<◌, ◌≤◌, ◌^◌, inl, inr, Bool, true, false, cond, not, ◌||◌, int_eq, nat_lt, ℤ, pos, negsuc, ◌+ℤ◌, ◌-ℤ◌, ◌≤ℤ◌, List, [], ◌∷◌, map, Contains, IsFalse, refl, sym, ap, ap₂, ◌∙◌, subst, arith}
+use Rattle.std.specs.List.{AllByRecursion, list_any}
 use Rattle.std.specs.declared.option.Option.TheVariants.{None}
 use Rattle.std.proofs.lemmas.Bool.Decides.{nat_tests, Decides-int_eq}
 use Rattle.std.proofs.lemmas.Int.{ints, by_lt_z}
@@ -21,9 +21,10 @@ use Rattle.bq_model.specs.Assignment.{Assignment, value, compares, lies_in, Atom
 use Rattle.bq_model.specs.Parts.{pairs, sign, sign_at, signs_of, InPart}
 use Rattle.bq_model.specs.Order.{IsElement, IsLeast, IsGreatest}
 use Rattle.bq_model.specs.Violation.{IsViolation}
-use Rattle.bq_model.specs.Plan.{ArePartPlans}
+use Rattle.bq_model.specs.Plan.{ArePartPlans, dims_at}
+use Rattle.bq_model.specs.Combinations.{any_ties, binds, is_tied}
 use Rattle.bq_model.specs.Boxes.{dim_size, values_from, box}
-use Rattle.bq_model.specs.Ranges.{different, range_of, selected_ranges, at_column, all_tuples}
+use Rattle.bq_model.specs.Ranges.{different, first_tied, range_of, selected_ranges, at_column, all_tuples}
 use Rattle.bq_model.proofs.Has.{Has, first, later, Contains-from_has, Has-map_from, Has-filter_from, Has-flat_map_from, same_map}
 use Rattle.bq_model.proofs.Holding.{Holds-each, Holds-from_each}
 use Rattle.bq_model.proofs.Elements.{SidesIn, sides_in, element_from_has}
@@ -33,10 +34,20 @@ use Rattle.bq_model.proofs.BoxLaws.{range-below}
 use Rattle.bq_laws.proofs.OnePartFits.{has_cases}
 use Rattle.bq_laws.proofs.Tests.{same_bool}
 use Rattle.bq_laws.proofs.Tying.{ranges-are-exact}
+use Rattle.bq_form_pairs.specs.SplitParts.{IsSplitPart}
+use Rattle.bq_whole.specs.Signed.{IsWellFormed}
+use Rattle.bq_whole.proofs.Formed.{well_formed}
 use Rattle.bq_forms.specs.Part.{IsWholePartPlan}
-use Rattle.bq_forms.proofs.WholeServes.{selected_own}
+use Rattle.bq_forms.specs.Split.{part_query, IsSplitPlan}
+use Rattle.bq_forms.specs.Parts as parted
+use Rattle.bq_forms.specs.Parts.{IsFormViolation, IsPartsFor}
 use Rattle.bq_forms.specs.Forms.{MeetsForm, IsFormPlan}
 use Rattle.bq_forms.specs.Forms as forms
+use Rattle.bq_forms.proofs.WholeServes.{selected_own}
+use Rattle.bq_forms.proofs.FormLinks.{no_ties}
+use Rattle.bq_forms.proofs.PartQueries.{part_queries_are_well_formed}
+use Rattle.bq_forms.proofs.SplitServes.{zip_right}
+use Rattle.bq_forms.proofs.PartsVerdicts.{plain_violation}
 use Rattle.bq_forms.proofs.Forms.{plans_of}
 use Rattle.bq_resuming.proofs.Spreading.{lowest, highest, Spreads, lowered, raised, lowering, raising, lower_still, higher_still}
 use Rattle.bq_resuming.proofs.OwnRanges.{low_written, high_written}
@@ -175,18 +186,48 @@ parts_written q plan within plain is violation part k a i =
     let r = ranges-are-exact q plan within plain is violation part (Contains-from_has plan part k) a (Contains-from_has q.select a i) in
     (least_within q within part.signs.items a (range_of q part a).lo r.0, greatest_within q within part.signs.items a (range_of q part a).hi r.1)
 
--- those of the whole form are the own ranges of the columns
+-- those of a whole form are the own ranges of the columns
+own_written : (q : QueryValue) (part : PartPlan) → IsWellFormed q → IsWholePartPlan q part → (a : Attr) → Has q.select a → (lowest ≤ℤ (range_of q part a).lo) × ((range_of q part a).hi ≤ℤ highest)
+own_written q part formed is a i =
+    let own = selected_own q formed part is a (Contains-from_has q.select a i) in
+    (low_written q formed a (range_of q part a).lo own.low, high_written q formed a (range_of q part a).hi own.high)
+
 whole_written : (q : QueryValue) (part : PartPlan) → IsWithinLimits q → IsWholePartPlan q part → AreWritten q (part ∷ [])
 whole_written q part within is other k a i = elim (has_cases part other [] k) [
-  | inl e ↦ subst (λ (p : PartPlan). (lowest ≤ℤ (range_of q p a).lo) × ((range_of q p a).hi ≤ℤ highest)) e (
-      let own = selected_own q within part is a (Contains-from_has q.select a i) in
-      (low_written q within a (range_of q part a).lo own.low, high_written q within a (range_of q part a).hi own.high))
+  | inl e ↦ subst (λ (p : PartPlan). (lowest ≤ℤ (range_of q p a).lo) × ((range_of q p a).hi ≤ℤ highest)) e (own_written q part (well_formed q within) is a i)
   | inr n ↦ elim n [ ]
 ]
 
+-- without signs no pair ties two columns, so of a part without signs any two queries have the same ranges
+tied_alike : (q r : QueryValue) (part : PartPlan) → part.signs.items ≡ [] → (a b : Attr) → is_tied r part a b ≡ is_tied q part a b
+tied_alike q r part e a b =
+    let none : (x : QueryValue) → any_ties a b (pairs x) part.signs.items ≡ false = λ x. ap (any_ties a b (pairs x)) e ∙ no_ties a b (pairs x) in
+    ap (λ t. (attr_eq a b || t) || list_any (binds a b) part.local) (none r ∙ sym (none q))
+
+first_alike : (f g : Attr → Attr → Bool) → ((a b : Attr) → f a b ≡ g a b) → (dims : List Dim) (a : Attr) → first_tied f dims a ≡ first_tied g dims a
+first_alike f g same [] a = refl
+first_alike f g same (d ∷ dims) a = ap₂ (λ (t : Bool) (e : Dim). cond t d e) (same d.attr a) (first_alike f g same dims a)
+
+-- the ranges of a part of the split form are own ranges of the query with its signs
+split_written : (q : QueryValue) → IsWithinLimits q → (ss : List Sign) → IsSplitPart q ss → (part : PartPlan) → IsWholePartPlan (part_query q ss) part
+    → (a : Attr) → Has q.select a → (lowest ≤ℤ (range_of q part a).lo) × ((range_of q part a).hi ≤ℤ highest)
+split_written q within ss of part is a i =
+    let r : QueryValue = part_query q ss in
+    let same : range_of r part a ≡ range_of q part a = first_alike (is_tied r part) (is_tied q part) (tied_alike q r part is.signs) (dims_at part a.stream) a in
+    subst (λ (d : Dim). (lowest ≤ℤ d.lo) × (d.hi ≤ℤ highest)) same (own_written r part (part_queries_are_well_formed q within ss of) is a i)
+
+split_plan_written : (q : QueryValue) (plan : List PartPlan) → IsWithinLimits q → IsSplitPlan q plan → AreWritten q plan
+split_plan_written q plan within is part k a i =
+    let own = zip_right (λ ss p. IsWholePartPlan (part_query q ss) p) is.parts plan is.plans part k in
+    split_written q within own.0 (All-contains (IsSplitPart q) is.parts own.0 is.are.each (Contains-from_has is.parts own.0 own.1)) part own.2 a i
+
+parts_of_written : (shared : Bool) (q : QueryValue) (plan : List PartPlan) → IsWithinLimits q → IsFalse (is_filter q) → IsFormViolation q None → IsPartsFor shared q plan → AreWritten q plan
+parts_of_written shared q plan within plain none (parted.IsPartsFor.plain c is) = parts_written q plan within plain (plans_of shared q plan is) (plain_violation q None plain c none)
+parts_of_written shared q plan within plain none (parted.IsPartsFor.split c is) = split_plan_written q plan within is.0
+
 plan_written : (shared : Bool) (q : QueryValue) (plan : List PartPlan) → IsWithinLimits q → IsFalse (is_filter q) → MeetsForm q → IsFormPlan shared q plan → AreWritten q plan
 plan_written shared q plan within plain met (forms.whole c part fits follow e) = subst (AreWritten q) (sym e) (whole_written q part within fits.plan)
-plan_written shared q plan within plain met (forms.parts none is) = parts_written q plan within plain (plans_of shared q plan is) (met plain none).1
+plan_written shared q plan within plain met (forms.parts none is) = parts_of_written shared q plan within plain (met plain none).1 is
 
 module _ (q : QueryValue) (plan : List PartPlan) (written : AreWritten q plan) where
   range_fits : (part : PartPlan) → Has plan part → (a : Attr) → Has q.select a → (x : ℤ) → (range_of q part a).lo ≤ℤ x → x ≤ℤ (range_of q part a).hi → Fits x

@@ -2,6 +2,7 @@
 ghost use Rattle.std.specs.Prelude.{◌≡◌, ◌<◌, false, IfOk, length, nat_le};
 ghost use Rattle.std.specs.List.{list_any};
 ghost use Rattle.std.specs.Str.{bytes_eq};
+ghost use Rattle.bq_model.specs.Query.{IsWithinLimits};
 ghost use Rattle.bq_parser.specs.Resolution.{IsTaken, HasNamed, named_select};
 ghost use Rattle.bq_session.specs.Requests as requests;
 ghost use Rattle.bq_session.specs.Requests.{query_of};
@@ -59,7 +60,8 @@ pub fn find_query(
 
 /// Returns the streams of a query, by their numbers.
 pub(crate) fn streams_of(query: &Query) -> ArrayVec<u8, 4>
-    ensures { result.items ≡ query.now.from }
+    ensures value { result.items ≡ query.now.from }
+    ensures limits { IsWithinLimits query.now }
 {
     let mut from = ArrayVec::new();
     // There is room, so this is done.

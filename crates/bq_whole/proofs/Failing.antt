@@ -13,7 +13,7 @@ use Rattle.bq_model.specs.Violation.{condition_lt}
 use Rattle.bq_model.proofs.Elements.{attr_separates}
 use Rattle.bq_model.proofs.Has.{Has, first, later, Contains-from_has}
 use Rattle.bq_laws.proofs.Keeping.{history-keeps, combination-keeps}
-use Rattle.bq_laws.proofs.Queries.{IsQuery, query_within}
+use Rattle.bq_laws.proofs.Queries.{IsQuery}
 use Rattle.bq_laws.proofs.Tests.{not_both, false_if}
 use Rattle.bq_whole.specs.System.{system}
 use Rattle.bq_whole.specs.Links.{AreLinks}
@@ -23,6 +23,7 @@ use Rattle.bq_whole.specs.Whole as Whole
 use Rattle.bq_whole.specs.Whole.{Form, IsWholeForm, WholeBreaks, HasFiniteRanges}
 use Rattle.bq_whole.specs.Failing as Failing
 use Rattle.bq_whole.specs.Failing.{Contradicts, IsFirstWholeBreak, failure_of, IsWholeViolation, HasOneWholeViolation, FirstsGiveBreak, ContradictionsHaveNoForm, ContradictionsAnswerNothing, PlansTellViolations}
+use Rattle.bq_whole.proofs.Formed.{query_formed}
 use Rattle.bq_whole.proofs.Suffice.{solves_query, one_list_of_links}
 use Rattle.bq_whole.proofs.Planned.{plans_are_forms, plans_tell_breaks}
 
@@ -63,7 +64,8 @@ same_condition C3 C1 h k = absurd (k refl)
 same_condition C3 C2 h k = absurd (k refl)
 same_condition C3 C3 h k = refl
 
-one_first_break : (q : QueryValue) (links : List Atom) (r s : Option Break) → IsFirstWholeBreak q links r → IsFirstWholeBreak q links s → r ≡ s
+-- two first breaks are the same
+pub one_first_break : (q : QueryValue) (links : List Atom) (r s : Option Break) → IsFirstWholeBreak q links r → IsFirstWholeBreak q links s → r ≡ s
 one_first_break q links None None x y = refl
 one_first_break q links None (Some c) x y = absurd (x c.condition c.attr y.0)
 one_first_break q links (Some b) None x y = absurd (y b.condition b.attr x.0)
@@ -119,7 +121,7 @@ contradictions_answer_nothing q within none h keep =
     ap (map (λ c. projected q (assignment_of c))) (filter_none (λ c. holds q (assignment_of c)) (product (map (rows h) q.from)) none_holds)
   where
     well : IsQuery q
-    well = query_within q within
+    well = query_formed q within
 
     none_holds : (c : List (List ℤ)) → Has (product (map (rows h) q.from)) c → holds q (assignment_of c) ≡ false
     none_holds c i = false_if (holds q (assignment_of c)) (λ e. none (assignment_of c) (solves_query q (assignment_of c) e (combination-keeps q well (rows h) (history-keeps q h keep) c i)))

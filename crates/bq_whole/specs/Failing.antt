@@ -7,7 +7,7 @@ use Rattle.bq_model.specs.declared.atom.Atom.{Atom}
 use Rattle.bq_model.specs.declared.condition.Condition.{Condition}
 use Rattle.bq_model.specs.declared.condition.Condition.TheVariants.{C1, C2, C3}
 use Rattle.bq_model.specs.declared.first_break.Break.{Break}
-use Rattle.bq_model.specs.Query.{QueryValue, IsWithinLimits, is_filter, attr_lt}
+use Rattle.bq_model.specs.Query.{QueryValue, is_filter, attr_lt}
 use Rattle.bq_model.specs.Assignment.{Assignment}
 use Rattle.bq_model.specs.Domains.{RowsKeep}
 use Rattle.bq_model.specs.FirstBreak.{IsFirst, first_of_three}
@@ -15,6 +15,7 @@ use Rattle.bq_model.specs.Meaning.{Arrival, answers}
 use Rattle.bq_model.specs.Violation.{Failure, condition_lt}
 use Rattle.bq_whole.specs.System.{system, Solves}
 use Rattle.bq_whole.specs.Links.{AreLinks}
+use Rattle.bq_whole.specs.Signed.{IsWellFormed}
 use Rattle.bq_whole.specs.Whole.{Form, IsWholeForm, WholeBreaks, HasFiniteRanges}
 use Rattle.bq_whole.specs.Plan.{IsWholePlan}
 
@@ -54,14 +55,14 @@ FirstsGiveBreak =
 
 -- a query whose system contradicts itself has no form
 abbrev pub ContradictionsHaveNoForm : Type 0
-ContradictionsHaveNoForm = (q : QueryValue) → IsWithinLimits q → Contradicts q → (f : Form) → ¬ IsWholeForm q f
+ContradictionsHaveNoForm = (q : QueryValue) → IsWellFormed q → Contradicts q → (f : Form) → ¬ IsWholeForm q f
 
 -- and is answered nothing
 abbrev pub ContradictionsAnswerNothing : Type 0
-ContradictionsAnswerNothing = (q : QueryValue) → IsWithinLimits q → Contradicts q → (h : List Arrival) → RowsKeep q h → answers q h ≡ []
+ContradictionsAnswerNothing = (q : QueryValue) → IsWellFormed q → Contradicts q → (h : List Arrival) → RowsKeep q h → answers q h ≡ []
 
 -- the kept ranges of the plan have both ends exactly where the query has no violation
 abbrev pub PlansTellViolations : Type 0
 PlansTellViolations =
-    (q : QueryValue) → IsWithinLimits q → IsFalse (is_filter q) → (f : Form) → IsWholePlan q f
+    (q : QueryValue) → IsWellFormed q → IsFalse (is_filter q) → (f : Form) → IsWholePlan q f
     → HasFiniteRanges q f ↔ IsWholeViolation q None

@@ -7,10 +7,11 @@ use Rattle.bq_model.specs.declared.atom.Atom.{Atom}
 use Rattle.bq_model.specs.declared.condition.Condition.{Condition}
 use Rattle.bq_model.specs.declared.plan.Kind.{Kind}
 use Rattle.bq_model.specs.Members.{Has}
-use Rattle.bq_model.specs.Query.{QueryValue, IsWithinLimits, attr_lt}
+use Rattle.bq_model.specs.Query.{QueryValue, attr_lt}
 use Rattle.bq_model.specs.Boxes.{range_size}
 use Rattle.bq_whole.specs.System.{system, AreOneClass}
 use Rattle.bq_whole.specs.Links.{AreLinks}
+use Rattle.bq_whole.specs.Signed.{IsWellFormed}
 use Rattle.bq_whole.specs.Ranges.{Range}
 use Rattle.bq_whole.specs.Kept.{IsRange, IsKeptRange}
 use Rattle.bq_whole.specs.Whole.{KeptDim, StreamKeep, IsRead, IsLeftAlone, IsRightAlone, IsOneWay, IsServed, Form, RowMeets, IsWholeForm, WholeBreaks, HasFiniteRanges}
@@ -109,5 +110,5 @@ HasOneWholePlan = (q : QueryValue) (f g : Form) → IsWholePlan q f → IsWholeP
 -- the kept ranges of the plan have both ends exactly where no condition is broken
 abbrev pub PlansTellBreaks : Type 0
 PlansTellBreaks =
-    (q : QueryValue) → IsWithinLimits q → (f : Form) → IsWholePlan q f
+    (q : QueryValue) → IsWellFormed q → (f : Form) → IsWholePlan q f
     → HasFiniteRanges q f ↔ ((c : Condition) (a : Attr) → ¬ WholeBreaks q f.links c a)

@@ -6,7 +6,7 @@ use Rattle.bq_model.specs.declared.first_break.Break.{Break}
 use Rattle.bq_model.specs.declared.plan.Dim.{Dim}
 use Rattle.bq_model.specs.declared.plan.Kind.{Kind}
 use Rattle.bq_model.specs.Admission.{alone, keeps_local}
-use Rattle.bq_model.specs.Query.{QueryValue, IsWithinLimits}
+use Rattle.bq_model.specs.Query.{QueryValue}
 use Rattle.bq_model.proofs.Has.{Has, first, later, Has-map_from}
 use Rattle.bq_whole.specs.Links.{AreLinks}
 use Rattle.bq_whole.specs.Ranges.{range}
@@ -14,6 +14,7 @@ use Rattle.bq_whole.specs.Whole.{KeptDim, Form, RowMeets, IsFinite, HasFiniteRan
 use Rattle.bq_whole.specs.Plan.{IsPlannedStream, IsWholePlan}
 use Rattle.bq_whole.specs.Failing as Failing
 use Rattle.bq_whole.specs.Failing.{Contradicts, IsFirstWholeBreak, IsWholeViolation}
+use Rattle.bq_whole.specs.Signed.{IsWellFormed}
 use Rattle.bq_whole.proofs.Failing.{plans_tell_violations}
 use Rattle.bq_whole.proofs.Planned.{plans_tell_breaks}
 use Rattle.bq_whole_plan.specs.declared.extreme.KeptClass.{KeptClass}
@@ -47,7 +48,7 @@ same_dims (k ∷ ks) f =
     let e : Planned.dim_of k ≡ kept_dim (dim_of k) = (λ j. record { attr = k.attr; range = range (sym l j) (sym h j) }) in
     ap (λ d. d ∷ map Planned.dim_of ks) e ∙ ap (λ ds. kept_dim (dim_of k) ∷ ds) (same_dims ks (λ d h. f d (later h)))
 
-module _ (q : QueryValue) (w : IsWithinLimits q) (s : IsSolvable q) (links : List ColumnLink) (streams : List KeptStream) (ts : List LocalCondition) where
+module _ (q : QueryValue) (w : IsWellFormed q) (s : IsSolvable q) (links : List ColumnLink) (streams : List KeptStream) (ts : List LocalCondition) where
   abbrev open_form : Form
   open_form = record {
     links = map atom_of links;

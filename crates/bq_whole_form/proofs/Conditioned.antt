@@ -16,7 +16,10 @@ use Rattle.bq_whole.specs.System.{Difference, system, IsOf, AreOneClass}
 use Rattle.bq_whole.specs.Kept.{IsLowest, IsHighest}
 use Rattle.bq_whole.specs.Plan.{NamesClass}
 use Rattle.bq_whole.specs.Laws.{IsLeastBound}
+use Rattle.bq_whole.specs.Signed.{all_said}
+use Rattle.bq_whole.proofs.Signed.{said_no_unlike}
 use Rattle.bq_whole.proofs.Unbroken.{class_turned, class_on}
+use Rattle.bq_whole_plan.specs.Closed.{IsWithSigns}
 use Rattle.bq_whole_plan.specs.Classes.{IsNameOf}
 use Rattle.bq_whole_plan.specs.Columns.{listed}
 use Rattle.bq_model.specs.declared.plan.LocalCondition.{LocalCondition}
@@ -167,12 +170,21 @@ unlikes_push place atoms s o ts new p e h = subst (AreUnlikes place (atoms ++ s 
     by t (inl k) = let r = h.each t k in (r.0, Has-append_left (s ∷ []) r.1, r.2)
     by t (inr k) = (s, Has-append_right atoms first, subst (IsUnlikeAt place s) (has_listed o k) p)
 
-pub unlikes_more : (place : ℕ) (atoms ls : List Atom) (i : ℕ) (d : Atom) (o : Option LocalCondition) (ts new : List LocalCondition) → ls ≡ atoms → i < length ls → IsUnlikeAt place (get_or ls i d) o → new ≡ ts ++ listed o
+pub unlikes_more : (place : ℕ) (atoms : List Atom) (i : ℕ) (d : Atom) (o : Option LocalCondition) (ts new : List LocalCondition) → i < length atoms → IsUnlikeAt place (get_or atoms i d) o → new ≡ ts ++ listed o
     → AreUnlikes place (take i atoms) ts → AreUnlikes place (take (i + 1) atoms) new
-unlikes_more place atoms ls i d o ts new same l p e h =
-    let k : i < length atoms = subst (λ z. i < length z) same l in
-    let r : IsUnlikeAt place (get_or atoms i d) o = subst (λ z. IsUnlikeAt place (get_or z i d) o) same p in
-    subst (λ z. AreUnlikes place z new) (sym (take_more atoms i d k)) (unlikes_push place (take i atoms) (get_or atoms i d) o ts new r e h)
+unlikes_more place atoms i d o ts new l p e h = subst (λ z. AreUnlikes place z new) (sym (take_more atoms i d l)) (unlikes_push place (take i atoms) (get_or atoms i d) o ts new p e h)
 
-pub unlikes_all : (place : ℕ) (atoms ls : List Atom) (i : ℕ) (ts : List LocalCondition) → ls ≡ atoms → length ls ≤ i → AreUnlikes place (take i atoms) ts → AreUnlikes place atoms ts
-unlikes_all place atoms ls i ts same l h = subst (λ z. AreUnlikes place z ts) (take_all i atoms (subst (λ z. length z ≤ i) same l)) h
+pub unlikes_all : (place : ℕ) (atoms : List Atom) (i : ℕ) (ts : List LocalCondition) → length atoms ≤ i → AreUnlikes place (take i atoms) ts → AreUnlikes place atoms ts
+unlikes_all place atoms i ts l h = subst (λ z. AreUnlikes place z ts) (take_all i atoms l) h
+
+-- no sign says `<>`
+pub unlikes_signed : (place : ℕ) (own : List Atom) (q r : QueryValue) (ts : List LocalCondition) → own ≡ q.atoms → IsWithSigns q r → AreUnlikes place own ts → AreUnlikes place r.atoms ts
+unlikes_signed place own q r ts same signed h =
+    subst (λ z. AreUnlikes place z.atoms ts) (sym signed.is) (subst (λ z. AreUnlikes place (all_said signed.pairs signed.signs ++ z) ts) same record {
+      few = (let f = h.few in let g = length-append (all_said signed.pairs signed.signs) own in omega (arith, f, g));
+      each = λ t k. (let r = h.each t k in (r.0, Has-append_right (all_said signed.pairs signed.signs) r.1, r.2));
+      all = λ s k t i. elim (Has-append_cases (all_said signed.pairs signed.signs) own s k) [
+        | inl m ↦ absurd (said_no_unlike signed.pairs signed.signs s m i.0.op)
+        | inr m ↦ h.all s m t i
+      ];
+    })

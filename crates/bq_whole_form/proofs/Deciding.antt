@@ -13,7 +13,7 @@ use Rattle.bq_model.specs.declared.atom.Op.{Op}
 use Rattle.bq_model.specs.Admission.{alone, meets_local, keeps_local}
 use Rattle.bq_model.specs.Assignment.{Assignment, value, compares, IsAmong, AtomHolds}
 use Rattle.bq_model.specs.Parts.{is_within}
-use Rattle.bq_model.specs.Query.{QueryValue, attr_eq, attrs_of, is_attr, HasAttr, IsColumn, IsDomain, IsWithinLimits}
+use Rattle.bq_model.specs.Query.{QueryValue, attr_eq, attrs_of, is_attr, HasAttr, IsColumn, IsDomain}
 use Rattle.bq_model.proofs.Has.{Has, Has-from_contains, Contains-from_has, Has-append_left, Has-append_right, Has-append_cases, Has-map, Has-map_from, Has-flat_map_from}
 use Rattle.bq_model.proofs.Holding.{Compares-from_test, compares-true}
 use Rattle.bq_laws.proofs.Tests.{true_or_false, not_both, and-left, or-cases, or-left, or-right, all_at, all_if, attr_eq-is, nat_true}
@@ -24,6 +24,7 @@ use Rattle.bq_whole.specs.Kept.{IsLowest, IsHighest}
 use Rattle.bq_whole.specs.Plan.{NamesClass}
 use Rattle.bq_whole.specs.Laws.{IsBase, IsLeastBound}
 use Rattle.bq_whole.specs.Whole.{RowMeets}
+use Rattle.bq_whole.specs.Signed.{IsWellFormed}
 use Rattle.bq_whole.proofs.Few.{local_conditions_are_few}
 use Rattle.bq_whole_plan.specs.Closed.{apart, IsSolvable}
 use Rattle.bq_whole_plan.specs.Classes.{beside, IsNameOf}
@@ -48,7 +49,7 @@ abbrev negated : Option ℤ → Option ℤ
 negated None = None
 negated (Some u) = Some (neg_ℤ u)
 
-module _ (q : QueryValue) (w : IsWithinLimits q) (s : IsSolvable q) where
+module _ (q : QueryValue) (w : IsWellFormed q) (s : IsSolvable q) where
   -- ---- the columns that the system names
 
   abbrev xs : List Attr

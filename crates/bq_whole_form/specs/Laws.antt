@@ -1,11 +1,12 @@
 -- What holds of the whole form of each query.
 use Rattle.std.specs.Prelude.{◌≡◌, ℕ, ◌<◌, nat_eq, IsFalse, if◌then◌else◌, [], ◌∷◌, length}
 use Rattle.bq_model.specs.declared.plan.PartPlan.{PartPlan}
-use Rattle.bq_model.specs.Query.{QueryValue, IsWithinLimits, is_filter}
+use Rattle.bq_model.specs.Query.{QueryValue, is_filter}
 use Rattle.bq_model.specs.Boxes.{box_size}
 use Rattle.bq_model.specs.Plan.{stream_at, dims_at}
 use Rattle.bq_model.specs.Numbers.{cell_count, work, share}
 use Rattle.bq_whole.specs.Failing.{IsWholeViolation}
+use Rattle.bq_whole.specs.Signed.{IsWellFormed}
 use Rattle.bq_whole_form.specs.declared.whole.Whole.{Whole}
 use Rattle.bq_whole_form.specs.Numbers.{part_with, cells_with, dims_of}
 use Rattle.bq_whole_form.specs.Part.{IsWhole, failure_in}
@@ -23,4 +24,4 @@ NumbersReadDims =
 
 -- the whole form of a query that is no filter tells its violation
 abbrev pub WholesTellViolations : Type 0
-WholesTellViolations = (q : QueryValue) → IsWithinLimits q → IsFalse (is_filter q) → (w : Whole) → IsWhole q w → IsWholeViolation q (failure_in w)
+WholesTellViolations = (q : QueryValue) → IsWellFormed q → IsFalse (is_filter q) → (w : Whole) → IsWhole q w → IsWholeViolation q (failure_in w)

@@ -259,15 +259,23 @@ fn differences(closed: &ClosedSystem, place: u8) -> ArrayVec<LocalCondition, 64>
     list
 }
 
-// The comparisons `<>` of a stream.
-fn unlikes(closed: &ClosedSystem, place: u8) -> ArrayVec<LocalCondition, 64>
-    ensures { AreUnlikes place closed.now.atoms result.items }
+// The comparisons `<>` of a stream among some.
+fn unlikes_among(atoms: &[Atom], place: u8) -> ArrayVec<LocalCondition, 64>
+    requires { length atoms.now ≤ 16 }
+    ensures { AreUnlikes place atoms.now result.items }
 {
     let mut list = ArrayVec::new();
-    for atom in closed.query().atoms() {
+    for atom in atoms {
         add(&mut list, unlike(place, atom));
     }
     list
+}
+
+// The comparisons `<>` of a stream: those of the query, since no sign says one.
+fn unlikes(closed: &ClosedSystem, place: u8) -> ArrayVec<LocalCondition, 64>
+    ensures { AreUnlikes place closed.now.atoms result.items }
+{
+    unlikes_among(closed.query().atoms(), place)
 }
 
 // Adds what the rows of the stream at a place are asked. An error says that memory was not found.

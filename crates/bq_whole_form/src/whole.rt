@@ -20,7 +20,7 @@ use std::alloc::{AllocError, Global};
 /// of the different selected columns.
 #[derive(Drop)]
 pub struct WholePart {
-    pub links: ArrayVec<ColumnLink, 16>,
+    pub links: ArrayVec<ColumnLink, 24>,
     pub conditions: Vec<LocalCondition>,
     pub streams: ArrayVec<WholeStream, 4>,
     pub selected: ArrayVec<Dim, 8>,

@@ -7,7 +7,7 @@ use Rattle.bq_model.specs.declared.atom.Atom.{Atom}
 use Rattle.bq_model.specs.declared.atom.Element.{Element}
 use Rattle.bq_model.specs.declared.atom.Element.TheVariants as element
 use Rattle.bq_model.specs.declared.plan.Kind.{Kind}
-use Rattle.bq_model.specs.Query.{QueryValue, attr_eq, attr_lt, attrs_of, consts_of, IsColumn, IsWithinLimits}
+use Rattle.bq_model.specs.Query.{QueryValue, attr_eq, attr_lt, attrs_of, consts_of, IsColumn}
 use Rattle.bq_model.proofs.Has.{Has, Contains-from_has, Has-map_from, Has-filter_from}
 use Rattle.bq_model.proofs.Elements.{HasElement, SidesIn, sides_in, attr_separates}
 use Rattle.bq_laws.proofs.Tests.{not_both, false_if, attr_eq-is, attr_eq-itself}
@@ -17,6 +17,7 @@ use Rattle.bq_whole.specs.Kept.{IsKeptRange}
 use Rattle.bq_whole.specs.Whole as Whole
 use Rattle.bq_whole.specs.Whole.{IsRead, IsLeftAlone, IsRightAlone, IsOneWay}
 use Rattle.bq_whole.specs.Plan.{NamesClass, HasRead, room, is_more, is_larger, MayBeExtreme, IsExtreme, IsPlannedKind}
+use Rattle.bq_whole.specs.Signed.{IsWellFormed}
 use Rattle.bq_whole.proofs.CutLaw.{class_itself}
 use Rattle.bq_whole.proofs.Suffice.{thins_among, once_from, turned_sides}
 use Rattle.bq_whole.proofs.Unbroken.{class_turned, kept_one}
@@ -74,7 +75,7 @@ module _ (q : QueryValue) (links : List Atom) (are : AreLinks q links) where
       let s : SidesIn q.atoms r.0 = sides_in q.atoms r.0 (Has-filter_from (λ t. are_across t.left t.right) q.atoms r.0 r.1) in
       subst (λ t. IsNamed t.left × IsNamed t.right) r.2 (turned_sides IsNamed r.0.op r.0.left r.0.right (named_side r.0.left s.left) (named_side r.0.right s.right))
 
-  module _ (w : IsWithinLimits q) where
+  module _ (w : IsWellFormed q) where
     named_column : (a : Attr) → Has (attrs_of q.atoms) a → a.column < 8
     named_column a h = (All-contains (IsColumn (length q.from)) (attrs_of q.atoms) a w.attrs (Contains-from_has _ a h)).column
 
@@ -208,7 +209,7 @@ module _ (q : QueryValue) (links : List Atom) (place : ℕ) where
   at_column : (b : Attr) → b.stream ≡ place → column_at place b.column ≡ b
   at_column b e = (let f : place ≡ b.stream = sym e in λ i. record { stream = f i; column = b.column })
 
-  module _ (are : AreLinks q links) (w : IsWithinLimits q) where
+  module _ (are : AreLinks q links) (w : IsWellFormed q) where
     moved : (b : Attr) (m : MayBeExtreme q links place b) → (o : MayBeExtreme q links place (column_at place b.column)) × (o.range ≡ m.range)
     moved b m =
         let e : b ≡ column_at place b.column = sym (at_column b m.here) in (

@@ -9,7 +9,7 @@ use Rattle.bq_model.specs.declared.atom.Atom.{Atom}
 use Rattle.bq_model.specs.declared.atom.Domain.{Domain}
 use Rattle.bq_model.specs.declared.atom.Element.{Element}
 use Rattle.bq_model.specs.declared.atom.Element.TheVariants as element
-use Rattle.bq_model.specs.Query.{QueryValue, attr_eq, attr_lt, attrs_of, consts_of, IsDomain, IsWithinLimits}
+use Rattle.bq_model.specs.Query.{QueryValue, attr_eq, attr_lt, attrs_of, consts_of, IsDomain}
 use Rattle.bq_model.specs.Assignment.{Assignment, value, IsAmong}
 use Rattle.bq_model.proofs.Has.{Has, first, later, Has-nil, Has-from_contains, Contains-from_has, Has-append_left, Has-append_right, Has-append_cases, Has-map, Has-map_from, Has-flat_map, Has-flat_map_from}
 use Rattle.bq_model.proofs.Unique.{Ascends, more, ascends_from}
@@ -20,6 +20,7 @@ use Rattle.bq_constraints.proofs.NodeFacts.{Agree, Known, node_there, node_has, 
 use Rattle.bq_whole.specs.System.{Difference, Meets, atom_bounds, domain_bounds, system, Solves, Bound}
 use Rattle.bq_whole.specs.Kept.{IsLowest, IsHighest, IsRange}
 use Rattle.bq_whole.specs.Ranges.{Range}
+use Rattle.bq_whole.specs.Signed.{IsWellFormed}
 use Rattle.bq_whole.proofs.Suffice.{bounds_sides}
 use Rattle.bq_whole_plan.specs.Closed.{constraint_of, named_bounds, named_system, closed_constraints}
 
@@ -88,7 +89,7 @@ module _ (q : QueryValue) where
   extended_known v (element.Attr a) h = ap (λ b. cond b (v a) (low_of q.domains a)) (node_there (attrs_of q.atoms) a h)
   extended_known v (element.Const k) h = refl
 
-  module _ (w : IsWithinLimits q) where
+  module _ (w : IsWellFormed q) where
     pub domain_some : (e : Domain) → Has q.domains e → e.lo ≤ℤ e.hi
     domain_some e h = (All-contains (IsDomain q) q.domains e w.domains (Contains-from_has q.domains e h)).some
 

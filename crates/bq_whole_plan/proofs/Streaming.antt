@@ -6,7 +6,7 @@ use Rattle.std.proofs.Math.Seq.{get_or-append_seam}
 use Rattle.bq_model.specs.declared.atom.Attr.{Attr}
 use Rattle.bq_model.specs.declared.atom.Atom.{Atom}
 use Rattle.bq_model.specs.declared.plan.Kind.{Kind}
-use Rattle.bq_model.specs.Query.{QueryValue, attr_lt, IsWithinLimits}
+use Rattle.bq_model.specs.Query.{QueryValue, attr_lt}
 use Rattle.bq_model.specs.Members.{Ascends, none, more}
 use Rattle.bq_model.proofs.Has.{Has, first, later, Has-nil, Has-append_left, Has-append_right, Has-append_cases}
 use Rattle.bq_model.proofs.Split.{pairs_from}
@@ -17,6 +17,7 @@ use Rattle.bq_whole.specs.Whole as Whole
 use Rattle.bq_whole.specs.Whole.{KeptDim, StreamKeep, IsRead, IsServed}
 use Rattle.bq_whole.specs.Plan as Plan
 use Rattle.bq_whole.specs.Plan.{HasRead, IsOfExtreme, IsPlannedKind, IsPlannedDim, IsPlannedStream}
+use Rattle.bq_whole.specs.Signed.{IsWellFormed}
 use Rattle.bq_whole.proofs.CutLaw.{class_itself}
 use Rattle.bq_whole.proofs.Unbroken.{class_on}
 use Rattle.bq_whole_plan.specs.declared.extreme.KeptClass.{KeptClass}
@@ -146,7 +147,7 @@ module _ (q : QueryValue) (links : List Atom) (place : ℕ) (kind : Kind) where
   dims_step n dims new None d e h = subst (AreDimsOf (n + 1)) (sym (e ∙ append-nil dims)) (dims_none n dims d h)
   dims_step n dims new (Some k) d e h = subst (AreDimsOf (n + 1)) (sym e) (dims_more n dims k d h)
 
-  pub stream_is : AreLinks q links → IsWithinLimits q → (dims : List KeptClass) → IsPlannedKind q links place kind → AreDimsOf 8 dims → IsPlannedStream q links place (keep_of dims kind)
+  pub stream_is : AreLinks q links → IsWellFormed q → (dims : List KeptClass) → IsPlannedKind q links place kind → AreDimsOf 8 dims → IsPlannedStream q links place (keep_of dims kind)
   stream_is are w dims k h = record {
     kind = k;
     ascending = pairs_from (λ d e. attr_lt d.attr e.attr) (map dim_of dims) h.ascends;

@@ -1,5 +1,5 @@
 -- The comparisons between streams, each once, and then one after another: each goes or stays.
-use Rattle.std.proofs.Common.{◌≡◌, ℕ, suc, zero, ◌+◌, ◌-◌, ◌<◌, ◌≤◌, ◌⊎◌, inl, inr, ◌↔◌, IsTrue, List, [], ◌∷◌, ◌++◌, map, filter, length, take, drop, get_or, Bool, true, false, not, cond, nat_eq, Option, Some, None, Contains, append-nil, length-append, length-drop, refl, sym, ◌∙◌, ap, subst, arith}
+use Rattle.std.proofs.Common.{◌≡◌, ℕ, suc, zero, ◌+◌, ◌-◌, ◌<◌, ◌≤◌, ◌⊎◌, inl, inr, ◌↔◌, IsTrue, List, [], ◌∷◌, ◌++◌, map, filter, length, take, drop, get_or, Bool, true, false, not, cond, nat_eq, Option, Some, None, Contains, append-nil, append_assoc, length-append, length-drop, refl, sym, ◌∙◌, ap, subst, arith}
 use Rattle.std.proofs.lemmas.List.{take_more, take_all, map-append}
 use Rattle.std.proofs.lemmas.List.Elements.{filter-append}
 use Rattle.bq_model.specs.declared.atom.Attr.{Attr}
@@ -61,12 +61,13 @@ once_known (x ∷ ts) t h = elim (once_either ts t) [
       ∙ ap (λ z. x ∷ z) (filter-append (λ u. not (atom_eq x u)) (each_once ts) (t ∷ []) ∙ ap (λ z. filter (λ u. not (atom_eq x u)) (each_once ts) ++ z) f ∙ append-nil (filter (λ u. not (atom_eq x u)) (each_once ts))))
 ]
 
--- the comparisons between streams of one more atom
-between_more : (ts : List Atom) (i : ℕ) (t : Atom) → i < length ts → between_streams (take (i + 1) ts) ≡ between_streams (take i ts) ++ between_streams (get_or ts i t ∷ [])
-between_more ts i t l =
-    ap between_streams (take_more ts i t l)
-    ∙ ap (map (λ t. turned_by t.op t.left t.right)) (filter-append (λ t. are_across t.left t.right) (take i ts) (get_or ts i t ∷ []))
-    ∙ map-append (λ t. turned_by t.op t.left t.right) (filter (λ t. are_across t.left t.right) (take i ts)) (filter (λ t. are_across t.left t.right) (get_or ts i t ∷ []))
+-- the comparisons between streams of one more atom, behind some others
+between_more : (base ts : List Atom) (i : ℕ) (t : Atom) → i < length ts → between_streams (base ++ take (i + 1) ts) ≡ between_streams (base ++ take i ts) ++ between_streams (get_or ts i t ∷ [])
+between_more base ts i t l =
+    ap (λ z. between_streams (base ++ z)) (take_more ts i t l)
+    ∙ ap between_streams (sym (append_assoc base (take i ts) (get_or ts i t ∷ [])))
+    ∙ ap (map (λ t. turned_by t.op t.left t.right)) (filter-append (λ t. are_across t.left t.right) (base ++ take i ts) (get_or ts i t ∷ []))
+    ∙ map-append (λ t. turned_by t.op t.left t.right) (filter (λ t. are_across t.left t.right) (base ++ take i ts)) (filter (λ t. are_across t.left t.right) (get_or ts i t ∷ []))
 
 same_links : (x y : ColumnLink) → atom_of x ≡ atom_of y → x ≡ y
 same_links x y e =
@@ -79,43 +80,43 @@ same_links x y e =
     column_of {a} {b} f = cc
 
 -- no link of an atom
-pub across_none : (ts : List Atom) (i : ℕ) (t : Atom) (list : List ColumnLink) → i < length ts → map atom_of (listed None) ≡ between_streams (get_or ts i t ∷ [])
-    → map atom_of list ≡ each_once (between_streams (take i ts)) → map atom_of list ≡ each_once (between_streams (take (i + 1) ts))
-across_none ts i t list l e h = h ∙ ap each_once (sym (append-nil (between_streams (take i ts))) ∙ ap (λ z. between_streams (take i ts) ++ z) e ∙ sym (between_more ts i t l))
+pub across_none : (base ts : List Atom) (i : ℕ) (t : Atom) (list : List ColumnLink) → i < length ts → map atom_of (listed None) ≡ between_streams (get_or ts i t ∷ [])
+    → map atom_of list ≡ each_once (between_streams (base ++ take i ts)) → map atom_of list ≡ each_once (between_streams (base ++ take (i + 1) ts))
+across_none base ts i t list l e h = h ∙ ap each_once (sym (append-nil (between_streams (base ++ take i ts))) ∙ ap (λ z. between_streams (base ++ take i ts) ++ z) e ∙ sym (between_more base ts i t l))
 
 -- one link, which is there already or stands behind
-pub across_some : (ts : List Atom) (i : ℕ) (t : Atom) (list new : List ColumnLink) (k : ColumnLink) → i < length ts
+pub across_some : (base ts : List Atom) (i : ℕ) (t : Atom) (list new : List ColumnLink) (k : ColumnLink) → i < length ts
     → map atom_of (listed (Some k)) ≡ between_streams (get_or ts i t ∷ []) → IsOnceWith list k new
-    → map atom_of list ≡ each_once (between_streams (take i ts)) → map atom_of new ≡ each_once (between_streams (take (i + 1) ts))
-across_some ts i t list new k l e o h =
-    by o ∙ ap each_once (ap (λ z. between_streams (take i ts) ++ z) e ∙ sym (between_more ts i t l))
+    → map atom_of list ≡ each_once (between_streams (base ++ take i ts)) → map atom_of new ≡ each_once (between_streams (base ++ take (i + 1) ts))
+across_some base ts i t list new k l e o h =
+    by o ∙ ap each_once (ap (λ z. between_streams (base ++ take i ts) ++ z) e ∙ sym (between_more base ts i t l))
   where
-    among : Contains list k → Has (between_streams (take i ts)) (atom_of k)
-    among c = once_from (between_streams (take i ts)) (atom_of k) (subst (λ z. Has z (atom_of k)) h (Has-map atom_of (Has-from_contains list k c)))
+    among : Contains list k → Has (between_streams (base ++ take i ts)) (atom_of k)
+    among c = once_from (between_streams (base ++ take i ts)) (atom_of k) (subst (λ z. Has z (atom_of k)) h (Has-map atom_of (Has-from_contains list k c)))
 
-    not_among : (Contains list k → ⊥) → Has (between_streams (take i ts)) (atom_of k) → ⊥
+    not_among : (Contains list k → ⊥) → Has (between_streams (base ++ take i ts)) (atom_of k) → ⊥
     not_among n m =
-        let r : (x : ColumnLink) × Has list x × (atom_of x ≡ atom_of k) = Has-map_from atom_of list (atom_of k) (subst (λ z. Has z (atom_of k)) (sym h) (once_has (between_streams (take i ts)) (atom_of k) m)) in
+        let r : (x : ColumnLink) × Has list x × (atom_of x ≡ atom_of k) = Has-map_from atom_of list (atom_of k) (subst (λ z. Has z (atom_of k)) (sym h) (once_has (between_streams (base ++ take i ts)) (atom_of k) m)) in
         n (subst (Contains list) (same_links r.0 k r.2) (Contains-from_has list r.0 r.1))
 
-    by : IsOnceWith list k new → map atom_of new ≡ each_once (between_streams (take i ts) ++ atom_of k ∷ [])
-    by (known c f) = ap (map atom_of) f ∙ h ∙ sym (once_known (between_streams (take i ts)) (atom_of k) (among c))
-    by (added n f) = ap (map atom_of) f ∙ map-append atom_of list (k ∷ []) ∙ ap (λ z. z ++ atom_of k ∷ []) h ∙ sym (once_new (between_streams (take i ts)) (atom_of k) (not_among n))
+    by : IsOnceWith list k new → map atom_of new ≡ each_once (between_streams (base ++ take i ts) ++ atom_of k ∷ [])
+    by (known c f) = ap (map atom_of) f ∙ h ∙ sym (once_known (between_streams (base ++ take i ts)) (atom_of k) (among c))
+    by (added n f) = ap (map atom_of) f ∙ map-append atom_of list (k ∷ []) ∙ ap (λ z. z ++ atom_of k ∷ []) h ∙ sym (once_new (between_streams (base ++ take i ts)) (atom_of k) (not_among n))
 
 -- one atom more
-pub across_step : (ts : List Atom) (i : ℕ) (t : Atom) (list new : List ColumnLink) (o : Option ColumnLink) → i < length ts
+pub across_step : (base ts : List Atom) (i : ℕ) (t : Atom) (list new : List ColumnLink) (o : Option ColumnLink) → i < length ts
     → map atom_of (listed o) ≡ between_streams (get_or ts i t ∷ []) → IsAddedTo list o new
-    → map atom_of list ≡ each_once (between_streams (take i ts)) → map atom_of new ≡ each_once (between_streams (take (i + 1) ts))
-across_step ts i t list new None l e a h = ap (map atom_of) a ∙ across_none ts i t list l e h
-across_step ts i t list new (Some k) l e a h = across_some ts i t list new k l e a h
+    → map atom_of list ≡ each_once (between_streams (base ++ take i ts)) → map atom_of new ≡ each_once (between_streams (base ++ take (i + 1) ts))
+across_step base ts i t list new None l e a h = ap (map atom_of) a ∙ across_none base ts i t list l e h
+across_step base ts i t list new (Some k) l e a h = across_some base ts i t list new k l e a h
 
 pub across_few : (list new : List ColumnLink) (o : Option ColumnLink) (i : ℕ) → IsAddedTo list o new → length list ≤ i → length new ≤ i + 1
 across_few list new None i a l = let e = ap length a in omega (arith, e, l)
 across_few list new (Some k) i (known c e) l = let f = ap length e in omega (arith, f, l)
 across_few list new (Some k) i (added c e) l = let f = ap length e in let g = length-append list (k ∷ []) in omega (arith, f, g, l)
 
-pub across_all : (ts : List Atom) (i : ℕ) (list : List ColumnLink) → length ts ≤ i → map atom_of list ≡ each_once (between_streams (take i ts)) → map atom_of list ≡ across ts
-across_all ts i list l h = h ∙ ap (λ z. each_once (between_streams z)) (take_all i ts l)
+pub across_all : (base ts : List Atom) (i : ℕ) (list : List ColumnLink) → length ts ≤ i → map atom_of list ≡ each_once (between_streams (base ++ take i ts)) → map atom_of list ≡ across (base ++ ts)
+across_all base ts i list l h = h ∙ ap (λ z. each_once (between_streams (base ++ z))) (take_all i ts l)
 
 -- ---- one after another
 

@@ -6,7 +6,7 @@ use Rattle.bq_model.specs.declared.atom.Attr.{Attr}
 use Rattle.bq_model.specs.declared.atom.Domain.{Domain}
 use Rattle.bq_model.specs.declared.atom.Element.{Element}
 use Rattle.bq_model.specs.declared.atom.Element.TheVariants as element
-use Rattle.bq_model.specs.Query.{QueryValue, attr_eq, attrs_of, IsDomain, IsShort, IsWithinLimits}
+use Rattle.bq_model.specs.Query.{QueryValue, attr_eq, attrs_of, IsDomain, IsShort}
 use Rattle.bq_model.specs.Assignment.{Assignment}
 use Rattle.bq_model.proofs.Has.{Has, first, later, Contains-from_has}
 use Rattle.bq_laws.proofs.Tests.{true_or_false, not_both, attr_eq-is, attr_eq-itself}
@@ -25,17 +25,18 @@ use Rattle.bq_whole.specs.Ranges.{Range}
 use Rattle.bq_whole.specs.Kept.{IsRange}
 use Rattle.bq_whole.specs.Laws.{IsLeastBound}
 use Rattle.bq_whole.specs.Failing.{Contradicts}
+use Rattle.bq_whole.specs.Signed.{IsWellFormed}
 use Rattle.bq_whole.proofs.Nodes.{bounds_are_implied, ranges_are_told}
 use Rattle.bq_whole_plan.specs.declared.closed.Ends.{Ends}
 use Rattle.bq_whole_plan.specs.Closed.{closed_constraints, named_system, domain_ends, apart, ends_of, IsClosedSystem, IsSolvable}
 use Rattle.bq_whole_plan.proofs.Named.{named_among, range_named, bound_named, bound_all, solution, satisfied}
 use Rattle.bq_whole_plan.proofs.Unnamed.{apart_least, mixed_left, mixed_right, range_unnamed}
 
-pub closed_if : (q : QueryValue) (d : Distances) (b : Bool) → AreDistancesOf d (length (attrs_of q.atoms)) (closed_constraints q) → IsWithinLimits q
+pub closed_if : (q : QueryValue) (d : Distances) (b : Bool) → AreDistancesOf d (length (attrs_of q.atoms)) (closed_constraints q) → IsWellFormed q
     → ((n : ℕ) (cs : List Constraint) → AreDistancesOf d n cs → IsTrue b ↔ IsSatisfiable cs) → b ≡ true → IsClosedSystem q d
 closed_if q d b a w t e = record { within = w; distances = a; satisfiable = (t _ _ a).0 e }
 
-pub contradicts_if : (q : QueryValue) (d : Distances) (b : Bool) → AreDistancesOf d (length (attrs_of q.atoms)) (closed_constraints q) → IsWithinLimits q
+pub contradicts_if : (q : QueryValue) (d : Distances) (b : Bool) → AreDistancesOf d (length (attrs_of q.atoms)) (closed_constraints q) → IsWellFormed q
     → ((n : ℕ) (cs : List Constraint) → AreDistancesOf d n cs → IsTrue b ↔ IsSatisfiable cs) → b ≡ false → Contradicts q
 contradicts_if q d b a w t e v s = not_both b ((t _ _ a).1 (satisfied q v s)) e
 

@@ -7,7 +7,7 @@ use Rattle.bq_model.specs.declared.atom.Attr.{Attr}
 use Rattle.bq_model.specs.declared.atom.Domain.{Domain}
 use Rattle.bq_model.specs.declared.atom.Element.{Element}
 use Rattle.bq_model.specs.declared.atom.Element.TheVariants as element
-use Rattle.bq_model.specs.Query.{QueryValue, attr_eq, attr_lt, attrs_of, IsWithinLimits}
+use Rattle.bq_model.specs.Query.{QueryValue, attr_eq, attr_lt, attrs_of}
 use Rattle.bq_model.specs.Assignment.{Assignment, value}
 use Rattle.bq_model.proofs.Has.{Has, first, later, Has-nil, Has-append_right, Has-append_cases, Has-flat_map, Has-flat_map_from}
 use Rattle.bq_model.proofs.Unique.{Ascends, more, ascends_from}
@@ -16,6 +16,7 @@ use Rattle.bq_constraints.proofs.NodeFacts.{Known}
 use Rattle.bq_whole.specs.System.{Difference, Meets, atom_bounds, domain_bounds, system, Solves, Bound}
 use Rattle.bq_whole.specs.Kept.{IsLowest, IsHighest, IsRange}
 use Rattle.bq_whole.specs.Laws.{IsLeastBound}
+use Rattle.bq_whole.specs.Signed.{IsWellFormed}
 use Rattle.bq_whole_plan.specs.declared.closed.Ends.{Ends}
 use Rattle.bq_whole_plan.specs.Closed.{domain_ends, apart, ends_of}
 use Rattle.bq_whole_plan.proofs.Named.{atom_known, domain_sides, domain_holds, domain_some}
@@ -78,7 +79,7 @@ apart_least q a b u s mixed (Some high) (Some low) h l = (
   λ c k. (let m = l.1 (high -ℤ c) (λ v o. (let n = h.1 (c +ℤ v b) (λ w i. (let j = mixed c k v w o i in omega (arith, ints, j))) in omega (arith, ints, n))) in omega (arith, ints, m)),
 )
 
-module _ (q : QueryValue) (w : IsWithinLimits q) (a : Attr) (n : Has (attrs_of q.atoms) a → ⊥) where
+module _ (q : QueryValue) (w : IsWellFormed q) (a : Attr) (n : Has (attrs_of q.atoms) a → ⊥) where
   known_elsewhere : (v : Assignment) (z : ℤ) (e : Element) → Known (attrs_of q.atoms) e → value e (changed v a z) ≡ value e v
   known_elsewhere v z (element.Attr b) h = changed_elsewhere v a b z (λ e. n (subst (Has (attrs_of q.atoms)) (sym e) h))
   known_elsewhere v z (element.Const k) h = refl

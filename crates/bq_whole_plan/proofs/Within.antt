@@ -1,5 +1,5 @@
 -- The constraints of a query's comparisons and domains lie within their limits, one after another.
-use Rattle.std.proofs.Common.{◌≡◌, ℕ, ◌+◌, ◌<◌, ◌≤◌, inl, inr, ℤ, pos, neg_ℤ, ◌+ℤ◌, ◌-ℤ◌, ◌≤ℤ◌, List, [], ◌∷◌, ◌++◌, map, length, take, get_or, Bool, true, false, cond, All, append-nil, append_assoc, refl, sym, ◌∙◌, ap, subst, arith}
+use Rattle.std.proofs.Common.{◌≡◌, ℕ, ◌+◌, ◌<◌, ◌≤◌, inl, inr, ℤ, pos, neg_ℤ, ◌+ℤ◌, ◌-ℤ◌, ◌≤ℤ◌, List, [], ◌∷◌, ◌++◌, map, length, take, get_or, Bool, true, false, cond, All, Contains, append-nil, append_assoc, refl, sym, ◌∙◌, ap, subst, arith}
 use Rattle.std.proofs.lemmas.Int.{ints}
 use Rattle.std.proofs.lemmas.List.{take_more, take_all, map-append}
 use Rattle.std.proofs.lemmas.List.Concat.{flat_map-append}
@@ -10,9 +10,11 @@ use Rattle.bq_model.specs.declared.atom.Domain.{Domain}
 use Rattle.bq_model.specs.declared.atom.Element.{Element}
 use Rattle.bq_model.specs.declared.atom.Element.TheVariants as element
 use Rattle.bq_model.specs.declared.atom.Op.{Op}
+use Rattle.bq_model.specs.declared.part.Pair.{Pair}
+use Rattle.bq_model.specs.declared.part.Sign.{Sign}
 use Rattle.bq_model.specs.Query.{QueryValue, attrs_of, IsDomain, IsWithinLimits}
 use Rattle.bq_model.specs.Order.{IsElement}
-use Rattle.bq_model.proofs.Has.{Has, first, later, Has-nil, Has-map_from}
+use Rattle.bq_model.proofs.Has.{Has, first, later, Has-nil, Has-map_from, Has-from_contains}
 use Rattle.bq_constraints.specs.declared.constraint.Constraint.{Constraint}
 use Rattle.bq_constraints.specs.Nodes.{place_of, node_of, offset_of, has_node, at_most_above, IsWithinLimit, HasAttr}
 use Rattle.bq_constraints.specs.Solutions.{IsWithin}
@@ -22,7 +24,8 @@ use Rattle.bq_constraints.proofs.OfDomains.{node_within, no_node_past}
 use Rattle.bq_closure.specs.declared.distances.Distances.{Distances}
 use Rattle.bq_closure.specs.Shortest.{AreDistancesOf}
 use Rattle.bq_whole.specs.System.{Difference, bounds_of, atom_bounds, domain_bounds}
-use Rattle.bq_whole_plan.specs.Closed.{constraint_of, named_bounds, closed_constraints}
+use Rattle.bq_whole.specs.Signed.{op_of, said, IsSide}
+use Rattle.bq_whole_plan.specs.Closed.{constraint_of, named_bounds}
 
 -- a column or a short integer, whose node is there
 pub record IsKnownElement (xs : List Attr) (e : Element) : Type 0 where
@@ -86,6 +89,16 @@ pub atom_within : (q : QueryValue) (t : Atom) (cs : List Constraint) → cs ≡ 
     → All (IsWithin (length (attrs_of q.atoms))) cs
 atom_within q t cs e w l r c = subst (All (IsWithin (length (attrs_of q.atoms)))) (sym e) (all_within (attrs_of q.atoms) (atom_bounds t) (short_bounds (attrs_of q.atoms) t.op t.left t.right (known_element q t.left w l) (known_element q t.right w r) c))
 
+-- those of the sign of a pair
+pub sign_within : (xs : List Attr) (p : Pair) (s : Sign) (cs : List Constraint) → cs ≡ map (constraint_of xs) (atom_bounds (said p s)) → Contains xs p.left → IsSide xs p.right → All (IsWithin (length xs)) cs
+sign_within xs p s cs e l r =
+    subst (All (IsWithin (length xs))) (sym e)
+    (all_within xs (atom_bounds (said p s)) (short_bounds xs (op_of s) (element.Attr p.left) p.right record { limit = tt; node = place_below xs p.left (Has-from_contains xs p.left l) } (side_known p.right r) (inl refl)))
+  where
+    side_known : (y : Element) → IsSide xs y → IsKnownElement xs y
+    side_known (element.Attr a) h = record { limit = tt; node = place_below xs a (Has-from_contains xs a h) }
+    side_known (element.Const k) h = record { limit = h; node = omega arith }
+
 -- those of a domain, whose column has a node or none
 pub ends_there : (xs : List Attr) (d : Domain) (n : ℕ) (none mid new : List Constraint) (low high : Constraint) → n ≡ place_of xs d.attr → n < length xs → none ≡ []
     → low ≡ at_most_above xs (element.Const d.lo) (element.Attr d.attr) (pos 0) → mid ≡ none ++ low ∷ [] → high ≡ at_most_above xs (element.Attr d.attr) (element.Const d.hi) (pos 0) → new ≡ mid ++ high ∷ []
@@ -132,13 +145,3 @@ module _ {X : Type 0} (xs : List Attr) (f : X → List Difference) where
   pub distances_all : (d : Distances) (n : ℕ) (base : List Constraint) (ts : List X) (i : ℕ) → length ts ≤ i
       → AreDistancesOf d n (base ++ map (constraint_of xs) (flat_map f (take i ts))) → AreDistancesOf d n (base ++ map (constraint_of xs) (flat_map f ts))
   distances_all d n base ts i l h = subst (λ z. AreDistancesOf d n (base ++ map (constraint_of xs) (flat_map f z))) (take_all i ts l) h
-
--- both lists are all constraints
-pub distances_joined : (q : QueryValue) (d : Distances) (n : ℕ)
-    → AreDistancesOf d n (map (constraint_of (attrs_of q.atoms)) (flat_map atom_bounds q.atoms) ++ map (constraint_of (attrs_of q.atoms)) (flat_map (named_bounds (attrs_of q.atoms)) q.domains))
-    → AreDistancesOf d n (closed_constraints q)
-distances_joined q d n h = subst (AreDistancesOf d n) (sym (map-append (constraint_of (attrs_of q.atoms)) (flat_map atom_bounds q.atoms) (flat_map (named_bounds (attrs_of q.atoms)) q.domains))) h
-
--- no domain yet
-pub append_none : (xs : List Attr) (q : QueryValue) (d : Distances) (n : ℕ) → AreDistancesOf d n (map (constraint_of xs) (flat_map atom_bounds q.atoms)) → AreDistancesOf d n (map (constraint_of xs) (flat_map atom_bounds q.atoms) ++ [])
-append_none xs q d n h = subst (AreDistancesOf d n) (sym (append-nil (map (constraint_of xs) (flat_map atom_bounds q.atoms)))) h

@@ -1,12 +1,14 @@
 -- The closed system of a query: what its comparisons and domains bound, as constraints on the nodes of its attributes.
-use Rattle.std.specs.Prelude.{ℤ, pos, neg_ℤ, ◌-ℤ◌, ◌≤ℤ◌, List, [], ◌∷◌, ◌++◌, map, cond, length}
+use Rattle.std.specs.Prelude.{◌≡◌, ℤ, pos, neg_ℤ, ◌-ℤ◌, ◌≤ℤ◌, List, [], ◌∷◌, ◌++◌, map, cond, length}
 use Rattle.std.specs.declared.option.Option.{Option}
 use Rattle.std.specs.declared.option.Option.TheVariants.{None, Some}
 use Rattle.std.specs.List.{flat_map}
 use Rattle.bq_model.specs.declared.atom.Attr.{Attr}
 use Rattle.bq_model.specs.declared.atom.Domain.{Domain}
 use Rattle.bq_model.specs.declared.atom.Element.TheVariants as element
-use Rattle.bq_model.specs.Query.{QueryValue, attr_eq, attrs_of, IsWithinLimits}
+use Rattle.bq_model.specs.declared.part.Pair.{Pair}
+use Rattle.bq_model.specs.declared.part.Sign.{Sign}
+use Rattle.bq_model.specs.Query.{QueryValue, attr_eq, attrs_of}
 use Rattle.bq_model.specs.Assignment.{Assignment}
 use Rattle.bq_constraints.specs.declared.constraint.Constraint.{Constraint}
 use Rattle.bq_constraints.specs.Nodes.{has_node, at_most_above}
@@ -17,6 +19,7 @@ use Rattle.bq_whole.specs.System.{Difference, atom_bounds, domain_bounds, system
 use Rattle.bq_whole.specs.Ranges.{Range, range}
 use Rattle.bq_whole.specs.Kept.{IsRange}
 use Rattle.bq_whole.specs.Laws.{IsLeastBound}
+use Rattle.bq_whole.specs.Signed.{with_signs, IsWellFormed, AreSignedPairs}
 use Rattle.bq_whole_plan.specs.declared.closed.Ends.{Ends}
 
 -- a difference as a constraint on the nodes of these columns
@@ -37,9 +40,16 @@ closed_constraints q = map (constraint_of (attrs_of q.atoms)) (named_system q)
 
 -- the distances are those of the system of a query, and some assignment solves it
 pub record IsClosedSystem (q : QueryValue) (d : Distances) : Type 0 where
-  pub within : IsWithinLimits q
+  pub within : IsWellFormed q
   pub distances : AreDistancesOf d (length (attrs_of q.atoms)) (closed_constraints q)
   pub satisfiable : IsSatisfiable (closed_constraints q)
+
+-- a query with the signs of some of its pairs
+pub record IsWithSigns (q r : QueryValue) : Type 0 where
+  pub pairs : List Pair
+  pub signs : List Sign
+  pub are : AreSignedPairs q pairs signs
+  pub is : r ≡ with_signs pairs signs q
 
 -- some assignment solves the system of a query, and the range of each column and the least bound of each two, where there is one, are known
 pub record IsSolvable (q : QueryValue) : Type 0 where

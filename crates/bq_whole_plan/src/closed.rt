@@ -1,5 +1,5 @@
-//! The closed system of a query.
-ghost use Rattle.std.specs.Prelude.{◌≡◌, ℕ, ◌+◌, ◌<◌, ◌≤◌, ◌↔◌, ◌≤ℤ◌, ◌+ℤ◌, pos, neg_ℤ, List, length, map, All, IsTrue, MatchOption, ◌⊎◌};
+//! The closed system of a query, with the signs of some pairs or without.
+ghost use Rattle.std.specs.Prelude.{◌≡◌, ℕ, ◌+◌, ◌<◌, ◌≤◌, ◌↔◌, ◌≤ℤ◌, ◌+ℤ◌, pos, neg_ℤ, List, length, map, All, Contains, IsTrue, MatchOption, ◌⊎◌};
 ghost use Rattle.bq_model.specs.declared.atom.Element.TheVariants as element;
 ghost use Rattle.bq_model.specs.Query.{attrs_of, is_attr, IsWithinLimits, IsDomain};
 ghost use Rattle.bq_model.specs.Order.{IsElement};
@@ -12,12 +12,13 @@ ghost use Rattle.bq_whole.specs.System.{bounds_of, atom_bounds, system, Bound, A
 ghost use Rattle.bq_whole.specs.Kept.{IsRange};
 ghost use Rattle.bq_whole.specs.Laws.{IsLeastBound};
 ghost use Rattle.bq_whole.specs.Failing.{Contradicts};
-ghost use Rattle.bq_whole_plan.specs.Closed.{constraint_of, named_bounds, closed_constraints, domain_ends, apart, IsModest, IsSolvable, ends_of};
+ghost use Rattle.bq_whole.specs.Signed.{op_of, said, with_signs, IsWellFormed, IsSide, AreSignedPairs};
+ghost use Rattle.bq_whole_plan.specs.Closed.{constraint_of, named_bounds, closed_constraints, domain_ends, apart, IsModest, IsWithSigns, IsSolvable, ends_of};
 
 use arrayvec::ArrayVec;
 use bq_closure::Distances;
 use bq_constraints::{Constraint, difference, node, place_of};
-use bq_model::{Atom, Attr, Domain, Element, Op, Query, is_same};
+use bq_model::{Atom, Attr, Domain, Element, Op, Pair, Query, Sign, is_same};
 use std::marker::Model;
 
 /// The least and the greatest value of a column, where there is one.
@@ -27,22 +28,34 @@ pub struct Ends {
     pub hi: Option<i64>,
 }
 
-/// A query whose system has a solution, with the least bound of the difference of each two of its attributes. A clause sees the query.
+/// A query and the signs of some of its pairs.
+#[derive(Clone, Copy)]
+pub(crate) struct SignedQuery<'a> {
+    pub query: &'a Query,
+    pub pairs: &'a [Pair],
+    pub signs: &'a [Sign],
+}
+
+/// A query with the signs of some of its pairs as comparisons before its own, where its system has a solution, with the least bound of the
+/// difference of each two of its attributes. A clause sees the query with the signs.
 #[derive(Drop)]
 pub struct ClosedSystem<'a> {
     query: &'a Query,
+    pairs: &'a [Pair],
+    signs: &'a [Sign],
     distances: Distances,
 }
 
 impl<'a> Model for ClosedSystem<'a> {
     ghost use Rattle.bq_model.specs.Query.{QueryValue};
+    ghost use Rattle.bq_whole.specs.Signed.{with_signs, AreSignedPairs};
     ghost use Rattle.bq_whole_plan.specs.Closed.{IsClosedSystem};
 
     ghost Value = { QueryValue };
 
-    ghost view = { λ s. s.query.now };
+    ghost view = { λ s. with_signs s.pairs.now s.signs.now s.query.now };
 
-    ghost invariant = { λ s. IsClosedSystem s.query.now s.distances };
+    ghost invariant = { λ s. AreSignedPairs s.query.now s.pairs.now s.signs.now × IsClosedSystem (with_signs s.pairs.now s.signs.now s.query.now) s.distances };
 }
 
 impl<'a> ClosedSystem<'a> {
@@ -50,21 +63,56 @@ impl<'a> ClosedSystem<'a> {
     pub fn of_query(query: &'a Query) -> Option<ClosedSystem<'a>>
         ensures { MatchOption result (Contradicts query.now) (λ s. s ≡ query.now) }
     {
-        let distances = distances_of(query);
+        ClosedSystem::of_part(query, &[], &[])
+    }
+
+    /// Returns the closed system of a query with the signs of some of its pairs, or none where no assignment solves the system with them.
+    pub fn of_part(
+        query: &'a Query,
+        pairs: &'a [Pair],
+        signs: &'a [Sign],
+    ) -> Option<ClosedSystem<'a>>
+        requires { AreSignedPairs query.now pairs.now signs.now }
+        ensures { MatchOption result (Contradicts (with_signs pairs.now signs.now query.now)) (λ s. s ≡ with_signs pairs.now signs.now query.now) }
+    {
+        let distances = signed_distances(query, pairs, signs);
         if distances.satisfiable() {
-            Some(ClosedSystem { query, distances })
+            Some(ClosedSystem {
+                query,
+                pairs,
+                signs,
+                distances,
+            })
         } else {
             None
         }
     }
 
-    /// Returns the query. Some assignment solves its system, and what bounds each column, and each two, can be told.
+    /// Returns the query, which has no signs among its comparisons. Some assignment solves the system with them, and what bounds each column,
+    /// and each two, can be told.
     pub fn query(&self) -> &'a Query
-        ensures value { result.now ≡ self.now }
-        ensures limits { IsWithinLimits self.now }
+        ensures signed { IsWithSigns result.now self.now }
+        ensures from { result.now.from ≡ self.now.from }
+        ensures select { result.now.select ≡ self.now.select }
+        ensures distinct { result.now.distinct ≡ self.now.distinct }
+        ensures domains { result.now.domains ≡ self.now.domains }
+        ensures attrs { attrs_of result.now.atoms ≡ attrs_of self.now.atoms }
+        ensures formed { IsWellFormed self.now }
         ensures solvable { IsSolvable self.now }
     {
         self.query
+    }
+
+    /// Returns the query, the pairs and their signs.
+    pub(crate) fn signed(&self) -> SignedQuery<'a>
+        ensures pairs { AreSignedPairs result.query.now result.pairs.now result.signs.now }
+        ensures value { self.now ≡ with_signs result.pairs.now result.signs.now result.query.now }
+    {
+        SignedQuery {
+            query: self.query,
+            pairs: self.pairs,
+            signs: self.signs,
+        }
     }
 
     /// Returns the least and the greatest value of a column over all solutions, each within 10^17 either way.
@@ -191,8 +239,13 @@ fn above(attrs: &[Attr], left: Element, right: Element, by: i64) -> Constraint
     }
 }
 
-// What a comparison bounds.
-fn of_comparison(attrs: &[Attr], left: Element, op: Op, right: Element) -> ArrayVec<Constraint, 2>
+/// Returns what a comparison bounds, as constraints on the nodes of attributes.
+pub fn of_comparison(
+    attrs: &[Attr],
+    left: Element,
+    op: Op,
+    right: Element,
+) -> ArrayVec<Constraint, 2>
     requires few { length attrs.now ≤ 12 }
     requires left { IsWithinLimit left }
     requires right { IsWithinLimit right }
@@ -222,6 +275,28 @@ fn of_atom(q: &Query, atom: &Atom) -> ArrayVec<Constraint, 2>
     ensures within { All (IsWithin (length (attrs_of q.now.atoms))) result.items }
 {
     of_comparison(q.attrs(), atom.left, atom.op, atom.right)
+}
+
+/// Returns the operator that says a sign.
+pub(crate) fn op_of(sign: Sign) -> Op
+    ensures { result ≡ op_of sign }
+{
+    match sign {
+        Sign::Lt => Op::Lt,
+        Sign::Eq => Op::Eq,
+        Sign::Gt => Op::Gt,
+    }
+}
+
+/// Returns what the sign of a pair bounds, whose column is an attribute of the query, and whose right side is one too or an integer that may be
+/// written.
+pub fn of_sign(q: &Query, pair: Pair, sign: Sign) -> ArrayVec<Constraint, 2>
+    requires left { Contains (attrs_of q.now.atoms) pair.left }
+    requires right { IsSide (attrs_of q.now.atoms) pair.right }
+    ensures value { result.items ≡ map (constraint_of (attrs_of q.now.atoms)) (atom_bounds (said pair sign)) }
+    ensures within { All (IsWithin (length (attrs_of q.now.atoms))) result.items }
+{
+    of_comparison(q.attrs(), Element::Attr(pair.left), op_of(sign), pair.right)
 }
 
 // The least integer of a domain.
@@ -254,12 +329,17 @@ fn of_domain(q: &Query, domain: &Domain) -> ArrayVec<Constraint, 2>
     list
 }
 
-// The distances of the comparisons of a query, and of the domains of its attributes.
-fn distances_of(q: &Query) -> Distances
-    ensures distances { AreDistancesOf result (length (attrs_of q.now.atoms)) (closed_constraints q.now) }
+// The distances of what the signs of some pairs say, of the comparisons of a query, and of the domains of its attributes.
+fn signed_distances(q: &Query, pairs: &[Pair], signs: &[Sign]) -> Distances
+    requires { AreSignedPairs q.now pairs.now signs.now }
+    ensures distances { AreDistancesOf result (length (attrs_of q.now.atoms)) (closed_constraints (with_signs pairs.now signs.now q.now)) }
     ensures limits { IsWithinLimits q.now }
 {
     let mut distances = Distances::new(q.attrs().len() as u8);
+    'signs: for i in 0..pairs.len() {
+        let added = of_sign(q, pairs[i], signs[i]);
+        distances.add_all(added.as_slice());
+    }
     for atom in q.atoms() {
         let added = of_atom(q, atom);
         distances.add_all(added.as_slice());
@@ -269,4 +349,12 @@ fn distances_of(q: &Query) -> Distances
         distances.add_all(added.as_slice());
     }
     distances
+}
+
+/// Returns the distances of the comparisons of a query, and of the domains of its attributes.
+pub fn distances_of(q: &Query) -> Distances
+    ensures distances { AreDistancesOf result (length (attrs_of q.now.atoms)) (closed_constraints q.now) }
+    ensures limits { IsWithinLimits q.now }
+{
+    signed_distances(q, &[], &[])
 }

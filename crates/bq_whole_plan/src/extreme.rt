@@ -1,8 +1,8 @@
 //! The class of a stream of which cells keep the least or the greatest value.
 ghost use Rattle.std.specs.Prelude.{◌≡◌, ◌⊎◌, ◌↔◌, ◌<◌, length, map, IsTrue, Some};
-ghost use Rattle.bq_model.specs.Query.{IsWithinLimits};
 ghost use Rattle.bq_model.specs.Boxes.{range_size};
 ghost use Rattle.bq_whole.specs.Links.{AreLinks};
+ghost use Rattle.bq_whole.specs.Signed.{IsWellFormed};
 ghost use Rattle.bq_whole.specs.Whole.{IsOneWay};
 ghost use Rattle.bq_whole.specs.Plan.{room, is_more, is_larger, IsPlannedKind};
 ghost use Rattle.bq_whole_plan.specs.Closed.{ends_of};
@@ -140,7 +140,7 @@ pub fn extreme_of(closed: &ClosedSystem, links: &[ColumnLink], place: u8) -> Opt
 pub fn kind_of(closed: &ClosedSystem, links: &[ColumnLink], place: u8) -> Kind
     requires { AreLinks closed.now (map atom_of links.now) }
     ensures kind { IsPlannedKind closed.now (map atom_of links.now) place result }
-    ensures limits { IsWithinLimits closed.now }
+    ensures formed { IsWellFormed closed.now }
 {
     let query = closed.query();
     if !query.distinct() {

@@ -6,12 +6,13 @@ ghost use Rattle.bq_whole.specs.System.{system};
 ghost use Rattle.bq_model.specs.declared.atom.Op.{Op};
 ghost use Rattle.bq_closure.specs.Shortest.{IsMet};
 ghost use Rattle.bq_whole.specs.Links.{comparison, turned_by, across, between_streams, Follows, Goes, AreLinks};
+ghost use Rattle.bq_whole.specs.Signed.{said, with_signs, AreSignedPairs};
 ghost use Rattle.bq_whole_plan.specs.Closed.{IsModest};
 ghost use Rattle.bq_whole_plan.specs.Columns.{atom_of, difference_of, listed, summed, IsOnceWith, IsAddedTo, AreAlike, FollowsFrom, FollowsByRanges, FollowsByLink, FollowsByOne, in_order};
 
-use crate::closed::{ClosedSystem, apart};
+use crate::closed::{ClosedSystem, SignedQuery, apart, op_of};
 use arrayvec::ArrayVec;
-use bq_model::{Atom, Attr, Element, Op, Query, is_before};
+use bq_model::{Atom, Attr, Element, Op, Pair, Query, Sign, is_before};
 
 /// A comparison of columns of different streams.
 #[derive(Clone, Copy, Debug, Default, PartialEq, Eq)]
@@ -106,8 +107,8 @@ fn is_listed(links: &[ColumnLink], link: ColumnLink) -> bool
 }
 
 // Adds a link, unless it is known.
-fn push_unless(list: &mut ArrayVec<ColumnLink, 16>, known: bool, link: ColumnLink)
-    requires { length list.old.items < 16 }
+fn push_unless(list: &mut ArrayVec<ColumnLink, 24>, known: bool, link: ColumnLink)
+    requires { length list.old.items < 24 }
     ensures { list.new.items ≡ cond known list.old.items (list.old.items ++ link ∷ []) }
 {
     if !known {
@@ -116,8 +117,8 @@ fn push_unless(list: &mut ArrayVec<ColumnLink, 16>, known: bool, link: ColumnLin
 }
 
 // Adds a link that is not listed yet.
-fn add_new(list: &mut ArrayVec<ColumnLink, 16>, link: ColumnLink)
-    requires { length list.old.items < 16 }
+fn add_new(list: &mut ArrayVec<ColumnLink, 24>, link: ColumnLink)
+    requires { length list.old.items < 24 }
     ensures { IsOnceWith list.old.items link list.new.items }
 {
     let known = is_listed(list.as_slice(), link);
@@ -125,8 +126,8 @@ fn add_new(list: &mut ArrayVec<ColumnLink, 16>, link: ColumnLink)
 }
 
 // Adds a link, where there is one and it is not listed yet.
-fn add_link(list: &mut ArrayVec<ColumnLink, 16>, link: Option<ColumnLink>)
-    requires { length list.old.items < 16 }
+fn add_link(list: &mut ArrayVec<ColumnLink, 24>, link: Option<ColumnLink>)
+    requires { length list.old.items < 24 }
     ensures { IsAddedTo list.old.items link list.new.items }
 {
     match link {
@@ -135,11 +136,25 @@ fn add_link(list: &mut ArrayVec<ColumnLink, 16>, link: Option<ColumnLink>)
     }
 }
 
-// The comparisons between streams, each once.
-fn across(q: &Query) -> ArrayVec<ColumnLink, 16>
-    ensures { map atom_of result.items ≡ across q.now.atoms }
+// The link that the sign of a pair is, where it is between streams.
+fn link_of_sign(pair: Pair, sign: Sign) -> Option<ColumnLink>
+    ensures { map atom_of (listed result) ≡ between_streams (said pair sign ∷ []) }
+{
+    match pair.right {
+        Element::Attr(right) => link_between(pair.left, op_of(sign), right),
+        Element::Const(_) => None,
+    }
+}
+
+// The comparisons between streams, each once: those of signs, and then the query's own.
+fn across(q: &Query, pairs: &[Pair], signs: &[Sign]) -> ArrayVec<ColumnLink, 24>
+    requires { AreSignedPairs q.now pairs.now signs.now }
+    ensures { map atom_of result.items ≡ across (with_signs pairs.now signs.now q.now).atoms }
 {
     let mut list = ArrayVec::new();
+    'signs: for i in 0..pairs.len() {
+        add_link(&mut list, link_of_sign(pairs[i], signs[i]));
+    }
     for atom in q.atoms() {
         add_link(&mut list, link_of(atom));
     }
@@ -337,12 +352,17 @@ fn goes(closed: &ClosedSystem, kept: &[ColumnLink], rest: &[ColumnLink], link: C
 }
 
 /// Returns the links of a query, in their order.
-pub fn links_of(closed: &ClosedSystem) -> ArrayVec<ColumnLink, 16>
+pub fn links_of(closed: &ClosedSystem) -> ArrayVec<ColumnLink, 24>
     ensures { AreLinks closed.now (map atom_of result.items) }
 {
-    let across = across(closed.query());
+    let SignedQuery {
+        query,
+        pairs,
+        signs,
+    } = closed.signed();
+    let across = across(query, pairs, signs);
     let all = across.as_slice();
-    let mut kept: ArrayVec<ColumnLink, 16> = ArrayVec::new();
+    let mut kept: ArrayVec<ColumnLink, 24> = ArrayVec::new();
     for i in 0..all.len() {
         let link = all[i];
         let is_implied = goes(closed, kept.as_slice(), &all[i + 1..], link);

@@ -12,7 +12,7 @@ use arrayvec::ArrayVec;
 /// The links of a query, and what is kept of each stream of FROM.
 #[derive(Drop, Default)]
 pub struct WholeKeeps {
-    pub links: ArrayVec<ColumnLink, 16>,
+    pub links: ArrayVec<ColumnLink, 24>,
     pub streams: ArrayVec<KeptStream, 4>,
 }
 

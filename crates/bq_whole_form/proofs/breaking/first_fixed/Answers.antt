@@ -1,4 +1,4 @@
-use Rattle.std.proofs.Common.{◌∙◌, List, map, ap, subst}
+use Rattle.std.proofs.Common.{◌∙◌, List, map, subst}
 use Rattle.bq_model.specs.declared.atom.Attr.{Attr}
 use Rattle.bq_model.specs.declared.condition.Condition.TheVariants.{C2}
 use Rattle.bq_model.specs.FirstBreak.{IsFirstAmong}
@@ -10,4 +10,4 @@ use Rattle.bq_whole_form.proofs.Breaks.{named_second}
 use Rattle.bq_whole_form.proofs.breaking.first_fixed.Goals as goal
 
 pub returns : goal.returns
-returns c = first_of_all (WholeBreaks c.args.closed.now (map atom_of c.args.links.now) C2) (attrs_of c.args.closed.now.atoms) c.first_among.result (named_second c.args.closed.now (map atom_of c.args.links.now) c.requires) (subst (λ (z : List Attr). IsFirstAmong (WholeBreaks c.args.closed.now (map atom_of c.args.links.now) C2) z c.first_among.result) (c.attrs.ensures.value ∙ ap (λ q. attrs_of q.atoms) c.query.ensures.value) c.first_among.ensures)
+returns c = first_of_all (WholeBreaks c.args.closed.now (map atom_of c.args.links.now) C2) (attrs_of c.args.closed.now.atoms) c.first_among.result (named_second c.args.closed.now (map atom_of c.args.links.now) c.requires) (subst (λ (z : List Attr). IsFirstAmong (WholeBreaks c.args.closed.now (map atom_of c.args.links.now) C2) z c.first_among.result) (c.attrs.ensures.value ∙ c.query.ensures.attrs) c.first_among.ensures)

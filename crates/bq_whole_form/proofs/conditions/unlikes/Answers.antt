@@ -1,13 +1,5 @@
-use Rattle.std.proofs.Common.{◌∙◌, [], ap, sym, subst}
-use Rattle.bq_whole_form.specs.Listed.{AreUnlikes}
-use Rattle.bq_whole_form.proofs.Conditioned.{unlikes_first, unlikes_more, unlikes_all}
+use Rattle.bq_whole_form.proofs.Conditioned.{unlikes_signed}
 use Rattle.bq_whole_form.proofs.conditions.unlikes.Goals as goal
 
-pub loop-atom-init : goal.loop-atom-init
-loop-atom-init c = subst (AreUnlikes c.args.place []) (sym c.new-list.ensures) (unlikes_first c.args.place)
-
-pub loop-atom-preserved : goal.loop-atom-preserved
-loop-atom-preserved c = unlikes_more c.args.place c.args.closed.now.atoms c.atoms-atom-items.result.now c.loop-atom.atom-index _ c.unlike.result c.loop-atom.list.items _ (c.atoms-atom-items.ensures.value ∙ ap (λ q. q.atoms) c.query.ensures.value) c.loop-atom-test.true c.unlike.ensures c.add.ensures c.loop-atom.invariant
-
 pub returns : goal.returns
-returns c = unlikes_all c.args.place c.args.closed.now.atoms c.atoms-atom-items.result.now c.loop-atom.atom-index c.loop-atom.list.items (c.atoms-atom-items.ensures.value ∙ ap (λ q. q.atoms) c.query.ensures.value) c.loop-atom-test.false c.loop-atom.invariant
+returns c = unlikes_signed c.args.place _ c.query.result.now c.args.closed.now _ c.atoms.ensures.value c.query.ensures.signed c.unlikes_among.ensures

@@ -13,4 +13,4 @@ loop-i-preserved c =
     leads_more (system c.args.closed.now) c.as_slice-all.result.now c.loop-i.kept.items _ _ c.loop-i.i _ c.goes-is_implied.result c.loop-i-test.true c.as_slice.ensures.value c.goes-is_implied.ensures c.push_unless.ensures c.loop-i.invariant
 
 pub returns : goal.returns
-returns c = leads_links c.args.closed.now c.as_slice-all.result.now c.loop-i.kept.items c.loop-i.i (ap (map atom_of) c.as_slice-all.ensures.value ∙ c.across-across.ensures ∙ ap (λ q. across q.atoms) c.query.ensures.value) c.loop-i-test.false c.loop-i.invariant
+returns c = leads_links c.args.closed.now c.as_slice-all.result.now c.loop-i.kept.items c.loop-i.i (ap (map atom_of) c.as_slice-all.ensures.value ∙ c.across-across.ensures ∙ ap (λ q. across q.atoms) (sym c.signed.ensures.value)) c.loop-i-test.false c.loop-i.invariant

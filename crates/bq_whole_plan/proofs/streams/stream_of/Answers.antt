@@ -23,5 +23,5 @@ returns c =
     let l = c.loop-column-test.false in
     let m = c.loop-column.invariant.within in
     let e : c.loop-column.column ≡ 8 = omega (arith, l, m) in
-    stream_is c.args.closed.now (map atom_of c.args.links.now) c.args.place c.kind_of-kind.result c.requires c.kind_of-kind.ensures.limits c.loop-column.dims.items c.kind_of-kind.ensures.kind
+    stream_is c.args.closed.now (map atom_of c.args.links.now) c.args.place c.kind_of-kind.result c.requires c.kind_of-kind.ensures.formed c.loop-column.dims.items c.kind_of-kind.ensures.kind
     (subst (λ n. AreDimsOf c.args.closed.now (map atom_of c.args.links.now) c.args.place c.kind_of-kind.result n c.loop-column.dims.items) e c.loop-column.invariant.dims)

@@ -1,26 +1,45 @@
 use Rattle.std.proofs.Common.{◌≡◌, ◌<◌, ◌∙◌, ap, sym, subst, length, arith}
 use Rattle.bq_model.specs.Query.{attrs_of}
 use Rattle.bq_laws.proofs.Tests.{not_both}
+use Rattle.bq_whole.proofs.Signed.{signed_attrs}
 use Rattle.bq_whole_plan.specs.Closed.{IsClosedSystem}
 use Rattle.bq_whole_plan.proofs.Told.{above_itself, upper_read, apart_read}
 use Rattle.bq_whole_plan.proofs.closed.ClosedSystem.above.Goals as goal
 
+pub upper-requires-clause-left : goal.upper-requires-clause-left
+upper-requires-clause-left c =
+    let k : IsClosedSystem c.args.self.now c.self.inside.distances = subst (λ q. IsClosedSystem q c.self.inside.distances) c.self.view_is c.self.invariant.1 in
+    let e : c.attrs-attrs.result.now ≡ attrs_of c.args.self.now.atoms = c.attrs-attrs.ensures.value ∙ sym (signed_attrs c.self.inside.query.now c.self.inside.pairs.now c.self.inside.signs.now c.self.invariant.0) ∙ ap (λ q. attrs_of q.atoms) c.self.view_is in
+    let f = ap length e in
+    let g = k.distances.attrs in
+    let l = (c.are_below.ensures.0 c.if-are_below.true).0 in
+    omega (arith, f, g, l)
+
+pub upper-requires-clause-right : goal.upper-requires-clause-right
+upper-requires-clause-right c =
+    let k : IsClosedSystem c.args.self.now c.self.inside.distances = subst (λ q. IsClosedSystem q c.self.inside.distances) c.self.view_is c.self.invariant.1 in
+    let e : c.attrs-attrs.result.now ≡ attrs_of c.args.self.now.atoms = c.attrs-attrs.ensures.value ∙ sym (signed_attrs c.self.inside.query.now c.self.inside.pairs.now c.self.inside.signs.now c.self.invariant.0) ∙ ap (λ q. attrs_of q.atoms) c.self.view_is in
+    let f = ap length e in
+    let g = k.distances.attrs in
+    let l = (c.are_below.ensures.0 c.if-are_below.true).1 in
+    omega (arith, f, g, l)
+
 pub returns-then-is_same-clause-bound : goal.returns-then-is_same-clause-bound
 returns-then-is_same-clause-bound c =
-    let k : IsClosedSystem c.args.self.now c.self.inside.distances = subst (λ q. IsClosedSystem q c.self.inside.distances) c.self.view_is c.self.invariant in
+    let k : IsClosedSystem c.args.self.now c.self.inside.distances = subst (λ q. IsClosedSystem q c.self.inside.distances) c.self.view_is c.self.invariant.1 in
     above_itself c.args.self.now c.self.inside.distances k c.args.a c.args.b (sym c.is_same.ensures ∙ c.if-is_same.true)
 
 pub returns-then-are_below-clause-bound : goal.returns-then-are_below-clause-bound
 returns-then-are_below-clause-bound c =
-    let k : IsClosedSystem c.args.self.now c.self.inside.distances = subst (λ q. IsClosedSystem q c.self.inside.distances) c.self.view_is c.self.invariant in
-    let e : c.attrs-attrs.result.now ≡ attrs_of c.args.self.now.atoms = c.attrs-attrs.ensures.value ∙ ap (λ q. attrs_of q.atoms) c.self.view_is in
+    let k : IsClosedSystem c.args.self.now c.self.inside.distances = subst (λ q. IsClosedSystem q c.self.inside.distances) c.self.view_is c.self.invariant.1 in
+    let e : c.attrs-attrs.result.now ≡ attrs_of c.args.self.now.atoms = c.attrs-attrs.ensures.value ∙ sym (signed_attrs c.self.inside.query.now c.self.inside.pairs.now c.self.inside.signs.now c.self.invariant.0) ∙ ap (λ q. attrs_of q.atoms) c.self.view_is in
     let l : (c.place_of-left.result < length c.attrs-attrs.result.now) × (c.place_of-right.result < length c.attrs-attrs.result.now) = c.are_below.ensures.0 c.if-are_below.true in
     upper_read c.args.self.now c.self.inside.distances k c.attrs-attrs.result.now c.place_of-left.result c.place_of-right.result _ _ c.args.a c.args.b c.upper.result e c.place_of-left.ensures.value c.place_of-right.ensures.value l.0 l.1 (omega arith) (omega arith) c.upper.ensures.answer
 
 pub returns-else-are_below-clause-bound : goal.returns-else-are_below-clause-bound
 returns-else-are_below-clause-bound c =
-    let k : IsClosedSystem c.args.self.now c.self.inside.distances = subst (λ q. IsClosedSystem q c.self.inside.distances) c.self.view_is c.self.invariant in
-    let e : c.attrs-attrs.result.now ≡ attrs_of c.args.self.now.atoms = c.attrs-attrs.ensures.value ∙ ap (λ q. attrs_of q.atoms) c.self.view_is in
+    let k : IsClosedSystem c.args.self.now c.self.inside.distances = subst (λ q. IsClosedSystem q c.self.inside.distances) c.self.view_is c.self.invariant.1 in
+    let e : c.attrs-attrs.result.now ≡ attrs_of c.args.self.now.atoms = c.attrs-attrs.ensures.value ∙ sym (signed_attrs c.self.inside.query.now c.self.inside.pairs.now c.self.inside.signs.now c.self.invariant.0) ∙ ap (λ q. attrs_of q.atoms) c.self.view_is in
     apart_read c.args.self.now c.self.inside.distances k c.attrs-attrs.result.now c.place_of-left.result c.place_of-right.result c.args.a c.args.b c.ends.result c.ends-else-are_below.result c.apart.result e
     c.place_of-left.ensures.value c.place_of-right.ensures.value (sym c.is_same.ensures ∙ c.if-is_same.false)
     (λ l. not_both c.are_below.result (c.are_below.ensures.1 l) c.if-are_below.false) c.ends.ensures.ends c.ends-else-are_below.ensures.ends c.apart.ensures.value

@@ -1,0 +1,4 @@
+pub mod Parts
+pub mod Fronts
+pub mod Sifting
+pub mod Signed

@@ -1,0 +1,42 @@
+-- The whole form of a part: its system, and what it comes to.
+use Rattle.std.proofs.Common.{◌≡◌, List, Some, sym, ap₂, subst}
+use Rattle.bq_model.specs.declared.atom.Attr.{Attr}
+use Rattle.bq_model.specs.declared.condition.Condition.TheVariants.{C3}
+use Rattle.bq_model.specs.declared.first_break.Break.{Break}
+use Rattle.bq_model.specs.declared.part.Pair.{Pair}
+use Rattle.bq_model.specs.declared.part.Sign.{Sign}
+use Rattle.bq_model.specs.FirstBreak.{IsFirst}
+use Rattle.bq_model.specs.Query.{QueryValue, IsWithinLimits}
+use Rattle.bq_form_pairs.specs.Pairs.{split_pairs}
+use Rattle.bq_form_pairs.specs.SplitParts.{IsSplitPart}
+use Rattle.bq_forms.specs.Split.{part_query}
+use Rattle.bq_forms.specs.SplitBreaks.{IsOpenDim, IsPartBreak}
+use Rattle.bq_forms.specs.SplitBreaks as breaks
+use Rattle.bq_form_parts.proofs.SignedPairs.{split_pairs_are_signed}
+use Rattle.bq_forms.proofs.PartQueries.{as_many_signs, parts_have_systems}
+use Rattle.bq_whole.proofs.Planned.{plans_tell_breaks}
+use Rattle.bq_whole.specs.Failing.{Contradicts}
+use Rattle.bq_whole.specs.Signed.{AreSignedPairs, IsWellFormed, with_signs}
+use Rattle.bq_whole_form.specs.declared.whole.WholePart.{WholePart}
+use Rattle.bq_whole_form.specs.Part.{form_of, IsWholePart, IsBroken}
+
+-- ---- the system of a part
+
+module _ (q : QueryValue) (ps : List Pair) (ss kept : List Sign) (e : ps ≡ split_pairs q) (f : kept ≡ ss) (part : IsSplitPart q ss) where
+  pub signed : IsWithinLimits q → AreSignedPairs q ps kept
+  signed within =
+      subst (λ z. AreSignedPairs q z kept) (sym e) (subst (AreSignedPairs q (split_pairs q)) (sym f) (split_pairs_are_signed q within ss (as_many_signs q ss part)))
+
+  pub is_query : with_signs ps kept q ≡ part_query q ss
+  is_query = ap₂ (λ a b. with_signs a b q) e f
+
+  pub has_system : Contradicts (with_signs ps kept q) → ⊥
+  has_system h = parts_have_systems q ss part (subst Contradicts is_query h)
+
+-- ---- what it comes to
+
+pub breaks_condition : (r : QueryValue) (b : Break) → IsBroken r b → IsPartBreak r (Some b)
+breaks_condition r b h = breaks.broken h.links h.are_links b h.first
+
+pub lacks_end : (r : QueryValue) → IsWellFormed r → (p : WholePart) → IsWholePart r p → (a : Attr) → IsFirst (IsOpenDim r (form_of p)) (Some a) → IsPartBreak r (Some record { condition = C3; attr = a })
+lacks_end r formed p is a h = breaks.unbounded (form_of p) is.plan ((plans_tell_breaks r formed (form_of p) is.plan).0 is.finite) a h

@@ -1,0 +1,9 @@
+pub mod Ordered
+pub mod Own
+pub mod Placed
+pub mod Equated
+pub mod Made
+pub mod Fitting
+pub mod Boxing
+pub mod Drafts
+pub mod Planned

@@ -1,0 +1,58 @@
+//! What one part of the split form comes to.
+ghost use Rattle.std.specs.Prelude.{◌≡◌, IfOk};
+ghost use Rattle.bq_form_pairs.specs.Pairs.{split_pairs};
+ghost use Rattle.bq_form_pairs.specs.SplitParts.{IsSplitPart};
+ghost use Rattle.bq_forms.specs.Split.{part_query};
+ghost use Rattle.bq_whole_form.specs.Part.{IsWholePart};
+ghost use Rattle.bq_form_plan.specs.Drafts.{IsPartOr};
+
+use crate::making::{Made, made_of};
+use bq_model::{Break, Condition, Pair, Part, Query};
+use bq_whole_form::{Whole, WholePart, whole_over};
+use bq_whole_plan::ClosedSystem;
+use std::alloc::{AllocError, Global};
+
+// What is made of a form that breaks no condition, or C3 at the first dim whose own range lacks an end. An error says that memory was not found.
+fn made_or(
+    alloc: Global,
+    closed: &ClosedSystem,
+    form: &WholePart,
+) -> Result<Result<Made, Break>, AllocError>
+    requires { IsWholePart closed.now form.now }
+    ensures { IfOk result (IsPartOr closed.now) }
+{
+    // Named for the proof alone: the system has a solution.
+    let _query = closed.query();
+    let made = made_of(alloc, closed, form)?;
+    match made {
+        Ok(made) => Ok(Ok(made)),
+        Err(attr) => Ok(Err(Break {
+            condition: Condition::C3,
+            attr,
+        })),
+    }
+}
+
+/// Returns what is made of the whole form of a part, or the first condition that it breaks and the first column that shows it. An error says that memory
+/// was not found.
+pub fn part_of(
+    alloc: Global,
+    q: &Query,
+    pairs: &[Pair],
+    part: &Part,
+) -> Result<Result<Made, Break>, AllocError>
+    requires pairs { pairs.now ≡ split_pairs q.now }
+    requires part { IsSplitPart q.now part.now.signs.items }
+    ensures { IfOk result (IsPartOr (part_query q.now part.now.signs.items)) }
+{
+    // Named for the proof alone: the query is within its limits.
+    let _from = q.from();
+    let Some(closed) = ClosedSystem::of_part(q, pairs, part.signs.as_slice()) else {
+        unreachable!()
+    };
+    match whole_over(alloc, &closed)? {
+        Whole::Part(form) => made_or(alloc, &closed, &form),
+        Whole::Broken(found) => Ok(Err(found)),
+        Whole::Contradiction => unreachable!(),
+    }
+}

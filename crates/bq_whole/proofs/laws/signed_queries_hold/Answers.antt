@@ -1,0 +1,5 @@
+use Rattle.bq_whole.proofs.Signed.{signed_holds}
+use Rattle.bq_whole.proofs.laws.signed_queries_hold.Goals as goal
+
+pub returns : goal.returns
+returns c = signed_holds
