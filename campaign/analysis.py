@@ -415,9 +415,30 @@ def cells_of(query, parts, shared):
     return sum(size_of(part.facts, dims) for part in parts for dims in part.dims)
 
 
+def hull_of(parts, column):
+    """The least range that holds those of a column in all parts."""
+    lows, highs = zip(*(part.facts.range(column) for part in parts))
+    return min(lows), max(highs)
+
+
+def tuples_of(query, parts):
+    """How many tuples lie in the least ranges that hold those of the selected columns in all parts; without a part there is none."""
+    size = 1 if parts else 0
+    for column in set(query.select) if parts else ():
+        low, high = hull_of(parts, column)
+        size *= high - low + 1
+    return size
+
+
+def answers_of(query, parts):
+    """How many answers are announced: the sum over the parts, of a compact query not more than there are tuples in all ranges together."""
+    answers = sum(size_of(part.facts, sorted(set(query.select))) for part in parts)
+    return min(answers, tuples_of(query, parts)) if query.compact else answers
+
+
 def numbers_of(query, parts, shared):
     """Cells, answers and work of a query that meets all conditions."""
-    answers = sum(size_of(part.facts, sorted(set(query.select))) for part in parts)
+    answers = answers_of(query, parts)
     work = sum(work_of(query, part.facts, part.dims) for part in parts)
     return cells_of(query, parts, shared), answers, work
 

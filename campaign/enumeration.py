@@ -176,7 +176,16 @@ def fault_of_split(query):
         fault = differs_from(form, found[signs], every, query)
         if fault:
             return f"{fault} in part {number} of the split form"
-    return None
+    return fault_of_answers(query, found, forms)
+
+
+def fault_of_answers(query, found, forms):
+    """Whether more different answers were found than the split form announces, where it bounds all that is selected."""
+    if not all(form.range(it) for form in forms for it in query.select):
+        return None
+    answers = {tuple(of[it] for it in query.select) for members in found.values() for of in members}
+    parts = [analysis.Part("", form, form.dims, form.extremes) for form in forms]
+    return "more answers than are announced" if len(answers) > analysis.answers_of(query, parts) else None
 
 
 def range_of(query, values):
@@ -343,13 +352,19 @@ class Seen:
                                          for other in self.attributes)]) for place in (0, 1))
 
 
+def once(query, ranges):
+    """How many tuples lie between the least and the greatest values of the selected columns over all parts, given their ranges."""
+    ends = [[of[it] for of in ranges] for it in set(query.select)]
+    return math.prod(max(map(max, it)) - min(map(min, it)) + 1 for it in ends) if ranges else 0
+
+
 def fault_of_numbers(query, pairs, by_box):
     """What is wrong with the verdict, or None; by the assignments of each part.
 
     The cells are counted twice: in each part, and each box that is there once.
     """
     cells = answers = work = 0
-    shared, wanted = {}, None
+    shared, ranges, wanted = {}, [], None
     for number, signs in enumerate(sorted(by_box), 1):
         seen = Seen(query, by_box[signs])
         violation = seen.violation()
@@ -360,7 +375,10 @@ def fault_of_numbers(query, pairs, by_box):
         cells += sum(map(seen.size, dims))
         shared.update((seen.box(pairs, signs, place, it), seen.size(it)) for place, it in enumerate(dims))
         answers += seen.size(set(query.select))
+        ranges.append(seen.ranges)
         work += seen.work(dims)
+    if query.compact and not wanted:
+        answers = min(answers, once(query, ranges))
     for is_shared, kept in ((False, cells), (True, sum(shared.values()))):
         numbers = wanted or ("ok", len(by_box), kept, answers, work)
         got = analysis.by_parts(query, is_shared).verdict

@@ -13,7 +13,7 @@
 //! | and where it ceases to wait, by a limit of 0 | a look at each of n counts |
 //! | `entry`, `waiting_entry`, `lone_entry` | one lookup |
 //! | `settle` | w counts |
-//! | `clear`, `set_only` | a byte stored for each 256 entries of each list of which a block was turned |
+//! | `clear`, `set_only` | a byte stored for each 256 entries of each list |
 //! | `len`, `waiting_len` | the same for any n |
 //!
 //! Both lists are tiered vectors, of blocks of 256 numbers. At 65,536 entries a tuple is found by at most 18 comparisons, and adding one

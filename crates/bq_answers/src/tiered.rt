@@ -60,10 +60,7 @@ impl TieredVec {
         requires { place < length self.now.items }
         ensures { result ≡ slice_index self.now.items place }
     {
-        match self.plain() {
-            Some(all) => all[place],
-            None => self.number_in_block(place),
-        }
+        self.numbers[ring_place(self.heads[place / BLOCK], place)]
     }
 
     /// Returns how many blocks of 256 there are, of which the last may be less.
@@ -156,27 +153,6 @@ impl TieredVec {
 
     /// Leaves no numbers.
     pub fn clear(&mut self)
-        ensures items { self.new.items ≡ [] }
-        ensures room { self.new.room ≡ self.old.room }
-    {
-        if self.turned {
-            self.clear_turned();
-        } else {
-            self.numbers.clear();
-        }
-    }
-
-    // The number at a place of its block, which may be turned.
-    fn number_in_block(&self, place: usize) -> u32
-        requires { place < length self.now.items }
-        ensures { result ≡ slice_index self.now.items place }
-    {
-        self.numbers[ring_place(self.heads[place / BLOCK], place)]
-    }
-
-    // Leaves no numbers, and lets each block begin at its first place. It is not inlined, so that where none was turned nothing is paid for it.
-    #[inline(never)]
-    fn clear_turned(&mut self)
         ensures items { self.new.items ≡ [] }
         ensures room { self.new.room ≡ self.old.room }
     {

@@ -3,11 +3,12 @@ use Rattle.std.proofs.Common.{◌≡◌, Bool, true, false, List, [], refl, ap, 
 use Rattle.bq_model.specs.declared.plan.PartPlan.{PartPlan}
 use Rattle.bq_model.specs.declared.plan.Numbers.{Numbers}
 use Rattle.bq_model.specs.Query.{QueryValue}
-use Rattle.bq_model.specs.Sharing.{kept_boxes, sizes_in, numbers_for}
+use Rattle.bq_model.specs.Sharing.{kept_boxes, sizes_in}
 use Rattle.bq_laws.proofs.PlanBoxes.{count-of-boxes}
+use Rattle.bq_forms.specs.Parts.{form_numbers}
 
 -- a plan announces the cells of the boxes that are kept
-pub cells_announced : (shared : Bool) (q : QueryValue) (parts : List PartPlan) (numbers : Numbers) → numbers ≡ numbers_for shared q parts → numbers.cells ≡ sizes_in (kept_boxes shared q parts)
+pub cells_announced : (shared : Bool) (q : QueryValue) (parts : List PartPlan) (numbers : Numbers) → numbers ≡ form_numbers shared q parts → numbers.cells ≡ sizes_in (kept_boxes shared q parts)
 cells_announced false q parts numbers e = ap (λ (n : Numbers). n.cells) e ∙ count-of-boxes parts
 cells_announced true q parts numbers e = ap (λ (n : Numbers). n.cells) e
 

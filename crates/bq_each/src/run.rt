@@ -113,7 +113,7 @@ fn answer_line<O: Sink, L: Ledger>(
     ensures { (s : State) → (line : List ℕ) → IsBegun long reader.now.line line → StandsFor session.old s → Answered result s line session.new (O.seen output.old) (O.seen output.new) }
 {
     match plain {
-        Some(stream) => session.plain_row(stream, row, false, output, steps),
+        Some(stream) => session.plain_row(stream, row, output, steps),
         None => if long {
             session.long_line(output)
         } else {

@@ -7,7 +7,6 @@ use Rattle.bq_feed.specs.Reading.{IsFirstFeed, IsPlain}
 use Rattle.bq_feed.proofs.LineTexts.{lines-fed}
 use Rattle.bq_rows.specs.Ahead.{IsEnded}
 use Rattle.bq_rows.proofs.NamesAhead.{some_ended}
-use Rattle.bq_embed.specs.Fed.{AreWholeLines}
 
 -- a text as its first line and the others
 pub first_line : (text : List ℕ) (len : ℕ) → IsFirstFeed text len → lines text ≡ take len text ∷ lines (drop (len + 1) text)

@@ -1,12 +1,14 @@
 -- How far a text is fed by its front: rows that are only counted, and the line behind them.
-use Rattle.std.proofs.Common.{◌≡◌, ℕ, ◌+◌, ◌<◌, ◌≤◌, List, [], length, take, drop, length-drop, refl, sym, ap, ◌∙◌, subst, arith, Some}
-use Rattle.std.proofs.lemmas.List.{drop-drop}
+use Rattle.std.proofs.Common.{◌≡◌, ℕ, ◌+◌, ◌-◌, ◌<◌, ◌≤◌, List, [], length, take, drop, length-drop, get_or, refl, sym, ap, ◌∙◌, subst, arith, Some}
+use Rattle.std.proofs.lemmas.List.{drop-drop, get_or-drop}
 use Rattle.bq_io.specs.Sink.{SinkState}
+use Rattle.bq_feed.specs.Reading.{IsFirstFeed}
+use Rattle.bq_rows.specs.Ahead.{IsEnded}
 use Rattle.bq_session.specs.declared.outcome.LineOutcome.{LineOutcome}
 use Rattle.bq_session.specs.declared.outcome.LineOutcome.TheVariants.{Done, Memory, WriteFault}
 use Rattle.bq_session.specs.Counted.{AreCounted, no_row, row_more}
 use Rattle.bq_session.specs.State.{State, after}
-use Rattle.bq_session.specs.Session.{SessionValue}
+use Rattle.bq_session.specs.Session.{Answered, SessionValue, StandsFor}
 use Rattle.bq_session.specs.Run.{HasState}
 use Rattle.bq_embed.specs.Fed.{AnswersFront, FedWithin, FedToCreate, FedToReply}
 use Rattle.bq_embed.proofs.Feeding.{counted, leaves, grows, lacks_memory, breaks_off}
@@ -15,9 +17,32 @@ use Rattle.bq_embed.proofs.Feeding.{counted, leaves, grows, lacks_memory, breaks
 abbrev holding : List ℕ → SinkState
 holding mid = record { written = Some mid; faults = 0; below = 0; passed = 0 }
 
--- no row was counted
-pub none_counted : (text : List ℕ) (session : SessionValue) → AreCounted text session 0 0 0 session
-none_counted text session = no_row refl refl refl
+-- the first line was answered, and no row before it was counted
+pub first_answered : (text : List ℕ) (old : SessionValue) (len : ℕ) (how : LineOutcome) (new : SessionValue) (before now : SinkState) → IsFirstFeed text len → ((s : State) → StandsFor old s → Answered how s (take len text) new before now)
+    → AnswersFront text old len how new before now
+first_answered text old len how new before now feed reply = record {
+  count = 0;
+  begin = 0;
+  end = 0;
+  left = old;
+  rows = no_row refl refl refl;
+  first = len;
+  feed = feed;
+  size = omega arith;
+  reply = reply;
+}
+
+-- behind rows that were counted a text ends as it did
+pub ended_behind : (text : List ℕ) (place : ℕ) → place < length text → IsEnded text → IsEnded (drop place text)
+ended_behind text place inside ended =
+    let size = length-drop place text in
+    let here : place + (length (drop place text) - 1) ≡ length text - 1 = omega (arith, size, inside) in
+    get_or-drop place text (length (drop place text) - 1) 0 ∙ ap (λ (n : ℕ). get_or text n 0) here ∙ ended
+
+-- rows before it end within a text
+pub counted_inside : (text : List ℕ) (old : SessionValue) (count begin end : ℕ) (kept : SessionValue) → 0 < length text → AreCounted text old count begin end kept → end < length text
+counted_inside text old count begin end kept some (no_row c e same) = omega (arith, e, some)
+counted_inside text old count begin end kept some (row_more before start len left first row nothing c e) = omega (arith, e, row.row.before, length-drop begin text)
 
 -- rows that are only counted are answered by nothing
 counts : (s : State) (text : List ℕ) (taken most : ℕ) (held mid rest : List ℕ) (old : SessionValue) → FedWithin s text taken most held mid old → rest ≡ drop taken text → length mid < most
@@ -25,17 +50,17 @@ counts : (s : State) (text : List ℕ) (taken most : ℕ) (held mid rest : List 
 counts s text taken most held mid rest old p at few count begin end kept (no_row c e same) =
     let size : taken ≡ taken + end = omega (arith, e) in
     subst (λ (k : SessionValue). FedWithin s text (taken + end) most held mid k) (sym same) (subst (λ (n : ℕ). FedWithin s text n most held mid old) size p)
-counts s text taken most held mid rest old p at few count begin end kept (row_more before start len left first feed short nothing c e) =
+counts s text taken most held mid rest old p at few count begin end kept (row_more before start len left first row nothing c e) =
     let was = counts s text taken most held mid rest old p at few before start begin left first in
     let here : drop begin rest ≡ drop (taken + begin) text = ap (λ (r : List ℕ). drop begin r) at ∙ drop-drop begin taken text in
     let size : taken + begin + (len + 1) ≡ taken + end = omega (arith, e) in
     subst (λ (n : ℕ). FedWithin s text n most held mid kept) size
-    (grows s text (taken + begin) len most held mid mid (drop begin rest) left kept (holding mid) (holding mid) was here feed few refl refl Done refl (nothing (after s was.fed.answers) (holding mid) was.fed.stands))
+    (grows s text (taken + begin) len most held mid mid (drop begin rest) left kept (holding mid) (holding mid) was here row.row.feed few refl refl Done refl (nothing (after s was.fed.answers) (holding mid) was.fed.stands))
 
 -- each is a line, and the session stands for some state then
 pub counts_on : (rest : List ℕ) (old : SessionValue) → HasState old → (count begin end : ℕ) (kept : SessionValue) → AreCounted rest old count begin end kept → HasState kept × (kept.lines ≤ old.lines + end)
 counts_on rest old known count begin end kept (no_row c e same) = (subst HasState (sym same) known, (let lines : kept.lines ≡ old.lines = ap (λ (k : SessionValue). k.lines) same in omega (arith, lines)))
-counts_on rest old known count begin end kept (row_more before start len left first feed short nothing c e) =
+counts_on rest old known count begin end kept (row_more before start len left first row nothing c e) =
     let was = counts_on rest old known before start begin left first in
     let stands = was.0.stands in
     let a = nothing was.0.state (holding []) stands in

@@ -5,7 +5,6 @@ ghost use Rattle.bq_rows.specs.Ahead.{IsEnded};
 ghost use Rattle.bq_session.specs.State.{State};
 ghost use Rattle.bq_session.specs.Session.{StandsFor, Answered};
 ghost use Rattle.bq_session.specs.Run.{HasState};
-ghost use Rattle.bq_session.specs.Counted.{AreCounted};
 ghost use Rattle.bq_embed.specs.Fed.{AnswersFront, AreWholeLines, Feeds};
 
 use crate::outcome::{Fed, FeedOutcome};
@@ -13,7 +12,7 @@ use crate::replies::Replies;
 use bq_io::Sink;
 use bq_model::Row;
 use bq_pool::Steps;
-use bq_session::{CountedRows, LineOutcome, Pause, Session, count_ahead};
+use bq_session::{Front, LineOutcome, Session, front_ahead};
 use memchr::memchr_iter;
 use std::sync::ledger::Ledger;
 
@@ -77,7 +76,7 @@ fn put_front(text: &[u8], room: &mut [u8])
     room[..text.len()].copy_from_slice(text);
 }
 
-// What `answer_first` does, whatever the line is.
+// Answers the first line of a text that ends with LF, whatever the line is.
 #[inline(always)]
 fn answer_any<O: Sink, L: Ledger>(
     session: &mut Session,
@@ -95,9 +94,10 @@ fn answer_any<O: Sink, L: Ledger>(
     FirstLine { len, outcome }
 }
 
-// What `answer_first` does where a row may be read ahead of more text, whose LF is then not looked for first.
-#[inline(always)]
-fn answer_ahead<O: Sink, L: Ledger>(
+// Answers the first line of a text that ends with LF, behind rows that were counted. A row is read ahead of more text, and its LF is not looked for
+// first. It is not inlined, so that the loop over lines has the reading of fields once.
+#[inline(never)]
+fn answer_behind<O: Sink, L: Ledger>(
     session: &mut Session,
     text: &[u8],
     out: &mut O,
@@ -112,16 +112,15 @@ fn answer_ahead<O: Sink, L: Ledger>(
     match session.row_ahead(text, &mut row) {
         Some(found) => {
             let (stream, len) = found;
-            // A query is mostly live here, since the rows before the first one are counted.
-            let outcome = session.plain_row(stream, &row, true, out, steps);
+            let outcome = session.plain_row(stream, &row, out, steps);
             FirstLine { len, outcome }
         }
         None => answer_any(session, text, out, steps),
     }
 }
 
-// What `answer_first` does where the text is mostly one line. A row is read from a copy with LFs behind it, since its name and digits are read
-// many bytes at a time where more bytes follow. It is not inlined, so that a batch pays nothing for the copy.
+// Answers the first line of a text that mostly is one line. A row is read from a copy with LFs behind it, since its name and digits are read many
+// bytes at a time where more bytes follow. It is not inlined, so that a batch pays nothing for the copy.
 #[inline(never)]
 fn answer_alone<O: Sink, L: Ledger>(
     session: &mut Session,
@@ -141,55 +140,18 @@ fn answer_alone<O: Sink, L: Ledger>(
     match session.row_ahead(&room, &mut row) {
         Some(found) => {
             let (stream, len) = found;
-            let outcome = session.plain_row(stream, &row, false, out, steps);
+            let outcome = session.plain_row(stream, &row, out, steps);
             FirstLine { len, outcome }
         }
         None => answer_any(session, text, out, steps),
     }
 }
 
-// Answers the first line of a text that ends with LF.
-fn answer_first<O: Sink, L: Ledger>(
-    session: &mut Session,
-    text: &[u8],
-    out: &mut O,
-    steps: &mut Steps<L>,
-) -> FirstLine
-    requires ended { IsEnded text.now }
-    requires few { session.old.lines + 1 < 2 ^ 64 }
-    ensures feed { IsFirstFeed text.now result.len }
-    ensures reply { (s : State) → StandsFor session.old s → Answered result.outcome s (take result.len text.now) session.new (O.seen out.old) (O.seen out.new) }
-{
-    if text.len() <= ONE_LINE {
-        answer_alone(session, text, out, steps)
-    } else {
-        answer_ahead(session, text, out, steps)
-    }
-}
-
-// Counts the rows at the front of a text that are only counted. A text that mostly is one line is not looked through.
-#[tactic(auto, using(crate::proofs::Fronts::none_counted))]
-fn count_front(session: &mut Session, text: &[u8], pause: &mut Pause) -> CountedRows
-    requires ended { IsEnded text.now }
-    ensures rows { AreCounted text.now session.old result.count result.begin result.end session.new }
-    ensures inside { result.end < length text.now }
-{
-    if text.len() <= ONE_LINE {
-        return CountedRows {
-            count: 0,
-            begin: 0,
-            end: 0,
-        };
-    }
-    count_ahead(session, text, pause)
-}
-
 // Answers the first line of a text that ends with LF, and before it the rows that are only counted. It gives where the LF of that line
-// stands, and how the line was answered.
+// stands, and how the line was answered. Nothing is read ahead of a text that mostly is one line.
 fn answer_front<O: Sink, L: Ledger>(
     session: &mut Session,
     text: &[u8],
-    pause: &mut Pause,
     out: &mut O,
     steps: &mut Steps<L>,
 ) -> FirstLine
@@ -198,11 +160,23 @@ fn answer_front<O: Sink, L: Ledger>(
     requires stands { HasState session.old }
     ensures { AnswersFront text.now session.old result.len result.outcome session.new (O.seen out.old) (O.seen out.new) }
 {
-    let rows = count_front(session, text, pause);
-    let line = answer_first(session, text.split_at(rows.end).1, out, steps);
-    FirstLine {
-        len: rows.end + line.len,
-        outcome: line.outcome,
+    if text.len() <= ONE_LINE {
+        return answer_alone(session, text, out, steps);
+    }
+    let mut row = Row::new();
+    match front_ahead(session, text, &mut row) {
+        Front::Counted(rows) => {
+            let line = answer_behind(session, text.split_at(rows.end).1, out, steps);
+            FirstLine {
+                len: rows.end + line.len,
+                outcome: line.outcome,
+            }
+        }
+        Front::Row { stream, len } => {
+            let outcome = session.plain_row(stream, &row, out, steps);
+            FirstLine { len, outcome }
+        }
+        Front::Other => answer_any(session, text, out, steps),
     }
 }
 
@@ -224,7 +198,6 @@ pub(crate) fn answer_text<L: Ledger>(
     ensures lines { session.new.lines ≤ session.old.lines + result.taken }
 {
     let mut taken = 0;
-    let mut pause = Pause::default();
     'answering: while taken < text.len() {
         if !are_few(replies, most) {
             return Fed {
@@ -238,7 +211,7 @@ pub(crate) fn answer_text<L: Ledger>(
                 taken,
             };
         }
-        let line = answer_front(session, text.split_at(taken).1, &mut pause, replies, steps);
+        let line = answer_front(session, text.split_at(taken).1, replies, steps);
         taken += line.len + 1;
         match line.outcome {
             LineOutcome::Done => {}

@@ -11,7 +11,7 @@ use Rattle.bq_model.specs.declared.plan.Plan.TheVariants as plan
 use Rattle.bq_model.specs.Query.{QueryValue}
 use Rattle.bq_model.specs.Numbers.{places, parts_of}
 use Rattle.bq_model.specs.Plan.{stream_at, Follow, FollowIn}
-use Rattle.bq_model.specs.Serving.{KeepsStreams, AreBased, IsServingPlan}
+use Rattle.bq_model.specs.Serving.{KeepsStreams, AreBased}
 use Rattle.bq_model.specs.Sharing.{Box, box_at, size_in, boxes_in, same_box, different_boxes, boxes, sizes_in, start_in}
 use Rattle.bq_model.proofs.Has.{Has, first, later, Has-from_contains, Contains-from_has}
 use Rattle.bq_laws.proofs.Tests.{any_from, any_if, not_both, or-false, same_bool, true_or_false}
@@ -24,6 +24,7 @@ use Rattle.bq_laws.proofs.Walking.{serving-keep}
 use Rattle.bq_index.specs.Owners.{has_base, BeginBehind}
 use Rattle.bq_executor.proofs.Inserting.{get_has}
 use Rattle.bq_index.proofs.Owning.{begins-there}
+use Rattle.bq_forms.specs.Forms.{IsServingForm}
 
 -- boxes that follow from a number on begin there or behind
 in-from : (next : ℕ) (streams : List StreamPlan) (rest : ℕ → Type 0) → FollowIn next streams rest → (k : ℕ) → k < length streams
@@ -186,6 +187,6 @@ begin-behind shared q list keeps bases place i part earlier l at c own = by shar
     by true bases = shared-behind q list bases i part earlier at before place in_part in_earlier own
 
 -- of any plan; a filter has no parts
-pub plan-behind : (shared : Bool) (q : QueryValue) (p : Plan) → IsServingPlan shared q p → BeginBehind (length q.from) (parts_of p)
+pub plan-behind : (shared : Bool) (q : QueryValue) (p : Plan) → IsServingForm shared q p → BeginBehind (length q.from) (parts_of p)
 plan-behind shared q plan.Filter is = λ place i part earlier l at c own. elim (get_has [] i part at) [ ]
 plan-behind shared q (plan.Parts list numbers) is = begin-behind shared q list (serving-keep q list is.1.serves) is.2

@@ -16,7 +16,6 @@ use Rattle.bq_model.specs.Probing.{choices_beside, found_beside}
 use Rattle.bq_model.specs.Future.{spelled_out}
 use Rattle.bq_model.specs.Numbers.{places, parts_of, work}
 use Rattle.bq_model.specs.declared.plan.Numbers.{Numbers}
-use Rattle.bq_model.specs.Serving.{IsServingPlan}
 use Rattle.bq_model.proofs.Has.{Has, first, later, same_map, Contains-from_has}
 use Rattle.bq_laws.specs.Closed.{IsSaturated}
 use Rattle.bq_laws.proofs.ByValues.{choices-go-by-values}
@@ -29,6 +28,7 @@ use Rattle.bq_index.specs.Prepared.{IsPreparedPlan}
 use Rattle.bq_saturated.specs.declared.saturation.Saturation.{Saturation}
 use Rattle.bq_saturated.specs.Known.{AreSaturated}
 use Rattle.bq_saturated.specs.Looking.{CanLook, CanLookAt}
+use Rattle.bq_forms.specs.Forms.{IsServingForm}
 use Rattle.bq_executor.specs.CellSteps.{AreReady, IsPlanReady}
 use Rattle.bq_executor.proofs.Founds.{Agree, choices_at-same}
 use Rattle.bq_executor.proofs.Inserting.{get_has}
@@ -107,7 +107,7 @@ abbrev pub AnnouncesWork : Plan → Type 0
 AnnouncesWork plan.Filter = Unit {0}
 AnnouncesWork (plan.Parts parts numbers) = numbers.work ≡ work parts
 
-pub announces-work : (shared : Bool) (q : QueryValue) (p : Plan) → IsServingPlan shared q p → AnnouncesWork p
+pub announces-work : (shared : Bool) (q : QueryValue) (p : Plan) → IsServingForm shared q p → AnnouncesWork p
 announces-work shared q plan.Filter is = tt
 announces-work true q (plan.Parts parts numbers) is = ap (λ (n : Numbers). n.work) is.3
 announces-work false q (plan.Parts parts numbers) is = ap (λ (n : Numbers). n.work) is.3

@@ -49,8 +49,8 @@ tuple-room e sound t d h none = by e.plan (has_parts e.shared e.query e.plan (se
         let m = any_from (is_same t) (all_tuples e.query parts) k in
         let is : t ≡ m.0 = same-is t m.0 m.2 in
         let among : Has (all_tuples e.query parts) t = subst (λ z. Has (all_tuples e.query parts) z) (sym is) m.1 in
-        let room = room_for e.query parts sound.limits own.1 t e.table.entries sound.ascends (lie_from e.query parts (tuples_of e.table.entries) lie) among none in
-        let bound = own.2 in omega (arith, room, bound, capacity)
+        let room = room_for e.query parts numbers.answers own.2 t e.table.entries sound.ascends (lie_from e.query parts (tuples_of e.table.entries) lie) among none in
+        omega (arith, room, capacity)
 
 -- a table takes a tuple that is not there by merging
 table-merges : (t : List ℤ) (es : List Entry) → Ascends es → has t es ≡ false → tuples_of (settled (added t 1 es)) ≡ merged_table (tuples_of es) (t ∷ [])

@@ -11,9 +11,9 @@ use Rattle.bq_model.specs.declared.plan.Plan.{Plan}
 use Rattle.bq_model.specs.declared.plan.Plan.TheVariants as plan
 use Rattle.bq_model.specs.Query.{QueryValue, IsWithinLimits}
 use Rattle.bq_model.specs.Meaning.{Arrival}
-use Rattle.bq_model.specs.Serving.{KeepsStreams, IsServing, AreBased, IsServingPlan}
+use Rattle.bq_model.specs.Serving.{KeepsStreams, IsServing, AreBased}
 use Rattle.bq_model.specs.Verdict.{is_above, first_above}
-use Rattle.bq_model.specs.Numbers.{parts_of, pages_of, answer_bound}
+use Rattle.bq_model.specs.Numbers.{parts_of, pages_of}
 use Rattle.bq_model.specs.Sharing.{kept_boxes, sizes_in, numbers_for}
 use Rattle.bq_laws.specs.Probing.{AreWithin}
 use Rattle.bq_laws.specs.Sharing.{AreBoxesOf}
@@ -27,18 +27,17 @@ use Rattle.bq_model.proofs.Has.{Has, Has-from_contains, Contains-from_has}
 use Rattle.bq_pool.specs.declared.pool.Extent.{Extent}
 use Rattle.bq_pool.specs.Extents.{PoolValue, cells_of, IsLive}
 use Rattle.bq_synopsis.specs.Premises.{AreFitting}
-use Rattle.bq_forms.specs.Forms.{IsWithin}
+use Rattle.bq_forms.specs.Answers.{HoldsAllTuples}
+use Rattle.bq_forms.specs.Forms.{IsServingForm, IsWithin}
 use Rattle.bq_executor.specs.Executor.{ExecutorValue, IsSound}
 use Rattle.bq_executor.specs.CellSteps.{answered_by, HasParts, MeetWhole, IsPlanReady, CanCount}
 use Rattle.bq_executor.proofs.Inserting.{get_has}
 use Rattle.bq_executor.proofs.Founds.{Agree, all_found-same}
 use Rattle.bq_synopsis.proofs.CallerLemmas.{serving-keeping}
+use Rattle.bq_loading.specs.Loadable.{IsBasedPlan}
 use Rattle.bq_loading.proofs.PlanBoxes.{no_boxes}
+use Rattle.bq_forms.proofs.Counted.{announced_answers_hold}
 use Rattle.bq_forms.proofs.Forms.{form_plans_serve}
-
-same_answers : (shared : Bool) (q : QueryValue) (list : List PartPlan) → (numbers_for shared q list).answers ≡ answer_bound q list
-same_answers false q list = refl
-same_answers true q list = refl
 
 same_cells : (shared : Bool) (q : QueryValue) (list : List PartPlan) → (numbers_for shared q list).cells ≡ sizes_in (kept_boxes shared q list)
 same_cells false q list = count-of-boxes list
@@ -53,25 +52,30 @@ no_parts = record {
 }
 
 -- the plan of an executor serves its query, whichever form it has
-pub serving_in : (e : ExecutorValue) → IsSound e → IsServingPlan e.shared e.query e.plan
+pub serving_in : (e : ExecutorValue) → IsSound e → IsServingForm e.shared e.query e.plan
 serving_in e sound = form_plans_serve e.shared e.query e.plan sound.limits sound.accepted.met sound.accepted.plan
 
-pub has_parts : (shared : Bool) (q : QueryValue) (p : Plan) → IsServingPlan shared q p → HasParts q p
+-- and its boxes begin where they should
+pub based_in : (shared : Bool) (q : QueryValue) (p : Plan) → IsServingForm shared q p → IsBasedPlan shared q p
+based_in shared q plan.Filter is = is
+based_in shared q (plan.Parts list numbers) is = (is.0, is.1, is.2)
+
+pub has_parts : (shared : Bool) (q : QueryValue) (p : Plan) → IsServingForm shared q p → HasParts q p
 has_parts shared q plan.Filter is = is
-has_parts shared q (plan.Parts list numbers) is = (is.0, is.1, ap (λ (m : Numbers). m.answers) is.3 ∙ same_answers shared q list)
+has_parts shared q (plan.Parts list numbers) is = (is.0, is.1, subst (HoldsAllTuples q list) (sym (ap (λ (m : Numbers). m.answers) is.3)) (announced_answers_hold shared q list))
 
 -- each part keeps the streams of the query; a filter has none
-pub parts_keep : (shared : Bool) (q : QueryValue) (p : Plan) → IsServingPlan shared q p → All (KeepsStreams q) (parts_of p)
+pub parts_keep : (shared : Bool) (q : QueryValue) (p : Plan) → IsServingForm shared q p → All (KeepsStreams q) (parts_of p)
 parts_keep shared q plan.Filter is = λ k d l. absurd (omega (arith, l))
 parts_keep shared q (plan.Parts list numbers) is = serving-keep q list is.1.serves
 
 -- the boxes begin where they should; a filter has none
-pub boxes_of_plan : (shared : Bool) (q : QueryValue) (p : Plan) → IsServingPlan shared q p → AreBoxesOf q (parts_of p) (kept_boxes shared q (parts_of p))
+pub boxes_of_plan : (shared : Bool) (q : QueryValue) (p : Plan) → IsServingForm shared q p → AreBoxesOf q (parts_of p) (kept_boxes shared q (parts_of p))
 boxes_of_plan shared q plan.Filter is = subst (AreBoxesOf q []) (sym (no_boxes shared q)) no_parts
 boxes_of_plan shared q (plan.Parts list numbers) is = plans-have-boxes shared q list is.2
 
 -- the cells are those of the boxes of the plan; a filter has none
-pub kept_is : (shared : Bool) (q : QueryValue) (p : Plan) → IsServingPlan shared q p → IsKept q (parts_of p) (kept_boxes shared q (parts_of p))
+pub kept_is : (shared : Bool) (q : QueryValue) (p : Plan) → IsServingForm shared q p → IsKept q (parts_of p) (kept_boxes shared q (parts_of p))
 kept_is shared q plan.Filter is = alone is refl (no_boxes shared q)
 kept_is shared q (plan.Parts list numbers) is = boxed is.0 is.1 (plans-have-boxes shared q list is.2)
 
@@ -87,7 +91,7 @@ few_cells numbers e = by (is_above numbers which.Cells) refl e
     by false f g = grind (arith, nat_tests)
 
 -- the cells stand within the pages
-pub cells_of_plan : (shared : Bool) (q : QueryValue) (p : Plan) → IsServingPlan shared q p → IsWithin p
+pub cells_of_plan : (shared : Bool) (q : QueryValue) (p : Plan) → IsServingForm shared q p → IsWithin p
     → (sizes_in (kept_boxes shared q (parts_of p)) ≤ 64 * pages_of p) × (sizes_in (kept_boxes shared q (parts_of p)) < 2 ^ 32)
 cells_of_plan shared q plan.Filter is within = (let n : sizes_in (kept_boxes shared q []) ≡ 0 = ap sizes_in (no_boxes shared q) in (omega (arith, n), omega (arith, n)))
 cells_of_plan shared q (plan.Parts list numbers) is within =
@@ -108,7 +112,7 @@ meet_of shared q list is bases m n part other place there i j b c e =
     (Contains-from_has list part (get_has list m part b.at)) (Contains-from_has list other (get_has list n other c.at)) b.there c.there b.inside c.inside e
 
 -- the cells are ready for a row
-pub plan_ready : (shared : Bool) (q : QueryValue) (p : Plan) → IsWithinLimits q → IsServingPlan shared q p → IsWithin p → (pool : PoolValue) (e : Extent) → e.pages ≡ pages_of p → IsLive pool e
+pub plan_ready : (shared : Bool) (q : QueryValue) (p : Plan) → IsWithinLimits q → IsServingForm shared q p → IsWithin p → (pool : PoolValue) (e : Extent) → e.pages ≡ pages_of p → IsLive pool e
     → ((part : PartPlan) → Contains (parts_of p) part → AreFitting part (read_from (cells_of pool e)))
     → ((part : PartPlan) → Contains (parts_of p) part → CanCount part (read_from (cells_of pool e)))
     → IsPlanReady q p pool e

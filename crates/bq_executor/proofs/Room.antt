@@ -3,22 +3,20 @@ use Rattle.std.proofs.Common.{◌≡◌, ℕ, zero, suc, min, ◌^◌, ap₂, �
 use Rattle.std.proofs.lemmas.List.{length-map, get_or-map}
 use Rattle.std.proofs.lemmas.List.Elements.{All-contains}
 use Rattle.bq_model.specs.declared.plan.PartPlan.{PartPlan}
-use Rattle.bq_model.specs.Query.{QueryValue, IsWithinLimits}
+use Rattle.bq_model.specs.Query.{QueryValue}
 use Rattle.bq_model.specs.Tuples.{is_before, insert_sorted}
-use Rattle.bq_model.specs.Serving.{IsServing}
 use Rattle.bq_model.specs.Ranges.{all_tuples, at_column, different, selected_ranges}
 use Rattle.bq_model.specs.Boxes.{box}
-use Rattle.bq_model.specs.Numbers.{answer_bound}
 use Rattle.bq_model.specs.Combinations.{Found}
 use Rattle.bq_model.proofs.Has.{Has, first, later, Has-head, Has-from_contains, Contains-from_has, Has-map_from}
 use Rattle.bq_laws.proofs.Tests.{true_or_false}
 use Rattle.bq_laws.proofs.OnePartFits.{has_cases}
 use Rattle.bq_laws.proofs.Order.{cond_has}
 use Rattle.bq_laws.proofs.Extremes.{flat_map-from}
-use Rattle.bq_laws.proofs.TableRoom.{table-has-room}
 use Rattle.bq_answers.specs.Entries.{Entry, entry_of, TableValue, with_entries, changed, has, Ascends, Fits, tuples_of}
 use Rattle.bq_answers.proofs.Changed.{ascends_changed, ascends_get}
 use Rattle.bq_answers.proofs.Tuples.{before_less, tuples_new, tuples_old}
+use Rattle.bq_forms.specs.Answers.{HoldsAllTuples}
 use Rattle.bq_executor.specs.FoundTable.{with_found, with_all, HaveRoom}
 use Rattle.bq_executor.proofs.TableLaws.{ascends_found}
 
@@ -115,23 +113,7 @@ pairs-ascend es a i j d h l =
     let y : get_or (tuples_of es) j d ≡ (get_or es j o).tuple = get_or-map (λ e. e.tuple) es j o d k in
     ap₂ is_before x y ∙ before_less (get_or es i o).tuple (get_or es j o).tuple (ascends_get o es i j a h k)
 
-module _ (q : QueryValue) (plan : List PartPlan) (within : IsWithinLimits q) (is : IsServing q plan) where
-  -- a table within the ranges has room for one more tuple of them
-  pub room_for : (t : List ℤ) (es : List Entry) → Ascends es → Lie q plan (tuples_of es) → Has (all_tuples q plan) t → has t es ≡ false
-      → length es < answer_bound q plan
-  room_for t es a lie k none =
-      let own : ℕ → ℕ = λ waiting. waiting in
-      let more : List Entry = changed own t es in
-      let all : Lie q plan (tuples_of more) = λ z h. elim (tuples_changed t own es a z h) [
-        | inl e ↦ subst (λ u. Has (all_tuples q plan) u) e k
-        | inr m ↦ lie z m
-      ] in
-      let n : length (tuples_of more) ≤ answer_bound q plan
-      = (table-has-room q plan within is).1 (tuples_of more) (pairs-ascend more (ascends_changed t own es a)) (lie_all q plan (tuples_of more) all) in
-      let e : length (tuples_of more) ≡ suc (length (tuples_of es)) = ap length (tuples_new t own es none) ∙ length-placed t (tuples_of es) in
-      let m : length (tuples_of es) ≡ length es = length-map es (λ e. e.tuple) in
-      omega (arith, n, e, m)
-
+module _ (q : QueryValue) (plan : List PartPlan) where
   -- each tuple of the ranges has as many values as there are selected columns
   wide : (t : List ℤ) → Has (all_tuples q plan) t → length t ≡ length q.select
   wide t h =
@@ -154,14 +136,30 @@ module _ (q : QueryValue) (plan : List PartPlan) (within : IsWithinLimits q) (is
   lie_with_all d (f ∷ fs) es a lie k =
       lie_with_all d fs (with_found d f es) (ascends_found d f es a) (lie_found d f es a lie (k f first)) (λ g h. k g (later h))
 
+module _ (q : QueryValue) (plan : List PartPlan) (most : ℕ) (holds : HoldsAllTuples q plan most) where
+  -- a table within the ranges has room for one more tuple of them
+  pub room_for : (t : List ℤ) (es : List Entry) → Ascends es → Lie q plan (tuples_of es) → Has (all_tuples q plan) t → has t es ≡ false
+      → length es < most
+  room_for t es a lie k none =
+      let own : ℕ → ℕ = λ waiting. waiting in
+      let more : List Entry = changed own t es in
+      let all : Lie q plan (tuples_of more) = λ z h. elim (tuples_changed t own es a z h) [
+        | inl e ↦ subst (λ u. Has (all_tuples q plan) u) e k
+        | inr m ↦ lie z m
+      ] in
+      let n : length (tuples_of more) ≤ most = holds (tuples_of more) (pairs-ascend more (ascends_changed t own es a)) (lie_all q plan (tuples_of more) all) in
+      let e : length (tuples_of more) ≡ suc (length (tuples_of es)) = ap length (tuples_new t own es none) ∙ length-placed t (tuples_of es) in
+      let m : length (tuples_of es) ≡ length es = length-map es (λ e. e.tuple) in
+      omega (arith, n, e, m)
+
   -- the table has room for all that is found
-  pub have_room : (d : Bool) (fs : List Found) (table : TableValue) → table.width ≡ length q.select → table.capacity ≡ answer_bound q plan
+  pub have_room : (d : Bool) (fs : List Found) (table : TableValue) → table.width ≡ length q.select → table.capacity ≡ most
       → Ascends table.entries → Lie q plan (tuples_of table.entries) → ((f : Found) → Has fs f → Has (all_tuples q plan) f.tuple)
       → HaveRoom d fs table
   have_room d [] table width capacity a lie k = tt
   have_room d (f ∷ fs) table width capacity a lie k = (
-    wide f.tuple (k f first) ∙ sym width,
+    wide q plan f.tuple (k f first) ∙ sym width,
     λ none. (let r = room_for f.tuple table.entries a lie (k f first) none in omega (arith, r, capacity)),
     have_room d fs (with_entries table (with_found d f table.entries)) width capacity (ascends_found d f table.entries a)
-        (lie_found d f table.entries a lie (k f first)) (λ g h. k g (later h)),
+        (lie_found q plan d f table.entries a lie (k f first)) (λ g h. k g (later h)),
   )

@@ -170,8 +170,8 @@ module _ (q : QueryValue) (within : IsWithinLimits q) (read : Reading) (r : Arri
       by : (b : Bool) → HaveRoom q.distinct (cond b (all_found q parts read r) []) (with_entries table (cleared q.distinct table.entries))
       by false = tt
       by true =
-          have_room q parts within is.1 q.distinct (all_found q parts read r) (with_entries table (cleared q.distinct table.entries)) width
-          (capacity ∙ is.2) (cleared-ascends q.distinct table.entries a) (lie_start q parts table.entries lie)
+          have_room q parts numbers.answers is.2 q.distinct (all_found q parts read r) (with_entries table (cleared q.distinct table.entries)) width
+          capacity (cleared-ascends q.distinct table.entries a) (lie_start q parts table.entries lie)
           (found_lies q parts within is.1.serves read r (kinds q read parts is.1.serves fitting))
 
   -- its tuples stay within the ranges
@@ -185,7 +185,7 @@ module _ (q : QueryValue) (within : IsWithinLimits q) (read : Reading) (r : Arri
     where
       by : (b : Bool) → Lie q parts (tuples_of (with_all q.distinct (cond b (all_found q parts read r) []) (cleared q.distinct table.entries)))
       by b =
-          lie_with_all q parts within is.1 q.distinct (cond b (all_found q parts read r) []) (cleared q.distinct table.entries)
+          lie_with_all q parts q.distinct (cond b (all_found q parts read r) []) (cleared q.distinct table.entries)
           (cleared-ascends q.distinct table.entries a) (lie_start q parts table.entries lie) (each b)
         where
           each : (b : Bool) → (f : Found) → Has (cond b (all_found q parts read r) []) f → Has (all_tuples q parts) f.tuple

@@ -13,7 +13,7 @@ use Rattle.bq_model.specs.Tuples.{sorted, new_tuples}
 use Rattle.bq_model.specs.Meaning.{Arrival, new_answers}
 use Rattle.bq_model.specs.Filter.{filter_tuple}
 use Rattle.bq_model.specs.Plan.{stream_at}
-use Rattle.bq_model.specs.Serving.{KeepsStreams, IsServingPlan}
+use Rattle.bq_model.specs.Serving.{KeepsStreams}
 use Rattle.bq_model.specs.Cells.{printed, FitsKind}
 use Rattle.bq_model.specs.Combinations.{Reading, Found, found_in, read_from}
 use Rattle.bq_model.specs.Bases.{Base, kept_row}
@@ -48,6 +48,7 @@ use Rattle.bq_executor.specs.Standing.{StandsFor, CountsUpto, AreKept, KeepsWith
 use Rattle.bq_executor.specs.FoundTable.{with_all, HaveRoom}
 use Rattle.bq_executor.specs.CellSteps.{arrives, answered_by, HasParts, HasTaken, IsPlanReady, CanCount, AnswersNothingNew}
 use Rattle.bq_index.specs.Leaving.{LeavesCell}
+use Rattle.bq_forms.specs.Forms.{IsServingForm}
 use Rattle.bq_executor.proofs.InPart.{place_inside}
 use Rattle.bq_executor.proofs.OldAnswers.{has-cleared}
 use Rattle.bq_executor.proofs.Closing.{distinct-plan, closed-all}
@@ -207,7 +208,7 @@ module _ (e : ExecutorValue) (sound : IsSound e) (pool : PoolValue) (ready : IsR
   inside : AreWithin (length q.from) (sizes_in list) parts
   inside = within_of e.plan (serving_in e sound)
     where
-      within_of : (p : Plan) → IsServingPlan e.shared q p → AreWithin (length q.from) (sizes_in (kept_boxes e.shared q (parts_of p))) (parts_of p)
+      within_of : (p : Plan) → IsServingForm e.shared q p → AreWithin (length q.from) (sizes_in (kept_boxes e.shared q (parts_of p))) (parts_of p)
       within_of plan.Filter h = λ part k. elim (Has-from_contains [] part k) [ ]
       within_of (plan.Parts list numbers) h = inside_of e.shared q list h.1 h.2
 

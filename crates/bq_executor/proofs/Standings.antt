@@ -9,7 +9,7 @@ use Rattle.bq_model.specs.declared.plan.Plan.TheVariants as plan
 use Rattle.bq_model.specs.Query.{QueryValue}
 use Rattle.bq_model.specs.Meaning.{Arrival, rows}
 use Rattle.bq_model.specs.Plan.{stream_at}
-use Rattle.bq_model.specs.Serving.{KeepsStreams, IsServingPlan}
+use Rattle.bq_model.specs.Serving.{KeepsStreams}
 use Rattle.bq_model.specs.Cells.{content, cell_of, rows_of_cell, FitsKind}
 use Rattle.bq_model.specs.Combinations.{read_from}
 use Rattle.bq_model.specs.Numbers.{parts_of}
@@ -26,6 +26,7 @@ use Rattle.bq_laws.proofs.ClosedTables.{tables-stay-closed}
 use Rattle.bq_executor.proofs.PlanFacts.{serving_in, boxes_of_plan}
 use Rattle.bq_executor.proofs.Closing.{distinct-plan, known-closed}
 use Rattle.bq_pool.specs.Extents.{PoolValue}
+use Rattle.bq_forms.specs.Forms.{IsServingForm}
 use Rattle.bq_executor.specs.Executor.{ExecutorValue, parts_in, list_in, cells_in, tuples_in, IsSound}
 use Rattle.bq_executor.specs.Standing.{StandsFor, CountsUpto, AreKept}
 use Rattle.bq_executor.specs.Runs.{StandingIsReady}
@@ -64,7 +65,7 @@ module _ (e : ExecutorValue) (pool : PoolValue) (history : List Arrival) (sound 
       → read_from (cells_in e pool) part place i ≡ cell_of e.query history part place i
   cell_is part c place i l s = ap (λ cs. read_from cs part place i) stands.cells ∙ by e.plan (serving_in e sound) c
     where
-      by : (p : Plan) → IsServingPlan e.shared e.query p → Contains (parts_of p) part
+      by : (p : Plan) → IsServingForm e.shared e.query p → Contains (parts_of p) part
           → read_from (synopsis_in e.query (kept_boxes e.shared e.query (parts_of p)) history) part place i ≡ cell_of e.query history part place i
       by plan.Filter is c = elim (Has-from_contains [] part c) [ ]
       by (plan.Parts list numbers) is c =

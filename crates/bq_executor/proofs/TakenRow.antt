@@ -6,9 +6,9 @@ use Rattle.bq_model.specs.Query.{QueryValue, is_filter}
 use Rattle.bq_model.specs.Meaning.{Arrival}
 use Rattle.bq_model.specs.Domains.{RowKeeps}
 use Rattle.bq_model.specs.Combinations.{read_from}
-use Rattle.bq_model.specs.Serving.{IsServingPlan}
 use Rattle.bq_laws.proofs.Tests.{not_both}
 use Rattle.bq_pool.specs.Extents.{PoolValue, cells_of}
+use Rattle.bq_forms.specs.Forms.{IsServingForm}
 use Rattle.bq_executor.specs.Executor.{ExecutorValue, IsSound, parts_in, with_given, cleared}
 use Rattle.bq_executor.specs.Standing.{KeepsWithin, IsReady, Took}
 use Rattle.bq_executor.specs.FoundTable.{with_all}
@@ -19,7 +19,7 @@ use Rattle.bq_executor.proofs.Keeping.{counted-within}
 use Rattle.bq_executor.proofs.Rows.{sound_later, waits, cells, tuples, kept, within, history}
 
 -- a filter is planned as one
-pub filter-plan : (shared : Bool) (q : QueryValue) (p : Plan) → IsServingPlan shared q p → IsTrue (is_filter q) → p ≡ plan.Filter
+pub filter-plan : (shared : Bool) (q : QueryValue) (p : Plan) → IsServingForm shared q p → IsTrue (is_filter q) → p ≡ plan.Filter
 filter-plan shared q plan.Filter is filter = refl
 filter-plan shared q (plan.Parts list numbers) is filter = absurd (not_both (is_filter q) filter is.0)
 

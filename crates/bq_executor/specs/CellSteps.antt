@@ -14,7 +14,6 @@ use Rattle.bq_model.specs.Filter.{filter_tuple}
 use Rattle.bq_model.specs.Admission.{admits}
 use Rattle.bq_model.specs.Cells.{row_place, content}
 use Rattle.bq_model.specs.Merge.{merged}
-use Rattle.bq_model.specs.Numbers.{answer_bound}
 use Rattle.bq_model.specs.Sharing.{box_at, same_box}
 use Rattle.bq_laws.specs.Probing.{AreWithin}
 use Rattle.bq_model.specs.Combinations.{Reading, Found, found_in, read_from}
@@ -23,6 +22,7 @@ use Rattle.bq_pool.specs.declared.pool.Extent.{Extent}
 use Rattle.bq_pool.specs.Extents.{PoolValue, cells_of, with_cells, IsLive}
 use Rattle.bq_synopsis.specs.Premises.{AreKeeping, AreFitting, HasRoom, row_cell}
 use Rattle.bq_answers.specs.Entries.{Entry, has}
+use Rattle.bq_forms.specs.Answers.{HoldsAllTuples}
 use Rattle.bq_index.specs.Leaving.{LeavesCell}
 use Rattle.bq_index.specs.Owners.{has_base}
 
@@ -104,10 +104,10 @@ abbrev pub answered_by : QueryValue → Plan → Reading → Arrival → List Fo
 answered_by q plan.Filter read r = own_found q r
 answered_by q (plan.Parts parts numbers) read r = if list_any (λ stream. r.stream == stream) q.from then all_found q parts read r else []
 
--- the parts of a plan serve the query, wherever their boxes begin, and as many answers are announced as they have
+-- the parts of a plan serve the query, wherever their boxes begin, and there is room for all their tuples among the answers that are announced
 abbrev pub HasParts : QueryValue → Plan → Type 0
 HasParts q plan.Filter = IsTrue (is_filter q)
-HasParts q (plan.Parts parts numbers) = IsFalse (is_filter q) × IsServing q parts × (numbers.answers ≡ answer_bound q parts)
+HasParts q (plan.Parts parts numbers) = IsFalse (is_filter q) × IsServing q parts × HoldsAllTuples q parts numbers.answers
 
 -- the cells of a plan are ready for a row; a filter has none
 abbrev pub IsPlanReady : QueryValue → Plan → PoolValue → Extent → Type 0

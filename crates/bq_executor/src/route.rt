@@ -2,7 +2,6 @@
 ghost use Rattle.std.specs.Prelude.{◌≡◌, ◌<◌, ◌≤◌, ◌+◌, ◌*◌, ◌&&◌, ◌||◌, not, length, slice_get, Some, IfSome, true};
 ghost use Rattle.bq_model.specs.Meaning.{by_column};
 ghost use Rattle.bq_model.specs.Combinations.{read_from};
-ghost use Rattle.bq_model.specs.Parts.{pairs};
 ghost use Rattle.bq_pool.specs.Extents.{cells_of};
 ghost use Rattle.bq_answers.specs.Entries.{with_entries};
 ghost use Rattle.bq_synopsis.specs.Premises.{AreKeeping};
@@ -11,7 +10,7 @@ ghost use Rattle.bq_executor.specs.Reads.{row_reads};
 ghost use Rattle.bq_executor.specs.CellSteps.{arrives, all_found, HasTaken, AreReady, AnswersNothingNew};
 ghost use Rattle.bq_index.specs.Leaving.{IsPlaced};
 ghost use Rattle.bq_index.specs.Owners.{EachTakes};
-ghost use Rattle.bq_index.specs.PartIndex.{IsPartIndex, IsNext, buckets_of, row_bucket, row_code};
+ghost use Rattle.bq_index.specs.PartIndex.{IsPartIndex, IsNext, buckets, row_bucket, row_code};
 ghost use Rattle.bq_index.specs.Prepared.{IsPreparedPlan};
 ghost use Rattle.bq_index.specs.Shifts.{StandsAt};
 
@@ -73,7 +72,7 @@ fn placement_in(
     requires inside { i < length coded.now.parts.now }
     requires part_index { IsPartIndex coded.now.q.now coded.now.parts.now coded.now.pos part_index.now }
     requires prepared { IsPreparedPlan coded.now.q.now coded.now.parts.now prepared.now }
-    requires code { coded.now.code ≡ row_code (pairs coded.now.q.now) part_index.now (by_column coded.now.row.now.items) }
+    requires code { coded.now.code ≡ row_code part_index.now.tested.items (by_column coded.now.row.now.items) }
     requires told { IfSome told (λ cell. StandsAt coded.now.q.now coded.now.parts.now coded.now.pos coded.now.row.now.items i cell) }
     ensures { IsPlaced coded.now.q.now coded.now.parts.now coded.now.pos coded.now.row.now.items i result }
 {
@@ -96,8 +95,8 @@ fn apply_along<L: Ledger>(
     requires here { led.now.coded.pos < length led.now.coded.q.now.from }
     requires part_index { IsPartIndex led.now.coded.q.now led.now.coded.parts.now led.now.coded.pos led.now.part_index.now }
     requires each { led.now.each ≡ true → EachTakes led.now.coded.q.now led.now.coded.parts.now led.now.coded.pos }
-    requires code { led.now.coded.code ≡ row_code (pairs led.now.coded.q.now) led.now.part_index.now (by_column led.now.coded.row.now.items) }
-    requires first { IsNext (buckets_of led.now.coded.parts.now led.now.part_index.now.tests.items led.now.part_index.now.mask) (row_bucket (pairs led.now.coded.q.now) led.now.part_index.now (by_column led.now.coded.row.now.items)) 0 first }
+    requires code { led.now.coded.code ≡ row_code led.now.part_index.now.tested.items (by_column led.now.coded.row.now.items) }
+    requires first { IsNext (buckets led.now.part_index.now) (row_bucket led.now.part_index.now (by_column led.now.coded.row.now.items)) 0 first }
     requires ready { AreReady led.now.coded.q.now led.now.coded.parts.now pool.old led.now.extent.now }
     requires prepared { IsPreparedPlan led.now.coded.q.now led.now.coded.parts.now led.now.prepared.now }
     requires known { led.now.known ≡ true → AnswersNothingNew led.now.coded.q.now led.now.coded.parts.now (read_from (cells_of pool.old led.now.extent.now)) table.old.entries }

@@ -133,10 +133,6 @@ adds_full list more rest all l h =
     let n = ap (λ z. length (each_once z)) (append_assoc list more rest) ∙ ap length h in
     omega (arith, g, n, l)
 
--- at the end none is left
-pub adds_done : (list rest all : List Pair) → rest ≡ [] → IsOnce list → each_once (list ++ rest) ≡ all → list ≡ all
-adds_done list rest all e o h = sym o ∙ ap each_once (sym (append-nil list) ∙ ap (λ r. list ++ r) (sym e)) ∙ h
-
 -- where there is no room for one there is none for all
 pub adds_stop : (r : Option (Unit {0})) (before more after : List Pair) → r ≡ None → 114 < length (each_once (before ++ more)) → Adds r before more after
 adds_stop r before more after e l = subst (λ z. Adds z before more after) (sym e) l

@@ -6,3 +6,4 @@ pub mod Solved
 pub mod Stepped
 pub mod Listed
 pub mod Reached
+pub mod Tabled

@@ -1,4 +1,5 @@
 pub mod Parts
+pub mod Closing
 pub mod Fronts
 pub mod Sifting
 pub mod Signed

@@ -7,11 +7,12 @@ ghost use Rattle.bq_form_pairs.specs.SplitParts.{HasMoreSplitParts};
 ghost use Rattle.bq_form_parts.specs.Parts.{OnTooMany};
 ghost use Rattle.bq_form_parts.specs.Fronts.{IsFrontOf, AreFronts, AreSplitPairs, signs_behind, signs_at, candidates, Pushes};
 
+use crate::closing::distances_of;
 use crate::error::PartsError;
 use crate::front::{Front, copy_of};
 use bq_constraints::denies_itself;
 use bq_model::{Pair, Query, Sign, Signs};
-use bq_whole_plan::{distances_of, of_sign};
+use bq_whole_plan::of_sign;
 use std::alloc::{AllocError, Global};
 
 // Signs with one more behind them.
@@ -39,8 +40,11 @@ fn push_front(
     requires sign { length front.now.signs.items < unlikes → sign ≢ Sign.Eq }
     ensures { OnOk result (Pushes q.now (length front.now.signs.items + 1) ((front.now.signs.items ++ sign ∷ []) ∷ []) list.old.items list.new.items) }
 {
-    let mut distances = front.distances;
     let added = of_sign(q, pairs[front.signs.len()], sign);
+    if !front.distances.allows_each(added.as_slice()) {
+        return Ok(());
+    }
+    let mut distances = front.distances;
     distances.add_all(added.as_slice());
     if !distances.satisfiable() {
         return Ok(());

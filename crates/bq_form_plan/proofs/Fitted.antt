@@ -47,7 +47,7 @@ use Rattle.bq_whole_form.proofs.Counting.{numbers_read_dims}
 use Rattle.bq_forms.specs.SplitBreaks.{IsOpenDim}
 use Rattle.bq_forms.specs.Part.{read_as, soft_as, has_op, is_soft, AreOwnDims, AreEqualDims, form_with, IsWholePartPlan}
 use Rattle.bq_forms.proofs.One.{dims_one, whole_parts_are_finite}
-use Rattle.bq_forms.proofs.WholeServes.{OwnOf, own_to, whole_answers_are_counted}
+use Rattle.bq_forms.proofs.WholeServes.{OwnOf, own_to, whole_answers_are_counted, selected_hulls}
 use Rattle.bq_form_plan.specs.Equated.{dims_of}
 use Rattle.bq_form_plan.specs.Ordered.{AreOrdered}
 use Rattle.bq_form_plan.specs.Own.{AreOwnStreams}
@@ -179,11 +179,11 @@ module _ (q : QueryValue) (w : IsWellFormed q) (p : WholePart) (is : IsWholePart
 
   -- what is made of the form
   pub made_is : (m : Made) (owned counted_streams : List WholeStream) (equated : List Link) (selected : List Dim) (conditions : List LocalCondition) (form_links : List ColumnLink)
-      → AreOwnStreams q p.streams.items m.streams.items → owned ≡ m.streams.items → AreEqualities q owned m.equal.items → counted_streams ≡ m.streams.items → equated ≡ m.equal.items → selected ≡ p.selected.items
+      → AreOwnStreams q p.streams.items m.streams.items → owned ≡ m.streams.items → AreEqualities q owned m.equal.items → counted_streams ≡ m.streams.items → equated ≡ m.equal.items → selected ≡ p.selected.items → m.selected.items ≡ p.selected.items
       → m.numbers.cells ≡ capped (cells_with (dims_in counted_streams)) → m.numbers.answers ≡ capped (box_size selected) → m.numbers.work ≡ capped (share (part_with (dims_in counted_streams) equated))
       → conditions ≡ p.conditions.items → AreOrdered conditions m.local → form_links ≡ p.links.items
       → map (read_as Op.Lt) m.less.items ≡ filter (has_op Op.Lt) (map atom_of form_links) → map soft_as m.soft.items ≡ filter is_soft (map atom_of form_links) → IsMade q m
-  made_is m owned counted_streams equated selected conditions form_links o e told a b t c d k f ordered l less soft = record {
+  made_is m owned counted_streams equated selected conditions form_links o e told a b t chosen c d k f ordered l less soft = record {
     count = counted m.streams.items o;
     plan = λ next part at.
         built m.streams.items o next part at.signs (subst (AreOrdered p.conditions.items) (sym at.local) (subst (λ z. AreOrdered z m.local) f ordered)) at.streams
@@ -192,6 +192,7 @@ module _ (q : QueryValue) (w : IsWellFormed q) (p : WholePart) (is : IsWholePart
         (ap (map soft_as) at.soft ∙ soft ∙ ap (λ z. filter is_soft (map atom_of z)) l);
     cells = cells;
     numbers = λ part x. (λ i. record { parts = 1; cells = cells i; answers = answers i; work = working i }) ∙ ap capped_all (sym (one_numbers m.streams.items o part x m.equal.items equalities));
+    selected = λ part x. chosen ∙ selected_hulls q w part x p.selected.items is.selected;
   }
     where
       equalities : AreEqualities q m.streams.items m.equal.items

@@ -9,6 +9,7 @@ pub mod Opened
 pub mod Softly
 pub mod SetStreams
 pub mod MadePlans
+pub mod HullLaws
 pub mod Listed
 pub mod Systems
 pub mod Rebased

@@ -2,14 +2,15 @@
 use Rattle.std.proofs.Common.{◌≡◌, ℕ, zero, suc, ◌+◌, ◌-◌, ◌<◌, ◌≤◌, ◌⊎◌, inl, inr, List, [], ◌∷◌, ◌++◌, take, length, slice_get, slice_index_or, Option, None, Some, Err, refl, sym, ap, ◌∙◌, subst, arith}
 use Rattle.std.specs.List.{AllZip}
 use Rattle.std.proofs.lemmas.List.{take_more, take_all, length-map, get_or-map}
-use Rattle.std.proofs.lemmas.List.Elements.{All-get_or}
+use Rattle.std.proofs.lemmas.List.Elements.{All-get_or, Contains-get_or}
+use Rattle.bq_model.proofs.Has.{Has-from_contains}
 use Rattle.bq_model.specs.declared.first_break.Break.{Break}
-use Rattle.bq_model.specs.declared.part.Part.{Part}
 use Rattle.bq_model.specs.declared.part.Sign.{Sign}
 use Rattle.bq_model.specs.declared.plan.PartPlan.{PartPlan}
 use Rattle.bq_model.specs.Query.{QueryValue, IsWithinLimits}
-use Rattle.bq_model.specs.Parts.{sign_lists}
 use Rattle.bq_form_pairs.specs.SplitParts.{IsSplitPart, AreSplitParts}
+use Rattle.bq_form_parts.specs.declared.front.Front.{Front}
+use Rattle.bq_form_parts.specs.Fronts.{fronts_of, AreFronts, IsFrontOf}
 use Rattle.bq_layout.specs.declared.draft.PlanDraft.{PlanDraft}
 use Rattle.bq_layout.specs.Boxed.{boxed_part}
 use Rattle.bq_layout.specs.Sums.{violation_at}
@@ -19,7 +20,7 @@ use Rattle.bq_forms.specs.SplitBreaks.{IsPartBreak, BreaksAt, IsSplitViolation}
 use Rattle.bq_forms.specs.SplitBreaks as breaks
 use Rattle.bq_forms.proofs.PartBreaks.{whole_parts_break_nothing}
 use Rattle.bq_forms.proofs.PartQueries.{part_queries_are_well_formed}
-use Rattle.bq_form_plan.specs.Drafts.{IsPartDraft, IsAdded, AreSummed, AreDrafted, IsSplitDrafted}
+use Rattle.bq_form_plan.specs.Drafts.{IsPartDraft, IsAdded, counted_once, AreSummed, AreDrafted, IsSplitDrafted}
 
 -- ---- lists with something for each element
 
@@ -42,18 +43,22 @@ got (x ∷ xs) (suc i) d l = got xs i d (omega (arith, l))
 
 -- ---- one part of the list
 
-module _ (q : QueryValue) (ps : List Part) (i : ℕ) (p : Part) (l : i < length ps) (at : p ≡ slice_index_or ps i p) where
+module _ (q : QueryValue) (ps : List Front) (i : ℕ) (p : Front) (l : i < length ps) (at : p ≡ slice_index_or ps i p) where
   abbrev lists : List (List Sign)
-  lists = sign_lists ps
+  lists = fronts_of ps
 
   there : i < length lists
-  there = omega (arith, l, length-map ps (λ (o : Part). o.signs.items))
+  there = omega (arith, l, length-map ps (λ (o : Front). o.signs.items))
 
   signs_at : slice_index_or lists i [] ≡ p.signs.items
-  signs_at = get_or-map (λ (o : Part). o.signs.items) ps i p [] l ∙ ap (λ (o : Part). o.signs.items) (sym at)
+  signs_at = get_or-map (λ (o : Front). o.signs.items) ps i p [] l ∙ ap (λ (o : Front). o.signs.items) (sym at)
 
   pub is_part : AreSplitParts q lists → IsSplitPart q p.signs.items
   is_part h = subst (IsSplitPart q) signs_at (All-get_or (IsSplitPart q) lists i [] there h.each)
+
+  -- it is a front of all pairs
+  pub is_front : (n : ℕ) → AreFronts q n ps → IsFrontOf q n p
+  is_front n h = subst (IsFrontOf q n) (sym at) (h.each (slice_index_or ps i p) (Has-from_contains ps (slice_index_or ps i p) (Contains-get_or ps i p l)))
 
   -- what it breaks first
   pub breaks_at : (b : Option Break) → IsPartBreak (part_query q p.signs.items) b → BreaksAt q lists i b
@@ -92,11 +97,11 @@ module _ (q : QueryValue) (ps : List Part) (i : ℕ) (p : Part) (l : i < length 
 
 -- ---- after the last part
 
-pub all_drafted : (q : QueryValue) (ps : List Part) (i : ℕ) (draft : PlanDraft) → length ps ≤ i → length ps ≤ 4096 → AreSplitParts q (sign_lists ps) → AreSummed q draft
-    → AllZip (IsPartDraft q) (take i (sign_lists ps)) draft.parts.items → ((n : ℕ) → n < i → BreaksAt q (sign_lists ps) n None) → AreDrafted q draft
+pub all_drafted : (q : QueryValue) (ps : List Front) (i : ℕ) (draft : PlanDraft) → length ps ≤ i → length ps ≤ 4096 → AreSplitParts q (fronts_of ps) → AreSummed q (counted_once q) draft
+    → AllZip (IsPartDraft q) (take i (fronts_of ps)) draft.parts.items → ((n : ℕ) → n < i → BreaksAt q (fronts_of ps) n None) → AreDrafted q draft
 all_drafted q ps i draft l few are sums zip none =
-    let lists : List (List Sign) = sign_lists ps in
-    let as_many : length lists ≡ length ps = length-map ps (λ (o : Part). o.signs.items) in
+    let lists : List (List Sign) = fronts_of ps in
+    let as_many : length lists ≡ length ps = length-map ps (λ (o : Front). o.signs.items) in
     let all : AllZip (IsPartDraft q) lists draft.parts.items = subst (λ z. AllZip (IsPartDraft q) z draft.parts.items) (take_all i lists (omega (arith, l, as_many))) zip in
     record {
       drafts = record { parts = lists; are = are; drafts = all };

@@ -2,19 +2,21 @@
 use Rattle.std.proofs.Common.{◌≡◌, ℕ, ◌+◌, ◌-◌, ◌^◌, ◌<◌, min, nat_eq, List, [], ◌∷◌, ◌++◌, map, length, sym, ap, ap₂, ◌∙◌, subst, arith}
 use Rattle.std.specs.List.{sum_by}
 use Rattle.std.proofs.lemmas.List.Sums.{sum_by_push}
+use Rattle.bq_model.specs.declared.atom.Attr.{Attr}
 use Rattle.bq_model.specs.declared.part.Sign.{Sign}
+use Rattle.bq_model.specs.declared.plan.Dim.{Dim}
 use Rattle.bq_model.specs.declared.plan.Numbers.{Numbers}
 use Rattle.bq_model.specs.declared.plan.PartPlan.{PartPlan}
 use Rattle.bq_model.specs.Query.{QueryValue}
 use Rattle.bq_model.specs.Boxes.{box_size}
 use Rattle.bq_model.specs.Numbers.{answer_bound, share, work}
 use Rattle.bq_model.specs.Plan.{dims_at}
-use Rattle.bq_model.specs.Ranges.{different, first_tied, selected_ranges}
+use Rattle.bq_model.specs.Ranges.{different, first_tied, range_of, selected_ranges}
 use Rattle.bq_layout.specs.declared.draft.PlanDraft.{PlanDraft}
 use Rattle.bq_layout.specs.Capped.{capped}
 use Rattle.bq_layout.specs.Boxed.{boxed_part, cells_for, boxed}
 use Rattle.bq_layout.proofs.DraftLaws.{whole, small_left, kept_left, sum_kept}
-use Rattle.bq_layout.proofs.Setting.{parts-push, answers-same, work-same}
+use Rattle.bq_layout.proofs.Setting.{parts-push, range-same, answers-same, work-same}
 use Rattle.bq_forms.specs.Split.{part_query}
 use Rattle.bq_forms.proofs.SplitServes.{tied_alike}
 use Rattle.bq_whole_form.specs.declared.part.WholeStream.{WholeStream}
@@ -22,7 +24,15 @@ use Rattle.bq_form_plan.specs.declared.making.Made.{Made}
 use Rattle.bq_form_plan.specs.Made.{IsMade}
 use Rattle.bq_form_plan.specs.Placed.{ArePlaced}
 use Rattle.bq_form_plan.specs.Boxing.{AreSet}
+use Rattle.bq_form_plan.specs.Hulls.{AreHulls}
 use Rattle.bq_form_plan.specs.Drafts.{IsPartDraft, AreSummed}
+
+-- a column with the ends of its range
+abbrev with_ends : (Attr → Dim) → Attr → Dim
+with_ends f a = record { attr = a; lo = (f a).lo; hi = (f a).hi }
+
+hulls_of : (f g : Attr → Dim) → ((a : Attr) → f a ≡ g a) → (columns : List Attr) → map (with_ends f) columns ≡ map (with_ends g) columns
+hulls_of f g same columns = λ i. map (with_ends (λ a. same a i)) columns
 
 module _ (q : QueryValue) (ss : List Sign) where
   abbrev r : QueryValue
@@ -30,6 +40,9 @@ module _ (q : QueryValue) (ss : List Sign) where
 
   ranges_alike : (part : PartPlan) → part.signs.items ≡ [] → selected_ranges r part ≡ selected_ranges q part
   ranges_alike part e = λ i. map (λ a. first_tied (λ x y. tied_alike r q part e x y i) (dims_at part a.stream) a) (different q.select)
+
+  ranged_alike : (part : PartPlan) → part.signs.items ≡ [] → (a : Attr) → range_of r part a ≡ range_of q part a
+  ranged_alike part e a = λ i. first_tied (λ x y. tied_alike r q part e x y i) (dims_at part a.stream) a
 
   -- what is made, with its boxes set, is the plan of the part
   pub made_draft : (m : Made) (part : PartPlan) (first next : ℕ) (kept : List WholeStream) → IsMade r m → kept ≡ m.streams.items → AreSet q first kept next part.streams.items
@@ -54,6 +67,13 @@ module _ (q : QueryValue) (ss : List Sign) where
   alone f p = let z : 0 + f p ≡ f p = omega arith in z
 
   module _ (m : Made) (is : IsMade r m) (part : PartPlan) (draft : IsPartDraft q ss part) (signs : part.signs.items ≡ []) where
+    -- the ranges of the selected columns are those of the part
+    pub made_selected : AreHulls q (part ∷ []) m.selected.items
+    made_selected =
+        is.selected (boxed_part q 0 part) (draft.plan 0)
+        ∙ hulls_of (range_of r (boxed_part q 0 part)) (range_of q part)
+        (λ a. ranged_alike (boxed_part q 0 part) signs a ∙ range-same q 0 part a) (different q.select)
+
     -- its answers are those of the part
     pub made_answers : m.numbers.answers ≡ capped (box_size (selected_ranges q part))
     made_answers =
@@ -72,11 +92,11 @@ module _ (q : QueryValue) (ss : List Sign) where
 
 -- ---- the parts so far with one more
 
-pub summed : (q : QueryValue) (old new : PlanDraft) (part : PartPlan) (answers more : ℕ) → AreSummed q old → new.parts.items ≡ old.parts.items ++ part ∷ []
+pub summed : (q : QueryValue) (old new : PlanDraft) (part : PartPlan) (answers more : ℕ) → AreSummed q (answer_bound q) old → new.parts.items ≡ old.parts.items ++ part ∷ []
     → new.cells ≡ capped (old.cells + cells_for q part) → (new.cells < 2 ^ 32 → boxed_part q old.cells part ≡ part)
     → answers ≡ capped (box_size (selected_ranges q part)) → new.answers ≡ min (old.answers + answers) (2 ^ 64 - 1)
     → more ≡ capped (share part) → new.work ≡ min (old.work + more) (2 ^ 64 - 1)
-    → AreSummed q new
+    → AreSummed q (answer_bound q) new
 summed q old new part answers more h joined cells boxes sizes total m effort = record {
   cells = cells ∙ cells_next ∙ ap (λ (z : List PartPlan). capped (sum_by (cells_for q) z)) (sym joined);
   boxes = λ l. subst (λ (z : List PartPlan). boxed q 0 z ≡ z) (sym joined) (boxes_next l);

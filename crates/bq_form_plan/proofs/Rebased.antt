@@ -1,11 +1,17 @@
 -- The plan of the drafts of all parts, their boxes one after another, or each where the first one that is the same begins.
-use Rattle.std.proofs.Common.{◌≡◌, ℕ, zero, suc, ◌+◌, ◌<◌, true, false, List, [], ◌∷◌, map, length, slice_index_or, refl, sym, ap, ◌∙◌, subst, arith}
+use Rattle.std.proofs.Common.{◌≡◌, ℕ, zero, suc, ◌+◌, ◌<◌, min, ℤ, int_lt, true, false, cond, IsTrue, List, [], ◌∷◌, map, length, slice_index_or, refl, sym, ap, ap₂, ◌∙◌, subst, arith}
 use Rattle.std.specs.List.{AllZip}
 use Rattle.std.proofs.lemmas.List.{length-map}
+use Rattle.bq_model.specs.declared.atom.Attr.{Attr}
 use Rattle.bq_model.specs.declared.part.Sign.{Sign}
+use Rattle.bq_model.specs.declared.plan.Dim.{Dim}
 use Rattle.bq_model.specs.declared.plan.PartPlan.{PartPlan}
 use Rattle.bq_model.specs.declared.plan.StreamPlan.{StreamPlan}
 use Rattle.bq_model.specs.Query.{QueryValue}
+use Rattle.bq_model.specs.Boxes.{box_size}
+use Rattle.bq_model.specs.Combinations.{is_tied}
+use Rattle.bq_model.specs.Numbers.{answer_bound}
+use Rattle.bq_model.specs.Ranges.{different, first_tied, range_of}
 use Rattle.bq_model.specs.Plan.{stream_at, dims_at}
 use Rattle.bq_model.specs.Serving.{AreBased}
 use Rattle.bq_model.specs.Sharing.{Box, box_at, boxes, start_in}
@@ -15,13 +21,14 @@ use Rattle.bq_layout.specs.Capped.{capped}
 use Rattle.bq_layout.specs.Boxed.{cells_for, boxed}
 use Rattle.bq_layout.specs.Layout.{numbers_in}
 use Rattle.bq_layout.specs.Shared.{started_part, shared, IsSharedDraft}
-use Rattle.bq_layout.proofs.Setting.{parts-follow, as_many, cell_count-same, answers-same, work-same}
+use Rattle.bq_layout.proofs.Setting.{parts-follow, as_many, range-same, cell_count-same, answers-same, work-same}
 use Rattle.bq_layout.proofs.Level.{from-map, length-started, stream-started, start-shared, shared_count, answers_shared, work_shared}
 use Rattle.bq_forms.specs.Part.{AreEqualDims, IsOwnStream, IsWholePartPlan}
+use Rattle.bq_forms.specs.Answers.{least_end, greatest_end, hull_bound, announced_answers}
 use Rattle.bq_forms.specs.Parts.{form_numbers}
 use Rattle.bq_forms.specs.Split.{part_query, IsSplitFor}
 use Rattle.bq_form_plan.specs.Made.{capped_all}
-use Rattle.bq_form_plan.specs.Drafts.{IsPartDraft, AreSplitDrafts, AreSummed}
+use Rattle.bq_form_plan.specs.Drafts.{IsPartDraft, AreSplitDrafts, counted_once, AreSummed}
 
 -- ---- a part whose boxes begin elsewhere
 
@@ -68,6 +75,50 @@ module _ (q r : QueryValue) (list : List Box) (part : PartPlan) where
     soft = is.soft;
   }
 
+-- ---- the hulls read the ranges alone
+
+-- the columns have the same ranges, part by part
+abbrev HaveRanges : QueryValue → List PartPlan → List PartPlan → Type 0
+HaveRanges q = AllZip (λ p o. (a : Attr) → range_of q p a ≡ range_of q o a)
+
+module _ (q : QueryValue) where
+  least_same : (ps os : List PartPlan) → HaveRanges q ps os → (a : Attr) (z : ℤ) → least_end q ps a z ≡ least_end q os a z
+  least_same [] [] h a z = refl
+  least_same [] (o ∷ os) h a z = absurd h
+  least_same (p ∷ ps) [] h a z = absurd h
+  least_same (p ∷ ps) (o ∷ os) h a z =
+      least_same ps os h.1 a (cond (int_lt (range_of q p a).lo z) (range_of q p a).lo z)
+      ∙ ap (λ (d : Dim). least_end q os a (cond (int_lt d.lo z) d.lo z)) (h.0 a)
+
+  greatest_same : (ps os : List PartPlan) → HaveRanges q ps os → (a : Attr) (z : ℤ) → greatest_end q ps a z ≡ greatest_end q os a z
+  greatest_same [] [] h a z = refl
+  greatest_same [] (o ∷ os) h a z = absurd h
+  greatest_same (p ∷ ps) [] h a z = absurd h
+  greatest_same (p ∷ ps) (o ∷ os) h a z =
+      greatest_same ps os h.1 a (cond (int_lt z (range_of q p a).hi) (range_of q p a).hi z)
+      ∙ ap (λ (d : Dim). greatest_end q os a (cond (int_lt z d.hi) d.hi z)) (h.0 a)
+
+  hulls_same : (ps os : List PartPlan) → HaveRanges q ps os → hull_bound q ps ≡ hull_bound q os
+  hulls_same [] [] h = refl
+  hulls_same [] (o ∷ os) h = absurd h
+  hulls_same (p ∷ ps) [] h = absurd h
+  hulls_same (p ∷ ps) (o ∷ os) h = λ i. box_size (map (λ a. record {
+    attr = a;
+    lo = (least_same ps os h.1 a (range_of q p a).lo ∙ ap (λ (d : Dim). least_end q os a d.lo) (h.0 a)) i;
+    hi = (greatest_same ps os h.1 a (range_of q p a).hi ∙ ap (λ (d : Dim). greatest_end q os a d.hi) (h.0 a)) i;
+  }) (different q.select))
+
+  boxed_ranges : (next : ℕ) (plans : List PartPlan) → HaveRanges q (boxed q next plans) plans
+  boxed_ranges next [] = tt
+  boxed_ranges next (p ∷ plans) = (range-same q next p, boxed_ranges (next + cells_for q p) plans)
+
+  shared_ranges : (list : List Box) (plan : List PartPlan) → HaveRanges q (map (started_part q list) plan) plan
+  shared_ranges list [] = tt
+  shared_ranges list (p ∷ plan) = (
+    (λ a. ap (λ (dims : ℕ → List Dim). first_tied (is_tied q p) (dims a.stream) a) (started_dims q q list p)),
+    shared_ranges list plan,
+  )
+
 -- ---- all parts
 
 module _ (q : QueryValue) where
@@ -104,12 +155,17 @@ module _ (q : QueryValue) where
 
   -- ---- and their numbers
 
-  module _ (draft : PlanDraft) (s : AreSummed q draft) where
-    pub plain_numbers : numbers_in draft ≡ capped_all (form_numbers false q (boxed q 0 draft.parts.items))
-    plain_numbers = λ i. record {
+  module _ (c : IsTrue q.compact) (draft : PlanDraft) (s : AreSummed q (counted_once q) draft) where
+    announced : (plan : List PartPlan) → counted_once q plan ≡ announced_answers q plan
+    announced plan = ap (λ b. cond b (counted_once q plan) (answer_bound q plan)) (sym c)
+
+    pub split_numbers : numbers_in draft ≡ capped_all (form_numbers false q (boxed q 0 draft.parts.items))
+    split_numbers = λ i. record {
       parts = sym (as_many q 0 draft.parts.items) i;
       cells = (s.cells ∙ ap capped (sym (cell_count-same q draft.parts.items))) i;
-      answers = (s.answers ∙ ap capped (sym (answers-same q draft.parts.items))) i;
+      answers =
+          (s.answers ∙ ap capped (ap₂ min (sym (answers-same q draft.parts.items)) (sym (hulls_same q (boxed q 0 draft.parts.items) draft.parts.items (boxed_ranges q 0 draft.parts.items)))
+          ∙ announced (boxed q 0 draft.parts.items))) i;
       work = (s.work ∙ ap capped (sym (work-same q draft.parts.items))) i;
     }
 
@@ -119,6 +175,9 @@ module _ (q : QueryValue) where
         λ i. record {
           parts = (h.parts.size ∙ sym (length-map plan (started_part q (boxes q plan)) ∙ as_many q 0 draft.parts.items)) i;
           cells = (h.parts.cells ∙ ap capped (sym (shared_count q plan))) i;
-          answers = (h.answers ∙ s.answers ∙ ap capped (sym (answers_shared q plan ∙ answers-same q draft.parts.items))) i;
+          answers =
+              (h.answers ∙ s.answers ∙ ap capped (ap₂ min (sym (answers_shared q plan ∙ answers-same q draft.parts.items))
+              (sym (hulls_same q (shared q plan) plan (shared_ranges q (boxes q plan) plan) ∙ hulls_same q plan draft.parts.items (boxed_ranges q 0 draft.parts.items)))
+              ∙ announced (shared q plan))) i;
           work = (h.work ∙ s.work ∙ ap capped (sym (work_shared q plan ∙ work-same q draft.parts.items))) i;
         }

@@ -1,4 +1,4 @@
--- The whole form of a part: its system, and what it comes to.
+-- What the whole form of a part comes to.
 use Rattle.std.proofs.Common.{◌≡◌, List, Some, sym, ap₂, subst}
 use Rattle.bq_model.specs.declared.atom.Attr.{Attr}
 use Rattle.bq_model.specs.declared.condition.Condition.TheVariants.{C3}
@@ -19,19 +19,6 @@ use Rattle.bq_whole.specs.Failing.{Contradicts}
 use Rattle.bq_whole.specs.Signed.{AreSignedPairs, IsWellFormed, with_signs}
 use Rattle.bq_whole_form.specs.declared.whole.WholePart.{WholePart}
 use Rattle.bq_whole_form.specs.Part.{form_of, IsWholePart, IsBroken}
-
--- ---- the system of a part
-
-module _ (q : QueryValue) (ps : List Pair) (ss kept : List Sign) (e : ps ≡ split_pairs q) (f : kept ≡ ss) (part : IsSplitPart q ss) where
-  pub signed : IsWithinLimits q → AreSignedPairs q ps kept
-  signed within =
-      subst (λ z. AreSignedPairs q z kept) (sym e) (subst (AreSignedPairs q (split_pairs q)) (sym f) (split_pairs_are_signed q within ss (as_many_signs q ss part)))
-
-  pub is_query : with_signs ps kept q ≡ part_query q ss
-  is_query = ap₂ (λ a b. with_signs a b q) e f
-
-  pub has_system : Contradicts (with_signs ps kept q) → ⊥
-  has_system h = parts_have_systems q ss part (subst Contradicts is_query h)
 
 -- ---- what it comes to
 

@@ -14,6 +14,8 @@ use Rattle.bq_model.specs.Verdict.{number_of, first_above}
 use Rattle.bq_model.specs.Violation.{IsViolation}
 use Rattle.bq_laws.proofs.CountedParts.{parts_are_counted}
 use Rattle.bq_form_pairs.specs.Pairs.{split_pairs}
+use Rattle.bq_form_parts.specs.declared.front.Front.{Front}
+use Rattle.bq_form_parts.specs.Fronts.{fronts_of}
 use Rattle.bq_form_pairs.specs.SplitParts.{AreSplitParts}
 use Rattle.bq_layout.specs.declared.draft.PlanDraft.{PlanDraft}
 use Rattle.bq_layout.specs.declared.error.LayoutError.{LayoutError}
@@ -34,7 +36,8 @@ use Rattle.bq_form_plan.specs.declared.error.PartsRefusal.TheVariants as why
 use Rattle.bq_form_plan.specs.Drafts.{AreDrafted, IsSplitDrafted}
 use Rattle.bq_form_plan.specs.Planned.{MeetsByParts, IsPlannedByParts, IsRefusedByParts, IsPartsPlan, AreDraftedByParts, refusal_of, IsSplitForm, IsNumberedSplit}
 use Rattle.bq_form_plan.specs.Planned as planned
-use Rattle.bq_form_plan.proofs.Rebased.{plain_plan, shared_plan, plain_numbers, shared_numbers}
+use Rattle.bq_forms.proofs.Counted.{plain_numbers}
+use Rattle.bq_form_plan.proofs.Rebased.{plain_plan, shared_plan, split_numbers, shared_numbers}
 
 both : {b : Bool} → IsTrue b → IsFalse b → ⊥
 both {b} t f = cc
@@ -48,12 +51,12 @@ few_plain q ps f are few (parts.plain g more) =
 few_plain q ps f are few (parts.pairs c more) = both c f
 few_plain q ps f are few (parts.split c more) = both c f
 
-pub few_split : (q : QueryValue) (ps : List Part) → IsTrue q.compact → length (split_pairs q) ≤ 114 → AreSplitParts q (sign_lists ps) → length ps ≤ 4096 → HasTooManyParts q → ⊥
-few_split q ps c room are few (parts.plain f more) = both c f
-few_split q ps c room are few (parts.pairs d more) = omega (arith, room, more)
-few_split q ps c room are few (parts.split d more) =
-    let same : length (sign_lists ps) ≡ length ps = length-map ps (λ (p : Part). p.signs.items) in
-    omega (arith, few, same, (split_parts_are_counted q (sign_lists ps) 4096 are).0 more)
+pub few_split : (q : QueryValue) (fronts : List Front) → IsTrue q.compact → length (split_pairs q) ≤ 114 → AreSplitParts q (fronts_of fronts) → length fronts ≤ 4096 → HasTooManyParts q → ⊥
+few_split q fronts c room are few (parts.plain f more) = both c f
+few_split q fronts c room are few (parts.pairs d more) = omega (arith, room, more)
+few_split q fronts c room are few (parts.split d more) =
+    let same : length (fronts_of fronts) ≡ length fronts = length-map fronts (λ (f : Front). f.signs.items) in
+    omega (arith, few, same, (split_parts_are_counted q (fronts_of fronts) 4096 are).0 more)
 
 -- ---- the parts of a query that is not compact
 
@@ -62,7 +65,7 @@ module _ (q : QueryValue) (f : IsFalse q.compact) (n : IsFalse (is_filter q)) (f
   plain_told shares plan.Filter h = both h.0 n
   plain_told shares (plan.Parts list numbers) h = record {
     plan = parts.plain f h.0.1;
-    are = h.0.2;
+    are = h.0.2 ∙ sym (plain_numbers shares q list f);
     within = h.1;
     count = parts_are_few shares q list few (parts.plain f h.0.1);
     meets = record { few = few; none = parts.plain n f h.2 };
@@ -72,7 +75,13 @@ module _ (q : QueryValue) (f : IsFalse q.compact) (n : IsFalse (is_filter q)) (f
   plain_refused shares (layout.Violation part condition attr) h = (few, parts.plain n f h.1)
   plain_refused shares (layout.Limit which value) h = (
     record { few = few; none = parts.plain n f h.1 },
-    record { plain = h.0.plain; parts = h.0.parts; plan = parts.plain f h.0.plan; first = h.0.first; kept = h.0.kept },
+    record {
+      plain = h.0.plain;
+      parts = h.0.parts;
+      plan = parts.plain f h.0.plan;
+      first = ap first_above (plain_numbers shares q h.0.parts f) ∙ h.0.first;
+      kept = h.0.kept ∙ ap (λ (z : Numbers). capped (number_of z which)) (sym (plain_numbers shares q h.0.parts f));
+    },
   )
   plain_refused shares layout.Memory h = tt
 
@@ -170,7 +179,7 @@ module _ (q : QueryValue) (draft : PlanDraft) (c : IsTrue q.compact) (n : IsFals
   pub split_told : (r : Result Plan PartsRefusal) → IsNumberedSplit draft r → IsPartsPlan false q r
   split_told r h = numbers_told false q draft (boxed q 0 draft.parts.items) record {
     plan = parts.split c (plain_plan q draft.parts.items d.drafts);
-    numbers = plain_numbers q draft d.numbers;
+    numbers = split_numbers q c draft d.numbers;
     same = d.numbers.boxes;
   } n split_meets d.few r h
 
@@ -178,7 +187,7 @@ module _ (q : QueryValue) (draft : PlanDraft) (c : IsTrue q.compact) (n : IsFals
   pub shared_told : (new : PlanDraft) → IsSharedDraft q draft new → (r : Result Plan PartsRefusal) → IsNumberedSplit new r → IsPartsPlan true q r
   shared_told new s r h = numbers_told true q new (shared q (boxed q 0 draft.parts.items)) record {
     plan = parts.split c (shared_plan q draft.parts.items d.drafts);
-    numbers = shared_numbers q draft d.numbers new s;
+    numbers = shared_numbers q c draft d.numbers new s;
     same = s.parts.boxes;
   } n split_meets (omega (arith, d.few, s.parts.size)) r h
 

@@ -1,5 +1,5 @@
 -- The plans of the parts of the split form, whose boxes are still to be set, and what they come to.
-use Rattle.std.specs.Prelude.{◌≡◌, ℕ, ◌<◌, ◌≤◌, ◌^◌, List, [], ◌∷◌, ◌++◌, length, Result, Ok, Err}
+use Rattle.std.specs.Prelude.{◌≡◌, ℕ, ◌<◌, ◌≤◌, ◌^◌, List, [], ◌∷◌, ◌++◌, length, min, Result, Ok, Err}
 use Rattle.std.specs.List.{sum_by, AllZip}
 use Rattle.std.specs.declared.option.Option.TheVariants.{None, Some}
 use Rattle.bq_model.specs.declared.first_break.Break.{Break}
@@ -13,6 +13,7 @@ use Rattle.bq_layout.specs.declared.error.LayoutError.{LayoutError}
 use Rattle.bq_layout.specs.declared.error.LayoutError.TheVariants as why
 use Rattle.bq_layout.specs.Capped.{capped}
 use Rattle.bq_layout.specs.Boxed.{boxed_part, cells_for, boxed}
+use Rattle.bq_forms.specs.Answers.{hull_bound}
 use Rattle.bq_forms.specs.Part.{IsWholePartPlan}
 use Rattle.bq_forms.specs.Split.{part_query}
 use Rattle.bq_forms.specs.SplitBreaks.{IsPartBreak, IsSplitViolation}
@@ -34,11 +35,15 @@ pub record AreSplitDrafts (q : QueryValue) (plans : List PartPlan) : Type 0 wher
   pub are : AreSplitParts q parts
   pub drafts : AllZip (IsPartDraft q) parts plans
 
--- the numbers are those of the plans; where the cells are few enough, the boxes are set from number 0 on
-pub record AreSummed (q : QueryValue) (draft : PlanDraft) : Type 0 where
+-- how many answers the plans of several parts have, each counted once
+abbrev pub counted_once : QueryValue → List PartPlan → ℕ
+counted_once q plan = min (answer_bound q plan) (hull_bound q plan)
+
+-- the numbers are those of the plans, the answers counted in one way; where the cells are few enough, the boxes are set from number 0 on
+pub record AreSummed (q : QueryValue) (answers_of : List PartPlan → ℕ) (draft : PlanDraft) : Type 0 where
   pub cells : draft.cells ≡ capped (sum_by (cells_for q) draft.parts.items)
   pub boxes : draft.cells < 2 ^ 32 → boxed q 0 draft.parts.items ≡ draft.parts.items
-  pub answers : draft.answers ≡ capped (answer_bound q draft.parts.items)
+  pub answers : draft.answers ≡ capped (answers_of draft.parts.items)
   pub work : draft.work ≡ capped (work draft.parts.items)
 
 -- the plan of the part with these signs is added
@@ -50,7 +55,7 @@ pub record IsAdded (q : QueryValue) (ss : List Sign) (old new : PlanDraft) : Typ
 -- the plans of all parts of the split form, with the numbers that they come to
 pub record AreDrafted (q : QueryValue) (draft : PlanDraft) : Type 0 where
   pub drafts : AreSplitDrafts q draft.parts.items
-  pub numbers : AreSummed q draft
+  pub numbers : AreSummed q (counted_once q) draft
   pub few : length draft.parts.items ≤ 4096
   pub meets : IsSplitViolation q None
 

@@ -5,5 +5,6 @@ pub mod Equated
 pub mod Made
 pub mod Fitting
 pub mod Boxing
+pub mod Hulls
 pub mod Drafts
 pub mod Planned

@@ -14,6 +14,7 @@ use Rattle.bq_forms.specs.Part.{IsWholePartPlan}
 use Rattle.bq_forms.specs.SplitBreaks.{IsOpenDim}
 use Rattle.bq_form_plan.specs.declared.making.Made.{Made}
 use Rattle.bq_form_plan.specs.Placed.{ArePlaced}
+use Rattle.bq_form_plan.specs.Hulls.{AreHulls}
 
 -- these numbers of a part, as those of a plan
 abbrev pub of_one : PartNumbers → Numbers
@@ -32,12 +33,13 @@ pub record IsPlacedFrom (m : Made) (next : ℕ) (part : PartPlan) : Type 0 where
   pub less : part.less.items ≡ m.less.items
   pub soft : part.soft.items ≡ m.soft.items
 
--- from each cell on it is the plan of the whole form, and each plan of that has these numbers
+-- from each cell on it is the plan of the whole form, and each plan of that has these numbers and these ranges of the selected columns
 pub record IsMade (q : QueryValue) (m : Made) : Type 0 where
   pub count : length m.streams.items ≡ length q.from
   pub plan : (next : ℕ) (part : PartPlan) → IsPlacedFrom m next part → IsWholePartPlan q part
   pub cells : m.numbers.cells ≡ capped (cells_with (dims_in m.streams.items))
   pub numbers : (part : PartPlan) → IsWholePartPlan q part → of_one m.numbers ≡ capped_all (numbers_of q (part ∷ []))
+  pub selected : (part : PartPlan) → IsWholePartPlan q part → AreHulls q (part ∷ []) m.selected.items
 
 -- what is made of the form, or the first of its dims whose own range lacks an end
 abbrev pub IsMadeOr : QueryValue → WholePart → Result Made Attr → Type 0

@@ -10,8 +10,9 @@ ghost use Rattle.bq_form_plan.specs.Drafts.{IsPartDraft};
 use crate::making::Made;
 use crate::placing::plan_of;
 use arrayvec::ArrayVec;
+use bq_form_parts::Front;
 use bq_layout::{cells_over, narrowed};
-use bq_model::{Part, PartPlan, Query, StreamPlan};
+use bq_model::{PartPlan, Query, StreamPlan};
 use bq_whole_form::WholeStream;
 
 // The plans of streams, their boxes set from a number of cells on as far as 32 bits keep them, and that number with the cells of the streams.
@@ -31,15 +32,15 @@ fn stream_plans(q: &Query, streams: &[WholeStream], first: u64) -> (ArrayVec<Str
 }
 
 /// Returns the plan of a part, of what is made of its form, its boxes set from a number of cells on, and that number with the cells of the part.
-pub fn part_plan(q: &Query, part: &Part, made: Made, first: u64) -> (PartPlan, u64)
-    requires { IsMade (part_query q.now part.now.signs.items) made }
+pub fn part_plan(q: &Query, front: &Front, made: Made, first: u64) -> (PartPlan, u64)
+    requires { IsMade (part_query q.now front.now.signs.items) made }
     ensures signs { result.0.signs.items ≡ [] }
-    ensures draft { IsPartDraft q.now part.now.signs.items result.0 }
+    ensures draft { IsPartDraft q.now front.now.signs.items result.0 }
     ensures cells { result.1 ≡ capped (first + cells_for q.now result.0) }
     ensures boxes { result.1 < 2 ^ 32 → boxed_part q.now first result.0 ≡ result.0 }
 {
     // Named for the proof alone: the contract speaks of it.
-    let _part = part;
+    let _front = front;
     let Made {
         streams: kept,
         equal,
@@ -47,6 +48,7 @@ pub fn part_plan(q: &Query, part: &Part, made: Made, first: u64) -> (PartPlan, u
         soft,
         local,
         numbers: _numbers,
+        selected: _selected,
     } = made;
     let (streams, next) = stream_plans(q, kept.as_slice(), first);
     let plan = PartPlan {

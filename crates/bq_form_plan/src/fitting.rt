@@ -10,6 +10,7 @@ ghost use Rattle.bq_form_plan.specs.Made.{of_one, IsPlacedFrom};
 use crate::making::{Made, made_of};
 use crate::placing::placed;
 use arrayvec::ArrayVec;
+use bq_form_parts::closed_query;
 use bq_model::{Numbers, PartPlan, Query};
 use bq_whole_form::{PartNumbers, Whole, WholePart, whole_over};
 use bq_whole_plan::ClosedSystem;
@@ -62,6 +63,7 @@ fn plan_of(made: Made) -> WholePlan
         soft,
         local,
         numbers,
+        selected: _selected,
     } = made;
     WholePlan {
         part: PartPlan {
@@ -121,7 +123,7 @@ pub fn whole_plan(alloc: Global, q: &Query) -> Result<Option<WholePlan>, AllocEr
 {
     // Named for the proof alone: the query is within its limits.
     let _from = q.from();
-    match ClosedSystem::of_query(q) {
+    match closed_query(q) {
         None => Ok(None),
         Some(closed) => fitting(alloc, &closed),
     }

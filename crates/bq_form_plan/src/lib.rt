@@ -6,8 +6,9 @@
 //! of a compact query, its boxes one after another, where all ranges have both ends and no number is above its limit.
 //!
 //! `parts_plan` gives the plan by parts. Those of a query that is not compact are told by `bq_lto_split`, and `bq_layout` plans them. Those of a compact query
-//! are the parts of its split form, which `form_pairs` and `form_parts` tell: of each, `part_of` makes the whole form of the query with the signs of the part
-//! as further comparisons, or tells what it breaks, and `split_drafts` puts these together, with what they come to.
+//! are the parts of its split form, which `form_pairs` and `form_fronts` tell: of each, `part_of` makes the whole form of the query with the signs of the part
+//! as further comparisons, or tells what it breaks, and `split_drafts` puts these together, with what they come to. A tuple that several parts have is
+//! counted once: there are no more answers than tuples in the least ranges that hold those of all parts (`joined`).
 #![tactic(auto)]
 
 mod boxing;
@@ -15,6 +16,7 @@ mod drafting;
 mod equating;
 mod error;
 mod fitting;
+mod hulls;
 mod linking;
 mod making;
 mod one;
@@ -26,7 +28,6 @@ mod plain;
 mod split;
 mod whole;
 
-pub use drafting::split_drafts;
 pub use error::PartsRefusal;
 pub use parts::{parts_drafts, parts_plan};
 pub use whole::whole_form;

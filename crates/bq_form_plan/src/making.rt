@@ -8,14 +8,15 @@ use crate::equating::equal_dims;
 use crate::linking::{inequalities, soft_links};
 use crate::ordering::ascending;
 use crate::own::own_streams;
+use crate::placing::copied;
 use arrayvec::ArrayVec;
-use bq_model::{Attr, Link, Locals, SoftLink};
+use bq_model::{Attr, Dim, Link, Locals, SoftLink};
 use bq_whole_form::{PartNumbers, WholePart, WholeStream, numbers_of};
 use bq_whole_plan::ClosedSystem;
 use std::alloc::{AllocError, Global};
 
 /// What the one part of a form comes to, but for where its boxes begin: what is kept of each stream, of each class its own range; its links, what the
-/// rows of each stream are asked, and its numbers, as 64 bits keep them.
+/// rows of each stream are asked, its numbers, as 64 bits keep them, and the ranges of the different selected columns.
 #[derive(Drop)]
 pub struct Made {
     pub streams: ArrayVec<WholeStream, 4>,
@@ -24,6 +25,7 @@ pub struct Made {
     pub soft: ArrayVec<SoftLink, 16>,
     pub local: Locals,
     pub numbers: PartNumbers,
+    pub selected: ArrayVec<Dim, 8>,
 }
 
 // What the one part of a form comes to with these streams, of each class its own range. An error says that memory was not found.
@@ -54,6 +56,7 @@ fn made_with(
         soft: soft_links(links),
         local: Locals::of(local),
         numbers,
+        selected: copied(part.selected.as_slice()),
     })
 }
 

@@ -1,13 +1,14 @@
 //! What one part of the split form comes to.
-ghost use Rattle.std.specs.Prelude.{◌≡◌, IfOk};
+ghost use Rattle.std.specs.Prelude.{◌≡◌, length, IfOk};
 ghost use Rattle.bq_form_pairs.specs.Pairs.{split_pairs};
-ghost use Rattle.bq_form_pairs.specs.SplitParts.{IsSplitPart};
+ghost use Rattle.bq_form_parts.specs.Fronts.{IsFrontOf};
 ghost use Rattle.bq_forms.specs.Split.{part_query};
 ghost use Rattle.bq_whole_form.specs.Part.{IsWholePart};
 ghost use Rattle.bq_form_plan.specs.Drafts.{IsPartOr};
 
 use crate::making::{Made, made_of};
-use bq_model::{Break, Condition, Pair, Part, Query};
+use bq_form_parts::{Front, closed_front};
+use bq_model::{Break, Condition, Pair, Query};
 use bq_whole_form::{Whole, WholePart, whole_over};
 use bq_whole_plan::ClosedSystem;
 use std::alloc::{AllocError, Global};
@@ -33,23 +34,21 @@ fn made_or(
     }
 }
 
-/// Returns what is made of the whole form of a part, or the first condition that it breaks and the first column that shows it. An error says that memory
-/// was not found.
+/// Returns what is made of the whole form of the part that a front of all pairs tells, or the first condition that it breaks and the first column that
+/// shows it. An error says that memory was not found.
 pub fn part_of(
     alloc: Global,
     q: &Query,
     pairs: &[Pair],
-    part: &Part,
+    front: &Front,
 ) -> Result<Result<Made, Break>, AllocError>
     requires pairs { pairs.now ≡ split_pairs q.now }
-    requires part { IsSplitPart q.now part.now.signs.items }
-    ensures { IfOk result (IsPartOr (part_query q.now part.now.signs.items)) }
+    requires front { IsFrontOf q.now (length pairs.now) front.now }
+    ensures { IfOk result (IsPartOr (part_query q.now front.now.signs.items)) }
 {
-    // Named for the proof alone: the query is within its limits.
-    let _from = q.from();
-    let Some(closed) = ClosedSystem::of_part(q, pairs, part.signs.as_slice()) else {
-        unreachable!()
-    };
+    // Named for the proof alone: the system has a solution.
+    let closed = closed_front(q, pairs, front);
+    let _query = closed.query();
     match whole_over(alloc, &closed)? {
         Whole::Part(form) => made_or(alloc, &closed, &form),
         Whole::Broken(found) => Ok(Err(found)),

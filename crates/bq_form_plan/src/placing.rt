@@ -7,8 +7,8 @@ use arrayvec::ArrayVec;
 use bq_model::{Dim, StreamPlan};
 use bq_whole_form::{WholeStream, box_size};
 
-// A list of these dims.
-fn copied(dims: &[Dim]) -> ArrayVec<Dim, 8>
+/// Returns a list of these dims.
+pub fn copied(dims: &[Dim]) -> ArrayVec<Dim, 8>
     requires { length dims.now ≤ 8 }
     ensures { result.items ≡ dims.now }
 {

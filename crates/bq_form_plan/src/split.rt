@@ -1,35 +1,36 @@
 //! The plan of a compact query by the parts of its split form.
 ghost use Rattle.std.specs.Prelude.{◌≡◌, ◌≤◌, IsTrue, IsFalse, length, IfOk, IfErr};
 ghost use Rattle.bq_model.specs.Query.{is_filter};
-ghost use Rattle.bq_model.specs.Parts.{sign_lists};
 ghost use Rattle.bq_form_pairs.specs.Pairs.{split_pairs};
 ghost use Rattle.bq_form_pairs.specs.SplitParts.{AreSplitParts};
+ghost use Rattle.bq_form_parts.specs.Fronts.{AreFronts, fronts_of};
 ghost use Rattle.bq_form_plan.specs.Planned.{IsPartsPlan, IsRefusedByParts, AreDraftedByParts, IsSplitForm, IsNumberedSplit};
 
 use crate::drafting::split_drafts;
 use crate::error::{PartsRefusal, refusal_of};
 use bq_form_pairs::form_pairs;
-use bq_form_parts::{PartsError, form_parts};
+use bq_form_parts::{Front, PartsError, form_fronts};
 use bq_layout::{PlanDraft, parts_of, planned, with_shared};
-use bq_model::{Pair, Part, PartPlan, Plan, Query};
+use bq_model::{Pair, PartPlan, Plan, Query};
 use std::alloc::Global;
 
-// The plans of these parts, or why there are none.
+// The plans of the parts that these fronts tell, or why there are none.
 fn drafts_of(
     alloc: Global,
     q: &Query,
     pairs: &[Pair],
-    parts: &[Part],
+    fronts: &[Front],
 ) -> Result<PlanDraft, PartsRefusal>
     requires compact { IsTrue q.now.compact }
     requires plain { IsFalse (is_filter q.now) }
     requires pairs { pairs.now ≡ split_pairs q.now }
     requires few_pairs { length pairs.now ≤ 114 }
-    requires parts { AreSplitParts q.now (sign_lists parts.now) }
-    requires few { length parts.now ≤ 4096 }
+    requires fronts { AreFronts q.now (length pairs.now) fronts.now }
+    requires parts { AreSplitParts q.now (fronts_of fronts.now) }
+    requires few { length fronts.now ≤ 4096 }
     ensures { IsSplitForm q.now result }
 {
-    match split_drafts(alloc, q, pairs, parts) {
+    match split_drafts(alloc, q, pairs, fronts) {
         Ok(draft) => Ok(draft),
         Err(why) => Err(refusal_of(why)),
     }
@@ -43,8 +44,8 @@ fn drafts_over(alloc: Global, q: &Query, pairs: &[Pair]) -> Result<PlanDraft, Pa
     requires few { length pairs.now ≤ 114 }
     ensures { IsSplitForm q.now result }
 {
-    match form_parts(alloc, q, pairs) {
-        Ok(parts) => drafts_of(alloc, q, pairs, &parts),
+    match form_fronts(alloc, q, pairs) {
+        Ok(fronts) => drafts_of(alloc, q, pairs, &fronts),
         Err(PartsError::TooManyParts) => Err(PartsRefusal::TooManyParts),
         Err(PartsError::Memory) => Err(PartsRefusal::Memory),
     }

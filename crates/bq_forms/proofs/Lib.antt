@@ -2,6 +2,7 @@ pub mod FormLinks
 pub mod WholeServes
 pub mod PlansAlike
 pub mod One
+pub mod Counted
 pub mod OnePart
 pub mod PartQueries
 pub mod SplitServes

@@ -11,6 +11,8 @@ use Rattle.bq_model.specs.Sharing.{Box, box_at, boxes_in, boxes, same_box, diffe
 use Rattle.bq_model.proofs.Has.{Has, first, later, Has-from_contains}
 use Rattle.bq_laws.proofs.OnePartFits.{has_cases}
 use Rattle.bq_laws.proofs.PlanBoxes.{Apart, apart-different, count-of-boxes, stands-plan, start-own}
+use Rattle.bq_forms.specs.Parts.{form_numbers}
+use Rattle.bq_forms.proofs.Counted.{one_part_answers}
 
 -- the boxes of a part from a place of FROM on
 abbrev listed : PartPlan → ℕ → ℕ → List Box
@@ -50,10 +52,14 @@ one_part_boxes q part =
     let e : boxes_in (part ∷ []) ≡ listed part 0 (length part.streams.items) = append-nil (listed part 0 (length part.streams.items)) in
     ap (different_boxes q) e ∙ all_different q part 0 (length part.streams.items) ∙ sym e
 
-pub one_part_numbers : (shared : Bool) (q : QueryValue) (part : PartPlan) → numbers_for shared q (part ∷ []) ≡ numbers_of q (part ∷ [])
-one_part_numbers false q part = refl
-one_part_numbers true q part =
+one_part_cells : (shared : Bool) (q : QueryValue) (part : PartPlan) → numbers_for shared q (part ∷ []) ≡ numbers_of q (part ∷ [])
+one_part_cells false q part = refl
+one_part_cells true q part =
     ap (λ (n : ℕ). record (numbers_of q (part ∷ [])) { cells = n }) (ap sizes_in (one_part_boxes q part) ∙ sym (count-of-boxes (part ∷ [])))
+
+-- and one part is its own hull
+pub one_part_numbers : (shared : Bool) (q : QueryValue) (part : PartPlan) → form_numbers shared q (part ∷ []) ≡ numbers_of q (part ∷ [])
+one_part_numbers shared q part = λ i. record (one_part_cells shared q part i) { answers = one_part_answers q part i }
 
 -- boxes one after another begin where they should, with shared cells and without
 pub one_part_based : (shared : Bool) (q : QueryValue) (part : PartPlan) → Follow 0 (part ∷ []) → AreBased shared q (part ∷ [])

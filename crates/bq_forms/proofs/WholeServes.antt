@@ -20,7 +20,7 @@ use Rattle.bq_model.specs.declared.plan.PartPlan.{PartPlan}
 use Rattle.bq_model.specs.declared.plan.StreamPlan.{StreamPlan}
 use Rattle.bq_model.specs.Admission.{alone, keeps_local, in_range, keeps_signs, admits}
 use Rattle.bq_model.specs.Assignment.{Assignment, compares, value, AtomHolds, Holds, KeepsDomains}
-use Rattle.bq_model.specs.Boxes.{range_size, dim_size, box_size, AreFull}
+use Rattle.bq_model.specs.Boxes.{dim_size, box_size, AreFull}
 use Rattle.bq_model.specs.Ranges.{different, range_of, selected_ranges}
 use Rattle.bq_model.specs.Plan.{stream_at, dims_at, link}
 use Rattle.bq_model.specs.Combinations.{compares_both, any_ties, is_equality, binds, is_tied, linked}
@@ -64,6 +64,7 @@ use Rattle.bq_whole_form.specs.Part.{end_or_zero, IsRangeOf, AreRangesOf}
 use Rattle.bq_whole_form.proofs.Conditioned.{name_one}
 use Rattle.bq_forms.proofs.FormLinks.{no_signs, no_ties, both_if, differ, not_above, pairs_cons, first_is, from_different, Reads, lt, le, eq, ne, link_reads, OwnDim, own_from, turned_unlike, unequal, across_apart, link_across, no_stream}
 pub use Rattle.bq_forms.proofs.FormLinks.{OwnOf, own_to}
+use Rattle.bq_forms.specs.Answers.{hull}
 use Rattle.bq_forms.specs.Part.{read_as, soft_as, has_op, is_soft, AreOwnDims, AreEqualDims, IsWholePartPlan}
 use Rattle.bq_forms.specs.Laws.{WholePartsServe, WholeAnswersAreCounted}
 
@@ -573,20 +574,28 @@ module _ (q : QueryValue) (w : IsWellFormed q) (part : PartPlan) (is : IsWholePa
       subst (λ (d : Dim). IsRange (system q) a (range (Some d.lo) (Some d.hi))) (sym f.3)
       (range_over (system q) f.0.attr a (range (Some f.0.lo) (Some f.0.hi)) (class_of_tied f.0.attr a f.2) (own_dim a.stream l f.0 f.1).own)
 
-  one_size : (a : Attr) → Contains q.select a → (d : Dim) → IsRangeOf q a d → dim_size (range_of q part a) ≡ dim_size d
-  one_size a h d r =
+  own_hull : (a : Attr) → Contains q.select a → (d : Dim) → IsRangeOf q a d → d ≡ hull q part [] a
+  own_hull a h d r =
       let own : Dim = range_of q part a in
-      let e : range (Some own.lo) (Some own.hi) ≡ ends_of r.0 = range_one (system q) a (range (Some own.lo) (Some own.hi)) (ends_of r.0) (selected_own a h) r.1 in
-      ap₂ range_size (ap (λ z. end_or_zero z.lo) e) (ap (λ z. end_or_zero z.hi) e) ∙ ap dim_size (sym r.2)
+      let e : ends_of r.0 ≡ range (Some own.lo) (Some own.hi) = range_one (system q) a (ends_of r.0) (range (Some own.lo) (Some own.hi)) r.1 (selected_own a h) in
+      r.2 ∙ (λ i. record { attr = a; lo = end_or_zero (e i).lo; hi = end_or_zero (e i).hi })
 
-  all_sizes : (attrs : List Attr) (dims : List Dim) → ((a : Attr) → Has attrs a → Contains q.select a) → AreRangesOf q attrs dims → box_size (map (range_of q part) attrs) ≡ box_size dims
-  all_sizes [] [] f r = refl
-  all_sizes [] (d ∷ dims) f r = absurd r
-  all_sizes (a ∷ attrs) [] f r = absurd r
-  all_sizes (a ∷ attrs) (d ∷ dims) f r = ap₂ (λ x y. x * y) (one_size a (f a first) d r.0) (all_sizes attrs dims (λ b h. f b (later h)) r.1)
+  own_hulls : (attrs : List Attr) (dims : List Dim) → ((a : Attr) → Has attrs a → Contains q.select a) → AreRangesOf q attrs dims → dims ≡ map (hull q part []) attrs
+  own_hulls [] [] f r = refl
+  own_hulls [] (d ∷ dims) f r = absurd r
+  own_hulls (a ∷ attrs) [] f r = absurd r
+  own_hulls (a ∷ attrs) (d ∷ dims) f r = ap₂ (λ e es. e ∷ es) (own_hull a (f a first) d r.0) (own_hulls attrs dims (λ b h. f b (later h)) r.1)
+
+  -- so the ranges of the different selected columns are told
+  pub selected_hulls : (dims : List Dim) → AreRangesOf q (different q.select) dims → dims ≡ map (hull q part []) (different q.select)
+  selected_hulls dims r = own_hulls (different q.select) dims (λ a h. Contains-from_has q.select a (from_different q.select a h)) r
+
+  same_sizes : (attrs : List Attr) → box_size (map (range_of q part) attrs) ≡ box_size (map (hull q part []) attrs)
+  same_sizes [] = refl
+  same_sizes (a ∷ attrs) = ap (λ n. dim_size (range_of q part a) * n) (same_sizes attrs)
 
   counted : (dims : List Dim) → AreRangesOf q (different q.select) dims → box_size (selected_ranges q part) ≡ box_size dims
-  counted dims r = all_sizes (different q.select) dims (λ a h. Contains-from_has q.select a (from_different q.select a h)) r
+  counted dims r = same_sizes (different q.select) ∙ ap box_size (sym (selected_hulls dims r))
 
 pub whole_answers_are_counted : WholeAnswersAreCounted
 whole_answers_are_counted q w part is dims r = counted q w part is dims r

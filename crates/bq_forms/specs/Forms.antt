@@ -6,6 +6,7 @@ use Rattle.bq_model.specs.declared.plan.Plan.TheVariants as plan
 use Rattle.bq_model.specs.Query.{QueryValue, is_filter}
 use Rattle.bq_model.specs.Numbers.{numbers_of}
 use Rattle.bq_model.specs.Plan.{Follow}
+use Rattle.bq_model.specs.Serving.{IsServing, AreBased}
 use Rattle.bq_model.specs.Verdict.{Verdict, first_above, verdict_by}
 use Rattle.bq_forms.specs.Fitting.{FitsWhole}
 use Rattle.bq_forms.specs.Parts.{HasTooManyParts, IsFormViolation, IsPartsFor, form_numbers, IsPartsVerdict}
@@ -24,6 +25,11 @@ pub data IsFormPlan (shared : Bool) (q : QueryValue) (plan : List PartPlan) : Ty
 abbrev pub IsFormPlanOf : Bool → QueryValue → Plan → Type 0
 IsFormPlanOf shared q plan.Filter = IsTrue (is_filter q)
 IsFormPlanOf shared q (plan.Parts list numbers) = IsFalse (is_filter q) × IsFormPlan shared q list × (numbers ≡ form_numbers shared q list)
+
+-- a plan with its numbers that serves the query, whichever form it has
+abbrev pub IsServingForm : Bool → QueryValue → Plan → Type 0
+IsServingForm shared q plan.Filter = IsTrue (is_filter q)
+IsServingForm shared q (plan.Parts list numbers) = IsFalse (is_filter q) × IsServing q list × AreBased shared q list × (numbers ≡ form_numbers shared q list)
 
 -- no condition is broken: the query is a filter, or its whole form fits, or there are not too many parts and none breaks one
 abbrev pub MeetsForm : QueryValue → Type 0

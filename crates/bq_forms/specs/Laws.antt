@@ -14,7 +14,7 @@ use Rattle.bq_model.specs.Meaning.{joined}
 use Rattle.bq_model.specs.Parts.{sign_at}
 use Rattle.bq_model.specs.Plan.{Follow}
 use Rattle.bq_model.specs.Ranges.{different, selected_ranges}
-use Rattle.bq_model.specs.Serving.{Serves, Takes, IsServing, IsServingPlan}
+use Rattle.bq_model.specs.Serving.{Serves, Takes, IsServing}
 use Rattle.bq_model.specs.Violation.{Failure}
 use Rattle.bq_form_pairs.specs.Pairs.{split_pairs}
 use Rattle.bq_form_pairs.specs.SplitParts.{IsSplitPart, AreSplitParts, HasMoreSplitParts}
@@ -25,10 +25,11 @@ use Rattle.bq_whole_form.specs.Part.{AreRangesOf}
 use Rattle.bq_forms.specs.Part.{form_with, IsWholePartPlan}
 use Rattle.bq_forms.specs.Split.{part_query, IsSplitPlan, IsSplitFor}
 use Rattle.bq_forms.specs.SplitBreaks.{IsPartBreak, IsSplitViolation}
-use Rattle.bq_forms.specs.Parts.{HasTooManyParts, IsPartsFor}
+use Rattle.bq_forms.specs.Answers.{HoldsAllTuples}
+use Rattle.bq_forms.specs.Parts.{HasTooManyParts, IsPartsFor, form_numbers}
 use Rattle.bq_model.specs.declared.plan.Plan.{Plan}
 use Rattle.bq_model.specs.Verdict.{Verdict, most}
-use Rattle.bq_forms.specs.Forms.{MeetsForm, IsFormPlan, IsFormPlanOf, IsFormVerdict}
+use Rattle.bq_forms.specs.Forms.{MeetsForm, IsFormPlan, IsFormPlanOf, IsServingForm, IsFormVerdict}
 
 -- it tells the answers
 abbrev pub WholePartsServe : Type 0
@@ -108,9 +109,13 @@ SplitPlansMeet = (q : QueryValue) (plan : List PartPlan) → IsWithinLimits q �
 abbrev pub PartsAreFew : Type 0
 PartsAreFew = (shared : Bool) (q : QueryValue) (plan : List PartPlan) → ¬ HasTooManyParts q → IsPartsFor shared q plan → length plan ≤ most which.Parts
 
+-- the announced answers are room for each ascending table of tuples that lie in the ranges of some part
+abbrev pub AnnouncedAnswersHold : Type 0
+AnnouncedAnswersHold = (shared : Bool) (q : QueryValue) (plan : List PartPlan) → HoldsAllTuples q plan (form_numbers shared q plan).answers
+
 -- the plan of a query that breaks no condition tells the answers, whichever form it has
 abbrev pub FormPlansServe : Type 0
-FormPlansServe = (shared : Bool) (q : QueryValue) (plan : Plan) → IsWithinLimits q → MeetsForm q → IsFormPlanOf shared q plan → IsServingPlan shared q plan
+FormPlansServe = (shared : Bool) (q : QueryValue) (plan : Plan) → IsWithinLimits q → MeetsForm q → IsFormPlanOf shared q plan → IsServingForm shared q plan
 
 -- a query that breaks no condition has at most one plan
 abbrev pub HasOneFormPlan : Type 0

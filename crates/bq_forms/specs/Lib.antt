@@ -3,6 +3,7 @@ pub mod Part
 pub mod Fitting
 pub mod Split
 pub mod SplitBreaks
+pub mod Answers
 pub mod Parts
 pub mod Forms
 pub mod Laws

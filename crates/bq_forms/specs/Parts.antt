@@ -15,6 +15,7 @@ use Rattle.bq_model.specs.Violation.{Failure, IsViolation}
 use Rattle.bq_form_pairs.specs.Pairs.{HasManyPairs}
 use Rattle.bq_form_pairs.specs.SplitParts.{HasMoreSplitParts}
 use Rattle.bq_whole_form.specs.Numbers.{capped}
+use Rattle.bq_forms.specs.Answers.{announced_answers}
 use Rattle.bq_forms.specs.Split.{IsSplitFor}
 use Rattle.bq_forms.specs.SplitBreaks.{IsSplitViolation}
 
@@ -37,7 +38,7 @@ pub data IsPartsFor (shared : Bool) (q : QueryValue) (plan : List PartPlan) : Ty
 
 -- and their numbers
 abbrev pub form_numbers : Bool → QueryValue → List PartPlan → Numbers
-form_numbers shared q plan = numbers_for shared q plan
+form_numbers shared q plan = record (numbers_for shared q plan) { answers = announced_answers q plan }
 
 -- the verdict on a query by its parts, without shared cells or with them, with so many free pages, by the first case that applies
 pub data IsPartsVerdict (shared : Bool) (q : QueryValue) (free : ℕ) (verdict : Verdict) : Type 0 where

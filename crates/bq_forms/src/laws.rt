@@ -1,5 +1,5 @@
 //! The laws, as public functions without a body.
-ghost use Rattle.bq_forms.specs.Laws.{WholePartsServe, HasOneWholePart, WholePartsAreFinite, WholePartsBreakNothing, WholeAnswersAreCounted, PartQueriesAreWellFormed, PartsHaveSystems, PartsServe, PartsTake, SplitPlansServe, HasOneListOfSplitParts, SplitPartsAreCounted, HasOneSplitPlan, HasOnePartBreak, HasOneSplitViolation, SplitPlansMeet, PartsAreFew, FormPlansServe, HasOneFormPlan, HasOneFormVerdict};
+ghost use Rattle.bq_forms.specs.Laws.{WholePartsServe, HasOneWholePart, WholePartsAreFinite, WholePartsBreakNothing, WholeAnswersAreCounted, PartQueriesAreWellFormed, PartsHaveSystems, PartsServe, PartsTake, SplitPlansServe, HasOneListOfSplitParts, SplitPartsAreCounted, HasOneSplitPlan, HasOnePartBreak, HasOneSplitViolation, SplitPlansMeet, PartsAreFew, AnnouncedAnswersHold, FormPlansServe, HasOneFormPlan, HasOneFormVerdict};
 
 /// The plan of the whole form tells the answers.
 pub fn whole_parts_serve()
@@ -84,6 +84,11 @@ pub fn split_plans_meet()
 /// A plan by parts has at most 4,096, where there are not too many.
 pub fn parts_are_few()
     ensures { PartsAreFew }
+{}
+
+/// The announced answers are room for each table of tuples that lie in the ranges of some part.
+pub fn announced_answers_hold()
+    ensures { AnnouncedAnswersHold }
 {}
 
 /// The plan of a query that breaks no condition tells the answers, whichever form it has.

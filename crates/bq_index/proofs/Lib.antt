@@ -1,9 +1,13 @@
 pub mod Linked
-pub mod Needing
+pub mod Codes
+pub mod Coded
 pub mod Owning
 pub mod PreparedParts
 pub mod Telling
+pub mod Placing
 pub mod Shifting
 pub mod ShiftLaws
 pub mod SimpleBoxLaws
 pub mod PassedCells
+pub mod TestsLaws
+pub mod RemainingLaws

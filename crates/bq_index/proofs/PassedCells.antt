@@ -21,8 +21,7 @@ use Rattle.bq_synopsis.specs.Premises.{IsHeld}
 use Rattle.bq_synopsis.proofs.PlanLaws.{laid-from}
 use Rattle.bq_index.proofs.Linked.{NoneAdmits, passed_by, hit_within, hit_there}
 use Rattle.bq_index.specs.declared.part_index.PartIndex.{PartIndex}
-use Rattle.bq_index.specs.PartIndex.{IsPartIndex, IsNext, buckets_of, row_bucket}
-use Rattle.bq_model.specs.Parts.{pairs}
+use Rattle.bq_index.specs.PartIndex.{IsPartIndex, IsNext, buckets, row_bucket}
 use Rattle.bq_index.specs.declared.shift.CellAt.{CellAt}
 use Rattle.bq_index.specs.Shifts.{StandsAt}
 use Rattle.bq_index.specs.Leaving.{LeavesCells, IsCellOf, IsOnChain, HasPassed, told_of, LeavesCell}
@@ -82,20 +81,20 @@ cell-of parts q pos row pool e i cell own stands told held inside = record {
 
 module _ (q : QueryValue) (parts : List PartPlan) (pos : ℕ) (c : PartIndex) (are : IsPartIndex q parts pos c) (row : List ℤ) where
   -- the next part of the row's bucket is on the chain
-  pub on-chain : (n i : ℕ) → IsNext (buckets_of parts c.tests.items c.mask) (row_bucket (pairs q) c (by_column row)) n i → IsOnChain q parts c row i
+  pub on-chain : (n i : ℕ) → IsNext (buckets c) (row_bucket c (by_column row)) n i → IsOnChain q parts c row i
   on-chain n i next = record {
     within = hit_within q parts pos c are (by_column row) n i next;
     there = hit_there q parts pos c are (by_column row) n i next;
   }
 
   pub next-of : (i m : ℕ) → i < length parts → IsOnChain q parts c row i
-      → IsNext (buckets_of parts c.tests.items c.mask) (get_or (buckets_of parts c.tests.items c.mask) i 0) (i + 1) m
-      → IsNext (buckets_of parts c.tests.items c.mask) (row_bucket (pairs q) c (by_column row)) (i + 1) m
-  next-of i m inside chain next = subst (λ b. IsNext (buckets_of parts c.tests.items c.mask) b (i + 1) m) (chain.there inside) next
+      → IsNext (buckets c) (get_or (buckets c) i 0) (i + 1) m
+      → IsNext (buckets c) (row_bucket c (by_column row)) (i + 1) m
+  next-of i m inside chain next = subst (λ b. IsNext (buckets c) b (i + 1) m) (chain.there inside) next
 
   -- one part more is passed over, whose cell the row leaves as it is
   pub passed-step : (pool : PoolValue) (e : Extent) (start i m : ℕ) (own : OwnCell) → i < length parts → HasPassed q parts c pos row pool e start i → IsCellOf parts pos row pool e i own
-      → own_cells.with_row own row ≡ own.held → IsNext (buckets_of parts c.tests.items c.mask) (get_or (buckets_of parts c.tests.items c.mask) i 0) (i + 1) m
+      → own_cells.with_row own row ≡ own.held → IsNext (buckets c) (get_or (buckets c) i 0) (i + 1) m
       → HasPassed q parts c pos row pool e start m
   passed-step pool e start i m own inside passed cell stays next =
       let more = next-of i m inside passed.there next in

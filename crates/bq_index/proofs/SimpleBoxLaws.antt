@@ -1,5 +1,5 @@
 -- Where a row stands in a box of at most one dim.
-use Rattle.std.proofs.Common.{◌≡◌, ℕ, ◌+◌, ◌*◌, ◌<◌, ◌^◌, get_or, Bool, true, List, [], ◌∷◌, length, ℤ, pos, ◌+ℤ◌, Option, Some, None, refl, sym, ap, subst, ◌∙◌, arith}
+use Rattle.std.proofs.Common.{◌≡◌, ℕ, ◌+◌, ◌*◌, ◌<◌, ◌^◌, get_or, true, List, [], ◌∷◌, length, ℤ, pos, ◌+ℤ◌, Option, Some, None, refl, sym, ap, subst, ◌∙◌, arith}
 use Rattle.std.specs.List.{list_all}
 use Rattle.std.specs.Option.{IfSome}
 use Rattle.std.proofs.lemmas.List.{length-map}
@@ -10,11 +10,9 @@ use Rattle.bq_model.specs.Plan.{stream_at, dims_at}
 use Rattle.bq_model.specs.Admission.{in_range}
 use Rattle.bq_model.specs.Meaning.{by_column}
 use Rattle.bq_model.specs.Cells.{row_place}
-use Rattle.bq_synopsis.specs.declared.axes.Axis.{Axis}
-use Rattle.bq_synopsis.specs.declared.axes.BoxLayout.{BoxLayout}
 use Rattle.bq_synopsis.specs.declared.axes.Placement.{Placement}
 use Rattle.bq_synopsis.specs.declared.axes.Placement.TheVariants.{Outside, Cell}
-use Rattle.bq_synopsis.specs.Axes.{axis_of, AreAxes, IsAbove, IsBoxLayout}
+use Rattle.bq_synopsis.specs.Axes.{axis_of, IsAbove}
 use Rattle.bq_synopsis.proofs.AxisLaws.{SoFar, start, at-end, further, out}
 use Rattle.bq_index.specs.declared.shift.CellAt.{CellAt}
 use Rattle.bq_index.specs.declared.simple_box.OneDimBox.{OneDimBox}
@@ -61,12 +59,6 @@ only part place cell is row =
     let at = ended.1 in
     let own : cell.number ≡ (stream_at part place).base + row_place (dims_at part place) (by_column row) = omega (arith, base, at) in
     record { inside = sym ended.0; cell = (is.several, own, is.kind) }
-
--- where a row stands in the part of a number, by the part that has it
-pub some_listed : (told : Bool) → told ≡ true → (part : PartPlan) (place : ℕ) (row : List ℤ) (placement : Option Placement) → IfSome placement (λ p. IsInBox part place row p)
-    → IfSome placement (λ p. (told ≡ true) × IsInBox part place row p)
-some_listed told is part place row None there = tt
-some_listed told is part place row (Some p) there = (is, there)
 
 -- the cell of a row by its place in the box of the part of a number
 pub cell_in_box : (parts : List PartPlan) (place : ℕ) (row : List ℤ) (i : ℕ) (part : PartPlan) → part ≡ get_or parts i part → (placement : Option Placement) → IfSome placement (λ p. IsInBox part place row p)

@@ -6,7 +6,6 @@ use Rattle.bq_model.specs.Query.{QueryValue}
 use Rattle.bq_model.specs.Meaning.{by_column}
 use Rattle.bq_model.specs.Admission.{admits}
 use Rattle.bq_model.specs.Combinations.{Reading, read_from}
-use Rattle.bq_model.specs.Parts.{pairs}
 use Rattle.bq_laws.specs.Closed.{own_place, with_own}
 use Rattle.bq_pool.specs.declared.pool.Extent.{Extent}
 use Rattle.bq_pool.specs.Extents.{PoolValue, cells_of}
@@ -17,7 +16,7 @@ use Rattle.bq_synopsis.specs.Own.{IsOwnCell}
 use Rattle.bq_synopsis.specs.Premises.{IsHeld}
 use Rattle.bq_index.specs.declared.shift.CellAt.{CellAt}
 use Rattle.bq_index.specs.declared.part_index.PartIndex.{PartIndex}
-use Rattle.bq_index.specs.PartIndex.{buckets_of, row_bucket}
+use Rattle.bq_index.specs.PartIndex.{buckets, row_bucket}
 use Rattle.bq_index.specs.Shift.{placed}
 use Rattle.bq_index.specs.declared.left.Met.{Met}
 use Rattle.bq_index.specs.declared.left.Reached.{Reached}
@@ -48,7 +47,7 @@ pub record IsCellOf (parts : List PartPlan) (pos : ℕ) (row : List ℤ) (pool :
 -- a part of the row's bucket has this number, or it is the number of all parts
 pub record IsOnChain (q : QueryValue) (parts : List PartPlan) (c : PartIndex) (row : List ℤ) (i : ℕ) : Type 0 where
   pub within : i ≤ length parts
-  pub there : i < length parts → slice_index_or (buckets_of parts c.tests.items c.mask) i 0 ≡ row_bucket (pairs q) c (by_column row)
+  pub there : i < length parts → slice_index_or (buckets c) i 0 ≡ row_bucket c (by_column row)
 
 -- a row that is at the part of number n passes over parts whose cells it leaves as they are, to the part of number m
 pub record HasPassed (q : QueryValue) (parts : List PartPlan) (c : PartIndex) (pos : ℕ) (row : List ℤ) (pool : PoolValue) (extent : Extent) (n m : ℕ) : Type 0 where

@@ -1,5 +1,8 @@
 pub mod Owners
+pub mod Span
 pub mod PartIndex
+pub mod Showing
+pub mod Remaining
 pub mod Prepared
 pub mod Shifts
 pub mod Shift

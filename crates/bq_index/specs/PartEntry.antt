@@ -1,12 +1,14 @@
 -- What a row that is led along a chain meets at a part.
-use Rattle.std.specs.Prelude.{◌≡◌, ℕ, ℤ, Bool, true, List, length, slice_get, slice_index_or, Some}
+use Rattle.std.specs.Prelude.{◌≡◌, ℕ, ℤ, true, List, length, slice_get, slice_index_or, Some}
 use Rattle.std.specs.Option.{IfSome}
 use Rattle.bq_model.specs.declared.plan.PartPlan.{PartPlan}
 use Rattle.bq_index.specs.declared.shift.CellAt.{CellAt}
+use Rattle.bq_index.specs.declared.span.Span.{Span}
 use Rattle.bq_index.specs.declared.part_entry.PartEntry.{PartEntry}
 use Rattle.bq_index.specs.declared.simple_box.SimpleBox.{SimpleBox}
+use Rattle.bq_index.specs.Span.{no_span}
 use Rattle.bq_index.specs.Shift.{placed}
-use Rattle.bq_index.specs.Shifts.{HasNextCode, IsNextShifted}
+use Rattle.bq_index.specs.Shifts.{HasNextAlike, IsNextShifted}
 use Rattle.bq_index.specs.SimpleBox.{IsSimpleBox, IsInBox}
 
 -- the box of the part of a number, as it is listed
@@ -17,15 +19,16 @@ IsSimpleBoxOf parts place i simple_box = (part : PartPlan) → slice_get parts i
 abbrev pub IsCellIn : List PartPlan → ℕ → List ℤ → ℕ → CellAt → Type 0
 IsCellIn parts place row i cell = (part : PartPlan) → slice_get parts i ≡ Some part → IsInBox part place row (placed cell)
 
--- the code of the part of a number, its box, the next part of its bucket, and what is told of that
-pub record IsPartEntry (parts : List PartPlan) (place : ℕ) (tells : Bool) (codes links : List ℕ) (i : ℕ) (entry : PartEntry) : Type 0 where
+-- the code of the part of a number, its remaining conditions and its box, the next part of its bucket, and what is told of that
+pub record IsPartEntry (parts : List PartPlan) (place : ℕ) (codes links : List ℕ) (spans : List Span) (i : ℕ) (entry : PartEntry) : Type 0 where
   pub simple_box : IsSimpleBoxOf parts place i entry.simple_box
-  pub shift : IfSome entry.shift (λ shift. IsNextShifted parts place tells codes links i shift)
+  pub shift : IfSome entry.shift (λ shift. IsNextShifted parts place codes links spans i shift)
   pub code : entry.code ≡ slice_index_or codes i 0
   pub next : entry.next ≡ slice_index_or links i 0
-  pub follows : entry.follows ≡ true → HasNextCode parts tells codes links i
+  pub span : entry.span ≡ slice_index_or spans i no_span
+  pub follows : entry.follows ≡ true → HasNextAlike parts codes links spans i
 
 -- that of each part
-pub record ArePartEntries (parts : List PartPlan) (place : ℕ) (tells : Bool) (codes links : List ℕ) (entries : List PartEntry) : Type 0 where
+pub record ArePartEntries (parts : List PartPlan) (place : ℕ) (codes links : List ℕ) (spans : List Span) (entries : List PartEntry) : Type 0 where
   pub many : length entries ≡ length parts
-  pub each : (i : ℕ) (entry : PartEntry) → slice_get entries i ≡ Some entry → IsPartEntry parts place tells codes links i entry
+  pub each : (i : ℕ) (entry : PartEntry) → slice_get entries i ≡ Some entry → IsPartEntry parts place codes links spans i entry

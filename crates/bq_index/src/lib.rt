@@ -1,20 +1,23 @@
 //! The index that leads a row to the parts of a plan that may admit it.
 //!
-//! A row of a stream of FROM is led by its signs to a bucket, a chain of parts that ask for the same signs, and is tested by these. Where at
-//! most 20 signs tell parts from each other or do not follow from their ranges, one number tells all signs, and these are compared by it
-//! alone. Where cells are shared, it tells which part takes a row into a box. A row passes over parts whose cells it leaves as they are, where
-//! it is known that such a row is answered nothing new.
+//! A row of a stream of FROM is led by its signs to a bucket, a chain of parts. A pair of elements is tested where every part shows one sign at it: each
+//! row that the part admits has that sign there. The signs of at most 20 pairs are one number, the code of a part, and a row that has another is not
+//! admitted. What a part asks beside its code and the ranges of its dims is listed, and asked of the rows that have the code. Where cells are shared,
+//! the index tells which part takes a row into a box. A row passes over parts whose cells it leaves as they are, where it is known that such a row is
+//! answered nothing new.
 #![tactic(auto)]
 
-mod key_pairs;
 mod left;
 mod owners;
 mod part_entry;
 mod part_index;
 mod prepared;
+mod remaining;
 mod shift;
 mod shifts;
 mod simple_box;
+mod span;
+mod tests;
 
 pub use left::{Led, Reached, reach};
 pub use part_index::{CodedRow, IndexHit, PartIndex};

@@ -1,4 +1,5 @@
-//! What a row that is led along a chain meets at a part, in one place: the code and the box of the part, and what is told of the next one.
+//! What a row that is led along a chain meets at a part, in one place: the code and the box of the part, the conditions that its code does not tell,
+//! and what is told of the next one.
 ghost use Rattle.std.specs.Prelude.{◌≡◌, ◌<◌, length, IfOk};
 ghost use Rattle.bq_model.specs.Parts.{pairs};
 ghost use Rattle.bq_index.specs.Prepared.{ArePrepared};
@@ -7,20 +8,22 @@ ghost use Rattle.bq_index.specs.SimpleBox.{IsSimpleBox};
 ghost use Rattle.bq_synopsis.specs.Preparing.{IsPrepared};
 
 use crate::shift::Shift;
-use crate::shifts::{Chained, has_next_code, prepared_of, shift_at};
+use crate::shifts::{Chained, has_next_alike, prepared_of, shift_at};
 use crate::simple_box::{SimpleBox, simple_box_of};
+use crate::span::Span;
 use bq_model::{PartPlan, PartPlans, Query};
 use bq_synopsis::Prepared;
 use std::alloc::{AllocError, Global};
 
-/// The code of a part, the next part of its bucket, the part's box, how many cells later the box of the next part begins where a row stands at
-/// the same place of both, and whether the next part is known to have the same code, which is exact.
+/// The code of a part, the next part of its bucket, the part's box, the conditions that remain beside its code, how many cells later the box of the
+/// next part begins where a row stands at the same place of both, and whether the next part has the same code and the same remaining conditions.
 #[derive(Clone, Copy, Debug, PartialEq, Eq, Drop)]
 pub struct PartEntry {
     pub simple_box: SimpleBox,
     pub shift: Option<Shift>,
     pub code: u32,
     pub next: u32,
+    pub span: Span,
     pub follows: bool,
 }
 
@@ -66,14 +69,16 @@ fn entry_at(
     requires prepared { ArePrepared (pairs q.now) parts.now prepared.now }
     requires codes { length chained.now.codes.now ≡ length parts.now }
     requires links { length chained.now.links.now ≡ length parts.now }
-    ensures { IsPartEntry parts.now place chained.now.is_injective chained.now.codes.now chained.now.links.now i result }
+    requires spans { length chained.now.spans.now ≡ length parts.now }
+    ensures { IsPartEntry parts.now place chained.now.codes.now chained.now.links.now chained.now.spans.now i result }
 {
     PartEntry {
         simple_box: simple_box_at(q, parts, prepared, place, i),
         shift: shift_at(q, parts, prepared, place, chained, i),
         code: chained.codes[i as usize],
         next: chained.links[i as usize],
-        follows: has_next_code(parts, chained, i),
+        span: chained.spans[i as usize],
+        follows: has_next_alike(parts, chained, i),
     }
 }
 
@@ -89,7 +94,8 @@ pub fn entries_of(
     requires prepared { ArePrepared (pairs q.now) parts.now prepared.now }
     requires codes { length chained.now.codes.now ≡ length parts.now }
     requires links { length chained.now.links.now ≡ length parts.now }
-    ensures { IfOk result (λ entries. ArePartEntries parts.now place chained.now.is_injective chained.now.codes.now chained.now.links.now entries.items) }
+    requires spans { length chained.now.spans.now ≡ length parts.now }
+    ensures { IfOk result (λ entries. ArePartEntries parts.now place chained.now.codes.now chained.now.links.now chained.now.spans.now entries.items) }
 {
     let mut entries: Vec<PartEntry> = Vec::with_capacity(alloc, parts.len() as usize)?;
     'parts: for i in 0..parts.len() {

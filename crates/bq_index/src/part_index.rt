@@ -1,10 +1,10 @@
-//! Which parts may admit a row: those that ask for the signs that the row has. Parts that ask for the same signs stand in one bucket, and a
+//! Which parts may admit a row: those of which each row that they admit has the signs that the row has. Parts of one code stand in one bucket, and a
 //! chain leads through them, so that a row is led to them by one look-up.
-ghost use Rattle.std.specs.Prelude.{◌≡◌, ◌+◌, ◌*◌, ◌%◌, ◌^◌, ◌<◌, ◌≤◌, length, map, slice_get, slice_index_or, bit_and, true, false, [], Some, All, IfOk, IfSome};
+ghost use Rattle.std.specs.Prelude.{◌≡◌, ◌+◌, ◌*◌, ◌%◌, ◌^◌, ◌<◌, ◌≤◌, length, map, slice_get, slice_index_or, bit_and, true, Some, IfOk, IfSome};
 ghost use Rattle.std.specs.List.{list_all};
-ghost use Rattle.bq_model.specs.Parts.{pairs, is_within, sign, sign_at};
+ghost use Rattle.bq_model.specs.Parts.{pairs, sign, sign_at};
 ghost use Rattle.bq_model.specs.Meaning.{by_column};
-ghost use Rattle.bq_model.specs.Admission.{alone, in_range, admits};
+ghost use Rattle.bq_model.specs.Admission.{alone, in_range, meets_local, admits};
 ghost use Rattle.bq_model.specs.Plan.{dims_at};
 ghost use Rattle.bq_synopsis.specs.Keeping.{keeps_part};
 ghost use Rattle.bq_synopsis.specs.Preparing.{IsPrepared};
@@ -13,29 +13,32 @@ ghost use Rattle.bq_index.specs.Prepared.{ArePrepared};
 ghost use Rattle.bq_index.specs.Shift.{placed};
 ghost use Rattle.bq_index.specs.Shifts.{StandsAt};
 ghost use Rattle.bq_index.specs.PartEntry.{IsPartEntry, IsCellIn};
-ghost use Rattle.bq_index.specs.SimpleBox.{IsInBox};
 ghost use Rattle.bq_index.specs.Owners.{BeginBehind, EachTakes, takes_rows};
-ghost use Rattle.bq_index.specs.PartIndex.{IsLocal, signs_at, signs_of_part, number_of, code_after, codes_of, row_code, buckets_of, row_bucket, AreOf, IsNext, IsMarked, AreKeyPairs, HasKeyPairs, AreWhole, AreSigned, TellAll, AreLinked, IsPartIndex};
+ghost use Rattle.bq_index.specs.Span.{in_span, IsSpan};
+ghost use Rattle.bq_index.specs.PartIndex.{signs_at, number_of, code_after, row_code, buckets, row_bucket, IsNext, AreLinked, IsPartIndex};
 
-use crate::key_pairs::KeyPairs;
 use crate::owners::{each_takes, owners_at};
 use crate::part_entry::{PartEntry, entries_of};
+use crate::remaining::remaining_at;
 use crate::shift::CellAt;
 use crate::shifts::Chained;
-use arrayvec::ArrayVec;
-use bq_model::{Pair, PartPlan, PartPlans, Query, Row, Sign, is_within, value_alone, value_at};
-use bq_synopsis::{Placement, Prepared, placement_of};
+use crate::span::Span;
+use crate::tests::tested_at;
+use bq_model::{
+    LocalCondition, Pair, PartPlan, PartPlans, Query, Row, Sign, Signs, value_alone, value_at,
+};
+use bq_synopsis::{Placement, Prepared, meets_local, placement_by_ranges};
 use std::alloc::{AllocError, Global};
 
 /// An index of the parts of a plan at a place of FROM: parts whose codes fall into one bucket stand in a chain.
 #[derive(Drop)]
 pub struct PartIndex {
-    /// The numbers of the pairs whose signs make a code.
-    tests: ArrayVec<u8, 114>,
-    /// These pairs, in the same order.
+    /// The pairs whose signs make a code.
     tested: Vec<Pair>,
-    /// Whether codes are injective: whether a code tells that a row in the ranges of a part keeps all that the part asks.
-    is_injective: bool,
+    /// What codes do not tell of what parts ask.
+    conditions: Vec<LocalCondition>,
+    /// Which of these conditions are a part's.
+    spans: Vec<Span>,
     /// The code of each part.
     codes: Vec<u32>,
     /// Whether each part takes rows into a box of its own.
@@ -67,12 +70,6 @@ pub struct CodedRow<'a> {
     pub pos: u8,
     pub row: &'a Row,
     pub code: u32,
-}
-
-// The numbers of the pairs whose signs make a code, and whether the code tells that a row in the ranges of a part keeps all that it asks.
-struct Tests {
-    numbers: ArrayVec<u8, 114>,
-    is_injective: bool,
 }
 
 // The number of the sign by which two integers stand to each other, without a branch.
@@ -130,24 +127,13 @@ fn code_of_row(row: &[i64], tested: &[Pair]) -> u32
     code
 }
 
-// The sign that a part asks of the pair of a number.
-fn sign_of_part(part: &PartPlan, i: u8) -> Sign
-    ensures { result ≡ slice_index_or part.now.signs.items i Sign.Lt }
-{
-    part.signs
-        .as_slice()
-        .get(usize::from(i))
-        .copied()
-        .unwrap_or(Sign::Lt)
-}
-
-// The code of a part.
-fn code_of_part(part: &PartPlan, tests: &[u8]) -> u32
-    ensures { result ≡ code_after 0 (signs_of_part part.now tests.now) }
+// The code of signs.
+fn code_of(signs: &[Sign]) -> u32
+    ensures { result ≡ code_after 0 signs.now }
 {
     let mut code: u32 = 0;
-    'tests: for i in tests {
-        code = with_number(code, number_of(sign_of_part(part, *i)));
+    'signs: for sign in signs {
+        code = with_number(code, number_of(*sign));
     }
     code
 }
@@ -156,7 +142,7 @@ impl PartIndex {
     // The code of a row.
     fn code(&self, q: &Query, parts: &PartPlans, pos: u8, row: &Row) -> u32
         requires { IsPartIndex q.now parts.now pos self.now }
-        ensures { result ≡ row_code (pairs q.now) self.now (by_column row.now.items) }
+        ensures { result ≡ row_code self.now.tested.items (by_column row.now.items) }
     {
         code_of_row(row.as_slice(), self.tested.as_slice())
     }
@@ -164,8 +150,8 @@ impl PartIndex {
     /// Returns the code of a row, and the first part of its bucket.
     pub fn first(&self, q: &Query, parts: &PartPlans, pos: u8, row: &Row) -> IndexHit
         requires { IsPartIndex q.now parts.now pos self.now }
-        ensures code { result.code ≡ row_code (pairs q.now) self.now (by_column row.now.items) }
-        ensures first { IsNext (buckets_of parts.now self.now.tests.items self.now.mask) (row_bucket (pairs q.now) self.now (by_column row.now.items)) 0 result.first }
+        ensures code { result.code ≡ row_code self.now.tested.items (by_column row.now.items) }
+        ensures first { IsNext (buckets self.now) (row_bucket self.now (by_column row.now.items)) 0 result.first }
     {
         // Named for the proof alone: the contract speaks of it.
         let _parts = parts.len();
@@ -181,7 +167,7 @@ impl PartIndex {
     pub fn after(&self, q: &Query, parts: &PartPlans, pos: u8, i: u32) -> u32
         requires inside { i < length parts.now }
         requires part_index { IsPartIndex q.now parts.now pos self.now }
-        ensures next { IsNext (buckets_of parts.now self.now.tests.items self.now.mask) (slice_index_or (buckets_of parts.now self.now.tests.items self.now.mask) i 0) (i + 1) result }
+        ensures next { IsNext (buckets self.now) (slice_index_or (buckets self.now) i 0) (i + 1) result }
         ensures number { result ≡ slice_index_or self.now.links.items i 0 }
     {
         self.entry(q, parts, pos, i).next
@@ -191,7 +177,7 @@ impl PartIndex {
     fn entry(&self, q: &Query, parts: &PartPlans, pos: u8, i: u32) -> &PartEntry
         requires inside { i < length parts.now }
         requires part_index { IsPartIndex q.now parts.now pos self.now }
-        ensures { IsPartEntry parts.now pos self.now.is_injective self.now.codes.items self.now.links.items i result.now }
+        ensures { IsPartEntry parts.now pos self.now.codes.items self.now.links.items self.now.spans.items i result.now }
     {
         // Named for the proof alone: the contract speaks of it.
         let _parts = parts.len();
@@ -222,7 +208,7 @@ impl PartIndex {
         entry: &PartEntry,
     ) -> Option<CellAt>
         requires part_index { IsPartIndex coded.now.q.now coded.now.parts.now coded.now.pos self.now }
-        requires entry { IsPartEntry coded.now.parts.now coded.now.pos self.now.is_injective self.now.codes.items self.now.links.items i entry.now }
+        requires entry { IsPartEntry coded.now.parts.now coded.now.pos self.now.codes.items self.now.links.items self.now.spans.items i entry.now }
         requires stands { StandsAt coded.now.q.now coded.now.parts.now coded.now.pos coded.now.row.now.items i cell }
         ensures { IfSome result (λ found. StandsAt coded.now.q.now coded.now.parts.now coded.now.pos coded.now.row.now.items (slice_index_or self.now.links.items i 0) found) }
     {
@@ -291,45 +277,70 @@ impl PartIndex {
         each || mark_of(&self.owns, i)
     }
 
-    // Whether a row keeps all that a part asks, if it lies in the ranges of the part's dims, where codes are exact.
-    fn has_signs(&self, coded: &CodedRow<'_>, part: &PartPlan, i: u32) -> bool
-        requires part_index { IsPartIndex coded.now.q.now coded.now.parts.now coded.now.pos self.now }
-        requires is_injective { self.now.is_injective ≡ true }
-        requires part { slice_get coded.now.parts.now i ≡ Some part.now }
-        requires code { coded.now.code ≡ row_code (pairs coded.now.q.now) self.now (by_column coded.now.row.now.items) }
-        ensures { list_all (in_range (by_column coded.now.row.now.items)) (dims_at part.now coded.now.pos) ≡ true → result ≡ keeps_part (pairs coded.now.q.now) part.now coded.now.pos (by_column coded.now.row.now.items) }
+    // Whether a row meets the conditions of a span.
+    fn meets(&self, span: Span, row: &Row) -> bool
+        requires { IsSpan (length self.now.conditions.items) span }
+        ensures { result ≡ list_all (meets_local (alone (by_column row.now.items))) (in_span self.now.conditions.items span) }
     {
-        self.entry(coded.q, coded.parts, coded.pos, i).code == coded.code
+        let conditions = &self.conditions.as_slice()[span.from as usize..span.to as usize];
+        are_met(row.as_slice(), conditions)
     }
 
-    // Whether a row may be admitted by a part: where codes are exact, whether it has the part's code.
-    fn may_admit(&self, coded: &CodedRow<'_>, part: &PartPlan, i: u32) -> bool
+    // Where a row that has the code of a part stands in it, where the code does not tell all that the part asks. It stays out of the way of rows of which
+    // nothing is asked beside their code.
+    #[inline(never)]
+    fn asked_placement(
+        &self,
+        coded: &CodedRow<'_>,
+        part: &PartPlan,
+        prepared: &Prepared,
+        i: u32,
+        entry: &PartEntry,
+    ) -> Placement
+        requires here { coded.now.pos < length part.now.streams.items }
         requires part_index { IsPartIndex coded.now.q.now coded.now.parts.now coded.now.pos self.now }
+        requires prepared { IsPrepared (pairs coded.now.q.now) part.now prepared.now }
         requires part { slice_get coded.now.parts.now i ≡ Some part.now }
-        requires code { coded.now.code ≡ row_code (pairs coded.now.q.now) self.now (by_column coded.now.row.now.items) }
-        ensures refused { result ≡ false → admits coded.now.q.now part.now coded.now.pos (by_column coded.now.row.now.items) ≡ false }
-        ensures signed { result ≡ true → self.now.is_injective ≡ true → admits coded.now.q.now part.now coded.now.pos (by_column coded.now.row.now.items) ≡ list_all (in_range (by_column coded.now.row.now.items)) (dims_at part.now coded.now.pos) }
+        requires entry { IsPartEntry coded.now.parts.now coded.now.pos self.now.codes.items self.now.links.items self.now.spans.items i entry.now }
+        requires code { entry.now.code ≡ row_code self.now.tested.items (by_column coded.now.row.now.items) }
+        ensures { IsPlacement part.now coded.now.pos coded.now.row.now.items (admits coded.now.q.now part.now coded.now.pos (by_column coded.now.row.now.items)) result }
     {
-        if self.is_injective {
-            self.has_signs(coded, part, i)
+        let placement = placement_by_ranges(coded.q, part, prepared, coded.pos, coded.row);
+        if !placement.is_inside() {
+            return placement;
+        }
+        if self.meets(entry.span, coded.row) {
+            placement
         } else {
-            true
+            Placement::Outside
         }
     }
 
-    // Where a row stands in the part of a number whose signs it has, where the part's box is listed.
-    fn listed_placement(&self, coded: &CodedRow<'_>, part: &PartPlan, i: u32) -> Option<Placement>
+    // Where a row that has the code of a part stands in it.
+    #[inline(always)]
+    fn coded_placement(
+        &self,
+        coded: &CodedRow<'_>,
+        part: &PartPlan,
+        prepared: &Prepared,
+        i: u32,
+        entry: &PartEntry,
+    ) -> Placement
+        requires here { coded.now.pos < length part.now.streams.items }
         requires part_index { IsPartIndex coded.now.q.now coded.now.parts.now coded.now.pos self.now }
+        requires prepared { IsPrepared (pairs coded.now.q.now) part.now prepared.now }
         requires part { slice_get coded.now.parts.now i ≡ Some part.now }
-        ensures { IfSome result (λ placement. (self.now.is_injective ≡ true) × IsInBox part.now coded.now.pos coded.now.row.now.items placement) }
+        requires entry { IsPartEntry coded.now.parts.now coded.now.pos self.now.codes.items self.now.links.items self.now.spans.items i entry.now }
+        requires code { entry.now.code ≡ row_code self.now.tested.items (by_column coded.now.row.now.items) }
+        ensures { IsPlacement part.now coded.now.pos coded.now.row.now.items (admits coded.now.q.now part.now coded.now.pos (by_column coded.now.row.now.items)) result }
     {
-        if self.is_injective {
-            let entry = self.entry(coded.q, coded.parts, coded.pos, i);
-            entry
-                .simple_box
-                .placement(part, coded.pos, coded.row.as_slice())
-        } else {
-            None
+        if !entry.span.is_none() {
+            return self.asked_placement(coded, part, prepared, i, entry);
+        }
+        let row = coded.row.as_slice();
+        match entry.simple_box.placement(part, coded.pos, row) {
+            Some(placement) => placement,
+            None => placement_by_ranges(coded.q, part, prepared, coded.pos, coded.row),
         }
     }
 
@@ -345,24 +356,25 @@ impl PartIndex {
         requires part_index { IsPartIndex coded.now.q.now coded.now.parts.now coded.now.pos self.now }
         requires prepared { IsPrepared (pairs coded.now.q.now) part.now prepared.now }
         requires part { slice_get coded.now.parts.now i ≡ Some part.now }
-        requires code { coded.now.code ≡ row_code (pairs coded.now.q.now) self.now (by_column coded.now.row.now.items) }
+        requires code { coded.now.code ≡ row_code self.now.tested.items (by_column coded.now.row.now.items) }
         ensures { IsPlacement part.now coded.now.pos coded.now.row.now.items (admits coded.now.q.now part.now coded.now.pos (by_column coded.now.row.now.items)) result }
     {
-        if !self.may_admit(coded, part, i) {
-            return Placement::Outside;
-        }
-        match self.listed_placement(coded, part, i) {
-            Some(placement) => placement,
-            None => placement_of(
-                coded.q,
-                part,
-                prepared,
-                self.is_injective,
-                coded.pos,
-                coded.row,
-            ),
+        let entry = self.entry(coded.q, coded.parts, coded.pos, i);
+        if entry.code == coded.code {
+            self.coded_placement(coded, part, prepared, i, entry)
+        } else {
+            Placement::Outside
         }
     }
+}
+
+// Whether a row meets these conditions.
+fn are_met(row: &[i64], conditions: &[LocalCondition]) -> bool
+    ensures { result ≡ list_all (meets_local (alone (by_column row.now))) conditions.now }
+{
+    conditions
+        .iter()
+        .all(|condition| meets_local(row, *condition))
 }
 
 // The cell where a row stands, where that is told.
@@ -396,153 +408,32 @@ fn mask_for(parts: u32) -> u32
     }
 }
 
-// Whether parts ask for different signs of the pair of a number, so that it tells them from each other.
-fn is_telling(parts: &PartPlans, i: u8) -> bool {
-    let count = parts.len();
-    'parts: for k in 1..count {
-        if sign_of_part(parts.get(k), i) != sign_of_part(parts.get(k - 1), i) {
-            return true;
-        }
-    }
-    false
-}
-
-// Whether the number of a pair is marked.
-fn is_marked(marks: &[bool], i: u8) -> bool
-    ensures { result ≡ slice_index_or marks.now i false }
-{
-    marks.get(usize::from(i)).copied().unwrap_or(false)
-}
-
-// Whether a pair is of the stream at a place, and is needed or tells parts from each other.
-fn is_test(parts: &PartPlans, marks: &[bool], place: u8, pair: Pair, i: u8) -> bool
-    ensures local { result ≡ true → is_within place pair.left pair.right ≡ true }
-    ensures key_pairs { is_within place pair.left pair.right ≡ true → IsMarked marks.now i → result ≡ true }
-{
-    is_within(usize::from(place), pair) && (is_marked(marks, i) || is_telling(parts, i))
-}
-
-// The numbers of the pairs of the stream at a place that are needed, or by which the parts are told from each other.
-fn tests_at(q: &Query, parts: &PartPlans, marks: &[bool], place: u8) -> ArrayVec<u8, 114>
-    ensures local { All (IsLocal (pairs q.now) place) result.items }
-    ensures key_pairs { HasKeyPairs (pairs q.now) marks.now place result.items }
-{
-    let mut tests: ArrayVec<u8, 114> = ArrayVec::new();
-    let pairs = q.pairs().as_slice();
-    'pairs: for (i, pair) in pairs.iter().enumerate() {
-        if is_test(parts, marks, place, *pair, i as u8) {
-            tests.push(i as u8);
-        }
-    }
-    tests
-}
-
-// Whether signs are so few that no two lists of them have one code.
-fn are_few(tests: &[u8]) -> bool
-    ensures { result ≡ true → length tests.now ≤ 20 }
-{
-    tests.len() <= 20
-}
-
-// Whether a code of the signs at these pairs is exact.
-fn is_exact(key_pairs: &KeyPairs, tests: &[u8]) -> bool
-    ensures is_complete { result ≡ true → key_pairs.now.is_complete ≡ true }
-    ensures few { result ≡ true → length tests.now ≤ 20 }
-{
-    key_pairs.is_complete && are_few(tests)
-}
-
-// No pair, and a code that tells nothing.
-fn no_tests() -> Tests
-    ensures numbers { result.numbers.items ≡ [] }
-    ensures is_injective { result.is_injective ≡ false }
-{
-    Tests {
-        numbers: ArrayVec::new(),
-        is_injective: false,
-    }
-}
-
-// The numbers of the pairs that are tested at a place, and whether a code of their signs is exact. Few parts need no code that is not, and parts
-// that have not a sign for each pair have none.
-fn tests_for(q: &Query, parts: &PartPlans, key_pairs: &KeyPairs, place: u8) -> Tests
-    requires complete { key_pairs.now.is_complete ≡ true → AreKeyPairs (pairs q.now) parts.now key_pairs.now.marks }
-    requires whole { key_pairs.now.is_whole ≡ true → AreWhole (pairs q.now) parts.now }
-    ensures local { All (IsLocal (pairs q.now) place) result.numbers.items }
-    ensures signed { AreSigned parts.now result.numbers.items }
-    ensures is_injective { result.is_injective ≡ true → TellAll (pairs q.now) parts.now place result.numbers.items }
-{
-    if !key_pairs.is_whole {
-        return no_tests();
-    }
-    let numbers = tests_at(q, parts, &key_pairs.marks, place);
-    let is_injective = is_exact(key_pairs, numbers.as_slice());
-    if !is_injective && mask_for(parts.len()) == 0 {
-        return no_tests();
-    }
-    Tests {
-        numbers,
-        is_injective,
-    }
-}
-
 // The codes of the parts.
-fn codes_of(alloc: Global, parts: &PartPlans, tests: &[u8]) -> Result<Vec<u32>, AllocError>
-    ensures { IfOk result (λ codes. codes.items ≡ codes_of parts.now tests.now) }
+#[tactic(auto, using(crate::proofs::Coded::codes_more))]
+fn codes_of(alloc: Global, signs: &[Signs]) -> Result<Vec<u32>, AllocError>
+    ensures many { IfOk result (λ codes. length codes.items ≡ length signs.now) }
+    ensures codes { IfOk result (λ codes. codes.items ≡ map (λ s. code_after 0 s.items) signs.now) }
 {
-    let mut codes: Vec<u32> = Vec::with_capacity(alloc, parts.len() as usize)?;
-    'parts: for i in 0..parts.len() {
-        codes.push(code_of_part(parts.get(i), tests))?;
+    let mut codes: Vec<u32> = Vec::with_capacity(alloc, signs.len())?;
+    'parts: for part in signs {
+        codes.push(code_of(part.as_slice()))?;
     }
     Ok(codes)
 }
 
-// The pair of a number.
-fn pair_at(pairs: &[Pair], i: u8) -> Pair
-    requires { i < length pairs.now }
-    ensures { slice_get pairs.now i ≡ Some result }
-{
-    pairs[usize::from(i)]
+// The first part of each bucket, and the next part of the bucket of each part.
+#[derive(Drop)]
+struct Chains {
+    heads: Vec<u32>,
+    links: Vec<u32>,
 }
 
-// The pairs of these numbers.
-fn pairs_of(alloc: Global, pairs: &[Pair], tests: &[u8]) -> Result<Vec<Pair>, AllocError>
-    requires { All (λ i. i < length pairs.now) tests.now }
-    ensures { IfOk result (λ tested. AreOf pairs.now tests.now tested.items) }
+// The chains through the parts that have these codes.
+fn chains_of(alloc: Global, codes: &[u32], count: u32, mask: u32) -> Result<Chains, AllocError>
+    requires few { mask < 4096 }
+    requires codes { length codes.now ≡ count }
+    ensures { IfOk result (λ chains. AreLinked (map (λ code. bit_and code mask) codes.now) mask 0 chains.heads.items chains.links.items) }
 {
-    let mut tested: Vec<Pair> = Vec::with_capacity(alloc, tests.len())?;
-    'tests: for i in tests {
-        tested.push(pair_at(pairs, *i))?;
-    }
-    Ok(tested)
-}
-
-/// Returns the chains of the parts of a plan at a place of FROM. An error says that memory was not found.
-pub fn part_index_at(
-    alloc: Global,
-    q: &Query,
-    parts: &PartPlans,
-    prepared: &[Prepared],
-    key_pairs: &KeyPairs,
-    place: u8,
-) -> Result<PartIndex, AllocError>
-    requires here { place < length q.now.from }
-    requires bases { BeginBehind (length q.now.from) parts.now }
-    requires prepared { ArePrepared (pairs q.now) parts.now prepared.now }
-    requires key_pairs { key_pairs.now.is_complete ≡ true → AreKeyPairs (pairs q.now) parts.now key_pairs.now.marks }
-    requires whole { key_pairs.now.is_whole ≡ true → AreWhole (pairs q.now) parts.now }
-    ensures { IfOk result (λ part_index. IsPartIndex q.now parts.now place part_index) }
-{
-    let count = parts.len();
-    let Tests {
-        numbers,
-        is_injective,
-    } = tests_for(q, parts, key_pairs, place);
-    let tested = pairs_of(alloc, q.pairs().as_slice(), numbers.as_slice())?;
-    let codes = codes_of(alloc, parts, numbers.as_slice())?;
-    let owns = owners_at(alloc, q, parts, place)?;
-    let each = each_takes(q, parts, place, owns.as_slice());
-    let mask = mask_for(count);
     let mut heads: Vec<u32> = vec![in alloc; count; mask as usize + 1]?;
     let mut links: Vec<u32> = vec![in alloc; count; count as usize]?;
     let mut i = count;
@@ -552,16 +443,40 @@ pub fn part_index_at(
         links[i as usize] = heads[bucket];
         heads[bucket] = i;
     }
+    Ok(Chains { heads, links })
+}
+
+/// Returns the chains of the parts of a plan at a place of FROM. An error says that memory was not found.
+pub fn part_index_at(
+    alloc: Global,
+    q: &Query,
+    parts: &PartPlans,
+    prepared: &[Prepared],
+    place: u8,
+) -> Result<PartIndex, AllocError>
+    requires here { place < length q.now.from }
+    requires bases { BeginBehind (length q.now.from) parts.now }
+    requires prepared { ArePrepared (pairs q.now) parts.now prepared.now }
+    ensures { IfOk result (λ part_index. IsPartIndex q.now parts.now place part_index) }
+{
+    let count = parts.len();
+    let tested = tested_at(alloc, q, parts, prepared, place)?;
+    let codes = codes_of(alloc, tested.signs.as_slice())?;
+    let owns = owners_at(alloc, q, parts, place)?;
+    let each = each_takes(q, parts, place, owns.as_slice());
+    let mask = mask_for(count);
+    let Chains { heads, links } = chains_of(alloc, codes.as_slice(), count, mask)?;
+    let remaining = remaining_at(alloc, q, parts, prepared, place, &tested, links.as_slice())?;
     let chained = Chained {
-        is_injective,
         codes: codes.as_slice(),
         links: links.as_slice(),
+        spans: remaining.spans.as_slice(),
     };
     let entries = entries_of(alloc, q, parts, prepared, place, &chained)?;
     Ok(PartIndex {
-        tests: numbers,
-        tested,
-        is_injective,
+        tested: tested.pairs,
+        conditions: remaining.conditions,
+        spans: remaining.spans,
         codes,
         owns,
         each,

@@ -4,11 +4,10 @@ ghost use Rattle.bq_model.specs.declared.plan.PartPlan.{PartPlan};
 ghost use Rattle.bq_model.specs.Parts.{pairs};
 ghost use Rattle.bq_model.specs.Numbers.{parts_of};
 ghost use Rattle.bq_synopsis.specs.Preparing.{IsPrepared};
-ghost use Rattle.bq_index.specs.PartIndex.{AreKeyPairs, AreWhole, IsPartIndex};
+ghost use Rattle.bq_index.specs.PartIndex.{IsPartIndex};
 ghost use Rattle.bq_index.specs.Owners.{BeginBehind};
 ghost use Rattle.bq_index.specs.Prepared.{ArePrepared, ArePartIndexes, IsPreparedPlan};
 
-use crate::key_pairs::{KeyPairs, key_pairs_of};
 use crate::part_index::{PartIndex, part_index_at};
 use bq_model::{PartPlans, Plan, Query};
 use bq_synopsis::{Prepared, prepare};
@@ -71,19 +70,16 @@ fn index_parts(
     q: &Query,
     parts: &PartPlans,
     prepared: &[Prepared],
-    key_pairs: &KeyPairs,
 ) -> Result<Vec<PartIndex>, AllocError>
     requires bases { BeginBehind (length q.now.from) parts.now }
     requires prepared { ArePrepared (pairs q.now) parts.now prepared.now }
-    requires key_pairs { key_pairs.now.is_complete ≡ true → AreKeyPairs (pairs q.now) parts.now key_pairs.now.marks }
-    requires whole { key_pairs.now.is_whole ≡ true → AreWhole (pairs q.now) parts.now }
     ensures many { IfOk result (λ all. length all.items ≡ length q.now.from) }
     ensures part_index { IfOk result (λ all. ArePartIndexes q.now parts.now all.items) }
 {
     let places = q.from().len() as u8;
     let mut all: Vec<PartIndex> = Vec::with_capacity(alloc, usize::from(places))?;
     'places: for place in 0..places {
-        all.push(part_index_at(alloc, q, parts, prepared, key_pairs, place)?)?;
+        all.push(part_index_at(alloc, q, parts, prepared, place)?)?;
     }
     Ok(all)
 }
@@ -94,8 +90,7 @@ fn prepare_over(alloc: Global, q: &Query, parts: &PartPlans) -> Result<PreparedP
     ensures { IfOk result (λ prepared. IsPreparedPlan q.now parts.now prepared) }
 {
     let prepared = prepare_parts(alloc, q, parts)?;
-    let key_pairs = key_pairs_of(q, parts, prepared.as_slice());
-    let part_index = index_parts(alloc, q, parts, prepared.as_slice(), &key_pairs)?;
+    let part_index = index_parts(alloc, q, parts, prepared.as_slice())?;
     Ok(PreparedPlan {
         parts: prepared,
         part_index,

@@ -1,22 +1,24 @@
-//! Parts that follow each other in a chain, ask for the same signs, and have the same dims at a place of FROM: a row stands in all of them or in
-//! none, and at the same place of their boxes, so that it is tested and placed once.
+//! Parts that follow each other in a chain, have the same code and the same remaining conditions, and the same dims at a place of FROM: a row stands
+//! in all of them or in none, and at the same place of their boxes, so that it is tested and placed once.
 ghost use Rattle.std.specs.Prelude.{◌≡◌, ◌<◌, true, length, slice_get, slice_index_or, Some, IfSome};
 ghost use Rattle.bq_model.specs.declared.plan.PartPlan.{PartPlan};
 ghost use Rattle.bq_model.specs.Parts.{pairs};
 ghost use Rattle.bq_synopsis.specs.Preparing.{IsPrepared};
 ghost use Rattle.bq_index.specs.Prepared.{ArePrepared};
-ghost use Rattle.bq_index.specs.Shifts.{HasNextCode, IsNextShifted};
+ghost use Rattle.bq_index.specs.Span.{no_span};
+ghost use Rattle.bq_index.specs.Shifts.{HasNextAlike, IsNextShifted};
 
 use crate::shift::{Shift, shift_between};
+use crate::span::{Span, is_span};
 use bq_model::{PartPlans, Query};
 use bq_synopsis::Prepared;
 
-/// Whether the codes of parts are exact, these codes, and the next part of each part's bucket.
+/// The codes of parts, the next part of each part's bucket, and the conditions that a part's code does not tell.
 #[derive(Clone, Copy)]
 pub struct Chained<'a> {
-    pub is_injective: bool,
     pub codes: &'a [u32],
     pub links: &'a [u32],
+    pub spans: &'a [Span],
 }
 
 /// Returns what a part is asked of every row.
@@ -44,21 +46,28 @@ fn have_code(codes: &[u32], i: u32, next: u32) -> bool
     codes[i as usize] == codes[next as usize]
 }
 
-/// Returns whether the next part of a part's bucket has the same code, and this is exact.
-pub fn has_next_code(parts: &PartPlans, chained: &Chained<'_>, i: u32) -> bool
+// Whether the same conditions remain of two parts.
+fn have_span(spans: &[Span], i: u32, next: u32) -> bool
+    requires inside { i < length spans.now }
+    requires next { next < length spans.now }
+    ensures { result ≡ true → slice_index_or spans.now i no_span ≡ slice_index_or spans.now next no_span }
+{
+    is_span(spans[i as usize], spans[next as usize])
+}
+
+/// Returns whether the next part of a part's bucket has the same code and the same remaining conditions.
+pub fn has_next_alike(parts: &PartPlans, chained: &Chained<'_>, i: u32) -> bool
     requires inside { i < length parts.now }
     requires codes { length chained.now.codes.now ≡ length parts.now }
     requires links { length chained.now.links.now ≡ length parts.now }
-    ensures { result ≡ true → HasNextCode parts.now chained.now.is_injective chained.now.codes.now chained.now.links.now i }
+    requires spans { length chained.now.spans.now ≡ length parts.now }
+    ensures { result ≡ true → HasNextAlike parts.now chained.now.codes.now chained.now.links.now chained.now.spans.now i }
 {
     let next = chained.links[i as usize];
-    if !chained.is_injective {
-        return false;
-    }
     if next >= parts.len() {
         return false;
     }
-    have_code(chained.codes, i, next)
+    have_code(chained.codes, i, next) && have_span(chained.spans, i, next)
 }
 
 /// Returns how many cells later the box of the next part begins, where a row stands at the same place of both.
@@ -74,9 +83,10 @@ pub fn shift_at(
     requires prepared { ArePrepared (pairs q.now) parts.now prepared.now }
     requires codes { length chained.now.codes.now ≡ length parts.now }
     requires links { length chained.now.links.now ≡ length parts.now }
-    ensures { IfSome result (λ shift. IsNextShifted parts.now place chained.now.is_injective chained.now.codes.now chained.now.links.now i shift) }
+    requires spans { length chained.now.spans.now ≡ length parts.now }
+    ensures { IfSome result (λ shift. IsNextShifted parts.now place chained.now.codes.now chained.now.links.now chained.now.spans.now i shift) }
 {
-    if !has_next_code(parts, chained, i) {
+    if !has_next_alike(parts, chained, i) {
         return None;
     }
     let next = chained.links[i as usize];

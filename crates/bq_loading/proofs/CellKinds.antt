@@ -13,7 +13,7 @@ use Rattle.bq_model.specs.declared.plan.Plan.TheVariants as variants
 use Rattle.bq_model.specs.Query.{QueryValue}
 use Rattle.bq_model.specs.Plan.{stream_at}
 use Rattle.bq_model.specs.Sharing.{Box, box_at, size_in, sizes_in, kept_boxes}
-use Rattle.bq_model.specs.Serving.{KeepsStreams, IsServingPlan}
+use Rattle.bq_model.specs.Serving.{KeepsStreams}
 use Rattle.bq_model.specs.Numbers.{parts_of}
 use Rattle.bq_model.proofs.Has.{Has, first, later, Has-append_right, Has-from_contains, Contains-from_has, Has-flat_map, Has-flat_map_from}
 use Rattle.bq_laws.specs.Sharing.{Begins, IsCovered, AreBoxesOf}
@@ -23,7 +23,7 @@ use Rattle.bq_laws.proofs.SameBoxes.{are-same, same-size, sizes-cons}
 use Rattle.bq_laws.proofs.PlanBoxes.{plans-have-boxes}
 use Rattle.bq_laws.proofs.Walking.{serving-keep}
 use Rattle.bq_loading.proofs.PlanBoxes.{no_boxes}
-use Rattle.bq_loading.specs.Loadable.{kind_at, kind_in, has_cell}
+use Rattle.bq_loading.specs.Loadable.{IsBasedPlan, kind_at, kind_in, has_cell}
 
 -- a stream whose box has the cell of a number, and the kind of its cells
 pub record HasKind (streams : List StreamPlan) (i : ℕ) (kind : Kind) : Type 0 where
@@ -185,9 +185,9 @@ unfolding kind_at
 kind-none-told shared q p i is =
     ap (λ (bs : List Box). kind_at bs i) (sym (no_boxes shared q)) ∙ ap (λ (o : Plan). kind_at (kept_boxes shared q (parts_of o)) i) (sym is)
 
-pub kind-plan-told : (shared : Bool) (q : QueryValue) (p : Plan) (parts : List PartPlan) (numbers : Numbers) (i : ℕ) → p ≡ variants.Parts parts numbers → IsServingPlan shared q p
+pub kind-plan-told : (shared : Bool) (q : QueryValue) (p : Plan) (parts : List PartPlan) (numbers : Numbers) (i : ℕ) → p ≡ variants.Parts parts numbers → IsBasedPlan shared q p
     → kind_in (flat_map (λ (part : PartPlan). part.streams.items) parts) i ≡ kind_at (kept_boxes shared q (parts_of p)) i
 kind-plan-told shared q p parts numbers i is own =
-    let of = subst (IsServingPlan shared q) is own in
+    let of = subst (IsBasedPlan shared q) is own in
     kind-told q parts (serving-keep q parts of.1.serves) (kept_boxes shared q parts) (plans-have-boxes shared q parts of.2) i
     ∙ ap (λ (o : Plan). kind_at (kept_boxes shared q (parts_of o)) i) (sym is)

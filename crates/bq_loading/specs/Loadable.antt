@@ -1,12 +1,21 @@
 -- What a number that a checkpoint tells may fill a cell with, and which tuples may be told.
-use Rattle.std.specs.Prelude.{Bool, true, false, ℕ, ◌-◌, ◌+◌, ◌&&◌, nat_lt, nat_le, int_le, ℤ, pos, nat_abs, Option, Some, None, List, [], ◌∷◌, if◌then◌else◌}
+use Rattle.std.specs.Prelude.{Bool, true, false, IsTrue, IsFalse, ℕ, ◌-◌, ◌+◌, ◌&&◌, nat_lt, nat_le, int_le, ℤ, pos, nat_abs, Option, Some, None, List, [], ◌∷◌, if◌then◌else◌}
 use Rattle.bq_model.specs.declared.cell.Cell.{Cell}
 use Rattle.std.specs.Ordering.{int_eq}
 use Rattle.bq_model.specs.declared.plan.Kind.{Kind}
 use Rattle.bq_model.specs.declared.plan.Dim.{Dim}
 use Rattle.bq_model.specs.declared.plan.StreamPlan.{StreamPlan}
+use Rattle.bq_model.specs.declared.plan.Plan.{Plan}
+use Rattle.bq_model.specs.declared.plan.Plan.TheVariants as plan
+use Rattle.bq_model.specs.Query.{QueryValue, is_filter}
 use Rattle.bq_model.specs.Plan.{stream_at}
+use Rattle.bq_model.specs.Serving.{IsServing, AreBased}
 use Rattle.bq_model.specs.Sharing.{Box, size_in}
+
+-- the parts of a plan serve the query and their boxes begin where they should, whatever its numbers; a filter has none
+abbrev pub IsBasedPlan : Bool → QueryValue → Plan → Type 0
+IsBasedPlan shared q plan.Filter = IsTrue (is_filter q)
+IsBasedPlan shared q (plan.Parts parts numbers) = IsFalse (is_filter q) × IsServing q parts × AreBased shared q parts
 
 abbrev pub is_empty : Cell → Bool
 is_empty Cell.Empty = true

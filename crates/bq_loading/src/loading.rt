@@ -7,12 +7,11 @@ ghost use Rattle.bq_model.specs.Parts.{pairs};
 ghost use Rattle.bq_model.specs.Tuples.{is_same};
 ghost use Rattle.bq_model.specs.Ranges.{range_of, at_column, all_tuples};
 ghost use Rattle.bq_model.specs.Numbers.{parts_of};
-ghost use Rattle.bq_model.specs.Serving.{IsServingPlan};
 ghost use Rattle.bq_model.specs.Sharing.{kept_boxes, sizes_in};
 ghost use Rattle.bq_pool.specs.Extents.{cells_of, with_cells, IsLive};
 ghost use Rattle.bq_answers.specs.Entries.{with_entries, added, settled, tuples_of, Fits};
 ghost use Rattle.bq_synopsis.specs.Preparing.{IsPrepared};
-ghost use Rattle.bq_loading.specs.Loadable.{is_empty, kind_at, filled_cell, has_cell, kind_in, are_inside};
+ghost use Rattle.bq_loading.specs.Loadable.{IsBasedPlan, is_empty, kind_at, filled_cell, has_cell, kind_in, are_inside};
 ghost use Rattle.bq_index.specs.Prepared.{IsPreparedPlan};
 
 use crate::ranges::{different, put_values, range};
@@ -61,7 +60,7 @@ fn kind_among(parts: &PartPlans, i: u32) -> Option<Kind>
 
 // The kind of the cell of a number, where the query keeps that cell. The boxes that have a cell are the same, so the first of them tells it.
 fn kind_of(q: &Query, shared: bool, plan: &Plan, i: u32) -> Option<Kind>
-    requires { IsServingPlan shared q.now plan.now }
+    requires { IsBasedPlan shared q.now plan.now }
     ensures { result ≡ kind_at (kept_boxes shared q.now (parts_of plan.now)) i }
 {
     // Named for the proof alone: the contract speaks of them.
@@ -107,7 +106,7 @@ pub fn cell_to_load(
     i: u32,
     v: i64,
 ) -> Option<Cell>
-    requires { IsServingPlan shared q.now plan.now }
+    requires { IsBasedPlan shared q.now plan.now }
     ensures { result ≡ option_and_then (λ kind. filled_cell given kind v) (kind_at (kept_boxes shared q.now (parts_of plan.now)) i) }
 {
     match kind_of(q, shared, plan, i) {

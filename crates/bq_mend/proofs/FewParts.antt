@@ -1,5 +1,5 @@
 -- Whether a query meets all conditions, by its parts.
-use Rattle.std.proofs.Common.{◌≡◌, ℕ, ◌≤◌, List, length, true, false, IsTrue, IsFalse, inl, inr, refl, arith}
+use Rattle.std.proofs.Common.{◌≡◌, ℕ, ◌≤◌, List, length, true, false, IsFalse, inl, inr, refl, arith}
 use Rattle.std.proofs.lemmas.List.{length-map}
 use Rattle.std.specs.declared.option.Option.TheVariants.{None, Some}
 use Rattle.bq_model.specs.declared.part.Part.{Part}

@@ -8,7 +8,7 @@ use Rattle.bq_model.specs.declared.plan.Plan.{Plan}
 use Rattle.bq_model.specs.declared.plan.Plan.TheVariants as plans
 use Rattle.bq_model.specs.Query.{QueryValue}
 use Rattle.bq_model.specs.Plan.{stream_at}
-use Rattle.bq_model.specs.Serving.{KeepsStreams, IsServingPlan}
+use Rattle.bq_model.specs.Serving.{KeepsStreams}
 use Rattle.bq_model.specs.Numbers.{parts_of}
 use Rattle.bq_model.specs.Sharing.{Box, box_at, size_in, sizes_in, kept_boxes}
 use Rattle.bq_model.proofs.Has.{Has, first, Has-append_right, Contains-from_has}
@@ -16,6 +16,7 @@ use Rattle.bq_laws.specs.Sharing.{Begins, IsCovered, AreBoxesOf}
 use Rattle.bq_laws.proofs.PlanBoxes.{plans-have-boxes}
 use Rattle.bq_laws.proofs.SameBoxes.{are-same, same-size, sizes-cons}
 use Rattle.bq_laws.proofs.Walking.{serving-keep}
+use Rattle.bq_forms.specs.Forms.{IsServingForm}
 use Rattle.bq_loading.specs.Loadable.{kind_at}
 
 less : (n m : ℕ) → n < m → nat_lt n m ≡ true
@@ -69,6 +70,6 @@ none false q = refl
 none true q = refl
 
 -- each cell of a plan that serves has its kind
-pub kind_there : (shared : Bool) (q : QueryValue) (p : Plan) → IsServingPlan shared q p → (n : ℕ) → n < sizes_in (kept_boxes shared q (parts_of p)) → IsKindAt (parts_of p) (kept_boxes shared q (parts_of p)) n
+pub kind_there : (shared : Bool) (q : QueryValue) (p : Plan) → IsServingForm shared q p → (n : ℕ) → n < sizes_in (kept_boxes shared q (parts_of p)) → IsKindAt (parts_of p) (kept_boxes shared q (parts_of p)) n
 kind_there shared q plans.Filter is n below = absurd (let e = none shared q in omega (arith, e, below))
 kind_there shared q (plans.Parts list numbers) is n below = of_boxes q list (serving-keep q list is.1.serves) (kept_boxes shared q list) (plans-have-boxes shared q list is.2) n below

@@ -20,3 +20,4 @@ pub mod Sparing
 pub mod Spared
 pub mod Fresh
 pub mod Ended
+pub mod Passing

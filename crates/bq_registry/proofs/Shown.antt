@@ -1,13 +1,12 @@
 -- What runs the live queries, by the rows that were counted.
-use Rattle.std.proofs.Common.{◌≡◌, ℕ, zero, suc, ◌+◌, ◌<◌, ◌≤◌, List, [], ◌∷◌, ◌++◌, length, refl, sym, ap, ◌∙◌, subst, arith, slice_index_or, slice_set, All, inl, inr}
+use Rattle.std.proofs.Common.{◌≡◌, ℕ, zero, suc, ◌+◌, ◌<◌, List, [], ◌∷◌, ◌++◌, length, refl, sym, ap, ◌∙◌, subst, arith, slice_index_or, slice_set, All}
 use Rattle.std.specs.List.{remove}
-use Rattle.std.proofs.lemmas.Bool.{cases_eq}
-use Rattle.std.proofs.lemmas.List.{length-map, get_or-map, get_or_default, get_or-set_same, get_or-set_other}
+use Rattle.std.proofs.lemmas.List.{length-map, get_or-map}
 use Rattle.bq_executor.specs.Executor.{ExecutorValue, with_given}
 use Rattle.bq_registry.specs.declared.queries.Runner.{Runner}
 use Rattle.bq_registry.specs.Live.{Live, named, live_of}
 use Rattle.bq_registry.specs.Counted.{run_to, shown, IsCounted}
-use Rattle.bq_registry.proofs.SideBySide.{live_in, live_set, size_as}
+use Rattle.bq_registry.proofs.SideBySide.{live_in, size_as}
 
 -- as many as there are of them
 pub sized : (rows : ℕ) (names : List (List ℕ)) (rs : List Runner) → length names ≡ length rs → length names ≡ length (shown rows rs)

@@ -13,7 +13,7 @@ use Rattle.bq_laws.proofs.SharedCells.{into-size}
 use Rattle.bq_answers.specs.Entries.{Entry, AllAbove, Ascends, tuples_of}
 use Rattle.bq_pool.specs.Extents.{PoolValue}
 use Rattle.bq_executor.specs.Executor as executor
-use Rattle.bq_executor.specs.Executor.{ExecutorValue, parts_in, list_in, cells_in, tuples_in, most_answers}
+use Rattle.bq_executor.specs.Executor.{ExecutorValue, parts_in, list_in, cells_in, tuples_in}
 use Rattle.bq_executor.specs.Standing.{CountsUpto, AreKept}
 use Rattle.bq_executor.specs.Bases.{StandsFrom, kept_in}
 use Rattle.bq_executor.proofs.PlanFacts.{serving_in}

@@ -1,8 +1,11 @@
 -- Which live queries a row may be spared.
-use Rattle.std.proofs.Common.{◌≡◌, ◌≢◌, ℕ, ℤ, ◌<◌, ◌≤◌, List, [], ◌∷◌, ◌++◌, length, slice_set, sym, ap, ◌∙◌, subst, arith, slice_index_or, slice_get, bit_or, Bool, true, false, replicate, Option, Some, None, inl, inr}
+use Rattle.std.proofs.Common.{◌≡◌, ◌≢◌, ℕ, ℤ, ◌<◌, ◌≤◌, List, [], ◌∷◌, ◌++◌, length, slice_set, sym, ap, ◌∙◌, subst, arith, slice_index_or, slice_get, bit_or, true, false, refl, replicate, Option, Some, None, inl, inr}
 use Rattle.std.specs.Int.{bit_at}
+use Rattle.std.specs.List.{list_all}
+use Rattle.std.specs.Option.{is_none}
 use Rattle.std.proofs.lemmas.Bool.{cases_eq, cases_lt}
 use Rattle.std.proofs.lemmas.List.{get_or_append_left, length-append, get_or-set_same, get_or-set_other, length-set, get_or-replicate, get_or_past, length-replicate}
+use Rattle.std.proofs.lemmas.List.Folds.{list_all_at}
 use Rattle.std.proofs.Math.Seq.{get_or-append_seam}
 use Rattle.std.proofs.lemmas.Nat.Bits.{bit_at_or, bit_at-lt}
 use Rattle.std.proofs.lemmas.Option.{slice_get_within, slice_get-get_or, get_or_from_slice_get}
@@ -17,8 +20,10 @@ use Rattle.bq_executor.specs.Executor.{ExecutorValue, arrival, with_given}
 use Rattle.bq_filter.specs.Prefilter.{IsRefused}
 use Rattle.bq_executor.specs.Passing.{IsBoxFor}
 use Rattle.bq_registry.specs.declared.concerned.Concerned.{Concerned}
+use Rattle.bq_registry.specs.declared.concerned.Listing.{Listing}
+use Rattle.bq_registry.specs.declared.concerned.Listing.TheVariants.{Unlisted, Spared}
 use Rattle.bq_registry.specs.Live.{Live}
-use Rattle.bq_registry.specs.Concerned.{IsListed, IsTold, MayConcern}
+use Rattle.bq_registry.specs.Concerned.{AreBoxes, IsListed, IsTold, MayConcern, SparesStream}
 use Rattle.bq_registry.specs.Waiting.{AreQuiet}
 use Rattle.bq_registry.specs.RowByQuery.{AreSpared}
 
@@ -58,6 +63,24 @@ listed_concerns word stream row c live listed held only =
     by q p k off None there is = is row
     by q p k off (Some box) there is = is row (λ inside. let on = held listed.boxes listed.are k box there inside in omega (arith, on, off))
 
+-- where there is no box, each row is refused
+none_at : (boxes : List (Option QueryBox)) (k : ℕ) → k < length boxes → list_all is_none boxes ≡ true → slice_index_or boxes k None ≡ None
+none_at boxes k within none = by (slice_index_or boxes k None) refl
+  where
+    true_not_false : true ≡ false → ⊥
+    true_not_false e = cc
+
+    by : (own : Option QueryBox) → slice_index_or boxes k None ≡ own → own ≡ None
+    by None e = refl
+    by (Some box) e = absurd (true_not_false (sym none ∙ list_all_at is_none boxes k None within (ap is_none e)))
+
+pub none_spares : (stream : ℕ) (boxes : List (Option QueryBox)) (live : List Live) → AreBoxes stream boxes live → list_all is_none boxes ≡ true → SparesStream stream live
+none_spares stream boxes live own none = λ k l within values.
+    let size = own.size in
+    let here : k < length boxes = omega (arith, within, size) in
+    let there : slice_get boxes k ≡ Some None = slice_get-get_or boxes k None here ∙ ap (λ (o : Option QueryBox). Some o) (none_at boxes k here none) in
+    own.each k l None there values
+
 -- live queries that ask the same by the same plans have the same candidates
 pub told_kept : (c : Concerned) (before after : List Live) → length after ≡ length before
     → ((i : ℕ) (l : Live) → i < length before → (slice_index_or after i l).executor.query ≡ (slice_index_or before i l).executor.query)
@@ -81,6 +104,10 @@ told_kept c before after size asks plans told = record {
         };
         are = was.are;
       });
+  spared = λ stream is k l a values.
+      (let within : k < length before = omega (arith, a, size) in
+      subst (λ (p : Plan). IsRefused (slice_index_or after k l).executor.query p (arrival stream values)) (sym (plans k l within))
+      (subst (λ (q : QueryValue). IsRefused q (slice_index_or before k l).executor.plan (arrival stream values)) (sym (asks k l within)) (told.spared stream is k l within values)));
 }
 
 -- one more box
@@ -108,55 +135,72 @@ boxes_more stream live boxes new own n e is size runs each box k l o there =
           (subst (λ (b : Option QueryBox). IsBoxFor e.query e.plan stream b) same box))
     ]
 
--- where the candidates of no stream are listed
-pub told_none : (c : Concerned) (live : List Live) → length c.streams.items ≤ 16 → c.listed ≡ replicate 256 false → IsTold c live
+-- where nothing is known of the rows of any stream
+pub told_none : (c : Concerned) (live : List Live) → length c.streams.items ≤ 16 → c.listings ≡ replicate 256 Unlisted → IsTold c live
 told_none c live few none = record {
   streams = few;
-  size = ap (λ (bs : List Bool). length bs) none ∙ length-replicate 256 false;
-  within = λ stream on. absurd (off stream on);
-  listed = λ stream own on there. absurd (off stream on);
+  size = ap (λ (ls : List Listing). length ls) none ∙ length-replicate 256 Unlisted;
+  within = λ stream known. absurd (known (unlisted stream));
+  listed = λ stream own known there. absurd (known (unlisted stream));
+  spared = λ stream is. absurd (other (sym (unlisted stream) ∙ is));
 }
   where
-    all_false : (n stream : ℕ) → slice_index_or (replicate n false) stream false ≡ false
-    all_false n stream = elim (cases_lt stream n) [
-      | inl h ↦ get_or-replicate n stream false false h
-      | inr h ↦ get_or_past (replicate n false) stream false (let size = length-replicate n false in omega (arith, size, h))
+    all_unlisted : (n stream : ℕ) → slice_index_or (replicate n Unlisted) stream Unlisted ≡ Unlisted
+    all_unlisted n stream = elim (cases_lt stream n) [
+      | inl h ↦ get_or-replicate n stream Unlisted Unlisted h
+      | inr h ↦ get_or_past (replicate n Unlisted) stream Unlisted (let size = length-replicate n Unlisted in omega (arith, size, h))
     ]
 
-    true_not_false : true ≡ false → ⊥
-    true_not_false e = cc
+    unlisted : (stream : ℕ) → slice_index_or c.listings stream Unlisted ≡ Unlisted
+    unlisted stream = ap (λ (ls : List Listing). slice_index_or ls stream Unlisted) none ∙ all_unlisted 256 stream
 
-    off : (stream : ℕ) → slice_index_or c.listed stream false ≡ true → ⊥
-    off stream on = true_not_false (sym on ∙ ap (λ (bs : List Bool). slice_index_or bs stream false) none ∙ all_false 256 stream)
+    other : Unlisted ≡ Spared → ⊥
+    other e = cc
+
+-- what is noted of a stream is known of it
+noted_there : (before after : List Listing) (n : ℕ) (mark : Listing) → n < length before → after ≡ slice_set before n mark → slice_index_or after n Unlisted ≡ mark
+noted_there before after n mark inside is = ap (λ (ls : List Listing). slice_index_or ls n Unlisted) is ∙ get_or-set_same before n mark Unlisted inside
+
+pub noted_known : (before : List Listing) (n s : ℕ) (mark : Listing) → n < length before → n ≡ s → mark ≢ Unlisted → slice_index_or (slice_set before n mark) s Unlisted ≢ Unlisted
+noted_known before n s mark inside e known is =
+    known (sym (noted_there before (slice_set before n mark) n mark inside refl) ∙ ap (λ (k : ℕ). slice_index_or (slice_set before n mark) k Unlisted) e ∙ is)
 
 -- one more stream is listed
-pub lists_one : (live : List Live) (before after : Concerned) (n : ℕ) (new : Candidates) → n < length before.streams.items → IsTold before live → IsListed n new live
-    → after.streams.items ≡ slice_set before.streams.items n new → after.listed ≡ slice_set before.listed n true → IsTold after live
-lists_one live before after n new inside told own is marked =
+pub lists_one : (live : List Live) (before after : Concerned) (n : ℕ) (new : Candidates) (mark : Listing) → n < length before.streams.items → IsTold before live → IsListed n new live → (mark ≡ Spared → SparesStream n live)
+    → after.streams.items ≡ slice_set before.streams.items n new → after.listings ≡ slice_set before.listings n mark → IsTold after live
+lists_one live before after n new mark inside told own spares is marked =
     let now = before.streams.items in
     let size = ap (λ (xs : List Candidates). length xs) is in
     let same = length-set now n new in
     let few = told.streams in
-    let was : (s : ℕ) → s ≢ n → slice_index_or after.listed s false ≡ true → slice_index_or before.listed s false ≡ true
-    = λ s ne on. sym (get_or-set_other before.listed n s true false ne) ∙ sym (ap (λ (bs : List Bool). slice_index_or bs s false) marked) ∙ on in
+    let many = told.size in
+    let other : (s : ℕ) → s ≢ n → slice_index_or after.listings s Unlisted ≡ slice_index_or before.listings s Unlisted
+    = λ s ne. ap (λ (ls : List Listing). slice_index_or ls s Unlisted) marked ∙ get_or-set_other before.listings n s mark Unlisted ne in
+    let was : (s : ℕ) → s ≢ n → slice_index_or after.listings s Unlisted ≢ Unlisted → slice_index_or before.listings s Unlisted ≢ Unlisted
+    = λ s ne known e. known (other s ne ∙ e) in
+    let there : slice_index_or after.listings n Unlisted ≡ mark = noted_there before.listings after.listings n mark (omega (arith, inside, few, many)) marked in
     record {
       streams = omega (arith, size, same, few);
-      size = ap (λ (bs : List Bool). length bs) marked ∙ length-set before.listed n true ∙ told.size;
-      within = λ s on. elim (cases_eq s n) [
+      size = ap (λ (ls : List Listing). length ls) marked ∙ length-set before.listings n mark ∙ told.size;
+      within = λ s known. elim (cases_eq s n) [
         | inl e ↦ omega (arith, e, inside, size, same)
-        | inr ne ↦ (let w = told.within s (was s ne on) in omega (arith, w, size, same))
+        | inr ne ↦ (let w = told.within s (was s ne known) in omega (arith, w, size, same))
       ];
-      listed = λ s c on there.
-          (let e : slice_get (slice_set now n new) s ≡ Some c = ap (λ (xs : List Candidates). slice_get xs s) (sym is) ∙ there in
+      listed = λ s c known found.
+          (let e : slice_get (slice_set now n new) s ≡ Some c = ap (λ (xs : List Candidates). slice_get xs s) (sym is) ∙ found in
           let at : slice_index_or (slice_set now n new) s c ≡ c = get_or_from_slice_get (slice_set now n new) s c c e in
           elim (cases_eq s n) [
-            | inl same ↦
-                let mine : new ≡ c = sym (get_or-set_same now n new c inside) ∙ ap (λ (k : ℕ). slice_index_or (slice_set now n new) k c) (sym same) ∙ at in
-                subst (λ (k : ℕ). IsListed k c live) (sym same) (subst (λ (z : Candidates). IsListed n z live) mine own)
+            | inl here ↦
+                let mine : new ≡ c = sym (get_or-set_same now n new c inside) ∙ ap (λ (k : ℕ). slice_index_or (slice_set now n new) k c) (sym here) ∙ at in
+                subst (λ (k : ℕ). IsListed k c live) (sym here) (subst (λ (z : Candidates). IsListed n z live) mine own)
             | inr ne ↦
                 let within = slice_get_within (slice_set now n new) s c e in
                 let all = length-set now n new in
-                told.listed s c (was s ne on)
+                told.listed s c (was s ne known)
                 (slice_get-get_or now s c (omega (arith, within, all)) ∙ ap (λ (z : Candidates). Some z) (sym (get_or-set_other now n s new c ne) ∙ at))
           ]);
+      spared = λ s spare. elim (cases_eq s n) [
+        | inl here ↦ subst (λ (k : ℕ). SparesStream k live) (sym here) (spares (sym there ∙ ap (λ (k : ℕ). slice_index_or after.listings k Unlisted) (sym here) ∙ spare))
+        | inr ne ↦ told.spared s (sym (other s ne) ∙ spare)
+      ];
     }

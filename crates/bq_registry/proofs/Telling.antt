@@ -8,7 +8,7 @@ use Rattle.bq_model.specs.declared.plan.Numbers.{Numbers}
 use Rattle.bq_model.specs.declared.plan.PartPlan.{PartPlan}
 use Rattle.bq_model.specs.Query.{QueryValue, is_filter}
 use Rattle.bq_model.specs.Numbers.{page_count, pages_of, numbers_of}
-use Rattle.bq_model.specs.Verdict.{most, first_above, verdict_after, verdict_by}
+use Rattle.bq_model.specs.Verdict.{first_above, verdict_after, verdict_by}
 use Rattle.bq_model.specs.Verdict as model
 use Rattle.bq_forms.specs.Forms as forms
 use Rattle.bq_forms.specs.Forms.{MeetsForm, IsFormPlan, IsFormVerdict}

@@ -1,9 +1,12 @@
 //! Which live queries a row may concern.
-ghost use Rattle.std.specs.Prelude.{◌≡◌, ◌<◌, ◌≤◌, ℕ, List, [], length, slice_index_or, true, false, IfOk};
+ghost use Rattle.std.specs.Prelude.{◌≡◌, ◌≢◌, ◌<◌, ◌≤◌, ℕ, List, [], length, slice_index_or, IfOk, IsFalse, IsTrue};
 ghost use Rattle.std.specs.Int.{bit_at};
+ghost use Rattle.std.specs.List.{list_all};
+ghost use Rattle.std.specs.Option.{is_none};
 ghost use Rattle.bq_executor.specs.Executor.{arrival};
 ghost use Rattle.bq_registry.specs.Live.{Live};
-ghost use Rattle.bq_registry.specs.Concerned.{AreBoxes, IsListed, IsTold, MayConcern};
+ghost use Rattle.bq_registry.specs.Concerned.{AreBoxes, IsListed, IsTold, MayConcern, SparesStream};
+ghost use Rattle.bq_registry.specs.declared.concerned.Listing.TheVariants as listing;
 
 use crate::queries::Queries;
 use arrayvec::ArrayVec;
@@ -14,12 +17,47 @@ use std::alloc::{AllocError, Global};
 /// The streams that there may be.
 const STREAMS: usize = 16;
 
-/// For each stream the candidates among the live queries, and for each number that a stream may have whether they are listed. Where live
-/// queries came or went, those of a stream are listed anew before its next row.
+/// What is known of the rows of a stream since live queries last came or went: nothing, or which live queries are candidates for them, or
+/// that each live query refuses each of them.
+#[derive(Clone, Copy)]
+pub enum Listing {
+    Unlisted,
+    Listed,
+    Spared,
+}
+
+impl Listing {
+    // Whether the candidates for the rows are listed.
+    fn is_listed(self) -> bool
+        ensures listed { IsTrue result → self ≢ listing.Unlisted }
+        ensures other { IsFalse result → self ≡ listing.Unlisted }
+    {
+        match self {
+            Listing::Unlisted => false,
+            Listing::Listed => true,
+            Listing::Spared => true,
+        }
+    }
+
+    // Whether each live query refuses each of the rows.
+    fn is_spared(self) -> bool
+        ensures spared { IsTrue result → self ≡ listing.Spared }
+        ensures other { IsFalse result → self ≢ listing.Spared }
+    {
+        match self {
+            Listing::Unlisted => false,
+            Listing::Listed => false,
+            Listing::Spared => true,
+        }
+    }
+}
+
+/// For each stream the candidates among the live queries, and for each number that a stream may have what is known of its rows. Where live
+/// queries came or went, the candidates of a stream are listed anew before its next row.
 #[derive(Drop)]
 pub struct Concerned {
     pub streams: Vec<Candidates>,
-    pub listed: [bool; 256],
+    pub listings: [Listing; 256],
 }
 
 /// Returns the bits of so many queries.
@@ -48,14 +86,33 @@ fn put_boxes(boxes: &mut ArrayVec<Option<QueryBox>, 64>, live: &Queries, stream:
     }
 }
 
-// Lists the candidates of a stream anew.
-fn list_stream(candidates: &mut Candidates, live: &Queries, stream: u8)
-    requires { length live.now ≤ 64 }
-    ensures { IsListed stream candidates.new live.now }
+// Whether there is no box.
+fn are_none(boxes: &[Option<QueryBox>]) -> bool
+    ensures { result ≡ list_all is_none boxes.now }
 {
+    boxes.iter().all(|own| own.is_none())
+}
+
+// Lists the candidates of a stream anew, and tells whether each live query refuses each of its rows.
+fn list_stream(candidates: &mut Candidates, live: &Queries, stream: u8) -> Listing
+    requires { length live.now ≤ 64 }
+    ensures listed { IsListed stream candidates.new live.now }
+    ensures spared { result ≡ listing.Spared → SparesStream stream live.now }
+    ensures known { result ≢ listing.Unlisted }
+{
+    if live.len() == 0 {
+        // The room for 64 boxes is not made.
+        candidates.rebuild(&[]);
+        return Listing::Spared;
+    }
     let mut boxes = ArrayVec::new();
     put_boxes(&mut boxes, live, stream);
     candidates.rebuild(boxes.as_slice());
+    if are_none(boxes.as_slice()) {
+        Listing::Spared
+    } else {
+        Listing::Listed
+    }
 }
 
 impl Concerned {
@@ -70,7 +127,7 @@ impl Concerned {
         }
         Ok(Concerned {
             streams,
-            listed: [false; 256],
+            listings: [Listing::Unlisted; 256],
         })
     }
 
@@ -80,37 +137,46 @@ impl Concerned {
         requires { length self.old.streams.items ≤ 16 }
         ensures { (live : List Live) → IsTold self.new live }
     {
-        self.listed = [false; 256];
+        self.listings = [Listing::Unlisted; 256];
     }
 
     // Whether the candidates of a stream are listed.
     #[inline(always)]
     fn is_listed(&self, stream: u8) -> bool
-        requires { length self.now.listed ≡ 256 }
-        ensures { result ≡ slice_index_or self.now.listed stream false }
+        requires { length self.now.listings ≡ 256 }
+        ensures listed { IsTrue result → slice_index_or self.now.listings stream listing.Unlisted ≢ listing.Unlisted }
+        ensures other { IsFalse result → slice_index_or self.now.listings stream listing.Unlisted ≡ listing.Unlisted }
     {
-        self.listed[usize::from(stream)]
+        self.listings[usize::from(stream)].is_listed()
+    }
+
+    /// Returns whether each live query is known to refuse each row of a stream.
+    #[inline(always)]
+    pub fn spares(&self, stream: u8) -> bool
+        requires { length self.now.listings ≡ 256 }
+        ensures spared { IsTrue result → slice_index_or self.now.listings stream listing.Unlisted ≡ listing.Spared }
+        ensures other { IsFalse result → slice_index_or self.now.listings stream listing.Unlisted ≢ listing.Spared }
+    {
+        self.listings[usize::from(stream)].is_spared()
     }
 
     // Lists the candidates of a stream anew.
-    #[tactic(auto, using(crate::proofs::Sparing::lists_one))]
     fn list_anew(&mut self, stream: u8, live: &Queries)
         requires few { length live.now ≤ 64 }
         requires stream { stream < length self.old.streams.items }
         requires told { IsTold self.old live.now }
         ensures told { IsTold self.new live.now }
-        ensures listed { slice_index_or self.new.listed stream false ≡ true }
+        ensures listed { slice_index_or self.new.listings stream listing.Unlisted ≢ listing.Unlisted }
     {
         let number = usize::from(stream);
-        list_stream(&mut self.streams[number], live, stream);
-        self.listed[number] = true;
+        self.listings[number] = list_stream(&mut self.streams[number], live, stream);
     }
 
     // Returns the candidates for a row of a stream of which they are listed.
     #[inline(always)]
     fn of_listed(&self, stream: u8, row: &Row, live: &Queries) -> Concerns
         requires told { IsTold self.now live.now }
-        requires listed { slice_index_or self.now.listed stream false ≡ true }
+        requires listed { slice_index_or self.now.listings stream listing.Unlisted ≢ listing.Unlisted }
         ensures { MayConcern result.word (arrival stream row.now.items) live.now }
     {
         let number = usize::from(stream);

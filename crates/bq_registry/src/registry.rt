@@ -10,7 +10,9 @@ ghost use Rattle.bq_executor.specs.Executor as running;
 ghost use Rattle.bq_executor.specs.Executor.{arrival, with_given};
 ghost use Rattle.bq_executor.specs.Loading.{loaded_given, loaded_cell, loaded_tuple};
 ghost use Rattle.bq_registry.specs.Live.{Live, LiveQuery, boxes_of, with_row, without, free_pages};
+ghost use Rattle.bq_registry.specs.Concerned.{SparesStream};
 ghost use Rattle.bq_registry.specs.Loaded.{LoadsAt};
+ghost use Rattle.bq_registry.specs.Passed.{passed};
 ghost use Rattle.bq_registry.specs.Registry.{IsSound, KeepQueries, waiting_text, most_cells, most_reads, most_writes};
 
 use crate::concerned::{Concerned, all_of};
@@ -222,6 +224,23 @@ impl Registry {
             within: concerns.within,
         };
         self.waiting = apply_to_all(&mut self.pool, &mut self.live, asked, stream, row, steps);
+    }
+
+    /// Returns whether each live query is known to refuse each row of a stream: one was taken since a live query last came or went.
+    #[inline(always)]
+    pub fn spares(&self, stream: u8) -> bool
+        ensures { IsTrue result → SparesStream stream self.now.live }
+    {
+        self.concerned.spares(stream)
+    }
+
+    /// Counts so many rows as given to each live query, which refuses them: all else is as before.
+    #[inline(always)]
+    pub fn pass(&mut self, rows: u64)
+        requires { All (λ l. l.executor.given + rows ≤ 2 ^ 40) self.old.live }
+        ensures { self.new ≡ passed rows self.old }
+    {
+        self.live.pass(rows);
     }
 
     /// Writes what waits, query by query in order of creation. Afterwards nothing waits, on a fault too, and the registry stands

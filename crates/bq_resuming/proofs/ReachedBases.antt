@@ -16,7 +16,6 @@ use Rattle.bq_model.specs.Merge.{merged_table}
 use Rattle.bq_model.specs.Numbers.{parts_of}
 use Rattle.bq_model.specs.Ranges.{all_tuples}
 use Rattle.bq_model.specs.Sharing.{Box, sizes_in}
-use Rattle.bq_model.specs.Serving.{IsServingPlan}
 use Rattle.bq_model.specs.Bases.{Base, first_base, kept_row}
 use Rattle.bq_model.proofs.Has.{Has, Has-from_contains, Contains-from_has}
 use Rattle.bq_laws.proofs.AnyCells.{waiting-fits}
@@ -24,6 +23,7 @@ use Rattle.bq_laws.proofs.OnePartFits.{has_cases}
 use Rattle.bq_laws.proofs.Order.{same-is}
 use Rattle.bq_laws.proofs.SharedCells.{into-size}
 use Rattle.bq_laws.proofs.Tests.{and-left, and-right, any_from, not_both}
+use Rattle.bq_forms.specs.Forms.{IsServingForm}
 use Rattle.bq_executor.specs.CellSteps.{HasParts}
 use Rattle.bq_loading.specs.Loadable.{is_empty, kind_at, filled_cell}
 use Rattle.bq_executor.specs.Loading.{loaded_given, loaded_cell, loaded_tuple}
@@ -75,7 +75,7 @@ module _ (q : QueryValue) (shared : Bool) (plan : Plan) where
   }
 
   -- the tuples after a row
-  module _ (within : IsWithinLimits q) (is : IsServingPlan shared q plan) where
+  module _ (within : IsWithinLimits q) (is : IsServingForm shared q plan) where
     future_inside : (p : Plan) → HasParts q p → q.distinct ≡ true → (cells : List Cell) (table : List (List ℤ)) (r : Arrival) (t : List ℤ)
         → Has (future q (parts_of p) (read_from cells) table r) t → Has (all_tuples q (parts_of p)) t
     future_inside plans.Filter has distinct cells table r t h = absurd (not_both q.distinct distinct (filter_plain q has))

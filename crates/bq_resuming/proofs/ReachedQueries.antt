@@ -17,21 +17,19 @@ use Rattle.bq_model.specs.declared.plan.PartPlan.{PartPlan}
 use Rattle.bq_model.specs.Verdict as verdicts
 use Rattle.bq_model.specs.Verdict.{first_above, verdict_after, verdict_by}
 use Rattle.bq_model.specs.Tuples.{is_before}
-use Rattle.bq_model.specs.Numbers.{parts_of, pages_of, page_count, answer_bound, numbers_of}
+use Rattle.bq_model.specs.Numbers.{parts_of, pages_of, page_count, numbers_of}
 use Rattle.bq_model.specs.Ranges.{all_tuples}
 use Rattle.bq_model.specs.Sharing.{sizes_in}
-use Rattle.bq_model.specs.Serving.{IsServingPlan}
 use Rattle.bq_model.specs.Bases.{Base, first_base}
 use Rattle.bq_model.proofs.Has.{Has, first, later}
 use Rattle.bq_laws.proofs.Bases.{bases-keep-on}
-use Rattle.bq_laws.proofs.TableRoom.{table-has-room}
 use Rattle.bq_laws.proofs.Tests.{not_both}
 use Rattle.bq_schema.specs.Streams.{Shape, IsName, KeepsDomains}
 use Rattle.bq_parser.specs.Resolution.{HasNamed}
 use Rattle.bq_parser.proofs.Placed.{stays_named}
 use Rattle.bq_forms.specs.Fitting.{FitsWhole}
 use Rattle.bq_forms.specs.Parts.{form_numbers, IsPartsVerdict, of_filter, of_many_parts, of_violation, of_plan}
-use Rattle.bq_forms.specs.Forms.{HasWholeForm, IsFormPlan, IsFormPlanOf, MeetsForm, IsFormVerdict}
+use Rattle.bq_forms.specs.Forms.{HasWholeForm, IsFormPlan, IsFormPlanOf, MeetsForm, IsFormVerdict, IsServingForm}
 use Rattle.bq_forms.specs.Forms as forms
 use Rattle.bq_forms.proofs.Forms.{form_plans_serve, parts_are_few}
 use Rattle.bq_executor.specs.CellSteps.{HasParts}
@@ -76,17 +74,14 @@ sound_in streams taken q r = record {
 }
 
 -- its plan serves the query
-serving_of : (streams : List Shape) (taken : ℕ) (q : LiveQuery) → IsReachedIn streams taken q → IsServingPlan q.shared q.query q.plan
+serving_of : (streams : List Shape) (taken : ℕ) (q : LiveQuery) → IsReachedIn streams taken q → IsServingForm q.shared q.query q.plan
 serving_of streams taken q r = form_plans_serve q.shared q.query q.plan r.limits r.accepted.met r.accepted.plan
 
 -- with DISTINCT the tuples are no more than announced, and of integers of 64 bits
 module _ (q : QueryValue) (within : IsWithinLimits q) (distinct : q.distinct ≡ true) where
   few_tuples : (p : Plan) (table : List (List ℤ)) → HasParts q p → AllPairs (λ t u. is_before t u ≡ true) table → ((t : List ℤ) → Has table t → Has (all_tuples q (parts_of p)) t) → length table ≤ most_answers p
   few_tuples plans.Filter table has up inside = absurd (not_both q.distinct distinct (filter_plain q has))
-  few_tuples (plans.Parts parts numbers) table has up inside =
-      let most : length table ≤ answer_bound q parts = (table-has-room q parts within has.1).1 table up (lie_all q parts table inside) in
-      let same = has.2 in
-      omega (arith, most, same)
+  few_tuples (plans.Parts parts numbers) table has up inside = has.2 table up (lie_all q parts table inside)
 
   tuples_fit : (shared : Bool) (p : Plan) → MeetsForm q → IsFormPlanOf shared q p → (t : List ℤ) → Has (all_tuples q (parts_of p)) t → AllByRecursion Fits t
   tuples_fit shared plans.Filter met is t m = absurd (not_both q.distinct distinct (filter_plain q is))

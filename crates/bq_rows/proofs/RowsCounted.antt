@@ -1,6 +1,6 @@
 -- Rows of which the values are not formed.
-use Rattle.std.proofs.Common.{◌≡◌, ℕ, zero, suc, ℤ, pos, ◌+◌, ◌-◌, ◌^◌, ◌<◌, ◌≤◌, int_lt, not, true, Option, Some, None, List, [], ◌∷◌, ◌++◌, length, take, drop, get_or, length-append, length-drop, refl, ap, sym, ◌∙◌, subst, arith}
-use Rattle.std.specs.Prelude.{neg_ℤ, ⊤, IsTrue}
+use Rattle.std.proofs.Common.{◌≡◌, ℕ, zero, suc, ℤ, pos, ◌+◌, ◌-◌, ◌^◌, ◌<◌, ◌≤◌, int_lt, not, true, Option, Some, None, List, [], ◌∷◌, ◌++◌, length, take, drop, get_or, length-append, refl, ap, sym, ◌∙◌, subst, arith}
+use Rattle.std.specs.Prelude.{neg_ℤ, ⊤}
 use Rattle.std.specs.List.{All, prefix_len, slice_range, slice_split}
 use Rattle.std.proofs.lemmas.Int.{ints}
 use Rattle.std.proofs.lemmas.List.Sums.{prefix_len-le-length, prefix_len_passes}
@@ -13,11 +13,9 @@ use Rattle.bq_schema.specs.declared.column.ColumnDef.{ColumnDef}
 use Rattle.bq_schema.specs.Rows.{is_comma, values_of}
 use Rattle.bq_schema.specs.Streams.{HasEnds, Shape, lies_within, lie_within, shape_at}
 use Rattle.bq_rows.specs.Ahead.{AddsAt, BeginsStream, EndsLine, FieldsTo, IsEnded}
-use Rattle.bq_rows.specs.Counted.{AreRowsAhead, HasFields, IsSomeInteger, IsSomeRowAhead, none, more}
-use Rattle.bq_rows.specs.Open.{is_open}
+use Rattle.bq_rows.specs.Counted.{HasFields, IsSomeInteger, IsSomeRowOf}
 use Rattle.bq_rows.specs.Plain.{IsPlain}
 use Rattle.bq_rows.proofs.FieldsAhead.{fields_last, fields_more, negative_at, plain_both, range_more, short_at}
-use Rattle.bq_rows.proofs.NamesAhead.{some_ended}
 use Rattle.bq_rows.proofs.RowsAhead.{row_found}
 use Rattle.bq_rows.proofs.PlainFields.{amount_next, clash, domains_kept, whole_row, within_18}
 
@@ -138,33 +136,17 @@ no_domain (c ∷ columns) (x ∷ row) (v ∷ values) ends all is size =
 pub keep_all : (columns : List ColumnDef) (n : ℕ) (row values : List ℤ) → All (λ c. HasEnds c.domain) columns → AllLeast row → lie_within columns (take n row) ≡ true → length values ≡ length columns → lie_within columns values ≡ true
 keep_all columns n row values ends all is size = no_domain columns (take n row) values ends (least_front n row all) is size
 
--- A row, and rows one after another.
+-- A row.
 
 -- what was read of the first line of a text is a row, whatever its values are
-pub some_row : (streams : List Shape) (opened : Option (List ℕ)) (text : List ℕ) (stream start end len : ℕ) (columns : List ColumnDef) → columns ≡ (shape_at streams stream).columns → length columns ≤ 8 → BeginsStream streams text stream start
-    → ((values : List ℤ) → length values ≡ length columns → lie_within columns values ≡ true) → HasFields text start end (length columns) → EndsLine text end len → len + 1 < length text → IsTrue (is_open opened stream) → IsSomeRowAhead streams opened text len
-some_row streams opened text stream start end len columns is few b all f e before lets =
+pub some_row : (streams : List Shape) (text : List ℕ) (stream start end len : ℕ) (columns : List ColumnDef) → columns ≡ (shape_at streams stream).columns → length columns ≤ 8 → BeginsStream streams text stream start
+    → ((values : List ℤ) → length values ≡ length columns → lie_within columns values ≡ true) → HasFields text start end (length columns) → EndsLine text end len → len + 1 < length text → IsSomeRowOf streams text stream len
+some_row streams text stream start end len columns is few b all f e before =
     let own = (shape_at streams stream).columns in
     let within : lie_within own f.values ≡ true = subst (λ cs. lie_within cs f.values ≡ true) is (all f.values f.count) in
     let fields = slice_split is_comma (slice_range text start end) in
     let size : length fields ≡ length own = f.are.count ∙ f.count ∙ ap length is in
     record {
-      stream = stream;
       values = f.values;
       row = row_found streams text stream start end len f.values b f.are e before (omega (arith, f.count, few)) (whole_row stream own fields f.values f.are.values size within) (domains_kept streams stream f.values within);
-      opens = lets;
     }
-
--- so many rows are ahead, and the text goes on behind them
-pub record RowsTo (streams : List Shape) (opened : Option (List ℕ)) (text : List ℕ) (count begin end : ℕ) : Type 0 where
-  pub are : AreRowsAhead streams opened text count begin end
-  pub within : end < length text
-
-pub rows_begin : (streams : List Shape) (opened : Option (List ℕ)) (text : List ℕ) → IsEnded text → RowsTo streams opened text 0 0 0
-rows_begin streams opened text ended = record { are = none refl refl; within = some_ended text ended }
-
-pub row_more : (streams : List Shape) (opened : Option (List ℕ)) (text : List ℕ) (count begin end len : ℕ) → RowsTo streams opened text count begin end → IsSomeRowAhead streams opened (drop end text) len → RowsTo streams opened text (count + 1) end (end + len + 1)
-row_more streams opened text count begin end len h row = record {
-  are = more count begin len h.are row refl refl;
-  within = omega (arith, row.row.before, length-drop end text);
-}

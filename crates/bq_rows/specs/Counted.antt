@@ -1,5 +1,5 @@
 -- Rows of which the values are not formed.
-use Rattle.std.specs.Prelude.{◌≡◌, ℕ, ℤ, ◌+◌, List, [], ◌∷◌, ◌++◌, length, drop, IsTrue, Option}
+use Rattle.std.specs.Prelude.{◌≡◌, ℕ, ℤ, List, [], ◌∷◌, ◌++◌, length, IsTrue, Option}
 use Rattle.bq_schema.specs.Streams.{Shape}
 use Rattle.bq_rows.specs.Ahead.{AddsAt, AreFields, IsRowAhead}
 use Rattle.bq_rows.specs.Open.{is_open}
@@ -15,15 +15,14 @@ pub record HasFields (text : List ℕ) (start end width : ℕ) : Type 0 where
   pub count : length values ≡ width
   pub are : AreFields text start end values
 
+-- the first line of a text has this length, and is a row of this stream
+pub record IsSomeRowOf (streams : List Shape) (text : List ℕ) (stream len : ℕ) : Type 0 where
+  pub values : List ℤ
+  pub row : IsRowAhead streams text stream len values
+
 -- the first line of a text has this length, and is a row of an open stream
 pub record IsSomeRowAhead (streams : List Shape) (opened : Option (List ℕ)) (text : List ℕ) (len : ℕ) : Type 0 where
   pub stream : ℕ
   pub values : List ℤ
   pub row : IsRowAhead streams text stream len values
   pub opens : IsTrue (is_open opened stream)
-
--- so many such rows stand one after another at the front of a text, the last from this place on, and end at that one
-pub data AreRowsAhead (streams : List Shape) (opened : Option (List ℕ)) (text : List ℕ) : ℕ → ℕ → ℕ → Type 0 where
-  none : {count begin end : ℕ} → count ≡ 0 → end ≡ 0 → AreRowsAhead streams opened text count begin end
-  more : {count begin end : ℕ} → (before start len : ℕ) → AreRowsAhead streams opened text before start begin → IsSomeRowAhead streams opened (drop begin text) len → count ≡ before + 1 → end ≡ begin + len + 1
-      → AreRowsAhead streams opened text count begin end

@@ -1,10 +1,10 @@
-//! Rows that are only counted, since no query is live and no column of their stream has a domain. Their values are not formed.
+//! Rows that are only counted, since nobody asks for their values and no column of their stream has a domain. Their values are not formed.
 ghost use Rattle.std.specs.Prelude.{◌≡◌, ℤ, List, ◌+◌, ◌≤◌, ◌<◌, length, drop, true, IfSome, IsTrue};
 ghost use Rattle.std.specs.List.{All, prefix_len};
 ghost use Rattle.bq_schema.specs.Streams.{HasEnds, lie_within};
 ghost use Rattle.bq_text.specs.Word.{is_digit};
-ghost use Rattle.bq_rows.specs.Ahead.{IsEnded};
-ghost use Rattle.bq_rows.specs.Counted.{AreRowsAhead, HasFields, IsSomeInteger, IsSomeRowAhead};
+ghost use Rattle.bq_rows.specs.Ahead.{BeginsStream, IsEnded};
+ghost use Rattle.bq_rows.specs.Counted.{HasFields, IsSomeInteger, IsSomeRowOf};
 
 use crate::fast_row::above_zero;
 use crate::indexed_catalog::IndexedCatalog;
@@ -151,18 +151,15 @@ pub(crate) fn have_no_domain(columns: &Columns) -> bool
     columns.keep(&LEAST[..columns.as_slice().len()])
 }
 
-// The length of the first line of a text, where that line is a row of an open stream of which no column has a domain, written
-// without blanks and plus signs, with at most 18 digits a value. One CR may stand at its end. The last byte of the text is LF, and is not the
-// one that ends the line.
-#[inline(always)]
-fn counted_row_ahead(streams: &IndexedCatalog, text: &[u8]) -> Option<usize>
+/// Returns the length of the first line of a text, where that line is a row of a stream of which no column has a domain, written without
+/// blanks and plus signs, with at most 18 digits a value. The text begins with the name of the stream and a comma, and `start` is the place
+/// behind these. One CR may stand at the line's end. The last byte of the text is LF, and is not the one that ends the line.
+#[inline(always)] // into the loops over lines
+pub fn counted_len(streams: &IndexedCatalog, stream: u8, text: &[u8], start: usize) -> Option<usize>
+    requires begins { BeginsStream streams.now.streams text.now stream start }
     requires ended { IsEnded text.now }
-    ensures { IfSome result (λ len. IsSomeRowAhead streams.now.streams streams.now.opened text.now len) }
+    ensures { IfSome result (λ len. IsSomeRowOf streams.now.streams text.now stream len) }
 {
-    let Some(found) = streams.stream_ahead(text) else {
-        return None;
-    };
-    let (stream, start) = found;
     if !streams.is_free(stream) {
         return None;
     }
@@ -176,40 +173,4 @@ fn counted_row_ahead(streams: &IndexedCatalog, text: &[u8]) -> Option<usize>
         return None;
     }
     Some(len)
-}
-
-/// Rows that stand one after another at the front of a text: how many they are, where the last one begins, and where its line ends.
-#[derive(Clone, Copy, Debug, PartialEq, Eq)]
-pub struct CountedRows {
-    pub count: u64,
-    pub begin: usize,
-    pub end: usize,
-}
-
-/// Returns the rows at the front of a text, so many at most, of open streams of which no column has a domain, each written without blanks
-/// and plus signs. The last byte of the text is LF, and is not the one that ends a row.
-#[inline(never)] // called once for many rows, and its loop then has all registers
-pub fn counted_rows_ahead(streams: &IndexedCatalog, text: &[u8], most: u64) -> CountedRows
-    requires ended { IsEnded text.now }
-    ensures rows { AreRowsAhead streams.now.streams streams.now.opened text.now result.count result.begin result.end }
-    ensures few { result.count ≤ most }
-{
-    let mut rows = CountedRows {
-        count: 0,
-        begin: 0,
-        end: 0,
-    };
-    'counting: while rows.count < most {
-        match counted_row_ahead(streams, text.split_at(rows.end).1) {
-            Some(len) => {
-                rows = CountedRows {
-                    count: rows.count + 1,
-                    begin: rows.end,
-                    end: rows.end + len + 1,
-                };
-            }
-            None => return rows,
-        }
-    }
-    rows
 }

@@ -140,7 +140,7 @@ impl IndexedCatalog {
     /// Returns the number of the open stream with whose name and a comma a text begins, and where what stands behind that comma begins. It
     /// looks first at the first open stream whose name begins with the same byte, and at none where there is no such name.
     #[inline(always)]
-    pub(crate) fn stream_ahead(&self, text: &[u8]) -> Option<(u8, usize)>
+    pub fn stream_ahead(&self, text: &[u8]) -> Option<(u8, usize)>
         requires { IsEnded text.now }
         ensures begins { IfSome result (λ found. BeginsStream self.now.streams text.now found.0 found.1) }
         ensures opens { IfSome result (λ found. IsTrue (is_open self.now.opened found.0)) }

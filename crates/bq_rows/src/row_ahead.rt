@@ -348,9 +348,12 @@ fn is_kept(streams: &IndexedCatalog, stream: u8, row: &Row) -> bool
     streams.all().columns(stream).keep(row.as_slice())
 }
 
-// Puts the row of a stream that the fields from a place of a text on are into an empty row, and gives the length of its line.
-#[inline(always)]
-fn read_row_at(
+/// Puts the row of a stream that the first line of a text is into an empty `row`, and gives the length of the line, where the line is a row,
+/// each value in the domain of its column, written without blanks. The text begins with the name of the stream and a comma, and `start` is the
+/// place behind these. One CR may stand at the line's end. The last byte of the text is LF, and is not the one that ends the line. Where it
+/// gives nothing, `row` is left with any values.
+#[inline(always)] // into the loops over lines, with what it calls
+pub fn read_row_at(
     streams: &IndexedCatalog,
     stream: u8,
     text: &[u8],

@@ -1,7 +1,7 @@
 -- Rows that are answered one after another, and given behind them.
 use Rattle.std.proofs.Common.{◌≡◌, ℕ, zero, suc, ℤ, ◌+◌, ◌-◌, ◌<◌, ◌≤◌, false, List, [], ◌∷◌, ◌++◌, length, take, drop, length-append, length-drop, length-take, refl, ap, sym, ◌∙◌, subst, arith, IsTrue}
 use Rattle.std.specs.Bool.{⊤}
-use Rattle.std.proofs.lemmas.List.{drop-append-le}
+use Rattle.std.proofs.lemmas.List.{drop-append-le, drop-drop}
 use Rattle.bq_io.specs.Gathered.{gathered_seen}
 use Rattle.bq_io.specs.Sink.{SinkState}
 use Rattle.bq_io.specs.Source.{SourceState}
@@ -18,6 +18,8 @@ use Rattle.bq_session.specs.declared.outcome.LineOutcome.{LineOutcome}
 use Rattle.bq_session.specs.declared.one_turn.Turn.{Turn}
 use Rattle.bq_session.specs.declared.outcome.LineOutcome.TheVariants.{Done, Memory, WriteFault}
 use Rattle.bq_session.specs.AnsweredRows.{AnswersRows, AnswersText, AreAnswered, TurnedBehind, none, more, no_row, row_more}
+use Rattle.bq_session.specs.Counted as counting
+use Rattle.bq_session.specs.Counted.{AnswersNothing, AreCounted}
 use Rattle.bq_session.specs.Fetched.{buffered}
 use Rattle.bq_session.specs.Lock.{open_in}
 use Rattle.bq_session.specs.Run.{HasState}
@@ -207,3 +209,62 @@ pub turned_behind : (how : LineOutcome) (turn : Turn) (old : Reading) (k : Sessi
 turned_behind how turn old k source below held steps new kept after lower full rest now fault turned (no_row h reader session a b n) = absurd (subst IsFault h fault)
 turned_behind how turn old k source below held steps new kept after lower full rest now fault turned (row_more reader left between part spent h line w) =
     record { reader = reader; left = left; between = between; part = part; spent = spent; rows = h; turned = λ s st. turned s reader left between part (line s st); takes = w }
+
+-- Rows that are counted behind rows that were answered.
+
+-- so many rows were answered, the last from some place on
+record Behind (text : List ℕ) (k : SessionValue) (below : SinkState) (held : List ℕ) (steps : StepsValue) (count end : ℕ) (kept : SessionValue) (after : SinkState) (full : List ℕ) (now : StepsValue) : Type 0 where
+  begin : ℕ
+  rows : AreAnswered text k below held steps Done count begin end kept after full now
+
+-- one row more was counted
+one_behind : (text : List ℕ) (k : SessionValue) (below : SinkState) (held : List ℕ) (steps : StepsValue) (count end before begin len : ℕ) (left kept : SessionValue) (after : SinkState) (full : List ℕ) (now : StepsValue)
+    → Behind text k below held steps (count + before) (end + begin) left after full now → IsSomeRowAhead left.streams (open_in left.lock) (drop begin (drop end text)) len → AnswersNothing left (take len (drop begin (drop end text))) kept
+    → AreAnswered text k below held steps Done (count + (before + 1)) (end + begin) (end + (begin + len + 1)) kept after full now
+one_behind text k below held steps count end before begin len left kept after full now h row answers =
+    let here : drop begin (drop end text) ≡ drop (end + begin) text = drop-drop begin end text ∙ ap (λ n. drop n text) (omega arith) in
+    more (count + before) h.begin len left after full now h.rows (subst (λ (t : List ℕ). IsSomeRowAhead left.streams (open_in left.lock) t len) here row)
+    (record {
+      name = 0;
+      name' = 0;
+      answers = λ s st. subst (λ (t : List ℕ). Answered Done s (take len t) kept (gathered_seen after 0 full) (gathered_seen after 0 full)) here (answers s (gathered_seen after 0 full) st);
+    })
+    (omega arith, omega arith) (omega arith) (omega arith)
+
+behind : (text : List ℕ) (k : SessionValue) (below : SinkState) (held : List ℕ) (steps : StepsValue) (count start end : ℕ) (left : SessionValue) (after : SinkState) (full : List ℕ) (now : StepsValue) (others begin to : ℕ) (kept : SessionValue)
+    → AreAnswered text k below held steps Done count start end left after full now → AreCounted (drop end text) left others begin to kept → Behind text k below held steps (count + others) (end + to) kept after full now
+behind text k below held steps count start end left after full now others begin to kept h (counting.no_row c e is) =
+    let size : count ≡ count + others = omega (arith, c) in
+    let place : end ≡ end + to = omega (arith, e) in
+    record {
+      begin = start;
+      rows = subst (λ (n : ℕ). AreAnswered text k below held steps Done n start (end + to) kept after full now) size
+          (subst (λ (n : ℕ). AreAnswered text k below held steps Done count start n kept after full now) place (subst (λ (x : SessionValue). AreAnswered text k below held steps Done count start end x after full now) (sym is) h));
+    }
+behind text k below held steps count start end left after full now others begin to kept h (counting.row_more before from len between first row answers c e) =
+    let was = behind text k below held steps count start end left after full now before from begin between h first in
+    let last = one_behind text k below held steps count end before begin len between kept after full now was row answers in
+    record {
+      begin = end + begin;
+      rows = subst (λ (n : ℕ). AreAnswered text k below held steps Done (count + n) (end + begin) (end + to) kept after full now) (sym c)
+          (subst (λ (n : ℕ). AreAnswered text k below held steps Done (count + (before + 1)) (end + begin) (end + n) kept after full now) (sym e) last);
+    }
+
+-- some rows more were counted
+pub counted_behind : (text : List ℕ) (k : SessionValue) (below : SinkState) (held : List ℕ) (steps : StepsValue) (count start end : ℕ) (left : SessionValue) (after : SinkState) (full : List ℕ) (now : StepsValue) (others begin to : ℕ) (kept : SessionValue) → 0 < others
+    → AreAnswered text k below held steps Done count start end left after full now → AreCounted (drop end text) left others begin to kept → AreAnswered text k below held steps Done (count + others) (end + begin) (end + to) kept after full now
+counted_behind text k below held steps count start end left after full now others begin to kept some h (counting.no_row c e is) = absurd (omega (arith, some, c))
+counted_behind text k below held steps count start end left after full now others begin to kept some h (counting.row_more before from len between first row answers c e) =
+    let was = behind text k below held steps count start end left after full now before from begin between h first in
+    let last = one_behind text k below held steps count end before begin len between kept after full now was row answers in
+    subst (λ (n : ℕ). AreAnswered text k below held steps Done (count + n) (end + begin) (end + to) kept after full now) (sym c)
+    (subst (λ (n : ℕ). AreAnswered text k below held steps Done (count + (before + 1)) (end + begin) (end + n) kept after full now) (sym e) last)
+
+-- what rows leave that were counted
+pub counted_leaves : (text : List ℕ) (k : SessionValue) (count begin end : ℕ) (kept : SessionValue) (seen : SinkState) → HasState k → AreCounted text k count begin end kept → HasState kept × (kept.lines ≡ k.lines + count)
+counted_leaves text k count begin end kept seen known (counting.no_row c e is) = (subst HasState (sym is) known, (let lines : kept.lines ≡ k.lines = ap (λ (x : SessionValue). x.lines) is in omega (arith, lines, c)))
+counted_leaves text k count begin end kept seen known (counting.row_more before from len left first row answers c e) =
+    let was = counted_leaves text k before from begin left seen known first in
+    let stands = was.0.stands in
+    let one = answer_leaves Done was.0.state (take len (drop begin text)) left kept seen seen refl stands (answers was.0.state seen stands) in
+    (one.0, (let lines = was.1 in let next = one.1 in omega (arith, lines, next, c)))

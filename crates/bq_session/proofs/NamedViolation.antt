@@ -1,5 +1,5 @@
 -- The column that a violation names is a column of the query's streams.
-use Rattle.std.proofs.Common.{◌≡◌, List, ℕ, Some}
+use Rattle.std.proofs.Common.{List, Some}
 use Rattle.bq_model.specs.Query.{QueryValue, IsWithinLimits}
 use Rattle.bq_model.specs.Violation.{Failure}
 use Rattle.bq_schema.specs.Streams.{Shape}

@@ -10,20 +10,17 @@ ghost use Rattle.bq_session.specs.State.{State};
 ghost use Rattle.bq_session.specs.Session.{StandsFor, Answered, SessionValue, most_line_reads, most_line_writes, most_announced_reads, most_announced_writes};
 ghost use Rattle.bq_session.specs.Run.{HasState};
 ghost use Rattle.bq_session.specs.AnsweredRows.{AreAnswered, TurnedBehind};
-ghost use Rattle.bq_rows.specs.Counted.{AreRowsAhead};
-ghost use Rattle.bq_session.specs.Counted.{AreCounted, CountsRows};
-ghost use Rattle.bq_session.specs.Lock.{open_in};
 ghost use Rattle.bq_session.specs.Turned.{AnsweredLine, Turned};
 
+use crate::counting::CountedRows;
 use crate::fetch::{Fetched, fetch};
+use crate::front::{Front, front_ahead};
 use crate::outcome::LineOutcome;
-use crate::pause::Pause;
 use crate::session::Session;
 use bq_feed::LineReader;
 use bq_io::{Gathered, Sink, Source};
 use bq_model::Row;
 use bq_pool::Steps;
-use bq_rows::CountedRows;
 use std::sync::ledger::Ledger;
 
 /// How a turn of a source went.
@@ -134,31 +131,11 @@ pub fn take_turn<I: Source, O: Sink, L: Ledger>(
         Some(found) => {
             let (stream, len) = found;
             reader.give_line(len);
-            let outcome = session.plain_row(stream, &row, false, output, steps);
+            let outcome = session.plain_row(stream, &row, output, steps);
             turn_of(outcome, output)
         }
         None => any_turn(reader, session, input, output, steps),
     }
-}
-
-// What `take_turn` does, where no query is live. It is not inlined, so that rows that queries are asked of pay nothing for it.
-#[inline(never)]
-fn unasked_turn<I: Source, O: Sink, L: Ledger>(
-    reader: &mut LineReader,
-    session: &mut Session,
-    input: &mut I,
-    output: &mut Gathered<'_, O>,
-    steps: &mut Steps<L>,
-) -> Turn
-    requires stands { HasState session.old }
-    requires room { session.old.lines + 1 < 2 ^ 64 }
-    ensures turned { (s : State) → StandsFor session.old s → Turned result s reader.old reader.new (I.seen input.old) (I.seen input.new) session.old session.new (O.seen output.old.sink.now) (O.seen output.new.sink.now) output.old.held.items output.new.held.items }
-    ensures same_reference { output.new.sink.ghost_name ≡ output.old.sink.ghost_name }
-    ensures reads { steps.new.reads ≤ steps.old.reads + most_line_reads session.old.registry.live }
-    ensures writes { steps.new.writes ≤ steps.old.writes + most_line_writes session.old.registry.live }
-    ensures announced { (s : State) → StandsFor session.old s → (steps.new.reads ≤ steps.old.reads + most_announced_reads s.queries) × (steps.new.writes ≤ steps.old.writes + most_announced_writes s.queries) }
-{
-    take_turn(reader, session, input, output, steps)
 }
 
 // The rows at the front of a text that were answered one after another, and how the last one was.
@@ -180,7 +157,7 @@ fn is_done(outcome: LineOutcome) -> bool
     }
 }
 
-// Answers the rows at the front of a text, up to one of which the reply breaks off, without asking whether a query is live.
+// Answers the rows at the front of a text, up to one of which the reply breaks off.
 #[inline(always)]
 fn answer_rows<O: Sink, L: Ledger>(
     session: &mut Session,
@@ -195,28 +172,34 @@ fn answer_rows<O: Sink, L: Ledger>(
     ensures room { result.outcome ≡ outcomes.Done → session.new.lines + 1 < 2 ^ 64 }
     ensures same_reference { output.new.sink.ghost_name ≡ output.old.sink.ghost_name }
 {
-    let mut rows = CountedRows {
-        count: 0,
-        begin: 0,
-        end: 0,
-    };
+    let mut rows = CountedRows::NONE;
     'rows: loop {
         let mut row = Row::new();
-        let Some(found) = session.row_ahead(text.split_at(rows.end).1, &mut row) else {
-            return AnsweredRows {
-                rows,
-                outcome: LineOutcome::Done,
-            };
-        };
-        let (stream, len) = found;
-        rows = CountedRows {
-            count: rows.count + 1,
-            begin: rows.end,
-            end: rows.end + len + 1,
-        };
-        let outcome = session.plain_row(stream, &row, true, output, steps);
-        if !is_done(outcome) {
-            return AnsweredRows { rows, outcome };
+        match front_ahead(session, text.split_at(rows.end).1, &mut row) {
+            Front::Counted(more) => {
+                rows = CountedRows {
+                    count: rows.count + more.count,
+                    begin: rows.end + more.begin,
+                    end: rows.end + more.end,
+                };
+            }
+            Front::Row { stream, len } => {
+                rows = CountedRows {
+                    count: rows.count + 1,
+                    begin: rows.end,
+                    end: rows.end + len + 1,
+                };
+                let outcome = session.plain_row(stream, &row, output, steps);
+                if !is_done(outcome) {
+                    return AnsweredRows { rows, outcome };
+                }
+            }
+            Front::Other => {
+                return AnsweredRows {
+                    rows,
+                    outcome: LineOutcome::Done,
+                };
+            }
         }
     }
 }
@@ -241,9 +224,9 @@ fn can_count(lines: u64, text: &[u8]) -> bool
     lines <= u64::MAX - text.len() as u64
 }
 
-// Answers the rows at the front of what the reader has ahead, gives their lines behind them, and takes one turn more.
+/// Answers the rows at the front of what the reader has ahead, gives their lines behind them, and then does what `take_turn` does.
 #[inline(always)]
-fn asked_turns<I: Source, O: Sink, L: Ledger>(
+pub(crate) fn next_turn<I: Source, O: Sink, L: Ledger>(
     reader: &mut LineReader,
     session: &mut Session,
     input: &mut I,
@@ -265,81 +248,4 @@ fn asked_turns<I: Source, O: Sink, L: Ledger>(
         LineOutcome::WriteFault => Turn::Stopped,
         LineOutcome::Memory => turn_of(LineOutcome::Memory, output),
     }
-}
-
-/// Answers the rows at the front of what the reader has ahead, where a query is live, and then does what `take_turn` does.
-#[inline(always)]
-pub(crate) fn next_turn<I: Source, O: Sink, L: Ledger>(
-    reader: &mut LineReader,
-    session: &mut Session,
-    input: &mut I,
-    output: &mut Gathered<'_, O>,
-    steps: &mut Steps<L>,
-) -> Turn
-    requires stands { HasState session.old }
-    requires room { session.old.lines + 1 < 2 ^ 64 }
-    ensures turned { TurnedBehind result reader.old reader.new (I.seen input.old) (I.seen input.new) session.old session.new (O.seen output.old.sink.now) (O.seen output.new.sink.now) output.old.held.items output.new.held.items steps.old steps.new }
-    ensures same_reference { output.new.sink.ghost_name ≡ output.old.sink.ghost_name }
-{
-    if session.has_no_query() {
-        return unasked_turn(reader, session, input, output, steps);
-    }
-    asked_turns(reader, session, input, output, steps)
-}
-
-// No rows at the front of a text.
-const NO_ROWS: CountedRows = CountedRows {
-    count: 0,
-    begin: 0,
-    end: 0,
-};
-
-// What `count_ahead` does, said of the rows and of the session apart.
-#[inline(always)]
-fn count_front(session: &mut Session, text: &[u8], pause: &mut Pause) -> CountedRows
-    requires ended { IsEnded text.now }
-    ensures rows { AreRowsAhead session.old.streams (open_in session.old.lock) text.now result.count result.begin result.end }
-    ensures live { 0 < result.count → length session.old.registry.live ≡ 0 }
-    ensures few { 0 < result.count → session.old.taken + result.count ≤ session.old.limit }
-    ensures none { result.count ≡ 0 → session.new ≡ session.old }
-    ensures kept { 0 < result.count → session.new ≡ record session.old { taken = session.old.taken + result.count; lines = session.old.lines + result.count; began = true } }
-{
-    if !session.has_no_query() {
-        return NO_ROWS;
-    }
-    if pause.goes_on() {
-        return NO_ROWS;
-    }
-    let rows = session.rows_ahead(text);
-    pause.follow(rows.count == 0);
-    if rows.count == 0 {
-        return rows;
-    }
-    session.count(rows.count);
-    rows
-}
-
-/// Counts the rows at the front of a text, as long as no query is live and one more row may be taken: those of open streams of which no
-/// column has a domain, written without blanks and plus signs. A row is then counted and nothing else, whatever its values are, so these are not
-/// formed. It returns how many they are, where the last one begins, and where its line ends. The last byte of the text is LF, and the line
-/// that it ends is not counted. In a pause that an earlier try in vain began it does nothing.
-pub fn count_ahead(session: &mut Session, text: &[u8], pause: &mut Pause) -> CountedRows
-    requires ended { IsEnded text.now }
-    ensures rows { AreCounted text.now session.old result.count result.begin result.end session.new }
-    ensures inside { result.end < length text.now }
-{
-    count_front(session, text, pause)
-}
-
-/// Counts the rows at the front of what the reader has ahead, as `count_ahead` does, and gives their lines. It takes nothing from a source and
-/// writes nothing.
-#[inline(always)]
-pub fn count_rows(reader: &mut LineReader, session: &mut Session, pause: &mut Pause)
-    ensures { CountsRows reader.old session.old reader.new session.new }
-{
-    let rows = count_front(session, reader.ahead_and_feed(), pause);
-    if rows.count == 0 {
-        return;
-    }
-    reader.give_lines(rows.count, rows.begin, rows.end);
 }

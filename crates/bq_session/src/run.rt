@@ -9,8 +9,7 @@ ghost use Rattle.bq_session.specs.Uncounted.{EndsUncounted};
 ghost use Rattle.bq_session.specs.declared.run.Ending.TheVariants as endings;
 
 use crate::fetch::{Fetched, fetch};
-use crate::one_turn::{Turn, count_rows, next_turn};
-use crate::pause::Pause;
+use crate::one_turn::{Turn, next_turn};
 use crate::session::Session;
 use bq_feed::LineReader;
 use bq_io::{Gathered, Sink, Source};
@@ -78,9 +77,7 @@ pub fn run_lines<I: Source, O: Sink, L: Ledger>(
     ensures steps { (s : State) → StandsFor session.old s → Took (I.seen input.old) (I.seen input.new) (λ (text : List ℕ). SpentOver s text steps.old steps.new) }
     ensures same_reference { output.new.sink.ghost_name ≡ output.old.sink.ghost_name }
 {
-    let mut pause = Pause::default();
     'answering: loop {
-        count_rows(reader, session, &mut pause);
         if session.is_full() {
             return end_uncounted(reader, input, output);
         }

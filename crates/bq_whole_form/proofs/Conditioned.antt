@@ -1,5 +1,5 @@
 -- The conditions that are asked, one by one.
-use Rattle.std.proofs.Common.{◌≡◌, ℕ, ◌+◌, ◌<◌, ◌≤◌, ◌⊎◌, inl, inr, ◌↔◌, IsTrue, ℤ, pos, List, [], ◌∷◌, ◌++◌, length, take, get_or, Bool, true, false, not, ◌&&◌, Option, Some, None, length-append, refl, sym, ◌∙◌, ap, subst, arith}
+use Rattle.std.proofs.Common.{◌≡◌, ℕ, ◌+◌, ◌<◌, ◌≤◌, ◌⊎◌, inl, inr, ◌↔◌, IsTrue, ℤ, pos, ◌+ℤ◌, ◌-ℤ◌, ◌≤ℤ◌, Contains, List, [], ◌∷◌, ◌++◌, length, take, get_or, set, below_more, get_or-set_other, get_or-set_same, ◌≢◌, Bool, true, false, not, ◌&&◌, Option, Some, None, length-append, refl, sym, ◌∙◌, ap, subst, arith}
 use Rattle.std.proofs.lemmas.Int.{ints}
 use Rattle.std.proofs.lemmas.List.{take_more, take_all}
 use Rattle.bq_model.specs.declared.atom.Attr.{Attr}
@@ -7,23 +7,27 @@ use Rattle.bq_model.specs.declared.atom.Atom.{Atom}
 use Rattle.bq_model.specs.declared.atom.Element.{Element}
 use Rattle.bq_model.specs.declared.atom.Element.TheVariants as element
 use Rattle.bq_model.specs.declared.atom.Op.{Op}
-use Rattle.bq_model.specs.Query.{QueryValue, attr_eq, attr_lt, is_attr}
+use Rattle.bq_model.specs.Assignment.{Assignment}
+use Rattle.bq_model.specs.Query.{QueryValue, attr_eq, attr_lt, attrs_of, is_attr}
 use Rattle.bq_model.proofs.Elements.{attr_separates}
-use Rattle.bq_model.proofs.Has.{Has, first, Has-nil, Has-append_left, Has-append_right, Has-append_cases}
+use Rattle.bq_model.proofs.Has.{Has, Contains-from_has, first, Has-nil, Has-append_left, Has-append_right, Has-append_cases}
 use Rattle.bq_laws.proofs.Tests.{and-left, and-right, and-both, not_both, false_if, attr_eq-is, attr_eq-itself}
 use Rattle.bq_laws.proofs.OnePartFits.{has_cases}
-use Rattle.bq_whole.specs.System.{Difference, system, IsOf, AreOneClass}
+use Rattle.bq_whole.specs.System.{Difference, system, IsOf, AreOneClass, Bound, Solves}
 use Rattle.bq_whole.specs.Kept.{IsLowest, IsHighest}
 use Rattle.bq_whole.specs.Plan.{NamesClass}
 use Rattle.bq_whole.specs.Laws.{IsLeastBound}
-use Rattle.bq_whole.specs.Signed.{all_said}
+use Rattle.bq_whole.specs.Signed.{all_said, IsWellFormed}
 use Rattle.bq_whole.proofs.Signed.{said_no_unlike}
 use Rattle.bq_whole.proofs.Unbroken.{class_turned, class_on}
-use Rattle.bq_whole_plan.specs.Closed.{IsWithSigns}
+use Rattle.bq_whole_plan.specs.Closed.{IsWithSigns, IsSolvable, apart}
+use Rattle.bq_whole_plan.proofs.Unnamed.{apart_least, mixed_left, mixed_right}
 use Rattle.bq_whole_plan.specs.Classes.{IsNameOf}
 use Rattle.bq_whole_plan.specs.Columns.{listed}
+use Rattle.bq_whole_plan.specs.Extremes.{column_at}
 use Rattle.bq_model.specs.declared.plan.LocalCondition.{LocalCondition}
-use Rattle.bq_whole_form.specs.Conditions.{condition, IsTie, IsLeastEnd, IsGreatestEnd, IsSaid, IsUnsaid, AreTwoNames, IsBetween, IsOwnUnlike, IsTurned, IsUnlikeAt}
+use Rattle.bq_whole_form.specs.declared.conditions.KnownColumn.{KnownColumn}
+use Rattle.bq_whole_form.specs.Conditions.{condition, IsKnownColumn, AreKnownColumns, IsTie, IsLeastEnd, IsGreatestEnd, IsSaid, IsUnsaid, AreTwoNames, IsBetween, IsOwnUnlike, IsTurned, IsUnlikeAt}
 use Rattle.bq_whole_form.specs.Listed.{AreListed, AreUnlikes}
 
 not_true : (b : Bool) → not b ≡ true → b ≡ true → ⊥
@@ -44,6 +48,34 @@ names_told q a n b i e = (
   λ h. subst (NamesClass q) (attr_eq-is n a (sym e ∙ h)) i.name,
   λ m. e ∙ subst (λ z. attr_eq n z ≡ true) (name_one q n a i.name m i.inside) (attr_eq-itself n),
 )
+
+-- one column more
+
+abbrev pub no_column : KnownColumn
+no_column = record { name = column_at 0 0; is_compared = false }
+
+pub columns_first : (q : QueryValue) (place : ℕ) (c : ℕ) → c < 0 → {k : KnownColumn} → IsKnownColumn q (column_at place c) k
+columns_first q place c l = absurd (omega (arith, l))
+
+pub columns_more : (q : QueryValue) (place : ℕ) (columns : List KnownColumn) (k i : ℕ) (n : KnownColumn) → i ≡ k → k < length columns → ((c : ℕ) → c < k → IsKnownColumn q (column_at place c) (get_or columns c no_column)) → IsKnownColumn q (column_at place k) n
+    → (c : ℕ) → c < k + 1 → IsKnownColumn q (column_at place c) (get_or (set columns i n) c no_column)
+columns_more q place columns k i n e l h known = subst (λ i. (c : ℕ) → c < k + 1 → IsKnownColumn q (column_at place c) (get_or (set columns i n) c no_column)) (sym e)
+    (below_more (λ c. IsKnownColumn q (column_at place c) (get_or (set columns k n) c no_column)) k
+    (λ c m. let ne : c ≢ k = omega (arith, m) in rw get_or-set_other (h c m))
+    (rw get_or-set_same known))
+
+pub column_known : (q : QueryValue) (a : Attr) (columns : List KnownColumn) (i : ℕ) → i ≡ a.column → a.column < 8 → AreKnownColumns q a.stream columns → IsKnownColumn q a (get_or columns i no_column)
+column_known q a columns i e l h = subst (λ i. IsKnownColumn q a (get_or columns i no_column)) (sym e) (h a.column l)
+
+-- one of two columns is named by no comparison
+pub not_compared : (q : QueryValue) (a b : Attr) (k l : KnownColumn) → IsKnownColumn q a k → IsKnownColumn q b l → (k.is_compared && l.is_compared) ≡ false
+    → (Contains (attrs_of q.atoms) a → ⊥) ⊎ (Contains (attrs_of q.atoms) b → ⊥)
+not_compared q a b k l i j e = by k.is_compared l.is_compared i.compared j.compared e
+  where
+    by : (s t : Bool) → IsTrue s ↔ Contains (attrs_of q.atoms) a → IsTrue t ↔ Contains (attrs_of q.atoms) b → (s && t) ≡ false → (Contains (attrs_of q.atoms) a → ⊥) ⊎ (Contains (attrs_of q.atoms) b → ⊥)
+    by false t f g e = inl (λ h. (let m = f.1 h in cc))
+    by true false f g e = inr (λ h. (let m = g.1 h in cc))
+    by true true f g e = absurd cc
 
 pub differ : (a b : Attr) → attr_eq a b ≡ false → a ≡ b → ⊥
 differ a b e f = let g : attr_eq b b ≡ true = attr_eq-itself b in not_both (attr_eq a b) (subst (λ z. attr_eq z b ≡ true) (sym f) g) e
@@ -116,6 +148,30 @@ unsaid_between q a b u (Some t) n l s = (n, u, l, s.0, s.1)
 pub no_between : (q : QueryValue) (a b : Attr) → IsLeastBound (system q) (element.Attr a) (element.Attr b) None → IsBetween q a b None
 no_between q a b n = λ m u k. absurd (n u k.0)
 
+-- what bounds a column that no comparison names, and another, is said by their ranges
+pub said_by_ranges : (q : QueryValue) → IsWellFormed q → IsSolvable q → (a b : Attr) → (a ≡ b → ⊥) → (Contains (attrs_of q.atoms) a → ⊥) ⊎ (Contains (attrs_of q.atoms) b → ⊥)
+    → (u : ℤ) → IsLeastBound (system q) (element.Attr a) (element.Attr b) (Some u) → IsSaid q a b u
+said_by_ranges q w s a b d n u k =
+    let r = s.range a in
+    let t = s.range b in
+    by r.0.hi t.0.lo r.1.high t.1.low (apart_least q a b s.at s.solves (mixed n) r.0.hi t.0.lo r.1.high t.1.low)
+  where
+    mixed : (Contains (attrs_of q.atoms) a → ⊥) ⊎ (Contains (attrs_of q.atoms) b → ⊥)
+        → (c : ℤ) → Bound (system q) (element.Attr a) (element.Attr b) c → (v o : Assignment) → Solves (system q) v → Solves (system q) o → o a ≤ℤ (c +ℤ v b)
+    mixed (inl n) = mixed_left q w a (λ h. n (Contains-from_has (attrs_of q.atoms) a h)) b d
+    mixed (inr n) = mixed_right q w b (λ h. n (Contains-from_has (attrs_of q.atoms) b h)) a (λ e. d (sym e))
+
+    by : (high low : Option ℤ) → IsHighest (system q) a high → IsLowest (system q) b low → IsLeastBound (system q) (element.Attr a) (element.Attr b) (apart high low) → IsSaid q a b u
+    by None low h l m = absurd (m u k.0)
+    by (Some x) None h l m = absurd (m u k.0)
+    by (Some x) (Some y) h l m = record {
+      high = x;
+      low = y;
+      most = h.0;
+      least = l.0;
+      within = (let e = bound_one (system q) (element.Attr a) (element.Attr b) (x -ℤ y) u m k in omega (arith, ints, e));
+    }
+
 -- ---- lists
 
 has_listed : {t : LocalCondition} (o : Option LocalCondition) → Has (listed o) t → o ≡ Some t
@@ -128,6 +184,9 @@ in_listed t o e = subst (λ z. Has (listed z) t) (sym e) first
 few_listed : (o : Option LocalCondition) → length (listed o) ≤ 1
 few_listed None = omega arith
 few_listed (Some s) = omega arith
+
+pub listed_few : (n : ℕ) (o : Option LocalCondition) (ts new : List LocalCondition) → new ≡ ts ++ listed o → length ts ≤ n → length new ≤ n + 1
+listed_few n o ts new e f = let g = length-append ts (listed o) in let i = few_listed o in let k = ap length e in omega (arith, f, g, i, k)
 
 earlier : (c n : ℕ) → c < n + 1 → (c < n) ⊎ (c ≡ n)
 earlier c n l = grind (arith, l)

@@ -18,7 +18,6 @@ use Rattle.bq_model.proofs.Has.{Has, Has-from_contains, Contains-from_has, Has-a
 use Rattle.bq_model.proofs.Holding.{Compares-from_test, compares-true}
 use Rattle.bq_laws.proofs.Tests.{true_or_false, not_both, and-left, or-cases, or-left, or-right, all_at, all_if, attr_eq-is, nat_true}
 use Rattle.bq_constraints.proofs.NodeFacts.{Known}
-use Rattle.bq_closure.specs.Shortest.{IsMet}
 use Rattle.bq_whole.specs.System.{Difference, Meets, atom_bounds, domain_bounds, system, Bound, IsOf, MeetsLocal, AreOneClass}
 use Rattle.bq_whole.specs.Kept.{IsLowest, IsHighest}
 use Rattle.bq_whole.specs.Plan.{NamesClass}
@@ -26,7 +25,7 @@ use Rattle.bq_whole.specs.Laws.{IsBase, IsLeastBound}
 use Rattle.bq_whole.specs.Whole.{RowMeets}
 use Rattle.bq_whole.specs.Signed.{IsWellFormed}
 use Rattle.bq_whole.proofs.Few.{local_conditions_are_few}
-use Rattle.bq_whole_plan.specs.Closed.{apart, IsSolvable}
+use Rattle.bq_whole_plan.specs.Closed.{apart, IsMet, IsSolvable}
 use Rattle.bq_whole_plan.specs.Classes.{beside, IsNameOf}
 use Rattle.bq_whole_plan.proofs.Classing.{NoneBefore, none_first, none_more, named_by, named_itself}
 use Rattle.bq_whole_plan.proofs.Following.{ranges_told}

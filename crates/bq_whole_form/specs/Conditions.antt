@@ -1,5 +1,6 @@
 -- The local conditions of a stream, one by one.
-use Rattle.std.specs.Prelude.{◌≡◌, ◌≢◌, ℕ, ◌<◌, ◌↔◌, ℤ, pos, List, length}
+use Rattle.std.specs.Prelude.{◌≡◌, ◌≢◌, ℕ, ◌<◌, ◌↔◌, ℤ, pos, List, length, Contains, IsTrue, false}
+use Rattle.std.specs.List.{slice_index_or}
 use Rattle.std.specs.declared.option.Option.{Option}
 use Rattle.std.specs.declared.option.Option.TheVariants.{None, Some}
 use Rattle.bq_model.specs.declared.atom.Attr.{Attr}
@@ -8,17 +9,28 @@ use Rattle.bq_model.specs.declared.atom.Element.{Element}
 use Rattle.bq_model.specs.declared.atom.Element.TheVariants as element
 use Rattle.bq_model.specs.declared.atom.Op.{Op}
 use Rattle.bq_model.specs.Members.{Has}
-use Rattle.bq_model.specs.Query.{QueryValue, HasAttr}
+use Rattle.bq_model.specs.Query.{QueryValue, HasAttr, attrs_of}
 use Rattle.bq_whole.specs.System.{system, IsOf}
 use Rattle.bq_whole.specs.Kept.{IsLowest, IsHighest}
 use Rattle.bq_whole.specs.Plan.{NamesClass}
 use Rattle.bq_whole.specs.Laws.{IsLeastBound}
 use Rattle.bq_whole_plan.specs.Classes.{IsNameOf}
 use Rattle.bq_whole_plan.specs.Columns.{FollowsByRanges}
+use Rattle.bq_whole_plan.specs.Extremes.{column_at}
 use Rattle.bq_model.specs.declared.plan.LocalCondition.{LocalCondition}
+use Rattle.bq_whole_form.specs.declared.conditions.KnownColumn.{KnownColumn}
 
 abbrev pub condition : Attr → Op → Element → ℤ → LocalCondition
 condition a o e k = record { left = a; op = o; right = e; by = k }
+
+-- the column that names the class of a column, and whether a comparison names it
+pub record IsKnownColumn (q : QueryValue) (a : Attr) (k : KnownColumn) : Type 0 where
+  pub name : IsNameOf q a k.name
+  pub compared : IsTrue k.is_compared ↔ Contains (attrs_of q.atoms) a
+
+-- the same of each column of the stream at a place, in order
+abbrev pub AreKnownColumns : QueryValue → ℕ → List KnownColumn → Type 0
+AreKnownColumns q place columns = (c : ℕ) → c < 8 → IsKnownColumn q (column_at place c) (slice_index_or columns c record { name = column_at 0 0; is_compared = false })
 
 -- a column is tied to the one that names its class, where that is another
 abbrev pub IsTie : QueryValue → Attr → Option LocalCondition → Type 0

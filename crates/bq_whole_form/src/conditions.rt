@@ -1,14 +1,14 @@
 //! What the rows of each stream are asked.
-ghost use Rattle.std.specs.Prelude.{◌≡◌, ◌≢◌, ◌⊎◌, ◌↔◌, ◌≤◌, ◌<◌, ◌++◌, ◌/◌, ◌%◌, ℕ, ℤ, length, IsTrue, IfOk, OnOk};
+ghost use Rattle.std.specs.Prelude.{◌≡◌, ◌≢◌, ◌⊎◌, ◌↔◌, ◌≤◌, ◌<◌, ◌++◌, ◌&&◌, ◌/◌, ◌%◌, ℕ, ℤ, length, Contains, IsTrue, IsFalse, IfOk, OnOk};
 ghost use Rattle.bq_model.specs.declared.atom.Op.{Op};
-ghost use Rattle.bq_model.specs.Query.{is_attr};
+ghost use Rattle.bq_model.specs.Query.{QueryValue, attrs_of, is_attr};
 ghost use Rattle.bq_model.specs.Admission.{alone, keeps_local};
 ghost use Rattle.bq_whole.specs.System.{IsOf};
 ghost use Rattle.bq_whole.specs.Whole.{RowMeets};
 ghost use Rattle.bq_whole.specs.Plan.{NamesClass};
 ghost use Rattle.bq_whole_plan.specs.Columns.{listed};
 ghost use Rattle.bq_whole_plan.specs.Extremes.{column_at};
-ghost use Rattle.bq_whole_form.specs.Conditions.{condition, AreTwoNames, IsTie, IsLeastEnd, IsGreatestEnd, IsUnsaid, IsBetween, IsOwnUnlike, IsTurned, IsUnlikeAt, AreConditions};
+ghost use Rattle.bq_whole_form.specs.Conditions.{condition, IsKnownColumn, AreKnownColumns, AreTwoNames, IsTie, IsLeastEnd, IsGreatestEnd, IsUnsaid, IsBetween, IsOwnUnlike, IsTurned, IsUnlikeAt, AreConditions};
 ghost use Rattle.bq_whole_form.specs.Listed.{AreListed, AreUnlikes, IsWithStream};
 
 use arrayvec::ArrayVec;
@@ -27,20 +27,80 @@ fn condition(left: Attr, op: Op, right: Element, by: i64) -> LocalCondition
     }
 }
 
-// Whether a column names its class.
-#[tactic(auto, using(crate::proofs::Conditioned::names_told))]
-fn names_class(closed: &ClosedSystem, a: Attr) -> bool
-    ensures { IsTrue result ↔ NamesClass closed.now a }
+/// What is known of a column: the one that names its class, and whether a comparison of the query names it.
+#[derive(Clone, Copy)]
+pub struct KnownColumn {
+    pub name: Attr,
+    pub is_compared: bool,
+}
+
+// Whether a column is among some.
+fn is_among(columns: &[Attr], a: Attr) -> bool
+    ensures { IsTrue result ↔ Contains columns.now a }
 {
-    let name = name_of(closed, a);
-    is_same(name, a)
+    columns.contains(&a)
+}
+
+// Whether a comparison of the query names a column.
+fn is_compared(closed: &ClosedSystem, a: Attr) -> bool
+    ensures { IsTrue result ↔ Contains (attrs_of closed.now.atoms) a }
+{
+    is_among(closed.query().attrs(), a)
+}
+
+// What is known of a column.
+fn known_column(closed: &ClosedSystem, a: Attr) -> KnownColumn
+    ensures { IsKnownColumn closed.now a result }
+{
+    KnownColumn {
+        name: name_of(closed, a),
+        is_compared: is_compared(closed, a),
+    }
+}
+
+// What is known of the columns of a stream. Each is asked often, and the name of its class is found by a search over the columns before it.
+fn columns_at(closed: &ClosedSystem, place: u8) -> [KnownColumn; 8]
+    ensures { AreKnownColumns closed.now place result }
+{
+    let mut columns = [KnownColumn {
+        name: Attr {
+            stream: 0,
+            column: 0,
+        },
+        is_compared: false,
+    }; 8];
+    for column in 0..8 {
+        let attr = Attr {
+            stream: place,
+            column,
+        };
+        columns[usize::from(column)] = known_column(closed, attr);
+    }
+    columns
+}
+
+// What is known of a column, of what is known of those of its stream.
+fn column_in(columns: &[KnownColumn; 8], a: Attr) -> KnownColumn
+    requires { a.column < 8 }
+    ensures { (q : QueryValue) → AreKnownColumns q a.stream columns.now → IsKnownColumn q a result }
+{
+    columns[usize::from(a.column)]
+}
+
+// Whether a column names its class.
+fn names_class(columns: &[KnownColumn; 8], a: Attr) -> bool
+    requires { a.column < 8 }
+    ensures { (q : QueryValue) → AreKnownColumns q a.stream columns.now → IsTrue result ↔ NamesClass q a }
+{
+    is_same(column_in(columns, a).name, a)
 }
 
 // The equality with the column that names the class of a column, where that is another.
-fn tie(closed: &ClosedSystem, a: Attr) -> Option<LocalCondition>
-    ensures { IsTie closed.now a result }
+fn tie(columns: &[KnownColumn; 8], a: Attr) -> Option<LocalCondition>
+    requires { a.column < 8 }
+    ensures { (q : QueryValue) → AreKnownColumns q a.stream columns.now → IsTie q a result }
 {
-    let name = name_of(closed, a);
+    let name = column_in(columns, a).name;
     if is_same(name, a) {
         return None;
     }
@@ -48,10 +108,12 @@ fn tie(closed: &ClosedSystem, a: Attr) -> Option<LocalCondition>
 }
 
 // The least value of a column that names its class, where there is one.
-fn least_end(closed: &ClosedSystem, a: Attr) -> Option<LocalCondition>
+fn least_end(closed: &ClosedSystem, columns: &[KnownColumn; 8], a: Attr) -> Option<LocalCondition>
+    requires column { a.column < 8 }
+    requires columns { AreKnownColumns closed.now a.stream columns.now }
     ensures { IsLeastEnd closed.now a result }
 {
-    if !names_class(closed, a) {
+    if !names_class(columns, a) {
         return None;
     }
     let ends = closed.ends(a);
@@ -62,10 +124,16 @@ fn least_end(closed: &ClosedSystem, a: Attr) -> Option<LocalCondition>
 }
 
 // The greatest value of a column that names its class, where there is one.
-fn greatest_end(closed: &ClosedSystem, a: Attr) -> Option<LocalCondition>
+fn greatest_end(
+    closed: &ClosedSystem,
+    columns: &[KnownColumn; 8],
+    a: Attr,
+) -> Option<LocalCondition>
+    requires column { a.column < 8 }
+    requires columns { AreKnownColumns closed.now a.stream columns.now }
     ensures { IsGreatestEnd closed.now a result }
 {
-    if !names_class(closed, a) {
+    if !names_class(columns, a) {
         return None;
     }
     let ends = closed.ends(a);
@@ -75,15 +143,36 @@ fn greatest_end(closed: &ClosedSystem, a: Attr) -> Option<LocalCondition>
     }
 }
 
-// Whether two columns name two classes.
-#[tactic(auto, using(crate::proofs::Conditioned::two_names_told))]
-fn are_two_names(closed: &ClosedSystem, a: Attr, b: Attr) -> bool
-    ensures { IsTrue result ↔ AreTwoNames closed.now a b }
+// Whether both of two things hold.
+fn both(left: bool, right: bool) -> bool
+    ensures { result ≡ (left && right) }
 {
-    let left = names_class(closed, a);
-    let right = names_class(closed, b);
+    left && right
+}
+
+// Whether two columns of a stream name two classes.
+fn are_two_names(columns: &[KnownColumn; 8], a: Attr, b: Attr) -> bool
+    requires left { a.column < 8 }
+    requires right { b.column < 8 }
+    requires beside { b.stream ≡ a.stream }
+    ensures { (q : QueryValue) → AreKnownColumns q a.stream columns.now → IsTrue result ↔ AreTwoNames q a b }
+{
+    let left = names_class(columns, a);
+    let right = names_class(columns, b);
     let same = is_same(a, b);
-    left && right && !same
+    both(both(left, right), !same)
+}
+
+// Whether comparisons name both of two columns. What bounds others is said by their ranges.
+fn are_compared(columns: &[KnownColumn; 8], a: Attr, b: Attr) -> bool
+    requires left { a.column < 8 }
+    requires right { b.column < 8 }
+    requires beside { b.stream ≡ a.stream }
+    ensures { IsFalse result → (q : QueryValue) → AreKnownColumns q a.stream columns.now → (¬ Contains (attrs_of q.atoms) a) ⊎ (¬ Contains (attrs_of q.atoms) b) }
+{
+    let left = column_in(columns, a);
+    let right = column_in(columns, b);
+    both(left.is_compared, right.is_compared)
 }
 
 // Says that a column is at most so much above another, where their ranges do not.
@@ -102,11 +191,25 @@ fn unsaid(closed: &ClosedSystem, a: Attr, b: Attr, by: i64) -> Option<LocalCondi
     }
 }
 
-// The most that a column is above another, where both name classes, and their ranges do not say it.
-fn between(closed: &ClosedSystem, a: Attr, b: Attr) -> Option<LocalCondition>
+// The most that a column is above another of its stream, where both name classes, and their ranges do not say it.
+fn between(
+    closed: &ClosedSystem,
+    columns: &[KnownColumn; 8],
+    a: Attr,
+    b: Attr,
+) -> Option<LocalCondition>
+    requires left { a.column < 8 }
+    requires right { b.column < 8 }
+    requires beside { b.stream ≡ a.stream }
+    requires columns { AreKnownColumns closed.now a.stream columns.now }
     ensures { IsBetween closed.now a b result }
 {
-    if !are_two_names(closed, a, b) {
+    // Named for the proof alone: the system has a solution.
+    let _query = closed.query();
+    if !are_two_names(columns, a, b) {
+        return None;
+    }
+    if !are_compared(columns, a, b) {
         return None;
     }
     match closed.above(a, b) {
@@ -185,8 +288,8 @@ fn unlike(place: u8, atom: &Atom) -> Option<LocalCondition>
 }
 
 // Adds a condition, where there is one.
-fn add(list: &mut ArrayVec<LocalCondition, 64>, condition: Option<LocalCondition>)
-    requires { length list.old.items < 64 }
+fn add<const N: usize>(list: &mut ArrayVec<LocalCondition, N>, condition: Option<LocalCondition>)
+    requires { length list.old.items < N }
     ensures { list.new.items ≡ list.old.items ++ listed condition }
 {
     match condition {
@@ -196,8 +299,8 @@ fn add(list: &mut ArrayVec<LocalCondition, 64>, condition: Option<LocalCondition
 }
 
 // The ties of the columns of a stream.
-fn ties(closed: &ClosedSystem, place: u8) -> ArrayVec<LocalCondition, 64>
-    ensures { AreListed (λ c o. IsTie closed.now (column_at place c) o) 8 result.items }
+fn ties(columns: &[KnownColumn; 8], place: u8) -> ArrayVec<LocalCondition, 8>
+    ensures { (q : QueryValue) → AreKnownColumns q place columns.now → AreListed (λ c o. IsTie q (column_at place c) o) 8 result.items }
 {
     let mut list = ArrayVec::new();
     for column in 0..8 {
@@ -205,13 +308,18 @@ fn ties(closed: &ClosedSystem, place: u8) -> ArrayVec<LocalCondition, 64>
             stream: place,
             column,
         };
-        add(&mut list, tie(closed, attr));
+        add(&mut list, tie(columns, attr));
     }
     list
 }
 
 // The least values of the columns of a stream.
-fn least_ends(closed: &ClosedSystem, place: u8) -> ArrayVec<LocalCondition, 64>
+fn least_ends(
+    closed: &ClosedSystem,
+    columns: &[KnownColumn; 8],
+    place: u8,
+) -> ArrayVec<LocalCondition, 8>
+    requires { AreKnownColumns closed.now place columns.now }
     ensures { AreListed (λ c o. IsLeastEnd closed.now (column_at place c) o) 8 result.items }
 {
     let mut list = ArrayVec::new();
@@ -220,13 +328,18 @@ fn least_ends(closed: &ClosedSystem, place: u8) -> ArrayVec<LocalCondition, 64>
             stream: place,
             column,
         };
-        add(&mut list, least_end(closed, attr));
+        add(&mut list, least_end(closed, columns, attr));
     }
     list
 }
 
 // The greatest values of the columns of a stream.
-fn greatest_ends(closed: &ClosedSystem, place: u8) -> ArrayVec<LocalCondition, 64>
+fn greatest_ends(
+    closed: &ClosedSystem,
+    columns: &[KnownColumn; 8],
+    place: u8,
+) -> ArrayVec<LocalCondition, 8>
+    requires { AreKnownColumns closed.now place columns.now }
     ensures { AreListed (λ c o. IsGreatestEnd closed.now (column_at place c) o) 8 result.items }
 {
     let mut list = ArrayVec::new();
@@ -235,13 +348,18 @@ fn greatest_ends(closed: &ClosedSystem, place: u8) -> ArrayVec<LocalCondition, 6
             stream: place,
             column,
         };
-        add(&mut list, greatest_end(closed, attr));
+        add(&mut list, greatest_end(closed, columns, attr));
     }
     list
 }
 
 // The bounds of the columns of a stream above each other.
-fn differences(closed: &ClosedSystem, place: u8) -> ArrayVec<LocalCondition, 64>
+fn differences(
+    closed: &ClosedSystem,
+    columns: &[KnownColumn; 8],
+    place: u8,
+) -> ArrayVec<LocalCondition, 64>
+    requires { AreKnownColumns closed.now place columns.now }
     ensures { AreListed (λ i o. IsBetween closed.now (column_at place (i / 8)) (column_at place (i % 8)) o) 64 result.items }
 {
     let mut list = ArrayVec::new();
@@ -254,13 +372,13 @@ fn differences(closed: &ClosedSystem, place: u8) -> ArrayVec<LocalCondition, 64>
             stream: place,
             column: i % 8,
         };
-        add(&mut list, between(closed, left, right));
+        add(&mut list, between(closed, columns, left, right));
     }
     list
 }
 
 // The comparisons `<>` of a stream among some.
-fn unlikes_among(atoms: &[Atom], place: u8) -> ArrayVec<LocalCondition, 64>
+fn unlikes_among(atoms: &[Atom], place: u8) -> ArrayVec<LocalCondition, 16>
     requires { length atoms.now ≤ 16 }
     ensures { AreUnlikes place atoms.now result.items }
 {
@@ -272,7 +390,7 @@ fn unlikes_among(atoms: &[Atom], place: u8) -> ArrayVec<LocalCondition, 64>
 }
 
 // The comparisons `<>` of a stream: those of the query, since no sign says one.
-fn unlikes(closed: &ClosedSystem, place: u8) -> ArrayVec<LocalCondition, 64>
+fn unlikes(closed: &ClosedSystem, place: u8) -> ArrayVec<LocalCondition, 16>
     ensures { AreUnlikes place closed.now.atoms result.items }
 {
     unlikes_among(closed.query().atoms(), place)
@@ -286,10 +404,11 @@ fn add_stream(
 ) -> Result<(), AllocError>
     ensures { OnOk result (IsWithStream closed.now place list.old.items list.new.items) }
 {
-    list.extend_from_slice(ties(closed, place).as_slice())?;
-    list.extend_from_slice(least_ends(closed, place).as_slice())?;
-    list.extend_from_slice(greatest_ends(closed, place).as_slice())?;
-    list.extend_from_slice(differences(closed, place).as_slice())?;
+    let columns = columns_at(closed, place);
+    list.extend_from_slice(ties(&columns, place).as_slice())?;
+    list.extend_from_slice(least_ends(closed, &columns, place).as_slice())?;
+    list.extend_from_slice(greatest_ends(closed, &columns, place).as_slice())?;
+    list.extend_from_slice(differences(closed, &columns, place).as_slice())?;
     list.extend_from_slice(unlikes(closed, place).as_slice())?;
     Ok(())
 }

@@ -2,7 +2,7 @@
 //!
 //! `bq_whole_plan` tells the links and what is kept of each stream. Here stand what the rows of each stream are asked (`conditions_of`),
 //! whether all kept ranges have both ends and else which condition is broken where (`first_break`), and how many cells, answers
-//! and combinations of cells there are. `whole_of` puts them together.
+//! and combinations of cells there are. `whole_over` puts them together.
 #![tactic(auto)]
 
 mod breaking;
@@ -21,4 +21,4 @@ pub use numbers::{PartNumbers, numbers_of};
 pub use part::WholeStream;
 pub use selected::selected_ranges;
 pub use sizes::box_size;
-pub use whole::{Whole, WholePart, whole_of, whole_over};
+pub use whole::{Whole, WholePart, whole_over};

@@ -12,7 +12,7 @@ use crate::conditions::conditions_of;
 use crate::part::WholeStream;
 use crate::selected::{dim_in, selected_ranges};
 use arrayvec::ArrayVec;
-use bq_model::{Break, Dim, LocalCondition, Query};
+use bq_model::{Break, Dim, LocalCondition};
 use bq_whole_plan::{ClosedSystem, ColumnLink, KeptClass, KeptStream, WholeKeeps, keeps_of};
 use std::alloc::{AllocError, Global};
 
@@ -103,16 +103,5 @@ pub fn whole_over(alloc: Global, closed: &ClosedSystem) -> Result<Whole, AllocEr
             Ok(part) => Ok(Whole::Part(part)),
             Err(error) => Err(error),
         },
-    }
-}
-
-/// Returns the whole form of a query: that its system contradicts itself, or the first condition that the form breaks and the first column that
-/// shows it, or its one part, where all ranges have both ends. An error says that memory was not found.
-pub fn whole_of(alloc: Global, q: &Query) -> Result<Whole, AllocError>
-    ensures { IfOk result (IsWhole q.now) }
-{
-    match ClosedSystem::of_query(q) {
-        None => Ok(Whole::Contradiction),
-        Some(closed) => whole_over(alloc, &closed),
     }
 }

@@ -9,7 +9,6 @@ use Rattle.bq_model.specs.declared.atom.Element.{Element}
 use Rattle.bq_model.specs.declared.atom.Element.TheVariants as element
 use Rattle.bq_model.proofs.Has.{Has, first, later, Has-nil, Has-from_contains, Contains-from_has, Has-append_left, Has-append_right, Has-append_cases, Has-map, Has-map_from}
 use Rattle.bq_laws.proofs.Tests.{and-left, and-right, and-both, or-cases, or-left, or-right, not_both}
-use Rattle.bq_closure.specs.Shortest.{IsMet}
 use Rattle.bq_whole.specs.System.{Difference, bounds_of, Bound}
 use Rattle.bq_whole.specs.Links.{comparison, AreOfOne, Follows, ranges, link, Goes, bounds, less, greater}
 use Rattle.bq_whole.specs.Ranges.{Range}
@@ -17,7 +16,7 @@ use Rattle.bq_whole.specs.Kept.{IsLowest, IsHighest, IsRange}
 use Rattle.bq_whole.specs.Laws.{IsLeastBound}
 use Rattle.bq_whole_plan.specs.declared.links.ColumnLink.{ColumnLink}
 use Rattle.bq_whole_plan.specs.declared.links.ColumnBound.{ColumnBound}
-use Rattle.bq_whole_plan.specs.Closed.{apart}
+use Rattle.bq_whole_plan.specs.Closed.{apart, IsMet}
 use Rattle.bq_whole_plan.specs.Columns.{atom_of, difference_of, summed, AreAlike, FollowsFrom, FollowsByRanges, FollowsByLink, FollowsByOne}
 
 least_at : (ds : List Difference) (x y : Element) (o : Option ℤ) (c : ℤ) → IsLeastBound ds x y o → Bound ds x y c → (u : ℤ) × (o ≡ Some u) × (u ≤ℤ c)

@@ -1,5 +1,5 @@
 -- What signs say stands before the comparisons of a query, one sign after another.
-use Rattle.std.proofs.Common.{◌≡◌, ℕ, zero, suc, ◌<◌, ◌≤◌, List, [], ◌∷◌, ◌++◌, map, filter, length, take, get_or, Bool, true, false, not, cond, append-nil, refl, sym, ◌∙◌, ap, subst, arith}
+use Rattle.std.proofs.Common.{◌≡◌, ℕ, zero, suc, ◌<◌, ◌≤◌, ◌↔◌, inl, inr, ℤ, Option, Some, None, append_assoc, List, [], ◌∷◌, ◌++◌, map, filter, length, take, get_or, Bool, true, false, not, cond, refl, sym, ◌∙◌, ap, subst, arith}
 use Rattle.std.proofs.lemmas.List.{map-append}
 use Rattle.std.proofs.lemmas.List.Concat.{flat_map-append}
 use Rattle.std.specs.List.{flat_map}
@@ -9,17 +9,18 @@ use Rattle.bq_model.specs.declared.atom.Element.{Element}
 use Rattle.bq_model.specs.declared.atom.Element.TheVariants as element
 use Rattle.bq_model.specs.declared.part.Pair.{Pair}
 use Rattle.bq_model.specs.declared.part.Sign.{Sign}
-use Rattle.bq_model.specs.Query.{QueryValue, attrs_of}
-use Rattle.bq_model.proofs.Has.{Has, first, later, Has-nil}
+use Rattle.bq_model.specs.Query.{QueryValue, attrs_of, IsWithinLimits}
+use Rattle.bq_model.proofs.Has.{Has, first, later, Has-nil, Has-from_contains, Contains-from_has, Has-append_left, Has-append_right, Has-append_cases}
 use Rattle.bq_constraints.specs.declared.constraint.Constraint.{Constraint}
-use Rattle.bq_constraints.specs.Nodes.{IsWithinLimit}
-use Rattle.bq_closure.specs.declared.distances.Distances.{Distances}
-use Rattle.bq_closure.specs.Shortest.{AreDistancesOf}
-use Rattle.bq_whole.specs.System.{atom_bounds}
+use Rattle.bq_constraints.specs.Nodes.{constraints_of, IsWithinLimit}
+use Rattle.bq_constraints.specs.PartConstraints.{of_signs}
+use Rattle.bq_constraints.specs.Solutions.{Solves, IsSatisfiable, IsUpperAnswer}
+use Rattle.bq_whole.specs.System.{Difference, atom_bounds}
 use Rattle.bq_whole.specs.Links.{are_across, turned_by, atom_eq, each_once, between_streams}
 use Rattle.bq_whole.specs.Signed.{said, all_said, with_signs, IsSide, AreSignedPairs}
 use Rattle.bq_whole_plan.specs.declared.links.ColumnLink.{ColumnLink}
-use Rattle.bq_whole_plan.specs.Closed.{constraint_of, named_bounds, closed_constraints}
+use Rattle.bq_whole.proofs.Signed.{signed_attrs, signed_well_formed}
+use Rattle.bq_whole_plan.specs.Closed.{constraint_of, named_bounds, named_system, closed_constraints, bound_at, IsSmall, IsClosedSystem}
 use Rattle.bq_whole_plan.specs.Columns.{atom_of}
 
 pub length_said : (ps : List Pair) (ss : List Sign) → length ps ≡ length ss → length (all_said ps ss) ≡ length ps
@@ -53,30 +54,91 @@ pub side_limit : (xs : List Attr) (e : Element) → IsSide xs e → IsWithinLimi
 side_limit xs (element.Attr a) h = tt
 side_limit xs (element.Const k) h = h
 
--- ---- distances
+-- ---- constraints
 
-pub append_nothing : (d : Distances) (n : ℕ) (cs : List Constraint) → AreDistancesOf d n cs → AreDistancesOf d n (cs ++ [])
-append_nothing d n cs h = subst (AreDistancesOf d n) (sym (append-nil cs)) h
+-- what the signs of pairs say, as constraints on the nodes of these columns
+abbrev pub said_constraints : List Attr → List Pair → List Sign → List Constraint
+said_constraints xs ps ss = map (constraint_of xs) (flat_map atom_bounds (all_said ps ss))
 
--- all three lists are the constraints of the query with the signs
-pub distances_joined : (q : QueryValue) (ps : List Pair) (ss : List Sign) (d : Distances) (n : ℕ) → attrs_of (with_signs ps ss q).atoms ≡ attrs_of q.atoms
-    → AreDistancesOf d n ((map (constraint_of (attrs_of q.atoms)) (flat_map atom_bounds (all_said ps ss)) ++ map (constraint_of (attrs_of q.atoms)) (flat_map atom_bounds q.atoms))
-    ++ map (constraint_of (attrs_of q.atoms)) (flat_map (named_bounds (attrs_of q.atoms)) q.domains))
-    → AreDistancesOf d n (closed_constraints (with_signs ps ss q))
-distances_joined q ps ss d n e h =
-    subst (λ xs. AreDistancesOf d n (map (constraint_of xs) (flat_map atom_bounds (all_said ps ss ++ q.atoms) ++ flat_map (named_bounds xs) q.domains))) (sym e)
-    (subst (AreDistancesOf d n) (sym same) h)
+-- these are the constraints of the signs
+pub said_are_signs : (xs : List Attr) (ps : List Pair) (ss : List Sign) → said_constraints xs ps ss ≡ of_signs xs ps ss
+said_are_signs xs [] ss = refl
+said_are_signs xs (p ∷ ps) [] = refl
+said_are_signs xs (p ∷ ps) (s ∷ ss) =
+    map-append (constraint_of xs) (atom_bounds (said p s)) (flat_map atom_bounds (all_said ps ss))
+    ∙ (λ k. one s k ++ said_are_signs xs ps ss k)
   where
-    k : List Constraint
-    k = map (constraint_of (attrs_of q.atoms)) (flat_map (named_bounds (attrs_of q.atoms)) q.domains)
+    one : (s : Sign) → map (constraint_of xs) (atom_bounds (said p s)) ≡ constraints_of xs (element.Attr p.left) s p.right
+    one Sign.Lt = refl
+    one Sign.Eq = refl
+    one Sign.Gt = refl
 
-    same : map (constraint_of (attrs_of q.atoms)) (flat_map atom_bounds (all_said ps ss ++ q.atoms) ++ flat_map (named_bounds (attrs_of q.atoms)) q.domains)
-        ≡ (map (constraint_of (attrs_of q.atoms)) (flat_map atom_bounds (all_said ps ss)) ++ map (constraint_of (attrs_of q.atoms)) (flat_map atom_bounds q.atoms))
-        ++ map (constraint_of (attrs_of q.atoms)) (flat_map (named_bounds (attrs_of q.atoms)) q.domains)
-    same =
-        map-append (constraint_of (attrs_of q.atoms)) (flat_map atom_bounds (all_said ps ss ++ q.atoms)) (flat_map (named_bounds (attrs_of q.atoms)) q.domains)
-        ∙ ap (λ z. map (constraint_of (attrs_of q.atoms)) z ++ map (constraint_of (attrs_of q.atoms)) (flat_map (named_bounds (attrs_of q.atoms)) q.domains)) (flat_map-append atom_bounds (all_said ps ss) q.atoms)
-        ∙ ap (λ z. z ++ map (constraint_of (attrs_of q.atoms)) (flat_map (named_bounds (attrs_of q.atoms)) q.domains)) (map-append (constraint_of (attrs_of q.atoms)) (flat_map atom_bounds (all_said ps ss)) (flat_map atom_bounds q.atoms))
+-- the system of a query is what its comparisons say, and then its domains
+pub closed_parts : (q : QueryValue) → closed_constraints q ≡ map (constraint_of (attrs_of q.atoms)) (flat_map atom_bounds q.atoms) ++ map (constraint_of (attrs_of q.atoms)) (flat_map (named_bounds (attrs_of q.atoms)) q.domains)
+closed_parts q = map-append (constraint_of (attrs_of q.atoms)) (flat_map atom_bounds q.atoms) (flat_map (named_bounds (attrs_of q.atoms)) q.domains)
+
+-- what the signs say stands before that of the query with the signs
+signed_parts : (q : QueryValue) (ps : List Pair) (ss : List Sign) → attrs_of (with_signs ps ss q).atoms ≡ attrs_of q.atoms → closed_constraints (with_signs ps ss q) ≡ said_constraints (attrs_of q.atoms) ps ss ++ closed_constraints q
+signed_parts q ps ss e =
+    ap (λ xs. map (constraint_of xs) (flat_map atom_bounds (all_said ps ss ++ q.atoms) ++ flat_map (named_bounds xs) q.domains)) e
+    ∙ ap (λ z. map k (z ++ flat_map (named_bounds (attrs_of q.atoms)) q.domains)) (flat_map-append atom_bounds (all_said ps ss) q.atoms)
+    ∙ ap (map k) (append_assoc (flat_map atom_bounds (all_said ps ss)) (flat_map atom_bounds q.atoms) (flat_map (named_bounds (attrs_of q.atoms)) q.domains))
+    ∙ map-append k (flat_map atom_bounds (all_said ps ss)) (named_system q)
+  where
+    k : Difference → Constraint
+    k = constraint_of (attrs_of q.atoms)
+
+-- the same integers meet the same constraints in another order
+swapped : (x : ℕ → ℤ) (cs ds : List Constraint) → Solves x (cs ++ ds) → Solves x (ds ++ cs)
+swapped x cs ds s = record {
+  origin = s.origin;
+  each = λ c h. elim (Has-append_cases ds cs c (Has-from_contains (ds ++ cs) c h)) [
+    | inl i ↦ s.each c (Contains-from_has (cs ++ ds) c (Has-append_right cs i))
+    | inr i ↦ s.each c (Contains-from_has (cs ++ ds) c (Has-append_left ds i))
+  ];
+}
+
+pub same_solutions : (q : QueryValue) (ps : List Pair) (ss : List Sign) → AreSignedPairs q ps ss → (x : ℕ → ℤ)
+    → Solves x (closed_constraints q ++ said_constraints (attrs_of q.atoms) ps ss) ↔ Solves x (closed_constraints (with_signs ps ss q))
+same_solutions q ps ss are x = (
+  λ s. subst (Solves x) (sym e) (swapped x (closed_constraints q) (said_constraints (attrs_of q.atoms) ps ss) s),
+  λ s. swapped x (said_constraints (attrs_of q.atoms) ps ss) (closed_constraints q) (subst (Solves x) e s),
+)
+  where
+    e : closed_constraints (with_signs ps ss q) ≡ said_constraints (attrs_of q.atoms) ps ss ++ closed_constraints q
+    e = signed_parts q ps ss (signed_attrs q ps ss are)
+
+module _ (cs ds : List Constraint) (same : (x : ℕ → ℤ) → Solves x cs ↔ Solves x ds) where
+  pub satisfiable_alike : IsSatisfiable cs → IsSatisfiable ds
+  satisfiable_alike s = record { at = s.at; solves = (same s.at).0 s.solves }
+
+  -- the same solutions have the same least bounds
+  pub uppers_alike : (i j : ℕ) (u : Option ℤ) → IsUpperAnswer cs i j u → IsUpperAnswer ds i j u
+  uppers_alike i j None h = record { passed = λ u. (let r = h.passed u in (r.0, (same r.0).0 r.1, r.2)) }
+  uppers_alike i j (Some u) h = record { bound = λ x s. h.bound x ((same x).1 s); at = h.at; solves = (same h.at).0 h.solves; reached = h.reached }
+
+-- least bounds between the nodes of what is said by a query, and then by the signs, close the query with the signs
+pub least_bounds_close : (q : QueryValue) (ps : List Pair) (ss : List Sign) (bounds : List (Option ℤ)) → IsWithinLimits q → AreSignedPairs q ps ss → IsSatisfiable (closed_constraints q ++ said_constraints (attrs_of q.atoms) ps ss)
+    → ((i j : ℕ) → i ≤ length (attrs_of q.atoms) → j ≤ length (attrs_of q.atoms) → IsUpperAnswer (closed_constraints q ++ said_constraints (attrs_of q.atoms) ps ss) i j (bound_at bounds i j) × IsSmall (bound_at bounds i j))
+    → IsClosedSystem (with_signs ps ss q) bounds
+least_bounds_close q ps ss bounds w are s told = record {
+  within = signed_well_formed q ps ss w are;
+  satisfiable = satisfiable_alike cs ds same s;
+  told = λ i j l m n. uppers_alike cs ds same i j (bound_at bounds i j) (told i j (subst (λ xs. i ≤ length xs) e l) (subst (λ xs. j ≤ length xs) e m)).0;
+  small = λ i j l m n. (told i j (subst (λ xs. i ≤ length xs) e l) (subst (λ xs. j ≤ length xs) e m)).1;
+}
+  where
+    cs : List Constraint
+    cs = closed_constraints q ++ said_constraints (attrs_of q.atoms) ps ss
+
+    ds : List Constraint
+    ds = closed_constraints (with_signs ps ss q)
+
+    same : (x : ℕ → ℤ) → Solves x cs ↔ Solves x ds
+    same = same_solutions q ps ss are
+
+    e : attrs_of (with_signs ps ss q).atoms ≡ attrs_of q.atoms
+    e = signed_attrs q ps ss are
 
 -- ---- the comparisons between streams among them
 

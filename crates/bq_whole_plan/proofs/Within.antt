@@ -1,5 +1,5 @@
 -- The constraints of a query's comparisons and domains lie within their limits, one after another.
-use Rattle.std.proofs.Common.{◌≡◌, ℕ, ◌+◌, ◌<◌, ◌≤◌, inl, inr, ℤ, pos, neg_ℤ, ◌+ℤ◌, ◌-ℤ◌, ◌≤ℤ◌, List, [], ◌∷◌, ◌++◌, map, length, take, get_or, Bool, true, false, cond, All, Contains, append-nil, append_assoc, refl, sym, ◌∙◌, ap, subst, arith}
+use Rattle.std.proofs.Common.{◌≡◌, ℕ, ◌+◌, ◌<◌, ◌≤◌, inl, inr, ℤ, pos, neg_ℤ, ◌+ℤ◌, ◌-ℤ◌, ◌≤ℤ◌, List, [], ◌∷◌, ◌++◌, map, length, take, get_or, Bool, true, false, cond, All, Contains, append-nil, append_assoc, length-append, ◌*◌, refl, sym, ◌∙◌, ap, subst, arith}
 use Rattle.std.proofs.lemmas.Int.{ints}
 use Rattle.std.proofs.lemmas.List.{take_more, take_all, map-append}
 use Rattle.std.proofs.lemmas.List.Concat.{flat_map-append}
@@ -21,8 +21,6 @@ use Rattle.bq_constraints.specs.Solutions.{IsWithin}
 use Rattle.bq_constraints.proofs.Joined.{All-from_has}
 use Rattle.bq_constraints.proofs.NodeFacts.{node_in, limit_in, node_has, place_below}
 use Rattle.bq_constraints.proofs.OfDomains.{node_within, no_node_past}
-use Rattle.bq_closure.specs.declared.distances.Distances.{Distances}
-use Rattle.bq_closure.specs.Shortest.{AreDistancesOf}
 use Rattle.bq_whole.specs.System.{Difference, bounds_of, atom_bounds, domain_bounds}
 use Rattle.bq_whole.specs.Signed.{op_of, said, IsSide}
 use Rattle.bq_whole_plan.specs.Closed.{constraint_of, named_bounds}
@@ -128,6 +126,19 @@ domain_within q d cs e i = subst (All (IsWithin (length (attrs_of q.atoms)))) (s
         x h
     by false n x h = Has-nil h
 
+-- at most two more
+pub none_within : (n : ℕ) → All (IsWithin n) []
+none_within n = All-from_has (IsWithin n) [] (λ c h. Has-nil h)
+
+pub two_more : (old added new : List Constraint) (n : ℕ) → new ≡ old ++ added → length added ≤ 2 → length old ≤ 2 * n → length new ≤ 2 * (n + 1)
+two_more old added new n e l m = let k = ap length e in omega (arith, k, length-append old added, l, m)
+
+pub two_behind : (old added new : List Constraint) (n : ℕ) → new ≡ old ++ added → length added ≤ 2 → length old ≤ 32 + 2 * n → length new ≤ 32 + 2 * (n + 1)
+two_behind old added new n e l m = let k = ap length e in omega (arith, k, length-append old added, l, m)
+
+pub none_behind : (xs : List Constraint) → xs ≡ xs ++ []
+none_behind xs = sym (append-nil xs)
+
 -- one more of a list gives its constraints behind those of the others
 module _ {X : Type 0} (xs : List Attr) (f : X → List Difference) where
   more_constraints : (ts : List X) (i : ℕ) (d : X) → i < length ts → map (constraint_of xs) (flat_map f (take (i + 1) ts)) ≡ map (constraint_of xs) (flat_map f (take i ts)) ++ map (constraint_of xs) (f (get_or ts i d))
@@ -136,12 +147,11 @@ module _ {X : Type 0} (xs : List Attr) (f : X → List Difference) where
       ∙ ap (map (constraint_of xs)) (flat_map-append f (take i ts) (get_or ts i d ∷ []) ∙ ap (λ z. flat_map f (take i ts) ++ z) (append-nil (f (get_or ts i d))))
       ∙ map-append (constraint_of xs) (flat_map f (take i ts)) (f (get_or ts i d))
 
-  pub distances_more : (d : Distances) (n : ℕ) (base : List Constraint) (ts : List X) (i : ℕ) (x : X) (cs : List Constraint) → i < length ts → cs ≡ map (constraint_of xs) (f (get_or ts i x))
-      → AreDistancesOf d n ((base ++ map (constraint_of xs) (flat_map f (take i ts))) ++ cs) → AreDistancesOf d n (base ++ map (constraint_of xs) (flat_map f (take (i + 1) ts)))
-  distances_more d n base ts i x cs l e h =
-      subst (AreDistancesOf d n) (append_assoc base (map (constraint_of xs) (flat_map f (take i ts))) cs
-      ∙ ap (λ z. base ++ z) (ap (λ z. map (constraint_of xs) (flat_map f (take i ts)) ++ z) e ∙ sym (more_constraints ts i x l))) h
+  pub bounds_more : (base old new : List Constraint) (ts : List X) (i : ℕ) (x : X) (cs : List Constraint) → i < length ts → cs ≡ map (constraint_of xs) (f (get_or ts i x)) → new ≡ old ++ cs
+      → old ≡ base ++ map (constraint_of xs) (flat_map f (take i ts)) → new ≡ base ++ map (constraint_of xs) (flat_map f (take (i + 1) ts))
+  bounds_more base old new ts i x cs l e g h =
+      g ∙ ap (λ z. z ++ cs) h ∙ append_assoc base (map (constraint_of xs) (flat_map f (take i ts))) cs
+      ∙ ap (λ z. base ++ z) (ap (λ z. map (constraint_of xs) (flat_map f (take i ts)) ++ z) e ∙ sym (more_constraints ts i x l))
 
-  pub distances_all : (d : Distances) (n : ℕ) (base : List Constraint) (ts : List X) (i : ℕ) → length ts ≤ i
-      → AreDistancesOf d n (base ++ map (constraint_of xs) (flat_map f (take i ts))) → AreDistancesOf d n (base ++ map (constraint_of xs) (flat_map f ts))
-  distances_all d n base ts i l h = subst (λ z. AreDistancesOf d n (base ++ map (constraint_of xs) (flat_map f z))) (take_all i ts l) h
+  pub bounds_all : (base list : List Constraint) (ts : List X) (i : ℕ) → length ts ≤ i → list ≡ base ++ map (constraint_of xs) (flat_map f (take i ts)) → list ≡ base ++ map (constraint_of xs) (flat_map f ts)
+  bounds_all base list ts i l h = h ∙ ap (λ z. base ++ map (constraint_of xs) (flat_map f z)) (take_all i ts l)

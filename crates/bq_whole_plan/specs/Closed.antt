@@ -1,8 +1,8 @@
 -- The closed system of a query: what its comparisons and domains bound, as constraints on the nodes of its attributes.
-use Rattle.std.specs.Prelude.{◌≡◌, ℤ, pos, neg_ℤ, ◌-ℤ◌, ◌≤ℤ◌, List, [], ◌∷◌, ◌++◌, map, cond, length}
+use Rattle.std.specs.Prelude.{◌≡◌, ◌≢◌, ℕ, ◌+◌, ◌*◌, ◌≤◌, ℤ, pos, neg_ℤ, ◌-ℤ◌, ◌≤ℤ◌, List, [], ◌∷◌, ◌++◌, map, cond, length}
 use Rattle.std.specs.declared.option.Option.{Option}
 use Rattle.std.specs.declared.option.Option.TheVariants.{None, Some}
-use Rattle.std.specs.List.{flat_map}
+use Rattle.std.specs.List.{flat_map, slice_index_or}
 use Rattle.bq_model.specs.declared.atom.Attr.{Attr}
 use Rattle.bq_model.specs.declared.atom.Domain.{Domain}
 use Rattle.bq_model.specs.declared.atom.Element.TheVariants as element
@@ -12,9 +12,7 @@ use Rattle.bq_model.specs.Query.{QueryValue, attr_eq, attrs_of}
 use Rattle.bq_model.specs.Assignment.{Assignment}
 use Rattle.bq_constraints.specs.declared.constraint.Constraint.{Constraint}
 use Rattle.bq_constraints.specs.Nodes.{has_node, at_most_above}
-use Rattle.bq_constraints.specs.Solutions.{IsSatisfiable}
-use Rattle.bq_closure.specs.declared.distances.Distances.{Distances}
-use Rattle.bq_closure.specs.Shortest.{AreDistancesOf}
+use Rattle.bq_constraints.specs.Solutions.{IsSatisfiable, IsUpperAnswer}
 use Rattle.bq_whole.specs.System.{Difference, atom_bounds, domain_bounds, system, Solves}
 use Rattle.bq_whole.specs.Ranges.{Range, range}
 use Rattle.bq_whole.specs.Kept.{IsRange}
@@ -38,11 +36,26 @@ named_system q = flat_map atom_bounds q.atoms ++ flat_map (named_bounds (attrs_o
 abbrev pub closed_constraints : QueryValue → List Constraint
 closed_constraints q = map (constraint_of (attrs_of q.atoms)) (named_system q)
 
--- the distances are those of the system of a query, and some assignment solves it
-pub record IsClosedSystem (q : QueryValue) (d : Distances) : Type 0 where
+-- within 10^17 either way
+abbrev pub IsSmall : Option ℤ → Type 0
+IsSmall None = Unit {0}
+IsSmall (Some u) = (neg_ℤ (pos 100000000000000000) ≤ℤ u) × (u ≤ℤ pos 100000000000000000)
+
+-- a bound at most u is there
+abbrev pub IsMet : Option ℤ → ℤ → Type 0
+IsMet None u = ⊥
+IsMet (Some b) u = b ≤ℤ u
+
+-- the bound of node i above node j in a table with 13 to a row
+abbrev pub bound_at : List (Option ℤ) → ℕ → ℕ → Option ℤ
+bound_at bounds i j = slice_index_or bounds (13 * i + j) None
+
+-- some assignment solves the system of a query, and the table holds the least bound of each node above each other, none where there is none
+pub record IsClosedSystem (q : QueryValue) (bounds : List (Option ℤ)) : Type 0 where
   pub within : IsWellFormed q
-  pub distances : AreDistancesOf d (length (attrs_of q.atoms)) (closed_constraints q)
   pub satisfiable : IsSatisfiable (closed_constraints q)
+  pub told : (i j : ℕ) → i ≤ length (attrs_of q.atoms) → j ≤ length (attrs_of q.atoms) → i ≢ j → IsUpperAnswer (closed_constraints q) i j (bound_at bounds i j)
+  pub small : (i j : ℕ) → i ≤ length (attrs_of q.atoms) → j ≤ length (attrs_of q.atoms) → i ≢ j → IsSmall (bound_at bounds i j)
 
 -- a query with the signs of some of its pairs
 pub record IsWithSigns (q r : QueryValue) : Type 0 where
@@ -57,6 +70,11 @@ pub record IsSolvable (q : QueryValue) : Type 0 where
   pub solves : Solves (system q) at
   pub range : (a : Attr) → (r : Range) × IsRange (system q) a r
   pub above : (a b : Attr) → (u : Option ℤ) × IsLeastBound (system q) (element.Attr a) (element.Attr b) u
+
+-- a bound below 0, as the least value above 0 that it tells
+abbrev pub negated : Option ℤ → Option ℤ
+negated None = None
+negated (Some u) = Some (neg_ℤ u)
 
 -- two ends as a range
 abbrev pub ends_of : Ends → Range

@@ -6,18 +6,14 @@ ghost use Rattle.bq_model.specs.Order.{IsElement};
 ghost use Rattle.bq_constraints.specs.declared.constraint.Constraint.{Constraint};
 ghost use Rattle.bq_constraints.specs.Nodes.{at_most_above, IsWithinLimit, HasAttr};
 ghost use Rattle.bq_constraints.specs.Solutions.{IsWithin, IsLowAnswer, IsHighAnswer};
-ghost use Rattle.bq_closure.specs.Answers.{IsSmall};
-ghost use Rattle.bq_closure.specs.Shortest.{AreDistancesOf, AreSatisfiable, IsMet};
 ghost use Rattle.bq_whole.specs.System.{bounds_of, atom_bounds, system, Bound, AreOneClass};
 ghost use Rattle.bq_whole.specs.Kept.{IsRange};
 ghost use Rattle.bq_whole.specs.Laws.{IsLeastBound};
-ghost use Rattle.bq_whole.specs.Failing.{Contradicts};
 ghost use Rattle.bq_whole.specs.Signed.{op_of, said, with_signs, IsWellFormed, IsSide, AreSignedPairs};
-ghost use Rattle.bq_whole_plan.specs.Closed.{constraint_of, named_bounds, closed_constraints, domain_ends, apart, IsModest, IsWithSigns, IsSolvable, ends_of};
+ghost use Rattle.bq_whole_plan.specs.Closed.{constraint_of, named_bounds, closed_constraints, domain_ends, apart, negated, bound_at, IsSmall, IsMet, IsModest, IsWithSigns, IsSolvable, IsClosedSystem, ends_of};
 
 use arrayvec::ArrayVec;
-use bq_closure::Distances;
-use bq_constraints::{Constraint, difference, node, place_of};
+use bq_constraints::{Constraint, add_each, difference, node, place_of};
 use bq_model::{Atom, Attr, Domain, Element, Op, Pair, Query, Sign, is_same};
 use std::marker::Model;
 
@@ -43,7 +39,7 @@ pub struct ClosedSystem<'a> {
     query: &'a Query,
     pairs: &'a [Pair],
     signs: &'a [Sign],
-    distances: Distances,
+    bounds: [Option<i64>; 169],
 }
 
 impl<'a> Model for ClosedSystem<'a> {
@@ -55,39 +51,30 @@ impl<'a> Model for ClosedSystem<'a> {
 
     ghost view = { λ s. with_signs s.pairs.now s.signs.now s.query.now };
 
-    ghost invariant = { λ s. AreSignedPairs s.query.now s.pairs.now s.signs.now × IsClosedSystem (with_signs s.pairs.now s.signs.now s.query.now) s.distances };
+    ghost invariant = { λ s. AreSignedPairs s.query.now s.pairs.now s.signs.now × IsClosedSystem (with_signs s.pairs.now s.signs.now s.query.now) s.bounds };
+}
+
+/// Returns the closed system of a query with the signs of some of its pairs, by the table of the least bounds between its nodes, 13 to a row: node 0
+/// stands for the number 0, and the others for the attributes in order.
+pub fn closed_at<'a>(
+    query: &'a Query,
+    pairs: &'a [Pair],
+    signs: &'a [Sign],
+    bounds: &[Option<i64>; 169],
+) -> ClosedSystem<'a>
+    requires signed { AreSignedPairs query.now pairs.now signs.now }
+    requires closed { IsClosedSystem (with_signs pairs.now signs.now query.now) bounds.now }
+    ensures { result ≡ with_signs pairs.now signs.now query.now }
+{
+    ClosedSystem {
+        query,
+        pairs,
+        signs,
+        bounds: *bounds,
+    }
 }
 
 impl<'a> ClosedSystem<'a> {
-    /// Returns the closed system of a query, or none where no assignment solves its system.
-    pub fn of_query(query: &'a Query) -> Option<ClosedSystem<'a>>
-        ensures { MatchOption result (Contradicts query.now) (λ s. s ≡ query.now) }
-    {
-        ClosedSystem::of_part(query, &[], &[])
-    }
-
-    /// Returns the closed system of a query with the signs of some of its pairs, or none where no assignment solves the system with them.
-    pub fn of_part(
-        query: &'a Query,
-        pairs: &'a [Pair],
-        signs: &'a [Sign],
-    ) -> Option<ClosedSystem<'a>>
-        requires { AreSignedPairs query.now pairs.now signs.now }
-        ensures { MatchOption result (Contradicts (with_signs pairs.now signs.now query.now)) (λ s. s ≡ with_signs pairs.now signs.now query.now) }
-    {
-        let distances = signed_distances(query, pairs, signs);
-        if distances.satisfiable() {
-            Some(ClosedSystem {
-                query,
-                pairs,
-                signs,
-                distances,
-            })
-        } else {
-            None
-        }
-    }
-
     /// Returns the query, which has no signs among its comparisons. Some assignment solves the system with them, and what bounds each column,
     /// and each two, can be told.
     pub fn query(&self) -> &'a Query
@@ -124,7 +111,7 @@ impl<'a> ClosedSystem<'a> {
         let attrs = self.query.attrs();
         let place = place_of(attrs, a);
         if place < attrs.len() {
-            ends_at(&self.distances, place as u8 + 1)
+            ends_at(&self.bounds, place as u8 + 1)
         } else {
             domain_ends(self.query.domains(), a)
         }
@@ -142,7 +129,7 @@ impl<'a> ClosedSystem<'a> {
         let left = place_of(attrs, a);
         let right = place_of(attrs, b);
         if are_below(left, right, attrs.len()) {
-            self.distances.upper(left as u8 + 1, right as u8 + 1)
+            bound_at(&self.bounds, left as u8 + 1, right as u8 + 1)
         } else {
             apart(self.ends(a).hi, self.ends(b).lo)
         }
@@ -193,18 +180,40 @@ fn are_below(left: usize, right: usize, all: usize) -> bool
     left < all && right < all
 }
 
+// The bound of a node above another in a table.
+fn bound_at(bounds: &[Option<i64>; 169], left: u8, right: u8) -> Option<i64>
+    requires left { left < 13 }
+    requires right { right < 13 }
+    ensures { result ≡ bound_at bounds.now left right }
+{
+    bounds[13 * usize::from(left) + usize::from(right)]
+}
+
+// The least value of a node that its bound below 0 tells.
+fn negated(bound: Option<i64>) -> Option<i64>
+    requires { IsSmall bound }
+    ensures value { result ≡ negated bound }
+    ensures small { IsSmall result }
+{
+    match bound {
+        Some(bound) => Some(-bound),
+        None => None,
+    }
+}
+
 // The least and the greatest value of a node.
-fn ends_at(distances: &Distances, node: u8) -> Ends
-    requires satisfiable { AreSatisfiable distances.now }
-    requires node { node ≤ distances.now.attrs }
-    ensures least { (n : ℕ) (cs : List Constraint) → AreDistancesOf distances.now n cs → IsLowAnswer cs node result.lo }
-    ensures greatest { (n : ℕ) (cs : List Constraint) → AreDistancesOf distances.now n cs → IsHighAnswer cs node result.hi }
+fn ends_at(bounds: &[Option<i64>; 169], node: u8) -> Ends
+    requires node { node < 13 }
+    requires low { IsSmall (bound_at bounds.now 0 node) }
+    requires high { IsSmall (bound_at bounds.now node 0) }
+    ensures least { result.lo ≡ negated (bound_at bounds.now 0 node) }
+    ensures greatest { result.hi ≡ bound_at bounds.now node 0 }
     ensures low { IsSmall result.lo }
     ensures high { IsSmall result.hi }
 {
     Ends {
-        lo: distances.lo(node),
-        hi: distances.hi(node),
+        lo: negated(bound_at(bounds, 0, node)),
+        hi: bound_at(bounds, node, 0),
     }
 }
 
@@ -329,32 +338,21 @@ fn of_domain(q: &Query, domain: &Domain) -> ArrayVec<Constraint, 2>
     list
 }
 
-// The distances of what the signs of some pairs say, of the comparisons of a query, and of the domains of its attributes.
-fn signed_distances(q: &Query, pairs: &[Pair], signs: &[Sign]) -> Distances
-    requires { AreSignedPairs q.now pairs.now signs.now }
-    ensures distances { AreDistancesOf result (length (attrs_of q.now.atoms)) (closed_constraints (with_signs pairs.now signs.now q.now)) }
+/// Returns what the comparisons of a query bound, in order, and then the domains of its attributes, as constraints on the nodes of attributes. There is
+/// room for more behind them.
+pub fn system_constraints(q: &Query) -> ArrayVec<Constraint, 268>
+    ensures value { result.items ≡ closed_constraints q.now }
+    ensures within { All (IsWithin (length (attrs_of q.now.atoms))) result.items }
     ensures limits { IsWithinLimits q.now }
 {
-    let mut distances = Distances::new(q.attrs().len() as u8);
-    'signs: for i in 0..pairs.len() {
-        let added = of_sign(q, pairs[i], signs[i]);
-        distances.add_all(added.as_slice());
-    }
+    let mut list = ArrayVec::new();
     for atom in q.atoms() {
         let added = of_atom(q, atom);
-        distances.add_all(added.as_slice());
+        add_each(&mut list, added.as_slice());
     }
     for domain in q.domains() {
         let added = of_domain(q, domain);
-        distances.add_all(added.as_slice());
+        add_each(&mut list, added.as_slice());
     }
-    distances
-}
-
-/// Returns the distances of the comparisons of a query, and of the domains of its attributes.
-pub fn distances_of(q: &Query) -> Distances
-    ensures distances { AreDistancesOf result (length (attrs_of q.now.atoms)) (closed_constraints q.now) }
-    ensures limits { IsWithinLimits q.now }
-{
-    signed_distances(q, &[], &[])
+    list
 }

@@ -1,8 +1,7 @@
 //! Ranges that may be open, and what comparisons can tell apart in them.
 ghost use Rattle.std.specs.Prelude.{◌≡◌, ◌≤ℤ◌, ◌+ℤ◌, pos, neg_ℤ};
-ghost use Rattle.bq_closure.specs.Answers.{IsSmall};
 ghost use Rattle.bq_whole.specs.Ranges.{moved, window, flipped, lesser, greater, later, sooner, cut};
-ghost use Rattle.bq_whole_plan.specs.Closed.{ends_of};
+ghost use Rattle.bq_whole_plan.specs.Closed.{ends_of, IsSmall};
 ghost use Rattle.bq_whole_plan.specs.Asked.{joined};
 
 use crate::closed::Ends;

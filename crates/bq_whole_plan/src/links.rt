@@ -4,10 +4,9 @@ ghost use Rattle.std.specs.List.{Any};
 ghost use Rattle.bq_model.specs.declared.atom.Element.TheVariants as element;
 ghost use Rattle.bq_whole.specs.System.{system};
 ghost use Rattle.bq_model.specs.declared.atom.Op.{Op};
-ghost use Rattle.bq_closure.specs.Shortest.{IsMet};
 ghost use Rattle.bq_whole.specs.Links.{comparison, turned_by, across, between_streams, Follows, Goes, AreLinks};
 ghost use Rattle.bq_whole.specs.Signed.{said, with_signs, AreSignedPairs};
-ghost use Rattle.bq_whole_plan.specs.Closed.{IsModest};
+ghost use Rattle.bq_whole_plan.specs.Closed.{IsMet, IsModest};
 ghost use Rattle.bq_whole_plan.specs.Columns.{atom_of, difference_of, listed, summed, IsOnceWith, IsAddedTo, AreAlike, FollowsFrom, FollowsByRanges, FollowsByLink, FollowsByOne, in_order};
 
 use crate::closed::{ClosedSystem, SignedQuery, apart, op_of};

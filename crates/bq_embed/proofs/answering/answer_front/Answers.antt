@@ -1,27 +1,53 @@
-use Rattle.std.proofs.Common.{List, ℕ, ◌+◌, take, subst, refl, arith}
+use Rattle.std.proofs.Common.{List, ℕ, take, subst, sym, refl, arith}
 use Rattle.bq_feed.specs.Reading.{IsFirstFeed}
-use Rattle.bq_session.specs.Session.{Answered}
-use Rattle.bq_embed.proofs.Fronts.{counts_on}
+use Rattle.bq_rows.proofs.NamesAhead.{some_ended}
+use Rattle.bq_rows.specs.Ahead.{IsEnded}
+use Rattle.bq_session.specs.Session.{Answered, SessionValue}
+use Rattle.bq_embed.specs.Fed.{AnswersFront}
+use Rattle.bq_embed.proofs.FirstLines.{first_short}
+use Rattle.bq_embed.proofs.Fronts.{counted_inside, counts_on, ended_behind, first_answered}
 use Rattle.bq_embed.proofs.answering.answer_front.Goals as goal
 
-pub answer_first-line-requires-clause-few : goal.answer_first-line-requires-clause-few
-answer_first-line-requires-clause-few g c =
-    let on = (counts_on _ _ c.requires.stands _ _ _ _ c.count_front-rows.ensures.rows).1 in
-    let inside = c.count_front-rows.ensures.inside in
+pub returns-then-text-le-ONE_LINE : goal.returns-then-text-le-ONE_LINE
+returns-then-text-le-ONE_LINE g c = first_answered _ _ _ _ _ _ _ c.answer_alone.ensures.feed c.answer_alone.ensures.reply
+
+pub split_at-requires : goal.split_at-requires
+split_at-requires g c = (let inside = counted_inside _ _ _ _ _ _ (some_ended c.args.text.now c.requires.ended) c.in-Counted.ensures.1 in omega (arith, inside))
+
+pub answer_behind-line-requires-clause-ended : goal.answer_behind-line-requires-clause-ended
+answer_behind-line-requires-clause-ended g c =
+    subst (λ (t : List ℕ). IsEnded t) (sym c.split_at.ensures.back)
+    (ended_behind c.args.text.now c.in-Counted.rows.end (counted_inside _ _ _ _ _ _ (some_ended c.args.text.now c.requires.ended) c.in-Counted.ensures.1) c.requires.ended)
+
+pub answer_behind-line-requires-clause-few : goal.answer_behind-line-requires-clause-few
+answer_behind-line-requires-clause-few g c =
+    let on = (counts_on _ _ c.requires.stands _ _ _ _ c.in-Counted.ensures.1).1 in
+    let inside = counted_inside _ _ _ _ _ _ (some_ended c.args.text.now c.requires.ended) c.in-Counted.ensures.1 in
     let few = c.requires.few in
     omega (arith, on, inside, few)
 
-pub returns : goal.returns
-returns g c = record {
-  count = c.count_front-rows.result.count;
-  begin = c.count_front-rows.result.begin;
-  end = c.count_front-rows.result.end;
-  left = c.count_front-rows.new.session;
-  rows = c.count_front-rows.ensures.rows;
-  first = c.answer_first-line.result.len;
-  feed = subst (λ (t : List ℕ). IsFirstFeed t c.answer_first-line.result.len) c.split_at.ensures.back c.answer_first-line.ensures.feed;
+pub returns-in-Counted : goal.returns-in-Counted
+returns-in-Counted g c = record {
+  count = c.in-Counted.rows.count;
+  begin = c.in-Counted.rows.begin;
+  end = c.in-Counted.rows.end;
+  left = c.front_ahead.new.session;
+  rows = c.in-Counted.ensures.1;
+  first = c.answer_behind-line.result.len;
+  feed = subst (λ (t : List ℕ). IsFirstFeed t c.answer_behind-line.result.len) c.split_at.ensures.back c.answer_behind-line.ensures.feed;
   size = refl;
   reply = λ s stands.
-      subst (λ (t : List ℕ). Answered c.answer_first-line.result.outcome s (take c.answer_first-line.result.len t) c.answer_first-line.new.session (g.O.Sink.seen c.args.out.now) (g.O.Sink.seen c.answer_first-line.new.out)) c.split_at.ensures.back
-      (c.answer_first-line.ensures.reply s stands);
+      subst (λ (t : List ℕ). Answered c.answer_behind-line.result.outcome s (take c.answer_behind-line.result.len t) c.answer_behind-line.new.session (g.O.Sink.seen c.args.out.now) (g.O.Sink.seen c.answer_behind-line.new.out)) c.split_at.ensures.back
+      (c.answer_behind-line.ensures.reply s stands);
 }
+
+pub returns-in-Row : goal.returns-in-Row
+returns-in-Row g c =
+    let row = c.in-Row.ensures.1 in
+    subst (λ (k : SessionValue). AnswersFront c.args.text.now k c.in-Row.len c.plain_row-outcome.result c.plain_row-outcome.new.self (g.O.Sink.seen c.args.out.now) (g.O.Sink.seen c.plain_row-outcome.new.out)) c.in-Row.ensures.0
+    (first_answered _ _ _ _ _ _ _ row.feed (λ s stands. c.plain_row-outcome.ensures.reply s _ (first_short _ _ row.feed.0 row.short) row.row stands))
+
+pub returns-in-Other : goal.returns-in-Other
+returns-in-Other g c =
+    subst (λ (k : SessionValue). AnswersFront c.args.text.now k c.answer_any.result.len c.answer_any.result.outcome c.answer_any.new.session (g.O.Sink.seen c.args.out.now) (g.O.Sink.seen c.answer_any.new.out)) c.in-Other.ensures
+    (first_answered _ _ _ _ _ _ _ c.answer_any.ensures.feed c.answer_any.ensures.reply)

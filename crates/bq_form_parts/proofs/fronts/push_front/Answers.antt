@@ -1,4 +1,4 @@
-use Rattle.std.proofs.Common.{◌≡◌, ◌∷◌, [], ◌++◌, map, get_or, length, ◌∙◌, ap, subst, arith}
+use Rattle.std.proofs.Common.{◌≡◌, ◌∷◌, [], ◌++◌, map, get_or, length, ◌∙◌, ap, sym, subst, arith}
 use Rattle.bq_model.specs.Query.{attrs_of}
 use Rattle.bq_closure.specs.Shortest.{AreDistancesOf}
 use Rattle.bq_form_pairs.proofs.Adding.{no_pair}
@@ -8,7 +8,9 @@ use Rattle.bq_whole_plan.specs.Closed.{constraint_of}
 use Rattle.bq_form_parts.specs.declared.front.Front.{Front}
 use Rattle.bq_form_parts.specs.Fronts.{front_constraints}
 use Rattle.bq_form_parts.proofs.SignedPairs.{side_of}
+use Rattle.bq_constraints.specs.Solutions.{IsSatisfiable}
 use Rattle.bq_form_parts.proofs.Stepped.{pair_at, constraints_more, pushes_none, pushes_one}
+use Rattle.bq_form_parts.proofs.Tabled.{allowed_each}
 use Rattle.bq_form_parts.proofs.Reached.{place_in, named_at}
 use Rattle.bq_form_parts.proofs.fronts.push_front.Goals as goal
 
@@ -17,6 +19,20 @@ of_sign-added-requires-clause-left c = (named_at c.args.q.now c.requires.pairs.l
 
 pub of_sign-added-requires-clause-right : goal.of_sign-added-requires-clause-right
 of_sign-added-requires-clause-right c = side_of (attrs_of c.args.q.now.atoms) _ (named_at c.args.q.now c.requires.pairs.limits c.args.pairs.now c.requires.pairs.pairs c.len.result no_pair (omega (arith, c.len.ensures.value, c.requires.room))).right
+
+pub returns-then-not-allows_each : goal.returns-then-not-allows_each
+returns-then-not-allows_each c =
+    let q = c.args.q.now in
+    let pre = c.args.front.now.signs.items in
+    let n = length pre in
+    let k = constraint_of (attrs_of q.atoms) in
+    let w = c.requires.pairs.limits in
+    let l = place_in q c.args.pairs.now n c.requires.pairs.pairs c.requires.room in
+    let pair : get_or c.args.pairs.now c.len.result no_pair ≡ pair_at q n = ap (λ i. get_or c.args.pairs.now i no_pair) c.len.ensures.value ∙ ap (λ ps. get_or ps n no_pair) c.requires.pairs.pairs in
+    let added : c.as_slice.result.now ≡ map k (atom_bounds (said (pair_at q n) c.args.sign)) = c.as_slice.ensures.value ∙ c.of_sign-added.ensures.value ∙ ap (λ p. map k (atom_bounds (said p c.args.sign))) pair in
+    pushes_none q w n l pre c.args.sign c.args.list.now.items c.requires.front.signs
+    (λ s. let y = (c.allows_each.ensures _ _ c.requires.front.distances).1 (allowed_each (front_constraints q n pre) c.as_slice.result.now
+    (subst IsSatisfiable (sym (ap (λ z. front_constraints q n pre ++ z) added ∙ constraints_more q w n l pre c.args.sign c.requires.front.signs)) s)) in cc)
 
 pub returns-then-not-satisfiable : goal.returns-then-not-satisfiable
 returns-then-not-satisfiable c =
@@ -27,7 +43,7 @@ returns-then-not-satisfiable c =
     let w = c.requires.pairs.limits in
     let l = place_in q c.args.pairs.now n c.requires.pairs.pairs c.requires.room in
     let pair : get_or c.args.pairs.now c.len.result no_pair ≡ pair_at q n = ap (λ i. get_or c.args.pairs.now i no_pair) c.len.ensures.value ∙ ap (λ ps. get_or ps n no_pair) c.requires.pairs.pairs in
-    let added : c.as_slice.result.now ≡ map k (atom_bounds (said (pair_at q n) c.args.sign)) = c.as_slice.ensures.value ∙ c.of_sign-added.ensures.value ∙ ap (λ p. map k (atom_bounds (said p c.args.sign))) pair in
+    let added : c.as_slice-2.result.now ≡ map k (atom_bounds (said (pair_at q n) c.args.sign)) = c.as_slice-2.ensures.value ∙ c.of_sign-added.ensures.value ∙ ap (λ p. map k (atom_bounds (said p c.args.sign))) pair in
     let stepped = subst (AreDistancesOf c.add_all.new.self (length (attrs_of q.atoms))) (ap (λ z. front_constraints q n pre ++ z) added ∙ constraints_more q w n l pre c.args.sign c.requires.front.signs) (c.add_all.ensures _ _ c.requires.front.distances) in
     pushes_none q w n l pre c.args.sign c.args.list.now.items c.requires.front.signs (λ s. let y = (c.satisfiable.ensures _ _ stepped).1 s in cc)
 
@@ -40,8 +56,8 @@ returns-in-Ok c =
     let w = c.requires.pairs.limits in
     let l = place_in q c.args.pairs.now n c.requires.pairs.pairs c.requires.room in
     let pair : get_or c.args.pairs.now c.len.result no_pair ≡ pair_at q n = ap (λ i. get_or c.args.pairs.now i no_pair) c.len.ensures.value ∙ ap (λ ps. get_or ps n no_pair) c.requires.pairs.pairs in
-    let added : c.as_slice.result.now ≡ map k (atom_bounds (said (pair_at q n) c.args.sign)) = c.as_slice.ensures.value ∙ c.of_sign-added.ensures.value ∙ ap (λ p. map k (atom_bounds (said p c.args.sign))) pair in
+    let added : c.as_slice-2.result.now ≡ map k (atom_bounds (said (pair_at q n) c.args.sign)) = c.as_slice-2.ensures.value ∙ c.of_sign-added.ensures.value ∙ ap (λ p. map k (atom_bounds (said p c.args.sign))) pair in
     let stepped = subst (AreDistancesOf c.add_all.new.self (length (attrs_of q.atoms))) (ap (λ z. front_constraints q n pre ++ z) added ∙ constraints_more q w n l pre c.args.sign c.requires.front.signs) (c.add_all.ensures _ _ c.requires.front.distances) in
     let g : Front = record { signs = c.longer-signs.result; distances = c.add_all.new.self } in
     pushes_one q w n l pre c.args.sign c.args.list.now.items c.push.new.self.items g c.requires.front.signs (λ m. c.requires.sign (omega (arith, m, c.requires.pairs.unlikes)))
-    ((c.satisfiable.ensures _ _ stepped).0 c.if-not-satisfiable.false) (c.longer-signs.ensures ∙ ap (λ z. z ++ c.args.sign ∷ []) c.as_slice-2.ensures.value) stepped c.in-Ok.ensures.items
+    ((c.satisfiable.ensures _ _ stepped).0 c.if-not-satisfiable.false) (c.longer-signs.ensures ∙ ap (λ z. z ++ c.args.sign ∷ []) c.as_slice-3.ensures.value) stepped c.in-Ok.ensures.items

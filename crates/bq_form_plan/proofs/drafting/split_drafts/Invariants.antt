@@ -1,13 +1,16 @@
 use Rattle.std.proofs.Common.{ℕ, ◌<◌, take, None}
 use Rattle.std.specs.List.{AllZip}
-use Rattle.bq_model.specs.Parts.{sign_lists}
+use Rattle.bq_model.specs.Numbers.{answer_bound}
+use Rattle.bq_form_parts.specs.Fronts.{fronts_of}
 use Rattle.bq_forms.specs.SplitBreaks.{BreaksAt}
+use Rattle.bq_form_plan.specs.Hulls.{AreHulls}
 use Rattle.bq_form_plan.specs.Drafts.{IsPartDraft, AreSummed}
 use Rattle.bq_form_plan.proofs.drafting.split_drafts.Given as goal
 
 abbrev pub invariant-loop-i : goal.invariant-loop-i
 invariant-loop-i l = record {
-  summed : AreSummed l.q l.draft;
-  drafts : AllZip (IsPartDraft l.q) (take l.i (sign_lists l.parts)) l.draft.parts.items;
-  fine : (n : ℕ) → n < l.i → BreaksAt l.q (sign_lists l.parts) n None;
+  summed : AreSummed l.q (answer_bound l.q) l.draft;
+  hulls : AreHulls l.q l.draft.parts.items l.hulls.items;
+  drafts : AllZip (IsPartDraft l.q) (take l.i (fronts_of l.fronts)) l.draft.parts.items;
+  fine : (n : ℕ) → n < l.i → BreaksAt l.q (fronts_of l.fronts) n None;
 }

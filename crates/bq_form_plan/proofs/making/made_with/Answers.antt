@@ -1,4 +1,4 @@
-use Rattle.std.proofs.Common.{IfOk, ◌≤◌, length, map, filter, sym, subst}
+use Rattle.std.proofs.Common.{IfOk, ◌≤◌, length, map, filter, sym, ◌∙◌, subst}
 use Rattle.bq_whole_plan.specs.Columns.{atom_of}
 use Rattle.bq_forms.specs.Part.{is_soft}
 use Rattle.bq_form_plan.specs.Ordered.{AreOrdered}
@@ -19,9 +19,9 @@ pub returns : goal.returns
 returns c =
     let ordered = subst (λ r. IfOk r (λ list. AreOrdered c.as_slice-5.result.now list.items)) c.in_ok-local.was c.ascending.ensures in
     made_is c.args.closed.now c.query-query.ensures.formed c.args.part.now c.requires.part
-    record { streams = c.args.streams; equal = c.equal_dims-equal.result; less = c.inequalities.result; soft = c.soft_links.result; local = c.of.result; numbers = c.numbers_of-numbers.result }
+    record { streams = c.args.streams; equal = c.equal_dims-equal.result; less = c.inequalities.result; soft = c.soft_links.result; local = c.of.result; numbers = c.numbers_of-numbers.result; selected = c.copied.result }
     c.as_slice.result.now c.as_slice-2.result.now c.as_slice-3.result.now c.as_slice-4.result.now c.as_slice-5.result.now c.as_slice-links.result.now
     c.requires.streams c.as_slice.ensures.value record { told = c.equal_dims-equal.ensures.equal; ascend = c.equal_dims-equal.ensures.ascending }
-    c.as_slice-2.ensures.value c.as_slice-3.ensures.value c.as_slice-4.ensures.value
+    c.as_slice-2.ensures.value c.as_slice-3.ensures.value c.as_slice-4.ensures.value (c.copied.ensures ∙ c.as_slice-6.ensures.value)
     c.numbers_of-numbers.ensures.cells c.numbers_of-numbers.ensures.answers c.numbers_of-numbers.ensures.work
     c.as_slice-5.ensures.value (subst (AreOrdered c.as_slice-5.result.now) (sym c.of.ensures) ordered) c.as_slice-links.ensures.value c.inequalities.ensures c.soft_links.ensures

@@ -7,10 +7,10 @@ use Rattle.bq_index.proofs.part_entry.entries_of.Goals as goal
 
 pub parts-preserved : goal.parts-preserved
 parts-preserved c =
-    let P : ℕ → PartEntry → Type 0 = λ k e. IsPartEntry c.args.parts.now c.args.place c.args.chained.now.is_injective c.args.chained.now.codes.now c.args.chained.now.links.now k e in
+    let P : ℕ → PartEntry → Type 0 = λ k e. IsPartEntry c.args.parts.now c.args.place c.args.chained.now.codes.now c.args.chained.now.links.now c.args.chained.now.spans.now k e in
     record {
       many = pushed-length c.parts.entries.items c.entry_at.result c.push.new.self.items c.parts.i c.in_ok-push.ensures.items c.parts.invariant.many;
       each = subst (λ (xs : List PartEntry). (k : ℕ) (e : PartEntry) → slice_get xs k ≡ Some e → P k e) (sym c.in_ok-push.ensures.items)
-          (entries_more c.args.parts.now c.args.place c.args.chained.now.is_injective c.args.chained.now.codes.now c.args.chained.now.links.now c.parts.entries.items c.entry_at.result c.parts.invariant.each
+          (entries_more c.args.parts.now c.args.place c.args.chained.now.codes.now c.args.chained.now.links.now c.args.chained.now.spans.now c.parts.entries.items c.entry_at.result c.parts.invariant.each
           (subst (λ n. P n c.entry_at.result) (sym c.parts.invariant.many) c.entry_at.ensures));
     }

@@ -6,5 +6,5 @@ use Rattle.bq_index.proofs.part_entry.entries_of.Given as goal
 abbrev pub invariant-parts : goal.invariant-parts
 invariant-parts l = record {
   many : length l.entries.items ≡ l.i;
-  each : (k : ℕ) (entry : PartEntry) → slice_get l.entries.items k ≡ Some entry → IsPartEntry l.parts l.place l.chained.is_injective l.chained.codes.now l.chained.links.now k entry;
+  each : (k : ℕ) (entry : PartEntry) → slice_get l.entries.items k ≡ Some entry → IsPartEntry l.parts l.place l.chained.codes.now l.chained.links.now l.chained.spans.now k entry;
 }

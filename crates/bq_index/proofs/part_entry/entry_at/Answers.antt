@@ -7,5 +7,6 @@ returns c = record {
   shift = c.shift_at.ensures;
   code = refl;
   next = refl;
-  follows = c.has_next_code.ensures;
+  span = refl;
+  follows = c.has_next_alike.ensures;
 }

@@ -5,7 +5,7 @@ use Rattle.bq_whole_form.proofs.Conditioned.{differ}
 use Rattle.bq_whole_form.proofs.conditions.tie.Goals as goal
 
 pub returns-then-is_same : goal.returns-then-is_same
-returns-then-is_same c = subst (NamesClass c.args.closed.now) (attr_eq-is c.name_of-name.result c.args.a (sym c.is_same.ensures ∙ c.if-is_same.true)) c.name_of-name.ensures.name
+returns-then-is_same c = λ q n. subst (NamesClass q) (attr_eq-is c.column_in.result.name c.args.a (sym c.is_same.ensures ∙ c.if-is_same.true)) (c.column_in.ensures q n).name.name
 
 pub returns : goal.returns
-returns c = (c.name_of-name.result, c.name_of-name.ensures, differ c.name_of-name.result c.args.a (sym c.is_same.ensures ∙ c.if-is_same.false), c.condition.ensures)
+returns c = λ q n. (c.column_in.result.name, (c.column_in.ensures q n).name, differ c.column_in.result.name c.args.a (sym c.is_same.ensures ∙ c.if-is_same.false), c.condition.ensures)

@@ -1,11 +1,13 @@
-use Rattle.std.proofs.Common.{◌≤◌}
+use Rattle.std.proofs.Common.{◌≤◌, length}
+use Rattle.bq_model.specs.Query.{QueryValue}
 use Rattle.bq_whole_plan.specs.Extremes.{column_at}
-use Rattle.bq_whole_form.specs.Conditions.{IsTie}
+use Rattle.bq_whole_form.specs.Conditions.{AreKnownColumns, IsTie}
 use Rattle.bq_whole_form.specs.Listed.{AreListed}
 use Rattle.bq_whole_form.proofs.conditions.ties.Given as goal
 
 abbrev pub invariant-loop-column : goal.invariant-loop-column
 invariant-loop-column l = record {
   within : l.column ≤ 8;
-  listed : AreListed (λ n o. IsTie l.closed (column_at l.place n) o) l.column l.list.items;
+  few : length l.list.items ≤ l.column;
+  listed : (q : QueryValue) → AreKnownColumns q l.place l.columns → AreListed (λ n o. IsTie q (column_at l.place n) o) l.column l.list.items;
 }

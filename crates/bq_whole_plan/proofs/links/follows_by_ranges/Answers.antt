@@ -1,7 +1,6 @@
 use Rattle.std.proofs.Common.{◌↔◌, IsTrue, subst}
-use Rattle.bq_closure.specs.Shortest.{IsMet}
 use Rattle.bq_whole.specs.System.{system}
-use Rattle.bq_whole_plan.specs.Closed.{ends_of}
+use Rattle.bq_whole_plan.specs.Closed.{ends_of, IsMet}
 use Rattle.bq_whole_plan.proofs.Following.{ranges_told}
 use Rattle.bq_whole_plan.proofs.links.follows_by_ranges.Goals as goal
 

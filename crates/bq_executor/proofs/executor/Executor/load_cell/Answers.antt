@@ -12,14 +12,14 @@ use Rattle.bq_executor.specs.Bases.{StandsFrom}
 use Rattle.bq_loading.specs.Loadable.{kind_at, filled_cell}
 use Rattle.bq_executor.specs.Loading.{loaded_cell, Loads}
 use Rattle.bq_executor.proofs.Loadings.{Puts, within, cell-loads, cell-kept, cell-within, cell-some}
-use Rattle.bq_executor.proofs.PlanFacts.{serving_in}
+use Rattle.bq_executor.proofs.PlanFacts.{serving_in, based_in}
 use Rattle.bq_executor.proofs.executor.Executor.load_cell.Goals as goal
 use Rattle.bq_executor.proofs.executor.Executor.load_cell.Goals.{in-Some, in-None}
 
 pub cell_to_load-requires : goal.cell_to_load-requires
 cell_to_load-requires g c =
     let e : ExecutorValue = record { query = c.self.inside.query; shared = c.self.inside.shared; plan = c.self.inside.plan; extent = c.self.inside.extent; given = c.self.inside.given; table = c.self.inside.table; saturation = c.self.inside.saturation } in
-    serving_in e c.self.invariant.0
+    based_in e.shared e.query e.plan (serving_in e c.self.invariant.0)
 
 pub fill-filled-requires-clause-within : goal.fill-filled-requires-clause-within
 fill-filled-requires-clause-within g c =

@@ -6,40 +6,35 @@ use Rattle.bq_whole_plan.specs.Closed.{IsClosedSystem}
 use Rattle.bq_whole_plan.proofs.Told.{above_itself, upper_read, apart_read}
 use Rattle.bq_whole_plan.proofs.closed.ClosedSystem.above.Goals as goal
 
-pub upper-requires-clause-left : goal.upper-requires-clause-left
-upper-requires-clause-left c =
-    let k : IsClosedSystem c.args.self.now c.self.inside.distances = subst (λ q. IsClosedSystem q c.self.inside.distances) c.self.view_is c.self.invariant.1 in
-    let e : c.attrs-attrs.result.now ≡ attrs_of c.args.self.now.atoms = c.attrs-attrs.ensures.value ∙ sym (signed_attrs c.self.inside.query.now c.self.inside.pairs.now c.self.inside.signs.now c.self.invariant.0) ∙ ap (λ q. attrs_of q.atoms) c.self.view_is in
-    let f = ap length e in
-    let g = k.distances.attrs in
-    let l = (c.are_below.ensures.0 c.if-are_below.true).0 in
-    omega (arith, f, g, l)
+pub bound_at-requires-clause-left : goal.bound_at-requires-clause-left
+bound_at-requires-clause-left c = let l = (c.are_below.ensures.0 c.if-are_below.true).0 in let f = c.attrs-attrs.ensures.limits.few_attrs in let e = ap length c.attrs-attrs.ensures.value in omega (arith, f, e, l)
 
-pub upper-requires-clause-right : goal.upper-requires-clause-right
-upper-requires-clause-right c =
-    let k : IsClosedSystem c.args.self.now c.self.inside.distances = subst (λ q. IsClosedSystem q c.self.inside.distances) c.self.view_is c.self.invariant.1 in
-    let e : c.attrs-attrs.result.now ≡ attrs_of c.args.self.now.atoms = c.attrs-attrs.ensures.value ∙ sym (signed_attrs c.self.inside.query.now c.self.inside.pairs.now c.self.inside.signs.now c.self.invariant.0) ∙ ap (λ q. attrs_of q.atoms) c.self.view_is in
-    let f = ap length e in
-    let g = k.distances.attrs in
-    let l = (c.are_below.ensures.0 c.if-are_below.true).1 in
-    omega (arith, f, g, l)
+pub bound_at-requires-clause-right : goal.bound_at-requires-clause-right
+bound_at-requires-clause-right c = let l = (c.are_below.ensures.0 c.if-are_below.true).1 in let f = c.attrs-attrs.ensures.limits.few_attrs in let e = ap length c.attrs-attrs.ensures.value in omega (arith, f, e, l)
 
 pub returns-then-is_same-clause-bound : goal.returns-then-is_same-clause-bound
 returns-then-is_same-clause-bound c =
-    let k : IsClosedSystem c.args.self.now c.self.inside.distances = subst (λ q. IsClosedSystem q c.self.inside.distances) c.self.view_is c.self.invariant.1 in
-    above_itself c.args.self.now c.self.inside.distances k c.args.a c.args.b (sym c.is_same.ensures ∙ c.if-is_same.true)
+    let k : IsClosedSystem c.args.self.now c.self.inside.bounds = subst (λ q. IsClosedSystem q c.self.inside.bounds) c.self.view_is c.self.invariant.1 in
+    above_itself c.args.self.now c.self.inside.bounds k c.args.a c.args.b (sym c.is_same.ensures ∙ c.if-is_same.true)
 
 pub returns-then-are_below-clause-bound : goal.returns-then-are_below-clause-bound
 returns-then-are_below-clause-bound c =
-    let k : IsClosedSystem c.args.self.now c.self.inside.distances = subst (λ q. IsClosedSystem q c.self.inside.distances) c.self.view_is c.self.invariant.1 in
+    let k : IsClosedSystem c.args.self.now c.self.inside.bounds = subst (λ q. IsClosedSystem q c.self.inside.bounds) c.self.view_is c.self.invariant.1 in
     let e : c.attrs-attrs.result.now ≡ attrs_of c.args.self.now.atoms = c.attrs-attrs.ensures.value ∙ sym (signed_attrs c.self.inside.query.now c.self.inside.pairs.now c.self.inside.signs.now c.self.invariant.0) ∙ ap (λ q. attrs_of q.atoms) c.self.view_is in
     let l : (c.place_of-left.result < length c.attrs-attrs.result.now) × (c.place_of-right.result < length c.attrs-attrs.result.now) = c.are_below.ensures.0 c.if-are_below.true in
-    upper_read c.args.self.now c.self.inside.distances k c.attrs-attrs.result.now c.place_of-left.result c.place_of-right.result _ _ c.args.a c.args.b c.upper.result e c.place_of-left.ensures.value c.place_of-right.ensures.value l.0 l.1 (omega arith) (omega arith) c.upper.ensures.answer
+    (upper_read c.args.self.now c.self.inside.bounds k c.attrs-attrs.result.now c.place_of-left.result c.place_of-right.result _ _ c.args.a c.args.b c.bound_at.result e c.place_of-left.ensures.value c.place_of-right.ensures.value l.0 l.1 (sym c.is_same.ensures ∙ c.if-is_same.false) (omega arith) (omega arith) c.bound_at.ensures).0
+
+pub returns-then-are_below-clause-modest : goal.returns-then-are_below-clause-modest
+returns-then-are_below-clause-modest c =
+    let k : IsClosedSystem c.args.self.now c.self.inside.bounds = subst (λ q. IsClosedSystem q c.self.inside.bounds) c.self.view_is c.self.invariant.1 in
+    let e : c.attrs-attrs.result.now ≡ attrs_of c.args.self.now.atoms = c.attrs-attrs.ensures.value ∙ sym (signed_attrs c.self.inside.query.now c.self.inside.pairs.now c.self.inside.signs.now c.self.invariant.0) ∙ ap (λ q. attrs_of q.atoms) c.self.view_is in
+    let l : (c.place_of-left.result < length c.attrs-attrs.result.now) × (c.place_of-right.result < length c.attrs-attrs.result.now) = c.are_below.ensures.0 c.if-are_below.true in
+    (upper_read c.args.self.now c.self.inside.bounds k c.attrs-attrs.result.now c.place_of-left.result c.place_of-right.result _ _ c.args.a c.args.b c.bound_at.result e c.place_of-left.ensures.value c.place_of-right.ensures.value l.0 l.1 (sym c.is_same.ensures ∙ c.if-is_same.false) (omega arith) (omega arith) c.bound_at.ensures).1
 
 pub returns-else-are_below-clause-bound : goal.returns-else-are_below-clause-bound
 returns-else-are_below-clause-bound c =
-    let k : IsClosedSystem c.args.self.now c.self.inside.distances = subst (λ q. IsClosedSystem q c.self.inside.distances) c.self.view_is c.self.invariant.1 in
+    let k : IsClosedSystem c.args.self.now c.self.inside.bounds = subst (λ q. IsClosedSystem q c.self.inside.bounds) c.self.view_is c.self.invariant.1 in
     let e : c.attrs-attrs.result.now ≡ attrs_of c.args.self.now.atoms = c.attrs-attrs.ensures.value ∙ sym (signed_attrs c.self.inside.query.now c.self.inside.pairs.now c.self.inside.signs.now c.self.invariant.0) ∙ ap (λ q. attrs_of q.atoms) c.self.view_is in
-    apart_read c.args.self.now c.self.inside.distances k c.attrs-attrs.result.now c.place_of-left.result c.place_of-right.result c.args.a c.args.b c.ends.result c.ends-else-are_below.result c.apart.result e
+    apart_read c.args.self.now c.self.inside.bounds k c.attrs-attrs.result.now c.place_of-left.result c.place_of-right.result c.args.a c.args.b c.ends.result c.ends-else-are_below.result c.apart.result e
     c.place_of-left.ensures.value c.place_of-right.ensures.value (sym c.is_same.ensures ∙ c.if-is_same.false)
     (λ l. not_both c.are_below.result (c.are_below.ensures.1 l) c.if-are_below.false) c.ends.ensures.ends c.ends-else-are_below.ensures.ends c.apart.ensures.value

@@ -1,8 +1,8 @@
 use Rattle.std.proofs.Common.{◌↔◌, IsTrue, subst, w64}
 use Rattle.std.proofs.lemmas.Int.{to_z-of_z}
 use Rattle.bq_model.specs.declared.atom.Element.TheVariants as element
-use Rattle.bq_closure.specs.Shortest.{IsMet}
 use Rattle.bq_whole.specs.System.{system}
+use Rattle.bq_whole_plan.specs.Closed.{IsMet}
 use Rattle.bq_whole_plan.proofs.Told.{met_bound}
 use Rattle.bq_whole_plan.proofs.closed.ClosedSystem.keeps.Goals as goal
 

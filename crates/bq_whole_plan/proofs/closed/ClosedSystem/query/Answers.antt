@@ -24,7 +24,7 @@ pub returns-clause-attrs : goal.returns-clause-attrs
 returns-clause-attrs c = sym (signed_attrs c.self.inside.query.now c.self.inside.pairs.now c.self.inside.signs.now c.self.invariant.0) ∙ ap (λ q. attrs_of q.atoms) c.self.view_is
 
 pub returns-clause-formed : goal.returns-clause-formed
-returns-clause-formed c = (subst (λ q. IsClosedSystem q c.self.inside.distances) c.self.view_is c.self.invariant.1).within
+returns-clause-formed c = (subst (λ q. IsClosedSystem q c.self.inside.bounds) c.self.view_is c.self.invariant.1).within
 
 pub returns-clause-solvable : goal.returns-clause-solvable
-returns-clause-solvable c = is_solvable c.args.self.now c.self.inside.distances (subst (λ q. IsClosedSystem q c.self.inside.distances) c.self.view_is c.self.invariant.1)
+returns-clause-solvable c = is_solvable c.args.self.now c.self.inside.bounds (subst (λ q. IsClosedSystem q c.self.inside.bounds) c.self.view_is c.self.invariant.1)
