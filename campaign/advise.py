@@ -5,9 +5,9 @@ to the same lines. Each change that it tells is written out and given to `run`: 
 it with a part and breaking no condition, and the numbers of a change are those that `run` announces. What
 bounds columns is written out with three pairs of integers: the widest, and two close together, below and
 above all integers of the query. Changes that keep every answer stand under one heading before those that
-leave rows out, which are told of refused queries alone. That no change is left out is judged too: the sets of columns by the analysis, the comparisons by `run`. The
-chains of the part that breaks a condition, the parts that keep the most cells, and whether a filter ever
-answers are those of the analysis.
+leave rows out, which are told of refused queries alone. That no change is left out is judged too: the sets of columns by the analysis, the comparisons by `run`.
+Of a compact query no comparison is tried, and no chain is told. The chains of the part that breaks a condition, the parts that keep the most cells, and
+whether a filter ever answers are those of the analysis.
 """
 import re
 from collections import namedtuple
@@ -17,7 +17,6 @@ import analysis
 import evaluator
 import language
 import splitform
-import whole
 from analysis import MOST_ANSWERS, MOST_CELLS, MOST_PARTS, MOST_WORK
 from common import Part, fault_of, run as run_program, scaled
 from evaluator import POOL_PAGES
@@ -454,7 +453,7 @@ class Trial:
         if self.verdict.verdict[0] != "violation" and not self.statement.shared:
             found = self.numbered([b"SHARED"], [self.with_words(shared=True)])
             wanted += [it for it in found if self.is_better(it[1])]
-        wanted += self.best_comparisons() if self.is_refused else []
+        wanted += self.best_comparisons() if self.is_refused and not self.query.compact else []
         if self.verdict.verdict[0] == "limit" and not wanted:
             wanted += self.best_halvings()
             self.part.count("queries with halved ranges", int(bool(wanted)))
@@ -475,13 +474,11 @@ class Trial:
         return [(name, tuple(map(int, it.groups()))) for name, it in zip(names, found) if it]
 
     def best_comparisons(self):
-        """The best of all attributes less and greater than each constant of their group."""
-        groups = analysis.groups_of(self.query)
-        names = []
+        """The best of all attributes less and greater than each constant."""
+        names, constants = [], analysis.constants_of(self.query)
         for attribute in analysis.attributes_of(self.query):
             named = self.session.column_name(self.statement.streams, attribute)
-            names += [b"AND %s %s %d" % (named, sign, value) for value in groups[attribute].constants
-                      for sign in (b"<", b">")]
+            names += [b"AND %s %s %d" % (named, sign, value) for value in constants for sign in (b"<", b">")]
         if not names:
             return []
         found = self.numbered(names, [self.with_text(b" " + it) for it in names])
@@ -686,7 +683,7 @@ class Trial:
         same, leaves = [SAME_ANSWERS] * bool(words), [LEAVES_OUT] * bool(comparisons)
         is_limit = self.verdict.verdict[0] == "limit"
         nothing = [NARROW if dear else NOT_LIFTED] * (is_limit and not changes)
-        cut = [it for it in rest if it == CUT] if is_limit else []
+        cut = [it for it in rest if it == CUT] if is_limit and not self.query.compact else []
         if rest != dear + same + words + leaves + comparisons + nothing + cut:
             self.fail(f"its lines are not those of costs in their order: {rest!r}")
         self.part.count("queries that nothing lifts", len(nothing))
@@ -759,9 +756,7 @@ def parts_by_analysis(query):
 
 
 def forms_by_analysis(query):
-    """The same of a compact query: one part where its whole form fits, and else those of its split form."""
-    if whole.fitting(query):
-        return 1
+    """The same of a compact query by its split form, so that a part is one that some assignment is in; -1 too where it has too many."""
     parts = 0
     try:
         for form in splitform.parts_of(query):
@@ -771,7 +766,7 @@ def forms_by_analysis(query):
             if parts > FEW_PARTS:
                 return None
     except analysis.TooManyParts:
-        return None
+        return -1
     return parts
 
 

@@ -31,7 +31,6 @@ TURNED = {"<": ">", "=": "=", ">": "<", "<=": ">=", ">=": "<=", "<>": "<>"}
 # atoms are triples (left, operator, right) of attributes and integers; domains are triples
 # (column, least, greatest) of the attributes and selected columns that have one, in order
 Query = namedtuple("Query", "distinct places select atoms domains compact", defaults=[(), False])
-Group = namedtuple("Group", "attributes constants")
 Analysis = namedtuple("Analysis", "verdict parts")
 Part = namedtuple("Part", "signs facts dims extremes")
 TooManyParts = type("TooManyParts", (Exception,), {})
@@ -82,34 +81,23 @@ def soft_pairs(query):
 
 @lru_cache(maxsize=1024)
 def groups_of(query):
-    """By each attribute its group. If the query is not compact, there is one."""
-    attributes = attributes_of(query)
-    if not query.compact:
-        return dict.fromkeys(attributes, Group(attributes, constants_of(query)))
-    members = {it: {it} for it in attributes}
+    """By each attribute those that comparisons of two columns join with it, itself too, in order."""
+    members = {it: {it} for it in attributes_of(query)}
     for left, _, right in query.atoms:
         if not (is_constant(left) or is_constant(right)):
             joined = members[left] | members[right]
             members.update(dict.fromkeys(joined, joined))
-    return {it: Group(sorted(members[it]), constants_with(query, members[it])) for it in attributes}
-
-
-def constants_with(query, attributes):
-    """The integers that atoms name with one of these attributes, ascending."""
-    sides = [(x, y) for left, _, right in query.atoms for x, y in ((left, right), (right, left))]
-    return sorted({y for x, y in sides if x in attributes and is_constant(y)})
+    return {it: sorted(group) for it, group in members.items()}
 
 
 def pairs_of(query):
-    """The soft pairs; then each attribute with each constant of its group, and with each later
-    attribute of its stream and group.
+    """The soft pairs; then each attribute with each constant, and with each later attribute of its
+    stream.
     """
-    groups, pairs = groups_of(query), soft_pairs(query)
+    pairs, attributes, constants = soft_pairs(query), attributes_of(query), constants_of(query)
     soft = set(pairs)
-    for attribute in attributes_of(query):
-        group = groups[attribute]
-        others = group.constants + [it for it in group.attributes
-                                    if it[0] == attribute[0] and it > attribute]
+    for attribute in attributes:
+        others = constants + [it for it in attributes if it[0] == attribute[0] and it > attribute]
         pairs += [(attribute, it) for it in others if (attribute, it) not in soft]
     return pairs
 
@@ -197,14 +185,14 @@ class Facts:
 
     def __init__(self, query, nodes, constants, at):
         self.query, self.nodes, self.constants, self.at = query, nodes, constants, at
-        self.attributes, self.groups = sorted(nodes), groups_of(query)
+        self.attributes = sorted(nodes)
         self.domains = {column: ends for column, *ends in query.domains}
         # each element stands at a node, a constant at node 0 with its value on top
         self.stands = {it: (node, 0) for it, node in nodes.items()}
         self.stands.update((it, (0, it)) for it in constants)
         self.links()
         self.references()
-        # comparisons that are no sign, which parts by groups have none of
+        # comparisons that are no sign, which ordered parts have none of
         self.soft = []
 
     def upper(self, x, y):
@@ -236,21 +224,15 @@ class Facts:
         low, high = self.at[0][self.nodes[x]], self.at[self.nodes[x]][0]
         return None if low is None or high is None else (-low, high)
 
-    def is_mate(self, x, y):
-        """Whether two attributes are of one group."""
-        return y in self.groups[x].attributes
-
     def redundant(self, x, y):
-        """Whether something of the group stands between, or a constant of it at one side."""
-        group = self.groups[x]
-        return (any(self.less(x, it) and self.less(it, y) for it in group.attributes + group.constants)
-                or any(self.equal(x, it) and self.less(it, y) for it in group.constants)
-                or any(self.less(x, it) and self.equal(it, y) for it in group.constants))
+        """Whether something stands between, or a constant at one side."""
+        return (any(self.less(x, it) and self.less(it, y) for it in self.attributes + self.constants)
+                or any(self.equal(x, it) and self.less(it, y) for it in self.constants)
+                or any(self.less(x, it) and self.equal(it, y) for it in self.constants))
 
     def links(self):
         """Equalities and inequalities between streams, the redundant ones left out."""
-        between = [(x, y) for x in self.attributes for y in self.attributes
-                   if x[0] != y[0] and self.is_mate(x, y)]
+        between = [(x, y) for x in self.attributes for y in self.attributes if x[0] != y[0]]
         self.equalities = [(x, y) for x, y in between if x < y and self.equal(x, y)]
         self.inequalities = [(x, y) for x, y in between
                              if self.less(x, y) and not self.redundant(x, y)]
@@ -261,17 +243,14 @@ class Facts:
         self.greatest = {y for _, y in self.inequalities if not self.range(y)}
 
     def class_of(self, x):
-        """The first attribute of the stream and group that equals x; a column that is none is by
-        itself.
-        """
+        """The first attribute of the stream that equals x; a column that is none is by itself."""
         if self.is_alone(x):
             return x
-        return next(it for it in self.groups[x].attributes if it[0] == x[0] and self.equal(it, x))
+        return next(it for it in self.attributes if it[0] == x[0] and self.equal(it, x))
 
     def is_given(self, x, others):
-        """Whether one of these attributes equals x and is of its group."""
-        return not self.is_alone(x) and any(self.is_mate(x, it) and self.equal(x, it) for it in others)
-
+        """Whether one of these attributes equals x."""
+        return not self.is_alone(x) and any(self.equal(x, it) for it in others)
 
     def are_linked(self, value):
         """Whether values meet the links."""

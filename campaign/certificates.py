@@ -1,34 +1,37 @@
-"""Certificates: those of the program are judged by an own checker, changed ones by both."""
+"""Certificates: those of the program are judged by an own checker, changed ones by both.
+
+Those of a compact query are of the form by which it is judged; of own making there are such of the other form too.
+"""
 import re
 from collections import Counter
 
+import branching
 import checker
+import compact
 import language
 import maker
 import worked
 from common import Part, compare, first_other_line, run as run_program, scaled
 from generator import Writer
 from lines import changed
-from language import Refused
+from language import COMPACT_SHARE, Refused
 
 RANDOM_QUERIES = 400
 REFUSED_SCRIPTS = 1500
 CHANGED_CERTIFICATES = 10
 TWICE_CHANGED = 1500
 OWN_CERTIFICATES = 600
-MOST_OWN_PARTS = 60
+MOST_OWN_PARTS, MOST_OWN_NODES = 60, 500
 NUMBER = re.compile(rb"[0-9]+")
 
 
-def wanted_decision(script):
-    """What `check` must say of a good certificate, by the analysis instead of the leaves."""
-    query, name = script.query, script.statement.name
-    is_filter = query.places == 1 and not query.distinct
-    verdict = ("filter",) if is_filter else checker.analysis.by_parts(query).verdict
-    if verdict[0] != "violation":
-        vectors = checker.analysis.walk_parts(query, checker.analysis.MOST_PARTS)
-        return b"certified %s bounded parts %d\n" % (name, len(vectors))
-    _, number, condition, column = verdict
+def wanted_decision(script, shown):
+    """What `check` must say of a good certificate that shows this form, by the analysis instead of the leaves."""
+    name = script.statement.name
+    parts, failure = branching.decision(script.query, shown)
+    if failure is None:
+        return b"certified %s bounded parts %d\n" % (name, parts)
+    number, condition, column = failure
     named = script.session.column_name(script.statement.streams, column)
     return b"certified %s part %d %s %s\n" % (name, number, condition.encode(), named)
 
@@ -60,7 +63,10 @@ def judge(part, program, text):
     if certificate is None:
         return None
     part.count("certificates")
-    wanted = wanted_decision(checker.read_script(text, False))
+    script = checker.read_script(text, False)
+    form = branching.judged(script.query)
+    part.count(f"of a {form} form" if form != branching.PLAIN else "of parts")
+    wanted = wanted_decision(script, form)
     own, status = checker.certificate_reply(certificate)
     too_long = any(len(it) > language.LONGEST_LINE for it in certificate.split(b"\n"))
     if not too_long and (own, status) != (wanted, 0):
@@ -88,11 +94,17 @@ def changes(lines):
             yield from (front + [it + line[len(word):]] + back for it in checker.WORDS if it != word)
 
 
+def decision_shown(text):
+    """What `check` must say of a text if its certificate is good."""
+    script = checker.read_script(text, True)
+    return wanted_decision(script, branching.shown_by(script.query, script.nodes))
+
+
 def try_changed(part, program, lines):
     """Both checkers must agree on a changed certificate."""
     text = b"\n".join(lines) + b"\n"
     wanted, status = checker.certificate_reply(text)
-    if status == 0 and wanted != wanted_decision(checker.read_script(text, True)):
+    if status == 0 and wanted != decision_shown(text):
         part.differs(f"own checker: {wanted!r} of a changed certificate is not so", text)
     words = wanted.split()
     part.count({b"no": "changed, no", b"error": "changed, error"}.get(words[0], "changed, still yes"))
@@ -115,9 +127,22 @@ def choose(part, certificates):
             return
 
 
+def compact_query(part):
+    """A one-query script with a compact query that has one form or the other."""
+    writer = Writer(part.random)
+    if writer.chance(0.3):
+        writer.extremes(3)
+    is_linked = writer.chance(0.5)
+    compact.write_streams(writer, is_linked)
+    streams = [it for it in map(language.strip_line, writer.lines) if it.upper().startswith(b"CREATE STREAM")]
+    return b"\n".join([*streams, b"CREATE COMPACT QUERY q AS " + compact.query_text(writer, is_linked)]) + b"\n"
+
+
 def random_query(part):
     """A one-query script with a random query."""
     writer = Writer(part.random)
+    if COMPACT_SHARE and writer.chance(COMPACT_SHARE):
+        return compact_query(part)
     while not writer.session.streams:
         writer.stream(3)
     for _ in range(part.random.randint(0, 2)):
@@ -170,12 +195,17 @@ def change_certificates(part, program, certificates, scale):
 
 
 def small_query(part):
-    """A random one-query script with its query, or None where it has many parts, has forms or is refused."""
+    """A random one-query script, what is read of it and a form for a certificate of it; None where it is refused or has many parts."""
     head = random_query(part)
     try:
         script = checker.read_script(head, False)
-        checker.analysis.walk_parts(script.query, MOST_OWN_PARTS)
-        return None if checker.is_formed(script.query) else (head, script)
+        forms = [branching.WHOLE, branching.SPLIT] if branching.goes_by_form(script.query) else [branching.PLAIN]
+        shown = part.random.choice(forms)
+        if shown == branching.PLAIN:
+            checker.analysis.walk_parts(script.query, MOST_OWN_PARTS)
+        elif branching.nodes_of(script.query, shown) > MOST_OWN_NODES:
+            return None
+        return head, script, shown
     except (Refused, checker.analysis.TooManyParts):
         return None
 
@@ -185,10 +215,12 @@ def judge_own_certificates(part, program, scale):
     for _ in range(scaled(OWN_CERTIFICATES, scale)):
         found = small_query(part)
         if found:
+            head, script, shown = found
             strays = part.random.choice([0, 0.02, 0.1, 0.25])
-            lines = maker.certificate(found[1].query, part.random, strays)
+            lines = maker.certificate(script.query, part.random, strays, shown)
             part.count("own certificates")
-            try_changed(part, program, found[0].split(b"\n")[:-1] + lines)
+            part.count(f"own certificates, {shown}")
+            try_changed(part, program, head.split(b"\n")[:-1] + lines)
 
 
 def run(program, seed, scale):

@@ -5,11 +5,12 @@
 import re
 
 import analysis
+import branching
 import evaluator
 import language
+from branching import MOST_NODES, Branching
 from language import CreateQuery, CreateStream, Refused
 
-MOST_NODES = 262_144
 LARGEST_NUMBER = 65_535
 LEAST_COUNT = {"infeasible": 1, "path": 3}
 GREATEST_COUNT = {"infeasible": 13, "path": 14}
@@ -93,15 +94,16 @@ class Tree:
 
     def __init__(self, query, nodes):
         self.query, self.nodes = query, nodes
-        self.pairs = analysis.pairs_of(query)
-        self.numbers = {it: i for i, it in enumerate(analysis.attributes_of(query), 1)}
-        self.size = len(self.numbers) + 1
+        self.over = Branching(query, branching.shown_by(query, nodes))
+        self.pairs, self.size = self.over.pairs, self.over.size
+        # the signs of each leaf, and its bounds
         self.leaves = []
 
     def walk(self):
         """Goes through the whole tree; Fault at the first place that breaks a rule."""
-        base = analysis.first_constraints(self.query, self.numbers)
-        waiting, place = [("", base)], 0
+        if not self.over.has_room():
+            raise Fault(1, "Shape")
+        waiting, place = [("", self.over.base)], 0
         while waiting:
             signs, constraints = waiting.pop()
             depth = len(signs)
@@ -114,7 +116,7 @@ class Tree:
                     raise Fault(place, "Shape")
                 left, right = self.pairs[depth]
                 for sign in reversed(analysis.SIGNS):
-                    more = analysis.constraints_of(left, sign, right, self.numbers)
+                    more = analysis.constraints_of(left, sign, right, self.over.numbers)
                     waiting.append((signs + sign, constraints + more))
             elif word == "infeasible":
                 self.try_cycle(place, numbers, constraints)
@@ -134,25 +136,14 @@ class Tree:
         if not closes or sum(it[2] for it in chain) >= 0:
             raise Fault(place, "Cycle")
 
-    def is_false(self, atom, signs):
-        """Whether a soft comparison is false under the sign of its pair, where that has one."""
-        if atom[0] == atom[2]:
-            return atom[1] == "<>"
-        left, operator, right = analysis.turned(atom)
-        place = self.pairs.index((left, right))
-        return place < len(signs) and signs[place] not in operator
-
     def try_against(self, place, number, signs):
         """A node that names the comparison, by its number among all, that is false there."""
-        if not 1 <= number <= len(self.query.atoms):
-            raise Fault(place, "Cycle")
-        atom = self.query.atoms[number - 1]
-        if atom[1] not in analysis.SOFT or not self.is_false(atom, signs):
+        named = self.over.atoms[number - 1:number] if number else ()
+        if not any(self.over.is_false(it, signs) for it in named):
             raise Fault(place, "Cycle")
 
     def try_leaf(self, place, signs, paths, constraints):
-        soft = [it for it in self.query.atoms if it[1] in analysis.SOFT]
-        if len(signs) != len(self.pairs) or any(self.is_false(it, signs) for it in soft):
+        if len(signs) != len(self.pairs) or any(self.over.is_false(it, signs) for it in self.over.atoms):
             raise Fault(place, "Shape")
         at = [[0 if i == j else None for j in range(self.size)] for i in range(self.size)]
         before = (-1, -1)
@@ -165,7 +156,7 @@ class Tree:
             for j in range(self.size):
                 if at[b][j] is not None and (at[a][j] is None or at[a][j] > bound + at[b][j]):
                     raise Fault(place, "Bound")
-        self.leaves.append(at)
+        self.leaves.append((signs, at))
 
     def chain_sum(self, place, i, j, numbers, constraints):
         """The sum of the bounds of a path from i to j."""
@@ -183,12 +174,8 @@ class Tree:
 
     def decision(self):
         """The first condition that a leaf fails, as (part, condition, attribute), or None."""
-        if self.query.places == 1 and not self.query.distinct:
-            return None
-        constants = analysis.constants_of(self.query)
-        for number, at in enumerate(self.leaves, 1):
-            facts = analysis.Facts(self.query, self.numbers, constants, at)
-            violation = analysis.violation_of(self.query, facts)
+        for number, leaf in enumerate(self.leaves, 1):
+            violation = self.over.violation(*leaf)
             if violation:
                 return (number, *violation)
         return None
@@ -235,25 +222,9 @@ def certificate_reply(text):
     """What `check` must write about a text, and its exit status."""
     try:
         script = read_script(text, True)
-        query, line = script.query, script.query_line
     except Refused as refusal:
-        query, line = query_before(text, refusal.line, True)
-        if query is None or not is_formed(query):
-            return refusal_line(refusal), 1
-    return (b"error %d WholeForm\n" % line, 1) if is_formed(query) else judge(script)
-
-
-def too_large(query):
-    """Whether `certify` refuses a query for its size."""
-    try:
-        return analysis.nodes_of(query, analysis.MOST_PARTS) > MOST_NODES
-    except analysis.TooManyParts:
-        return True
-
-
-def is_formed(query):
-    """Whether a query is compact and no filter: of its forms no certificate speaks."""
-    return query.compact and (query.places > 1 or query.distinct)
+        return refusal_line(refusal), 1
+    return judge(script)
 
 
 def certify_refusal(text):
@@ -264,17 +235,15 @@ def certify_refusal(text):
         query, line = script.query, script.query_line
     except Refused as refusal:
         head, query, line = refusal, *query_before(text, refusal.line)
-    if query is not None and is_formed(query):
-        return b"error %d WholeForm\n" % line
-    if query is not None and too_large(query):
+    if query is not None and branching.is_too_large(query):
         return b"error %d Limit\n" % line
     return refusal_line(head) if head else None
 
 
-def query_before(text, refused, with_certificate=False):
+def query_before(text, refused):
     """The query of a script that is refused at a later line, and its line."""
     try:
-        script = read_script(b"\n".join(language.lines_of(text)[:refused - 1]), with_certificate)
+        script = read_script(b"\n".join(language.lines_of(text)[:refused - 1]), False)
     except Refused:
         return None, None
     return script.query, script.query_line

@@ -28,25 +28,35 @@ COUNTED = ["parts", "cells", "answers", "work"]
 Outcome = namedtuple("Outcome", "reply answers plan is_dropped")
 
 
+def write_streams(writer, is_linked):
+    """Two or three streams at least, of few columns where comparisons are to tie them."""
+    random = writer.random
+    while len(writer.session.streams) < random.choice([2, 3]):
+        if is_linked:
+            writer.write(linked.stream_text(writer, random.choice([b"S", b"T", b"U", b"W"])))
+        else:
+            writer.stream(random.choice([2, 3, 4]))
+
+
+def query_text(writer, is_linked):
+    """A query over these streams, of one of the kinds that have a whole form or a split one."""
+    kind = writer.random.random()
+    if b"X" in writer.session.streams and kind < 0.5:
+        return writer.extreme_query()
+    if is_linked:
+        return (crossed.query_text(writer) if kind < 0.6 else None) or linked.query_text(writer)
+    return (writer.keyed_query() if kind < 0.75 else None) or writer.query_text()
+
+
 def write(writer):
     """Streams, one to three queries in all forms, rows, and EXPLAIN of each; the texts by number."""
     random, texts = writer.random, []
     if writer.chance(0.3):
         writer.extremes(3)
     is_linked = writer.chance(0.5)
-    while len(writer.session.streams) < random.choice([2, 3]):
-        if is_linked:
-            writer.write(linked.stream_text(writer, random.choice([b"S", b"T", b"U", b"W"])))
-        else:
-            writer.stream(random.choice([2, 3, 4]))
+    write_streams(writer, is_linked)
     for number in range(random.choice([1, 2, 3])):
-        kind = random.random()
-        if b"X" in writer.session.streams and kind < 0.5:
-            text = writer.extreme_query()
-        elif is_linked:
-            text = (crossed.query_text(writer) if kind < 0.6 else None) or linked.query_text(writer)
-        else:
-            text = (writer.keyed_query() if kind < 0.75 else None) or writer.query_text()
+        text = query_text(writer, is_linked)
         texts.append(text)
         for form, words in FORMS.items():
             writer.write(b"CREATE " + words + b"QUERY %s%d AS " % (form, number) + text)

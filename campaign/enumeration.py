@@ -69,29 +69,13 @@ def holds(of, atoms):
     return all(sign(of.get(x, x), of.get(y, y)) in operator for x, operator, y in atoms)
 
 
-def reached(query, column):
-    """What may be told of a column: all elements, or of a compact query those that comparisons lead
-    to from it, over no constant.
-    """
-    if not query.compact:
-        return {*analysis.attributes_of(query), *analysis.constants_of(query)}
-    found, waiting = set(), [column]
-    while waiting:
-        here = waiting.pop()
-        if here not in found:
-            found.add(here)
-            if not isinstance(here, int):
-                waiting += [side for x, _, y in query.atoms if here in (x, y) for side in (x, y)]
-    return found
-
-
 def pairs_by_place(query):
     """All pairs: first what a soft comparison names, by the first one that names it."""
     attributes, constants = analysis.attributes_of(query), analysis.constants_of(query)
     named = [{x, y} for x, operator, y in query.atoms if len(operator) > 1]
     pairs = [(x, y) for x in attributes
              for y in constants + [it for it in attributes if it > x]
-             if {x, y} in named or (y in reached(query, x) and (isinstance(y, int) or y[0] == x[0]))]
+             if {x, y} in named or isinstance(y, int) or y[0] == x[0]]
     return sorted(pairs, key=lambda it: named.index(set(it)) if set(it) in named else len(named))
 
 
@@ -279,33 +263,28 @@ class Seen:
         self.ranges = {it: range_of(query, [of[it] for of in members]) for it in self.attributes}
         of_alone = {it: (low, high) for it, low, high in query.domains if it in self.alone}
         self.ranges.update((it, of_alone.get(it)) for it in self.alone)
-        self.told = {it: reached(query, it) for it in self.attributes}
+        self.elements = self.attributes + analysis.constants_of(query)
 
     def always(self, x, y):
         """The one sign that two elements have in all assignments, or None."""
         signs = {sign(it.get(x, x), it.get(y, y)) for it in self.members}
         return signs.pop() if len(signs) == 1 else None
 
-    def are_told_equal(self, x, y):
-        """Whether two attributes are equal and comparisons lead from one to the other."""
-        return y in self.told[x] and self.always(x, y) == "="
-
     def named(self, x):
         """The name of the class of a column."""
         if x in self.alone:
             return x
-        return min(it for it in self.attributes if it[0] == x[0] and self.are_told_equal(x, it))
+        return min(it for it in self.attributes if it[0] == x[0] and self.always(x, it) == "=")
 
     def is_direct(self, x, y):
         """Whether nothing stands between two attributes of which one is less."""
-        signs = {it: (self.always(x, it), self.always(it, y)) for it in self.told[x]}
-        of_constants = {signs[it] for it in self.told[x] if isinstance(it, int)}
+        signs = {it: (self.always(x, it), self.always(it, y)) for it in self.elements}
+        of_constants = {signs[it] for it in self.elements if isinstance(it, int)}
         return ("<", "<") not in signs.values() and not {("=", "<"), ("<", "=")} & of_constants
 
     def links(self):
         """Equalities and inequalities between streams."""
-        pairs = [(x, y) for x in self.attributes for y in self.attributes
-                 if x[0] != y[0] and y in self.told[x]]
+        pairs = [(x, y) for x in self.attributes for y in self.attributes if x[0] != y[0]]
         return ([it for it in pairs if it[0] < it[1] and self.always(*it) == "="],
                 [it for it in pairs if self.always(*it) == "<" and self.is_direct(*it)])
 
@@ -348,7 +327,7 @@ class Seen:
     def work(self, dims):
         """The most combinations that a row can meet; there are two streams."""
         return max(self.size([it for it in dims[1 - place] if it in self.alone
-                              or not any(other[0] == place and self.are_told_equal(it, other)
+                              or not any(other[0] == place and self.always(it, other) == "="
                                          for other in self.attributes)]) for place in (0, 1))
 
 

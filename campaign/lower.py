@@ -6,7 +6,8 @@ lower end of its domain or 0, and the family must tell its sets: whatever set of
 before, the rows that ask for a row show whether it is in the set, or for an inequality without
 DISTINCT the numbers of answers differ between any two sets. All sets are tried up to 2^6, 64 random
 ones above, and some families of 1,000 rows are tried at random places. Queries that have no family,
-and scripts that are refused, are tried too. `lower N` makes no family for a refusal by C3.
+and scripts that are refused, are tried too. `lower N` makes no family for a refusal by C3. Whether a
+compact query is refused is told by its split form; families are of the query without the word.
 """
 import re
 from collections import Counter, namedtuple
@@ -15,6 +16,8 @@ from copy import copy
 import analysis
 import checker
 import refused
+import splitform
+from branching import goes_by_form
 from common import Part, compare, run as run_program, scaled
 from evaluator import LiveQuery
 from language import COMPACT_SHARE, GREATEST_VALUE, LEAST_VALUE, Refused, lies_in
@@ -41,8 +44,15 @@ class Fault(Exception):
 
 # what must be written
 
+def is_met(query):
+    """Whether no part by which a query is judged breaks a condition; TooManyParts above a limit."""
+    if goes_by_form(query):
+        return not any(map(splitform.violation, splitform.parts_of(query)))
+    return first_failure(query) is None
+
+
 def first_failure(query):
-    """The first failure of a query, or None; TooManyParts above the limit, also for a filter."""
+    """The first failure of a query by its ordered parts, or None; TooManyParts above the limit, also for a filter."""
     vectors = analysis.walk_parts(query, analysis.MOST_PARTS)
     if query.places == 1 and not query.distinct:
         return None
@@ -69,13 +79,14 @@ def without_family(text, every):
     """
     query, line, refusal = query_of(text)
     try:
-        failure = None if query is None else first_failure(query)
+        met = query is not None and is_met(query)
+        failure = None if query is None or met else first_failure(query)
     except analysis.TooManyParts:
         return b"error %d Limit\n" % line, 1
     if refusal:
         return checker.refusal_line(refusal), 1
     if failure is None:
-        return b"no family bounded\n", 0
+        return b"no family bounded\n" if met else b"no family form\n", 0
     across = any(not analysis.is_local(it, it[0][0]) for it in analysis.pairs_of(query))
     if failure[1] == "C3" and (not every or across or query.domains or query.compact):
         return b"no family C3\n", 0

@@ -4,6 +4,7 @@ A chain of constraints follows them from left to right: the first one's right si
 side of the next.
 """
 import analysis
+from branching import PLAIN, Branching
 
 
 def chains_to(target, constraints, size):
@@ -53,15 +54,9 @@ def paths(constraints, size):
     return sorted(found, key=lambda it: it[:2])
 
 
-def false_atom(query, pairs, signs):
+def false_atom(over, signs):
     """The number of a soft comparison that is false under the signs so far, or None."""
-    sign_of = dict(zip(pairs, signs))
-    for number, atom in enumerate(query.atoms, 1):
-        left, operator, right = analysis.turned(atom)
-        sign = "=" if left == right else sign_of.get((left, right))
-        if operator in analysis.SOFT and sign and sign not in operator:
-            return number
-    return None
+    return next((number for number, atom in enumerate(over.atoms, 1) if over.is_false(atom, signs)), None)
 
 
 class Tree:
@@ -71,11 +66,10 @@ class Tree:
     end otherwise than they should.
     """
 
-    def __init__(self, query, random=None, strays=0):
-        self.query, self.random, self.strays = query, random, strays
-        self.numbers = {it: i for i, it in enumerate(analysis.attributes_of(query), 1)}
-        self.pairs, self.size = analysis.pairs_of(query), len(self.numbers) + 1
-        self.soft = [i for i, it in enumerate(query.atoms, 1) if it[1] in analysis.SOFT]
+    def __init__(self, over, random=None, strays=0):
+        self.over, self.random, self.strays = over, random, strays
+        self.pairs, self.size = over.pairs, over.size
+        self.soft = [i for i, it in enumerate(over.atoms, 1) if it[1] in analysis.SOFT]
         self.lines = []
 
     def stray(self):
@@ -87,7 +81,7 @@ class Tree:
     def grow(self, signs, constraints):
         """The node under these signs and all below it."""
         whole = len(signs) == len(self.pairs)
-        false = false_atom(self.query, self.pairs, signs)
+        false = false_atom(self.over, signs)
         if self.soft and self.stray() and self.stray():
             false = self.random.choice(self.soft)
         if false is not None and not self.stray():
@@ -107,12 +101,12 @@ class Tree:
         left, right = self.pairs[len(signs)]
         self.add(b"split", [len(signs) + 1])
         for sign in analysis.SIGNS:
-            more = analysis.constraints_of(left, sign, right, self.numbers)
+            more = analysis.constraints_of(left, sign, right, self.over.numbers)
             self.grow(signs + sign, constraints + more)
 
 
-def certificate(query, random=None, strays=0):
-    """The lines of a certificate of a query."""
-    tree = Tree(query, random, strays)
-    tree.grow("", analysis.first_constraints(query, tree.numbers))
+def certificate(query, random=None, strays=0, shown=PLAIN):
+    """The lines of a certificate of a query that shows this form."""
+    tree = Tree(Branching(query, shown), random, strays)
+    tree.grow("", tree.over.base)
     return tree.lines

@@ -8,11 +8,12 @@ the rows up to a place, merged with those of the rows from there on, must be tho
 import operator
 
 import analysis
+import branching
 import checker
 import crossed
 import language
 import maker
-from certificates import MOST_OWN_PARTS, changes, small_query, wanted_decision
+from certificates import MOST_OWN_PARTS, changes, decision_shown, small_query
 from common import Part, scaled
 from generator import Writer
 from synopsis import Synopsis
@@ -31,7 +32,7 @@ def judge_own(part, head, lines):
     """
     text = head + b"\n".join(lines) + b"\n"
     reply, status = checker.certificate_reply(text)
-    if status == 0 and reply != wanted_decision(checker.read_script(text, True)):
+    if status == 0 and reply != decision_shown(text):
         part.differs(f"the checker says {reply!r} and should not", text)
     return reply, status
 
@@ -42,21 +43,22 @@ def try_certificates(part, scale):
         found = small_query(part)
         if not found:
             continue
-        head, script = found
-        statement, lines = script.statement, maker.certificate(script.query)
+        head, script, shown = found
+        statement, lines = script.statement, maker.certificate(script.query, shown=shown)
         if language.parse(language.print_statement(statement)) != statement:
             part.differs("the printed form of a query reads otherwise", head)
         part.count("own certificates")
+        part.count(f"of them {shown}")
         part.count("with against", int(any(it.startswith(b"against") for it in lines)))
         reply, status = judge_own(part, head, lines)
         if status != 0:
             part.differs(f"the checker refuses a certificate: {reply!r}", head)
         nodes = sum(not it.startswith(b"path") for it in lines)
-        if nodes != analysis.nodes_of(script.query, analysis.MOST_PARTS):
+        if nodes != branching.nodes_of(script.query, shown):
             part.differs("a certificate of another number of nodes", head)
         others = list(changes(lines))
         others = part.random.sample(others, min(len(others), CHANGED_OF_EACH))
-        others += [maker.certificate(script.query, part.random, it) for it in STRAYS]
+        others += [maker.certificate(script.query, part.random, it, shown) for it in STRAYS]
         for other in others:
             _, status = judge_own(part, head, other)
             part.count("changed, refused" if status else "changed, still yes")

@@ -2,8 +2,8 @@
 
 Each random query is written again in ways that change no answer: by other operators and integers, turned, in another order, with comparisons
 said twice or more weakly besides, with bounds as comparisons in place of a domain and the reverse, and with one of two equal columns of a stream
-in place of the other. Where the whole form of one fits, that of all must, with the same numbers. Where it does not, the split form of all is
-accepted or refused alike. Which parts there are the spelling decides, as it has other integers or another order of comparisons: so numbers, and the
+in place of the other. So `<` between streams is written as `<=` and `<>`, which must be accepted alike. Where else the whole form of one is within the limits, that of all must be, and where it is taken, with the same numbers. Where it is
+not, the split form of all is accepted or refused alike. Which parts there are the spelling decides, as it has other integers or another order of comparisons: so numbers, and the
 condition that is told, are compared too, and counted by what was changed; so is what passes a limit in one spelling alone.
 """
 import re
@@ -150,6 +150,16 @@ def by_equal_columns(spelled, random):
     return changed_atoms(spelled, lambda it: [it if it in ties else Atom(other(it.left), it.operator, other(it.right))])
 
 
+def by_unequal_sides(spelled, random):
+    """`<=` and `<>` for `<` between streams. The whole form has other links then, and may not fit; the parts have the sign of `<`."""
+    def change(atom):
+        if is_bound(atom) or atom.operator not in WEAKER or atom.left[0] == atom.right[0] or random.random() < 0.3:
+            return [atom]
+        return random.sample([Atom(atom.left, WEAKER[atom.operator], atom.right), Atom(atom.left, "<>", atom.right)], 2)
+    return changed_atoms(spelled, change)
+
+
+UNEQUAL = "by unequal sides"
 WAYS = {"by other integers": by_other_integers, "by turning": by_turning, "by saying more": by_saying_more, "by comparisons": by_comparisons,
         "by domains": by_domains, "by equal columns": by_equal_columns}
 
@@ -172,7 +182,7 @@ def base_query(writer):
 def spellings(part, base):
     """The query, and each other way of writing it that keeps to the limits of the language; by the name of the way."""
     found = {"": base}
-    for way, change in WAYS.items():
+    for way, change in {**WAYS, UNEQUAL: by_unequal_sides}.items():
         other = change(base, part.random)
         if other != base:
             found[way] = other
@@ -194,12 +204,13 @@ def renamed(spelled, number):
     return [language.print_statement(it) for it in [*streams, query]]
 
 
-def fits(spelled):
-    """Whether the whole form of a query fits."""
+def forms_of(spelled):
+    """Whether the whole form of a query is within the limits, and whether it is taken."""
     session = Session()
     for stream in spelled.streams.values():
         session.create_stream(stream)
-    return whole.fitting(session.resolve(spelled.query)) is not None
+    query = session.resolve(spelled.query)
+    return whole.as_one(query) is not None, whole.fitting(query) is not None
 
 
 def replies(program, ways):
@@ -247,13 +258,14 @@ def judge(part, program, base):
     if "short" in said:
         part.differs("a query is missing", said["short"])
         return
-    whole_of = {way: fits(it) for way, it in ways.items()}
-    part.count("with a whole form", int(bool(whole_of[""])))
-    part.count("accepted by the split form", int(said[""].startswith(b"parts") and not whole_of[""]))
+    forms = {way: forms_of(it) for way, it in ways.items()}
+    part.count("with a whole form", int(forms[""][1]))
+    part.count("whose parts take less work", int(forms[""] == (True, False)))
+    part.count("accepted by the split form", int(said[""].startswith(b"parts") and not forms[""][1]))
     for way, spelled in ways.items():
-        if whole_of[way] != whole_of[""]:
+        if forms[way][0] != forms[""][0] and way != UNEQUAL:
             part.differs(f"{way}: the whole form of one alone fits", b"\n".join(renamed(base, 0) + renamed(spelled, 1)))
-        if not whole_of[""]:
+        if way == UNEQUAL or not (forms[way][1] and forms[""][1]):
             compare(part, base, way, spelled, said[""], said[way])
         elif outline(said[""]) != outline(said[way]):
             part.differs(f"{way}: {said['']} and {said[way]}", b"\n".join(renamed(base, 0) + renamed(spelled, 1)))

@@ -65,7 +65,7 @@ def own_pairs(query):
     """Each compared column that lacks an end with the outer integers of its group, and with the later columns of its stream and group."""
     groups, pairs = analysis.groups_of(query), []
     for column in lacking_end(query):
-        group = groups[column].attributes
+        group = groups[column]
         pairs += [(column, it) for it in outer_integers(query, group)]
         pairs += [(column, it) for it in group if it[0] == column[0] and it > column]
     return pairs
@@ -76,15 +76,15 @@ def split_pairs(query):
     return list(dict.fromkeys(unlike_pairs(query) + own_pairs(query)))
 
 
-def walk(query, pairs, nodes):
-    """The sign vectors of the parts, ascending, each with the closed table of the query and its signs."""
+def fronts(query, pairs, nodes):
+    """The signs that assignments of the query give to the first pairs, ascending, each with the closed table of the query and these signs."""
     unlike = set(unlike_pairs(query))
     root = whole.closed(query, nodes)
     waiting = [("", root)] if root.possible and not analysis.is_void(query) else []
     while waiting:
         signs, bounds = waiting.pop()
+        yield signs, bounds.at
         if len(signs) == len(pairs):
-            yield signs, bounds.at
             continue
         left, right = pairs[len(signs)]
         for sign in reversed("<>" if (left, right) in unlike else SIGNS):
@@ -95,17 +95,42 @@ def walk(query, pairs, nodes):
                 waiting.append((signs + sign, child))
 
 
-def parts_of(query):
-    """The parts, each with what holds in it: the whole form of the query with its signs; TooManyParts where pairs or parts are too many."""
-    pairs, nodes = split_pairs(query), whole.nodes_of(query)
+def walk(query, pairs, nodes):
+    """The sign vectors of the parts, ascending, each with its closed table."""
+    return (it for it in fronts(query, pairs, nodes) if len(it[0]) == len(pairs))
+
+
+def few(vectors):
+    """The same vectors, at most so many; TooManyParts where there are more."""
+    for number, it in enumerate(vectors):
+        if number == MOST_PARTS:
+            raise TooManyParts
+        yield it
+
+
+def few_pairs(query):
+    """The split pairs; TooManyParts where there is no room for their signs."""
+    pairs = split_pairs(query)
     if len(pairs) > MOST_PAIRS:
         raise TooManyParts
-    vectors = []
-    for it in walk(query, pairs, nodes):
-        vectors.append(it)
-        if len(vectors) > MOST_PARTS:
+    return pairs
+
+
+def nodes_of(query):
+    """How many nodes the tree of a certificate has; TooManyParts where pairs or parts are too many."""
+    pairs, opened, parts = few_pairs(query), 0, 0
+    for signs, _ in fronts(query, pairs, whole.nodes_of(query)):
+        opened += len(signs) < len(pairs)
+        parts += len(signs) == len(pairs)
+        if parts > MOST_PARTS:
             raise TooManyParts
-    for signs, at in vectors:
+    return 1 + 3 * opened
+
+
+def parts_of(query):
+    """The parts, each with what holds in it: the whole form of the query with its signs; TooManyParts where pairs or parts are too many."""
+    pairs, nodes = few_pairs(query), whole.nodes_of(query)
+    for signs, at in list(few(walk(query, pairs, nodes))):
         said = tuple((left, sign, right) for (left, right), sign in zip(pairs, signs))
         yield whole.Whole(query._replace(atoms=said + query.atoms), nodes, at)
 

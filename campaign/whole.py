@@ -231,8 +231,8 @@ class Whole:
         return frozenset(asked)
 
 
-def fitting(query):
-    """The one part of the whole form, or None where it does not fit: a column that is kept has no end, or a number is above its limit."""
+def as_one(query):
+    """The one part of the whole form, or None where a column that is kept has no end or a number is above its limit."""
     nodes = nodes_of(query)
     bounds = closed(query, nodes)
     if not bounds.possible:
@@ -242,3 +242,19 @@ def fitting(query):
         return None
     part = analysis.Part("", whole, whole.dims, whole.extremes)
     return part if analysis.of_parts(query, [part], False).verdict[0] == "ok" else None
+
+
+def has_less_work_by_parts(query, part):
+    """Whether streams are linked by `<>` in the whole form, and the parts of the split form, within all limits too, take less work."""
+    # read here, since the split form reads whole forms
+    import splitform
+    if not any(sign == "<>" for _, sign, _ in part.facts.links):
+        return False
+    verdict = splitform.analyse(query).verdict
+    return verdict[0] == "ok" and verdict[4] < analysis.work_of(query, part.facts, part.dims)
+
+
+def fitting(query):
+    """The one part of the whole form, or None where it does not fit: it is not within the limits, or the parts of the split form take less work."""
+    part = as_one(query)
+    return part if part and not has_less_work_by_parts(query, part) else None

@@ -1,16 +1,10 @@
 -- The sums of chains of constraints, by their numbers: what they say of a solution, and that constraints that close a chain
--- with a negative sum leave no assignment.
-use Rattle.std.proofs.Common.{◌≡◌, ℕ, ◌-◌, ℤ, pos, ◌+ℤ◌, ◌-ℤ◌, ◌≤ℤ◌, ◌<ℤ◌, ◌∙◌, ap, arith, Option, Some, None, List, [], ◌∷◌, slice_get}
+-- with a negative sum leave no solution.
+use Rattle.std.proofs.Common.{◌≡◌, ℕ, ◌-◌, ℤ, pos, ◌+ℤ◌, ◌-ℤ◌, ◌≤ℤ◌, ◌<ℤ◌, ap, arith, Option, Some, None, List, [], ◌∷◌, slice_get}
 use Rattle.std.proofs.lemmas.Int.{ints}
-use Rattle.bq_model.specs.declared.part.Sign.{Sign}
-use Rattle.bq_model.specs.Query.{QueryValue}
-use Rattle.bq_model.proofs.Split.{StartsWith, IsFeasible, feasible_where}
-use Rattle.bq_model.specs.Parts.{IsPart}
 use Rattle.bq_constraints.specs.declared.constraint.Constraint.{Constraint}
 use Rattle.bq_constraints.specs.Solutions.{Solves, IsSatisfiable, IsChain, IsNegativeCycle}
-use Rattle.bq_constraints.specs.PartConstraints.{of_prefix}
 use Rattle.bq_constraints.proofs.Numbers.{contains_at}
-use Rattle.bq_constraints.proofs.Feasible.{satisfiable_if}
 
 -- a solution keeps within the sum of a chain
 pub sum_sound : (cs : List Constraint) (es : List ℕ) (i j : ℕ) (s : ℤ) (x : ℕ → ℤ) → Solves x cs → IsChain cs es i j s → x i ≤ℤ (s +ℤ x j)
@@ -30,10 +24,6 @@ no_solution cs es h s =
     let a : s.at h.node ≤ℤ (h.sum +ℤ s.at h.node) = sum_sound cs es h.node h.node h.sum s.at s.solves h.chain in
     let b : h.sum <ℤ pos 0 = h.negative in
     absurd (omega (arith, ints, a, b))
-
--- no assignment has the signs at an infeasible node
-pub no_assignment : (q : QueryValue) (signs : List Sign) (numbers : List ℕ) → IsNegativeCycle (of_prefix q signs) numbers → ¬ IsFeasible q signs
-no_assignment q signs numbers h f = no_solution (of_prefix q signs) numbers h (satisfiable_if q signs f)
 
 -- what a constraint that may not be there adds to a sum
 abbrev pub bound_or : Option Constraint → ℤ

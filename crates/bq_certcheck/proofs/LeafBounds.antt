@@ -13,12 +13,14 @@ use Rattle.bq_constraints.specs.PartConstraints.{of_prefix}
 use Rattle.bq_constraints.specs.Solutions.{Solves, IsUpper, HasNoUpper}
 use Rattle.bq_constraints.proofs.NodeFacts.{Known, value_is, assignment_agrees, nodes_agree}
 use Rattle.bq_constraints.proofs.InPart.{solves_in_part, in_part_from_solves}
+use Rattle.bq_certcheck.specs.Branching.{plain_branching}
 use Rattle.bq_certcheck.specs.Rules.{IsBound, IsGoodLeaf}
 use Rattle.bq_certcheck.specs.Tree.{PlacedLeaf, leaves_below}
 use Rattle.bq_certcheck.specs.LeafLaws.{IsMostAbove, IsFreeAbove, SaysMost, IsTold, LeavesAreTight}
 use Rattle.bq_certcheck.proofs.LeafTable.{table_of}
 use Rattle.bq_certcheck.proofs.PrefixNodes.{node_known}
-use Rattle.bq_certcheck.proofs.TightLeaf.{IsTight, IsBoundAnswer, table_answers, leaf_is_part, leaf_is_tight}
+use Rattle.bq_certcheck.proofs.TightLeaf.{IsTight, IsBoundAnswer, table_answers, leaf_is_tight}
+use Rattle.bq_certcheck.proofs.LeavesInOrder.{leaf_is_part}
 use Rattle.bq_certcheck.proofs.Preorders.{leaf_is_good}
 
 known : (q : QueryValue) (x : Element) → IsAmong (attrs_of q.atoms) x → Known (attrs_of q.atoms) x
@@ -41,7 +43,7 @@ not_both q s x y m h k =
     let b : (m +ℤ value y w.0) <ℤ value x w.0 = w.2 in
     absurd (omega (arith, ints, a, b))
 
-module _ (q : QueryValue) (w : IsWithinLimits q) (l : PlacedLeaf) (g : IsGoodLeaf q l.signs l.paths) (x y : Element) (hx : IsAmong (attrs_of q.atoms) x) (hy : IsAmong (attrs_of q.atoms) y) where
+module _ (q : QueryValue) (w : IsWithinLimits q) (l : PlacedLeaf) (g : IsGoodLeaf (plain_branching q) l.signs l.paths) (x y : Element) (hx : IsAmong (attrs_of q.atoms) x) (hy : IsAmong (attrs_of q.atoms) y) where
   part : IsPart q l.signs
   part = leaf_is_part q w l.signs l.paths g
 
@@ -121,4 +123,4 @@ module _ (q : QueryValue) (w : IsWithinLimits q) (l : PlacedLeaf) (g : IsGoodLea
   }
 
 pub leaves_are_tight : LeavesAreTight
-leaves_are_tight q w t g l h x y hx hy = told q w l (leaf_is_good q [] t g l (Has-from_contains (leaves_below [] t) l h)) x y hx hy
+leaves_are_tight q w t g l h x y hx hy = told q w l (leaf_is_good (plain_branching q) [] t g l (Has-from_contains (leaves_below [] t) l h)) x y hx hy

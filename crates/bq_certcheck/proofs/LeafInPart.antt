@@ -16,9 +16,11 @@ use Rattle.bq_model.proofs.Has.{Has-from_contains}
 use Rattle.bq_constraints.proofs.NodeFacts.{node_in, assignment_agrees, nodes_agree}
 use Rattle.bq_constraints.proofs.InPart.{solves_in_part, in_part_from_solves, less_in_part, less_from_part, equal_in_part, equal_from_part}
 use Rattle.bq_certificate.specs.declared.line.Path.{Path}
+use Rattle.bq_certcheck.specs.Branching.{plain_branching}
 use Rattle.bq_certcheck.specs.Rules.{IsBound, HasBound, IsGoodLeaf}
 use Rattle.bq_certcheck.proofs.LeafTable.{table_of}
-use Rattle.bq_certcheck.proofs.TightLeaf.{IsTight, IsBoundAnswer, bound_sound, table_answers, leaf_is_part, leaf_is_tight}
+use Rattle.bq_certcheck.proofs.TightLeaf.{IsTight, IsBoundAnswer, bound_sound, table_answers, leaf_is_tight}
+use Rattle.bq_certcheck.proofs.LeavesInOrder.{leaf_is_part}
 
 -- the node of an element of the query
 abbrev pub node_at : QueryValue → Element → ℕ
@@ -35,7 +37,7 @@ pub record Enclose (q : QueryValue) (signs : List Sign) (paths : List Path) (a :
   pub low : ℤ
   pub below : IsBound (of_prefix q signs) paths 0 (node_at q (element.Attr a)) low
 
-module _ (q : QueryValue) (w : IsWithinLimits q) (signs : List Sign) (paths : List Path) (g : IsGoodLeaf q signs paths) where
+module _ (q : QueryValue) (w : IsWithinLimits q) (signs : List Sign) (paths : List Path) (g : IsGoodLeaf (plain_branching q) signs paths) where
   part : IsPart q signs
   part = leaf_is_part q w signs paths g
 

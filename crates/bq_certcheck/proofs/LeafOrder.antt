@@ -16,7 +16,7 @@ use Rattle.bq_constraints.proofs.NodeFacts.{node_in, place_below}
 use Rattle.bq_certcheck.specs.Rules.{IsBound, HasBound}
 use Rattle.bq_certcheck.specs.Bounds.{bound_at, IsAtMost}
 use Rattle.bq_certcheck.specs.OnLeaf.{IsLeafTable, SaysAbove}
-use Rattle.bq_certcheck.proofs.TightLeaf.{leaf_is_part}
+use Rattle.bq_certcheck.proofs.LeavesInOrder.{leaf_is_part}
 use Rattle.bq_certcheck.proofs.LeafInPart.{Enclose, less_by_bound, equal_by_bounds, bounded_by_bounds}
 use Rattle.bq_certcheck.proofs.Unnamed.{bounded_by_domain}
 

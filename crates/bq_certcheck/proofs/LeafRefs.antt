@@ -4,15 +4,14 @@ use Rattle.std.specs.List.{Any}
 use Rattle.std.proofs.lemmas.Int.{ints}
 use Rattle.std.proofs.lemmas.List.Elements.{All-get_or}
 use mir.Syntax.{w64}
-use Rattle.bq_model.proofs.OneGroup.{one_group_turned, one_group_along}
 use Rattle.bq_model.specs.declared.atom.Attr.{Attr}
 use Rattle.bq_model.specs.declared.atom.Element.TheVariants as element
 use Rattle.bq_model.specs.declared.part.Sign.{Sign}
 use Rattle.bq_model.specs.Query.{QueryValue, IsShort, IsWithinLimits, attrs_of, consts_of}
-use Rattle.bq_model.specs.Order.{IsBounded}
+use Rattle.bq_model.specs.Order.{IsEqual, IsBounded}
 use Rattle.bq_model.specs.Links.{AreOneClass, IsEquality, IsRedundant, between, equal_left, equal_right, HasTwoRefs, AreTwoRefs, two_mins, two_maxes, both}
 use Rattle.bq_certcheck.specs.declared.links.Side.{Side}
-use Rattle.bq_certcheck.specs.OnLeaf.{LiesBetween, KeepsApart, AreEqualInGroup, middle, left, right, IsLinked, IsRef, IsSecond, across, beside}
+use Rattle.bq_certcheck.specs.OnLeaf.{LiesBetween, KeepsApart, middle, left, right, IsLinked, IsRef, IsSecond, across, beside}
 use Rattle.bq_certcheck.proofs.Searching.{any_of}
 
 -- an integer of the query fits its type
@@ -26,26 +25,26 @@ module _ (q : QueryValue) (s : List Sign) where
   -- ---- redundant inequalities
 
   pub redundant_by_attr : (x y : Attr) → Any (λ a. LiesBetween q s x y (element.Attr a)) (attrs_of q.atoms) → IsRedundant q s x y
-  redundant_by_attr x y w = between (element.Attr w.1) record { named = (w.0, w.2, w.3); group = w.4.0 } w.4.1 w.4.2
+  redundant_by_attr x y w = between (element.Attr w.1) (w.0, w.2, w.3) w.4.0 w.4.1
 
   by_parts : (x y : Attr) (k : ℤ) → Contains (consts_of q.atoms) k → KeepsApart q s x y (element.Const k) → IsRedundant q s x y
-  by_parts x y k h (middle m) = between (element.Const k) record { named = h; group = m.0 } m.1 m.2
-  by_parts x y k h (left m) = equal_left k record { named = h; group = m.0 } m.1 m.2
-  by_parts x y k h (right m) = equal_right k record { named = h; group = m.0 } m.1 m.2
+  by_parts x y k h (middle m) = between (element.Const k) h m.0 m.1
+  by_parts x y k h (left m) = equal_left k h m.0 m.1
+  by_parts x y k h (right m) = equal_right k h m.0 m.1
 
   pub redundant_by_const : (x y : Attr) → Any (λ k. KeepsApart q s x y (element.Const k)) (consts_of q.atoms) → IsRedundant q s x y
   redundant_by_const x y w = by_parts x y w.1 (w.0, w.2, w.3) w.4
 
   pub const_where_no_attr : (x y : Attr) → ¬ Any (λ a. LiesBetween q s x y (element.Attr a)) (attrs_of q.atoms) → IsRedundant q s x y → Any (λ k. KeepsApart q s x y (element.Const k)) (consts_of q.atoms)
-  const_where_no_attr x y n (between (element.Attr a) h l m) = absurd (n (any_of (λ a. LiesBetween q s x y (element.Attr a)) (attrs_of q.atoms) a h.named (h.group, l, m)))
-  const_where_no_attr x y n (between (element.Const k) h l m) = any_of (λ k. KeepsApart q s x y (element.Const k)) (consts_of q.atoms) k h.named (middle (h.group, l, m))
-  const_where_no_attr x y n (equal_left k h e l) = any_of (λ k. KeepsApart q s x y (element.Const k)) (consts_of q.atoms) k h.named (left (h.group, e, l))
-  const_where_no_attr x y n (equal_right k h l e) = any_of (λ k. KeepsApart q s x y (element.Const k)) (consts_of q.atoms) k h.named (right (h.group, l, e))
+  const_where_no_attr x y n (between (element.Attr a) h l m) = absurd (n (any_of (λ a. LiesBetween q s x y (element.Attr a)) (attrs_of q.atoms) a h (l, m)))
+  const_where_no_attr x y n (between (element.Const k) h l m) = any_of (λ k. KeepsApart q s x y (element.Const k)) (consts_of q.atoms) k h (middle (l, m))
+  const_where_no_attr x y n (equal_left k h e l) = any_of (λ k. KeepsApart q s x y (element.Const k)) (consts_of q.atoms) k h (left (e, l))
+  const_where_no_attr x y n (equal_right k h l e) = any_of (λ k. KeepsApart q s x y (element.Const k)) (consts_of q.atoms) k h (right (l, e))
 
   -- ---- equalities
 
   flipped : (x y : Attr) → IsEquality q s x y → IsEquality q s y x
-  flipped x y e = record { across = record { left = e.across.right; right = e.across.left; across = λ h. e.across.across (sym h); group = one_group_turned q x y e.across.group }; equal = record { equal = λ v j. sym (e.equal.equal v j) } }
+  flipped x y e = record { across = record { left = e.across.right; right = e.across.left; across = λ h. e.across.across (sym h) }; equal = record { equal = λ v j. sym (e.equal.equal v j) } }
 
   -- an equality of a column with another, on whichever side it stands
   pub equality_from : (a : Attr) → Any (IsEquality q s a) (attrs_of q.atoms) → (b : Attr) × (IsEquality q s a b ⊎ IsEquality q s b a)
@@ -76,8 +75,8 @@ module _ (q : QueryValue) (s : List Sign) where
   two_from : (side : Side) (a b : Attr) → IsRef q s side a → IsSecond q s side a b → HasTwoRefs q s a.stream
   two_from Side.Min a b r (across h) = record { first = a; second = b; here = refl; there = sym h.0; two = both r h.1 }
   two_from Side.Max a b r (across h) = record { first = b; second = a; here = sym h.0; there = refl; two = both h.1 r }
-  two_from Side.Min a b r (beside h) = record { first = a; second = b; here = refl; there = sym h.0.0; two = two_mins r h.1 (λ c. h.0.1 (c.group, c.equal)) }
-  two_from Side.Max a b r (beside h) = record { first = a; second = b; here = refl; there = sym h.0.0; two = two_maxes r h.1 (λ c. h.0.1 (c.group, c.equal)) }
+  two_from Side.Min a b r (beside h) = record { first = a; second = b; here = refl; there = sym h.0.0; two = two_mins r h.1 (λ c. h.0.1 c.equal) }
+  two_from Side.Max a b r (beside h) = record { first = a; second = b; here = refl; there = sym h.0.0; two = two_maxes r h.1 (λ c. h.0.1 c.equal) }
 
   ref_named : (side : Side) (a : Attr) → IsRef q s side a → Contains (attrs_of q.atoms) a
   ref_named Side.Min a r = r.inequality.across.left
@@ -85,12 +84,11 @@ module _ (q : QueryValue) (s : List Sign) where
 
   -- what is not apart from one is not apart from another
   not_apart : (side : Side) (a b c : Attr) → b.stream ≡ c.stream → IsRef q s side b → IsRef q s side c
-      → ¬ (¬ AreEqualInGroup q s a b) → ¬ (¬ AreEqualInGroup q s a c) → ¬ AreOneClass q s b c → ⊥
+      → ¬ (¬ IsEqual q s (element.Attr a) (element.Attr b)) → ¬ (¬ IsEqual q s (element.Attr a) (element.Attr c)) → ¬ AreOneClass q s b c → ⊥
   not_apart side a b c e l m f g n = f (λ h. g (λ k. n record {
     named = inr (ref_named side b l, ref_named side c m);
     stream = e;
-    group = one_group_along q a b (element.Attr c) h.0 k.0;
-    equal = record { equal = λ v j. sym (h.1.equal v j) ∙ k.1.equal v j };
+    equal = record { equal = λ v j. sym (h.equal v j) ∙ k.equal v j };
   }))
 
   module _ (a b c : Attr) (hb : b.stream ≡ a.stream) (hc : c.stream ≡ a.stream) where

@@ -12,10 +12,15 @@ pub mod LeafTable
 pub mod TightLeaf
 pub mod LeafInPart
 pub mod BehindSigns
+pub mod PlainBranches
+pub mod WholeBranches
+pub mod SplitBranches
+pub mod LeafCloses
 pub mod LeavesInOrder
 pub mod Preorders
 pub mod LeafBounds
 pub mod FirstFaults
+pub mod OneFailure
 pub mod OneAnswer
 pub mod WorkedCase
 pub mod WorkedSoft
@@ -27,4 +32,6 @@ pub mod LeafOrder
 pub mod LeafRefs
 pub mod Choosing
 pub mod LeavesDecided
-pub mod AcrossGroups
+pub mod FormDecided
+pub mod ByForm
+pub mod Showing

@@ -1,5 +1,6 @@
 -- The nodes of a certificate have one answer at most.
-use Rattle.std.proofs.Common.{◌≡◌, ℕ, refl, sym, ◌∙◌, ap, ap₂, length}
+use Rattle.std.proofs.Common.{◌≡◌, ℕ, List, [], refl, sym, ◌∙◌, ap, ap₂, subst, length}
+use Rattle.std.proofs.lemmas.List.Elements.{All-contains}
 use Rattle.std.specs.declared.option.Option.{Option}
 use Rattle.std.specs.declared.option.Option.TheVariants.{None, Some}
 use Rattle.bq_model.specs.declared.decision.Decision.{Decision}
@@ -9,16 +10,24 @@ use Rattle.bq_model.specs.Verdict.{IsDecision}
 use Rattle.bq_model.specs.Violation.{Failure, IsViolation}
 use Rattle.bq_model.proofs.Unique.{one_list_of_parts}
 use Rattle.bq_model.proofs.Violation.{one_violation}
+use Rattle.bq_model.specs.declared.atom.Attr.{Attr}
+use Rattle.bq_model.specs.declared.condition.Condition.{Condition}
+use Rattle.bq_model.specs.declared.part.Sign.{Sign}
+use Rattle.bq_model.specs.Parts.{signs_lt}
+use Rattle.bq_model.proofs.Has.{Has, Has-from_contains, Contains-from_has}
+use Rattle.bq_model.proofs.Unique.{same_members, ascends_from, signs_strict}
+use Rattle.bq_form_pairs.specs.Pairs.{split_pairs}
+use Rattle.bq_form_pairs.specs.SplitParts.{IsSplitPart}
+use Rattle.bq_certificate.specs.Nodes.{Node}
 use Rattle.bq_certcheck.specs.declared.answer.CheckAnswer.{CheckAnswer}
 use Rattle.bq_certcheck.specs.declared.answer.CheckAnswer.TheVariants.{Yes, No}
 use Rattle.bq_certcheck.specs.declared.answer.Reason.{Reason}
+use Rattle.bq_certcheck.specs.declared.shown.Shown.{Shown}
+use Rattle.bq_certcheck.specs.Branches.{AreAll, IsWholePart}
+use Rattle.bq_certcheck.specs.Shown.{shown_by, branching_of, FormBreaks, IsFirstFailureBy, failure_of, IsShownDecision, plain, whole, split, IsAnswerOf}
 use Rattle.bq_certcheck.specs.TreeLaws.{HasOneAnswer}
 use Rattle.bq_certcheck.proofs.FirstFaults.{one_first_fault, good_or_fault}
-
--- the failure of a decision, or none
-abbrev pub failure_of : Decision → Option Failure
-failure_of decision.Bounded = None
-failure_of (decision.Violation part condition attr) = Some record { part = part; condition = condition; attr = attr }
+use Rattle.bq_certcheck.proofs.OneFailure.{one_failure}
 
 -- the decision of a failure, or of none
 abbrev pub decision_of : Option Failure → Decision
@@ -37,13 +46,50 @@ one_decision q d e h k = sym (decision_back d) ∙ ap decision_of (one_violation
     violation decision.Bounded h = h
     violation (decision.Violation part condition attr) h = h
 
+decides_one : (B : List Sign → Condition → Attr → Type 0) (parts : List (List Sign)) (d e : Decision) → IsFirstFailureBy B parts (failure_of d) → IsFirstFailureBy B parts (failure_of e) → d ≡ e
+decides_one B parts d e h k = sym (decision_back d) ∙ ap decision_of (one_failure B parts (failure_of d) (failure_of e) h k) ∙ decision_back e
+
+-- one list of all, ascending
+one_list : (P : List Sign → Type 0) (xs ys : List (List Sign)) → AreAll P xs → AreAll P ys → xs ≡ ys
+one_list P xs ys a b = same_members signs_lt signs_strict xs ys (ascends_from signs_lt xs a.ascending) (ascends_from signs_lt ys b.ascending)
+    (λ z h. Has-from_contains ys z (b.all z (holds_of P xs a z h))) (λ z h. Has-from_contains xs z (a.all z (holds_of P ys b z h)))
+  where
+    holds_of : (P : List Sign → Type 0) (zs : List (List Sign)) → AreAll P zs → (z : List Sign) → Has zs z → P z
+    holds_of P zs a z h = All-contains P zs z a.each (Contains-from_has zs z h)
+
+-- what a form decides is one decision with one number of parts
+pub record AreOne (d e : Decision) (m n : ℕ) : Type 0 where
+  pub decisions : d ≡ e
+  pub numbers : m ≡ n
+
+one_shown : (q : QueryValue) (shown : Shown) (d e : Decision) (m n : ℕ) → IsShownDecision q shown d m → IsShownDecision q shown e n → AreOne d e m n
+one_shown q Shown.Plain d e m n (plain h a) (plain k b) = record {
+  decisions = one_decision q d e h k;
+  numbers = sym a.count_is ∙ ap length (one_list_of_parts q a.parts b.parts a.are b.are) ∙ b.count_is;
+}
+one_shown q Shown.Whole d e m n (whole xs a f l) (whole ys b g k) =
+    let same : ys ≡ xs = one_list (IsWholePart q) ys xs b a in
+    record {
+      decisions = decides_one (FormBreaks [] q) xs d e f (subst (λ z. IsFirstFailureBy (FormBreaks [] q) z (failure_of e)) same g);
+      numbers = l ∙ ap length (sym same) ∙ sym k;
+    }
+one_shown q Shown.Split d e m n (split xs a f l) (split ys b g k) =
+    let same : ys ≡ xs = one_list (IsSplitPart q) ys xs record { ascending = b.ascending; each = b.each; all = b.all } record { ascending = a.ascending; each = a.each; all = a.all } in
+    record {
+      decisions = decides_one (FormBreaks (split_pairs q) q) xs d e f (subst (λ z. IsFirstFailureBy (FormBreaks (split_pairs q) q) z (failure_of e)) same g);
+      numbers = l ∙ ap length (sym same) ∙ sym k;
+    }
+
 -- nodes have one answer at most
-pub one_answer : HasOneAnswer
-one_answer q nodes (Yes d parts) (Yes e others) h k =
-    let same : h.2.parts ≡ k.2.parts = one_list_of_parts q h.2.parts k.2.parts h.2.are k.2.are in
-    ap₂ (λ (x : Decision) (n : ℕ). let r : CheckAnswer = Yes x n in r) (one_decision q d e h.1 k.1) (sym h.2.count_is ∙ ap length same ∙ k.2.count_is)
-one_answer q nodes (Yes d parts) (No place why) h k = absurd (good_or_fault q nodes place why h.0 k)
-one_answer q nodes (No place why) (Yes d parts) h k = absurd (good_or_fault q nodes place why k.0 h)
-one_answer q nodes (No place why) (No other because) h k =
-    let e : (place ≡ other) × (why ≡ because) = one_first_fault q nodes place other why because h k in
+one_of_form : (q : QueryValue) (shown : Shown) (nodes : List Node) (answer other : CheckAnswer) → IsAnswerOf shown q nodes answer → IsAnswerOf shown q nodes other → answer ≡ other
+one_of_form q shown nodes (Yes d parts) (Yes e others) h k =
+    let one : AreOne d e parts others = one_shown q shown d e parts others h.1 k.1 in
+    ap₂ (λ (x : Decision) (n : ℕ). let r : CheckAnswer = Yes x n in r) one.decisions one.numbers
+one_of_form q shown nodes (Yes d parts) (No place why) h k = absurd (good_or_fault (branching_of shown q) nodes place why h.0 k)
+one_of_form q shown nodes (No place why) (Yes d parts) h k = absurd (good_or_fault (branching_of shown q) nodes place why k.0 h)
+one_of_form q shown nodes (No place why) (No other because) h k =
+    let e : (place ≡ other) × (why ≡ because) = one_first_fault (branching_of shown q) nodes place other why because h k in
     ap₂ (λ (n : ℕ) (r : Reason). let a : CheckAnswer = No n r in a) e.0 e.1
+
+pub one_answer : HasOneAnswer
+one_answer q nodes answer other h k = one_of_form q (shown_by q nodes) nodes answer other h k

@@ -94,7 +94,7 @@ atoms_lead xs (t ∷ ts) k c i = elim (Has-append_cases (of_op xs t.left t.op t.
   | inr j ↦ atoms_lead xs ts (λ u l. k u (later l)) c j
 ]
 
-signs_lead : (xs : List Attr) (ps : List Pair) (ss : List Sign) → ((p : Pair) → Has ps p → Has xs p.left × Known xs p.right) → (c : Constraint) → Has (of_signs xs ps ss) c → LeadsWithin (length xs) c
+pub signs_lead : (xs : List Attr) (ps : List Pair) (ss : List Sign) → ((p : Pair) → Has ps p → Has xs p.left × Known xs p.right) → (c : Constraint) → Has (of_signs xs ps ss) c → LeadsWithin (length xs) c
 signs_lead xs [] ss k c i = elim i [ ]
 signs_lead xs (p ∷ ps) [] k c i = elim i [ ]
 signs_lead xs (p ∷ ps) (s ∷ ss) k c i = elim (Has-append_cases (constraints_of xs (element.Attr p.left) s p.right) (of_signs xs ps ss) c i) [

@@ -1,17 +1,18 @@
 -- Nodes that are good one behind the other are the preorders of good trees.
 use Rattle.std.proofs.Common.{◌≡◌, ℕ, zero, suc, ◌+◌, ◌≤◌, refl, sym, ◌∙◌, ap, subst, arith, inl, inr, Option, Some, None, List, [], ◌∷◌, ◌++◌, map, length, length-append, append_assoc, append-nil}
 use Rattle.bq_model.specs.declared.part.Sign.{Sign}
-use Rattle.bq_model.specs.Query.{QueryValue}
 use Rattle.bq_model.specs.Parts.{AreParts}
 use Rattle.bq_model.proofs.Has.{Has, first, later, Has-append_cases}
 use Rattle.bq_constraints.proofs.Options.{none_is}
 use Rattle.bq_certificate.specs.Nodes as nodes
 use Rattle.bq_certificate.specs.Nodes.{Node}
+use Rattle.bq_certcheck.specs.Branching.{Branching, plain_branching}
 use Rattle.bq_certcheck.specs.Rules.{IsGoodLeaf}
 use Rattle.bq_certcheck.specs.Tree.{Tree, split, closed, against, leaf, IsGoodTree, preorder, ListGoodTree, PlacedLeaf, leaves_below}
 use Rattle.bq_certcheck.specs.Reading.{advanced, following, AreGood, done, next, IsGood}
 use Rattle.bq_certcheck.specs.Leaves.{leaves_of}
 use Rattle.bq_certcheck.specs.TreeLaws.{GoodIsTree, ListOneTree, LeavesOfTreeAreParts}
+use Rattle.bq_certcheck.proofs.Standing.{plain_room}
 use Rattle.bq_certcheck.proofs.LeavesInOrder.{good_joined, leaves_are_parts}
 
 -- ---- where the tree goes on behind each of the three subtrees
@@ -38,67 +39,68 @@ three_parts xs ys zs ws a b c = a ∙ ap (λ z. xs ++ z) (b ∙ ap (λ z. ys ++ 
 
 -- ---- the nodes of a good tree are good one behind the other
 
-pub tree_is_read : (q : QueryValue) (signs : List Sign) (t : Tree) → IsGoodTree q signs t → AreGood q (Some signs) (preorder t) (following signs)
-tree_is_read q signs (split pair less equal greater) g =
-    let a : AreGood q (Some (signs ++ Sign.Lt ∷ [])) (preorder less) (Some (signs ++ Sign.Eq ∷ [])) = subst (λ z. AreGood q (Some (signs ++ Sign.Lt ∷ [])) (preorder less) z) (behind_less signs) (tree_is_read q (signs ++ Sign.Lt ∷ []) less g.1) in
-    let b : AreGood q (Some (signs ++ Sign.Eq ∷ [])) (preorder equal) (Some (signs ++ Sign.Gt ∷ [])) = subst (λ z. AreGood q (Some (signs ++ Sign.Eq ∷ [])) (preorder equal) z) (behind_equal signs) (tree_is_read q (signs ++ Sign.Eq ∷ []) equal g.2) in
-    let c : AreGood q (Some (signs ++ Sign.Gt ∷ [])) (preorder greater) (following signs) = subst (λ z. AreGood q (Some (signs ++ Sign.Gt ∷ [])) (preorder greater) z) (behind_greater signs) (tree_is_read q (signs ++ Sign.Gt ∷ []) greater g.3) in
+pub tree_is_read : (branching : Branching) (signs : List Sign) (t : Tree) → IsGoodTree branching signs t → AreGood branching (Some signs) (preorder t) (following signs)
+tree_is_read branching signs (split pair less equal greater) g =
+    let a : AreGood branching (Some (signs ++ Sign.Lt ∷ [])) (preorder less) (Some (signs ++ Sign.Eq ∷ [])) = subst (λ z. AreGood branching (Some (signs ++ Sign.Lt ∷ [])) (preorder less) z) (behind_less signs) (tree_is_read branching (signs ++ Sign.Lt ∷ []) less g.1) in
+    let b : AreGood branching (Some (signs ++ Sign.Eq ∷ [])) (preorder equal) (Some (signs ++ Sign.Gt ∷ [])) = subst (λ z. AreGood branching (Some (signs ++ Sign.Eq ∷ [])) (preorder equal) z) (behind_equal signs) (tree_is_read branching (signs ++ Sign.Eq ∷ []) equal g.2) in
+    let c : AreGood branching (Some (signs ++ Sign.Gt ∷ [])) (preorder greater) (following signs) = subst (λ z. AreGood branching (Some (signs ++ Sign.Gt ∷ [])) (preorder greater) z) (behind_greater signs) (tree_is_read branching (signs ++ Sign.Gt ∷ []) greater g.3) in
     next g.0 (good_joined (good_joined a b) c)
-tree_is_read q signs (closed numbers) g = next g done
-tree_is_read q signs (against comparison) g = next g done
-tree_is_read q signs (leaf paths) g = next g done
+tree_is_read branching signs (closed numbers) g = next g done
+tree_is_read branching signs (against comparison) g = next g done
+tree_is_read branching signs (leaf paths) g = next g done
 
 -- ---- nodes that are good one behind the other begin with a good tree
 
 -- the tree at the front of some nodes, and what is left of them
-pub record Begins (q : QueryValue) (signs : List Sign) (listed : List Node) : Type 0 where
+pub record Begins (branching : Branching) (signs : List Sign) (listed : List Node) : Type 0 where
   pub tree : Tree
-  pub good : IsGoodTree q signs tree
+  pub good : IsGoodTree branching signs tree
   pub rest : List Node
   pub listed_is : listed ≡ preorder tree ++ rest
-  pub rest_good : AreGood q (following signs) rest None
+  pub rest_good : AreGood branching (following signs) rest None
 
-pub begins : (n : ℕ) (q : QueryValue) (signs : List Sign) (listed : List Node) (end : Option (List Sign)) → length listed ≤ n → end ≡ None → AreGood q (Some signs) listed end → Begins q signs listed
-begins n q signs [] end l e done = absurd (none_is (sym e))
-begins zero q signs (node ∷ listed) end l e (next g r) = absurd (omega arith)
-begins (suc n) q signs (nodes.infeasible numbers ∷ listed) end l e (next g r) = record { tree = closed numbers; good = g; rest = listed; listed_is = refl; rest_good = subst (AreGood q (following signs) listed) e r }
-begins (suc n) q signs (nodes.against comparison ∷ listed) end l e (next g r) = record { tree = against comparison; good = g; rest = listed; listed_is = refl; rest_good = subst (AreGood q (following signs) listed) e r }
-begins (suc n) q signs (nodes.leaf paths ∷ listed) end l e (next g r) = record { tree = leaf paths; good = g; rest = listed; listed_is = refl; rest_good = subst (AreGood q (following signs) listed) e r }
-begins (suc n) q signs (nodes.split pair ∷ listed) end l e (next g r) =
-    let a : Begins q (signs ++ Sign.Lt ∷ []) listed = begins n q (signs ++ Sign.Lt ∷ []) listed end (omega arith) e r in
-    let a_rest : AreGood q (Some (signs ++ Sign.Eq ∷ [])) a.rest None = subst (λ z. AreGood q z a.rest None) (behind_less signs) a.rest_good in
+pub begins : (n : ℕ) (branching : Branching) (signs : List Sign) (listed : List Node) (end : Option (List Sign)) → length listed ≤ n → end ≡ None → AreGood branching (Some signs) listed end → Begins branching signs listed
+begins n branching signs [] end l e done = absurd (none_is (sym e))
+begins zero branching signs (node ∷ listed) end l e (next g r) = absurd (omega arith)
+begins (suc n) branching signs (nodes.infeasible numbers ∷ listed) end l e (next g r) = record { tree = closed numbers; good = g; rest = listed; listed_is = refl; rest_good = subst (AreGood branching (following signs) listed) e r }
+begins (suc n) branching signs (nodes.against comparison ∷ listed) end l e (next g r) = record { tree = against comparison; good = g; rest = listed; listed_is = refl; rest_good = subst (AreGood branching (following signs) listed) e r }
+begins (suc n) branching signs (nodes.leaf paths ∷ listed) end l e (next g r) = record { tree = leaf paths; good = g; rest = listed; listed_is = refl; rest_good = subst (AreGood branching (following signs) listed) e r }
+begins (suc n) branching signs (nodes.split pair ∷ listed) end l e (next g r) =
+    let a : Begins branching (signs ++ Sign.Lt ∷ []) listed = begins n branching (signs ++ Sign.Lt ∷ []) listed end (omega arith) e r in
+    let a_rest : AreGood branching (Some (signs ++ Sign.Eq ∷ [])) a.rest None = subst (λ z. AreGood branching z a.rest None) (behind_less signs) a.rest_good in
     let a_long : length listed ≡ length (preorder a.tree) + length a.rest = ap length a.listed_is ∙ length-append (preorder a.tree) a.rest in
-    let b : Begins q (signs ++ Sign.Eq ∷ []) a.rest = begins n q (signs ++ Sign.Eq ∷ []) a.rest None (omega (arith, a_long, l)) refl a_rest in
-    let b_rest : AreGood q (Some (signs ++ Sign.Gt ∷ [])) b.rest None = subst (λ z. AreGood q z b.rest None) (behind_equal signs) b.rest_good in
+    let b : Begins branching (signs ++ Sign.Eq ∷ []) a.rest = begins n branching (signs ++ Sign.Eq ∷ []) a.rest None (omega (arith, a_long, l)) refl a_rest in
+    let b_rest : AreGood branching (Some (signs ++ Sign.Gt ∷ [])) b.rest None = subst (λ z. AreGood branching z b.rest None) (behind_equal signs) b.rest_good in
     let b_long : length a.rest ≡ length (preorder b.tree) + length b.rest = ap length b.listed_is ∙ length-append (preorder b.tree) b.rest in
-    let c : Begins q (signs ++ Sign.Gt ∷ []) b.rest = begins n q (signs ++ Sign.Gt ∷ []) b.rest None (omega (arith, a_long, b_long, l)) refl b_rest in
+    let c : Begins branching (signs ++ Sign.Gt ∷ []) b.rest = begins n branching (signs ++ Sign.Gt ∷ []) b.rest None (omega (arith, a_long, b_long, l)) refl b_rest in
     let same : listed ≡ (preorder a.tree ++ preorder b.tree ++ preorder c.tree) ++ c.rest = three_parts (preorder a.tree) (preorder b.tree) (preorder c.tree) c.rest a.listed_is b.listed_is c.listed_is in
     record {
       tree = split pair a.tree b.tree c.tree;
       good = (g, a.good, b.good, c.good);
       rest = c.rest;
       listed_is = ap (λ z. nodes.split pair ∷ z) same;
-      rest_good = subst (λ z. AreGood q z c.rest None) (behind_greater signs) c.rest_good;
+      rest_good = subst (λ z. AreGood branching z c.rest None) (behind_greater signs) c.rest_good;
     }
 
-nothing_left : (q : QueryValue) (listed : List Node) (end : Option (List Sign)) → AreGood q None listed end → listed ≡ []
-nothing_left q [] end g = refl
-nothing_left q (node ∷ listed) end g = elim g [ ]
+nothing_left : (branching : Branching) (listed : List Node) (end : Option (List Sign)) → AreGood branching None listed end → listed ≡ []
+nothing_left branching [] end g = refl
+nothing_left branching (node ∷ listed) end g = elim g [ ]
 
-tree_from_read : (q : QueryValue) (listed : List Node) → IsGood q listed → ListGoodTree q listed
-tree_from_read q listed g =
-    let b : Begins q [] listed = begins (length listed) q [] listed None (omega arith) refl g in
+tree_from_read : (branching : Branching) (listed : List Node) → IsGood branching listed → ListGoodTree branching listed
+tree_from_read branching listed g =
+    let b : Begins branching [] listed = begins (length listed) branching [] listed None (omega arith) refl g.good in
     record {
+      room = g.room;
       tree = b.tree;
       good = b.good;
-      listed_is = b.listed_is ∙ ap (λ z. preorder b.tree ++ z) (nothing_left q b.rest None b.rest_good) ∙ append-nil (preorder b.tree);
+      listed_is = b.listed_is ∙ ap (λ z. preorder b.tree ++ z) (nothing_left branching b.rest None b.rest_good) ∙ append-nil (preorder b.tree);
     }
 
-read_from_tree : (q : QueryValue) (listed : List Node) → ListGoodTree q listed → IsGood q listed
-read_from_tree q listed t = subst (λ z. IsGood q z) (sym t.listed_is) (tree_is_read q [] t.tree t.good)
+read_from_tree : (branching : Branching) (listed : List Node) → ListGoodTree branching listed → IsGood branching listed
+read_from_tree branching listed t = record { room = t.room; good = subst (λ z. AreGood branching (Some []) z None) (sym t.listed_is) (tree_is_read branching [] t.tree t.good) }
 
 pub good_is_tree : GoodIsTree
-good_is_tree q listed = (tree_from_read q listed, read_from_tree q listed)
+good_is_tree branching listed = (tree_from_read branching listed, read_from_tree branching listed)
 
 -- ---- nodes list one tree at most
 
@@ -169,18 +171,18 @@ leaves_listed signs (split pair less equal greater) rest =
 pub leaves_of_tree_are_parts : LeavesOfTreeAreParts
 leaves_of_tree_are_parts q w t g =
     let same : leaves_of (Some []) (preorder t) ≡ signs_at (leaves_below [] t) = ap (leaves_of (Some [])) (sym (append-nil (preorder t))) ∙ leaves_listed [] t [] ∙ append-nil (signs_at (leaves_below [] t)) in
-    subst (AreParts q) same (leaves_are_parts q w (preorder t) (tree_is_read q [] t g))
+    subst (AreParts q) same (leaves_are_parts q w (preorder t) record { room = plain_room q w; good = tree_is_read (plain_branching q) [] t g })
 
 -- each leaf of a good tree is good
-pub leaf_is_good : (q : QueryValue) (signs : List Sign) (t : Tree) → IsGoodTree q signs t → (l : PlacedLeaf) → Has (leaves_below signs t) l → IsGoodLeaf q l.signs l.paths
-leaf_is_good q signs (closed numbers) g l h = elim h [ ]
-leaf_is_good q signs (against comparison) g l h = elim h [ ]
-leaf_is_good q signs (leaf paths) g l first = g
-leaf_is_good q signs (leaf paths) g l (later h) = elim h [ ]
-leaf_is_good q signs (split pair less equal greater) g l h = elim (Has-append_cases (leaves_below (signs ++ Sign.Lt ∷ []) less ++ leaves_below (signs ++ Sign.Eq ∷ []) equal) (leaves_below (signs ++ Sign.Gt ∷ []) greater) l h) [
+pub leaf_is_good : (branching : Branching) (signs : List Sign) (t : Tree) → IsGoodTree branching signs t → (l : PlacedLeaf) → Has (leaves_below signs t) l → IsGoodLeaf branching l.signs l.paths
+leaf_is_good branching signs (closed numbers) g l h = elim h [ ]
+leaf_is_good branching signs (against comparison) g l h = elim h [ ]
+leaf_is_good branching signs (leaf paths) g l first = g
+leaf_is_good branching signs (leaf paths) g l (later h) = elim h [ ]
+leaf_is_good branching signs (split pair less equal greater) g l h = elim (Has-append_cases (leaves_below (signs ++ Sign.Lt ∷ []) less ++ leaves_below (signs ++ Sign.Eq ∷ []) equal) (leaves_below (signs ++ Sign.Gt ∷ []) greater) l h) [
   | inl i ↦ elim (Has-append_cases (leaves_below (signs ++ Sign.Lt ∷ []) less) (leaves_below (signs ++ Sign.Eq ∷ []) equal) l i) [
-    | inl j ↦ leaf_is_good q (signs ++ Sign.Lt ∷ []) less g.1 l j
-    | inr j ↦ leaf_is_good q (signs ++ Sign.Eq ∷ []) equal g.2 l j
+    | inl j ↦ leaf_is_good branching (signs ++ Sign.Lt ∷ []) less g.1 l j
+    | inr j ↦ leaf_is_good branching (signs ++ Sign.Eq ∷ []) equal g.2 l j
   ]
-  | inr i ↦ leaf_is_good q (signs ++ Sign.Gt ∷ []) greater g.3 l i
+  | inr i ↦ leaf_is_good branching (signs ++ Sign.Gt ∷ []) greater g.3 l i
 ]

@@ -1,6 +1,6 @@
--- Comparisons that are refuted at some signs: no assignment has the signs at a branch that one closes, and where none is refuted the soft ones
--- hold of which the signs decide.
-use Rattle.std.proofs.Common.{◌≡◌, ℕ, zero, suc, ◌-◌, Bool, true, false, ◌||◌, cond, nat_eq, Option, Some, None, List, [], ◌∷◌, ◌++◌, map, take, length, slice_get, refl, sym, subst}
+-- Comparisons that are refuted at some signs: one that is refuted holds in no assignment that has them, and where none is refuted the soft ones hold
+-- of which the signs decide.
+use Rattle.std.proofs.Common.{◌≡◌, ℕ, zero, suc, ◌-◌, Bool, true, false, ◌||◌, cond, nat_eq, IsFalse, Option, Some, None, List, [], ◌∷◌, ◌++◌, map, take, length, slice_get, refl, sym, subst}
 use Rattle.std.proofs.lemmas.List.Elements.{All-contains}
 use Rattle.bq_model.proofs.Has.{Has, first, later, Contains-from_has}
 use Rattle.bq_model.proofs.Split.{IsFeasible}
@@ -12,11 +12,12 @@ use Rattle.bq_model.specs.Assignment.{Assignment, AtomHolds}
 use Rattle.bq_model.specs.Parts.{pairs, pair_of, sign_at}
 use Rattle.bq_constraints.specs.Soft.{fails_by, denies_itself, SoftHold}
 use Rattle.bq_constraints.proofs.Softly.{neither, any_none, made_once, soft_by, made_by, refuted_by, kept_by, kept_itself, denied_soft, denied_unmade, denied_fails}
+use Rattle.bq_certcheck.specs.Branching.{Branching}
 use Rattle.bq_certcheck.specs.Rules.{comparison, is_false_under, is_refuted, is_there_refuted, some_refuted, IsRefuted}
 
 module _ (t : Atom) where
   -- a comparison that is false under the sign of its pair is soft, and its pair has a sign
-  soft_under : (ps : List Pair) (ss : List Sign) → is_false_under t ps ss ≡ true → is_soft t.op ≡ true
+  pub soft_under : (ps : List Pair) (ss : List Sign) → is_false_under t ps ss ≡ true → is_soft t.op ≡ true
   soft_under [] ss h = absurd cc
   soft_under (p ∷ ps) [] h = absurd cc
   soft_under (p ∷ ps) (s ∷ ss) h = by (fails_by t p s) refl h (soft_under ps ss)
@@ -25,7 +26,7 @@ module _ (t : Atom) where
       by true e h f = soft_by t p s e
       by false e h f = f h
 
-  named_under : (ps : List Pair) (ss : List Sign) → is_false_under t ps ss ≡ true → (r : Pair) → Has (pair_of t.left t.right) r → Has (take (length ss) ps) r
+  pub named_under : (ps : List Pair) (ss : List Sign) → is_false_under t ps ss ≡ true → (r : Pair) → Has (pair_of t.left t.right) r → Has (take (length ss) ps) r
   named_under [] ss h r i = absurd cc
   named_under (p ∷ ps) [] h r i = absurd cc
   named_under (p ∷ ps) (s ∷ ss) h r i = by (fails_by t p s) refl h (λ k. named_under ps ss k r i)
@@ -35,7 +36,7 @@ module _ (t : Atom) where
       by false e h f = later (f h)
 
   -- it does not hold where the pairs have the signs
-  fails_under : (v : Assignment) (ps : List Pair) (ss rest : List Sign) → map (sign_at v) ps ≡ ss ++ rest → is_false_under t ps ss ≡ true → AtomHolds v t → ⊥
+  pub fails_under : (v : Assignment) (ps : List Pair) (ss rest : List Sign) → map (sign_at v) ps ≡ ss ++ rest → is_false_under t ps ss ≡ true → AtomHolds v t → ⊥
   fails_under v [] ss rest e h a = cc
   fails_under v (p ∷ ps) [] rest e h a = cc
   fails_under v (p ∷ ps) (s ∷ ss) rest e h a =
@@ -48,7 +49,7 @@ module _ (t : Atom) where
       by false f h g k = k h
 
   -- a soft one that is not false under the sign of its pair holds there
-  holds_under : (v : Assignment) (ps : List Pair) (ss rest : List Sign) → map (sign_at v) ps ≡ ss ++ rest → is_false_under t ps ss ≡ false → is_soft t.op ≡ true → (r : Pair) → Has (pair_of t.left t.right) r → Has (take (length ss) ps) r → AtomHolds v t
+  pub holds_under : (v : Assignment) (ps : List Pair) (ss rest : List Sign) → map (sign_at v) ps ≡ ss ++ rest → is_false_under t ps ss ≡ false → is_soft t.op ≡ true → (r : Pair) → Has (pair_of t.left t.right) r → Has (take (length ss) ps) r → AtomHolds v t
   holds_under v [] [] rest e n k r i j = elim j [ ]
   holds_under v [] (s ∷ ss) rest e n k r i j = absurd cc
   holds_under v (p ∷ ps) [] rest e n k r i j = elim j [ ]
@@ -71,7 +72,7 @@ soft_hold q signs w n t i e d v s = by (pair_of t.left t.right) refl
         holds_under t v (pairs q) signs s.rest s.is both.1 e p here (d p here)
 
 -- a refuted comparison holds in no assignment that has the signs
-refuted_fails : (q : QueryValue) (signs : List Sign) (t : Atom) → Has q.atoms t → is_refuted (pairs q) signs t ≡ true → ¬ IsFeasible q signs
+pub refuted_fails : (q : QueryValue) (signs : List Sign) (t : Atom) → Has q.atoms t → is_refuted (pairs q) signs t ≡ true → ¬ IsFeasible q signs
 refuted_fails q signs t i h f = by (denies_itself t) refl h
   where
     by : (b : Bool) → denies_itself t ≡ b → (b || is_false_under t (pairs q) signs) ≡ true → ⊥
@@ -91,10 +92,10 @@ numbered ts number t e = by (nat_eq number 0) e
     by true e = absurd cc
     by false e = has_at ts (number - 1) t e
 
--- no assignment has the signs at a branch that a comparison closes
-pub none_against : (q : QueryValue) (signs : List Sign) (number : ℕ) → IsRefuted q signs number → ¬ IsFeasible q signs
-none_against q signs number h = by (comparison q.atoms number) refl h
+-- where a comparison closes a branch, some comparison is refuted
+pub some_against : (b : Branching) (signs : List Sign) (number : ℕ) → IsRefuted b signs number → ¬ IsFalse (some_refuted b.pairs signs b.atoms)
+some_against b signs number h n = by (comparison b.atoms number) refl h
   where
-    by : (o : Option Atom) → comparison q.atoms number ≡ o → is_there_refuted (pairs q) signs o ≡ true → ¬ IsFeasible q signs
-    by None e h = absurd cc
-    by (Some t) e h = refuted_fails q signs t (numbered q.atoms number t e) h
+    by : (o : Option Atom) → comparison b.atoms number ≡ o → is_there_refuted b.pairs signs o ≡ true → ⊥
+    by None e k = absurd cc
+    by (Some t) e k = let f : is_refuted b.pairs signs t ≡ false = any_none (λ t. is_refuted b.pairs signs t) b.atoms n t (numbered b.atoms number t e) in absurd cc

@@ -1,22 +1,19 @@
--- A good leaf is a part, and the bounds that its paths give are all that its constraints imply: each is reached by some
--- solution, and where there is none some solution passes each integer.
+-- The bounds that the paths of a good leaf give are all that its constraints imply: each is reached by some solution, and where
+-- there is none some solution passes each integer.
 use Rattle.std.proofs.Common.{◌≡◌, ℕ, suc, ◌≤◌, ℤ, pos, ◌+ℤ◌, ◌≤ℤ◌, refl, sym, ◌∙◌, arith, Option, Some, None, List, length}
 use Rattle.std.proofs.lemmas.Int.{ints}
 use Rattle.bq_model.specs.declared.part.Sign.{Sign}
-use Rattle.bq_model.specs.Query.{QueryValue, attrs_of, IsWithinLimits}
-use Rattle.bq_model.specs.Parts.{pairs, IsPart}
-use Rattle.bq_model.proofs.Has.{Has, first}
-use Rattle.bq_model.proofs.Split.{IsFeasible, one_under}
+use Rattle.bq_model.specs.Query.{QueryValue, attrs_of}
+use Rattle.bq_model.proofs.Has.{Has}
 use Rattle.bq_constraints.specs.declared.constraint.Constraint.{Constraint}
-use Rattle.bq_constraints.specs.Solutions.{Solves, IsSatisfiable, IsUpper, HasNoUpper, IsUpperAnswer}
+use Rattle.bq_constraints.specs.Solutions.{Solves, IsSatisfiable, IsUpper, HasNoUpper}
 use Rattle.bq_constraints.specs.PartConstraints.{of_prefix}
-use Rattle.bq_constraints.proofs.Feasible.{feasible_if}
 use Rattle.bq_constraints.proofs.Options.{none_is}
 use Rattle.bq_constraints.proofs.Solve as solve
 use Rattle.bq_certificate.specs.declared.line.Path.{Path}
+use Rattle.bq_certcheck.specs.Branching.{plain_branching}
 use Rattle.bq_certcheck.specs.Rules.{ArePaths, IsBound, same, of_path, AreClosed, IsGoodLeaf}
 use Rattle.bq_certcheck.proofs.ChainSums.{sum_sound}
-use Rattle.bq_certcheck.proofs.Refuted.{soft_hold}
 use Rattle.bq_certcheck.proofs.PrefixNodes.{LeadsWithin, prefix_leads}
 use Rattle.bq_certcheck.proofs.LeafTable.{table_of, width, bound_from_table, table_from_bound, table_within, table_closed, table_covers}
 
@@ -66,17 +63,6 @@ module _ (attrs : ℕ) (cs : List Constraint) (paths : List Path) (a : ArePaths 
     pub closed_is_tight : IsTight attrs cs paths
     closed_is_tight = record { reached = reached_at; passed = passed_at }
 
--- the constraints of a good leaf are met by some integers
-pub leaf_is_satisfiable : (q : QueryValue) (signs : List Sign) (paths : List Path) → IsGoodLeaf q signs paths → IsSatisfiable (of_prefix q signs)
-leaf_is_satisfiable q signs paths g = closed_is_satisfiable (length (attrs_of q.atoms)) (of_prefix q signs) paths g.are_paths g.closed (prefix_leads q signs)
-
--- the signs of a good leaf are a part
-pub leaf_is_part : (q : QueryValue) → IsWithinLimits q → (signs : List Sign) (paths : List Path) → IsGoodLeaf q signs paths → IsPart q signs
-leaf_is_part q w signs paths g =
-    let l : length signs ≡ length (pairs q) = g.place.whole in
-    let f : IsFeasible q signs = feasible_if q signs w (soft_hold q signs w g.place.agree) (omega (arith, l)) (leaf_is_satisfiable q signs paths g) in
-    (one_under q signs l f).parts signs first
-
 -- the bounds of a good leaf are tight
-pub leaf_is_tight : (q : QueryValue) (signs : List Sign) (paths : List Path) → IsGoodLeaf q signs paths → IsTight (length (attrs_of q.atoms)) (of_prefix q signs) paths
+pub leaf_is_tight : (q : QueryValue) (signs : List Sign) (paths : List Path) → IsGoodLeaf (plain_branching q) signs paths → IsTight (length (attrs_of q.atoms)) (of_prefix q signs) paths
 leaf_is_tight q signs paths g = closed_is_tight (length (attrs_of q.atoms)) (of_prefix q signs) paths g.are_paths g.closed (prefix_leads q signs)

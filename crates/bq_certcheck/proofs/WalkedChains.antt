@@ -9,7 +9,7 @@ use Rattle.bq_constraints.proofs.Numbers.{contains_at}
 use Rattle.bq_constraints.specs.declared.constraint.Constraint.{Constraint}
 use Rattle.bq_constraints.specs.Solutions.{IsWithin, IsChain, IsNegativeCycle}
 use Rattle.bq_certcheck.specs.declared.chain.ChainSum.{ChainSum}
-use Rattle.bq_certcheck.specs.Chained.{Closes, numbered, IsChainFrom, IsChainOf}
+use Rattle.bq_certcheck.specs.Chained.{Closes, numbered, IsChainOf}
 
 same_some : {A : Type 0} {x y : A} → let O : Type 0 = Option A in ◌≡◌ {A = O} (Some x) (Some y) → x ≡ y
 same_some h = cc

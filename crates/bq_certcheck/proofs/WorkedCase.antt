@@ -1,5 +1,5 @@
 -- A certificate that is good: that of SELECT DISTINCT S.a FROM S WHERE S.a > 5 AND S.a < 7, which has one part.
-use Rattle.std.proofs.Common.{◌≡◌, ℕ, zero, suc, ◌<◌, ◌≤◌, ◌-◌, ℤ, pos, neg_ℤ, ◌+ℤ◌, ◌<ℤ◌, true, false, inl, refl, sym, subst, arith, Some, List, [], ◌∷◌, length, slice_get}
+use Rattle.std.proofs.Common.{◌≡◌, ℕ, zero, suc, ◌<◌, ◌≤◌, ◌-◌, ℤ, pos, neg_ℤ, ◌+ℤ◌, ◌<ℤ◌, true, false, inl, refl, sym, subst, arith, Some, List, [], ◌∷◌, length, slice_get, None}
 use Rattle.std.proofs.lemmas.Int.{ints}
 use Rattle.bq_model.specs.declared.atom.Attr.{Attr}
 use Rattle.bq_model.specs.declared.atom.Element.TheVariants as element
@@ -13,6 +13,7 @@ use Rattle.bq_constraints.specs.Solutions.{IsNegativeCycle}
 use Rattle.bq_constraints.specs.PartConstraints.{of_prefix}
 use Rattle.bq_certificate.specs.declared.line.Path.{Path}
 use Rattle.bq_certificate.specs.Nodes.{Node, split, infeasible, leaf}
+use Rattle.bq_certcheck.specs.Branching.{plain_branching}
 use Rattle.bq_certcheck.specs.Rules.{IsPath, path_lt, ArePaths, IsBound, same, of_path, HasBound, AreClosed, MayBePart, IsGoodLeaf}
 use Rattle.bq_certcheck.proofs.LeafTable.{table_from_bound}
 use Rattle.bq_certcheck.proofs.LeavesInOrder.{leaves_are_parts}
@@ -21,7 +22,7 @@ use Rattle.bq_model.proofs.Unique.{none, more}
 use Rattle.bq_model.proofs.Split.{pairs_from}
 use Rattle.bq_constraints.proofs.Joined.{All-from_has}
 use Rattle.bq_constraints.proofs.Options.{some_is}
-use Rattle.bq_certcheck.specs.Reading.{IsGood, done, next}
+use Rattle.bq_certcheck.specs.Reading.{AreGood, IsGood, done, next}
 
 -- the only column, S.a
 abbrev pub column : Attr
@@ -156,11 +157,11 @@ closed_at c (later (later (later (later i)))) j l u h = elim i [ ]
 are_closed : AreClosed 1 at_leaf (up ∷ down ∷ [])
 are_closed = record { closed = λ c m j l u h. closed_at c (Has-from_contains at_leaf c m) j l u h }
 
-may_be_part : MayBePart query (Sign.Gt ∷ Sign.Lt ∷ [])
+may_be_part : MayBePart (plain_branching query) (Sign.Gt ∷ Sign.Lt ∷ [])
 unfolding pairs
 may_be_part = record { whole = refl; agree = refl }
 
-leaf_is_good : IsGoodLeaf query (Sign.Gt ∷ Sign.Lt ∷ []) (up ∷ down ∷ [])
+leaf_is_good : IsGoodLeaf (plain_branching query) (Sign.Gt ∷ Sign.Lt ∷ []) (up ∷ down ∷ [])
 leaf_is_good = record {
   place = may_be_part;
   are_paths = subst (λ cs. ArePaths 1 cs (up ∷ down ∷ [])) (sym prefix_of_leaf) are_paths;
@@ -168,9 +169,9 @@ leaf_is_good = record {
 }
 
 -- the certificate is good
-pub certificate_is_good : IsGood query certificate
+nodes_are_good : AreGood (plain_branching query) (Some []) certificate None
 unfolding pairs
-certificate_is_good =
+nodes_are_good =
     next record { next = refl; left = omega (arith, two_pairs) } (
     next below_five (
     next at_five (
@@ -184,6 +185,9 @@ certificate_is_good =
     )
     )
     )
+
+pub certificate_is_good : IsGood (plain_branching query) certificate
+certificate_is_good = record { room = omega (arith, two_pairs); good = nodes_are_good }
 
 in_limits : IsWithinLimits query
 in_limits = record {

@@ -1,6 +1,6 @@
 -- A certificate over columns with domains: that of SELECT DISTINCT S.a, S.b, S.c FROM S WHERE S.a <> 2 AND S.a > 1, where S.a lies in 1..3, S.b in 0..9, and
 -- S.c is any integer. It has one part, whose first break is that S.c is selected and not bounded.
-use Rattle.std.proofs.Common.{◌≡◌, ℕ, zero, suc, ◌<◌, ◌≤◌, ◌-◌, ℤ, pos, neg_ℤ, ◌+ℤ◌, ◌≤ℤ◌, true, false, inl, inr, refl, sym, ap, subst, arith, Some, List, [], ◌∷◌, length, slice_get, Contains}
+use Rattle.std.proofs.Common.{◌≡◌, ℕ, zero, suc, ◌<◌, ◌≤◌, ◌-◌, ℤ, pos, neg_ℤ, ◌+ℤ◌, ◌≤ℤ◌, true, false, inl, inr, refl, sym, ap, subst, arith, Some, List, [], ◌∷◌, length, slice_get, Contains, None}
 use Rattle.std.proofs.lemmas.Int.{ints}
 use Rattle.std.proofs.lemmas.Bool.Decides.{nat_tests}
 use Rattle.bq_model.specs.declared.atom.Attr.{Attr}
@@ -25,14 +25,16 @@ use Rattle.bq_constraints.specs.Solutions.{IsNegativeCycle}
 use Rattle.bq_constraints.specs.PartConstraints.{of_prefix}
 use Rattle.bq_constraints.proofs.Joined.{All-from_has}
 use Rattle.bq_constraints.proofs.Options.{some_is, none_is}
+use Rattle.bq_certcheck.specs.Branching.{plain_branching}
 use Rattle.bq_certcheck.specs.declared.answer.CheckAnswer.TheVariants.{Yes}
 use Rattle.bq_certificate.specs.declared.line.Path.{Path}
 use Rattle.bq_certificate.specs.Nodes.{Node, split, infeasible, against, leaf}
 use Rattle.bq_certcheck.specs.Rules.{IsPath, path_lt, ArePaths, IsBound, same, of_path, HasBound, AreClosed, MayBePart, IsGoodLeaf, IsRefuted}
-use Rattle.bq_certcheck.specs.Reading.{IsGood, IsCheckAnswer, done, next}
+use Rattle.bq_certcheck.specs.Reading.{AreGood, IsGood, done, next}
+use Rattle.bq_certcheck.specs.Shown.{IsCheckAnswer}
+use Rattle.bq_certcheck.specs.Shown as forms
 use Rattle.bq_certcheck.proofs.LeafTable.{table_from_bound}
-use Rattle.bq_certcheck.proofs.LeavesInOrder.{leaves_are_parts}
-use Rattle.bq_certcheck.proofs.TightLeaf.{leaf_is_part}
+use Rattle.bq_certcheck.proofs.LeavesInOrder.{leaves_are_parts, leaf_is_part}
 use Rattle.bq_certcheck.proofs.Unnamed.{domain_bounds, unnamed_is_unbounded}
 use Rattle.bq_certcheck.proofs.WorkedCase.{column, cycle_of_two}
 
@@ -89,7 +91,7 @@ below_two : IsNegativeCycle (of_prefix query (Sign.Lt ∷ [])) (1 ∷ 4 ∷ [])
 unfolding pairs
 below_two = cycle_of_two (of_prefix query (Sign.Lt ∷ [])) 1 4 (above (pos 2)) record { left = 1; right = 0; bound = pos 1 } (omega arith) (omega arith) refl refl refl refl (omega (arith, ints))
 
-at_two : IsRefuted query (Sign.Eq ∷ []) 1
+at_two : IsRefuted (plain_branching query) (Sign.Eq ∷ []) 1
 unfolding pairs
 at_two = refl
 
@@ -174,11 +176,11 @@ closed_at c (later (later (later (later (later i))))) j l u h = elim i [ ]
 are_closed : AreClosed 1 at_leaf (up ∷ down ∷ [])
 are_closed = record { closed = λ c m j l u h. closed_at c (Has-from_contains at_leaf c m) j l u h }
 
-may_be_part : MayBePart query (Sign.Gt ∷ Sign.Gt ∷ [])
+may_be_part : MayBePart (plain_branching query) (Sign.Gt ∷ Sign.Gt ∷ [])
 unfolding pairs
 may_be_part = record { whole = refl; agree = refl }
 
-leaf_is_good : IsGoodLeaf query (Sign.Gt ∷ Sign.Gt ∷ []) (up ∷ down ∷ [])
+leaf_is_good : IsGoodLeaf (plain_branching query) (Sign.Gt ∷ Sign.Gt ∷ []) (up ∷ down ∷ [])
 leaf_is_good = record {
   place = may_be_part;
   are_paths = subst (λ cs. ArePaths 1 cs (up ∷ down ∷ [])) (sym prefix_of_leaf) are_paths;
@@ -187,9 +189,9 @@ leaf_is_good = record {
 
 -- ---- the certificate is good
 
-pub certificate_is_good : IsGood query certificate
+nodes_are_good : AreGood (plain_branching query) (Some []) certificate None
 unfolding pairs
-certificate_is_good =
+nodes_are_good =
     next record { next = refl; left = omega (arith, two_pairs) } (
     next below_two (
     next at_two (
@@ -203,6 +205,9 @@ certificate_is_good =
     )
     )
     )
+
+pub certificate_is_good : IsGood (plain_branching query) certificate
+certificate_is_good = record { room = omega (arith, two_pairs); good = nodes_are_good }
 
 in_limits : IsWithinLimits query
 in_limits = record {
@@ -316,4 +321,4 @@ decided = violation.first refl ((Sign.Gt ∷ Sign.Gt ∷ []) ∷ []) one_part (
 
 -- the certificate is answered with one part and the break of C1 at S.c
 pub answer : IsCheckAnswer query certificate (Yes (Violation 1 C1 plain) 1)
-answer = (certificate_is_good, decided, record { parts = (Sign.Gt ∷ Sign.Gt ∷ []) ∷ []; are = one_part; count_is = refl })
+answer = (certificate_is_good, forms.plain decided record { parts = (Sign.Gt ∷ Sign.Gt ∷ []) ∷ []; are = one_part; count_is = refl })

@@ -13,6 +13,7 @@ use Rattle.bq_constraints.specs.Solutions.{IsNegativeCycle}
 use Rattle.bq_constraints.specs.PartConstraints.{of_prefix}
 use Rattle.bq_constraints.proofs.Joined.{All-from_has}
 use Rattle.bq_certificate.specs.Nodes.{Node, split, infeasible, against}
+use Rattle.bq_certcheck.specs.Branching.{plain_branching}
 use Rattle.bq_certcheck.specs.Rules.{IsRefuted}
 use Rattle.bq_certcheck.specs.Reading.{IsGood, done, next}
 use Rattle.bq_certcheck.proofs.LeavesInOrder.{leaves_are_parts}
@@ -47,12 +48,12 @@ unfolding pairs
 below_six = cycle_of_two (of_prefix query (Sign.Lt ∷ [])) 1 3 record { left = 0; right = 1; bound = neg_ℤ (pos 6) } record { left = 1; right = 0; bound = pos 5 } (omega arith) (omega arith) refl refl refl refl (omega (arith, ints))
 
 -- it is 6
-pub at_six : IsRefuted query (Sign.Eq ∷ []) 3
+pub at_six : IsRefuted (plain_branching query) (Sign.Eq ∷ []) 3
 unfolding pairs
 at_six = refl
 
 -- by which the second comparison is not false
-pub another_holds : ¬ IsRefuted query (Sign.Eq ∷ []) 2
+pub another_holds : ¬ IsRefuted (plain_branching query) (Sign.Eq ∷ []) 2
 unfolding pairs
 another_holds h = let f : false ≡ true = h in cc
 
@@ -62,8 +63,8 @@ unfolding pairs
 above_six = cycle_of_two (of_prefix query (Sign.Gt ∷ [])) 2 3 record { left = 1; right = 0; bound = pos 6 } record { left = 0; right = 1; bound = neg_ℤ (pos 7) } (omega arith) (omega arith) refl refl refl refl (omega (arith, ints))
 
 -- the certificate is good
-pub certificate_is_good : IsGood query certificate
-certificate_is_good = next record { next = refl; left = omega (arith, three_pairs) } (next below_six (next at_six (next above_six done)))
+pub certificate_is_good : IsGood (plain_branching query) certificate
+certificate_is_good = record { room = omega (arith, three_pairs); good = next record { next = refl; left = omega (arith, three_pairs) } (next below_six (next at_six (next above_six done))) }
 
 in_limits : IsWithinLimits query
 in_limits = record {

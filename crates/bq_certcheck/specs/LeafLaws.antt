@@ -6,7 +6,7 @@ use Rattle.bq_model.specs.Query.{QueryValue, attrs_of, IsWithinLimits}
 use Rattle.bq_model.specs.Assignment.{Assignment, value, IsAmong}
 use Rattle.bq_model.specs.Parts.{InPart}
 use Rattle.bq_constraints.specs.Nodes.{node_of, offset_of}
-use Rattle.bq_constraints.specs.PartConstraints.{of_prefix}
+use Rattle.bq_certcheck.specs.Branching.{plain_branching, constraints_at}
 use Rattle.bq_certcheck.specs.Rules.{IsBound}
 use Rattle.bq_certcheck.specs.Tree.{Tree, IsGoodTree, PlacedLeaf, leaves_below}
 
@@ -23,7 +23,7 @@ pub record IsFreeAbove (q : QueryValue) (s : List Sign) (x y : Element) : Type 0
 
 -- a leaf says that x is at most so much above y: it has a bound of the node of x above that of y, moved by constants
 abbrev pub SaysMost : QueryValue → PlacedLeaf → Element → Element → ℤ → Type 0
-SaysMost q l x y most = IsBound (of_prefix q l.signs) l.paths (node_of (attrs_of q.atoms) x) (node_of (attrs_of q.atoms) y) (offset_of y -ℤ offset_of x +ℤ most)
+SaysMost q l x y most = IsBound (constraints_at (plain_branching q) l.signs) l.paths (node_of (attrs_of q.atoms) x) (node_of (attrs_of q.atoms) y) (offset_of y -ℤ offset_of x +ℤ most)
 
 -- the leaf says how much x is at most above y in its part, and says nothing exactly where that has no limit
 pub record IsTold (q : QueryValue) (l : PlacedLeaf) (x y : Element) : Type 0 where
@@ -33,6 +33,6 @@ pub record IsTold (q : QueryValue) (l : PlacedLeaf) (x y : Element) : Type 0 whe
 -- in a tree that is good for a query within the limits the bounds of a leaf are what its part implies of any two columns that the comparisons name, or constants
 abbrev pub LeavesAreTight : Type 0
 LeavesAreTight =
-    (q : QueryValue) → IsWithinLimits q → (t : Tree) → IsGoodTree q [] t
+    (q : QueryValue) → IsWithinLimits q → (t : Tree) → IsGoodTree (plain_branching q) [] t
     → (l : PlacedLeaf) → Contains (leaves_below [] t) l
     → (x y : Element) → IsAmong (attrs_of q.atoms) x → IsAmong (attrs_of q.atoms) y → IsTold q l x y

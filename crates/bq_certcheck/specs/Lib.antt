@@ -1,10 +1,12 @@
+pub mod Branching
+pub mod Branches
 pub mod Rules
 pub mod Tree
 pub mod Reading
 pub mod Leaves
+pub mod Shown
 pub mod TreeLaws
 pub mod LeafLaws
-pub mod GroupLaws
 pub mod Chained
 pub mod Bounds
 pub mod Standing

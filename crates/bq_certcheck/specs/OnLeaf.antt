@@ -1,27 +1,32 @@
 -- What is read off the bounds of a good leaf.
-use Rattle.std.specs.Prelude.{◌≡◌, ◌≢◌, ℤ, ◌+ℤ◌, ◌-ℤ◌, Option, List, IsTrue}
+use Rattle.std.specs.Prelude.{◌≡◌, ◌≢◌, ℤ, ◌+ℤ◌, ◌-ℤ◌, Option, List}
 use Rattle.bq_model.specs.declared.atom.Attr.{Attr}
 use Rattle.bq_model.specs.declared.atom.Element.{Element}
 use Rattle.bq_model.specs.declared.atom.Element.TheVariants as element
 use Rattle.bq_model.specs.declared.part.Sign.{Sign}
 use Rattle.bq_model.specs.Query.{QueryValue, attrs_of, IsWithinLimits}
-use Rattle.bq_model.specs.Groups.{in_one_group}
 use Rattle.bq_model.specs.Order.{IsLess, IsEqual}
 use Rattle.bq_model.specs.Links.{IsInequality, IsMinRef, IsMaxRef}
 use Rattle.bq_constraints.specs.Nodes.{node_of, offset_of}
-use Rattle.bq_constraints.specs.PartConstraints.{of_prefix}
 use Rattle.bq_certificate.specs.declared.line.Path.{Path}
 use Rattle.bq_certcheck.specs.declared.leaf.Leaf.{Leaf}
 use Rattle.bq_certcheck.specs.declared.links.Side.{Side}
+use Rattle.bq_certcheck.specs.Branching.{Branching, plain_branching, constraints_at}
 use Rattle.bq_certcheck.specs.Rules.{IsGoodLeaf}
 use Rattle.bq_certcheck.specs.Bounds.{bound_at, IsAtMost, Tells}
 
 -- there is a good leaf at these signs, and the table tells all bounds that its paths give
+pub record IsTableOf (b : Branching) (signs : List Sign) (bounds : List (Option ℤ)) : Type 0 where
+  pub paths : List Path
+  pub good : IsGoodLeaf b signs paths
+  pub tells : Tells (constraints_at b signs) paths bounds
+
+-- that, in a tree of parts of a query within the limits
 pub record IsLeafTable (q : QueryValue) (signs : List Sign) (bounds : List (Option ℤ)) : Type 0 where
   pub limits : IsWithinLimits q
   pub paths : List Path
-  pub good : IsGoodLeaf q signs paths
-  pub tells : Tells (of_prefix q signs) paths bounds
+  pub good : IsGoodLeaf (plain_branching q) signs paths
+  pub tells : Tells (constraints_at (plain_branching q) signs) paths bounds
 
 -- the same of a leaf of the code
 abbrev pub IsLeaf : Leaf → Type 0
@@ -31,27 +36,27 @@ IsLeaf l = IsLeafTable l.query.now l.signs.now l.bounds.now
 abbrev pub SaysAbove : QueryValue → List (Option ℤ) → Element → Element → ℤ → Type 0
 SaysAbove q bounds x y by = IsAtMost (bound_at bounds (node_of (attrs_of q.atoms) x) (node_of (attrs_of q.atoms) y)) (offset_of y -ℤ offset_of x +ℤ by)
 
--- e is in one group with x, and lies between x and y
+-- e lies between x and y
 abbrev pub LiesBetween : QueryValue → List Sign → Attr → Attr → Element → Type 0
-LiesBetween q s x y e = IsTrue (in_one_group q x e) × IsLess q s (element.Attr x) e × IsLess q s e (element.Attr y)
+LiesBetween q s x y e = IsLess q s (element.Attr x) e × IsLess q s e (element.Attr y)
 
--- e is in one group with x, equals x and is less than y
+-- e equals x and is less than y
 abbrev pub EqualsLeft : QueryValue → List Sign → Attr → Attr → Element → Type 0
-EqualsLeft q s x y e = IsTrue (in_one_group q x e) × IsEqual q s (element.Attr x) e × IsLess q s e (element.Attr y)
+EqualsLeft q s x y e = IsEqual q s (element.Attr x) e × IsLess q s e (element.Attr y)
 
--- e is in one group with x, x is less than e, and e equals y
+-- x is less than e, and e equals y
 abbrev pub EqualsRight : QueryValue → List Sign → Attr → Attr → Element → Type 0
-EqualsRight q s x y e = IsTrue (in_one_group q x e) × IsLess q s (element.Attr x) e × IsEqual q s e (element.Attr y)
+EqualsRight q s x y e = IsLess q s (element.Attr x) e × IsEqual q s e (element.Attr y)
 
--- e is in one group with x, and lies between x and y, or equals one and parts it from the other
+-- e lies between x and y, or equals one and parts it from the other
 pub data KeepsApart (q : QueryValue) (s : List Sign) (x y : Attr) (e : Element) : Type 0 where
   middle : LiesBetween q s x y e → KeepsApart q s x y e
   left : EqualsLeft q s x y e → KeepsApart q s x y e
   right : EqualsRight q s x y e → KeepsApart q s x y e
 
--- the sides are of different streams and one group, and the left one is less than the right one
+-- the sides are of different streams, and the left one is less than the right one
 abbrev pub IsLessAcross : QueryValue → List Sign → Attr → Attr → Type 0
-IsLessAcross q s x y = (x.stream ≢ y.stream) × IsTrue (in_one_group q x (element.Attr y)) × IsLess q s (element.Attr x) (element.Attr y)
+IsLessAcross q s x y = (x.stream ≢ y.stream) × IsLess q s (element.Attr x) (element.Attr y)
 
 -- a nonredundant inequality between streams, the first column on this side of it and the second on the other
 abbrev pub IsLinked : QueryValue → List Sign → Side → Attr → Attr → Type 0
@@ -68,13 +73,9 @@ abbrev pub opposite : Side → Side
 opposite Side.Min = Side.Max
 opposite Side.Max = Side.Min
 
--- two columns of one group that are equal in every assignment of the part
-abbrev pub AreEqualInGroup : QueryValue → List Sign → Attr → Attr → Type 0
-AreEqualInGroup q s a b = IsTrue (in_one_group q a (element.Attr b)) × IsEqual q s (element.Attr a) (element.Attr b)
-
--- two columns of one stream that are not equal so
+-- two columns of one stream that are not equal in every assignment of the part
 abbrev pub IsOther : QueryValue → List Sign → Attr → Attr → Type 0
-IsOther q s a b = (a.stream ≡ b.stream) × ¬ AreEqualInGroup q s a b
+IsOther q s a b = (a.stream ≡ b.stream) × ¬ IsEqual q s (element.Attr a) (element.Attr b)
 
 -- beside a reference a on this side, b is one of its stream on the other side
 abbrev pub IsAcrossRef : QueryValue → List Sign → Side → Attr → Attr → Type 0

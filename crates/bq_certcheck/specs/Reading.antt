@@ -5,12 +5,10 @@ use Rattle.std.specs.declared.option.Option.TheVariants.{None, Some}
 use Rattle.bq_model.specs.declared.part.Sign.{Sign}
 use Rattle.bq_model.specs.Query.{QueryValue}
 use Rattle.bq_model.specs.Parts.{AreParts}
-use Rattle.bq_model.specs.Verdict.{IsDecision}
 use Rattle.bq_certcheck.specs.declared.answer.Reason.{Reason}
 use Rattle.bq_certcheck.specs.declared.answer.Reason.TheVariants as reason
-use Rattle.bq_certcheck.specs.declared.answer.CheckAnswer.{CheckAnswer}
-use Rattle.bq_certcheck.specs.declared.answer.CheckAnswer.TheVariants.{Yes, No}
 use Rattle.bq_certificate.specs.Nodes.{Node, split, infeasible, against, leaf}
+use Rattle.bq_certcheck.specs.Branching.{Branching, HasRoom}
 use Rattle.bq_certcheck.specs.Rules.{IsGoodNode, Breaks}
 
 -- the first of the three signs is less, then comes equal, then greater: signs with another first one, where the others have none
@@ -34,30 +32,29 @@ after signs (against comparison) = following signs
 after signs (leaf paths) = following signs
 
 -- good nodes, one behind the other: where the first stands, and where the next one would
-pub data AreGood (q : QueryValue) : Option (List Sign) → List Node → Option (List Sign) → Type 0 where
-  done : {at : Option (List Sign)} → AreGood q at [] at
+pub data AreGood (b : Branching) : Option (List Sign) → List Node → Option (List Sign) → Type 0 where
+  done : {at : Option (List Sign)} → AreGood b at [] at
   next : {signs : List Sign} {node : Node} {nodes : List Node} {end : Option (List Sign)}
-      → IsGoodNode q signs node → AreGood q (after signs node) nodes end → AreGood q (Some signs) (node ∷ nodes) end
+      → IsGoodNode b signs node → AreGood b (after signs node) nodes end → AreGood b (Some signs) (node ∷ nodes) end
 
--- the nodes are one tree, in which each is good. They are exactly those that list a good tree (`Tree`, law `good_is_tree`)
-abbrev pub IsGood : QueryValue → List Node → Type 0
-IsGood q nodes = AreGood q (Some []) nodes None
+-- the nodes are one tree, in which each is good, over pairs for whose signs there is room. They are exactly those that list a good tree
+-- (`Tree`, law `good_is_tree`)
+pub record IsGood (b : Branching) (nodes : List Node) : Type 0 where
+  pub room : HasRoom b
+  pub good : AreGood b (Some []) nodes None
 
--- the first fault, by its place from 1: a node that breaks a rule, the end of a tree that is not whole, or a node behind the tree
-pub data IsFirstFault (q : QueryValue) (nodes : List Node) (place : ℕ) (why : Reason) : Type 0 where
-  broken : (before : List Node) (node : Node) (behind : List Node) (signs : List Sign) → nodes ≡ before ++ node ∷ behind
-      → AreGood q (Some []) before (Some signs) → Breaks q signs node why → place ≡ suc (length before) → IsFirstFault q nodes place why
-  unfinished : (signs : List Sign) → AreGood q (Some []) nodes (Some signs) → why ≡ reason.Shape → place ≡ suc (length nodes) → IsFirstFault q nodes place why
-  left_over : (before : List Node) (node : Node) (behind : List Node) → nodes ≡ before ++ node ∷ behind
-      → AreGood q (Some []) before None → why ≡ reason.Shape → place ≡ suc (length before) → IsFirstFault q nodes place why
+-- the first fault, by its place from 1: there is no room for the signs of the pairs, or a node breaks a rule, or the tree is not whole at the end,
+-- or a node stands behind the tree
+pub data IsFirstFault (b : Branching) (nodes : List Node) (place : ℕ) (why : Reason) : Type 0 where
+  crowded : ¬ HasRoom b → why ≡ reason.Shape → place ≡ 1 → IsFirstFault b nodes place why
+  broken : HasRoom b → (before : List Node) (node : Node) (behind : List Node) (signs : List Sign) → nodes ≡ before ++ node ∷ behind
+      → AreGood b (Some []) before (Some signs) → Breaks b signs node why → place ≡ suc (length before) → IsFirstFault b nodes place why
+  unfinished : HasRoom b → (signs : List Sign) → AreGood b (Some []) nodes (Some signs) → why ≡ reason.Shape → place ≡ suc (length nodes) → IsFirstFault b nodes place why
+  left_over : HasRoom b → (before : List Node) (node : Node) (behind : List Node) → nodes ≡ before ++ node ∷ behind
+      → AreGood b (Some []) before None → why ≡ reason.Shape → place ≡ suc (length before) → IsFirstFault b nodes place why
 
 -- some list of all parts has this length
 pub record HasParts (q : QueryValue) (count : ℕ) : Type 0 where
   pub parts : List (List Sign)
   pub are : AreParts q parts
   pub count_is : length parts ≡ count
-
--- what the nodes are answered with: the number of the query's parts and its decision, or the first fault
-abbrev pub IsCheckAnswer : QueryValue → List Node → CheckAnswer → Type 0
-IsCheckAnswer q nodes (Yes decision parts) = IsGood q nodes × IsDecision q decision × HasParts q parts
-IsCheckAnswer q nodes (No place why) = IsFirstFault q nodes place why

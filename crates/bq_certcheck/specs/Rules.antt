@@ -4,15 +4,13 @@ use Rattle.std.specs.List.{list_any}
 use Rattle.bq_model.specs.declared.atom.Atom.{Atom}
 use Rattle.bq_model.specs.declared.part.Pair.{Pair}
 use Rattle.bq_model.specs.declared.part.Sign.{Sign}
-use Rattle.bq_model.specs.Query.{QueryValue, attrs_of}
-use Rattle.bq_model.specs.Parts.{pairs}
 use Rattle.bq_constraints.specs.declared.constraint.Constraint.{Constraint}
 use Rattle.bq_constraints.specs.Solutions.{IsChain, IsNegativeCycle}
-use Rattle.bq_constraints.specs.PartConstraints.{of_prefix}
 use Rattle.bq_constraints.specs.Soft.{fails_by, denies_itself}
 use Rattle.bq_certificate.specs.declared.line.Path.{Path}
 use Rattle.bq_certcheck.specs.declared.answer.Reason.{Reason}
 use Rattle.bq_certcheck.specs.declared.answer.Reason.TheVariants as reason
+use Rattle.bq_certcheck.specs.Branching.{Branching, constraints_at}
 use Rattle.bq_certificate.specs.Nodes.{Node, split, infeasible, against, leaf}
 
 -- a path names two different ones of the nodes 0 to attrs, and leads from the one to the other
@@ -48,9 +46,9 @@ pub record AreClosed (attrs : ℕ) (cs : List Constraint) (paths : List Path) : 
   pub closed : (c : Constraint) → Contains cs c → (j : ℕ) → j ≤ attrs → (u : ℤ) → IsBound cs paths c.right j u → HasBound cs paths c.left j (c.bound +ℤ u)
 
 -- the rules of a split: there is another pair, and it is the next one
-pub record IsNextPair (q : QueryValue) (signs : List Sign) (pair : ℕ) : Type 0 where
+pub record IsNextPair (b : Branching) (signs : List Sign) (pair : ℕ) : Type 0 where
   pub next : pair ≡ suc (length signs)
-  pub left : length signs < length (pairs q)
+  pub left : length signs < length b.pairs
 
 -- the comparison with a number, from 1
 abbrev pub comparison : List Atom → ℕ → Option Atom
@@ -76,32 +74,32 @@ abbrev pub some_refuted : List Pair → List Sign → List Atom → Bool
 some_refuted ps signs ts = list_any (λ t. is_refuted ps signs t) ts
 
 -- the rule of a branch that a comparison closes: there is one with this number, and it is refuted
-abbrev pub IsRefuted : QueryValue → List Sign → ℕ → Type 0
-IsRefuted q signs number = IsTrue (is_there_refuted (pairs q) signs (comparison q.atoms number))
+abbrev pub IsRefuted : Branching → List Sign → ℕ → Type 0
+IsRefuted b signs number = IsTrue (is_there_refuted b.pairs signs (comparison b.atoms number))
 
 -- the first rules of a leaf: each pair has its sign, and no comparison is refuted
-pub record MayBePart (q : QueryValue) (signs : List Sign) : Type 0 where
-  pub whole : length signs ≡ length (pairs q)
-  pub agree : IsFalse (some_refuted (pairs q) signs q.atoms)
+pub record MayBePart (b : Branching) (signs : List Sign) : Type 0 where
+  pub whole : length signs ≡ length b.pairs
+  pub agree : IsFalse (some_refuted b.pairs signs b.atoms)
 
 -- the rules of a leaf: it stands where a part may be, the paths are paths, and their bounds are closed
-pub record IsGoodLeaf (q : QueryValue) (signs : List Sign) (paths : List Path) : Type 0 where
-  pub place : MayBePart q signs
-  pub are_paths : ArePaths (length (attrs_of q.atoms)) (of_prefix q signs) paths
-  pub closed : AreClosed (length (attrs_of q.atoms)) (of_prefix q signs) paths
+pub record IsGoodLeaf (b : Branching) (signs : List Sign) (paths : List Path) : Type 0 where
+  pub place : MayBePart b signs
+  pub are_paths : ArePaths (length b.attrs) (constraints_at b signs) paths
+  pub closed : AreClosed (length b.attrs) (constraints_at b signs) paths
 
 -- a node meets its rules, where the pairs before it have these signs
-abbrev pub IsGoodNode : QueryValue → List Sign → Node → Type 0
-IsGoodNode q signs (split pair) = IsNextPair q signs pair
-IsGoodNode q signs (infeasible numbers) = IsNegativeCycle (of_prefix q signs) numbers
-IsGoodNode q signs (against number) = IsRefuted q signs number
-IsGoodNode q signs (leaf paths) = IsGoodLeaf q signs paths
+abbrev pub IsGoodNode : Branching → List Sign → Node → Type 0
+IsGoodNode b signs (split pair) = IsNextPair b signs pair
+IsGoodNode b signs (infeasible numbers) = IsNegativeCycle (constraints_at b signs) numbers
+IsGoodNode b signs (against number) = IsRefuted b signs number
+IsGoodNode b signs (leaf paths) = IsGoodLeaf b signs paths
 
 -- the first rule that a node breaks
-pub data Breaks (q : QueryValue) (signs : List Sign) : Node → Reason → Type 0 where
-  no_split : {pair : ℕ} → ¬ IsNextPair q signs pair → Breaks q signs (split pair) reason.Shape
-  no_cycle : {numbers : List ℕ} → ¬ IsNegativeCycle (of_prefix q signs) numbers → Breaks q signs (infeasible numbers) reason.Cycle
-  no_refuted : {number : ℕ} → ¬ IsRefuted q signs number → Breaks q signs (against number) reason.Cycle
-  no_part : {paths : List Path} → ¬ MayBePart q signs → Breaks q signs (leaf paths) reason.Shape
-  no_paths : {paths : List Path} → MayBePart q signs → ¬ ArePaths (length (attrs_of q.atoms)) (of_prefix q signs) paths → Breaks q signs (leaf paths) reason.Path
-  not_closed : {paths : List Path} → MayBePart q signs → ArePaths (length (attrs_of q.atoms)) (of_prefix q signs) paths → ¬ AreClosed (length (attrs_of q.atoms)) (of_prefix q signs) paths → Breaks q signs (leaf paths) reason.Bound
+pub data Breaks (b : Branching) (signs : List Sign) : Node → Reason → Type 0 where
+  no_split : {pair : ℕ} → ¬ IsNextPair b signs pair → Breaks b signs (split pair) reason.Shape
+  no_cycle : {numbers : List ℕ} → ¬ IsNegativeCycle (constraints_at b signs) numbers → Breaks b signs (infeasible numbers) reason.Cycle
+  no_refuted : {number : ℕ} → ¬ IsRefuted b signs number → Breaks b signs (against number) reason.Cycle
+  no_part : {paths : List Path} → ¬ MayBePart b signs → Breaks b signs (leaf paths) reason.Shape
+  no_paths : {paths : List Path} → MayBePart b signs → ¬ ArePaths (length b.attrs) (constraints_at b signs) paths → Breaks b signs (leaf paths) reason.Path
+  not_closed : {paths : List Path} → MayBePart b signs → ArePaths (length b.attrs) (constraints_at b signs) paths → ¬ AreClosed (length b.attrs) (constraints_at b signs) paths → Breaks b signs (leaf paths) reason.Bound

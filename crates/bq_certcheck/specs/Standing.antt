@@ -1,11 +1,13 @@
 -- Where the walk over the nodes of a certificate stands.
 use Rattle.std.specs.Prelude.{◌≡◌, ℕ, ◌-◌, ◌≤◌, Bool, cond, Option, Some, None, List, [], ◌∷◌, ◌++◌, length, take, All}
 use Rattle.bq_model.specs.declared.part.Sign.{Sign}
-use Rattle.bq_model.specs.Query.{QueryValue, IsWithinLimits}
-use Rattle.bq_model.specs.Parts.{pairs}
-use Rattle.bq_constraints.specs.PartConstraints.{of_prefix}
+use Rattle.bq_model.specs.Query.{QueryValue, attrs_of, IsWithinLimits}
+use Rattle.bq_constraints.specs.declared.constraint.Constraint.{Constraint}
 use Rattle.bq_constraints.specs.Solutions.{IsWithin}
+use Rattle.bq_certcheck.specs.declared.shown.Shown.{Shown}
 use Rattle.bq_certcheck.specs.declared.cursor.TreeCursor.{TreeCursor}
+use Rattle.bq_certcheck.specs.Branching.{constraints_at, HasRoom}
+use Rattle.bq_certcheck.specs.Shown.{branching_of}
 
 -- how many constraints a sign stands for
 abbrev pub width : Sign → ℕ
@@ -13,11 +15,20 @@ width Sign.Lt = 1
 width Sign.Eq = 2
 width Sign.Gt = 1
 
--- the signs are those of some first pairs, and the constraints are theirs
-pub record Stands (q : QueryValue) (p : TreeCursor) : Type 0 where
-  pub constraints : p.constraints.items ≡ of_prefix q p.signs.items
+-- the constraints that one more sign adds
+pub record Adds (q : QueryValue) (shown : Shown) (signs : List Sign) (s : Sign) (cs : List Constraint) : Type 0 where
+  pub more : constraints_at (branching_of shown q) (signs ++ s ∷ []) ≡ constraints_at (branching_of shown q) signs ++ cs
+  pub within : All (IsWithin (length (attrs_of q.atoms))) cs
+  pub few : length cs ≤ 2
+
+-- the signs are those of some first pairs of the form, and the constraints are theirs. There is room for the signs of all pairs, and
+-- for the constraints
+pub record Stands (q : QueryValue) (shown : Shown) (p : TreeCursor) : Type 0 where
+  pub constraints : p.constraints.items ≡ constraints_at (branching_of shown q) p.signs.items
   pub within : All (IsWithin 12) p.constraints.items
-  pub room : length p.signs.items ≤ length (pairs q)
+  pub below : length p.signs.items ≤ length (branching_of shown q).pairs
+  pub room : HasRoom (branching_of shown q)
+  pub few : length (branching_of shown q).base ≤ 72
   pub limits : IsWithinLimits q
 
 -- the last sign and its constraints are taken away, or there is none

@@ -1,12 +1,11 @@
--- A certificate as a tree, when that tree is good for a query, and the nodes that list it.
+-- A certificate as a tree, when that tree is good over a branching, and the nodes that list it.
 use Rattle.std.specs.Prelude.{◌≡◌, List, [], ◌∷◌, ◌++◌, ℕ}
 use Rattle.bq_model.specs.declared.part.Sign.{Sign}
-use Rattle.bq_model.specs.Query.{QueryValue}
 use Rattle.bq_constraints.specs.Solutions.{IsNegativeCycle}
-use Rattle.bq_constraints.specs.PartConstraints.{of_prefix}
 use Rattle.bq_certificate.specs.declared.line.Path.{Path}
 use Rattle.bq_certificate.specs.Nodes as nodes
 use Rattle.bq_certificate.specs.Nodes.{Node}
+use Rattle.bq_certcheck.specs.Branching.{Branching, constraints_at, HasRoom}
 use Rattle.bq_certcheck.specs.Rules.{IsNextPair, IsRefuted, IsGoodLeaf}
 
 -- a split at a pair, by its number from 1, into the trees of less, equal and greater; a branch that is closed by constraints that make a
@@ -18,15 +17,15 @@ pub data Tree : Type 0 where
   leaf : List Path → Tree
 
 -- a tree is good below some signs where each of its nodes meets its rule at the signs on the way to it
-abbrev pub IsGoodTree : QueryValue → List Sign → Tree → Type 0
-IsGoodTree q signs (split pair less equal greater) =
-    IsNextPair q signs pair
-    × IsGoodTree q (signs ++ Sign.Lt ∷ []) less
-    × IsGoodTree q (signs ++ Sign.Eq ∷ []) equal
-    × IsGoodTree q (signs ++ Sign.Gt ∷ []) greater
-IsGoodTree q signs (closed numbers) = IsNegativeCycle (of_prefix q signs) numbers
-IsGoodTree q signs (against comparison) = IsRefuted q signs comparison
-IsGoodTree q signs (leaf paths) = IsGoodLeaf q signs paths
+abbrev pub IsGoodTree : Branching → List Sign → Tree → Type 0
+IsGoodTree b signs (split pair less equal greater) =
+    IsNextPair b signs pair
+    × IsGoodTree b (signs ++ Sign.Lt ∷ []) less
+    × IsGoodTree b (signs ++ Sign.Eq ∷ []) equal
+    × IsGoodTree b (signs ++ Sign.Gt ∷ []) greater
+IsGoodTree b signs (closed numbers) = IsNegativeCycle (constraints_at b signs) numbers
+IsGoodTree b signs (against comparison) = IsRefuted b signs comparison
+IsGoodTree b signs (leaf paths) = IsGoodLeaf b signs paths
 
 -- the nodes of a tree in preorder: each before those below it, and less before equal before greater
 abbrev pub preorder : Tree → List Node
@@ -35,10 +34,11 @@ preorder (closed numbers) = nodes.infeasible numbers ∷ []
 preorder (against comparison) = nodes.against comparison ∷ []
 preorder (leaf paths) = nodes.leaf paths ∷ []
 
--- the nodes are those of a good tree in preorder
-pub record ListGoodTree (q : QueryValue) (listed : List Node) : Type 0 where
+-- the nodes are those of a good tree in preorder, over pairs for whose signs there is room
+pub record ListGoodTree (b : Branching) (listed : List Node) : Type 0 where
+  pub room : HasRoom b
   pub tree : Tree
-  pub good : IsGoodTree q [] tree
+  pub good : IsGoodTree b [] tree
   pub listed_is : listed ≡ preorder tree
 
 -- a leaf, with the signs on the way to it

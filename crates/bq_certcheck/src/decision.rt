@@ -1,15 +1,10 @@
 //! The decision on the leaves of a certificate, which are read one after another.
-ghost use Rattle.std.specs.Prelude.{◌≡◌, List, [], Some};
-ghost use Rattle.bq_model.specs.Query.{QueryValue};
-ghost use Rattle.bq_model.specs.Verdict.{IsDecision};
-ghost use Rattle.bq_certificate.specs.Nodes.{Node};
-ghost use Rattle.bq_certcheck.specs.Reading.{IsGood};
-ghost use Rattle.bq_certcheck.specs.Leaves.{leaves_of};
-ghost use Rattle.bq_certcheck.specs.OnLeaf.{IsLeaf};
-ghost use Rattle.bq_certcheck.specs.SoFar.{decision_at, IsSoFar, TakesLeaf};
+ghost use Rattle.std.specs.Prelude.{◌≡◌};
+ghost use Rattle.bq_model.specs.declared.decision.Decision.TheVariants as decision;
+ghost use Rattle.bq_certcheck.specs.SoFar.{decision_at, plain_decision};
+ghost use Rattle.bq_certcheck.specs.Walking.{Finishes};
 
-use crate::breaking::first_break;
-use crate::leaf::Leaf;
+use crate::shown::Shown;
 use bq_model::{Break, Decision, Query};
 
 /// The decision on the leaves that were read so far: each meets all conditions, or the first that breaks one.
@@ -18,49 +13,48 @@ pub struct DecisionSoFar {
     pub decision: Decision,
 }
 
-// The decision where the part with this number is the first that may break a condition.
-fn decision_at(number: u32, found: Option<Break>) -> Decision
-    ensures { result ≡ decision_at number found }
-{
-    match found {
-        Some(found) => Decision::Violation {
-            part: number,
-            condition: found.condition,
-            attr: found.attr,
-        },
-        None => Decision::Bounded,
-    }
-}
-
 impl DecisionSoFar {
     /// Begins before the first leaf.
     pub fn new() -> DecisionSoFar
-        ensures { (q : QueryValue) → IsSoFar q [] result }
+        ensures { result.decision ≡ decision.Bounded }
     {
         DecisionSoFar {
             decision: Decision::Bounded,
         }
     }
 
-    /// Goes on by one more leaf, whose number from 1 this is.
-    pub fn with_leaf(self, leaf: &Leaf, number: u32) -> DecisionSoFar
-        requires { IsLeaf leaf.now }
-        ensures { TakesLeaf leaf.now.query.now leaf.now.signs.now number self result }
+    /// Returns the decision where the leaf with this number, from 1, is the first that may break a condition.
+    pub fn at(number: u32, found: Option<Break>) -> DecisionSoFar
+        ensures { result.decision ≡ decision_at number found }
     {
-        match self.decision {
-            Decision::Bounded => DecisionSoFar {
-                decision: decision_at(number, first_break(leaf)),
+        let decision = match found {
+            Some(found) => Decision::Violation {
+                part: number,
+                condition: found.condition,
+                attr: found.attr,
             },
-            Decision::Violation { .. } => self,
-        }
+            None => Decision::Bounded,
+        };
+        DecisionSoFar { decision }
     }
 
     /// Returns the decision on the query, once all leaves of a good tree were read.
-    pub fn finish(self, q: &Query) -> Decision
-        ensures { (nodes : List Node) → IsGood q.now nodes → IsSoFar q.now (leaves_of (Some []) nodes) self → IsDecision q.now result }
+    pub fn finish(self, q: &Query, shown: Shown) -> Decision
+        ensures { Finishes q.now shown self result }
     {
-        // Read for the proof alone: the call tells how many columns there are.
+        // Read for the proof alone: the call tells that the query is within the limits.
         let _columns = q.select();
+        match shown {
+            Shown::Plain => self.of_parts(q),
+            Shown::Whole => self.decision,
+            Shown::Split => self.decision,
+        }
+    }
+
+    // The decision on a query by its parts: a filter is bounded.
+    fn of_parts(self, q: &Query) -> Decision
+        ensures { result ≡ plain_decision q.now self.decision }
+    {
         if q.is_filter() {
             Decision::Bounded
         } else {

@@ -1,7 +1,6 @@
 //! Laws of the definitions, as public functions without a body: the clause is the law.
-ghost use Rattle.bq_certcheck.specs.TreeLaws.{GoodIsTree, ListOneTree, LeavesOfTreeAreParts, LeavesAreParts, HasOneAnswer, HasOneFault, FaultsAreBad};
+ghost use Rattle.bq_certcheck.specs.TreeLaws.{GoodIsTree, ListOneTree, LeavesOfTreeAreParts, LeavesAreParts, WholeLeavesAreParts, SplitLeavesAreParts, HasOneAnswer, HasOneFault, FaultsAreBad};
 ghost use Rattle.bq_certcheck.specs.LeafLaws.{LeavesAreTight};
-ghost use Rattle.bq_certcheck.specs.GroupLaws.{EqualAcrossIsFixed};
 
 /// Nodes are good, read one behind the other, exactly where they are those of a good tree in preorder.
 pub fn good_is_tree()
@@ -29,12 +28,22 @@ pub fn leaves_are_parts()
     ensures { LeavesAreParts }
 {}
 
+/// A good tree of the whole form of a query within the limits has one leaf where the comparisons can be met, and none where they cannot.
+pub fn whole_leaves_are_parts()
+    ensures { WholeLeavesAreParts }
+{}
+
+/// The leaves of nodes that are a good tree of the split form of a query within the limits are its split parts, in order.
+pub fn split_leaves_are_parts()
+    ensures { SplitLeavesAreParts }
+{}
+
 /// The nodes of a certificate have one answer at most.
 pub fn one_answer()
     ensures { HasOneAnswer }
 {}
 
-/// The query and the nodes determine the place of the first fault, and the rule that is broken there.
+/// The branching and the nodes determine the place of the first fault, and the rule that is broken there.
 pub fn one_fault()
     ensures { HasOneFault }
 {}
@@ -42,9 +51,4 @@ pub fn one_fault()
 /// Nodes with a fault are no good tree.
 pub fn faults_are_bad()
     ensures { FaultsAreBad }
-{}
-
-/// Two columns of different groups that are equal in every assignment of a part have one value there, and so they are bounded.
-pub fn equal_across_is_fixed()
-    ensures { EqualAcrossIsFixed }
 {}

@@ -6,7 +6,7 @@ ghost use Rattle.bq_model.specs.declared.atom.Element.TheVariants as element;
 ghost use Rattle.bq_model.specs.Query.{attrs_of, consts_of};
 ghost use Rattle.bq_model.specs.Order.{IsElement};
 ghost use Rattle.bq_model.specs.Links.{IsEquality, IsRedundant, IsInequality, HasTwoRefs};
-ghost use Rattle.bq_certcheck.specs.OnLeaf.{IsLeaf, LiesBetween, EqualsLeft, EqualsRight, KeepsApart, IsLessAcross, IsLinked, IsRef, opposite, AreEqualInGroup, IsOther, IsAcrossRef, IsOtherRef, IsSecond};
+ghost use Rattle.bq_certcheck.specs.OnLeaf.{IsLeaf, LiesBetween, EqualsLeft, EqualsRight, KeepsApart, IsLessAcross, IsLinked, IsRef, opposite, IsOther, IsAcrossRef, IsOtherRef, IsSecond};
 
 use crate::leaf::Leaf;
 use crate::order::{is_bounded, is_equal, is_less};
@@ -36,9 +36,7 @@ fn is_equality(leaf: &Leaf, x: Attr, y: Attr) -> bool
     requires right { Contains (attrs_of leaf.now.query.now.atoms) y }
     ensures { IsTrue result ↔ IsEquality leaf.now.query.now leaf.now.signs.now x y }
 {
-    x.stream != y.stream
-        && leaf.query.in_one_group(x, Element::Attr(y))
-        && is_equal(leaf, Element::Attr(x), Element::Attr(y))
+    x.stream != y.stream && is_equal(leaf, Element::Attr(x), Element::Attr(y))
 }
 
 /// Returns whether an attribute is equal to some attribute of another stream.
@@ -56,7 +54,7 @@ pub fn has_equality(leaf: &Leaf, attr: Attr) -> bool
     false
 }
 
-// Whether e is in one group with x, and lies between x and y.
+// Whether e lies between x and y.
 fn lies_between(leaf: &Leaf, x: Attr, y: Attr, e: Element) -> bool
     requires leaf { IsLeaf leaf.now }
     requires left { Contains (attrs_of leaf.now.query.now.atoms) x }
@@ -64,12 +62,10 @@ fn lies_between(leaf: &Leaf, x: Attr, y: Attr, e: Element) -> bool
     requires middle { IsElement leaf.now.query.now e }
     ensures { IsTrue result ↔ LiesBetween leaf.now.query.now leaf.now.signs.now x y e }
 {
-    leaf.query.in_one_group(x, e)
-        && is_less(leaf, Element::Attr(x), e)
-        && is_less(leaf, e, Element::Attr(y))
+    is_less(leaf, Element::Attr(x), e) && is_less(leaf, e, Element::Attr(y))
 }
 
-// Whether e is in one group with x, and equals x and is less than y.
+// Whether e equals x and is less than y.
 fn equals_left(leaf: &Leaf, x: Attr, y: Attr, e: Element) -> bool
     requires leaf { IsLeaf leaf.now }
     requires left { Contains (attrs_of leaf.now.query.now.atoms) x }
@@ -77,12 +73,10 @@ fn equals_left(leaf: &Leaf, x: Attr, y: Attr, e: Element) -> bool
     requires middle { IsElement leaf.now.query.now e }
     ensures { IsTrue result ↔ EqualsLeft leaf.now.query.now leaf.now.signs.now x y e }
 {
-    leaf.query.in_one_group(x, e)
-        && is_equal(leaf, Element::Attr(x), e)
-        && is_less(leaf, e, Element::Attr(y))
+    is_equal(leaf, Element::Attr(x), e) && is_less(leaf, e, Element::Attr(y))
 }
 
-// Whether e is in one group with x, x is less than e, and e equals y.
+// Whether x is less than e, and e equals y.
 fn equals_right(leaf: &Leaf, x: Attr, y: Attr, e: Element) -> bool
     requires leaf { IsLeaf leaf.now }
     requires left { Contains (attrs_of leaf.now.query.now.atoms) x }
@@ -90,9 +84,7 @@ fn equals_right(leaf: &Leaf, x: Attr, y: Attr, e: Element) -> bool
     requires middle { IsElement leaf.now.query.now e }
     ensures { IsTrue result ↔ EqualsRight leaf.now.query.now leaf.now.signs.now x y e }
 {
-    leaf.query.in_one_group(x, e)
-        && is_less(leaf, Element::Attr(x), e)
-        && is_equal(leaf, e, Element::Attr(y))
+    is_less(leaf, Element::Attr(x), e) && is_equal(leaf, e, Element::Attr(y))
 }
 
 // Whether an element lies between x and y, or equals one and parts it from the other.
@@ -155,9 +147,7 @@ fn is_less_across(leaf: &Leaf, x: Attr, y: Attr) -> bool
     requires right { Contains (attrs_of leaf.now.query.now.atoms) y }
     ensures { IsTrue result ↔ IsLessAcross leaf.now.query.now leaf.now.signs.now x y }
 {
-    x.stream != y.stream
-        && leaf.query.in_one_group(x, Element::Attr(y))
-        && is_less(leaf, Element::Attr(x), Element::Attr(y))
+    x.stream != y.stream && is_less(leaf, Element::Attr(x), Element::Attr(y))
 }
 
 // Whether two attributes are a nonredundant inequality between streams.
@@ -207,17 +197,6 @@ pub fn is_ref(leaf: &Leaf, side: Side, attr: Attr) -> bool
     has_link(leaf, side, attr) && !is_bounded(leaf, attr)
 }
 
-// Whether two attributes are of one group, and equal.
-fn are_equal_in_group(leaf: &Leaf, a: Attr, b: Attr) -> bool
-    requires leaf { IsLeaf leaf.now }
-    requires left { Contains (attrs_of leaf.now.query.now.atoms) a }
-    requires right { Contains (attrs_of leaf.now.query.now.atoms) b }
-    ensures { IsTrue result ↔ AreEqualInGroup leaf.now.query.now leaf.now.signs.now a b }
-{
-    leaf.query.in_one_group(a, Element::Attr(b))
-        && is_equal(leaf, Element::Attr(a), Element::Attr(b))
-}
-
 // Whether two attributes are of one stream, and not of one class.
 fn is_other(leaf: &Leaf, a: Attr, b: Attr) -> bool
     requires leaf { IsLeaf leaf.now }
@@ -225,7 +204,7 @@ fn is_other(leaf: &Leaf, a: Attr, b: Attr) -> bool
     requires right { Contains (attrs_of leaf.now.query.now.atoms) b }
     ensures { IsTrue result ↔ IsOther leaf.now.query.now leaf.now.signs.now a b }
 {
-    a.stream == b.stream && !are_equal_in_group(leaf, a, b)
+    a.stream == b.stream && !is_equal(leaf, Element::Attr(a), Element::Attr(b))
 }
 
 // Beside a reference on this side: whether another attribute of its stream is one on the other side.

@@ -1,8 +1,8 @@
 //! Whether a node of a certificate meets its rules.
 ghost use Rattle.std.specs.Prelude.{◌≡◌, ◌↔◌, suc, ◌<◌, ◌≤◌, IsTrue, length, All};
-ghost use Rattle.bq_model.specs.Parts.{pairs as pairs_of};
 ghost use Rattle.bq_constraints.specs.Solutions.{IsWithin, IsNegativeCycle};
 ghost use Rattle.bq_certificate.specs.Nodes.{grouped};
+ghost use Rattle.bq_certcheck.specs.Shown.{branching_of};
 ghost use Rattle.bq_certcheck.specs.Rules.{IsRefuted, MayBePart};
 ghost use Rattle.bq_certcheck.specs.Standing.{Stands};
 ghost use Rattle.bq_certcheck.specs.Walking.{IsUnless, JudgesLeaf};
@@ -12,6 +12,7 @@ use crate::bounds::{bounds_of, is_closed};
 use crate::chain::is_negative_cycle;
 use crate::cursor::TreeCursor;
 use crate::refuting::{any_refuted, refutes};
+use crate::shown::{Shown, atoms_of};
 use bq_certificate::Line;
 use bq_constraints::Constraint;
 use bq_model::{Pair, Query, Sign};
@@ -41,11 +42,17 @@ pub fn judge_cycle(cs: &[Constraint], numbers: &[u16]) -> Result<(), Reason>
 }
 
 /// Returns the rule of a branch that a comparison closes: there is one with this number, and it is refuted.
-pub fn judge_against(q: &Query, pairs: &[Pair], signs: &[Sign], number: u16) -> Result<(), Reason>
-    requires { pairs.now ≡ pairs_of q.now }
-    ensures { IsUnless (IsRefuted q.now signs.now number) Reason.Cycle result }
+pub fn judge_against(
+    q: &Query,
+    shown: Shown,
+    pairs: &[Pair],
+    signs: &[Sign],
+    number: u16,
+) -> Result<(), Reason>
+    requires { pairs.now ≡ (branching_of shown q.now).pairs }
+    ensures { IsUnless (IsRefuted (branching_of shown q.now) signs.now number) Reason.Cycle result }
 {
-    if refutes(q.atoms(), pairs, signs, number) {
+    if refutes(atoms_of(q, shown), pairs, signs, number) {
         Ok(())
     } else {
         Err(Reason::Cycle)
@@ -53,26 +60,27 @@ pub fn judge_against(q: &Query, pairs: &[Pair], signs: &[Sign], number: u16) -> 
 }
 
 // The first rules of a leaf: each pair has its sign, and no comparison is refuted.
-fn may_be_part(q: &Query, pairs: &[Pair], signs: &[Sign]) -> bool
-    requires { pairs.now ≡ pairs_of q.now }
-    ensures { IsTrue result ↔ MayBePart q.now signs.now }
+fn may_be_part(q: &Query, shown: Shown, pairs: &[Pair], signs: &[Sign]) -> bool
+    requires { pairs.now ≡ (branching_of shown q.now).pairs }
+    ensures { IsTrue result ↔ MayBePart (branching_of shown q.now) signs.now }
 {
-    signs.len() == pairs.len() && !any_refuted(q.atoms(), pairs, signs)
+    signs.len() == pairs.len() && !any_refuted(atoms_of(q, shown), pairs, signs)
 }
 
 /// Returns the rules of a leaf, with the paths at the front of the lines behind it: the bounds that the paths give, or the first rule
 /// that is broken.
 pub fn judge_leaf(
     q: &Query,
+    shown: Shown,
     pairs: &[Pair],
     place: &TreeCursor,
     behind: &[Line],
 ) -> Result<[Option<i64>; 169], Reason>
-    requires pairs { pairs.now ≡ pairs_of q.now }
-    requires stands { Stands q.now place.now }
-    ensures { JudgesLeaf q.now place.now.signs.items (grouped behind.now).paths result }
+    requires pairs { pairs.now ≡ (branching_of shown q.now).pairs }
+    requires stands { Stands q.now shown place.now }
+    ensures { JudgesLeaf (branching_of shown q.now) place.now.signs.items (grouped behind.now).paths result }
 {
-    if !may_be_part(q, pairs, place.signs.as_slice()) {
+    if !may_be_part(q, shown, pairs, place.signs.as_slice()) {
         return Err(Reason::Shape);
     }
     let attrs = q.attrs().len() as u8;

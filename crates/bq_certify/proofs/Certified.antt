@@ -1,6 +1,6 @@
 -- What certifying a script comes to.
 use Rattle.std.proofs.Common.{◌≡◌, ℕ, ◌+◌, None, Some, List, [], ◌∷◌, ◌++◌, length, refl, sym, ap, ◌∙◌, subst, append-nil, length-append, arith, Err}
-use Rattle.std.specs.Prelude.{⊤, IsFalse}
+use Rattle.std.specs.Prelude.{⊤}
 use Rattle.std.proofs.lemmas.List.Elements.{All-from_recursion}
 use Rattle.bq_io.specs.Source.{SourceState}
 use Rattle.bq_text.specs.Lines.{lines}
@@ -14,7 +14,7 @@ use Rattle.bq_reply.specs.declared.refusal.Refusal.{Refusal}
 use Rattle.bq_certificate.specs.declared.line.Line.{Line}
 use Rattle.bq_certificate.specs.Nodes.{nodes_of}
 use Rattle.bq_certificate.specs.Certificate.{AreLines}
-use Rattle.bq_certcheck.specs.Reading.{IsGood}
+use Rattle.bq_certcheck.specs.declared.shown.Shown.{Shown}
 use Rattle.bq_certificate.specs.Text.{certificate_text}
 use Rattle.bq_script.specs.declared.end.ScriptEnd.{ScriptEnd}
 use Rattle.bq_script.specs.declared.end.ScriptEnd.TheVariants.{Refused, ReadFault, ByteLimit, Memory}
@@ -24,19 +24,18 @@ use Rattle.bq_script.specs.Texts.{script_text}
 use Rattle.bq_script.specs.Ends.{GaveScript, GaveLine, GaveAll, GaveLast, IsFull, ReadsBlank}
 use Rattle.bq_io.specs.declared.status.Status.TheVariants as status
 use Rattle.bq_script.specs.Commands.{Outcome, ComesTo, TookUnsettled, refusal}
-use Rattle.bq_certify.specs.Formed.{goes_by_form}
-use Rattle.bq_certify.specs.Certifying.{Certifies, IsCertified, IsUncertified, certified}
+use Rattle.bq_certify.specs.Certifying.{Certifies, certified}
+use Rattle.bq_certify.specs.Judged.{IsJudgedBy, IsGoodOf, IsCertified, IsUncertified}
 use Rattle.bq_certify.specs.Certifying as certifying
 use Rattle.bq_script.specs.Ending.{StopsAt}
 use Rattle.bq_script.proofs.Behind.{none-behind, asks-then}
 use Rattle.bq_certify.specs.Certified.{MakesFor, ends_with}
-use Rattle.bq_certify.proofs.ByForm.{not_both}
+use Rattle.bq_certify.proofs.Judging.{one_judged}
 use Rattle.bq_certify.proofs.OneCertified.{certifies-alike}
 
--- one is written of a query that is judged by its parts, and is not too large
-pub certified_by : (q : QueryValue) → IsFalse (goes_by_form q) → ¬ IsTooLarge q → IsCertified q
-certified_by q parts small word (certifying.formed by e) = not_both by parts
-certified_by q parts small word (certifying.large other much e) = small much
+-- one is written of a query for whose certificate the form by which it is judged is not too large
+pub certified_by : (q : QueryValue) (shown : Shown) → IsJudgedBy q shown → ¬ IsTooLarge shown q → IsCertified q
+certified_by q shown judged small word u = small (subst (λ (s : Shown). IsTooLarge s q) (one_judged q u.shown shown u.judged judged) u.large)
 
 -- no certificate is written of the query of a script
 pub comes-uncertified : (script : Script) (word : Refusal) (source now : SourceState) (reader : Reading) → GaveScript script source now reader → IsUncertified script.query word
@@ -71,7 +70,7 @@ comes-misplaced script source now now' old new number word g small t =
 
 -- blank lines stand behind the query, up to the end of the source
 pub comes-whole : (script : Script) (certificate : List Line) (source now now' : SourceState) (old new : Reading) (g : GaveScript script source now old) → IsCertified script.query
-    → AreLines certificate → IsGood script.query (nodes_of certificate) → GaveAll source now' g.given new → ComesTo Certifies source now' (ends_with script certificate)
+    → AreLines certificate → IsGoodOf script.query (nodes_of certificate) → GaveAll source now' g.given new → ComesTo Certifies source now' (ends_with script certificate)
 comes-whole script certificate source now now' old new g small are good t =
     let none = none-behind g.given script.catalog g.name g.select g.shared script.query script.line g.asks g.last in
     let written : Statement → Outcome = λ s. record { status = status.Done; text = script_text script.catalog s ++ certificate_text certificate; needs = None } in
@@ -86,7 +85,7 @@ comes-whole script certificate source now now' old new g small are good t =
 
 -- The reader broke off behind the query. The lines that came whole settle nothing: were they all, the script would be certified.
 unsettled-behind : (script : Script) (certificate : List Line) (source now now' : SourceState) (old new : Reading) (P : List ℕ → Type 0) (g : GaveScript script source now old) → IsCertified script.query
-    → AreLines certificate → IsGood script.query (nodes_of certificate) → GaveLast source now' g.given new P → TookUnsettled Certifies source now' P
+    → AreLines certificate → IsGoodOf script.query (nodes_of certificate) → GaveLast source now' g.given new P → TookUnsettled Certifies source now' P
 unsettled-behind script certificate source now now' old new P g small are good t =
     let none = none-behind g.given script.catalog g.name g.select g.shared script.query script.line g.asks g.last in
     let all = lines (ended_part t.text) in
@@ -103,7 +102,7 @@ unsettled-behind script certificate source now now' old new P g small are good t
 
 -- reading the lines behind the query stops
 pub stops-behind : (script : Script) (certificate : List Line) (end : ScriptEnd) (source now now' : SourceState) (old new : Reading) (g : GaveScript script source now old) → IsCertified script.query
-    → AreLines certificate → IsGood script.query (nodes_of certificate) → ReadsBlank (Err end) source now' g.given new → StopsAt Certifies end source now'
+    → AreLines certificate → IsGoodOf script.query (nodes_of certificate) → ReadsBlank (Err end) source now' g.given new → StopsAt Certifies end source now'
 stops-behind script certificate (Refused number word) source now now' old new g small are good t = record { needs = Some number; comes = comes-misplaced script source now now' old new number word g small t }
 stops-behind script certificate ReadFault source now now' old new g small are good t = (t.0, unsettled-behind script certificate source now now' old new (λ text. ⊤) g small are good t.1)
 stops-behind script certificate ByteLimit source now now' old new g small are good t = unsettled-behind script certificate source now now' old new IsFull g small are good t

@@ -1,20 +1,19 @@
 -- What a script with a certificate comes to.
-use Rattle.std.proofs.Common.{◌≡◌, ℕ, suc, ◌+◌, Bool, List, [], ◌∷◌, ◌++◌, length, Some, refl, sym, ap, ◌∙◌, subst, append_assoc, append-nil, length-append, arith, Ok, Err}
-use Rattle.std.specs.Prelude.{⊤, IsTrue, IsFalse}
+use Rattle.std.proofs.Common.{◌≡◌, ℕ, suc, ◌+◌, Bool, List, [], ◌∷◌, ◌++◌, length, Some, refl, sym, ap, ◌∙◌, subst, append_assoc, length-append, arith, Ok, Err}
+use Rattle.std.specs.Prelude.{⊤}
 use Rattle.bq_io.specs.Source.{SourceState}
 use Rattle.bq_feed.specs.Reading.{Reading}
 use Rattle.bq_feed.specs.Texts.{ended_part}
-use Rattle.bq_feed.proofs.GivenEnds.{front-lines, took-lines, took-all}
+use Rattle.bq_feed.proofs.GivenEnds.{took-all}
 use Rattle.bq_text.specs.Lines.{lines}
 use Rattle.bq_model.specs.Query.{QueryValue}
 use Rattle.bq_schema.specs.Streams.{Shape}
 use Rattle.bq_parser.specs.declared.tree.SelectAst.{SelectAst}
 use Rattle.bq_reply.specs.declared.refusal.Refusal.{Refusal}
-use Rattle.bq_reply.specs.declared.refusal.Refusal.TheVariants.{WholeForm}
 use Rattle.bq_certificate.specs.declared.line.Line.{Line}
 use Rattle.bq_certcheck.specs.declared.answer.CheckAnswer.{CheckAnswer}
 use Rattle.bq_certificate.specs.Nodes.{nodes_of}
-use Rattle.bq_certcheck.specs.Reading.{IsCheckAnswer}
+use Rattle.bq_certcheck.specs.Shown.{IsCheckAnswer}
 use Rattle.bq_script.specs.declared.end.ScriptEnd.{ScriptEnd}
 use Rattle.bq_script.specs.declared.end.ScriptEnd.TheVariants.{Refused, ReadFault, ByteLimit, Memory}
 use Rattle.bq_script.specs.declared.script.Script.{Script}
@@ -24,7 +23,6 @@ use Rattle.bq_certify.specs.declared.checking.Checked.{Checked}
 use Rattle.bq_script.specs.Commands.{AreNeeded, TookUnsettled, refusal, lines_for}
 use Rattle.bq_script.proofs.Endings.{early-needed, unsettled-streams}
 use Rattle.bq_certify.proofs.OneChecked.{answered-needs, checks-alike, collected-unsettled}
-use Rattle.bq_certify.specs.Formed.{goes_by_form}
 use Rattle.bq_certify.specs.Checking as checking
 use Rattle.bq_certify.specs.Checking.{answered, Checks}
 use Rattle.bq_script.specs.Ending.{Refuses}
@@ -72,24 +70,9 @@ ends-early source now reader ReadFault r = (r.0, unsettled source now reader (λ
 ends-early source now reader ByteLimit r = unsettled source now reader IsFull r
 ends-early source now reader Memory r = tt
 
--- no certificate speaks of the query
-pub refuses-form : (script : Script) (source now : SourceState) (reader : Reading) → GaveScript script source now reader → IsTrue (goes_by_form script.query) → Refuses Checks script.line WholeForm source now
-refuses-form script source now reader g by =
-    let all : lines g.front ≡ g.given ++ [] = front-lines source now reader g.front g.given g.lines ∙ sym (append-nil g.given) in
-    record {
-      needs = Some script.line;
-      comes = record {
-        text = g.front;
-        took = took-lines source now reader g.front g.given (omega (arith, g.last, g.asks.number_is)) g.lines;
-        comes = checking.formed script.catalog g.name g.select g.shared script.query script.line
-            (asks-all g.given [] (lines g.front) script.catalog g.name g.select g.shared script.query script.line g.asks g.last all) by refl;
-        needed = omega (arith, ap length (front-lines source now reader g.front g.given g.lines), g.last);
-      };
-    }
-
 -- a line of the certificate is refused
-later : (script : Script) (source now now' : SourceState) (reader : Reading) (number : ℕ) (word : Refusal) → (g : GaveScript script source now reader) → IsFalse (goes_by_form script.query) → GaveRefused source now' g.given number word → Refuses Checks number word source now'
-later script source now now' reader number word g parts r =
+later : (script : Script) (source now now' : SourceState) (reader : Reading) (number : ℕ) (word : Refusal) → (g : GaveScript script source now reader) → GaveRefused source now' g.given number word → Refuses Checks number word source now'
+later script source now now' reader number word g r =
     let place : number ≡ script.line + length r.before + 1 = omega (arith, r.number_is, g.last) in
     record {
       needs = Some number;
@@ -98,41 +81,41 @@ later script source now now' reader number word g parts r =
         took = r.took;
         comes = checking.later script.catalog g.name g.select g.shared script.query script.line
             (asks-all g.given (r.before ++ r.line ∷ []) (lines r.text) script.catalog g.name g.select g.shared script.query script.line g.asks g.last r.are)
-            parts r.before r.line [] r.certificate word refl r.collect r.refused (ap (λ n. refusal n word) place);
+            r.before r.line [] r.certificate word refl r.collect r.refused (ap (λ n. refusal n word) place);
         needed = omega (arith, ap length r.are, length-append g.given (r.before ++ r.line ∷ []), length-append r.before (r.line ∷ []), r.number_is);
       };
     }
 
 -- the reader broke off behind the query
-unsettled-behind : (script : Script) (source now now' : SourceState) (reader : Reading) (P : List ℕ → Type 0) → (g : GaveScript script source now reader) → IsFalse (goes_by_form script.query) → GaveLines source now' g.given P → TookUnsettled Checks source now' P
-unsettled-behind script source now now' reader P g parts r =
+unsettled-behind : (script : Script) (source now now' : SourceState) (reader : Reading) (P : List ℕ → Type 0) → (g : GaveScript script source now reader) → GaveLines source now' g.given P → TookUnsettled Checks source now' P
+unsettled-behind script source now now' reader P g r =
     let all = lines (ended_part r.text) in
     record {
       text = r.text;
       taken = r.taken;
       unsettled = collected-unsettled all script.catalog g.name g.select g.shared script.query script.line
-          (asks-all g.given r.behind all script.catalog g.name g.select g.shared script.query script.line g.asks g.last r.are) r.certificate parts r.collect;
+          (asks-all g.given r.behind all script.catalog g.name g.select g.shared script.query script.line g.asks g.last r.are) r.certificate r.collect;
       holds = r.holds;
     }
 
 -- the certificate is not read to its end
-pub ends-behind : (script : Script) (source now now' : SourceState) (reader : Reading) (end : ScriptEnd) → (g : GaveScript script source now reader) → IsFalse (goes_by_form script.query) → ReadsCertificate (Err end) source now' g.given → ReadsAnswer (Err end) source now'
-ends-behind script source now now' reader (Refused number word) g parts r = later script source now now' reader number word g parts r
-ends-behind script source now now' reader ReadFault g parts r = (r.0, unsettled-behind script source now now' reader (λ text. ⊤) g parts r.1)
-ends-behind script source now now' reader ByteLimit g parts r = unsettled-behind script source now now' reader IsFull g parts r
-ends-behind script source now now' reader Memory g parts r = tt
+pub ends-behind : (script : Script) (source now now' : SourceState) (reader : Reading) (end : ScriptEnd) → (g : GaveScript script source now reader) → ReadsCertificate (Err end) source now' g.given → ReadsAnswer (Err end) source now'
+ends-behind script source now now' reader (Refused number word) g r = later script source now now' reader number word g r
+ends-behind script source now now' reader ReadFault g r = (r.0, unsettled-behind script source now now' reader (λ text. ⊤) g r.1)
+ends-behind script source now now' reader ByteLimit g r = unsettled-behind script source now now' reader IsFull g r
+ends-behind script source now now' reader Memory g r = tt
 
 -- the certificate is checked
 pub ends-whole : (script : Script) (source now now' : SourceState) (reader : Reading) (certificate : List Line) (answer : CheckAnswer) (checked : Checked) → (g : GaveScript script source now reader)
-    → IsFalse (goes_by_form script.query) → ReadsCertificate (Ok certificate) source now' g.given → IsCheckAnswer script.query (nodes_of certificate) answer → checked ≡ record { script = script; answer = answer } → ReadsAnswer (Ok checked) source now'
-ends-whole script source now now' reader certificate answer checked g parts c is e =
+    → ReadsCertificate (Ok certificate) source now' g.given → IsCheckAnswer script.query (nodes_of certificate) answer → checked ≡ record { script = script; answer = answer } → ReadsAnswer (Ok checked) source now'
+ends-whole script source now now' reader certificate answer checked g c is e =
     subst (λ x. ReadsAnswer (Ok x) source now') (sym e) (
       record {
         text = c.text;
         took = took-all source now' c.text c.all;
         comes = checking.whole script.catalog g.name g.select g.shared script.query script.line
             (asks-all g.given c.behind (lines c.text) script.catalog g.name g.select g.shared script.query script.line g.asks g.last c.are)
-            parts certificate answer c.collect is (ap (λ n. answered script.catalog n script.query answer) (ap name_of g.states));
+            certificate answer c.collect is (ap (λ n. answered script.catalog n script.query answer) (ap name_of g.states));
         needed = subst (λ n. AreNeeded n source now' c.text) (sym (answered-needs script.catalog (name_of script.statement) script.query answer)) (c.all, c.few);
       },
       record { nodes = nodes_of certificate; is = is; named = g.named },

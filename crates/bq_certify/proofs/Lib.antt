@@ -1,4 +1,8 @@
-pub mod ByForm
+pub mod Judging
+pub mod Rooted
+pub mod Agreeing
+pub mod WholeDecided
+pub mod NamedForms
 pub mod Certified
 pub mod Checks
 pub mod Collected

@@ -40,8 +40,6 @@ certifying-stays all more o n (certifying.whole streams name select shared q num
 
 pub checking-stays : StaysWhenMoreFollows Checks
 checking-stays all more o n (checking.early number word refused e) some = early-stays Checks (λ l i w r p f. checking.early i w r f) all more o n number word refused e some
-checking-stays all more o n (checking.formed streams name select shared q number asks by e) some =
-    checking.formed streams name select shared q number (asks-more all more streams name select shared q number asks) by e
-checking-stays all more o n (checking.later streams name select shared q number asks parts before text others c word is collect refused e) some =
-    checking.later streams name select shared q number (asks-more all more streams name select shared q number asks) parts before text (others ++ more) c word (more-behind asks.behind before text others more is) collect refused e
-checking-stays all more o n (checking.whole streams name select shared q number asks parts c answer collect is e) some = absurd (needs-all o (answered streams name q answer) n e (answered-needs streams name q answer) some)
+checking-stays all more o n (checking.later streams name select shared q number asks before text others c word is collect refused e) some =
+    checking.later streams name select shared q number (asks-more all more streams name select shared q number asks) before text (others ++ more) c word (more-behind asks.behind before text others more is) collect refused e
+checking-stays all more o n (checking.whole streams name select shared q number asks c answer collect is e) some = absurd (needs-all o (answered streams name q answer) n e (answered-needs streams name q answer) some)

@@ -12,9 +12,9 @@ use Rattle.bq_script.specs.Script.{IsBlank, IsMisplaced}
 use Rattle.bq_script.proofs.OneEnd.{one_end}
 use Rattle.bq_script.specs.Commands.{Outcome, refusal}
 use Rattle.bq_certify.specs.Certifying as certifying
-use Rattle.bq_certify.specs.Certifying.{Certifies, IsUncertified, formed, large, certified}
+use Rattle.bq_certify.specs.Certifying.{Certifies, certified}
+use Rattle.bq_certify.specs.Judged.{IsUncertified}
 use Rattle.bq_certify.specs.Laws.{AreAlike, same, both}
-use Rattle.bq_certify.proofs.ByForm.{not_both}
 use Rattle.bq_script.proofs.OneRefusal.{head-same, tail-same, behind-same, early-same, misplaced-loud, all-placed}
 
 one-word : (line : List ℕ) (v w : Refusal) → IsMisplaced line v → IsMisplaced line w → v ≡ w
@@ -25,10 +25,7 @@ one-word line v w (scripts.loud short n p) (scripts.loud s m q) = p ∙ sym q
 
 -- one word says why no certificate is written
 one-why : (q : QueryValue) (v w : Refusal) → IsUncertified q v → IsUncertified q w → v ≡ w
-one-why q v w (formed by e) (formed also f) = e ∙ sym f
-one-why q v w (formed by e) (large parts much f) = absurd (not_both by parts)
-one-why q v w (large parts much e) (formed by f) = absurd (not_both by parts)
-one-why q v w (large parts much e) (large also many f) = e ∙ sym f
+one-why q v w u t = u.is ∙ sym t.is
 
 -- one line is the first that has no place
 one-misplaced : (xs ys : List (List ℕ)) (x y : List ℕ) (rest others : List (List ℕ)) (v w : Refusal) → AllByRecursion IsBlank xs → AllByRecursion IsBlank ys → IsMisplaced x v → IsMisplaced y w

@@ -1,26 +1,22 @@
 -- The lines determine what `check` comes to.
 use Rattle.std.proofs.Common.{◌≡◌, ℕ, Bool, None, List, [], refl, sym, ap, ap₂, ◌∙◌, subst, arith}
-use Rattle.std.specs.Prelude.{IsFalse}
 use Rattle.bq_model.specs.Query.{QueryValue}
 use Rattle.bq_schema.specs.Streams.{Shape}
 use Rattle.bq_parser.specs.declared.tree.SelectAst.{SelectAst}
 use Rattle.bq_reply.specs.declared.refusal.Refusal.{Refusal}
-use Rattle.bq_reply.specs.declared.refusal.Refusal.TheVariants.{WholeForm}
 use Rattle.bq_certificate.specs.declared.line.Line.{Line}
 use Rattle.bq_certcheck.specs.declared.answer.CheckAnswer.{CheckAnswer}
 use Rattle.bq_certcheck.specs.declared.answer.CheckAnswer.TheVariants.{Yes, No}
 use Rattle.bq_certificate.specs.Nodes.{nodes_of}
-use Rattle.bq_certcheck.specs.Reading.{IsCheckAnswer}
+use Rattle.bq_certcheck.specs.Shown.{IsCheckAnswer}
 use Rattle.bq_certcheck.proofs.OneAnswer as answers
 use Rattle.bq_script.specs.Script.{Asks}
 use Rattle.bq_script.proofs.OneEnd.{one_end}
 use Rattle.bq_script.specs.Commands.{Outcome, SettleNothing, refusal}
-use Rattle.bq_certify.specs.Formed.{goes_by_form}
 use Rattle.bq_certify.specs.Checking as checking
 use Rattle.bq_certify.specs.Checking.{Collect, answered, Checks}
 use Rattle.bq_certify.specs.Laws.{HasOneAnswer}
 use Rattle.bq_script.proofs.OneRefusal.{behind-same, early-same}
-use Rattle.bq_certify.proofs.ByForm.{parts_stay}
 use Rattle.bq_certify.proofs.OneFinding.{one-refused, one-collected, collected-stays}
 
 answer-same : (streams shapes : List Shape) (name title : List ℕ) (q r : QueryValue) (c d : List Line) (answer other : CheckAnswer) → streams ≡ shapes → name ≡ title → q ≡ r → c ≡ d
@@ -31,41 +27,24 @@ answer-same streams shapes name title q r c d answer other e f g h is it =
 
 pub one-checked : HasOneAnswer
 one-checked all o p (checking.early m v a e) (checking.early n w b f) = e ∙ early-same all m n v w a b ∙ sym f
-one-checked all o p (checking.early m v a e) (checking.formed streams name select shared q n asks by f) = absurd ((one_end all).2 streams name select shared q n m v asks a)
-one-checked all o p (checking.early m v a e) (checking.later streams name select shared q n asks parts before text others c w is collect refused f) = absurd ((one_end all).2 streams name select shared q n m v asks a)
-one-checked all o p (checking.early m v a e) (checking.whole streams name select shared q n asks parts c answer collect is f) = absurd ((one_end all).2 streams name select shared q n m v asks a)
-one-checked all o p (checking.formed streams name select shared q n asks by e) (checking.early m v a f) = absurd ((one_end all).2 streams name select shared q n m v asks a)
-one-checked all o p (checking.formed streams name select shared q m asks by e) (checking.formed shapes title choice joint r n also it f) =
-    let same = (one_end all).0 streams shapes name title select choice shared joint q r m n asks also in
-    e ∙ ap (λ (k : ℕ). refusal k WholeForm) same.5 ∙ sym f
-one-checked all o p (checking.formed streams name select shared q m asks by e) (checking.later shapes title choice joint r n also parts front line more d w it gather denied f) =
-    let same = (one_end all).0 streams shapes name title select choice shared joint q r m n asks also in
-    absurd (parts_stay r q (sym same.4) parts by)
-one-checked all o p (checking.formed streams name select shared q m asks by e) (checking.whole shapes title choice joint r n also parts d answer gather it f) =
-    let same = (one_end all).0 streams shapes name title select choice shared joint q r m n asks also in
-    absurd (parts_stay r q (sym same.4) parts by)
-one-checked all o p (checking.later streams name select shared q n asks parts before text others c w is collect refused e) (checking.early m v a f) = absurd ((one_end all).2 streams name select shared q n m v asks a)
-one-checked all o p (checking.later streams name select shared q m asks parts before text others c v is collect refused e) (checking.formed shapes title choice joint r n also by f) =
-    let same = (one_end all).0 streams shapes name title select choice shared joint q r m n asks also in
-    absurd (parts_stay q r same.4 parts by)
-one-checked all o p (checking.later streams name select shared q m asks parts before text others c v is collect refused e) (checking.later shapes title choice joint r n also other front line more d w it gather denied f) =
+one-checked all o p (checking.early m v a e) (checking.later streams name select shared q n asks before text others c w is collect refused f) = absurd ((one_end all).2 streams name select shared q n m v asks a)
+one-checked all o p (checking.early m v a e) (checking.whole streams name select shared q n asks c answer collect is f) = absurd ((one_end all).2 streams name select shared q n m v asks a)
+one-checked all o p (checking.later streams name select shared q n asks before text others c w is collect refused e) (checking.early m v a f) = absurd ((one_end all).2 streams name select shared q n m v asks a)
+one-checked all o p (checking.later streams name select shared q m asks before text others c v is collect refused e) (checking.later shapes title choice joint r n also front line more d w it gather denied f) =
     let same = (one_end all).0 streams shapes name title select choice shared joint q r m n asks also in
     let behind : asks.behind ≡ also.behind = behind-same all streams shapes name title select choice shared joint q r m n asks also same.5 in
     let i = one-refused asks.behind before front text line others more c d v w is (behind ∙ it) collect gather refused denied in
     e ∙ ap₂ (λ (k : ℕ) (x : Refusal). refusal k x) (omega (arith, same.5, i.0)) i.1 ∙ sym f
-one-checked all o p (checking.later streams name select shared q m asks parts before text others c v is collect refused e) (checking.whole shapes title choice joint r n also other d answer gather it f) =
+one-checked all o p (checking.later streams name select shared q m asks before text others c v is collect refused e) (checking.whole shapes title choice joint r n also d answer gather it f) =
     let same = (one_end all).0 streams shapes name title select choice shared joint q r m n asks also in
     let behind : asks.behind ≡ also.behind = behind-same all streams shapes name title select choice shared joint q r m n asks also same.5 in
     absurd (collected-stays also.behind before text others c d v (sym behind ∙ is) collect refused gather)
-one-checked all o p (checking.whole streams name select shared q n asks parts c answer collect is e) (checking.early m v a f) = absurd ((one_end all).2 streams name select shared q n m v asks a)
-one-checked all o p (checking.whole streams name select shared q m asks parts c answer collect is e) (checking.formed shapes title choice joint r n also by f) =
-    let same = (one_end all).0 streams shapes name title select choice shared joint q r m n asks also in
-    absurd (parts_stay q r same.4 parts by)
-one-checked all o p (checking.whole streams name select shared q m asks parts c answer collect is e) (checking.later shapes title choice joint r n also other front line more d w it gather denied f) =
+one-checked all o p (checking.whole streams name select shared q n asks c answer collect is e) (checking.early m v a f) = absurd ((one_end all).2 streams name select shared q n m v asks a)
+one-checked all o p (checking.whole streams name select shared q m asks c answer collect is e) (checking.later shapes title choice joint r n also front line more d w it gather denied f) =
     let same = (one_end all).0 streams shapes name title select choice shared joint q r m n asks also in
     let behind : asks.behind ≡ also.behind = behind-same all streams shapes name title select choice shared joint q r m n asks also same.5 in
     absurd (collected-stays asks.behind front line more d c w (behind ∙ it) gather denied collect)
-one-checked all o p (checking.whole streams name select shared q m asks parts c answer collect is e) (checking.whole shapes title choice joint r n also others d other gather it f) =
+one-checked all o p (checking.whole streams name select shared q m asks c answer collect is e) (checking.whole shapes title choice joint r n also d other gather it f) =
     let same = (one_end all).0 streams shapes name title select choice shared joint q r m n asks also in
     let behind : asks.behind ≡ also.behind = behind-same all streams shapes name title select choice shared joint q r m n asks also same.5 in
     let lines : c ≡ d = one-collected also.behind c d (subst (λ l. Collect [] l c) behind collect) gather in
@@ -80,16 +59,13 @@ pub answered-needs : (streams : List Shape) (name : List ℕ) (q : QueryValue) (
 answered-needs streams name q (Yes decision parts) = refl
 answered-needs streams name q (No place why) = refl
 
--- lines of a certificate behind a query that is judged by its parts settle nothing
+-- lines of a certificate behind a query settle nothing
 pub collected-unsettled : (all : List (List ℕ)) (streams : List Shape) (name : List ℕ) (select : SelectAst) (shared : Bool) (q : QueryValue) (number : ℕ) (asks : Asks all streams name select shared q number) (certificate : List Line)
-    → IsFalse (goes_by_form q) → Collect [] asks.behind certificate → SettleNothing Checks all
-collected-unsettled all streams name select shared q n asks c parts collect o (checking.early m v a e) = absurd ((one_end all).2 streams name select shared q n m v asks a)
-collected-unsettled all streams name select shared q m asks c parts collect o (checking.formed shapes title choice joint r n also by f) =
-    let same = (one_end all).0 streams shapes name title select choice shared joint q r m n asks also in
-    absurd (parts_stay q r same.4 parts by)
-collected-unsettled all streams name select shared q m asks c parts collect o (checking.later shapes title choice joint r n also other front line more d w it gather denied f) =
+    → Collect [] asks.behind certificate → SettleNothing Checks all
+collected-unsettled all streams name select shared q n asks c collect o (checking.early m v a e) = absurd ((one_end all).2 streams name select shared q n m v asks a)
+collected-unsettled all streams name select shared q m asks c collect o (checking.later shapes title choice joint r n also front line more d w it gather denied f) =
     let same = (one_end all).0 streams shapes name title select choice shared joint q r m n asks also in
     let behind : asks.behind ≡ also.behind = behind-same all streams shapes name title select choice shared joint q r m n asks also same.5 in
     absurd (collected-stays asks.behind front line more d c w (behind ∙ it) gather denied collect)
-collected-unsettled all streams name select shared q m asks c parts collect o (checking.whole shapes title choice joint r n also other d answer gather it f) =
+collected-unsettled all streams name select shared q m asks c collect o (checking.whole shapes title choice joint r n also d answer gather it f) =
     ap (λ (x : Outcome). x.needs) f ∙ answered-needs shapes title r answer

@@ -7,7 +7,6 @@ use Rattle.bq_io.specs.Source.{SourceState}
 use Rattle.bq_certificate.specs.declared.line.Line.{Line}
 use Rattle.bq_certificate.specs.Nodes.{nodes_of}
 use Rattle.bq_certificate.specs.Certificate.{AreLines}
-use Rattle.bq_certcheck.specs.Reading.{IsGood}
 use Rattle.bq_certificate.specs.Text.{certificate_text}
 use Rattle.bq_script.specs.declared.end.ScriptEnd.{ScriptEnd}
 use Rattle.bq_script.specs.declared.end.ScriptEnd.TheVariants.{Refused, ReadFault, ByteLimit, Memory}
@@ -15,12 +14,13 @@ use Rattle.bq_script.specs.declared.script.Script.{Script}
 use Rattle.bq_script.specs.Texts.{script_text}
 use Rattle.bq_certify.specs.declared.certifying.Certified.{Certified}
 use Rattle.bq_script.specs.Commands.{Outcome, ComesTo}
-use Rattle.bq_certify.specs.Certifying.{Certifies, IsCertified, IsUncertified}
+use Rattle.bq_certify.specs.Certifying.{Certifies}
+use Rattle.bq_certify.specs.Judged.{IsGoodOf, IsCertified, IsUncertified}
 use Rattle.bq_script.specs.Ending.{StopsAt}
 
 -- what making a certificate for a script comes to: a query of which none is written is refused at its line
 abbrev pub MakesFor : Result (List Line) ScriptEnd → Script → Type 0
-MakesFor (Ok lines) script = AreLines lines × IsGood script.query (nodes_of lines) × IsCertified script.query
+MakesFor (Ok lines) script = AreLines lines × IsGoodOf script.query (nodes_of lines) × IsCertified script.query
 MakesFor (Err (Refused number word)) script = (number ≡ script.line) × IsUncertified script.query word
 MakesFor (Err ReadFault) script = ⊥
 MakesFor (Err ByteLimit) script = ⊥

@@ -1,5 +1,5 @@
 -- What `certify` comes to over the lines of a script.
-use Rattle.std.specs.Prelude.{◌≡◌, ℕ, ◌+◌, Bool, IsTrue, IsFalse, None, List, ◌∷◌, ◌++◌, length}
+use Rattle.std.specs.Prelude.{◌≡◌, ℕ, ◌+◌, Bool, None, List, ◌∷◌, ◌++◌, length}
 use Rattle.std.specs.List.{All}
 use Rattle.bq_io.specs.declared.status.Status.TheVariants as status
 use Rattle.bq_model.specs.Query.{QueryValue}
@@ -7,31 +7,18 @@ use Rattle.bq_schema.specs.Streams.{Shape}
 use Rattle.bq_parser.specs.declared.tree.SelectAst.{SelectAst}
 use Rattle.bq_parser.specs.declared.tree.Statement.TheVariants.{CreateQuery}
 use Rattle.bq_reply.specs.declared.refusal.Refusal.{Refusal}
-use Rattle.bq_reply.specs.declared.refusal.Refusal.TheVariants.{Limit, WholeForm}
 use Rattle.bq_certificate.specs.declared.line.Line.{Line}
 use Rattle.bq_certificate.specs.Nodes.{nodes_of}
 use Rattle.bq_certificate.specs.Certificate.{AreLines}
-use Rattle.bq_certcheck.specs.Reading.{IsGood}
 use Rattle.bq_certificate.specs.Text.{certificate_text}
-use Rattle.bq_certmake.specs.Made.{IsTooLarge}
 use Rattle.bq_script.specs.Script.{Asks, IsRefusedAt, IsBlank, IsMisplaced}
 use Rattle.bq_script.specs.Texts.{script_text}
 use Rattle.bq_script.specs.Commands.{Outcome, refusal, early_refusal}
-use Rattle.bq_certify.specs.Formed.{goes_by_form}
+use Rattle.bq_certify.specs.Judged.{IsGoodOf, IsUncertified, IsCertified}
 
 -- the statements of a script in printed form, and a certificate
 abbrev pub certified : List Shape → List ℕ → SelectAst → Bool → List Line → Outcome
 certified streams name select shared lines = record { status = status.Done; text = script_text streams (CreateQuery name select shared) ++ certificate_text lines; needs = None }
-
--- no certificate is written of the query, and this word says why: the query is compact and no filter, and no certificate speaks of its form; or it is too
--- large for one
-pub data IsUncertified (q : QueryValue) (word : Refusal) : Type 0 where
-  formed : IsTrue (goes_by_form q) → word ≡ WholeForm → IsUncertified q word
-  large : IsFalse (goes_by_form q) → IsTooLarge q → word ≡ Limit → IsUncertified q word
-
--- one is written, where nothing but blank lines follows
-abbrev pub IsCertified : QueryValue → Type 0
-IsCertified q = (word : Refusal) → ¬ IsUncertified q word
 
 -- What it comes to: the first line that is refused before the query; the line of a query of which no certificate is written; the first
 -- line behind it that says something; or else the script with a good certificate, whichever it is.
@@ -43,5 +30,5 @@ pub data Certifies (lines : List (List ℕ)) (o : Outcome) : Type 0 where
       → IsCertified q → (blanks : List (List ℕ)) (line : List ℕ) (others : List (List ℕ)) (word : Refusal) → asks.behind ≡ blanks ++ line ∷ others → All IsBlank blanks
       → IsMisplaced line word → o ≡ refusal (number + length blanks + 1) word → Certifies lines o
   whole : (streams : List Shape) (name : List ℕ) (select : SelectAst) (shared : Bool) (q : QueryValue) (number : ℕ) (asks : Asks lines streams name select shared q number)
-      → IsCertified q → All IsBlank asks.behind → (certificate : List Line) → AreLines certificate → IsGood q (nodes_of certificate)
+      → IsCertified q → All IsBlank asks.behind → (certificate : List Line) → AreLines certificate → IsGoodOf q (nodes_of certificate)
       → o ≡ certified streams name select shared certificate → Certifies lines o

@@ -1,5 +1,5 @@
 -- What `check` comes to over the lines of a script with a certificate.
-use Rattle.std.specs.Prelude.{◌≡◌, ℕ, ◌+◌, ◌<◌, ◌≤◌, Bool, IsTrue, IsFalse, None, List, [], ◌∷◌, ◌++◌, length, codes, decimal}
+use Rattle.std.specs.Prelude.{◌≡◌, ℕ, ◌+◌, ◌<◌, ◌≤◌, Bool, None, List, [], ◌∷◌, ◌++◌, length, codes, decimal}
 use Rattle.bq_io.specs.declared.status.Status.TheVariants as status
 use Rattle.bq_model.specs.declared.decision.Decision.{Decision}
 use Rattle.bq_model.specs.declared.decision.Decision.TheVariants as decision
@@ -11,7 +11,7 @@ use Rattle.bq_parser.specs.LineKind.{stripped}
 use Rattle.bq_parser.specs.Naming.{column_text}
 use Rattle.bq_reply.specs.Texts.{condition_text}
 use Rattle.bq_reply.specs.declared.refusal.Refusal.{Refusal}
-use Rattle.bq_reply.specs.declared.refusal.Refusal.TheVariants.{LineTooLong, Syntax, Limit, WholeForm}
+use Rattle.bq_reply.specs.declared.refusal.Refusal.TheVariants.{LineTooLong, Syntax, Limit}
 use Rattle.bq_certificate.specs.declared.line.Line.{Line}
 use Rattle.bq_certcheck.specs.declared.answer.Reason.{Reason}
 use Rattle.bq_certcheck.specs.declared.answer.Reason.TheVariants as reason
@@ -20,10 +20,9 @@ use Rattle.bq_certcheck.specs.declared.answer.CheckAnswer.TheVariants.{Yes, No}
 use Rattle.bq_certificate.specs.Nodes.{nodes_of}
 use Rattle.bq_certificate.specs.Certificate.{IsNext, IsNoNextText, IsTooMany, HasRoom, last_of}
 use Rattle.bq_certificate.specs.Text.{IsLine}
-use Rattle.bq_certcheck.specs.Reading.{IsCheckAnswer}
+use Rattle.bq_certcheck.specs.Shown.{IsCheckAnswer}
 use Rattle.bq_script.specs.Script.{Asks, IsRefusedAt, IsBlank}
 use Rattle.bq_script.specs.Commands.{Outcome, refusal, early_refusal}
-use Rattle.bq_certify.specs.Formed.{goes_by_form}
 
 -- lines of a certificate, stripped, and blank ones between them: behind the first list of its lines they make the second
 pub data Collect : List Line → List (List ℕ) → List Line → Type 0 where
@@ -56,15 +55,13 @@ abbrev pub answered : List Shape → List ℕ → QueryValue → CheckAnswer →
 answered streams name q (Yes decision parts) = record { status = status.Done; text = decision_text streams name q decision parts; needs = None }
 answered streams name q (No place why) = record { status = status.Invalid; text = codes "no " ++ decimal place ++ 32 ∷ reason_text why ++ 10 ∷ []; needs = None }
 
--- What it comes to: the first line that is refused before the query; the line of a compact query that is no filter, since no certificate speaks of its
--- form; the first line of the certificate that is refused; or else the answer to the certificate.
+-- What it comes to: the first line that is refused before the query; the first line of the certificate that is refused; or else the answer to the
+-- certificate, whichever form of the query it shows.
 pub data Checks (lines : List (List ℕ)) (o : Outcome) : Type 0 where
   early : (number : ℕ) (word : Refusal) (refused : IsRefusedAt lines number word) → o ≡ early_refusal number word refused → Checks lines o
-  formed : (streams : List Shape) (name : List ℕ) (select : SelectAst) (shared : Bool) (q : QueryValue) (number : ℕ) → Asks lines streams name select shared q number
-      → IsTrue (goes_by_form q) → o ≡ refusal number WholeForm → Checks lines o
   later : (streams : List Shape) (name : List ℕ) (select : SelectAst) (shared : Bool) (q : QueryValue) (number : ℕ) (asks : Asks lines streams name select shared q number)
-      → IsFalse (goes_by_form q) → (before : List (List ℕ)) (text : List ℕ) (others : List (List ℕ)) (certificate : List Line) (word : Refusal) → asks.behind ≡ before ++ text ∷ others
+      → (before : List (List ℕ)) (text : List ℕ) (others : List (List ℕ)) (certificate : List Line) (word : Refusal) → asks.behind ≡ before ++ text ∷ others
       → Collect [] before certificate → IsRefusedLine certificate text word → o ≡ refusal (number + length before + 1) word → Checks lines o
   whole : (streams : List Shape) (name : List ℕ) (select : SelectAst) (shared : Bool) (q : QueryValue) (number : ℕ) (asks : Asks lines streams name select shared q number)
-      → IsFalse (goes_by_form q) → (certificate : List Line) (answer : CheckAnswer) → Collect [] asks.behind certificate → IsCheckAnswer q (nodes_of certificate) answer
+      → (certificate : List Line) (answer : CheckAnswer) → Collect [] asks.behind certificate → IsCheckAnswer q (nodes_of certificate) answer
       → o ≡ answered streams name q answer → Checks lines o

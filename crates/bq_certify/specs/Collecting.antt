@@ -1,5 +1,5 @@
 -- How reading a certificate behind a query ends, and what a check finds.
-use Rattle.std.specs.Prelude.{◌≡◌, ℕ, ◌+◌, ◌-◌, ◌^◌, ◌<◌, ⊤, Option, List, [], ◌∷◌, ◌++◌, length}
+use Rattle.std.specs.Prelude.{◌≡◌, ℕ, ◌+◌, ◌-◌, ◌^◌, ◌<◌, ⊤, List, [], ◌∷◌, ◌++◌, length}
 use Rattle.std.specs.declared.result.Result.{Result}
 use Rattle.std.specs.declared.result.Result.TheVariants.{Ok, Err}
 use Rattle.std.specs.Io.KnownBytes.{Consumes}
@@ -19,7 +19,7 @@ use Rattle.bq_certificate.specs.declared.line.Line.{Line}
 use Rattle.bq_certificate.specs.declared.error.CertError.{CertError}
 use Rattle.bq_certificate.specs.declared.error.CertError.TheVariants as why
 use Rattle.bq_certificate.specs.Nodes.{Node}
-use Rattle.bq_certcheck.specs.Reading.{IsCheckAnswer}
+use Rattle.bq_certcheck.specs.Shown.{IsCheckAnswer}
 use Rattle.bq_script.specs.declared.end.ScriptEnd.{ScriptEnd}
 use Rattle.bq_script.specs.declared.end.ScriptEnd.TheVariants.{Refused, ReadFault, ByteLimit, Memory}
 use Rattle.bq_script.specs.Ends.{IsFull}

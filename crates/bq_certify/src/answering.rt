@@ -3,9 +3,9 @@ ghost use Rattle.std.specs.Prelude.{◌≡◌, ◌++◌, ◌∷◌, [], codes, d
 ghost use Rattle.bq_io.specs.Sink.{Writes};
 ghost use Rattle.bq_parser.specs.Resolution.{HasNamed};
 ghost use Rattle.bq_script.specs.Script as scripts;
-ghost use Rattle.bq_model.specs.Verdict.{IsDecision};
 ghost use Rattle.bq_certify.specs.Checking as checking;
 ghost use Rattle.bq_certify.specs.Checking.{decision_text};
+ghost use Rattle.bq_certify.specs.Judged.{IsDecided};
 
 use bq_certcheck::Reason;
 use bq_io::{Sink, WriteFault, write_pieces};
@@ -55,7 +55,7 @@ pub fn write_decision<O: Sink>(
     parts: u32,
 ) -> Result<(), WriteFault>
     requires named { HasNamed script.now.catalog script.now.query }
-    requires is { IsDecision script.now.query decision }
+    requires is { IsDecided script.now.query decision parts }
     ensures { Writes result (O.seen out.old) (O.seen out.new)
         (decision_text script.now.catalog (scripts.name_of script.now.statement) script.now.query decision parts) }
 {

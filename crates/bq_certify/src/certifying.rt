@@ -1,24 +1,26 @@
 //! The command that certifies a script.
-ghost use Rattle.std.specs.Prelude.{◌≡◌, ◌≤◌, [], IsFalse};
+ghost use Rattle.std.specs.Prelude.{◌≡◌, ◌≤◌, [], IfOk};
 ghost use Rattle.bq_io.specs.declared.status.Status.TheVariants as status;
 ghost use Rattle.bq_io.specs.Source.{SourceState};
 ghost use Rattle.bq_io.specs.Sink.{Writes};
 ghost use Rattle.bq_feed.specs.Reading.{fresh};
 ghost use Rattle.bq_script.specs.Ends.{GaveScript};
 ghost use Rattle.bq_script.specs.Commands.{CommandEnds};
-ghost use Rattle.bq_certify.specs.Formed.{goes_by_form};
 ghost use Rattle.bq_certify.specs.Certifying.{Certifies};
+ghost use Rattle.bq_certify.specs.Judged.{IsJudgedBy};
 ghost use Rattle.bq_script.specs.Ending.{EndsWith, WritesText};
 ghost use Rattle.bq_certify.specs.Certified.{MakesFor, ReadsCertified, text_with};
 
-use crate::formed::goes_by_form;
+use bq_certcheck::{Shown, goes_by_form};
 use bq_certificate::Certificate;
 use bq_certmake::{MakeError, make};
 use bq_feed::LineReader;
+use bq_form_plan::whole_form;
 use bq_io::{Gathered, Sink, Source, Status, WriteFault};
+use bq_model::Query;
 use bq_reply::Refusal;
 use bq_script::{Script, ScriptEnd, end_early, print_script, read_blank, read_script};
-use std::alloc::Global;
+use std::alloc::{AllocError, Global};
 
 /// A script, and a certificate of its query.
 #[derive(Drop)]
@@ -27,12 +29,25 @@ pub struct Certified {
     pub certificate: Certificate,
 }
 
-// Makes a certificate for a script whose query is judged by its parts. A query that is too large is refused at its line.
-fn make_by_parts(alloc: Global, script: &Script) -> Result<Certificate, ScriptEnd>
-    requires { IsFalse (goes_by_form script.now.query) }
+// The form by which a query is judged: the whole form of a compact query where that fits.
+fn shown_for(alloc: Global, q: &Query) -> Result<Shown, AllocError>
+    ensures { IfOk result (IsJudgedBy q.now) }
+{
+    if !goes_by_form(q) {
+        return Ok(Shown::Plain);
+    }
+    match whole_form(alloc, q)? {
+        Some(_plan) => Ok(Shown::Whole),
+        None => Ok(Shown::Split),
+    }
+}
+
+// Makes the certificate of this form for a script. A query for whose certificate that form is too large is refused at its line.
+fn make_shown(alloc: Global, script: &Script, shown: Shown) -> Result<Certificate, ScriptEnd>
+    requires { IsJudgedBy script.now.query shown }
     ensures { MakesFor result script.now }
 {
-    match make(alloc, &script.query) {
+    match make(alloc, &script.query, shown) {
         Ok(certificate) => {
             // No effect at run time. The proof reads from this call that the lines are those of a certificate.
             let _lines = certificate.lines();
@@ -46,17 +61,14 @@ fn make_by_parts(alloc: Global, script: &Script) -> Result<Certificate, ScriptEn
     }
 }
 
-// Makes a certificate for a script. A query of which none is written is refused at its line.
+// Makes a certificate for a script, of the form by which its query is judged.
 fn make_for(alloc: Global, script: &Script) -> Result<Certificate, ScriptEnd>
     ensures { MakesFor result script.now }
 {
-    if goes_by_form(&script.query) {
-        return Err(ScriptEnd::Refused {
-            line: script.line,
-            word: Refusal::WholeForm,
-        });
+    match shown_for(alloc, &script.query) {
+        Ok(shown) => make_shown(alloc, script, shown),
+        Err(_) => Err(ScriptEnd::Memory),
     }
-    make_by_parts(alloc, script)
 }
 
 // Makes the certificate of a script, and reads the lines behind its query, which say nothing.
@@ -148,12 +160,12 @@ fn end_done<O: Sink>(certified: &Certified, output: &mut O) -> Status
     }
 }
 
-/// Reads a script to the end of the source, and writes its statements in printed form and a certificate of its query.
+/// Reads a script to the end of the source, and writes its statements in printed form and a certificate of its query: of a compact query that is no
+/// filter, one of its whole form where that fits, and else of its split form.
 ///
 /// The script is one of CREATE STREAM lines and then one CREATE QUERY line, between blank lines and comments. The first line that is
-/// not is refused with `error L Word` and `Invalid`, as is the line of a compact query that is no filter, of whose form no certificate
-/// speaks, with the word `WholeForm`, and that of a query of more than 4,096 parts, or whose certificate has more than 262,144 nodes, with
-/// the word `Limit`. The source is read no further than the read in which such a line ends, so where it fails, or
+/// not is refused with `error L Word` and `Invalid`, as is the line of a query of more than 4,096 parts, of a compact one with more than 114 split
+/// pairs, or of one whose certificate has more than 262,144 nodes, with the word `Limit`. The source is read no further than the read in which such a line ends, so where it fails, or
 /// has more bytes than can be counted, no line that ended before is refused. Nothing is written before it is known what the command comes
 /// to, so nothing is in these two cases and for want of memory. Where the sink fails, a front of the text was written.
 pub fn certify<I: Source, O: Sink>(alloc: Global, input: &mut I, output: &mut O) -> Status

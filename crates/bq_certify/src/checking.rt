@@ -8,11 +8,9 @@ ghost use Rattle.bq_certify.specs.Collecting.{IsSound, ReadsAnswer, outcome_of, 
 
 use crate::answering::{write_decision, write_no};
 use crate::collecting::read_certificate;
-use crate::formed::goes_by_form;
 use bq_certcheck::{CheckAnswer, check};
 use bq_feed::LineReader;
 use bq_io::{Sink, Source, Status, WriteFault};
-use bq_reply::Refusal;
 use bq_script::{Script, ScriptEnd, end_early, read_script};
 use std::alloc::Global;
 
@@ -23,8 +21,7 @@ pub struct Checked {
     pub answer: CheckAnswer,
 }
 
-// Reads a script with a certificate, with a fresh reader, and checks the certificate. A query of whose form no certificate speaks is
-// refused at its line.
+// Reads a script with a certificate, with a fresh reader, and checks the certificate.
 fn read_answer<I: Source>(
     alloc: Global,
     reader: &mut LineReader,
@@ -35,21 +32,13 @@ fn read_answer<I: Source>(
     ensures later { (I.seen input.old).faults ≤ (I.seen input.new).faults }
 {
     match read_script(alloc, reader, input) {
-        Ok(script) => {
-            if goes_by_form(&script.query) {
-                return Err(ScriptEnd::Refused {
-                    line: script.line,
-                    word: Refusal::WholeForm,
-                });
+        Ok(script) => match read_certificate(alloc, reader, input) {
+            Ok(certificate) => {
+                let answer = check(&script.query, &certificate);
+                Ok(Checked { script, answer })
             }
-            match read_certificate(alloc, reader, input) {
-                Ok(certificate) => {
-                    let answer = check(&script.query, &certificate);
-                    Ok(Checked { script, answer })
-                }
-                Err(end) => Err(end),
-            }
-        }
+            Err(end) => Err(end),
+        },
         Err(end) => Err(end),
     }
 }
@@ -82,9 +71,8 @@ fn end_answered<O: Sink>(checked: &Checked, output: &mut O) -> Status
 }
 
 /// Checks the certificate that stands behind the query of a script: reads the script to its end, and then writes what the certificate
-/// says of the query, or the first node at fault, or the first line that is refused, in one line. The line of a compact query that is no
-/// filter is refused with the word `WholeForm`, since no certificate speaks of its form. The source is read no further than the
-/// read in which a refused line ends. Nothing is written where the source fails or has too many bytes, and no line that ended before is
+/// says of the query, or the first node at fault, or the first line that is refused, in one line. The first node tells which form of a compact
+/// query the certificate is of. The source is read no further than the read in which a refused line ends. Nothing is written where the source fails or has too many bytes, and no line that ended before is
 /// refused then; nor where no memory is found.
 pub fn check_script<I: Source, O: Sink>(alloc: Global, input: &mut I, output: &mut O) -> Status
     ensures ends { CommandEnds Checks result (I.seen input.old) (I.seen input.new) (O.seen output.old) (O.seen output.new) }

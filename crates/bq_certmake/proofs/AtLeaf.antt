@@ -6,14 +6,13 @@ use Rattle.std.proofs.lemmas.Int.{ints}
 use Rattle.std.proofs.lemmas.Option.{slice_get_within}
 use Rattle.std.proofs.lemmas.List.Elements.{Contains-get_or, All-contains}
 use Rattle.bq_model.specs.declared.part.Sign.{Sign}
-use Rattle.bq_model.specs.Query.{QueryValue, attrs_of}
 use Rattle.bq_model.proofs.Has.{Has, first, later, Has-from_contains, Contains-from_has}
 use Rattle.bq_model.proofs.Split.{pairs_from}
 use Rattle.bq_constraints.specs.declared.constraint.Constraint.{Constraint}
-use Rattle.bq_constraints.specs.PartConstraints.{of_prefix}
 use Rattle.bq_constraints.specs.Solutions.{IsWithin, Solves, IsSatisfiable, IsChain, IsNegativeCycle}
 use Rattle.bq_constraints.proofs.Numbers.{contains_at}
 use Rattle.bq_certificate.specs.declared.line.Path.{Path}
+use Rattle.bq_certcheck.specs.Branching.{Branching, constraints_at}
 use Rattle.bq_certcheck.specs.Rules.{IsPath, ArePaths, path_lt, IsBound, same, of_path, HasBound, AreClosed, MayBePart, IsGoodLeaf}
 use Rattle.bq_certificate.specs.declared.line.Line.{Line}
 use Rattle.bq_certificate.specs.declared.line.Line.TheVariants as line
@@ -36,12 +35,12 @@ chain_bound cs (e ∷ es) i j s h x v =
     let f : x h.0.left ≡ x i = ap x h.3 in
     omega (arith, ints)
 
-small_number : (cs : List Constraint) (es : List ℕ) (i j : ℕ) (s : ℤ) → length cs ≤ 268 → IsChain cs es i j s → (n : ℕ) → Has es n → n < 65536
+small_number : (cs : List Constraint) (es : List ℕ) (i j : ℕ) (s : ℤ) → length cs ≤ 300 → IsChain cs es i j s → (n : ℕ) → Has es n → n < 65536
 small_number cs [] i j s l h n m = elim m [ ]
 small_number cs (e ∷ es) i j s l h n first = omega (arith, slice_get_within cs (e - 1) h.0 h.2, l)
 small_number cs (e ∷ es) i j s l h n (later m) = small_number cs es h.0.right j (s -ℤ h.0.bound) l h.4 n m
 
-whole_numbers : (most : ℕ) (cs : List Constraint) (es : List ℕ) (i j : ℕ) (s : ℤ) → length cs ≤ 268 → 0 < length es → length es ≤ most → IsChain cs es i j s → HasNumbers most es
+whole_numbers : (most : ℕ) (cs : List Constraint) (es : List ℕ) (i j : ℕ) (s : ℤ) → length cs ≤ 300 → 0 < length es → length es ≤ most → IsChain cs es i j s → HasNumbers most es
 whole_numbers most cs es i j s l some few h = record { some = some; few = few; small = λ k d m. small_number cs es i j s l h _ (Has-from_contains es _ (Contains-get_or es k d m)) }
 
 -- a chain between two nodes names a constraint
@@ -109,9 +108,9 @@ are_paths attrs cs ps a = record {
     is_path : (p : Path) → Has ps p → IsPath attrs cs p
     is_path p h = record { from = a.from p h; to = a.to p h; differ = a.differ p h; sum = (a.least p h).sum; chain = (a.least p h).chain }
 
-pub good_leaf : (q : QueryValue) (pre : List Sign) (ps : List Path) → MayBePart q pre → length (attrs_of q.atoms) ≤ 12 → All (IsWithin (length (attrs_of q.atoms))) (of_prefix q pre) → IsSatisfiable (of_prefix q pre)
-    → ArePathsTo (length (attrs_of q.atoms)) (of_prefix q pre) 169 ps → IsGoodLeaf q pre ps
-good_leaf q pre ps l few within t a = record {
+pub good_leaf : (b : Branching) (pre : List Sign) (ps : List Path) → MayBePart b pre → length b.attrs ≤ 12 → All (IsWithin (length b.attrs)) (constraints_at b pre) → IsSatisfiable (constraints_at b pre)
+    → ArePathsTo (length b.attrs) (constraints_at b pre) 169 ps → IsGoodLeaf b pre ps
+good_leaf b pre ps l few within t a = record {
   place = l;
   are_paths = are_paths _ _ ps a;
   closed = closed _ _ ps few within t a;
@@ -120,9 +119,9 @@ good_leaf q pre ps l few within t a = record {
 -- ---- the lines
 
 -- a path may stand behind a leaf or a path
-pub next_path : (cs : List Constraint) (before : Option Line) (p : Path) → takes_path before ≡ true → length cs ≤ 268 → p.from < 65536 → p.to < 65536 → p.from ≢ p.to → length p.numbers.items ≤ 12 → (s : ℤ) → IsChain cs p.numbers.items p.from p.to s → IsNext before (line.Path p)
+pub next_path : (cs : List Constraint) (before : Option Line) (p : Path) → takes_path before ≡ true → length cs ≤ 300 → p.from < 65536 → p.to < 65536 → p.from ≢ p.to → length p.numbers.items ≤ 12 → (s : ℤ) → IsChain cs p.numbers.items p.from p.to s → IsNext before (line.Path p)
 next_path cs before p t l from to differ few s h = record { follows = t; whole = record { from = from; to = to; numbers = whole_numbers 12 cs p.numbers.items p.from p.to s l (some_between cs p.numbers.items p.from p.to s differ h) few h } }
 
 -- a cycle may stand anywhere
-pub next_cycle : (cs : List Constraint) (before : Option Line) (numbers : Items ℕ) → length cs ≤ 268 → length numbers.items ≤ 13 → IsNegativeCycle cs numbers.items → IsNext before (line.Infeasible numbers)
+pub next_cycle : (cs : List Constraint) (before : Option Line) (numbers : Items ℕ) → length cs ≤ 300 → length numbers.items ≤ 13 → IsNegativeCycle cs numbers.items → IsNext before (line.Infeasible numbers)
 next_cycle cs before numbers l few y = record { follows = tt; whole = whole_numbers 13 cs numbers.items y.node y.node y.sum l (some_negative cs numbers.items y.node y.node y.sum y.negative y.chain) few y.chain }

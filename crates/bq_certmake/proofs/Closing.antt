@@ -1,5 +1,5 @@
 -- Which comparison closes the branch of the next sign, or that none does.
-use Rattle.std.proofs.Common.{◌≡◌, ℕ, pos, not, ◌+◌, ◌-◌, ◌<◌, ◌≤◌, Bool, true, false, ◌||◌, cond, nat_lt, nat_eq, Option, Some, None, List, [], ◌∷◌, ◌++◌, length, slice_get, slice_index_or, get_or, refl, sym, ◌∙◌, ap, subst, arith}
+use Rattle.std.proofs.Common.{◌≡◌, ℕ, zero, suc, pos, not, ◌+◌, ◌-◌, ◌<◌, ◌≤◌, Bool, true, false, ◌||◌, cond, nat_lt, nat_eq, Option, Some, None, List, [], ◌∷◌, ◌++◌, length, slice_get, slice_index_or, get_or, refl, sym, ◌∙◌, ap, subst, arith}
 use Rattle.std.specs.List.{list_any, position, position_or_len}
 use Rattle.std.proofs.lemmas.Bool.Decides.{nat_tests}
 use Rattle.std.proofs.lemmas.List.Quantifiers.{position-Some}
@@ -10,16 +10,15 @@ use Rattle.bq_model.specs.declared.atom.Element.TheVariants as element
 use Rattle.bq_model.specs.declared.atom.Op.{Op}
 use Rattle.bq_model.specs.declared.part.Pair.{Pair}
 use Rattle.bq_model.specs.declared.part.Sign.{Sign}
-use Rattle.bq_model.specs.Query.{QueryValue, IsWithinLimits}
-use Rattle.bq_model.specs.Parts.{pairs}
 use Rattle.bq_constraints.specs.Soft.{fails_by, denies_itself}
 use Rattle.bq_constraints.proofs.Prefix.{pair_at}
 use Rattle.bq_constraints.proofs.Softly.{neither, any_none}
+use Rattle.bq_certcheck.specs.Branching.{Branching}
 use Rattle.bq_certcheck.specs.Rules.{comparison, is_false_under, is_refuted, is_there_refuted, some_refuted, IsRefuted}
 
 -- ---- tests
 
-neither_from : (a b : Bool) → a ≡ false → b ≡ false → (a || b) ≡ false
+pub neither_from : (a b : Bool) → a ≡ false → b ≡ false → (a || b) ≡ false
 neither_from true b h k = absurd cc
 neither_from false b h k = k
 
@@ -31,7 +30,7 @@ or_left : (a b : Bool) → a ≡ true → (a || b) ≡ true
 or_left true b h = refl
 or_left false b h = absurd cc
 
-none_any : {A : Type 0} (p : A → Bool) (xs : List A) → ((x : A) → Has xs x → p x ≡ false) → list_any p xs ≡ false
+pub none_any : {A : Type 0} (p : A → Bool) (xs : List A) → ((x : A) → Has xs x → p x ≡ false) → list_any p xs ≡ false
 none_any p [] f = refl
 none_any p (x ∷ xs) f = neither_from (p x) (list_any p xs) (f x first) (none_any p xs (λ y h. f y (later h)))
 
@@ -87,48 +86,61 @@ numbered ts i d l =
     apart : (i : ℕ) → nat_eq (i + 1) 0 ≡ false
     apart i = grind (arith, nat_tests)
 
-named_refuted : (q : QueryValue) (ss : List Sign) (i number : ℕ) (d : Atom) → i < length q.atoms → number ≡ i + 1 → is_refuted (pairs q) ss (get_or q.atoms i d) ≡ true → IsRefuted q ss number
-named_refuted q ss i number d l e h =
-    ap (λ n. is_there_refuted (pairs q) ss (comparison q.atoms n)) e ∙ ap (is_there_refuted (pairs q) ss) (numbered q.atoms i d l) ∙ h
+named_refuted : (b : Branching) (ss : List Sign) (i number : ℕ) (d : Atom) → i < length b.atoms → number ≡ i + 1 → is_refuted b.pairs ss (get_or b.atoms i d) ≡ true → IsRefuted b ss number
+named_refuted b ss i number d l e h =
+    ap (λ n. is_there_refuted b.pairs ss (comparison b.atoms n)) e ∙ ap (is_there_refuted b.pairs ss) (numbered b.atoms i d l) ∙ h
 
-module _ (q : QueryValue) (ts : List Atom) (et : ts ≡ q.atoms) where
+-- and is one of them
+pub there : (ts : List Atom) (number : ℕ) (t : Atom) → comparison ts number ≡ Some t → Has ts t
+there ts number t e = by (nat_eq number 0) e
+  where
+    at : (ts : List Atom) (k : ℕ) (t : Atom) → slice_get ts k ≡ Some t → Has ts t
+    at [] k t e = absurd cc
+    at (u ∷ ts) zero t e = let same : u ≡ t = cc in subst (λ z. Has (u ∷ ts) z) same first
+    at (u ∷ ts) (suc k) t e = later (at ts k t e)
+
+    by : (b : Bool) → cond b None (slice_get ts (number - 1)) ≡ Some t → Has ts t
+    by true e = absurd cc
+    by false e = at ts (number - 1) t e
+
+module _ (b : Branching) (ts : List Atom) (et : ts ≡ b.atoms) where
   -- the place of a comparison that is false where the next pair has the sign names one that closes the branch
-  named_at : (ps : List Pair) (ss : List Sign) (s : Sign) (d : Atom) (r : Pair) (i number : ℕ) → ps ≡ pairs q → slice_get ps (length ss) ≡ Some r → Some i ≡ position (λ t. fails_by t r s) ts → number ≡ i + 1 → IsRefuted q (ss ++ s ∷ []) number
+  named_at : (ps : List Pair) (ss : List Sign) (s : Sign) (d : Atom) (r : Pair) (i number : ℕ) → ps ≡ b.pairs → slice_get ps (length ss) ≡ Some r → Some i ≡ position (λ t. fails_by t r s) ts → number ≡ i + 1 → IsRefuted b (ss ++ s ∷ []) number
   named_at ps ss s d r i number ep g e en =
-      let f : (i < length q.atoms) × (fails_by (get_or q.atoms i d) r s ≡ true) × ((k : ℕ) → k < i → fails_by (get_or q.atoms k d) r s ≡ false) = position-Some (λ t. fails_by t r s) q.atoms i d (ap (position (λ t. fails_by t r s)) (sym et) ∙ sym e) in
-      let h : slice_get (pairs q) (length ss) ≡ Some r = ap (λ z. slice_get z (length ss)) (sym ep) ∙ g in
-      named_refuted q (ss ++ s ∷ []) i number d f.0 en (or_right (denies_itself (get_or q.atoms i d)) (is_false_under (get_or q.atoms i d) (pairs q) (ss ++ s ∷ [])) (refuted_more (get_or q.atoms i d) s r (pairs q) ss h f.1))
+      let f : (i < length b.atoms) × (fails_by (get_or b.atoms i d) r s ≡ true) × ((k : ℕ) → k < i → fails_by (get_or b.atoms k d) r s ≡ false) = position-Some (λ t. fails_by t r s) b.atoms i d (ap (position (λ t. fails_by t r s)) (sym et) ∙ sym e) in
+      let h : slice_get b.pairs (length ss) ≡ Some r = ap (λ z. slice_get z (length ss)) (sym ep) ∙ g in
+      named_refuted b (ss ++ s ∷ []) i number d f.0 en (or_right (denies_itself (get_or b.atoms i d)) (is_false_under (get_or b.atoms i d) b.pairs (ss ++ s ∷ [])) (refuted_more (get_or b.atoms i d) s r b.pairs ss h f.1))
 
   -- and where there is none, none is refuted by the longer signs that was not before
-  none_at : (ps : List Pair) (ss : List Sign) (s : Sign) (r : Pair) → ps ≡ pairs q → slice_get ps (length ss) ≡ Some r → some_refuted (pairs q) ss q.atoms ≡ false → None ≡ position (λ t. fails_by t r s) ts → some_refuted (pairs q) (ss ++ s ∷ []) q.atoms ≡ false
-  none_at ps ss s r ep g n e = none_any (λ t. is_refuted (pairs q) (ss ++ s ∷ []) t) q.atoms (λ t i.
-      let old = neither (denies_itself t) (is_false_under t (pairs q) ss) (any_none (λ t. is_refuted (pairs q) ss t) q.atoms n t i) in
-      let none : list_any (λ t. fails_by t r s) q.atoms ≡ false = subst (λ z. list_any (λ t. fails_by t r s) z ≡ false) et (none_placed (λ t. fails_by t r s) ts e) in
-      let h : slice_get (pairs q) (length ss) ≡ Some r = ap (λ z. slice_get z (length ss)) (sym ep) ∙ g in
-      neither_from (denies_itself t) (is_false_under t (pairs q) (ss ++ s ∷ [])) old.0 (kept_more t s r (pairs q) ss h old.1 (any_none (λ t. fails_by t r s) q.atoms none t i)))
+  none_at : (ps : List Pair) (ss : List Sign) (s : Sign) (r : Pair) → ps ≡ b.pairs → slice_get ps (length ss) ≡ Some r → some_refuted b.pairs ss b.atoms ≡ false → None ≡ position (λ t. fails_by t r s) ts → some_refuted b.pairs (ss ++ s ∷ []) b.atoms ≡ false
+  none_at ps ss s r ep g n e = none_any (λ t. is_refuted b.pairs (ss ++ s ∷ []) t) b.atoms (λ t i.
+      let old = neither (denies_itself t) (is_false_under t b.pairs ss) (any_none (λ t. is_refuted b.pairs ss t) b.atoms n t i) in
+      let none : list_any (λ t. fails_by t r s) b.atoms ≡ false = subst (λ z. list_any (λ t. fails_by t r s) z ≡ false) et (none_placed (λ t. fails_by t r s) ts e) in
+      let h : slice_get b.pairs (length ss) ≡ Some r = ap (λ z. slice_get z (length ss)) (sym ep) ∙ g in
+      neither_from (denies_itself t) (is_false_under t b.pairs (ss ++ s ∷ [])) old.0 (kept_more t s r b.pairs ss h old.1 (any_none (λ t. fails_by t r s) b.atoms none t i)))
 
-  pub next_named : (ps : List Pair) (ss : List Sign) (s : Sign) (e : Pair) (i number : ℕ) → ps ≡ pairs q → length ss < length ps → Some i ≡ position (λ t. fails_by t (slice_index_or ps (length ss) e) s) ts → number ≡ i + 1 → IsRefuted q (ss ++ s ∷ []) number
+  pub next_named : (ps : List Pair) (ss : List Sign) (s : Sign) (e : Pair) (i number : ℕ) → ps ≡ b.pairs → length ss < length ps → Some i ≡ position (λ t. fails_by t (slice_index_or ps (length ss) e) s) ts → number ≡ i + 1 → IsRefuted b (ss ++ s ∷ []) number
   next_named ps ss s e i number ep l f en = named_at ps ss s some_atom (slice_index_or ps (length ss) e) i number ep (pair_at ps (length ss) e l) f en
 
-  pub next_none : (ps : List Pair) (ss : List Sign) (s : Sign) (e : Pair) → ps ≡ pairs q → length ss < length ps → some_refuted (pairs q) ss q.atoms ≡ false → None ≡ position (λ t. fails_by t (slice_index_or ps (length ss) e) s) ts → some_refuted (pairs q) (ss ++ s ∷ []) q.atoms ≡ false
+  pub next_none : (ps : List Pair) (ss : List Sign) (s : Sign) (e : Pair) → ps ≡ b.pairs → length ss < length ps → some_refuted b.pairs ss b.atoms ≡ false → None ≡ position (λ t. fails_by t (slice_index_or ps (length ss) e) s) ts → some_refuted b.pairs (ss ++ s ∷ []) b.atoms ≡ false
   next_none ps ss s e ep l n f = none_at ps ss s (slice_index_or ps (length ss) e) ep (pair_at ps (length ss) e l) n f
 
   -- the same at the root, of comparisons that say that an element is not itself
-  pub root_named : (i number : ℕ) → Some i ≡ position (λ t. denies_itself t) ts → number ≡ i + 1 → IsRefuted q [] number
+  pub root_named : (i number : ℕ) → Some i ≡ position (λ t. denies_itself t) ts → number ≡ i + 1 → IsRefuted b [] number
   root_named i number e en =
       let d : Atom = some_atom in
-      let f : (i < length q.atoms) × (denies_itself (get_or q.atoms i d) ≡ true) × ((k : ℕ) → k < i → denies_itself (get_or q.atoms k d) ≡ false) = position-Some (λ t. denies_itself t) q.atoms i d (ap (position (λ t. denies_itself t)) (sym et) ∙ sym e) in
-      named_refuted q [] i number d f.0 en (or_left (denies_itself (get_or q.atoms i d)) (is_false_under (get_or q.atoms i d) (pairs q) []) f.1)
+      let f : (i < length b.atoms) × (denies_itself (get_or b.atoms i d) ≡ true) × ((k : ℕ) → k < i → denies_itself (get_or b.atoms k d) ≡ false) = position-Some (λ t. denies_itself t) b.atoms i d (ap (position (λ t. denies_itself t)) (sym et) ∙ sym e) in
+      named_refuted b [] i number d f.0 en (or_left (denies_itself (get_or b.atoms i d)) (is_false_under (get_or b.atoms i d) b.pairs []) f.1)
 
-  pub root_none : None ≡ position (λ t. denies_itself t) ts → some_refuted (pairs q) [] q.atoms ≡ false
-  root_none e = none_any (λ t. is_refuted (pairs q) [] t) q.atoms (λ t i.
-      let none : list_any (λ t. denies_itself t) q.atoms ≡ false = subst (λ z. list_any (λ t. denies_itself t) z ≡ false) et (none_placed (λ t. denies_itself t) ts e) in
-      neither_from (denies_itself t) (is_false_under t (pairs q) []) (any_none (λ t. denies_itself t) q.atoms none t i) (none_under t (pairs q)))
+  pub root_none : None ≡ position (λ t. denies_itself t) ts → some_refuted b.pairs [] b.atoms ≡ false
+  root_none e = none_any (λ t. is_refuted b.pairs [] t) b.atoms (λ t i.
+      let none : list_any (λ t. denies_itself t) b.atoms ≡ false = subst (λ z. list_any (λ t. denies_itself t) z ≡ false) et (none_placed (λ t. denies_itself t) ts e) in
+      neither_from (denies_itself t) (is_false_under t b.pairs []) (any_none (λ t. denies_itself t) b.atoms none t i) (none_under t b.pairs))
     where
       none_under : (t : Atom) (ps : List Pair) → is_false_under t ps [] ≡ false
       none_under t [] = refl
       none_under t (p ∷ ps) = refl
 
   -- a place is among the comparisons
-  pub placed : (p : Atom → Bool) (i : ℕ) → IsWithinLimits q → Some i ≡ position p ts → i < 16
-  placed p i w e = let l : i < length ts = (position-Some p ts i some_atom (sym e)).0 in omega (arith, l, ap length et, w.comparisons)
+  pub placed : (p : Atom → Bool) (i : ℕ) → length ts ≤ 16 → Some i ≡ position p ts → i < 16
+  placed p i w e = let l : i < length ts = (position-Some p ts i some_atom (sym e)).0 in omega (arith, l, w)

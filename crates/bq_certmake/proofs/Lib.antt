@@ -1,7 +1,9 @@
+pub mod Forms
 pub mod Closing
 pub mod AtNode
 pub mod Lines
 pub mod Preorder
+pub mod Beginnings
 pub mod Under
 pub mod PathSteps
 pub mod AtLeaf

@@ -1,14 +1,15 @@
 -- Lists of signs that begin with some signs, from those that have one more.
-use Rattle.std.proofs.Common.{◌≡◌, ℕ, zero, suc, ◌<◌, ◌≤◌, ◌+◌, take, List, [], ◌∷◌, ◌++◌, length, length-append, append_assoc, append-nil, refl, sym, ◌∙◌, ap, subst, arith, true, false, inl, inr}
+use Rattle.std.proofs.Common.{◌≡◌, ◌<◌, ◌+◌, List, [], ◌∷◌, ◌++◌, length, length-append, append_assoc, append-nil, refl, sym, ◌∙◌, ap, subst, arith, true, false, inl, inr}
 use Rattle.bq_model.specs.declared.part.Sign.{Sign}
-use Rattle.bq_model.specs.Query.{QueryValue}
-use Rattle.bq_model.specs.Parts.{pairs, sign_lt, signs_lt, IsPart}
+use Rattle.bq_model.specs.Parts.{sign_lt, signs_lt}
 use Rattle.bq_model.proofs.Has.{Has, first, later, Has-append_left, Has-append_right, Has-append_cases}
 use Rattle.bq_model.proofs.Unique.{none, more}
-use Rattle.bq_model.proofs.Split.{StartsWith, IsFeasible, ArePartsUnder, none_under, one_under, ascends_joined, below_starts, shorten}
-use Rattle.bq_refs.proofs.Adding.{long}
+use Rattle.bq_model.proofs.Split.{StartsWith, ascends_joined, below_starts, shorten}
+use Rattle.bq_certcheck.specs.Branching.{Branching}
+use Rattle.bq_certcheck.specs.Branches.{AreBranches}
 use Rattle.bq_certmake.specs.Made.{IsOpen}
 use Rattle.bq_certmake.specs.Tree.{SomeUnder, AllUnder}
+use Rattle.bq_certmake.proofs.Beginnings.{front_from}
 
 -- ---- some
 
@@ -82,50 +83,45 @@ module _ (P : List Sign → Type 0) (pre : List Sign) (xs ys zs : List (List Sig
   pub front_all : P pre → AllUnder P pre (pre ∷ (xs ++ (ys ++ zs)))
   front_all p = record { some = front_some P pre xs ys zs a.some b.some c.some p; all = λ s p w. front_rest s p w.rest w.is }
 
--- ---- parts
+-- ---- parts and open lists of signs
 
-parts_all : (q : QueryValue) (pre : List Sign) (xs : List (List Sign)) → ArePartsUnder q pre xs → AllUnder (IsPart q) pre xs
-parts_all q pre xs u = record { some = record { ascends = u.ascends; each = u.parts; under = u.under }; all = u.all }
+module _ (b : Branching) (Part Front : List Sign → Type 0) (a : AreBranches b Part Front) (pre : List Sign) where
+  -- what begins with some signs is at least as long
+  as_long : (s : List Sign) → (w : StartsWith pre s) → length s ≡ length pre + length w.rest
+  as_long s w = ap length w.is ∙ length-append pre w.rest
 
-pub no_parts : (q : QueryValue) (pre : List Sign) → ¬ IsFeasible q pre → AllUnder (IsPart q) pre []
-no_parts q pre n = parts_all q pre [] (none_under q pre n)
+  -- with as many signs as these it is these
+  same_length : (s : List Sign) → (w : StartsWith pre s) → length s ≡ length pre → pre ≡ s
+  same_length s w e = by w.rest w.is (omega (arith, as_long s w, e))
+    where
+      by : (rest : List Sign) → s ≡ pre ++ rest → length rest ≡ 0 → pre ≡ s
+      by [] h k = sym (h ∙ append-nil pre)
+      by (c ∷ rest) h k = absurd (omega (arith, k))
 
-pub one_part : (q : QueryValue) (pre : List Sign) → length pre ≡ length (pairs q) → IsFeasible q pre → AllUnder (IsPart q) pre (pre ∷ [])
-one_part q pre l f = parts_all q pre (pre ∷ []) (one_under q pre l f)
+  pub no_parts : ¬ Front pre → AllUnder Part pre []
+  no_parts n = record { some = none_some Part pre; all = λ s p w. absurd (n (a.begins s pre p w)) }
 
--- some signs are no part
-pub not_part : (q : QueryValue) (pre : List Sign) → length pre < length (pairs q) → IsPart q pre → ⊥
-not_part q pre l p = omega (arith, long q pre p, l)
+  pub no_fronts : ¬ Front pre → AllUnder (IsOpen b Front) pre []
+  no_fronts n = record { some = none_some (IsOpen b Front) pre; all = λ s o w. absurd (n (front_from b Part Front a pre s o w)) }
 
--- ---- open prefixes
-
-taken_longer : {A : Type 0} (n m : ℕ) (xs : List A) (x : A) → n ≤ m → Has (take n xs) x → Has (take m xs) x
-taken_longer zero m [] x l h = elim h [ ]
-taken_longer (suc n) m [] x l h = elim h [ ]
-taken_longer zero m (y ∷ xs) x l h = elim h [ ]
-taken_longer (suc n) zero (y ∷ xs) x l h = absurd (omega (arith, l))
-taken_longer (suc n) (suc m) (y ∷ xs) x l first = first
-taken_longer (suc n) (suc m) (y ∷ xs) x l (later h) = later (taken_longer n m xs x (omega (arith, l)) h)
-
--- what feasible signs begin with is feasible: there are fewer soft comparisons to meet
-feasible_from : (q : QueryValue) (pre s : List Sign) → IsFeasible q s → StartsWith pre s → IsFeasible q pre
-feasible_from q pre s f w =
-    let long : length s ≡ length pre + length w.rest = ap length w.is ∙ length-append pre w.rest in
-    record {
-      one = f.one;
-      hard = f.hard;
-      soft = λ t i e d. f.soft t i e (λ p h. taken_longer (length pre) (length s) (pairs q) p (omega (arith, long)) (d p h));
-      domains = f.domains;
-      starts = record { rest = w.rest ++ f.starts.rest; is = f.starts.is ∙ ap (λ z. z ++ f.starts.rest) w.is ∙ append_assoc pre w.rest f.starts.rest };
+  module _ (l : length pre ≡ length b.pairs) where
+    pub one_part : Front pre → AllUnder Part pre (pre ∷ [])
+    one_part f = record {
+      some = record {
+        ascends = more (λ y h. elim h [ ]) none;
+        each = λ s h. subst Part (only s h) (a.whole pre l f);
+        under = λ s h. record { rest = []; is = sym (only s h) ∙ sym (append-nil pre) };
+      };
+      all = λ s p w. subst (λ (z : List Sign). Has (pre ∷ []) z) (same_length s w (omega (arith, a.long s p, l))) first;
     }
+      where
+        only : (s : List Sign) → Has (pre ∷ []) s → pre ≡ s
+        only s first = refl
+        only s (later h) = elim h [ ]
 
-pub no_fronts : (q : QueryValue) (pre : List Sign) → ¬ IsFeasible q pre → AllUnder (IsOpen q) pre []
-no_fronts q pre n = record { some = none_some (IsOpen q) pre; all = λ s o w. absurd (n (feasible_from q pre s o.feasible w)) }
+    pub whole_fronts : AllUnder (IsOpen b Front) pre []
+    whole_fronts = record { some = none_some (IsOpen b Front) pre; all = λ s o w. absurd (omega (arith, as_long s w, o.left, l)) }
 
-too_long : (q : QueryValue) (pre s : List Sign) → length pre ≡ length (pairs q) → IsOpen q s → StartsWith pre s → ⊥
-too_long q pre s l o w =
-    let b : length s ≡ length pre + length w.rest = ap length w.is ∙ length-append pre w.rest in
-    omega (arith, o.left, b, l)
-
-pub whole_fronts : (q : QueryValue) (pre : List Sign) → length pre ≡ length (pairs q) → AllUnder (IsOpen q) pre []
-whole_fronts q pre l = record { some = none_some (IsOpen q) pre; all = λ s o w. absurd (too_long q pre s l o w) }
+  -- some signs are no part
+  pub not_part : length pre < length b.pairs → Part pre → ⊥
+  not_part l p = omega (arith, a.long pre p, l)

@@ -1,10 +1,13 @@
-//! Soft comparisons that close a branch of the tree.
-ghost use Rattle.std.specs.Prelude.{◌≡◌, ◌+◌, ◌<◌, ◌++◌, [], ◌∷◌, length};
+//! Comparisons that close a branch of the tree.
+ghost use Rattle.std.specs.Prelude.{◌≡◌, ◌+◌, ◌<◌, ◌≤◌, ◌++◌, [], ◌∷◌, length};
 ghost use Rattle.std.specs.List.{position};
 ghost use Rattle.bq_model.specs.Query.{IsWithinLimits};
 ghost use Rattle.bq_constraints.specs.Soft.{fails_by, denies_itself};
-ghost use Rattle.bq_certmake.specs.Tree.{IsNode, ClosesAgainst};
+ghost use Rattle.bq_certcheck.specs.Shown.{branching_of};
+ghost use Rattle.bq_certmake.specs.Tree.{IsNodeOf, ClosesAgainst};
 
+use crate::branches::Branches;
+use bq_certcheck::Shown;
 use bq_closure::Bounds;
 use bq_constraints::{denies_itself, fails_by};
 use bq_model::{Atom, Pair, Query, Sign};
@@ -32,31 +35,39 @@ fn number(place: usize) -> u16
 }
 
 /// Returns the number, from 1, of a comparison that closes the branch at these signs and one more.
-pub fn next_against(
-    q: &Query,
-    pairs: &[Pair],
-    bounds: &Bounds,
-    signs: &[Sign],
-    sign: Sign,
-) -> Option<u16>
-    requires node { IsNode q.now pairs.now signs.now bounds.now }
-    requires room { length signs.now < length pairs.now }
-    ensures { ClosesAgainst q.now (signs.now ++ sign ∷ []) result }
+pub fn next_against(branches: &Branches, bounds: &Bounds, signs: &[Sign], sign: Sign) -> Option<u16>
+    requires node { IsNodeOf branches.now signs.now bounds.now }
+    requires room { length signs.now < length branches.now.pairs.now }
+    ensures { ClosesAgainst (branching_of branches.now.shown branches.now.query.now) (signs.now ++ sign ∷ []) result }
 {
     // Named for the proof alone: the contract speaks of it.
     let _bounds = bounds;
-    match first_failing(q.atoms(), pairs[signs.len()], sign) {
+    match first_failing(branches.query.atoms(), branches.pairs[signs.len()], sign) {
         Some(place) => Some(number(place)),
         None => None,
     }
 }
 
-/// Returns the number, from 1, of a comparison that closes the whole tree.
-pub fn root_against(q: &Query) -> Option<u16>
-    ensures against { ClosesAgainst q.now [] result }
+// The comparisons that may close a branch of a tree that shows this form.
+fn closing_atoms(q: &Query, shown: Shown) -> &[Atom]
+    ensures value { result.now ≡ (branching_of shown q.now).atoms }
+    ensures few { length result.now ≤ 16 }
     ensures limits { IsWithinLimits q.now }
 {
-    match first_denial(q.atoms()) {
+    let atoms = q.atoms();
+    match shown {
+        Shown::Plain => atoms,
+        Shown::Whole => &[],
+        Shown::Split => atoms,
+    }
+}
+
+/// Returns the number, from 1, of a comparison that closes the whole tree.
+pub fn root_against(q: &Query, shown: Shown) -> Option<u16>
+    ensures against { ClosesAgainst (branching_of shown q.now) [] result }
+    ensures limits { IsWithinLimits q.now }
+{
+    match first_denial(closing_atoms(q, shown)) {
         Some(place) => Some(number(place)),
         None => None,
     }

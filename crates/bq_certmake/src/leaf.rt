@@ -39,7 +39,7 @@ fn add_path(
     requires to { to ≤ bounds.now.attrs }
     requires differ { from ≢ to }
     requires satisfiable { IsSatisfiable bounds.now.constraints }
-    requires few { length bounds.now.constraints ≤ 268 }
+    requires few { length bounds.now.constraints ≤ 300 }
     requires takes { takes_path (last_of certificate.old) ≡ true }
     ensures { AddsPath result bounds.now.constraints from to certificate.old certificate.new }
 {
@@ -54,7 +54,7 @@ fn add_paths(bounds: &Bounds, attrs: u8, certificate: &mut Certificate) -> Resul
     requires attrs { attrs ≡ bounds.now.attrs }
     requires few_attrs { attrs ≤ 12 }
     requires satisfiable { IsSatisfiable bounds.now.constraints }
-    requires few { length bounds.now.constraints ≤ 268 }
+    requires few { length bounds.now.constraints ≤ 300 }
     requires takes { takes_path (last_of certificate.old) ≡ true }
     ensures { AddsPaths result attrs bounds.now.constraints certificate.old certificate.new }
 {
@@ -78,7 +78,7 @@ pub fn add_leaf(
     requires attrs { attrs ≡ bounds.now.attrs }
     requires few_attrs { attrs ≤ 12 }
     requires satisfiable { IsSatisfiable bounds.now.constraints }
-    requires few { length bounds.now.constraints ≤ 268 }
+    requires few { length bounds.now.constraints ≤ 300 }
     requires few_parts { parts.old ≤ 4096 }
     ensures { AddsLeaf result attrs bounds.now.constraints certificate.old certificate.new parts.old parts.new }
 {

@@ -1,20 +1,51 @@
 //! Making a certificate.
+ghost use Rattle.std.specs.Prelude.{◌≡◌, ◌≤◌, ◌⊎◌, IsTrue, length};
+ghost use Rattle.bq_certcheck.specs.Shown.{branching_of};
 ghost use Rattle.bq_certmake.specs.Made.{Makes};
 
+use crate::branches::Branches;
 use crate::error::MakeError;
-use crate::tree::whole;
+use crate::tree::from_root;
+use bq_certcheck::Shown;
 use bq_certificate::Certificate;
-use bq_model::Query;
+use bq_form_pairs::form_pairs;
+use bq_model::{Pair, Query};
 use std::alloc::Global;
 
-/// Returns a certificate of the query. `Limit` exactly where the query has more than 4,096 parts, or its certificate more than 262,144
-/// nodes; `Memory` where there is none left.
-pub fn make(alloc: Global, q: &Query) -> Result<Certificate, MakeError>
-    ensures { Makes q.now result }
+// A certificate that shows a form, in which these pairs get signs.
+fn with_pairs(
+    alloc: Global,
+    q: &Query,
+    shown: Shown,
+    pairs: &[Pair],
+) -> Result<Certificate, MakeError>
+    requires pairs { pairs.now ≡ (branching_of shown q.now).pairs }
+    requires few { length pairs.now ≤ 114 }
+    ensures { Makes shown q.now result }
 {
+    let branches = Branches {
+        query: q,
+        shown,
+        pairs,
+    };
     let mut certificate = Certificate::new(alloc);
-    let pairs = q.pairs();
     let mut parts = 0;
-    whole(q, pairs.as_slice(), &mut certificate, &mut parts)?;
+    from_root(&branches, &mut certificate, &mut parts)?;
     Ok(certificate)
+}
+
+/// Returns a certificate of the query that shows this form, which is the plain one unless the query is compact. `Limit` exactly where the
+/// form has more than 114 pairs or 4,096 parts, or its certificate more than 262,144 nodes; `Memory` where there is none left.
+pub fn make(alloc: Global, q: &Query, shown: Shown) -> Result<Certificate, MakeError>
+    requires { IsTrue q.now.compact ⊎ (shown ≡ Shown.Plain) }
+    ensures { Makes shown q.now result }
+{
+    match shown {
+        Shown::Plain => with_pairs(alloc, q, Shown::Plain, q.pairs().as_slice()),
+        Shown::Whole => with_pairs(alloc, q, Shown::Whole, &[]),
+        Shown::Split => match form_pairs(q) {
+            Some(pairs) => with_pairs(alloc, q, Shown::Split, pairs.as_slice()),
+            None => Err(MakeError::Limit),
+        },
+    }
 }

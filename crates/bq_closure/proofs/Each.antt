@@ -26,7 +26,7 @@ closure_more k n ks cs i d l h = subst (IsClosureOf k n) (sym (more_of ks cs i d
 pub closure_end : (k : ClosureValue) (n : ℕ) (ks cs : List Constraint) (i : ℕ) → i ≡ length cs → IsClosureOf k n (ks ++ take i cs) → IsClosureOf k n (ks ++ cs)
 closure_end k n ks cs i e h = subst (IsClosureOf k n) (end_of ks cs i e) h
 
-pub room_for : (k : ClosureValue) (n : ℕ) (ks cs : List Constraint) (i : ℕ) → i < length cs → IsClosureOf k n (ks ++ take i cs) → length ks + length cs ≤ 268 → HasRoom k 1
+pub room_for : (k : ClosureValue) (n : ℕ) (ks cs : List Constraint) (i : ℕ) → i < length cs → IsClosureOf k n (ks ++ take i cs) → length ks + length cs ≤ 300 → HasRoom k 1
 room_for k n ks cs i l h r = record {
   constraints = ks ++ take i cs;
   closure = subst (λ m. IsClosureOf k m (ks ++ take i cs)) (sym h.attrs) h;

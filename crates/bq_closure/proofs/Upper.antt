@@ -221,7 +221,7 @@ above_from_equal q xs cs x y e h = record { above = λ z v. let b = h.equal z v 
 pub above_from_equal_turned : (q : QueryValue) (xs : List Attr) (cs : List Constraint) (x y : Element) → xs ≡ attrs_of q.atoms → IsAlwaysEqual q cs x y → IsAlwaysAbove xs cs y x (pos 0)
 above_from_equal_turned q xs cs x y e h = record { above = λ z v. let b = h.equal z v in rw e (omega (arith, ints, b)) }
 
-pub bounds_with : (k : ClosureValue) (n : ℕ) (cs : List Constraint) (c : Constraint) (ds : List Constraint) → ds ≡ cs ++ c ∷ [] → IsClosureOf k n (cs ++ c ∷ []) → length cs < 268 → AreBounds k ds
+pub bounds_with : (k : ClosureValue) (n : ℕ) (cs : List Constraint) (c : Constraint) (ds : List Constraint) → ds ≡ cs ++ c ∷ [] → IsClosureOf k n (cs ++ c ∷ []) → length cs < 300 → AreBounds k ds
 bounds_with k n cs c ds e h l = rw e record {
   closure = subst (λ m. IsClosureOf k m (cs ++ c ∷ [])) (sym h.attrs) h;
   room = (let a : length (cs ++ c ∷ []) ≡ length cs + 1 = length-append cs (c ∷ []) in omega arith);

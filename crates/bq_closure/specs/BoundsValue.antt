@@ -12,4 +12,4 @@ pub record BoundsValue : Type 0 where
 -- the closure is that of the constraints, and they fit their list
 pub record AreBounds (k : ClosureValue) (cs : List Constraint) : Type 0 where
   pub closure : IsClosureOf k k.attrs cs
-  pub room : length cs < 269
+  pub room : length cs < 301

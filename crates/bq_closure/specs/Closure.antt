@@ -71,4 +71,4 @@ pub record IsClosureOf (k : ClosureValue) (n : ℕ) (cs : List Constraint) : Typ
 pub record HasRoom (k : ClosureValue) (more : ℕ) : Type 0 where
   pub constraints : List Constraint
   pub closure : IsClosureOf k k.attrs constraints
-  pub room : length constraints + more ≤ 268
+  pub room : length constraints + more ≤ 300

@@ -11,11 +11,11 @@ use bq_constraints::{Constraint, of_query};
 use bq_model::Query;
 use std::marker::Model;
 
-/// At most 268 constraints between the number 0 and at most 12 attributes, with what they imply. A clause sees how many
+/// At most 300 constraints between the number 0 and at most 12 attributes, with what they imply. A clause sees how many
 /// attributes there are, and the constraints in the order in which they were added.
 #[derive(Drop)]
 pub struct Bounds {
-    constraints: ArrayVec<Constraint, 268>,
+    constraints: ArrayVec<Constraint, 300>,
     closure: Closure,
 }
 
@@ -92,7 +92,7 @@ impl Bounds {
     /// Adds a constraint between nodes that exist, with a bound within 10^15 either way.
     pub fn add(&mut self, c: Constraint)
         requires within { IsWithin self.old.attrs c }
-        requires few { length self.old.constraints < 268 }
+        requires few { length self.old.constraints < 300 }
         ensures attrs { self.new.attrs ≡ self.old.attrs }
         ensures constraints { self.new.constraints ≡ self.old.constraints ++ c ∷ [] }
     {
@@ -103,7 +103,7 @@ impl Bounds {
     /// Adds these constraints, in order.
     pub fn add_all(&mut self, cs: &[Constraint])
         requires within { All (IsWithin self.old.attrs) cs.now }
-        requires few { length self.old.constraints + length cs.now ≤ 268 }
+        requires few { length self.old.constraints + length cs.now ≤ 300 }
         ensures attrs { self.new.attrs ≡ self.old.attrs }
         ensures constraints { self.new.constraints ≡ self.old.constraints ++ cs.now }
     {
@@ -195,8 +195,8 @@ impl Bounds {
 }
 
 // Puts these constraints in the place of those of a list.
-fn replace(list: &mut ArrayVec<Constraint, 268>, cs: &[Constraint])
-    requires { length cs.now ≤ 268 }
+fn replace(list: &mut ArrayVec<Constraint, 300>, cs: &[Constraint])
+    requires { length cs.now ≤ 300 }
     ensures { list.new.items ≡ cs.now }
 {
     list.clear();

@@ -105,7 +105,7 @@ impl Closure {
     fn closed_by(&self, c: Constraint) -> Option<Cycle>
         requires modest { IsModest (slice_index_or self.now.entries (13 * c.right + c.left) None) }
         requires within { IsWithin self.now.attrs c }
-        requires few { self.now.count < 268 }
+        requires few { self.now.count < 300 }
         ensures { IsClosing (slice_index_or self.now.entries (13 * c.right + c.left) None) c.bound (self.now.count + 1) (λ n. walked self.now.entries n c.right c.left) result }
     {
         match self.entry(c.right, c.left) {

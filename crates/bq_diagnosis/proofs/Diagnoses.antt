@@ -1,5 +1,5 @@
 -- What is found for a line, by what is found for its text, for its statement and for its row.
-use Rattle.std.proofs.Common.{◌≡◌, ℕ, ◌≤◌, List, length, None, Result, Ok, Err, refl, ap, sym, ◌∙◌, subst}
+use Rattle.std.proofs.Common.{◌≡◌, ℕ, ◌≤◌, List, length, None, Result, Ok, Err, sym, subst}
 use Rattle.bq_schema.specs.Streams.{Shape}
 use Rattle.bq_parser.specs.declared.line.LineKind.{LineKind}
 use Rattle.bq_parser.specs.declared.line.LineKind.TheVariants as kinds
@@ -9,13 +9,12 @@ use Rattle.bq_parser.specs.Syntax.{IsStatement}
 use Rattle.bq_parser.specs.Limits.{limit_of}
 use Rattle.bq_reply.specs.declared.refusal.Refusal.{Refusal}
 use Rattle.bq_diagnosis.specs.declared.fault.Asks.{Asks}
-use Rattle.bq_diagnosis.specs.declared.fault.Asks.TheVariants as asks
 use Rattle.bq_diagnosis.specs.declared.fault.Fault.{Fault}
 use Rattle.bq_diagnosis.specs.declared.fault.Fault.TheVariants.{LineTooLong, Syntax, Limit, DuplicateStream, DuplicateColumn, DuplicateQuery, TooManyStreams, TooManyQueries, NoStream, NotInFrom, NoColumn, SelfJoin, NoQuery, Locked, LockTwice, LockNoStream, NoLock, RowKey, RowName, RowStream, Arity, Value, Domain}
-use Rattle.bq_diagnosis.specs.Asked.{IsAsked, IsTextAsked, row_asked, fits, stated}
+use Rattle.bq_diagnosis.specs.Asked.{IsAsked, IsTextAsked, fits, stated}
 use Rattle.bq_diagnosis.specs.Faults.{IsOfStatement, IsTrueOf, IsTrueOfText, IsDiagnosis, IsTextDiagnosis, IsStatementDiagnosis}
 use Rattle.bq_diagnosis.specs.FaultWords.{word_of}
-use Rattle.bq_diagnosis.specs.RowFaults.{IsOfRow, HasRowFault, IsRowFault}
+use Rattle.bq_diagnosis.specs.RowFaults.{IsOfRow}
 
 -- what is said of a statement is said of a text that is this statement
 of_statement : (streams : List Shape) (live : List (List ℕ)) (text : List ℕ) (s : Statement) (fault : Fault) → IsStatement text s → limit_of s ≡ None → IsOfStatement streams live s fault → IsTrueOfText streams live text fault

@@ -10,6 +10,8 @@ use Rattle.bq_parser.specs.declared.parsing.What.{What}
 use Rattle.bq_parser.specs.declared.parsing.What.TheVariants as limits
 use Rattle.bq_parser.specs.DraftLimits.{is_long_token}
 use Rattle.bq_parser.specs.Limits.{same_column, number_of_different}
+use Rattle.bq_diagnosis.specs.declared.passing.Counted.{Counted}
+use Rattle.bq_diagnosis.specs.declared.passing.Counted.TheVariants as counted
 use Rattle.bq_diagnosis.specs.Compared.{columns_compared}
 use Rattle.bq_diagnosis.specs.Marks.{is_point}
 
@@ -39,6 +41,14 @@ is_comparison LessEqual = true
 is_comparison GreaterEqual = true
 is_comparison Unequal = true
 is_comparison _ = false
+
+-- what is counted
+abbrev pub is_counted : Counted → TokenKind → Bool
+is_counted counted.Comma = is_comma
+is_counted counted.Point = is_point
+is_counted counted.Integer = is_integer
+is_counted counted.SoftSign = is_soft_sign
+is_counted counted.Comparison = is_comparison
 
 -- how many tokens are of such a kind
 abbrev pub count_of : (TokenKind → Bool) → List Token → ℕ

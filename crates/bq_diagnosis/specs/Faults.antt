@@ -20,7 +20,7 @@ use Rattle.bq_hints.specs.declared.candidates.TheConstants.{ALL}
 use Rattle.bq_diagnosis.specs.declared.fault.Asks.{Asks}
 use Rattle.bq_diagnosis.specs.declared.fault.Asks.TheVariants as asks
 use Rattle.bq_diagnosis.specs.declared.fault.Fault.{Fault}
-use Rattle.bq_diagnosis.specs.declared.fault.Fault.TheVariants.{LineTooLong, Syntax, Limit, DuplicateStream, DuplicateColumn, DuplicateQuery, TooManyStreams, TooManyQueries, NoStream, NotInFrom, NoColumn, SelfJoin, NoQuery, Locked, LockTwice, LockNoStream, NoLock, RowKey, RowName, RowStream, Arity, Value, Domain}
+use Rattle.bq_diagnosis.specs.declared.fault.Fault.TheVariants.{LineTooLong, Syntax, Limit, DuplicateStream, DuplicateColumn, DuplicateQuery, TooManyStreams, TooManyQueries, NoStream, NotInFrom, NoColumn, SelfJoin, NoQuery, LockTwice, LockNoStream, NoLock, RowKey, RowName, RowStream, Arity, Value, Domain}
 use Rattle.bq_diagnosis.specs.FaultWords.{word_of}
 use Rattle.bq_diagnosis.specs.Asked.{IsAsked, IsStatementAsked, statement_asked, is_live}
 use Rattle.bq_hints.specs.Candidates.{AreNext}

@@ -8,9 +8,8 @@ ghost use Rattle.std.specs.List.{list_any};
 ghost use Rattle.bq_parser.specs.Limits.{limit_of, number_of_different};
 ghost use Rattle.bq_parser.specs.declared.tree.Statement.{Statement};
 ghost use Rattle.bq_parser.specs.Syntax.{IsStatement};
-ghost use Rattle.bq_diagnosis.specs.Counted as counted;
+ghost use Rattle.bq_diagnosis.specs.Counted as counts;
 ghost use Rattle.bq_diagnosis.specs.Counted.{count_of, selected_number, from_number, integer_at, integer_with, integers_at, long_bytes, found_by};
-ghost use Rattle.bq_diagnosis.specs.Marks.{is_point};
 ghost use Rattle.bq_diagnosis.specs.Passed.{found_in};
 
 use crate::compared::different_columns;
@@ -20,97 +19,52 @@ use bq_lexer::{Token, TokenKind, lex};
 use bq_parser::What;
 use bq_text::read_i64;
 
-// Whether a token is a comma.
-fn is_comma(kind: TokenKind) -> bool
-    ensures { result ≡ counted.is_comma kind }
-{
-    matches!(kind, TokenKind::Comma)
+/// What tokens are counted.
+#[derive(Clone, Copy)]
+pub enum Counted {
+    Comma,
+    Point,
+    Integer,
+    /// The sign of a soft comparison.
+    SoftSign,
+    /// The sign of any comparison.
+    Comparison,
 }
 
-// Whether a token is an integer.
-fn is_integer(kind: TokenKind) -> bool
-    ensures { result ≡ counted.is_integer kind }
+// Whether a token is one of those that are counted.
+fn is_counted(counted: Counted, kind: TokenKind) -> bool
+    ensures { result ≡ counts.is_counted counted kind }
 {
-    matches!(kind, TokenKind::Integer)
+    match counted {
+        Counted::Comma => matches!(kind, TokenKind::Comma),
+        Counted::Point => is_point(kind),
+        Counted::Integer => matches!(kind, TokenKind::Integer),
+        Counted::SoftSign => matches!(
+            kind,
+            TokenKind::LessEqual | TokenKind::GreaterEqual | TokenKind::Unequal
+        ),
+        Counted::Comparison => matches!(
+            kind,
+            TokenKind::Less
+                | TokenKind::Equal
+                | TokenKind::Greater
+                | TokenKind::LessEqual
+                | TokenKind::GreaterEqual
+                | TokenKind::Unequal
+        ),
+    }
 }
 
-// Whether a token is the sign of a soft comparison.
-fn is_soft_sign(kind: TokenKind) -> bool
-    ensures { result ≡ counted.is_soft_sign kind }
-{
-    matches!(
-        kind,
-        TokenKind::LessEqual | TokenKind::GreaterEqual | TokenKind::Unequal
-    )
-}
-
-// Whether a token is the sign of a comparison.
-fn is_comparison(kind: TokenKind) -> bool
-    ensures { result ≡ counted.is_comparison kind }
-{
-    matches!(
-        kind,
-        TokenKind::Less
-            | TokenKind::Equal
-            | TokenKind::Greater
-            | TokenKind::LessEqual
-            | TokenKind::GreaterEqual
-            | TokenKind::Unequal
-    )
-}
-
-// How many commas there are.
+// How many there are.
 #[tactic(auto, using(crate::proofs::Counting::few))]
-fn commas(tokens: &[Token]) -> u16
+fn count(counted: Counted, tokens: &[Token]) -> u16
     requires { length tokens.now ≤ 1024 }
-    ensures number { result ≡ count_of counted.is_comma tokens.now }
-    ensures few { result ≤ 1024 }
-{
-    tokens.iter().filter(|token| is_comma(token.kind)).count() as u16
-}
-
-// How many points there are.
-#[tactic(auto, using(crate::proofs::Counting::few))]
-fn points(tokens: &[Token]) -> u16
-    requires { length tokens.now ≤ 1024 }
-    ensures number { result ≡ count_of is_point tokens.now }
-    ensures few { result ≤ 1024 }
-{
-    tokens.iter().filter(|token| is_point(token.kind)).count() as u16
-}
-
-// How many integers there are.
-#[tactic(auto, using(crate::proofs::Counting::few))]
-fn integers(tokens: &[Token]) -> u16
-    requires { length tokens.now ≤ 1024 }
-    ensures number { result ≡ count_of counted.is_integer tokens.now }
-    ensures few { result ≤ 1024 }
-{
-    tokens.iter().filter(|token| is_integer(token.kind)).count() as u16
-}
-
-// How many signs of soft comparisons there are.
-#[tactic(auto, using(crate::proofs::Counting::few))]
-fn soft_signs(tokens: &[Token]) -> u16
-    requires { length tokens.now ≤ 1024 }
-    ensures { result ≡ count_of counted.is_soft_sign tokens.now }
-{
-    tokens
-        .iter()
-        .filter(|token| is_soft_sign(token.kind))
-        .count() as u16
-}
-
-// How many comparisons there are.
-#[tactic(auto, using(crate::proofs::Counting::few))]
-fn comparisons(tokens: &[Token]) -> u16
-    requires { length tokens.now ≤ 1024 }
-    ensures number { result ≡ count_of counted.is_comparison tokens.now }
+    ensures number { result ≡ count_of (counts.is_counted counted) tokens.now }
     ensures few { result ≤ 1024 }
 {
     tokens
         .iter()
-        .filter(|token| is_comparison(token.kind))
+        .filter(|token| is_counted(counted, token.kind))
         .count() as u16
 }
 
@@ -119,7 +73,9 @@ fn selected(tokens: &[Token]) -> u16
     requires { length tokens.now ≤ 1024 }
     ensures { result ≡ selected_number tokens.now }
 {
-    (points(tokens) + integers(tokens)).saturating_sub(2 * comparisons(tokens))
+    (count(Counted::Point, tokens) + count(Counted::Integer, tokens)).saturating_sub(
+        2 * count(Counted::Comparison, tokens),
+    )
 }
 
 // How many streams FROM names.
@@ -127,7 +83,7 @@ fn from_streams(tokens: &[Token]) -> u16
     requires { length tokens.now ≤ 1024 }
     ensures { result ≡ from_number tokens.now }
 {
-    (commas(tokens) + 2).saturating_sub(selected(tokens))
+    (count(Counted::Comma, tokens) + 2).saturating_sub(selected(tokens))
 }
 
 // The integer that a token is, 0 where it has more than 64 bits.
@@ -143,7 +99,7 @@ fn put_value(values: &mut ArrayVec<i64, 1024>, line: &[u8], token: &Token)
     ensures items { values.new.items ≡ values.old.items ++ integer_with line.now token.now }
     ensures short { length values.new.items ≤ length values.old.items + 1 }
 {
-    if is_integer(token.kind) {
+    if is_counted(Counted::Integer, token.kind) {
         values.push(value_at(line, token));
     }
 }
@@ -216,15 +172,15 @@ fn number_found(what: What, line: &[u8], tokens: &[Token]) -> Option<u16>
 {
     match what {
         What::Name => long_word(tokens),
-        What::Columns => Some(commas(tokens) + 1),
+        What::Columns => Some(count(Counted::Comma, tokens) + 1),
         What::Select => Some(selected(tokens)),
         What::From => Some(from_streams(tokens)),
-        What::Atoms => Some(comparisons(tokens)),
-        What::Soft => Some(soft_signs(tokens)),
+        What::Atoms => Some(count(Counted::Comparison, tokens)),
+        What::Soft => Some(count(Counted::SoftSign, tokens)),
         What::Attrs => Some(different_columns(line, tokens)),
         What::Consts => Some(different_values(line, tokens)),
-        What::Tuple => Some(integers(tokens)),
-        What::Streams => Some(commas(tokens) + 1),
+        What::Tuple => Some(count(Counted::Integer, tokens)),
+        What::Streams => Some(count(Counted::Comma, tokens) + 1),
         What::Value | What::Domain => None,
     }
 }

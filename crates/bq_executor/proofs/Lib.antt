@@ -9,6 +9,7 @@ pub mod Inserting
 pub mod PartCells
 pub mod Named
 pub mod Answered
+mod AccessPaths
 pub mod PlainRows
 pub mod RowAnswers
 pub mod RowCells

@@ -1,7 +1,7 @@
 -- What a filter without DISTINCT does to a row.
 use Rattle.std.proofs.Common.{◌≡◌, ◌+◌, ◌&&◌, cond, length, Bool, true, false, ℤ, List, [], ◌∷◌, map, refl, sym, ap, ◌∙◌, subst, Option, Some, None}
 use Rattle.std.specs.List.{list_all}
-use Rattle.std.specs.Option.{option_to_list, IfSome}
+use Rattle.std.specs.Option.{option_to_list}
 use Rattle.bq_model.specs.declared.plan.Plan.{Plan}
 use Rattle.bq_model.specs.declared.plan.Plan.TheVariants as plan
 use Rattle.bq_model.specs.Query.{QueryValue}
@@ -66,10 +66,6 @@ plain_entries q p prefilter f filters is read r es =
 filter_taken : (q : QueryValue) (p : Plan) (e : Extent) (r : Arrival) (pool : PoolValue) → p ≡ plan.Filter → IsPlanReady q p pool e → HasTaken q (parts_of p) e r (length (parts_of p)) pool pool
 filter_taken q plan.Filter e r pool is ready = taken_start q [] e r pool ready
 filter_taken q (plan.Parts parts numbers) e r pool is ready = absurd cc
-
--- where the filter is known
-pub plain_at : (q : QueryValue) (p : Plan) (prefilter : Prefilter) (o : Option PlainFilter) (f : PlainFilter) → o ≡ Some f → IfSome o (IsPlainFilter q p prefilter) → IsPlainFilter q p prefilter f
-plain_at q p prefilter o f is known = subst (λ (x : Option PlainFilter). IfSome x (IsPlainFilter q p prefilter)) is known
 
 -- the executor takes a row
 module _ (e : ExecutorValue) (sound : IsSound e) (pool : PoolValue) (ready : IsReady e pool) (r : Arrival) (prefilter : Prefilter) (f : PlainFilter)

@@ -1,4 +1,5 @@
 pub mod Executor
+pub mod Access
 pub mod Standing
 pub mod Runs
 pub mod Written

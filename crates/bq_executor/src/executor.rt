@@ -20,6 +20,7 @@ ghost use Rattle.bq_filter.specs.Prefilter.{IsRefused};
 ghost use Rattle.bq_executor.specs.Passing.{IsBoxFor};
 ghost use Rattle.bq_executor.specs.Written.{answer_lines};
 
+use crate::access::{Access, access_of};
 use crate::filter::plain_filter_row;
 use crate::join::Scratch;
 use crate::output::put_waiting;
@@ -27,8 +28,7 @@ use crate::row::{Arrived, QueryAt, apply_row, meet_by_cells};
 use crate::two_cells::answer_anew;
 use bq_answers::Answers;
 use bq_candidates::QueryBox;
-use bq_direct::{DirectLookups, direct_lookups};
-use bq_filter::{PlainFilter, Prefilter, plain_filter_of, prefilter_of};
+use bq_filter::{Prefilter, prefilter_of};
 use bq_index::{PreparedPlan, prepare_all};
 use bq_io::{Sink, WriteFault};
 use bq_loading::{cell_to_load, fill, put_printed};
@@ -44,13 +44,12 @@ use std::sync::ledger::Ledger;
 pub struct Executor {
     given: u64,
     prefilter: Prefilter,
-    plain_filter: Option<PlainFilter>,
+    access: Access,
     table: Answers,
     query: Query,
     shared: bool,
     plan: Plan,
     prepared: PreparedPlan,
-    direct: DirectLookups,
     saturation: Saturation,
     extent: Extent,
     scratch: Scratch,
@@ -58,18 +57,16 @@ pub struct Executor {
 
 impl Model for Executor {
     ghost use Rattle.bq_model.specs.Numbers.{parts_of};
-    ghost use Rattle.bq_direct.specs.Direct.{AreDirect};
+    ghost use Rattle.bq_executor.specs.Access.{IsAccess};
     ghost use Rattle.bq_executor.specs.Executor.{ExecutorValue, IsSound};
     ghost use Rattle.bq_index.specs.Prepared.{IsPreparedPlan};
     ghost use Rattle.bq_filter.specs.Prefilter.{IsPrefilter};
-    ghost use Rattle.bq_filter.specs.PlainFilter.{IsPlainFilter};
-    ghost use Rattle.std.specs.Prelude.{IfSome};
 
     ghost Value = { ExecutorValue };
 
     ghost view = { λ e. record { query = e.query; shared = e.shared; plan = e.plan; extent = e.extent; given = e.given; table = e.table; saturation = e.saturation } };
 
-    ghost invariant = { λ e. IsSound (record { query = e.query; shared = e.shared; plan = e.plan; extent = e.extent; given = e.given; table = e.table; saturation = e.saturation }) × IsPreparedPlan e.query (parts_of e.plan) e.prepared × IsPrefilter e.query e.plan e.prefilter × AreDirect e.query (parts_of e.plan) e.direct × IfSome e.plain_filter (IsPlainFilter e.query e.plan e.prefilter) };
+    ghost invariant = { λ e. IsSound (record { query = e.query; shared = e.shared; plan = e.plan; extent = e.extent; given = e.given; table = e.table; saturation = e.saturation }) × IsPreparedPlan e.query (parts_of e.plan) e.prepared × IsPrefilter e.query e.plan e.prefilter × IsAccess e.query e.plan e.prefilter e.access };
 }
 
 // For how many answers a query with this plan has room.
@@ -126,20 +123,18 @@ impl Executor {
             Err(error) => return Err((extent, error)),
         };
         let prefilter = prefilter_of(&query, &plan);
-        let plain_filter = plain_filter_of(&query, &plan, &prefilter);
-        let direct = direct_lookups(&query, &plan, &prepared);
+        let access = access_of(&query, &plan, &prefilter, &prepared);
         let capacity = most_answers(&plan);
         match Answers::new(alloc, capacity, width) {
             Ok(table) => Ok(Executor {
                 given: 0,
                 prefilter,
-                plain_filter,
+                access,
                 table,
                 query,
                 shared,
                 plan,
                 prepared,
-                direct,
                 saturation: Saturation::All,
                 extent,
                 scratch: Scratch::new(),
@@ -164,18 +159,15 @@ impl Executor {
         let _waits = self.apply(false, pool, stream, row, steps);
     }
 
-    // Whether a row is to be taken up: one that is not is answered nothing, and no cell takes it.
-    fn passes(&self, stream: u8, row: &Row) -> bool
-        ensures { result ≡ false → IsRefused self.now.query self.now.plan (arrival stream row.now.items) }
+    // Whether a row is refused, and nothing waits that would have to be given up: it is but counted.
+    fn is_skipped(&self, stream: u8, row: &Row) -> bool
+        ensures refused { result ≡ true → IsRefused self.now.query self.now.plan (arrival stream row.now.items) }
+        ensures none { result ≡ true → waiting_entries self.now.table.entries ≡ [] }
     {
-        self.prefilter.passes(stream, row)
-    }
-
-    // Whether an answer waits, which is given up with the next row.
-    fn has_waiting(&self) -> bool
-        ensures { result ≡ false → waiting_entries self.now.table.entries ≡ [] }
-    {
-        waits_in(&self.table)
+        if self.prefilter.passes(stream, row) {
+            return false;
+        }
+        !waits_in(&self.table)
     }
 
     /// Takes a row as `row` does. Where it says no, no answer waits; where it says yes, some may. The prefilter is not asked of a row of which
@@ -195,68 +187,22 @@ impl Executor {
         ensures none { result ≡ false → waiting_in self.new ≡ [] }
         ensures steps { KeepsToWork self.old (arrival stream row.now.items) steps.old steps.new }
     {
-        if is_within {
-            return self.apply_passed(pool, stream, row, steps);
-        }
-        if let Some(plain_filter) = &self.plain_filter {
-            self.given += 1;
-            return plain_filter_row(&self.prefilter, plain_filter, stream, row, &mut self.table);
-        }
-        self.apply_asked(pool, stream, row, steps)
-    }
-
-    // Takes a row as `apply` does, whatever the query, and asks the prefilter. It is not inlined, so that a row of a filter pays nothing for it.
-    #[inline(never)]
-    fn apply_asked<L: Ledger>(
-        &mut self,
-        pool: &mut Pool,
-        stream: u8,
-        row: &Row,
-        steps: &mut Steps<L>,
-    ) -> bool
-        requires ready { IsReady self.old pool.old }
-        requires keeps { RowKeeps self.old.query (arrival stream row.now.items) }
-        ensures took { TakesRow self.old pool.old (arrival stream row.now.items) self.new pool.new }
-        ensures none { result ≡ false → waiting_in self.new ≡ [] }
-        ensures steps { KeepsToWork self.old (arrival stream row.now.items) steps.old steps.new }
-    {
-        if self.passes(stream, row) {
-            return self.apply_passed(pool, stream, row, steps);
-        }
-        if self.has_waiting() {
-            return self.apply_filtered(false, pool, stream, row, steps);
-        }
-        self.given += 1;
-        false
-    }
-
-    // Takes a row as `apply` does, without asking the prefilter: by two cells, where one column of it tells them.
-    #[inline(always)]
-    fn apply_passed<L: Ledger>(
-        &mut self,
-        pool: &mut Pool,
-        stream: u8,
-        row: &Row,
-        steps: &mut Steps<L>,
-    ) -> bool
-        requires ready { IsReady self.old pool.old }
-        requires keeps { RowKeeps self.old.query (arrival stream row.now.items) }
-        ensures took { TakesRow self.old pool.old (arrival stream row.now.items) self.new pool.new }
-        ensures none { result ≡ false → waiting_in self.new ≡ [] }
-        ensures steps { KeepsToWork self.old (arrival stream row.now.items) steps.old steps.new }
-    {
-        if self.direct.of_stream(stream).is_some() {
-            self.apply_by_cells(pool, stream, row, steps)
-        } else {
-            self.apply_filtered(true, pool, stream, row, steps)
+        match &self.access {
+            Access::Filter(filter) => {
+                self.given += 1;
+                plain_filter_row(&self.prefilter, filter, stream, row, &mut self.table)
+            }
+            Access::PointLookup(_) => self.apply_by_cells(is_within, pool, stream, row, steps),
+            Access::Plan => self.apply_by_plan(is_within, pool, stream, row, steps),
         }
     }
 
-    // Takes a row as `apply` does, by two cells where one column of it tells them. It is not inlined, and is told apart from other rows before
-    // it is called, so that each way keeps on the stack what it needs alone.
+    // Takes a row as `apply` does, by two cells where one column of it tells them. It is not inlined, so that each way keeps on the stack
+    // what it needs alone.
     #[inline(never)]
     fn apply_by_cells<L: Ledger>(
         &mut self,
+        is_within: bool,
         pool: &mut Pool,
         stream: u8,
         row: &Row,
@@ -268,8 +214,8 @@ impl Executor {
         ensures none { result ≡ false → waiting_in self.new ≡ [] }
         ensures steps { KeepsToWork self.old (arrival stream row.now.items) steps.old steps.new }
     {
-        let Some(direct) = self.direct.of_stream(stream) else {
-            return self.apply_filtered(true, pool, stream, row, steps);
+        let Some(direct) = self.access.lookup_of(stream) else {
+            return self.apply_by_plan(is_within, pool, stream, row, steps);
         };
         self.given += 1;
         let query = QueryAt {
@@ -291,27 +237,30 @@ impl Executor {
         )
     }
 
-    // Takes a row as `apply` does, of which it is known whether it passes the prefilter. It is not inlined, and the way to it is laid aside,
-    // so that a row that is refused pays nothing for it.
+    // Takes a row as `apply` does, whatever the query. It is not inlined, and the way to it is laid aside, so that a row of a filter, and one
+    // that is taken by two cells, pay nothing for it.
     #[cold]
     #[inline(never)]
-    fn apply_filtered<L: Ledger>(
+    fn apply_by_plan<L: Ledger>(
         &mut self,
-        passes: bool,
+        is_within: bool,
         pool: &mut Pool,
         stream: u8,
         row: &Row,
         steps: &mut Steps<L>,
     ) -> bool
-        requires prefilter { passes ≡ false → IsRefused self.old.query self.old.plan (arrival stream row.now.items) }
         requires ready { IsReady self.old pool.old }
         requires keeps { RowKeeps self.old.query (arrival stream row.now.items) }
         ensures took { TakesRow self.old pool.old (arrival stream row.now.items) self.new pool.new }
         ensures none { result ≡ false → waiting_in self.new ≡ [] }
         ensures steps { KeepsToWork self.old (arrival stream row.now.items) steps.old steps.new }
     {
+        if !is_within && self.is_skipped(stream, row) {
+            self.given += 1;
+            return false;
+        }
         self.look_where_loaded(pool, stream, steps);
-        self.apply_known(passes, pool, stream, row, steps)
+        self.apply_known(pool, stream, row, steps)
     }
 
     // Looks at cells as `look_on` does, where it is not known whether all are saturated.
@@ -346,17 +295,15 @@ impl Executor {
         self.saturation = look_beside_row(pool, &all, stream, cursor, room, tuple, steps);
     }
 
-    // Takes a row as `apply_filtered` does, with what is known of the cells.
+    // Takes a row by the plan, with what is known of the cells.
     #[inline(always)]
     fn apply_known<L: Ledger>(
         &mut self,
-        passes: bool,
         pool: &mut Pool,
         stream: u8,
         row: &Row,
         steps: &mut Steps<L>,
     ) -> bool
-        requires prefilter { passes ≡ false → IsRefused self.old.query self.old.plan (arrival stream row.now.items) }
         requires ready { IsReady self.old pool.old }
         requires keeps { RowKeeps self.old.query (arrival stream row.now.items) }
         ensures took { TakesRow self.old pool.old (arrival stream row.now.items) self.new pool.new }
@@ -375,7 +322,6 @@ impl Executor {
         };
         let arrived = Arrived { stream, row };
         apply_row(
-            passes,
             pool,
             &query,
             &arrived,
@@ -498,7 +444,7 @@ impl Executor {
         ensures { IsBoxFor self.now.query self.now.plan stream result }
     {
         match self.prefilter.box_for(stream) {
-            Some(own) => Some(own.with_asked(self.plain_filter.is_some())),
+            Some(own) => Some(own.with_asked(self.access.is_filter())),
             None => None,
         }
     }
@@ -573,13 +519,12 @@ impl Executor {
         let Executor {
             given: _,
             prefilter: _prefilter,
-            plain_filter: _plain_filter,
+            access: _access,
             table: _table,
             query: _query,
             shared: _,
             plan: _plan,
             prepared: _prepared,
-            direct: _direct,
             saturation: _,
             extent,
             scratch: _scratch,

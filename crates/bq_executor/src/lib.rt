@@ -14,6 +14,7 @@
 //! at a time, each of which is taken or refused; then it goes on as the other would. This takes no memory either.
 #![tactic(auto)]
 
+mod access;
 mod executor;
 mod filter;
 mod join;

@@ -13,7 +13,6 @@ ghost use Rattle.bq_executor.specs.Reads.{row_reads};
 ghost use Rattle.bq_executor.specs.CellSteps.{answered_by, HasTaken, IsPlanReady, AnswersNothingNew};
 ghost use Rattle.bq_direct.specs.Direct.{IsDirect};
 ghost use Rattle.bq_index.specs.Prepared.{IsPreparedPlan};
-ghost use Rattle.bq_filter.specs.Prefilter.{IsRefused};
 
 use crate::filter::filter_row;
 use crate::join::Scratch;
@@ -62,45 +61,6 @@ fn place_of(from: &[u8], stream: u8) -> Option<u8>
     }
 }
 
-// Takes a row that passed the prefilter.
-fn apply_by_plan<L: Ledger>(
-    pool: &mut Pool,
-    query: &QueryAt<'_>,
-    arrived: &Arrived<'_>,
-    scratch: &mut Scratch,
-    table: &mut Answers,
-    steps: &mut Steps<L>,
-)
-    requires ready { IsPlanReady query.now.q.now query.now.plan.now pool.old query.now.extent.now }
-    requires prepared { IsPreparedPlan query.now.q.now (parts_of query.now.plan.now) query.now.prepared.now }
-    requires known { query.now.known ≡ true → AnswersNothingNew query.now.q.now (parts_of query.now.plan.now) (read_from (cells_of pool.old query.now.extent.now)) table.old.entries }
-    requires room { HaveRoom query.now.q.now.distinct (answered_by query.now.q.now query.now.plan.now (read_from (cells_of pool.old query.now.extent.now)) (arrival arrived.now.stream arrived.now.row.now.items)) table.old }
-    ensures table { table.new ≡ with_entries table.old (with_all query.now.q.now.distinct (answered_by query.now.q.now query.now.plan.now (read_from (cells_of pool.old query.now.extent.now)) (arrival arrived.now.stream arrived.now.row.now.items)) table.old.entries) }
-    ensures pool { HasTaken query.now.q.now (parts_of query.now.plan.now) query.now.extent.now (arrival arrived.now.stream arrived.now.row.now.items) (length (parts_of query.now.plan.now)) pool.old pool.new }
-    ensures reads { steps.new.reads ≤ steps.old.reads + row_reads (parts_of query.now.plan.now) + length (parts_of query.now.plan.now) }
-    ensures writes { steps.new.writes ≤ steps.old.writes + length (parts_of query.now.plan.now) }
-    ensures alone { query.now.plan.now ≡ plans.Filter → steps.new ≡ steps.old }
-    ensures outside { list_any (λ s. arrived.now.stream == s) query.now.q.now.from ≡ false → steps.new ≡ steps.old }
-{
-    let q = query.q;
-    match query.plan {
-        Plan::Filter => filter_row(q, arrived.stream, arrived.row, &mut scratch.tuple, table),
-        Plan::Parts { parts, .. } => match place_of(q.from(), arrived.stream) {
-            Some(pos) => {
-                let all = PartsAt {
-                    q,
-                    parts,
-                    prepared: query.prepared,
-                    extent: query.extent,
-                    known: query.known,
-                };
-                apply_to_parts(pool, &all, pos, arrived.row, scratch, table, steps);
-            }
-            None => {}
-        },
-    }
-}
-
 /// Takes a row of which one column tells the cells that it meets into its own one, and returns what the other holds, which tells the answers.
 #[inline(always)]
 pub fn meet_by_cells<L: Ledger>(
@@ -136,9 +96,8 @@ pub fn meet_by_cells<L: Ledger>(
 }
 
 /// Takes a row by the plan of a query: what it answers comes to wait in the table, and the cells take the row. A filter has
-/// no cells, and a row of a stream outside FROM, or one that did not pass the prefilter, does nothing.
+/// no cells, and a row of a stream outside FROM does nothing.
 pub fn apply_row<L: Ledger>(
-    passes: bool,
     pool: &mut Pool,
     query: &QueryAt<'_>,
     arrived: &Arrived<'_>,
@@ -146,7 +105,6 @@ pub fn apply_row<L: Ledger>(
     table: &mut Answers,
     steps: &mut Steps<L>,
 )
-    requires prefilter { passes ≡ false → IsRefused query.now.q.now query.now.plan.now (arrival arrived.now.stream arrived.now.row.now.items) }
     requires ready { IsPlanReady query.now.q.now query.now.plan.now pool.old query.now.extent.now }
     requires prepared { IsPreparedPlan query.now.q.now (parts_of query.now.plan.now) query.now.prepared.now }
     requires known { query.now.known ≡ true → AnswersNothingNew query.now.q.now (parts_of query.now.plan.now) (read_from (cells_of pool.old query.now.extent.now)) table.old.entries }
@@ -158,8 +116,21 @@ pub fn apply_row<L: Ledger>(
     ensures alone { query.now.plan.now ≡ plans.Filter → steps.new ≡ steps.old }
     ensures outside { list_any (λ s. arrived.now.stream == s) query.now.q.now.from ≡ false → steps.new ≡ steps.old }
 {
-    if !passes {
-        return;
+    let q = query.q;
+    match query.plan {
+        Plan::Filter => filter_row(q, arrived.stream, arrived.row, &mut scratch.tuple, table),
+        Plan::Parts { parts, .. } => match place_of(q.from(), arrived.stream) {
+            Some(pos) => {
+                let all = PartsAt {
+                    q,
+                    parts,
+                    prepared: query.prepared,
+                    extent: query.extent,
+                    known: query.known,
+                };
+                apply_to_parts(pool, &all, pos, arrived.row, scratch, table, steps);
+            }
+            None => {}
+        },
     }
-    apply_by_plan(pool, query, arrived, scratch, table, steps);
 }

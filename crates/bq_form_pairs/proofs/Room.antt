@@ -1,5 +1,5 @@
 -- What the loops over comparisons, domains and integers need.
-use Rattle.std.proofs.Common.{◌≡◌, ℕ, ◌≤◌, ◌<◌, ◌+◌, ℤ, int_lt, Bool, true, false, not, ◌||◌, cond, IsTrue, List, [], ◌∷◌, ◌++◌, filter, length, take, get_or, slice_index_or, append-nil, length-append, Contains, Option, None, MatchOption, sym, ◌∙◌, ap, subst, arith}
+use Rattle.std.proofs.Common.{◌≡◌, ℕ, ◌≤◌, ◌<◌, ◌+◌, ℤ, int_lt, Bool, true, false, cond, List, [], ◌∷◌, ◌++◌, filter, length, take, get_or, slice_index_or, append-nil, length-append, Contains, Option, None, MatchOption, sym, ◌∙◌, ap, subst, arith}
 use Rattle.std.specs.List.{flat_map}
 use Rattle.std.proofs.lemmas.List.{take_more}
 use Rattle.std.proofs.lemmas.List.Concat.{flat_map-append}
@@ -12,16 +12,11 @@ use Rattle.bq_model.specs.declared.atom.Element.{Element}
 use Rattle.bq_model.specs.declared.atom.Element.TheVariants as element
 use Rattle.bq_model.specs.declared.atom.Op.{Op}
 use Rattle.bq_model.specs.Query.{QueryValue, with_new, attrs_of, consts_of, IsShort, IsDomain, IsWithinLimits}
-use Rattle.bq_model.specs.Groups.{same_group, is_of_group, in_one_group}
+use Rattle.bq_model.specs.Groups.{same_group}
 use Rattle.bq_model.proofs.Has.{Has, Has-from_contains, Contains-from_has}
 use Rattle.bq_model.proofs.Elements.{HasElement, SidesIn, sides_in}
 use Rattle.bq_form_pairs.specs.Outer.{flipped, outer_of, outer_in, is_short, ascending_once}
 use Rattle.bq_form_pairs.specs.Listed.{IsShortSide, IsWrittenShort}
-
--- of a compact query two columns are in one group where the same column stands for both
-pub joined : (q : QueryValue) (a b : Attr) → IsTrue q.compact → in_one_group q a (element.Attr b) ≡ same_group q.atoms a b
-unfolding is_of_group
-joined q a b h = ap (λ c. not c || same_group q.atoms a b) h
 
 short_side : (q : QueryValue) → IsWithinLimits q → (e : Element) → HasElement (attrs_of q.atoms) (consts_of q.atoms) e → IsShortSide e
 short_side q w (element.Attr a) h = tt

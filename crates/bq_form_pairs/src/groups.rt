@@ -3,14 +3,14 @@ ghost use Rattle.std.specs.Prelude.{◌≡◌, IsTrue};
 ghost use Rattle.bq_model.specs.Groups.{same_group};
 ghost use Rattle.bq_form_pairs.specs.Pairs.{are_beside};
 
-use bq_model::{Attr, Element, Query};
+use bq_model::{Attr, Query};
 
 /// Returns whether two columns of a compact query are of one group.
 pub fn are_joined(q: &Query, a: Attr, b: Attr) -> bool
     requires { IsTrue q.now.compact }
     ensures { result ≡ same_group q.now.atoms a b }
 {
-    q.in_one_group(a, Element::Attr(b))
+    q.are_of_one_group(a, b)
 }
 
 /// Returns whether two columns of a compact query are of one stream and of one group.

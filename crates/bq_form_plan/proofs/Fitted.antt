@@ -52,7 +52,7 @@ use Rattle.bq_form_plan.specs.Equated.{dims_of}
 use Rattle.bq_form_plan.specs.Ordered.{AreOrdered}
 use Rattle.bq_form_plan.specs.Own.{AreOwnStreams}
 use Rattle.bq_form_plan.specs.Placed.{cells_over, ArePlaced}
-use Rattle.bq_forms.specs.Fitting.{FitsWhole}
+use Rattle.bq_forms.specs.Fitting.{IsWithinAsOne}
 use Rattle.bq_form_plan.specs.declared.making.Made.{Made}
 use Rattle.bq_form_plan.specs.Fitting.{IsFitted}
 use Rattle.bq_form_plan.specs.Made.{of_one, capped_all, IsPlacedFrom, IsMade}
@@ -208,7 +208,7 @@ module _ (q : QueryValue) (w : IsWellFormed q) (p : WholePart) (is : IsWholePart
       working = k ∙ (λ i. capped (share (part_with (dims_in (a i)) (b i))))
 
   -- where the range of a dim lacks an end no plan fits
-  pub none_open : (a : Attr) → IsOpenDim q (form_of p) a → (other : PartPlan) → FitsWhole q other → ⊥
+  pub none_open : (a : Attr) → IsOpenDim q (form_of p) a → (other : PartPlan) → IsWithinAsOne q other → ⊥
   none_open a o other fits =
       let x : IsWholePartPlan q other = fits.plan in
       let form : AreOneForm q (form_of p) (form_with x.links x.keeps other.local) = one_whole_plan q (form_of p) (form_with x.links x.keeps other.local) is.plan x.plan in
@@ -217,7 +217,7 @@ module _ (q : QueryValue) (w : IsWellFormed q) (p : WholePart) (is : IsWholePart
       o.lacks r.dim.lo r.dim.hi (subst (λ a. IsRange (system q) a (range (Some r.dim.lo) (Some r.dim.hi))) (r.attr ∙ o.is) r.own)
 
 -- with numbers above a limit no plan fits
-pub too_large : (q : QueryValue) (m : Made) → IsMade q m → (first_above (of_one m.numbers) ≡ None → ⊥) → (other : PartPlan) → FitsWhole q other → ⊥
+pub too_large : (q : QueryValue) (m : Made) → IsMade q m → (first_above (of_one m.numbers) ≡ None → ⊥) → (other : PartPlan) → IsWithinAsOne q other → ⊥
 too_large q m is above other fits = above (ap first_above (is.numbers other fits.plan) ∙ first_capped (numbers_of q (other ∷ [])) ∙ fits.few)
 
 -- and with numbers within the limits what is made is the plan
@@ -255,7 +255,7 @@ cells_room streams placed n e c few =
     length_dims (s ∷ streams) = (let m = length_dims streams in omega (arith, m))
 
 -- a query that breaks a condition of the whole form has no plan of it
-pub none_broken : (q : QueryValue) → IsWellFormed q → (b : Break) → IsBroken q b → (other : PartPlan) → FitsWhole q other → ⊥
+pub none_broken : (q : QueryValue) → IsWellFormed q → (b : Break) → IsBroken q b → (other : PartPlan) → IsWithinAsOne q other → ⊥
 none_broken q w b broken other fits =
     let x : IsWholePartPlan q other = fits.plan in
     let same : broken.links ≡ x.links = one_list_of_links q broken.links x.links broken.are_links x.plan.links in
@@ -263,7 +263,7 @@ none_broken q w b broken other fits =
     b.condition b.attr (subst (λ z. WholeBreaks q z b.condition b.attr) same broken.first.0)
 
 -- nor has one whose system contradicts itself
-pub none_contradicting : (q : QueryValue) → IsWellFormed q → Contradicts q → (other : PartPlan) → FitsWhole q other → ⊥
+pub none_contradicting : (q : QueryValue) → IsWellFormed q → Contradicts q → (other : PartPlan) → IsWithinAsOne q other → ⊥
 none_contradicting q w none other fits =
     let x : IsWholePartPlan q other = fits.plan in
     contradictions_have_no_form q w none (form_with x.links x.keeps other.local) (plans_are_forms q (form_with x.links x.keeps other.local) x.plan)

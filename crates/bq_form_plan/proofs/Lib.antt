@@ -14,3 +14,4 @@ pub mod Listed
 pub mod Systems
 pub mod Rebased
 pub mod Told
+pub mod LessWork

@@ -4,10 +4,10 @@ use Rattle.bq_model.specs.declared.plan.PartPlan.{PartPlan}
 use Rattle.bq_model.specs.Query.{QueryValue}
 use Rattle.bq_model.specs.Plan.{Follow}
 use Rattle.bq_model.specs.Numbers.{numbers_of}
-use Rattle.bq_forms.specs.Fitting.{FitsWhole}
+use Rattle.bq_forms.specs.Fitting.{IsWithinAsOne}
 use Rattle.bq_form_plan.specs.declared.fitting.WholePlan.{WholePlan}
 
--- the plan of the whole form that fits, its boxes one after another from cell 0 on, with its numbers; or none where it does not fit
+-- the plan of the whole form that is within the limits, its boxes one after another from cell 0 on, with its numbers; or none where there is no such
 abbrev pub IsFitted : QueryValue → Option WholePlan → Type 0
-IsFitted q None = (part : PartPlan) → ¬ FitsWhole q part
-IsFitted q (Some p) = FitsWhole q p.part × Follow 0 (p.part ∷ []) × (p.numbers ≡ numbers_of q (p.part ∷ []))
+IsFitted q None = (part : PartPlan) → ¬ IsWithinAsOne q part
+IsFitted q (Some p) = IsWithinAsOne q p.part × Follow 0 (p.part ∷ []) × (p.numbers ≡ numbers_of q (p.part ∷ []))

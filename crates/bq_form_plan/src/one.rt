@@ -46,8 +46,8 @@ pub fn part_of(
     requires front { IsFrontOf q.now (length pairs.now) front.now }
     ensures { IfOk result (IsPartOr (part_query q.now front.now.signs.items)) }
 {
-    // Named for the proof alone: the system has a solution.
     let closed = closed_front(q, pairs, front);
+    // Named for the proof alone: the system has a solution.
     let _query = closed.query();
     match whole_over(alloc, &closed)? {
         Whole::Part(form) => made_or(alloc, &closed, &form),

@@ -1,5 +1,5 @@
 -- What a code does not tell of a part, and the list in which the conditions of all parts stand.
-use Rattle.std.proofs.Common.{◌≡◌, ◌≢◌, ℕ, ◌+◌, ◌<◌, ◌≤◌, nat_eq, ◌&&◌, Bool, true, false, not, ◌||◌, suc, ℤ, List, [], ◌∷◌, ◌++◌, take, drop, set, length, get_or, slice_get, Option, Some, All, inl, inr, refl, sym, ap, ap₂, subst, ◌∙◌, arith}
+use Rattle.std.proofs.Common.{◌≡◌, ◌≢◌, ℕ, ◌+◌, ◌<◌, ◌≤◌, nat_eq, ◌&&◌, Bool, true, false, not, ◌||◌, suc, ℤ, List, [], ◌∷◌, ◌++◌, ◌+ℤ◌, pos, take, drop, set, length, get_or, slice_get, Option, Some, All, inl, inr, refl, sym, ap, ap₂, subst, ◌∙◌, arith}
 use Rattle.std.specs.List.{list_all}
 use Rattle.std.proofs.lemmas.Bool.Decides.{nat_tests}
 use Rattle.std.proofs.lemmas.Int.{ints}
@@ -14,9 +14,11 @@ use Rattle.bq_model.specs.declared.part.Sign.{Sign}
 use Rattle.bq_model.specs.declared.plan.LocalCondition.{LocalCondition}
 use Rattle.bq_model.specs.declared.plan.PartPlan.{PartPlan}
 use Rattle.bq_model.specs.Query.{QueryValue, attr_eq}
-use Rattle.bq_model.specs.Parts.{pairs, is_within, sign_at, element_eq}
-use Rattle.bq_model.specs.Admission.{alone, meets_local, keeps_local}
-use Rattle.bq_laws.proofs.Tests.{attr_eq-is, not_both, true_or_false, nat_true}
+use Rattle.bq_model.specs.declared.atom.Op.{Op}
+use Rattle.bq_model.specs.Assignment.{value, compares}
+use Rattle.bq_model.specs.Parts.{pairs, is_within, sign, sign_at, element_eq}
+use Rattle.bq_model.specs.Admission.{alone, sign_eq, meets_local, keeps_local}
+use Rattle.bq_laws.proofs.Tests.{sign_eq-itself, attr_eq-is, not_both, true_or_false, nat_true}
 use Rattle.bq_synopsis.specs.declared.prepared.Prepared.{Prepared}
 use Rattle.bq_synopsis.specs.Preparing.{IsPrepared, keeps_pair, keeps_tests}
 use Rattle.bq_index.specs.declared.span.Span.{Span}
@@ -39,6 +41,13 @@ said_or_not v ps ss i p s t within pair sign says has =
     ∙ sym (get_or-map (sign_at (alone v)) ps i p s within)
     ∙ ap (λ (xs : List Sign). get_or xs i s) has
     ∙ sym sign)
+
+-- a condition that asks for a sign of a pair
+pub asks_sign : (p : Pair) (s : Sign) (o : Op) (t : LocalCondition) → ((x y : ℤ) → compares o x (y +ℤ pos 0) ≡ sign_eq (sign x y) s)
+    → t ≡ record { left = p.left; op = o; right = p.right; by = pos 0 } → SaysCondition p s t
+asks_sign p s o t means is =
+    subst (λ (u : LocalCondition). SaysCondition p s u) (sym is)
+    (λ v has. means (v p.left.column) (value p.right (alone v)) ∙ ap (λ (x : Sign). sign_eq x s) has ∙ sign_eq-itself s)
 
 and_true : (b : Bool) → (b && true) ≡ b
 and_true true = refl

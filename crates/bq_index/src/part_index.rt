@@ -286,9 +286,9 @@ impl PartIndex {
         are_met(row.as_slice(), conditions)
     }
 
-    // Where a row that has the code of a part stands in it, where the code does not tell all that the part asks. It stays out of the way of rows of which
-    // nothing is asked beside their code.
-    #[inline(never)]
+    // Where a row that has the code of a part stands in it, where the code does not tell all that the part asks. It is inlined: a call that takes the
+    // view of the row keeps it in memory for each row.
+    #[inline(always)]
     fn asked_placement(
         &self,
         coded: &CodedRow<'_>,

@@ -11,6 +11,7 @@ ghost use Rattle.bq_index.specs.PartIndex.{signs_at, code_after, AsksOnly};
 ghost use Rattle.bq_index.specs.Prepared.{ArePrepared};
 ghost use Rattle.bq_index.specs.Showing.{shown_signs, AreShown};
 ghost use Rattle.bq_index.specs.Remaining.{meets_any, AreRemaining};
+ghost use Rattle.bq_showing.specs.Showing.{SaysCondition};
 
 use crate::shifts::prepared_of;
 use crate::span::Span;
@@ -37,9 +38,37 @@ struct Signed<'a> {
     signs: &'a [Sign],
 }
 
-// Whether the signs of some pairs say that a condition holds.
+// Whether a condition asks for this sign of a pair, and for nothing else.
+#[tactic(auto, using(crate::proofs::RemainingLaws::asks_sign))]
+fn is_for_sign(pair: Pair, wanted: Sign, condition: LocalCondition) -> bool
+    ensures { result ≡ true → SaysCondition pair wanted condition }
+{
+    let asked = LocalCondition {
+        left: pair.left,
+        op: op_of(wanted),
+        right: pair.right,
+        by: 0,
+    };
+    is_same_condition(condition, asked)
+}
+
+// Whether a condition asks for the sign of one of some pairs.
 #[tactic(auto, using(crate::proofs::RemainingLaws::said_or_not))]
-fn is_said(signed: &Signed<'_>, condition: LocalCondition) -> bool
+fn is_for_one(signed: &Signed<'_>, condition: LocalCondition) -> bool
+    requires { length signed.now.signs.now ≡ length signed.now.pairs.now }
+    ensures { result ≡ true → (v : ℕ → ℤ) → signs_at v signed.now.pairs.now ≡ signed.now.signs.now → meets_local (alone v) condition ≡ true }
+{
+    'pairs: for (i, pair) in signed.pairs.iter().enumerate() {
+        if is_for_sign(*pair, signed.signs[i], condition) {
+            return true;
+        }
+    }
+    false
+}
+
+// Whether the sign of one of some pairs says that a condition holds.
+#[tactic(auto, using(crate::proofs::RemainingLaws::said_or_not))]
+fn is_said_by_one(signed: &Signed<'_>, condition: LocalCondition) -> bool
     requires { length signed.now.signs.now ≡ length signed.now.pairs.now }
     ensures { result ≡ true → (v : ℕ → ℤ) → signs_at v signed.now.pairs.now ≡ signed.now.signs.now → meets_local (alone v) condition ≡ true }
 {
@@ -49,6 +78,14 @@ fn is_said(signed: &Signed<'_>, condition: LocalCondition) -> bool
         }
     }
     false
+}
+
+// Whether the signs of some pairs say that a condition holds. Most conditions ask for the sign of one of them, which is found sooner than what a sign says.
+fn is_said(signed: &Signed<'_>, condition: LocalCondition) -> bool
+    requires { length signed.now.signs.now ≡ length signed.now.pairs.now }
+    ensures { result ≡ true → (v : ℕ → ℤ) → signs_at v signed.now.pairs.now ≡ signed.now.signs.now → meets_local (alone v) condition ≡ true }
+{
+    is_for_one(signed, condition) || is_said_by_one(signed, condition)
 }
 
 // The operator that says a sign.

@@ -143,12 +143,20 @@ fn candidates_at(q: &Query, parts: &PartPlans, place: u8) -> ArrayVec<Test, 254>
     list
 }
 
+// The sign that a part shows at a pair that may be tested: its own sign of the pair's number at once, or the one that its conditions show.
+fn sign_in(q: &Query, part: &PartPlan, place: u8, test: Test) -> Option<Sign> {
+    match test.number {
+        Some(i) => part.signs.as_slice().get(usize::from(i)).copied(),
+        None => shown_sign(q, part, place, test),
+    }
+}
+
 // How all parts show a sign at a pair, where they do.
 fn shown_by_all(q: &Query, parts: &PartPlans, place: u8, test: Test) -> Option<Shown> {
     let mut one: Option<Sign> = None;
     let mut differs = false;
     'parts: for k in 0..parts.len() {
-        let Some(sign) = shown_sign(q, parts.get(k), place, test) else {
+        let Some(sign) = sign_in(q, parts.get(k), place, test) else {
             return None;
         };
         match one {
@@ -295,7 +303,7 @@ fn is_condition_said(
         return true;
     }
     'tests: for test in tests {
-        let said = match shown_sign(q, part, place, *test) {
+        let said = match sign_in(q, part, place, *test) {
             Some(sign) => says_condition(test.pair, sign, condition),
             None => false,
         };

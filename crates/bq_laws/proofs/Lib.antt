@@ -53,9 +53,6 @@ pub mod WorkedPlans
 pub mod HotRoomsPlan
 pub mod SoftCases
 pub mod DomainCases
-pub mod CompactCases
-pub mod Alike
-pub mod Twofold
 pub mod DomainInstance
 pub mod SameBoxes
 pub mod SharedCells

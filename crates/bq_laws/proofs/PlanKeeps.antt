@@ -10,13 +10,12 @@ use Rattle.bq_model.specs.declared.part.Sign.{Sign}
 use Rattle.bq_model.specs.declared.plan.Link.{Link}
 use Rattle.bq_model.specs.declared.plan.PartPlan.{PartPlan}
 use Rattle.bq_model.specs.Query.{QueryValue, attrs_of, is_filter}
-use Rattle.bq_model.specs.Groups.{in_one_group}
 use Rattle.bq_model.specs.Assignment.{Assignment}
 use Rattle.bq_model.specs.Parts.{same_stream, InPart}
 use Rattle.bq_model.specs.Order.{IsBounded}
 use Rattle.bq_model.specs.Links.{IsEquality, IsMinRef, IsMaxRef, AreOneClass, AreTwoRefs, two_mins, two_maxes, both, HasTwoRefs}
 use Rattle.bq_model.specs.Violation as Violation
-use Rattle.bq_model.specs.Violation.{Breaks, Fails, Failure, IsViolation}
+use Rattle.bq_model.specs.Violation.{Breaks, IsViolation}
 use Rattle.bq_model.specs.Plan.{link}
 use Rattle.bq_laws.proofs.Tests.{and-left, and-right, all_at, true_or_false}
 use Rattle.bq_laws.proofs.Tables.{Bound}
@@ -31,7 +30,7 @@ module _ (q : QueryValue) (table : List (List Bound)) (ws : List Assignment) whe
 
   -- two links do not make two references of one stream
   abbrev pub one_ref : Attr → Attr → Bool
-  one_ref a b = not (same_stream a b) || bounded_by q table ws a || bounded_by q table ws b || (in_one_group q a (element.Attr b) && equal_by q table ws (element.Attr a) (element.Attr b))
+  one_ref a b = not (same_stream a b) || bounded_by q table ws a || bounded_by q table ws b || equal_by q table ws (element.Attr a) (element.Attr b)
 
   abbrev pub no_two : Attr → Attr → Bool
   no_two a b = not (same_stream a b) || bounded_by q table ws a || bounded_by q table ws b
@@ -101,12 +100,11 @@ module _ (q : QueryValue) (part : PartPlan) (ws : List Assignment) (inside : (w 
         (all_at (λ l. list_all (links_agree q t ws l) part.less.items) part.less.items (link x y) (with_distinct q.distinct _ _ d refs) i) j
 
     one-class : (a b : Attr) → Contains (attrs_of q.atoms) a → Contains (attrs_of q.atoms) b → a.stream ≡ b.stream
-        → (in_one_group q a (element.Attr b) && equal_by q t ws (element.Attr a) (element.Attr b)) ≡ true → AreOneClass q s a b
+        → equal_by q t ws (element.Attr a) (element.Attr b) ≡ true → AreOneClass q s a b
     one-class a b i j e h = record {
       named = inr (i, j);
       stream = e;
-      group = and-left _ _ h;
-      equal = equal-if q s ws inside (element.Attr a) (element.Attr b) (and-right (in_one_group q a (element.Attr b)) _ h);
+      equal = equal-if q s ws inside (element.Attr a) (element.Attr b) h;
     }
 
     no-two : (a b : Attr) → a.stream ≡ b.stream → AreTwoRefs q s a b → ⊥

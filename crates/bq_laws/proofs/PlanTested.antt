@@ -3,8 +3,6 @@ use Rattle.std.proofs.Common.{◌≡◌, ◌≢◌, ℕ, zero, suc, ◌<◌, ◌
 use Rattle.std.proofs.lemmas.Int.{ints}
 use Rattle.std.specs.Ordering.{int_eq}
 use Rattle.std.specs.List.{list_all, list_any}
-use Rattle.bq_model.proofs.OneGroup.{one_group_turned}
-use Rattle.bq_model.specs.Groups.{in_one_group}
 use Rattle.bq_model.proofs.Has.{Has, Has-from_contains, Contains-from_has, Has-map, Has-append_left, Has-append_right, Has-append_cases, Has-map_from}
 use Rattle.bq_model.proofs.Bounded.{unbounded_over_all, unbounded_under_all}
 use Rattle.bq_model.proofs.Local.{streams_differ}
@@ -102,39 +100,34 @@ module _ (q : QueryValue) (s : List Sign) (ws : List Assignment) (inside : (w : 
   redundant-if : (x y : Attr) → redundant_by q table ws x y ≡ true → IsRedundant q s x y
   redundant-if x y h = elim (three-or _ _ _ h) [
     | inl i ↦ (
-        let r = any_from (λ e. in_one_group q x e && (less_by q table ws (element.Attr x) e && less_by q table ws e (element.Attr y))) (elements_of q) i in
-        let t = and-right (in_one_group q x r.0) _ r.2 in
-        between r.0 record { named = element_of q r.0 r.1; group = and-left _ _ r.2 } (less-if (element.Attr x) r.0 (and-left _ _ t)) (less-if r.0 (element.Attr y) (and-right (less_by q table ws (element.Attr x) r.0) _ t)))
+        let r = any_from (λ e. less_by q table ws (element.Attr x) e && less_by q table ws e (element.Attr y)) (elements_of q) i in
+        let t = r.2 in
+        between r.0 (element_of q r.0 r.1) (less-if (element.Attr x) r.0 (and-left _ _ t)) (less-if r.0 (element.Attr y) (and-right (less_by q table ws (element.Attr x) r.0) _ t)))
     | inr j ↦ elim j [
       | inl i ↦ (
-          let r = any_from (λ k. in_one_group q x (element.Const k) && (equal_by q table ws (element.Attr x) (element.Const k) && less_by q table ws (element.Const k) (element.Attr y))) (consts_of q.atoms) i in
-          let t = and-right (in_one_group q x (element.Const r.0)) _ r.2 in
-          equal_left r.0 record { named = Contains-from_has _ r.0 r.1; group = and-left _ _ r.2 } (equal-if (element.Attr x) (element.Const r.0) (and-left _ _ t)) (less-if (element.Const r.0) (element.Attr y) (and-right (equal_by q table ws (element.Attr x) (element.Const r.0)) _ t)))
+          let r = any_from (λ k. equal_by q table ws (element.Attr x) (element.Const k) && less_by q table ws (element.Const k) (element.Attr y)) (consts_of q.atoms) i in
+          let t = r.2 in
+          equal_left r.0 (Contains-from_has _ r.0 r.1) (equal-if (element.Attr x) (element.Const r.0) (and-left _ _ t)) (less-if (element.Const r.0) (element.Attr y) (and-right (equal_by q table ws (element.Attr x) (element.Const r.0)) _ t)))
       | inr i ↦ (
-          let r = any_from (λ k. in_one_group q x (element.Const k) && (less_by q table ws (element.Attr x) (element.Const k) && equal_by q table ws (element.Const k) (element.Attr y))) (consts_of q.atoms) i in
-          let t = and-right (in_one_group q x (element.Const r.0)) _ r.2 in
-          equal_right r.0 record { named = Contains-from_has _ r.0 r.1; group = and-left _ _ r.2 } (less-if (element.Attr x) (element.Const r.0) (and-left _ _ t)) (equal-if (element.Const r.0) (element.Attr y) (and-right (less_by q table ws (element.Attr x) (element.Const r.0)) _ t)))
+          let r = any_from (λ k. less_by q table ws (element.Attr x) (element.Const k) && equal_by q table ws (element.Const k) (element.Attr y)) (consts_of q.atoms) i in
+          let t = r.2 in
+          equal_right r.0 (Contains-from_has _ r.0 r.1) (less-if (element.Attr x) (element.Const r.0) (and-left _ _ t)) (equal-if (element.Const r.0) (element.Attr y) (and-right (less_by q table ws (element.Attr x) (element.Const r.0)) _ t)))
     ]
   ]
 
-  -- what is of the group passes the rest of a test
-  grouped-then : (g b : Bool) → g ≡ true → (not g || b) ≡ true → b ≡ true
-  grouped-then true b e h = h
-  grouped-then false b e h = absurd cc
-
   needed-if : (x y : Attr) → needed_by q table ws x y ≡ true → ¬ IsRedundant q s x y
   needed-if x y h (between e i l m) =
-      elim (or-cases _ _ (grouped-then (in_one_group q x e) _ i.group (all_at (λ e. not (in_one_group q x e) || (not_less q table ws (element.Attr x) e || not_less q table ws e (element.Attr y))) (elements_of q) e (and-left _ _ h) (element_in q e i.named)))) [
+      elim (or-cases _ _ (all_at (λ e. not_less q table ws (element.Attr x) e || not_less q table ws e (element.Attr y)) (elements_of q) e (and-left _ _ h) (element_in q e i))) [
         | inl n ↦ no-less (element.Attr x) e n l
         | inr n ↦ no-less e (element.Attr y) n m
       ]
   needed-if x y h (equal_left k i e m) =
-      elim (or-cases _ _ (grouped-then (in_one_group q x (element.Const k)) _ i.group (all_at (λ k. not (in_one_group q x (element.Const k)) || (not_equal q table ws (element.Attr x) (element.Const k) || not_less q table ws (element.Const k) (element.Attr y))) (consts_of q.atoms) k (and-left _ _ (and-right (list_all (λ e. not (in_one_group q x e) || (not_less q table ws (element.Attr x) e || not_less q table ws e (element.Attr y))) (elements_of q)) _ h)) (Has-from_contains _ k i.named)))) [
+      elim (or-cases _ _ (all_at (λ k. not_equal q table ws (element.Attr x) (element.Const k) || not_less q table ws (element.Const k) (element.Attr y)) (consts_of q.atoms) k (and-left _ _ (and-right (list_all (λ e. not_less q table ws (element.Attr x) e || not_less q table ws e (element.Attr y)) (elements_of q)) _ h)) (Has-from_contains _ k i))) [
         | inl n ↦ no-equal (element.Attr x) (element.Const k) n e
         | inr n ↦ no-less (element.Const k) (element.Attr y) n m
       ]
   needed-if x y h (equal_right k i l e) =
-      elim (or-cases _ _ (grouped-then (in_one_group q x (element.Const k)) _ i.group (all_at (λ k. not (in_one_group q x (element.Const k)) || (not_less q table ws (element.Attr x) (element.Const k) || not_equal q table ws (element.Const k) (element.Attr y))) (consts_of q.atoms) k (and-right (list_all (λ k. not (in_one_group q x (element.Const k)) || (not_equal q table ws (element.Attr x) (element.Const k) || not_less q table ws (element.Const k) (element.Attr y))) (consts_of q.atoms)) _ (and-right (list_all (λ e. not (in_one_group q x e) || (not_less q table ws (element.Attr x) e || not_less q table ws e (element.Attr y))) (elements_of q)) _ h)) (Has-from_contains _ k i.named)))) [
+      elim (or-cases _ _ (all_at (λ k. not_less q table ws (element.Attr x) (element.Const k) || not_equal q table ws (element.Const k) (element.Attr y)) (consts_of q.atoms) k (and-right (list_all (λ k. not_equal q table ws (element.Attr x) (element.Const k) || not_less q table ws (element.Const k) (element.Attr y)) (consts_of q.atoms)) _ (and-right (list_all (λ e. not_less q table ws (element.Attr x) e || not_less q table ws e (element.Attr y)) (elements_of q)) _ h)) (Has-from_contains _ k i))) [
         | inl n ↦ no-less (element.Attr x) (element.Const k) n l
         | inr n ↦ no-equal (element.Const k) (element.Attr y) n e
       ]
@@ -149,12 +142,11 @@ module _ (q : QueryValue) (s : List Sign) (ws : List Assignment) (inside : (w : 
       let both : (among x attrs && among y attrs) ≡ true = all_at (λ (l : Link). among l.left attrs && among l.right attrs) links (link x y) h i in
       (among-has x attrs (and-left _ _ both), among-has y attrs (and-right (among x attrs) _ both))
 
-  across-if : (x y : Attr) → Has attrs x → Has attrs y → not (same_stream x y) ≡ true → in_one_group q x (element.Attr y) ≡ true → AreAcross q x y
-  across-if x y h i n g = record {
+  across-if : (x y : Attr) → Has attrs x → Has attrs y → not (same_stream x y) ≡ true → AreAcross q x y
+  across-if x y h i n = record {
     left = Contains-from_has attrs x h;
     right = Contains-from_has attrs y i;
     across = streams_differ x y (not-true (same_stream x y) n);
-    group = g;
   }
 
   module _ (part : PartPlan) (tested : links_test q table ws part ≡ true) where
@@ -182,7 +174,7 @@ module _ (q : QueryValue) (s : List Sign) (ws : List Assignment) (inside : (w : 
     equal-sound x y h =
         let n = named-sides part.equal.items x y equal-named h in
         let t = three-and _ _ _ (listed (has_link part.equal.items x y) _ _ (has_link-if part.equal.items x y h) (pair-at attrs (equal_link q table ws part.equal.items) x y equal-tested n.0 n.1)) in
-        (t.0, record { across = across-if x y n.0 n.1 t.1 (and-left _ _ t.2); equal = equal-if (element.Attr x) (element.Attr y) (and-right (in_one_group q x (element.Attr y)) _ t.2) })
+        (t.0, record { across = across-if x y n.0 n.1 t.1; equal = equal-if (element.Attr x) (element.Attr y) t.2 })
 
     pub equal-complete : (x y : Attr) → attr_lt x y ≡ true → IsEquality q s x y → Has part.equal.items (link x y)
     equal-complete x y l e = elim (true_or_false (has_link part.equal.items x y)) [
@@ -191,7 +183,7 @@ module _ (q : QueryValue) (s : List Sign) (ws : List Assignment) (inside : (w : 
         | inl n ↦ absurd (not_both (attr_lt x y) l (not-true (attr_lt x y) n))
         | inr o ↦ elim o [
           | inl n ↦ absurd (e.across.across (nat_true x.stream y.stream n))
-          | inr n ↦ absurd (no-equal (element.Attr x) (element.Attr y) (grouped-then (in_one_group q x (element.Attr y)) _ e.across.group n) e.equal)
+          | inr n ↦ absurd (no-equal (element.Attr x) (element.Attr y) n e.equal)
         ]
       ]
     ]
@@ -200,7 +192,7 @@ module _ (q : QueryValue) (s : List Sign) (ws : List Assignment) (inside : (w : 
     less-sound x y h =
         let n = named-sides part.less.items x y less-named h in
         let t = three-and _ _ _ (listed (has_link part.less.items x y) _ _ (has_link-if part.less.items x y h) (pair-at attrs (less_link q table ws part.less.items) x y less-tested n.0 n.1)) in
-        record { across = across-if x y n.0 n.1 t.0 (and-left _ _ t.2); less = less-if (element.Attr x) (element.Attr y) t.1; needed = needed-if x y (and-right (in_one_group q x (element.Attr y)) _ t.2) }
+        record { across = across-if x y n.0 n.1 t.0; less = less-if (element.Attr x) (element.Attr y) t.1; needed = needed-if x y t.2 }
 
     pub less-complete : (x y : Attr) → IsInequality q s x y → Has part.less.items (link x y)
     less-complete x y e = elim (true_or_false (has_link part.less.items x y)) [
@@ -209,7 +201,7 @@ module _ (q : QueryValue) (s : List Sign) (ws : List Assignment) (inside : (w : 
         | inl n ↦ absurd (e.across.across (nat_true x.stream y.stream n))
         | inr o ↦ elim o [
           | inl n ↦ absurd (no-less (element.Attr x) (element.Attr y) n e.less)
-          | inr n ↦ absurd (e.needed (redundant-if x y (grouped-then (in_one_group q x (element.Attr y)) _ e.across.group n)))
+          | inr n ↦ absurd (e.needed (redundant-if x y n))
         ]
       ]
     ]
@@ -219,7 +211,7 @@ module _ (q : QueryValue) (s : List Sign) (ws : List Assignment) (inside : (w : 
 
     pub turned : (x y : Attr) → IsEquality q s x y → IsEquality q s y x
     turned x y e = record {
-      across = record { left = e.across.right; right = e.across.left; across = λ f. e.across.across (sym f); group = one_group_turned q x y e.across.group };
+      across = record { left = e.across.right; right = e.across.left; across = λ f. e.across.across (sym f) };
       equal = record { equal = λ v i. sym (e.equal.equal v i) };
     }
 
@@ -309,11 +301,11 @@ module _ (q : QueryValue) (s : List Sign) (ws : List Assignment) (inside : (w : 
         not-before-itself b a e l = grind (arith, l, e)
 
         first-named : (a : Attr) → names_class q table ws a ≡ true → (b : Attr) → Contains attrs b → AreOneClass q s b a → attr_lt b a ≡ true → ⊥
-        first-named a h b n c l = elim (three-or _ _ _ (all_at (λ b. not (attr_lt b a) || not (same_stream b a) || (not (in_one_group q b (element.Attr a)) || not_equal q table ws (element.Attr b) (element.Attr a))) attrs b (and-right (among a attrs) _ h) (Has-from_contains attrs b n))) [
+        first-named a h b n c l = elim (three-or _ _ _ (all_at (λ b. not (attr_lt b a) || not (same_stream b a) || not_equal q table ws (element.Attr b) (element.Attr a)) attrs b (and-right (among a attrs) _ h) (Has-from_contains attrs b n))) [
           | inl n ↦ not_both (attr_lt b a) l (not-true (attr_lt b a) n)
           | inr o ↦ elim o [
             | inl n ↦ streams_differ b a (not-true (same_stream b a) n) c.stream
-            | inr n ↦ no-equal (element.Attr b) (element.Attr a) (grouped-then (in_one_group q b (element.Attr a)) _ c.group n) c.equal
+            | inr n ↦ no-equal (element.Attr b) (element.Attr a) n c.equal
           ]
         ]
 
@@ -324,8 +316,7 @@ module _ (q : QueryValue) (s : List Sign) (ws : List Assignment) (inside : (w : 
         record {
           named = inr (Contains-from_has attrs a (among-has a attrs (and-left _ _ h)), Contains-from_has attrs b (among-has b attrs (and-left _ _ r)));
           stream = nat_true a.stream b.stream (and-left _ _ t);
-          group = and-left _ _ (and-right (same_stream a b) _ t);
-          equal = equal-if (element.Attr a) (element.Attr b) (and-right (in_one_group q a (element.Attr b)) _ (and-right (same_stream a b) _ t));
+          equal = equal-if (element.Attr a) (element.Attr b) (and-right (same_stream a b) _ t);
         }
 
     low-if : (a : Attr) (z : ℤ) → low_by q table ws a z ≡ true → IsLeast q s a z

@@ -16,7 +16,6 @@ use Rattle.bq_model.specs.declared.plan.StreamPlan.{StreamPlan}
 use Rattle.bq_model.specs.declared.plan.PartPlan.{PartPlan}
 use Rattle.bq_model.specs.Boxes.{box_size}
 use Rattle.bq_model.specs.Query.{QueryValue, attrs_of, consts_of, attr_lt, attr_eq}
-use Rattle.bq_model.specs.Groups.{in_one_group}
 use Rattle.bq_model.specs.Assignment.{Assignment, value}
 use Rattle.bq_model.specs.Parts.{same_stream}
 use Rattle.bq_model.specs.Laws.{ends_of}
@@ -101,27 +100,27 @@ module _ (q : QueryValue) (table : List (List Bound)) (ws : List Assignment) whe
 
   abbrev pub redundant_by : Attr → Attr → Bool
   redundant_by x y =
-      list_any (λ e. in_one_group q x e && (less_by (element.Attr x) e && less_by e (element.Attr y))) (elements_of q)
-      || list_any (λ k. in_one_group q x (element.Const k) && (equal_by (element.Attr x) (element.Const k) && less_by (element.Const k) (element.Attr y))) (consts_of q.atoms)
-      || list_any (λ k. in_one_group q x (element.Const k) && (less_by (element.Attr x) (element.Const k) && equal_by (element.Const k) (element.Attr y))) (consts_of q.atoms)
+      list_any (λ e. less_by (element.Attr x) e && less_by e (element.Attr y)) (elements_of q)
+      || list_any (λ k. equal_by (element.Attr x) (element.Const k) && less_by (element.Const k) (element.Attr y)) (consts_of q.atoms)
+      || list_any (λ k. less_by (element.Attr x) (element.Const k) && equal_by (element.Const k) (element.Attr y)) (consts_of q.atoms)
 
   abbrev pub needed_by : Attr → Attr → Bool
   needed_by x y =
-      list_all (λ e. not (in_one_group q x e) || (not_less (element.Attr x) e || not_less e (element.Attr y))) (elements_of q)
-      && (list_all (λ k. not (in_one_group q x (element.Const k)) || (not_equal (element.Attr x) (element.Const k) || not_less (element.Const k) (element.Attr y))) (consts_of q.atoms)
-      && list_all (λ k. not (in_one_group q x (element.Const k)) || (not_less (element.Attr x) (element.Const k) || not_equal (element.Const k) (element.Attr y))) (consts_of q.atoms))
+      list_all (λ e. not_less (element.Attr x) e || not_less e (element.Attr y)) (elements_of q)
+      && (list_all (λ k. not_equal (element.Attr x) (element.Const k) || not_less (element.Const k) (element.Attr y)) (consts_of q.atoms)
+      && list_all (λ k. not_less (element.Attr x) (element.Const k) || not_equal (element.Const k) (element.Attr y)) (consts_of q.atoms))
 
   abbrev pub equal_link : List Link → Attr → Attr → Bool
   equal_link links x y =
       cond (has_link links x y)
-      (attr_lt x y && not (same_stream x y) && (in_one_group q x (element.Attr y) && equal_by (element.Attr x) (element.Attr y)))
-      (not (attr_lt x y) || same_stream x y || (not (in_one_group q x (element.Attr y)) || not_equal (element.Attr x) (element.Attr y)))
+      (attr_lt x y && not (same_stream x y) && equal_by (element.Attr x) (element.Attr y))
+      (not (attr_lt x y) || same_stream x y || not_equal (element.Attr x) (element.Attr y))
 
   abbrev pub less_link : List Link → Attr → Attr → Bool
   less_link links x y =
       cond (has_link links x y)
-      (not (same_stream x y) && less_by (element.Attr x) (element.Attr y) && (in_one_group q x (element.Attr y) && needed_by x y))
-      (same_stream x y || not_less (element.Attr x) (element.Attr y) || (not (in_one_group q x (element.Attr y)) || redundant_by x y))
+      (not (same_stream x y) && less_by (element.Attr x) (element.Attr y) && needed_by x y)
+      (same_stream x y || not_less (element.Attr x) (element.Attr y) || redundant_by x y)
 
   abbrev pub are_named : List Link → Bool
   are_named links = list_all (λ l. among l.left (attrs_of q.atoms) && among l.right (attrs_of q.atoms)) links
@@ -148,10 +147,10 @@ module _ (q : QueryValue) (table : List (List Bound)) (ws : List Assignment) whe
   abbrev pub names_class : Attr → Bool
   names_class a =
       among a (attrs_of q.atoms)
-      && list_all (λ b. not (attr_lt b a) || not (same_stream b a) || (not (in_one_group q b (element.Attr a)) || not_equal (element.Attr b) (element.Attr a))) (attrs_of q.atoms)
+      && list_all (λ b. not (attr_lt b a) || not (same_stream b a) || not_equal (element.Attr b) (element.Attr a)) (attrs_of q.atoms)
 
   abbrev pub in_class : Attr → Attr → Bool
-  in_class a b = among a (attrs_of q.atoms) && (among b (attrs_of q.atoms) && (same_stream a b && (in_one_group q a (element.Attr b) && equal_by (element.Attr a) (element.Attr b))))
+  in_class a b = among a (attrs_of q.atoms) && (among b (attrs_of q.atoms) && (same_stream a b && equal_by (element.Attr a) (element.Attr b)))
 
   abbrev pub wanted_by : PartPlan → Attr → Bool
   wanted_by part a =

@@ -6,8 +6,7 @@ ghost use Rattle.bq_laws.specs.Probing.{PlansAreWalkable, ChoicesGoByValues, Wal
 ghost use Rattle.bq_laws.specs.Cases.{PremisesAreMet, ExtremesDecide, CountsMultiply, OneTableForAllParts, NumbersAreThese};
 ghost use Rattle.bq_laws.specs.HotRooms.{HotRooms};
 ghost use Rattle.bq_laws.specs.SoftCases.{SoftComparisons};
-ghost use Rattle.bq_laws.specs.Groups.{OneGroupIsPlanned, BothFormsAnswerAlike};
-ghost use Rattle.bq_laws.specs.CompactCases.{LinksStayInGroups, ClassesStayInGroups, RedundancyStaysInGroups, GroupsAreCountedTogether};
+ghost use Rattle.bq_laws.specs.BothForms.{BothFormsAnswerAlike};
 ghost use Rattle.bq_laws.specs.DomainCases.{DomainsBound, DomainsArePlanned, RowsMustKeep};
 ghost use Rattle.bq_laws.specs.Sufficiency.{ReadingsSuffice, SynopsisIsRead, SynopsisSuffices, FutureIsDetermined, ExtremesAreExact, ExtremesAreAttained};
 ghost use Rattle.bq_laws.specs.Growth.{InsertsRow, SynopsesMerge, RowsMerge, PrintedGrows, AnyInterleaving};
@@ -313,34 +312,6 @@ pub fn cells_are_shared()
 /// The different boxes of a plan are told one after the other.
 pub fn boxes_grow_by_one()
     ensures { BoxesGrowByOne }
-{}
-
-/// A worked compact query: two columns of different groups are no link, though one is always less than the other; as a link they would
-/// refuse the query.
-pub fn links_stay_in_groups()
-    ensures { LinksStayInGroups }
-{}
-
-/// A worked compact query: two columns of one stream and different groups are no class, though they are always equal; as a class they
-/// would answer wrongly.
-pub fn classes_stay_in_groups()
-    ensures { ClassesStayInGroups }
-{}
-
-/// A worked compact query: a constant of another group makes no link redundant, though it stands between its sides; as redundant it would
-/// answer wrongly.
-pub fn redundancy_stays_in_groups()
-    ensures { RedundancyStaysInGroups }
-{}
-
-/// A worked compact query: references of one stream in different groups are two.
-pub fn groups_are_counted_together()
-    ensures { GroupsAreCountedTogether }
-{}
-
-/// A compact query of one group has the plan and the numbers that it has where it is not compact.
-pub fn one_group_is_planned()
-    ensures { OneGroupIsPlanned }
 {}
 
 /// A query gives the same answers to every history whether it is compact or not.

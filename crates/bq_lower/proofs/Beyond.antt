@@ -10,9 +10,8 @@ use Rattle.bq_model.specs.declared.plan.Link.{Link}
 use Rattle.bq_model.specs.Query.{QueryValue, attrs_of, consts_of}
 use Rattle.bq_model.specs.Parts.{IsPart}
 use Rattle.bq_model.specs.Order.{IsBounded}
-use Rattle.bq_model.specs.Links.{IsElementOf, IsInequality, between}
+use Rattle.bq_model.specs.Links.{IsInequality, between}
 use Rattle.bq_model.proofs.Has.{Has-from_contains, Contains-from_has}
-use Rattle.bq_model.proofs.OneGroup.{plain_is_one_group}
 use Rattle.bq_model.proofs.Bounded.{attr_lt_const, const_lt_attr, bounded_between, standing, enclosed, too_high, too_low, sides_are_bounded_together}
 use Rattle.bq_constraints.specs.Nodes.{place_of}
 use Rattle.bq_constraints.proofs.InPart.{in_part_from_solves}
@@ -21,16 +20,13 @@ use Rattle.bq_lower.specs.declared.motion.Motion.{Motion}
 use Rattle.bq_lower.specs.Lowered.{IsWhole}
 use Rattle.bq_lower.specs.Moving.{IsNearby, IsMotionOf, ReachNoFarther, constants, all_above, Rises, Falls}
 use Rattle.bq_lower.specs.Passing as passing
-use Rattle.bq_lower.specs.Passing.{value_in, PassesApart, both, later, earlier, LiesOut, Suits, LieBeyond, over, under, HasLeft, HasRight, AreOnOneSide, lefts, rights, AreLinks}
+use Rattle.bq_lower.specs.Passing.{value_in, PassesApart, both, later, earlier, LiesOut, LieBeyond, over, under, HasLeft, HasRight, AreOnOneSide, lefts, rights}
 use Rattle.bq_lower.proofs.Moving.{rise-above, fall-above, fall-below, rise-below}
 use Rattle.bq_lower.proofs.Motions.{has-at, place-in, u, u-at, link-less}
 
 module _ (q : QueryValue) (s : List Sign) (whole : IsWhole q) (m : Motion) (is : IsMotionOf q s m) (near : ReachNoFarther (consts_of q.atoms) m.values.items (record { low = m.low; high = m.high })) where
   abbrev part : IsPart q s
   part = record { one = u q s m is; inside = in_part_from_solves q s is.within is.part (at_nodes m.values.items) is.solves }
-
-  beside : (a : Attr) (k : ℤ) → Contains (consts_of q.atoms) k → IsElementOf q a (element.Const k)
-  beside a k c = record { named = c; group = (plain_is_one_group q whole.compact).1 a (element.Const k) }
 
   value-near : (a : Attr) → Contains (attrs_of q.atoms) a → IsNearby (value_in q m a)
   value-near a c = is.motion.far (place_of (attrs_of q.atoms) a) (pos 0) (place-in q s m is a (Has-from_contains _ a c))
@@ -46,8 +42,8 @@ module _ (q : QueryValue) (s : List Sign) (whole : IsWhole q) (m : Motion) (is :
       by (all_above f) = inl (All-contains (λ v. m.high <ℤ v) m.values.items (value_in q m a) f (Contains-from_has _ _ (has-at m.values.items (place_of (attrs_of q.atoms) a) (place-in q s m is a (Has-from_contains _ a c)))))
       by (constants l h) = elim (standing q s part a) [
         | enclosed low high i j g k ↦ absurd (free (bounded_between q s part a low high c i j g k))
-        | too_high f ↦ inl (let o : m.high <ℤ u q s m is a = f m.high (beside a m.high h) in omega (arith, ints, o, same))
-        | too_low f ↦ inr (let o : u q s m is a <ℤ m.low = f m.low (beside a m.low l) in omega (arith, ints, o, same))
+        | too_high f ↦ inl (let o : m.high <ℤ u q s m is a = f m.high h in omega (arith, ints, o, same))
+        | too_low f ↦ inr (let o : u q s m is a <ℤ m.low = f m.low l in omega (arith, ints, o, same))
       ]
 
   -- no constant lies between the sides of a link
@@ -55,9 +51,9 @@ module _ (q : QueryValue) (s : List Sign) (whole : IsWhole q) (m : Motion) (is :
   no-constant x y i k c l h =
       let e = u-at q s m is x (Has-from_contains _ x i.across.left) in
       let f = u-at q s m is y (Has-from_contains _ y i.across.right) in
-      i.needed (between (element.Const k) (beside x k c)
-      (attr_lt_const q s part x k i.across.left (beside x k c) (omega (arith, ints, e, l)))
-      (const_lt_attr q s part y k i.across.right (beside y k c) (omega (arith, ints, f, h))))
+      i.needed (between (element.Const k) c
+      (attr_lt_const q s part x k i.across.left c (omega (arith, ints, e, l)))
+      (const_lt_attr q s part y k i.across.right c (omega (arith, ints, f, h))))
 
   -- the sides of a link that are not bounded lie beyond one end
   pub link-beyond : (x y : Attr) → IsInequality q s x y → (¬ IsBounded q s x) ⊎ (¬ IsBounded q s y) → LieBeyond q m x y

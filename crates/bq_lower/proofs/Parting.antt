@@ -10,15 +10,13 @@ use Rattle.bq_model.specs.declared.part.Sign.{Sign}
 use Rattle.bq_model.specs.declared.plan.Link.{Link}
 use Rattle.bq_model.specs.Query.{QueryValue, attrs_of, consts_of}
 use Rattle.bq_model.specs.Assignment.{Assignment, lies_in}
-use Rattle.bq_model.specs.Groups.{in_one_group}
 use Rattle.bq_model.specs.Parts.{pairs, sign, sign_at, signs_of, same_stream, InPart, IsPart}
 use Rattle.bq_model.specs.Admission.{keeps_signs}
 use Rattle.bq_model.specs.Order.{IsBounded, IsLess}
 use Rattle.bq_model.specs.Laws.{ends_of}
-use Rattle.bq_model.specs.Links.{IsEquality, IsInequality, IsElementOf, IsMinRef, IsMaxRef, AreOneClass, AreTwoRefs, two_mins, two_maxes, both, between}
+use Rattle.bq_model.specs.Links.{IsEquality, IsInequality, IsMinRef, IsMaxRef, AreOneClass, AreTwoRefs, two_mins, two_maxes, both, between}
 use Rattle.bq_model.proofs.Has.{Contains-from_has, same_map, same_at}
 use Rattle.bq_model.proofs.Local.{same_sign, lt_along, eq_along}
-use Rattle.bq_model.proofs.OneGroup.{plain_is_one_group}
 use Rattle.bq_model.proofs.Shift.{Rises, moved, InPart-moved}
 use Rattle.bq_model.proofs.Kept.{kept_if}
 use Rattle.bq_model.proofs.Meets.{links_suffice}
@@ -231,12 +229,6 @@ module _ (q : QueryValue) (whole : IsWhole q) (local : AreLocalFor q C3) (s : Li
   fine : (a b : Attr) → IsEquality q s a b → ¬ IsBounded q s a → ⊥
   fine a b i n = broken.second refl a (n, b, inl i)
 
-  grouped : (x : Attr) (e : Element) → in_one_group q x e ≡ true
-  grouped x e = (plain_is_one_group q whole.compact).1 x e
-
-  beside : (a : Attr) (k : ℤ) → Contains (consts_of q.atoms) k → IsElementOf q a (element.Const k)
-  beside a k h = record { named = h; group = grouped a (element.Const k) }
-
   -- in an assignment of the part both sides of a link with unbounded sides lie above all ends, or below all
   data SameEnd (v : Assignment) (x y : Attr) : Type 0 where
     both_up : ((k : ℤ) → Contains (ends_of q) k → k <ℤ v x) → SameEnd v x y
@@ -245,11 +237,11 @@ module _ (q : QueryValue) (whole : IsWhole q) (local : AreLocalFor q C3) (s : Li
   same-end : (v : Assignment) → InPart q s v → (x y : Attr) → IsInequality q s x y → ¬ IsBounded q s x → ¬ IsBounded q s y → SameEnd v x y
   same-end v i x y l n m = elim (standing q s p x) [
     | enclosed low high g h o e ↦ absurd (n (bounded_between q s p x low high l.across.left g h o e))
-    | too_high f ↦ both_up (λ k h. f k (beside x k (const-end q whole.domains k h)))
+    | too_high f ↦ both_up (λ k h. f k (const-end q whole.domains k h))
     | too_low f ↦ elim (standing q s p y) [
       | enclosed low high g h o e ↦ absurd (m (bounded_between q s p y low high l.across.right g h o e))
-      | too_low g ↦ both_down (λ k h. g k (beside y k (const-end q whole.domains k h)))
-      | too_high g ↦ both_up (λ k h. absurd (apart k (const-end q whole.domains k h) (f k (beside x k (const-end q whole.domains k h))) (g k (beside y k (const-end q whole.domains k h)))))
+      | too_low g ↦ both_down (λ k h. g k (const-end q whole.domains k h))
+      | too_high g ↦ both_up (λ k h. absurd (apart k (const-end q whole.domains k h) (f k (const-end q whole.domains k h)) (g k (const-end q whole.domains k h))))
     ]
   ]
     where
@@ -257,7 +249,7 @@ module _ (q : QueryValue) (whole : IsWhole q) (local : AreLocalFor q C3) (s : Li
       p = record { one = v; inside = i }
 
       apart : (k : ℤ) → Contains (consts_of q.atoms) k → v x <ℤ k → k <ℤ v y → ⊥
-      apart k h o e = l.needed (between (element.Const k) (beside x k h) (attr_lt_const q s p x k l.across.left (beside x k h) o) (const_lt_attr q s p y k l.across.right (beside y k h) e))
+      apart k h o e = l.needed (between (element.Const k) h (attr_lt_const q s p x k l.across.left h o) (const_lt_attr q s p y k l.across.right h e))
 
   -- where not all assignments have x2 below y1, some has y1 below x2
   parted-at : (x1 y1 x2 : Attr) → IsInequality q s x1 y1 → (¬ IsBounded q s x1) × (¬ IsBounded q s y1) → (v : Assignment) → InPart q s v → y1.stream ≢ x2.stream → v y1 ≤ℤ v x2 → SomeHasLess q s y1 x2
@@ -289,31 +281,27 @@ module _ (q : QueryValue) (whole : IsWhole q) (local : AreLocalFor q C3) (s : Li
 
   less-here : (a b : Attr) → Contains (attrs_of q.atoms) a → Contains (attrs_of q.atoms) b → a.stream ≡ c.stream → b.stream ≡ c.stream → p.one a <ℤ p.one b → IsLess q s (element.Attr a) (element.Attr b)
   less-here a b h i e f l = record {
-    less = λ v j. lt_along _ _ _ _ (same_sign q p.one v (p.inside.signs ∙ sym j.signs) (element.Attr a) (element.Attr b) h i (one-stream a b e f) (grouped a (element.Attr b))) l;
+    less = λ v j. lt_along _ _ _ _ (same_sign q p.one v (p.inside.signs ∙ sym j.signs) (element.Attr a) (element.Attr b) h i (one-stream a b e f)) l;
   }
 
   class-here : (a b : Attr) → Contains (attrs_of q.atoms) a → Contains (attrs_of q.atoms) b → a.stream ≡ c.stream → b.stream ≡ c.stream → p.one a ≡ p.one b → AreOneClass q s a b
   class-here a b h i e f l = record {
     named = inr (h, i);
     stream = e ∙ sym f;
-    group = grouped a (element.Attr b);
-    equal = record { equal = λ v j. eq_along _ _ _ _ (same_sign q p.one v (p.inside.signs ∙ sym j.signs) (element.Attr a) (element.Attr b) h i (one-stream a b e f) (grouped a (element.Attr b))) l };
+    equal = record { equal = λ v j. eq_along _ _ _ _ (same_sign q p.one v (p.inside.signs ∙ sym j.signs) (element.Attr a) (element.Attr b) h i (one-stream a b e f)) l };
   }
-
-  beside-attr : (x a : Attr) → Contains (attrs_of q.atoms) a → IsElementOf q x (element.Attr a)
-  beside-attr x a h = record { named = h; group = grouped x (element.Attr a) }
 
   -- two references on one side that are not of one class have links of which the one may lie below the other
   pub mins-parted : (a b : Attr) → a.stream ≡ c.stream → b.stream ≡ c.stream → (m : IsMinRef q s a) (o : IsMinRef q s b) → p.one a <ℤ p.one b
       → ¬ SomeHasLess q s m.other b → ⊥
   mins-parted a b e f m o l none =
-      m.inequality.needed (between (element.Attr b) (beside-attr a b o.inequality.across.left) (less-here a b m.inequality.across.left o.inequality.across.left e f l)
+      m.inequality.needed (between (element.Attr b) o.inequality.across.left (less-here a b m.inequality.across.left o.inequality.across.left e f l)
       (always a m.other b m.inequality (sides a m.other m.inequality (inl m.unbounded)) (λ g. m.inequality.across.across (e ∙ sym f ∙ sym g)) none))
 
   pub maxes-parted : (a b : Attr) → a.stream ≡ c.stream → b.stream ≡ c.stream → (m : IsMaxRef q s a) (o : IsMaxRef q s b) → p.one a <ℤ p.one b
       → ¬ SomeHasLess q s a o.other → ⊥
   maxes-parted a b e f m o l none =
-      o.inequality.needed (between (element.Attr a) (beside-attr o.other a m.inequality.across.right)
+      o.inequality.needed (between (element.Attr a) m.inequality.across.right
       (always m.other a o.other m.inequality (sides m.other a m.inequality (inr m.unbounded)) (λ g. o.inequality.across.across (sym g ∙ e ∙ sym f)) none)
       (less-here a b m.inequality.across.right o.inequality.across.right e f l))
 

@@ -41,7 +41,7 @@ few-signs xs (p ∷ ps) (s ∷ ss) =
     omega (arith, a, b, few-of xs (element.Attr p.left) s p.right)
 
 -- without domains there is room for one constraint more
-pub room-for-one : (q : QueryValue) → IsWithinLimits q → (s : List Sign) → IsPart q s → q.domains ≡ [] → length (of_prefix q s) < 268
+pub room-for-one : (q : QueryValue) → IsWithinLimits q → (s : List Sign) → IsPart q s → q.domains ≡ [] → length (of_prefix q s) < 300
 room-for-one q w s p none =
     let a = length-append (of_base q) (of_signs (attrs_of q.atoms) (pairs q) s) in
     let b = length-append (of_atoms (attrs_of q.atoms) q.atoms) (flat_map (of_domain (attrs_of q.atoms)) q.domains) in
@@ -79,7 +79,7 @@ module _ (q : QueryValue) (s : List Sign) (b : BoundsValue) (known : IsKnown q s
   abbrev pub less : Constraint
   less = record { left = node x; right = node y; bound = neg_ℤ (pos 1) }
 
-  pub room : q.domains ≡ [] → (cs : List Constraint) → cs ≡ b.constraints → length cs < 268
+  pub room : q.domains ≡ [] → (cs : List Constraint) → cs ≡ b.constraints → length cs < 300
   room none cs e = let l = room-for-one q known.within s known.part none in let f = ap length (e ∙ known.constraints) in omega (arith, l, f)
 
   pub fits : Contains (attrs_of q.atoms) x → Contains (attrs_of q.atoms) y → (attrs : ℕ) → attrs ≡ b.attrs → IsWithin attrs less

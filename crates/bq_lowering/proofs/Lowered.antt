@@ -3,7 +3,6 @@ use Rattle.std.proofs.Common.{◌≡◌, ℕ, ◌+◌, Some, List, [], ◌∷◌
 use Rattle.std.specs.Prelude.{⊤}
 use Rattle.std.proofs.lemmas.List.Elements.{All-from_recursion}
 use Rattle.bq_io.specs.Source.{SourceState}
-use Rattle.bq_model.specs.Parts.{HasMoreParts}
 use Rattle.bq_text.specs.Lines.{lines}
 use Rattle.bq_feed.specs.Reading.{Reading}
 use Rattle.bq_feed.specs.Texts.{ended_part}
@@ -19,6 +18,7 @@ use Rattle.bq_script.specs.Commands.{Outcome, ComesTo, TookUnsettled, refusal}
 use Rattle.bq_script.specs.Ending.{StopsAt}
 use Rattle.bq_script.proofs.Behind.{none-behind, asks-then}
 use Rattle.bq_lowering.specs.declared.finding.Finding.{Finding}
+use Rattle.bq_lowering.specs.Formed.{IsTooLarge}
 use Rattle.bq_lowering.specs.Finding.{IsFinding}
 use Rattle.bq_lowering.specs.Found.{FindsFor}
 use Rattle.bq_lowering.specs.Lowering.{Lowers, found}
@@ -27,7 +27,7 @@ use Rattle.bq_lowering.specs.Lowering as lowering
 use Rattle.bq_lowering.proofs.OneOutcome.{needs-one}
 
 -- the query of a script is too large
-pub comes-large : (form : LowerForm) (script : Script) (source now : SourceState) (reader : Reading) → GaveScript script source now reader → HasMoreParts script.query 4096 → ComesTo (Lowers form) source now (refusal script.line Limit)
+pub comes-large : (form : LowerForm) (script : Script) (source now : SourceState) (reader : Reading) → GaveScript script source now reader → IsTooLarge script.query → ComesTo (Lowers form) source now (refusal script.line Limit)
 comes-large form script source now reader g large =
     let none = none-behind g.given script.catalog g.name g.select g.shared script.query script.line g.asks g.last in
     let all : lines g.front ≡ g.given ++ [] = front-lines source now reader g.front g.given g.lines ∙ sym (append-nil g.given) in
@@ -40,7 +40,7 @@ comes-large form script source now reader g large =
     }
 
 -- a line behind the query says something
-pub comes-misplaced : (form : LowerForm) (script : Script) (source now now' : SourceState) (old new : Reading) (number : ℕ) (word : Refusal) (g : GaveScript script source now old) → ¬ HasMoreParts script.query 4096
+pub comes-misplaced : (form : LowerForm) (script : Script) (source now now' : SourceState) (old new : Reading) (number : ℕ) (word : Refusal) (g : GaveScript script source now old) → ¬ IsTooLarge script.query
     → GaveLine source now' g.given new (λ place line. (number ≡ place) × IsMisplaced line word) → ComesTo (Lowers form) source now' (refusal number word)
 comes-misplaced form script source now now' old new number word g small t =
     let more = t.blanks ++ t.line ∷ [] in
@@ -57,7 +57,7 @@ comes-misplaced form script source now now' old new number word g small t =
     }
 
 -- blank lines stand behind the query, up to the end of the source
-pub comes-whole : (form : LowerForm) (script : Script) (finding : Finding) (source now now' : SourceState) (old new : Reading) (g : GaveScript script source now old) → ¬ HasMoreParts script.query 4096
+pub comes-whole : (form : LowerForm) (script : Script) (finding : Finding) (source now now' : SourceState) (old new : Reading) (g : GaveScript script source now old) → ¬ IsTooLarge script.query
     → IsFinding script.catalog script.query form finding → GaveAll source now' g.given new → ComesTo (Lowers form) source now' (found script.catalog (name_of script.statement) script.query form finding)
 comes-whole form script finding source now now' old new g small is t =
     let none = none-behind g.given script.catalog g.name g.select g.shared script.query script.line g.asks g.last in
@@ -72,7 +72,7 @@ comes-whole form script finding source now now' old new g small is t =
     }
 
 -- The reader broke off behind the query. The lines that came whole settle nothing: were they all, the family would be written.
-unsettled-behind : (form : LowerForm) (script : Script) (finding : Finding) (source now now' : SourceState) (old new : Reading) (P : List ℕ → Type 0) (g : GaveScript script source now old) → ¬ HasMoreParts script.query 4096
+unsettled-behind : (form : LowerForm) (script : Script) (finding : Finding) (source now now' : SourceState) (old new : Reading) (P : List ℕ → Type 0) (g : GaveScript script source now old) → ¬ IsTooLarge script.query
     → IsFinding script.catalog script.query form finding → GaveLast source now' g.given new P → TookUnsettled (Lowers form) source now' P
 unsettled-behind form script finding source now now' old new P g small is t =
     let none = none-behind g.given script.catalog g.name g.select g.shared script.query script.line g.asks g.last in
@@ -89,7 +89,7 @@ unsettled-behind form script finding source now now' old new P g small is t =
     }
 
 -- reading the lines behind the query stops
-pub stops-behind : (form : LowerForm) (script : Script) (finding : Finding) (end : ScriptEnd) (source now now' : SourceState) (old new : Reading) (g : GaveScript script source now old) → ¬ HasMoreParts script.query 4096
+pub stops-behind : (form : LowerForm) (script : Script) (finding : Finding) (end : ScriptEnd) (source now now' : SourceState) (old new : Reading) (g : GaveScript script source now old) → ¬ IsTooLarge script.query
     → IsFinding script.catalog script.query form finding → ReadsBlank (Err end) source now' g.given new → StopsAt (Lowers form) end source now'
 stops-behind form script finding (Refused number word) source now now' old new g small is t = record { needs = Some number; comes = comes-misplaced form script source now now' old new number word g small t }
 stops-behind form script finding ReadFault source now now' old new g small is t = (t.0, unsettled-behind form script finding source now now' old new (λ text. ⊤) g small is t.1)

@@ -1,13 +1,13 @@
 -- Where one outcome over some lines needs all of them, each does.
 use Rattle.std.proofs.Common.{◌≡◌, ℕ, None, Some, List, sym, ap, ◌∙◌, subst}
 use Rattle.bq_model.specs.Query.{QueryValue}
-use Rattle.bq_model.specs.Parts.{HasMoreParts}
 use Rattle.bq_reply.specs.declared.refusal.Refusal.{Refusal}
 use Rattle.bq_reply.specs.declared.refusal.Refusal.TheVariants.{Limit}
 use Rattle.bq_script.proofs.OneEnd.{one_end}
 use Rattle.bq_script.specs.Commands.{Outcome, refusal}
 use Rattle.bq_script.proofs.OneRefusal.{behind-same, early-same, all-placed}
 use Rattle.bq_lowering.specs.declared.form.LowerForm.{LowerForm}
+use Rattle.bq_lowering.specs.Formed.{IsTooLarge}
 use Rattle.bq_lowering.specs.Lowering as lowering
 use Rattle.bq_lowering.specs.Lowering.{Lowers}
 
@@ -28,7 +28,7 @@ needs-one form all o p (lowering.large streams name select shared q m asks large
     absurd (needs-some p _ w f none)
 needs-one form all o p (lowering.large streams name select shared q m asks large e) (lowering.whole shapes title choice joint r k also small blank finding is f) none =
     let i = (one_end all).0 streams shapes name title select choice shared joint q r m k asks also in
-    absurd (small (subst (λ (z : QueryValue). HasMoreParts z 4096) i.4 large))
+    absurd (small (subst (λ (z : QueryValue). IsTooLarge z) i.4 large))
 needs-one form all o p (lowering.misplaced streams name select shared q k asks small blanks line others w is blank wrong e) (lowering.early m v a f) none =
     absurd ((one_end all).2 streams name select shared q k m v asks a)
 needs-one form all o p (lowering.misplaced streams name select shared q m asks small blanks line others v is blank wrong e) (lowering.large shapes title choice joint r k also large f) none =

@@ -18,13 +18,14 @@ use Rattle.bq_families.specs.Text.{rows_text}
 use Rattle.bq_lowering.specs.declared.finding.Finding.{Finding}
 use Rattle.bq_lowering.specs.declared.finding.Finding.TheVariants.{Rows}
 use Rattle.bq_lowering.specs.declared.form.LowerForm.{LowerForm}
+use Rattle.bq_lowering.specs.Formed.{BreaksOne}
 use Rattle.bq_lowering.specs.Finding.{AreMadeFor, IsFinding}
 use Rattle.bq_lowering.specs.Text.{head_text, end_text, finding_text}
 use Rattle.bq_print.proofs.WritesBehind.{writes_behind}
 
 -- a family that is found is one for what is decided
 pub rows-found : (streams : List Shape) (q : QueryValue) (form : LowerForm) (finding : Finding) (part : ℕ) (condition : Condition) (a : Attr) (f : FamilyValue) → finding ≡ Rows part condition a f → IsFinding streams q form finding
-    → IsDecision q (decision.Violation part condition a) × AreMadeFor form.families condition × HasFamilyOver streams q condition a form.rows f
+    → BreaksOne q × IsDecision q (decision.Violation part condition a) × AreMadeFor form.families condition × HasFamilyOver streams q condition a form.rows f
 rows-found streams q form finding part condition a f e is = subst (IsFinding streams q form) e is
 
 -- its rows are rows of the streams

@@ -1,12 +1,12 @@
 -- What is found before anything is written.
-use Rattle.std.specs.Prelude.{◌≡◌, ℕ, ⊤, Bool, true, false, List}
+use Rattle.std.specs.Prelude.{◌≡◌, ℕ, ⊤, Bool, true, false, if◌then◌else◌, List}
 use Rattle.std.specs.declared.result.Result.{Result}
 use Rattle.std.specs.declared.result.Result.TheVariants.{Ok, Err}
 use Rattle.bq_io.specs.Source.{SourceState}
 use Rattle.bq_model.specs.declared.condition.Condition.TheVariants.{C1, C2, C3}
 use Rattle.bq_model.specs.declared.decision.Decision.{Decision}
 use Rattle.bq_model.specs.declared.decision.Decision.TheVariants as decision
-use Rattle.bq_model.specs.Parts.{HasMoreParts}
+use Rattle.bq_model.specs.Query.{QueryValue}
 use Rattle.bq_lower.specs.declared.error.LowerError.{LowerError}
 use Rattle.bq_lower.specs.declared.error.LowerError.TheVariants as why
 use Rattle.bq_lower.specs.Family.{FamilyValue}
@@ -21,22 +21,32 @@ use Rattle.bq_script.specs.Ending.{StopsAt}
 use Rattle.bq_lowering.specs.declared.form.Families.{Families}
 use Rattle.bq_lowering.specs.declared.form.Families.TheVariants as families
 use Rattle.bq_lowering.specs.declared.form.LowerForm.{LowerForm}
+use Rattle.bq_lowering.specs.declared.finding.NoFamily.{NoFamily}
 use Rattle.bq_lowering.specs.declared.finding.NoFamily.TheVariants as none
 use Rattle.bq_lowering.specs.declared.finding.Finding.{Finding}
 use Rattle.bq_lowering.specs.declared.finding.Finding.TheVariants.{Nothing, Rows}
 use Rattle.bq_lowering.specs.declared.lower_command.Lowered.{Lowered}
+use Rattle.bq_lowering.specs.Formed.{goes_by_form, IsTooLarge}
 use Rattle.bq_lowering.specs.Finding.{IsFinding}
 use Rattle.bq_lowering.specs.Lowering.{Lowers, found}
 use Rattle.bq_lowering.specs.Text.{finding_text}
 
+-- why there is no family where no plain part breaks a condition
+abbrev pub none_broken : QueryValue → NoFamily
+none_broken q = if goes_by_form q then none.Form else none.Bounded
+
 -- what a decision and the answer to the call for a family come to; the call is answered that nothing is broken exactly where it is decided so
-abbrev pub finding_of : Decision → Result FamilyValue LowerError → Result Finding ScriptEnd
-finding_of decision.Bounded answer = Ok (Nothing none.Bounded)
-finding_of (decision.Violation part condition attr) (Ok family) = Ok (Rows part condition attr family)
-finding_of (decision.Violation part condition attr) (Err why.Bounded) = Ok (Nothing none.Bounded)
-finding_of (decision.Violation part condition attr) (Err why.C2) = Ok (Nothing none.C2)
-finding_of (decision.Violation part condition attr) (Err why.C3) = Ok (Nothing none.C3)
-finding_of (decision.Violation part condition attr) (Err why.Memory) = Err Memory
+abbrev pub finding_of : NoFamily → Decision → Result FamilyValue LowerError → Result Finding ScriptEnd
+finding_of unbroken decision.Bounded answer = Ok (Nothing unbroken)
+finding_of unbroken (decision.Violation part condition attr) (Ok family) = Ok (Rows part condition attr family)
+finding_of unbroken (decision.Violation part condition attr) (Err why.Bounded) = Ok (Nothing unbroken)
+finding_of unbroken (decision.Violation part condition attr) (Err why.C2) = Ok (Nothing none.C2)
+finding_of unbroken (decision.Violation part condition attr) (Err why.C3) = Ok (Nothing none.C3)
+finding_of unbroken (decision.Violation part condition attr) (Err why.Memory) = Err Memory
+
+-- how a script ends whose query has too many parts
+abbrev pub refused : Script → ScriptEnd
+refused script = Refused script.line Limit
 
 -- whether the first condition that is broken is one for which no families are made
 abbrev pub is_left_out : Families → Decision → Bool
@@ -46,10 +56,10 @@ is_left_out families.FirstTwo (decision.Violation part C1 attr) = false
 is_left_out families.FirstTwo (decision.Violation part C2 attr) = false
 is_left_out families.FirstTwo (decision.Violation part C3 attr) = true
 
--- what looking for a family comes to for the query of a script: one of more than 4,096 parts is refused at its line
+-- what looking for a family comes to for the query of a script: one of too many parts is refused at its line
 abbrev pub FindsFor : Result Finding ScriptEnd → Script → LowerForm → Type 0
-FindsFor (Ok finding) script form = IsFinding script.catalog script.query form finding × (¬ HasMoreParts script.query 4096)
-FindsFor (Err (Refused number word)) script form = (number ≡ script.line) × (word ≡ Limit) × HasMoreParts script.query 4096
+FindsFor (Ok finding) script form = IsFinding script.catalog script.query form finding × (¬ IsTooLarge script.query)
+FindsFor (Err (Refused number word)) script form = (number ≡ script.line) × (word ≡ Limit) × IsTooLarge script.query
 FindsFor (Err ReadFault) script form = ⊥
 FindsFor (Err ByteLimit) script form = ⊥
 FindsFor (Err Memory) script form = ⊤

@@ -1,3 +1,4 @@
+pub mod Formed
 pub mod Finding
 pub mod Lowering
 pub mod Found

@@ -1,16 +1,19 @@
 //! What is found for the query of a script.
-ghost use Rattle.std.specs.Prelude.{◌≡◌, ◌≤◌, length};
+ghost use Rattle.std.specs.Prelude.{◌≡◌, ◌≤◌, IsTrue, length};
 ghost use Rattle.bq_model.specs.Parts.{AreParts, sign_lists};
 ghost use Rattle.bq_parser.specs.Resolution.{HasNamed};
+ghost use Rattle.bq_lowering.specs.Formed as formed;
+ghost use Rattle.bq_lowering.specs.Formed.{GoesByPlain};
 ghost use Rattle.bq_lowering.specs.Found as found;
 ghost use Rattle.bq_lowering.specs.Found.{FindsFor};
 
 use crate::form::{Families, LowerForm};
 use bq_decide::decide;
 use bq_families::family;
+use bq_form_plan::{PartsRefusal, parts_plan};
 use bq_lower::{Family, LowerError};
 use bq_lto_split::{SplitError, split};
-use bq_model::{Attr, Condition, Decision, Part};
+use bq_model::{Attr, Condition, Decision, Part, Query};
 use bq_reply::Refusal;
 use bq_script::{Script, ScriptEnd};
 use std::alloc::Global;
@@ -20,6 +23,8 @@ use std::alloc::Global;
 pub enum NoFamily {
     /// It breaks no condition.
     Bounded,
+    /// It is compact, and breaks a condition by its form, while none of the parts that it has without COMPACT breaks one.
+    Form,
     /// The first condition that it breaks is the second, and a pair lies between streams.
     C2,
     /// The first condition that it breaks is the third, and no family is made for that; or it is compact, a column has a domain, or a pair lies between
@@ -41,12 +46,34 @@ pub enum Finding {
     },
 }
 
-// What the decision on a query and the answer to the call for its family come to.
-fn finding_of(decision: Decision, answer: Result<Family, LowerError>) -> Result<Finding, ScriptEnd>
-    ensures { result ≡ found.finding_of decision answer }
+// Whether a query is compact and no filter. It is judged by its form then.
+fn goes_by_form(query: &Query) -> bool
+    ensures { result ≡ formed.goes_by_form query.now }
+{
+    query.compact() && !query.is_filter()
+}
+
+// Why there is no family where no plain part breaks a condition.
+fn none_broken(query: &Query) -> NoFamily
+    ensures { result ≡ found.none_broken query.now }
+{
+    if goes_by_form(query) {
+        NoFamily::Form
+    } else {
+        NoFamily::Bounded
+    }
+}
+
+// What the decision by the plain parts and the answer to the call for a family come to.
+fn finding_of(
+    unbroken: NoFamily,
+    decision: Decision,
+    answer: Result<Family, LowerError>,
+) -> Result<Finding, ScriptEnd>
+    ensures { result ≡ found.finding_of unbroken decision answer }
 {
     match decision {
-        Decision::Bounded => Ok(Finding::Nothing(NoFamily::Bounded)),
+        Decision::Bounded => Ok(Finding::Nothing(unbroken)),
         Decision::Violation {
             part,
             condition,
@@ -58,7 +85,7 @@ fn finding_of(decision: Decision, answer: Result<Family, LowerError>) -> Result<
                 attr,
                 family,
             }),
-            Err(LowerError::Bounded) => Ok(Finding::Nothing(NoFamily::Bounded)),
+            Err(LowerError::Bounded) => Ok(Finding::Nothing(unbroken)),
             Err(LowerError::C2) => Ok(Finding::Nothing(NoFamily::C2)),
             Err(LowerError::C3) => Ok(Finding::Nothing(NoFamily::C3)),
             Err(LowerError::Memory) => Err(ScriptEnd::Memory),
@@ -87,7 +114,17 @@ fn is_left_out(families: Families, decision: Decision) -> bool
     }
 }
 
-// The family of the query of a script, or why there is none, by the parts of the query.
+// How a script ends whose query has too many parts.
+fn refused(script: &Script) -> ScriptEnd
+    ensures { result ≡ found.refused script.now }
+{
+    ScriptEnd::Refused {
+        line: script.line,
+        word: Refusal::Limit,
+    }
+}
+
+// The family of the query of a script, or why there is none, by these plain parts of the query.
 fn find_in(
     alloc: Global,
     script: &Script,
@@ -95,6 +132,7 @@ fn find_in(
     form: LowerForm,
 ) -> Result<Finding, ScriptEnd>
     requires named { HasNamed script.now.catalog script.now.query }
+    requires plain { GoesByPlain script.now.query }
     requires parts { AreParts script.now.query (sign_lists parts.now) }
     requires few { length parts.now ≤ 4096 }
     ensures { FindsFor result script.now form }
@@ -111,21 +149,57 @@ fn find_in(
         &script.catalog,
         form.rows,
     );
-    finding_of(decision, answer)
+    finding_of(none_broken(&script.query), decision, answer)
 }
 
-/// Returns the family that is asked for of the query of a script, or why there is none. A query of more than 4,096 parts is refused at its line; or
-/// no memory is found.
-pub fn find(alloc: Global, script: &Script, form: LowerForm) -> Result<Finding, ScriptEnd>
-    requires { HasNamed script.now.catalog script.now.query }
+// The same by the plain parts.
+fn find_by_parts(alloc: Global, script: &Script, form: LowerForm) -> Result<Finding, ScriptEnd>
+    requires named { HasNamed script.now.catalog script.now.query }
+    requires plain { GoesByPlain script.now.query }
     ensures { FindsFor result script.now form }
 {
     match split(alloc, &script.query) {
         Ok(parts) => find_in(alloc, script, &parts, form),
-        Err(SplitError::TooManyParts) => Err(ScriptEnd::Refused {
-            line: script.line,
-            word: Refusal::Limit,
-        }),
+        Err(SplitError::TooManyParts) => Err(refused(script)),
         Err(SplitError::Memory) => Err(ScriptEnd::Memory),
+    }
+}
+
+// The same for a query that is judged by its form. COMPACT changes no answer, so where that form breaks a condition the plain parts tell the family.
+fn find_by_form(alloc: Global, script: &Script, form: LowerForm) -> Result<Finding, ScriptEnd>
+    requires named { HasNamed script.now.catalog script.now.query }
+    requires formed { IsTrue (formed.goes_by_form script.now.query) }
+    ensures { FindsFor result script.now form }
+{
+    match parts_plan(alloc, &script.query, false) {
+        Ok(_plan) => Ok(Finding::Nothing(NoFamily::Bounded)),
+        Err(
+            PartsRefusal::Limit {
+                which: _which,
+                value: _value,
+            },
+        ) => Ok(Finding::Nothing(NoFamily::Bounded)),
+        Err(
+            PartsRefusal::Violation {
+                part: _part,
+                condition: _condition,
+                attr: _attr,
+            },
+        ) => find_by_parts(alloc, script, form),
+        Err(PartsRefusal::TooManyParts) => Err(refused(script)),
+        Err(PartsRefusal::Memory) => Err(ScriptEnd::Memory),
+    }
+}
+
+/// Returns the family that is asked for of the query of a script, or why there is none. A query of more than 4,096 parts is refused at its line, as is a
+/// compact one with more split pairs or split parts than a query may have; or no memory is found.
+pub fn find(alloc: Global, script: &Script, form: LowerForm) -> Result<Finding, ScriptEnd>
+    requires { HasNamed script.now.catalog script.now.query }
+    ensures { FindsFor result script.now form }
+{
+    if goes_by_form(&script.query) {
+        find_by_form(alloc, script, form)
+    } else {
+        find_by_parts(alloc, script, form)
     }
 }

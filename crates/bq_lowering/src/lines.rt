@@ -12,6 +12,7 @@ fn nothing_line(reason: NoFamily) -> &'static [u8]
 {
     match reason {
         NoFamily::Bounded => b"no family bounded\n",
+        NoFamily::Form => b"no family form\n",
         NoFamily::C2 => b"no family C2\n",
         NoFamily::C3 => b"no family C3\n",
     }

@@ -12,8 +12,7 @@ use Rattle.bq_model.specs.declared.atom.Element.TheVariants as element
 use Rattle.bq_model.specs.declared.part.Pair.{Pair}
 use Rattle.bq_model.specs.declared.part.Sign.{Sign}
 use Rattle.bq_model.specs.Query.{QueryValue, attrs_of, consts_of, attr_eq, is_soft}
-use Rattle.bq_model.specs.Groups.{in_one_group}
-use Rattle.bq_model.specs.Parts.{pairs, all_pairs, pairs_among, pair_of, soft_pair, element_eq, pair_eq, each_once}
+use Rattle.bq_model.specs.Parts.{pairs, pairs_among, pair_of, soft_pair, element_eq, pair_eq, each_once}
 use Rattle.bq_constraints.specs.Soft.{fails_by, next_fails}
 use Rattle.bq_constraints.proofs.Softly.{any_one, soft_by, made_by}
 use Rattle.bq_closure.proofs.Zips.{zip_length}
@@ -121,7 +120,7 @@ none_named q n s (Some p) g l = elim (split (list_any (λ t. fails_by t p s) q.a
     behind = has_at (pairs q) n p g
 
     unnamed : Has (flat_map soft_pair q.atoms) p → ⊥
-    unnamed = not_behind (flat_map soft_pair q.atoms) (pairs_among (attrs_of q.atoms) (consts_of q.atoms)) n p (omega (arith, few_soft_pairs q.atoms, l)) (behind_kept (λ r. in_one_group q r.left r.right) n (all_pairs q.atoms) p behind)
+    unnamed = not_behind (flat_map soft_pair q.atoms) (pairs_among (attrs_of q.atoms) (consts_of q.atoms)) n p (omega (arith, few_soft_pairs q.atoms, l)) behind
 
     named : list_any (λ t. fails_by t p s) q.atoms ≡ true → ⊥
     named e =

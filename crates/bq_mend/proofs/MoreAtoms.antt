@@ -1,6 +1,5 @@
 -- A query with more comparisons is within the limits of a statement.
-use Rattle.std.proofs.Common.{◌≡◌, ◌⊎◌, inl, inr, Bool, true, false, cond, ℤ, pos, neg_ℤ, int_lt, List, [], ◌∷◌, ◌++◌, length, ap, subst, sym, ◌∙◌, refl, All, Contains, arith}
-use Rattle.std.proofs.lemmas.Int.{ints}
+use Rattle.std.proofs.Common.{◌≡◌, ◌⊎◌, inl, inr, Bool, true, false, cond, ℤ, int_lt, List, [], ◌∷◌, ◌++◌, length, ap, subst, sym, ◌∙◌, refl, All, Contains}
 use Rattle.std.proofs.lemmas.List.Elements.{All-append, All-weaker, All-contains}
 use Rattle.bq_model.proofs.Elements.{SidesIn, sides_in, HasElement}
 use Rattle.bq_model.proofs.Has.{Has, first, later, Has-from_contains, Contains-from_has, Has-append_left, Has-append_cases, Has-flat_map_from}

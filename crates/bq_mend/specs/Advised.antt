@@ -37,7 +37,7 @@ breaks_condition (judgement.Above which value) = false
 breaks_condition (judgement.Violation part condition attr) = true
 breaks_condition judgement.ManyParts = false
 
--- whether comparisons are tried: where a query is refused, or accepted with more than one part
+-- whether a query is refused, or accepted with more than one part
 abbrev pub has_cost : Judgement → Bool
 has_cost judgement.Filter = false
 has_cost (judgement.Accepted numbers) = nat_lt 1 numbers.parts
@@ -55,9 +55,10 @@ pub record AreBetterNumbers (shared : Bool) (q : QueryValue) (own : Judgement) (
   pub before : IsTrue has → numbers ≡ None
   pub found : IsFalse has → (all : Option Numbers) × AreNumbersWith shared q mend all × (numbers ≡ fewer own all)
 
--- the best comparisons, where the query is refused or has more than one part, and else none
+-- the best comparisons, where the query is refused or has more than one part and is not compact, and else none
 pub record AreComparisonsFor (shared : Bool) (q : QueryValue) (own : Judgement) (list : List Cheaper) (cut_short : Bool) : Type 0 where
-  pub dear : IsTrue (has_cost own) → AreBest shared q own (take most_comparisons (comparisons_of q)) list × (IsTrue cut_short ↔ most_comparisons < length (comparisons_of q))
+  pub compact : IsTrue q.compact → (list ≡ []) × IsFalse cut_short
+  pub dear : IsFalse q.compact → IsTrue (has_cost own) → AreBest shared q own (take most_comparisons (comparisons_of q)) list × (IsTrue cut_short ↔ most_comparisons < length (comparisons_of q))
   pub other : IsFalse (has_cost own) → (list ≡ []) × IsFalse cut_short
 
 -- whether a limit refuses a query

@@ -44,7 +44,7 @@ pub struct QueryAdvice {
     pub compact: Option<Numbers>,
     /// Its numbers with SHARED, where it is accepted with it and has fewer cells.
     pub shared: Option<Numbers>,
-    /// The best comparisons, at most five, with its numbers, the fewest cells first.
+    /// The best comparisons, at most five, with its numbers, the fewest cells first; of a compact query none is tried.
     pub cheaper: Vec<Cheaper>,
     /// Where a limit refuses it and no other change lifts that: comparisons that leave the lower part of the range of a column, the widest with which it is accepted,
     /// at most five, with its numbers, the fewest cells first.
@@ -163,7 +163,7 @@ fn shared_numbers(
     }
 }
 
-// The best comparisons, where the query is refused or has more than one part.
+// The best comparisons, where the query is refused or has more than one part and is not compact.
 fn comparisons_for(
     alloc: Global,
     query: &Query,
@@ -172,14 +172,13 @@ fn comparisons_for(
 ) -> Result<BestComparisons, AllocError>
     ensures { IfOk result (λ found. AreComparisonsFor shared query.now own found.best.items found.cut_short) }
 {
-    if has_cost(own) {
-        best_comparisons(alloc, query, shared, own, MOST_COMPARISONS)
-    } else {
-        Ok(BestComparisons {
+    if query.compact() || !has_cost(own) {
+        return Ok(BestComparisons {
             best: Vec::new(alloc),
             cut_short: false,
-        })
+        });
     }
+    best_comparisons(alloc, query, shared, own, MOST_COMPARISONS)
 }
 
 // The widest ranges of single columns that lift the limit which refuses the query, where no other change does.
@@ -203,7 +202,8 @@ fn narrowings_for(
 
 /// Returns what the query comes to, with shared cells or without, and what would mend it or make it cheaper, each change tried by the decision on the query with it.
 /// Where a condition refuses it, that is DISTINCT, the least sets of columns to bound and single comparisons; where a limit does, or it is accepted with more than
-/// one part, the best comparisons, and where nothing lifts the limit, narrower ranges of single columns. `AllocError` where a list or a plan finds no memory.
+/// one part, the best comparisons, and where nothing lifts the limit, narrower ranges of single columns. Of a compact query no comparison with one of
+/// its integers is tried. `AllocError` where a list or a plan finds no memory.
 pub fn advise(alloc: Global, query: &Query, shared: bool) -> Result<QueryAdvice, AllocError>
     ensures { IfOk result (IsAdvice shared query.now) }
 {

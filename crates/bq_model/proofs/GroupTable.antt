@@ -1,19 +1,15 @@
 -- The table of the columns that stand for the attributes of a query.
-use Rattle.std.proofs.Common.{◌≡◌, ℕ, zero, suc, ◌-◌, ◌+◌, ◌≤◌, ◌<◌, ℤ, Bool, true, false, not, ◌||◌, ◌⊎◌, inl, inr, List, [], ◌∷◌, length, take, drop, get_or, map, filter, cond, Contains, refl, sym, ◌∙◌, ap, ap₂, subst, arith}
+use Rattle.std.proofs.Common.{◌≡◌, ◌-◌, ◌≤◌, ◌⊎◌, inl, inr, List, [], ◌∷◌, length, take, drop, get_or, map, cond, Contains, refl, sym, ◌∙◌, ap, ap₂, subst, arith}
 use Rattle.std.proofs.lemmas.List.{take_rest}
-use Rattle.std.proofs.lemmas.List.Folds.{list_any_at, list_any_more}
-use Rattle.std.specs.List.{list_any}
 use Rattle.bq_model.specs.declared.atom.Attr.{Attr}
 use Rattle.bq_model.specs.declared.atom.Atom.{Atom}
 use Rattle.bq_model.specs.declared.atom.Element.{Element}
 use Rattle.bq_model.specs.declared.atom.Element.TheVariants as element
-use Rattle.bq_model.specs.declared.part.Pair.{Pair}
-use Rattle.bq_model.specs.Parts.{pairs, all_pairs}
-use Rattle.bq_model.specs.Query.{QueryValue, attr_eq, attrs_with, attrs_of}
-use Rattle.bq_model.specs.Groups.{group_with, group_of, compares_with, is_of_group, AreJoined, itself, compared, turned, onward}
+use Rattle.bq_model.specs.Query.{attr_eq, attrs_with, attrs_of}
+use Rattle.bq_model.specs.Groups.{group_with, group_of, AreJoined, itself, compared, turned, onward}
 use Rattle.bq_model.proofs.Has.{Has, Contains-from_has, Has-from_contains}
 use Rattle.bq_model.proofs.Elements.{HasElement, SidesIn, sides_in, attrs_with-has}
-use Rattle.bq_model.proofs.OneGroup.{joined_group, plain_is_one_group}
+use Rattle.bq_model.proofs.OneGroup.{joined_group}
 
 -- columns that are joined are the same, or both are named
 joined_named : (ts : List Atom) (a b : Attr) → AreJoined ts a b → (a ≡ b) ⊎ (Has (attrs_of ts) a × Has (attrs_of ts) b)
@@ -104,55 +100,6 @@ table_none [] attrs list l h = h ∙ all attrs
     all [] = refl
     all (a ∷ rest) = ap (λ l. a ∷ l) (all rest)
 
-take_whole : {X : Type 0} (n : ℕ) (xs : List X) → length xs ≤ n → take n xs ≡ xs
-take_whole zero [] l = refl
-take_whole (suc n) [] l = refl
-take_whole zero (x ∷ xs) l = absurd (omega arith)
-take_whole (suc n) (x ∷ xs) l = ap (λ ys. x ∷ ys) (take_whole n xs (omega (arith, l)))
-
 -- the same by the columns that are named
 pub alone_in : (ts : List Atom) (attrs : List Attr) → attrs ≡ attrs_of ts → (a : Attr) → ¬ Contains attrs a → group_of ts a ≡ a
 alone_in ts attrs e a h = stands_alone ts a (λ k. h (subst (λ l. Contains l a) (sym e) k))
-
--- a comparison that names the constant with a column of the group is found, or none is
-pub any_found : (ts us : List Atom) (a : Attr) (k : ℤ) (x : Element) (i : ℕ) (d : Atom) → x ≡ element.Const k → i < length us
-    → us ≡ ts → compares_with ts a k (get_or us i d).left (get_or us i d).right ≡ true → true ≡ is_of_group ts a x
-unfolding is_of_group
-any_found ts us a k x i d e l f h =
-    sym (ap (is_of_group ts a) e
-    ∙ list_any_at (λ t. compares_with ts a k t.left t.right) ts i d (subst (λ us. i < length us) f l) (subst (λ us. compares_with ts a k (get_or us i d).left (get_or us i d).right ≡ true) f h))
-
-pub none_found : (ts : List Atom) (a : Attr) (k : ℤ) (x : Element) (n : ℕ) → x ≡ element.Const k → length ts ≤ n
-    → list_any (λ t. compares_with ts a k t.left t.right) (take n ts) ≡ false → false ≡ is_of_group ts a x
-unfolding is_of_group
-none_found ts a k x n e l h =
-    sym (ap (is_of_group ts a) e ∙ subst (λ us. list_any (λ t. compares_with ts a k t.left t.right) us ≡ false) (take_whole n ts l) h)
-
-pub one_more : (p : Atom → Bool) (ts : List Atom) (i : ℕ) (d : Atom) → i < length ts → list_any p (take i ts) ≡ false → p (get_or ts i d) ≡ false → list_any p (take (i + 1) ts) ≡ false
-one_more p ts i d l h g = list_any_more p ts i d l ∙ ap₂ (λ b c. b || c) h g
-
--- two columns are of one group where the same stands for both
-pub group_told : (ts : List Atom) (a b : Attr) (x : Element) (g h : Attr) (r : Bool) → x ≡ element.Attr b → g ≡ group_of ts a → h ≡ group_of ts b
-    → r ≡ attr_eq g h → r ≡ is_of_group ts a x
-unfolding is_of_group
-group_told ts a b x g h r e f i j = j ∙ ap₂ attr_eq f i ∙ sym (ap (is_of_group ts a) e)
-
-const_one : (j k : ℤ) (x : Element) → x ≡ element.Const j → x ≡ element.Const k → j ≡ k
-const_one j k x e f = cc
-
-pub passes_for : (ts : List Atom) (a : Attr) (j k : ℤ) (x l r : Element) (b : Bool) → x ≡ element.Const j → x ≡ element.Const k
-    → b ≡ compares_with ts a j l r → b ≡ false → compares_with ts a k l r ≡ false
-passes_for ts a j k x l r b e f g n = subst (λ z. compares_with ts a z l r ≡ false) (const_one j k x e f) (sym g ∙ n)
-
-pub passes_then : (r b : Bool) → r ≡ b → r ≡ true → b ≡ true
-passes_then r b e f = sym e ∙ f
-
--- the pairs of a compact query are those of all that are of one group, and those of another are all
-pub pairs_compact : (q : QueryValue) (all list : List Pair) → q.compact ≡ true → all ≡ all_pairs q.atoms
-    → list ≡ filter (λ p. is_of_group q.atoms p.left p.right) all → list ≡ pairs q
-unfolding pairs
-pairs_compact q all list c e f =
-    f ∙ ap (λ l. filter (λ p. is_of_group q.atoms p.left p.right) l) e ∙ sym (ap (λ b. filter (λ p. not b || is_of_group q.atoms p.left p.right) (all_pairs q.atoms)) c)
-
-pub pairs_plain : (q : QueryValue) (all list : List Pair) → q.compact ≡ false → all ≡ all_pairs q.atoms → list ≡ all → list ≡ pairs q
-pairs_plain q all list c e f = f ∙ e ∙ sym (plain_is_one_group q c).0

@@ -1,5 +1,5 @@
 -- What a part has to be, whatever kind of query it is of, so that its cells tell the answers, and when a plan takes each combination once.
-use Rattle.std.specs.Prelude.{◌≡◌, ℕ, ◌<◌, ◌⊎◌, ◌↔◌, ℤ, Bool, true, false, IsTrue, IsFalse, nat_eq, if◌then◌else◌, List, length, All, AllPairs, Contains}
+use Rattle.std.specs.Prelude.{◌≡◌, ℕ, ◌<◌, ◌⊎◌, ◌↔◌, ℤ, Bool, true, false, IsTrue, nat_eq, if◌then◌else◌, List, length, All, AllPairs, Contains}
 use Rattle.bq_model.specs.declared.atom.Attr.{Attr}
 use Rattle.bq_model.specs.declared.atom.Op.{Op}
 use Rattle.bq_model.specs.declared.plan.Dim.{Dim}
@@ -7,16 +7,14 @@ use Rattle.bq_model.specs.declared.plan.Kind.{Kind}
 use Rattle.bq_model.specs.declared.plan.Link.{Link}
 use Rattle.bq_model.specs.declared.plan.SoftLink.{SoftLink}
 use Rattle.bq_model.specs.declared.plan.PartPlan.{PartPlan}
-use Rattle.bq_model.specs.declared.plan.Plan.{Plan}
-use Rattle.bq_model.specs.declared.plan.Plan.TheVariants as plan
-use Rattle.bq_model.specs.Query.{QueryValue, is_filter}
+use Rattle.bq_model.specs.Query.{QueryValue}
 use Rattle.bq_model.specs.Assignment.{Holds, KeepsDomains}
 use Rattle.bq_model.specs.Meaning.{at_place, joined}
 use Rattle.bq_model.specs.Boxes.{box_size, AreFull}
 use Rattle.bq_model.specs.Plan.{stream_at, dims_at, Follow}
 use Rattle.bq_model.specs.Admission.{admits}
 use Rattle.bq_model.specs.Combinations.{is_tied, linked}
-use Rattle.bq_model.specs.Sharing.{box_at, boxes, start_in, numbers_for}
+use Rattle.bq_model.specs.Sharing.{box_at, boxes, start_in}
 
 -- the part says that two columns are of one class
 abbrev pub AreTied : QueryValue → PartPlan → Attr → Attr → Type 0
@@ -99,8 +97,3 @@ AreBased false q plan = Follow 0 plan
 AreBased true q plan =
     (part : PartPlan) → Contains plan part → (place : ℕ) → place < length part.streams.items
     → (stream_at part place).base ≡ start_in q (boxes q plan) (box_at part place)
-
--- a plan with its numbers that serves the query, whatever made it, without shared cells or with them
-abbrev pub IsServingPlan : Bool → QueryValue → Plan → Type 0
-IsServingPlan shared q plan.Filter = IsTrue (is_filter q)
-IsServingPlan shared q (plan.Parts parts numbers) = IsFalse (is_filter q) × IsServing q parts × AreBased shared q parts × (numbers ≡ numbers_for shared q parts)

@@ -84,16 +84,16 @@ needed (between (element.Attr z) h l m) =
     let x : one_part.one t_c <ℤ one_part.one z = l.less one_part.one one_part.inside in
     let y : one_part.one z <ℤ one_part.one s_a = m.less one_part.one one_part.inside in
     omega (arith, ints, x, y, a_three, c_two)
-needed (between (element.Const k) h l m) = Has-nil (Has-from_contains [] k h.named)
-needed (equal_left k h l m) = Has-nil (Has-from_contains [] k h.named)
-needed (equal_right k h l m) = Has-nil (Has-from_contains [] k h.named)
+needed (between (element.Const k) h l m) = Has-nil (Has-from_contains [] k h)
+needed (equal_left k h l m) = Has-nil (Has-from_contains [] k h)
+needed (equal_right k h l m) = Has-nil (Has-from_contains [] k h)
 
 reference : IsMaxRef q [] s_a
 reference = record {
   unbounded = a_unbounded;
   other = t_c;
   inequality = record {
-    across = record { left = (1, omega arith, refl); right = (0, omega arith, refl); across = λ e. omega (arith, e); group = refl };
+    across = record { left = (1, omega arith, refl); right = (0, omega arith, refl); across = λ e. omega (arith, e) };
     less = record { less = λ v i. less v i.holds };
     needed = needed;
   };

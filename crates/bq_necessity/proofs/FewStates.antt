@@ -1,5 +1,5 @@
 -- The evaluator that keeps cells and printed tuples has few states.
-use Rattle.std.proofs.Common.{◌≡◌, ℕ, zero, suc, ◌+◌, ◌*◌, ◌<◌, ◌≤◌, ◌^◌, List, [], map, length, Bool, true, false, cond, refl, sym, ap, ap₂, ◌∙◌, subst, arith, ℤ, pow-add, pow-suc, pow_mono, mul-le-mul, mul_comm, le_trans}
+use Rattle.std.proofs.Common.{◌≡◌, All, ℕ, zero, suc, ◌+◌, ◌*◌, ◌<◌, ◌≤◌, ◌^◌, List, [], map, length, Bool, true, false, cond, refl, sym, ap, ap₂, ◌∙◌, subst, arith, ℤ, pow-add, pow-suc, pow_mono, mul-le-mul, mul_comm, le_trans}
 use Rattle.std.proofs.Math.Nat.{pow-le-pow_left, pow-zero}
 use Rattle.std.proofs.lemmas.List.{length-map}
 use Rattle.std.proofs.lemmas.Nat.{pow_below}
@@ -7,17 +7,27 @@ use Rattle.std.specs.List.{list_any, flat_map}
 use Rattle.bq_model.proofs.Has.{Has, Has-map_from, Contains-from_has}
 use Rattle.bq_model.specs.declared.cell.Cell.{Cell}
 use Rattle.bq_model.specs.declared.plan.PartPlan.{PartPlan}
-use Rattle.bq_model.specs.Query.{QueryValue}
-use Rattle.bq_model.specs.Plan.{IsPlanned}
+use Rattle.bq_model.specs.Query.{QueryValue, IsWithinLimits}
+use Rattle.std.specs.declared.option.Option.TheVariants.{None}
+use Rattle.bq_model.specs.Domains.{RowKeeps}
+use Rattle.bq_model.specs.Violation.{IsViolation}
+use Rattle.bq_model.specs.Plan.{Follow, IsPlanned, filter as of_filter, parts}
+use Rattle.bq_model.specs.Serving.{KeepsStreams}
 use Rattle.bq_model.specs.Tuples.{is_same, sorted, distinct_tuples}
 use Rattle.bq_model.specs.Meaning.{Arrival, answers}
 use Rattle.bq_model.specs.Cells.{synopsis, printed}
 use Rattle.bq_model.specs.Ranges.{all_tuples}
 use Rattle.bq_model.specs.Numbers.{cell_count, answer_bound}
+use Rattle.bq_laws.specs.Sufficiency.{IsPlannedAnywhere, nothing, anywhere}
 use Rattle.bq_laws.proofs.Numbering.{synopsis-has-cells}
+use Rattle.bq_laws.proofs.PlainServes.{plain_plans_serve}
+use Rattle.bq_laws.proofs.Sufficiency.{part-plans}
+use Rattle.bq_laws.proofs.Walking.{serving-keep}
 use Rattle.bq_laws.proofs.TableRoom.{length-all}
 use Rattle.bq_laws.proofs.Sums.{bit}
-use Rattle.bq_necessity.specs.States.{Evaluator, after, AreWithin, HasStates, HasFewFor}
+use Rattle.bq_necessity.specs.Served.{ServingHasStates, ServingHasFewStates}
+use Rattle.bq_necessity.specs.States.{Evaluator, after, AreWithin, HasStates}
+use Rattle.bq_necessity.specs.Within.{HasStatesOn}
 use Rattle.bq_necessity.specs.Accepted.{states_of, AcceptedHasStates, HasPolynomiallyManyStates, PolynomiallyManyAreFew}
 use Rattle.bq_necessity.proofs.Pigeons.{below, length-below, has-below}
 use Rattle.bq_necessity.proofs.Pairing.{paired, coded}
@@ -27,6 +37,7 @@ use Rattle.bq_necessity.proofs.Numbering.{number}
 use Rattle.bq_necessity.proofs.SmallCells.{contents, length-contents, synopsis-among}
 use Rattle.bq_necessity.proofs.Marks.{mark}
 use Rattle.bq_necessity.proofs.Numbered.{state, standing, evaluator, comes-to, evaluates}
+use Rattle.bq_necessity.proofs.Plainly.{row-none, rows-none}
 
 -- marks on a table that is not kept are 0
 mark-below : (q : QueryValue) (h : List Arrival) (t : List ℤ) → mark (printed q h) t < cond q.distinct 2 1
@@ -81,11 +92,11 @@ module _ (q : QueryValue) (plan : List PartPlan) (n bound : ℕ) where
       ∙ ap₂ (λ (x y : ℕ). x ^ y) (length-below (cond q.distinct 2 1)) (length-all q plan) in
       length-pairs number_of all_cells all_marks ∙ ap₂ (λ (x y : ℕ). x * y) e f ∙ sizes q.distinct count_of_cells (answer_bound q plan) n bound
 
-  state-among : IsPlanned q plan → (h : List Arrival) → length h ≤ n → AreWithin bound h → Has states (standing q plan h)
+  state-among : All (KeepsStreams q) plan → (h : List Arrival) → length h ≤ n → AreWithin bound h → Has states (standing q plan h)
   unfolding states state
-  state-among is h few near =
+  state-among keep h few near =
       has-pairs number_of all_cells all_marks (synopsis q plan h) (map (mark (printed q h)) (all_tuples q plan))
-      (has-all_lists (contents q.distinct n bound) count_of_cells (synopsis q plan h) (synopsis-has-cells q plan h) (synopsis-among q plan is n bound h few near))
+      (has-all_lists (contents q.distinct n bound) count_of_cells (synopsis q plan h) (synopsis-has-cells q plan h) (synopsis-among q plan keep n bound h few near))
       (has-all_lists (below (cond q.distinct 2 1)) count_of_marks (map (mark (printed q h)) (all_tuples q plan)) (length-map (all_tuples q plan) (mark (printed q h))) marks_among)
     where
       marks_among : (x : ℕ) → Has (map (mark (printed q h)) (all_tuples q plan)) x → Has (below (cond q.distinct 2 1)) x
@@ -93,17 +104,41 @@ module _ (q : QueryValue) (plan : List PartPlan) (n bound : ℕ) where
           let s : (t : List ℤ) × Has (all_tuples q plan) t × (mark (printed q h) t ≡ x) = Has-map_from (mark (printed q h)) (all_tuples q plan) x k in
           has-below (cond q.distinct 2 1) x (subst (λ (y : ℕ). y < cond q.distinct 2 1) s.2 (mark-below q h s.0))
 
-pub accepted-has-states : AcceptedHasStates
-accepted-has-states q plan within none is violation = (
+-- parts that serve keep the streams of the query, and a filter has none
+planned-keep : (q : QueryValue) (plan : List PartPlan) → IsPlannedAnywhere q plan → All (KeepsStreams q) plan
+planned-keep q plan (nothing f e) = subst (All (KeepsStreams q)) (sym e) (λ k d l. absurd (omega (arith, l)))
+planned-keep q plan (anywhere n is) = serving-keep q plan is.serves
+
+pub serving-has-states : ServingHasStates
+serving-has-states q plan within planned follow = (
   evaluator q plan,
-  evaluates q plan within none is violation,
+  evaluates q plan within planned follow,
   λ n bound. record {
     states = states q plan n bound;
     size = omega (arith, states-size q plan n bound);
-    all = λ h few near. Contains-from_has (states q plan n bound) (after (evaluator q plan) (evaluator q plan).start h)
-        (subst (Has (states q plan n bound)) (sym (comes-to q plan within none is violation h)) (state-among q plan n bound is h few near));
+    all = λ h keep few near. Contains-from_has (states q plan n bound) (after (evaluator q plan) (evaluator q plan).start h)
+        (subst (Has (states q plan n bound)) (sym (comes-to q plan within planned follow h keep)) (state-among q plan n bound (planned-keep q plan planned) h few near));
   },
 )
+
+-- the plan of a query that violates no condition serves
+planned-serves : (q : QueryValue) (plan : List PartPlan) → IsWithinLimits q → IsPlanned q plan → IsViolation q None → IsPlannedAnywhere q plan
+planned-serves q plan within (of_filter f e) violation = nothing f e
+planned-serves q plan within (parts n is) violation = anywhere n (plain_plans_serve q plan within n (part-plans q plan is) violation)
+
+planned-follow : (q : QueryValue) (plan : List PartPlan) → IsPlanned q plan → Follow 0 plan
+planned-follow q plan (of_filter f e) = subst (Follow 0) (sym e) tt
+planned-follow q plan (parts n is) = is.bases
+
+pub accepted-has-states : AcceptedHasStates
+accepted-has-states q plan within none is violation =
+    let o = serving-has-states q plan within (planned-serves q plan within is violation) (planned-follow q plan is) in (
+      o.0,
+      λ h r. o.1 h r (rows-none q none h) (row-none q none r),
+      λ n bound.
+          let s : HasStatesOn (RowKeeps q) o.0 n bound (states_of q plan n bound) = o.2 n bound in
+          record { states = s.states; size = s.size; all = λ h few near. s.all h (rows-none q none h) few near },
+    )
 
 at_most : (d : Bool) (a c n bound : ℕ) → cond d ((2 * bound + 3) ^ c * 2 ^ a) ((n + 1) ^ c) ≤ (4 * 2 ^ a * (n + bound + 1)) ^ suc c
 at_most d a c n bound =
@@ -135,20 +170,19 @@ told-are-polynomial e q plan has = record {
       record { states = s.states; size = le_trans s.size (at_most q.distinct (answer_bound q plan) (cell_count plan) n bound); all = s.all };
 }
 
--- the rows and the values of which there are few states
-few-for : (e : Evaluator) → HasPolynomiallyManyStates e → (b : ℕ) → HasFewFor e b
-few-for e p b = record {
-  n = 2 ^ o.m;
-  most = (p.factor * (2 ^ o.m + b * suc (2 ^ o.m) + 1)) ^ p.exponent;
-  states = p.states (2 ^ o.m) (b * suc (2 ^ o.m));
-  few = omega (arith, few);
-}
+-- a number of rows after which so many states are few
+record FewAfter (factor exponent b : ℕ) : Type 0 where
+  rows : ℕ
+  few : (factor * (rows + b * suc rows + 1)) ^ exponent < 2 ^ rows
+
+few-after : (factor exponent b : ℕ) → FewAfter factor exponent b
+few-after factor exponent b = record { rows = 2 ^ o.m; few = omega (arith, few) }
   where
     c : ℕ
-    c = p.factor + b + 3
+    c = factor + b + 3
 
-    o : Outgrows (suc p.exponent) c
-    o = outgrows (suc p.exponent) c
+    o : Outgrows (suc exponent) c
+    o = outgrows (suc exponent) c
 
     sum : 2 ^ o.m + b * suc (2 ^ o.m) + 1 ≤ 2 ^ (b + (o.m + 2))
     sum =
@@ -160,22 +194,40 @@ few-for e p b = record {
         let f : suc b * (2 * suc (2 ^ o.m)) ≡ 2 * (b * suc (2 ^ o.m)) + 2 * suc (2 ^ o.m) = grind arith in
         omega (arith, e, m, f)
 
-    base : p.factor * (2 ^ o.m + b * suc (2 ^ o.m) + 1) ≤ 2 ^ (o.m + c)
+    base : factor * (2 ^ o.m + b * suc (2 ^ o.m) + 1) ≤ 2 ^ (o.m + c)
     base =
-        let m : p.factor * (2 ^ o.m + b * suc (2 ^ o.m) + 1) ≤ 2 ^ p.factor * 2 ^ (b + (o.m + 2))
-        = mul-le-mul {n₁ = p.factor} {m₁ = 2 ^ o.m + b * suc (2 ^ o.m) + 1} {n₂ = 2 ^ p.factor} {m₂ = 2 ^ (b + (o.m + 2))} (omega (arith, self-below p.factor)) sum in
-        let e : 2 ^ (p.factor + (b + (o.m + 2))) ≡ 2 ^ p.factor * 2 ^ (b + (o.m + 2)) = pow-add 2 p.factor (b + (o.m + 2)) in
-        let l : 2 ^ (p.factor + (b + (o.m + 2))) ≤ 2 ^ (o.m + c) = pow_mono {i = p.factor + (b + (o.m + 2))} {j = o.m + c} (omega arith) in
+        let m : factor * (2 ^ o.m + b * suc (2 ^ o.m) + 1) ≤ 2 ^ factor * 2 ^ (b + (o.m + 2))
+        = mul-le-mul {n₁ = factor} {m₁ = 2 ^ o.m + b * suc (2 ^ o.m) + 1} {n₂ = 2 ^ factor} {m₂ = 2 ^ (b + (o.m + 2))} (omega (arith, self-below factor)) sum in
+        let e : 2 ^ (factor + (b + (o.m + 2))) ≡ 2 ^ factor * 2 ^ (b + (o.m + 2)) = pow-add 2 factor (b + (o.m + 2)) in
+        let l : 2 ^ (factor + (b + (o.m + 2))) ≤ 2 ^ (o.m + c) = pow_mono {i = factor + (b + (o.m + 2))} {j = o.m + c} (omega arith) in
         omega (arith, m, e, l)
 
-    few : (p.factor * (2 ^ o.m + b * suc (2 ^ o.m) + 1)) ^ p.exponent < 2 ^ 2 ^ o.m
+    few : (factor * (2 ^ o.m + b * suc (2 ^ o.m) + 1)) ^ exponent < 2 ^ 2 ^ o.m
     few =
-        let m : (p.factor * (2 ^ o.m + b * suc (2 ^ o.m) + 1)) ^ p.exponent ≤ (2 ^ (o.m + c)) ^ p.exponent = pow-le-pow_left base p.exponent in
-        let f : 2 ^ ((o.m + c) * p.exponent) ≡ (2 ^ (o.m + c)) ^ p.exponent = pow-mul 2 (o.m + c) p.exponent in
-        let g : suc p.exponent * (o.m + c) ≤ 2 ^ o.m = o.holds in
-        let h : suc p.exponent * (o.m + c) ≡ p.exponent * (o.m + c) + (o.m + c) = grind arith in
-        let l : 2 ^ ((o.m + c) * p.exponent) < 2 ^ 2 ^ o.m = pow_below ((o.m + c) * p.exponent) (2 ^ o.m) (omega (arith, g, h, mul_comm (o.m + c) p.exponent)) in
+        let m : (factor * (2 ^ o.m + b * suc (2 ^ o.m) + 1)) ^ exponent ≤ (2 ^ (o.m + c)) ^ exponent = pow-le-pow_left base exponent in
+        let f : 2 ^ ((o.m + c) * exponent) ≡ (2 ^ (o.m + c)) ^ exponent = pow-mul 2 (o.m + c) exponent in
+        let g : suc exponent * (o.m + c) ≤ 2 ^ o.m = o.holds in
+        let h : suc exponent * (o.m + c) ≡ exponent * (o.m + c) + (o.m + c) = grind arith in
+        let l : 2 ^ ((o.m + c) * exponent) < 2 ^ 2 ^ o.m = pow_below ((o.m + c) * exponent) (2 ^ o.m) (omega (arith, g, h, mul_comm (o.m + c) exponent)) in
         omega (arith, m, f, l)
 
 pub polynomially-many-are-few : PolynomiallyManyAreFew
-polynomially-many-are-few e p b = few-for e p b
+polynomially-many-are-few e p b =
+    let o : FewAfter p.factor p.exponent b = few-after p.factor p.exponent b in
+    record { n = o.rows; most = (p.factor * (o.rows + b * suc o.rows + 1)) ^ p.exponent; states = p.states o.rows (b * suc o.rows); few = o.few }
+
+pub serving-has-few-states : ServingHasFewStates
+serving-has-few-states q plan within planned follow =
+    let e = serving-has-states q plan within planned follow in (
+      e.0,
+      e.1,
+      λ b.
+          let o : FewAfter (4 * 2 ^ answer_bound q plan) (suc (cell_count plan)) b = few-after (4 * 2 ^ answer_bound q plan) (suc (cell_count plan)) b in
+          let s : HasStatesOn (RowKeeps q) e.0 o.rows (b * suc o.rows) (states_of q plan o.rows (b * suc o.rows)) = e.2 o.rows (b * suc o.rows) in
+          record {
+            n = o.rows;
+            most = (4 * 2 ^ answer_bound q plan * (o.rows + b * suc o.rows + 1)) ^ suc (cell_count plan);
+            states = record { states = s.states; size = le_trans s.size (at_most q.distinct (answer_bound q plan) (cell_count plan) o.rows (b * suc o.rows)); all = s.all };
+            few = o.few;
+          },
+    )

@@ -51,3 +51,4 @@ pub mod Compact
 pub mod UnlikeRefused
 pub mod UnlikeKept
 pub mod Unlike
+pub mod FormStates

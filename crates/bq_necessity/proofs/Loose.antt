@@ -122,7 +122,7 @@ module _ (distinct : Bool) where
   sides_equal : IsEquality q equal_signs s_a t_c
   unfolding pairs
   sides_equal = record {
-    across = record { left = (0, omega arith, refl); right = (2, omega arith, refl); across = λ e. omega (arith, e); group = refl };
+    across = record { left = (0, omega arith, refl); right = (2, omega arith, refl); across = λ e. omega (arith, e) };
     equal = record { equal = λ v i. eq_from_sign (v s_a) (v t_c) (head (sign (v s_a) (v t_c)) Sign.Eq _ _ (sym (shape_is v) ∙ i.signs)) };
   }
     where

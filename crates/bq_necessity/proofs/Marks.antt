@@ -4,11 +4,9 @@ use Rattle.std.specs.List.{list_any}
 use Rattle.bq_model.proofs.Has.{Has, first, later, Has-head, Has-filter, Contains-from_has, Has-from_contains}
 use Rattle.bq_model.specs.Query.{QueryValue, IsWithinLimits, is_filter}
 use Rattle.bq_model.specs.declared.plan.PartPlan.{PartPlan}
-use Rattle.std.specs.declared.option.Option.TheVariants.{None}
 use Rattle.bq_model.specs.Meaning.{Arrival, answers}
 use Rattle.bq_model.specs.Tuples.{is_same, sorted, distinct_tuples}
-use Rattle.bq_model.specs.Violation.{IsViolation}
-use Rattle.bq_model.specs.Plan.{IsPlanned, filter as of_filter, parts}
+use Rattle.bq_model.specs.Domains.{RowsKeep}
 use Rattle.bq_model.specs.Cells.{printed}
 use Rattle.bq_model.specs.Ranges.{all_tuples}
 use Rattle.bq_laws.proofs.Tests.{or-cases, not_both, false_if, filter-passes}
@@ -17,11 +15,8 @@ use Rattle.bq_laws.proofs.Counts.{times}
 use Rattle.bq_laws.proofs.Order.{Rises, rises_nil, same-itself, same-is, ascending-rises, times-ascending, times-once, any-times, times-any, same-counts}
 use Rattle.bq_laws.proofs.NewAnswers.{none-times}
 use Rattle.bq_laws.proofs.Merge.{times-printed-is}
-use Rattle.bq_laws.proofs.PlainServes.{plain_plans_serve}
-use Rattle.bq_laws.proofs.Sufficiency.{part-plans}
+use Rattle.bq_laws.specs.Sufficiency.{IsPlannedAnywhere, nothing, anywhere}
 use Rattle.bq_laws.proofs.TableRoom.{table-has-room}
-use Rattle.bq_necessity.specs.Plain.{HasNoDomains}
-use Rattle.bq_necessity.proofs.Plainly.{rows-none}
 
 -- 1 at a tuple of the table, 0 at others
 unfoldable pub mark : List (List ℤ) → List ℤ → ℕ
@@ -93,11 +88,11 @@ plain-is : (q : QueryValue) → is_filter q ≡ true → q.distinct ≡ false
 plain-is q h = grind (arith, h)
 
 -- the printed tuples are such a table
-pub printed-is : (q : QueryValue) (plan : List PartPlan) → IsWithinLimits q → HasNoDomains q → IsPlanned q plan → IsViolation q None → (h : List Arrival)
+pub printed-is : (q : QueryValue) (plan : List PartPlan) → IsWithinLimits q → IsPlannedAnywhere q plan → (h : List Arrival) → RowsKeep q h
     → IsTable (all_tuples q plan) (printed q h)
-printed-is q plan within none (of_filter f e) violation h =
+printed-is q plan within (nothing f e) h keep =
     no-table (all_tuples q plan) (printed q h) (ap (λ b. cond b (sorted (distinct_tuples (answers q h))) []) (plain-is q f))
-printed-is q plan within none (parts n is) violation h = by q.distinct refl
+printed-is q plan within (anywhere n is) h keep = by q.distinct refl
   where
     at_most_one : (n m : ℕ) → n ≡ min 1 m → n ≤ 1
     at_most_one n m e = omega (arith, e)
@@ -107,7 +102,7 @@ printed-is q plan within none (parts n is) violation h = by q.distinct refl
       rises = subst Rises (sym (ap (λ b. cond b (sorted (distinct_tuples (answers q h))) []) d)) (ascending-rises (distinct_tuples (answers q h)));
       single = λ z. at_most_one _ _ (times-printed-is q h z d);
       among = λ z k. has-times z (all_tuples q plan) (Has-from_contains (all_tuples q plan) z
-          ((table-has-room q plan within (plain_plans_serve q plan within n (part-plans q plan is) violation)).0 h (rows-none q none h) z (Contains-from_has (answers q h) z
+          ((table-has-room q plan within is).0 h keep z (Contains-from_has (answers q h) z
           (any-has z (answers q h) (times-any z (answers q h) (omega (arith, k, times-printed-is q h z d)))))));
     }
     by false d = no-table (all_tuples q plan) (printed q h) (ap (λ b. cond b (sorted (distinct_tuples (answers q h))) []) d)

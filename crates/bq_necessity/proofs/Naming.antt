@@ -1,8 +1,6 @@
 -- What a part has by its definition: the name of a class, free columns, least and greatest values, the kind of what is kept.
 use Rattle.std.proofs.Common.{◌≡◌, ℕ, zero, suc, ◌⊎◌, inl, inr, List, [], ◌∷◌, true, ◌==◌, refl, sym, ◌∙◌, subst, arith, ℤ, pos, ◌+ℤ◌, ◌-ℤ◌, ◌≤ℤ◌, ◌<ℤ◌, nat_abs, Contains}
 use Rattle.std.proofs.lemmas.Int.{ints, by_lt_z}
-use Rattle.bq_model.proofs.OneGroup.{one_group_itself, one_group_turned, one_group_along, one_group_onward}
-use Rattle.bq_model.specs.Links.{IsElementOf}
 use Rattle.bq_model.proofs.Has.{Has, first, later, Has-from_contains, Contains-from_has}
 use Rattle.bq_model.proofs.Unique.{Ascends, more}
 use Rattle.bq_model.proofs.Ascending.{Ascends-attrs_of}
@@ -49,11 +47,11 @@ module _ (q : QueryValue) (s : List Sign) (p : IsPart q s) where
   ]
 
   pub class_itself : (a : Attr) → AreOneClass q s a a
-  class_itself a = record { named = inl refl; stream = refl; group = one_group_itself q a; equal = record { equal = λ v i. refl } }
+  class_itself a = record { named = inl refl; stream = refl; equal = record { equal = λ v i. refl } }
 
   pub class_turned : (a b : Attr) → AreOneClass q s a b → AreOneClass q s b a
   class_turned a b c =
-      record { named = elim c.named [ inl e ↦ inl (sym e) | inr n ↦ inr (n.1, n.0) ]; stream = sym c.stream; group = one_group_turned q a b c.group; equal = record { equal = λ v i. sym (c.equal.equal v i) } }
+      record { named = elim c.named [ inl e ↦ inl (sym e) | inr n ↦ inr (n.1, n.0) ]; stream = sym c.stream; equal = record { equal = λ v i. sym (c.equal.equal v i) } }
 
   -- what is of one class with an attribute is one
   pub class-named : (a b : Attr) → AreOneClass q s a b → Contains (attrs_of q.atoms) b → Contains (attrs_of q.atoms) a
@@ -61,7 +59,7 @@ module _ (q : QueryValue) (s : List Sign) (p : IsPart q s) where
 
   pub class_then : (a b c : Attr) → AreOneClass q s a b → AreOneClass q s b c → AreOneClass q s a c
   class_then a b c x y =
-      record { named = both-named a b c x.named y.named; stream = x.stream ∙ y.stream; group = one_group_onward q a b (element.Attr c) x.group y.group; equal = record { equal = λ v i. x.equal.equal v i ∙ y.equal.equal v i } }
+      record { named = both-named a b c x.named y.named; stream = x.stream ∙ y.stream; equal = record { equal = λ v i. x.equal.equal v i ∙ y.equal.equal v i } }
     where
       both-named : (a b c : Attr) → (a ≡ b) ⊎ (Contains (attrs_of q.atoms) a × Contains (attrs_of q.atoms) b) → (b ≡ c) ⊎ (Contains (attrs_of q.atoms) b × Contains (attrs_of q.atoms) c)
           → (a ≡ c) ⊎ (Contains (attrs_of q.atoms) a × Contains (attrs_of q.atoms) c)
@@ -143,9 +141,6 @@ module _ (q : QueryValue) (s : List Sign) (p : IsPart q s) where
     below = λ v i. subst (λ x. x ≤ℤ b.high) (c.equal.equal v i) (b.below v i);
   }
 
-  along : (n a : Attr) (e : Element) → AreOneClass q s n a → IsElementOf q n e → IsElementOf q a e
-  along n a e c i = record { named = i.named; group = one_group_along q n a e c.group i.group }
-
   less-left : (n a : Attr) (y : Element) → AreOneClass q s n a → IsLess q s (element.Attr n) y → IsLess q s (element.Attr a) y
   less-left n a y c l = record { less = λ v i. subst (λ x. x <ℤ value y v) (c.equal.equal v i) (l.less v i) }
 
@@ -156,9 +151,9 @@ module _ (q : QueryValue) (s : List Sign) (p : IsPart q s) where
   equal-left n a y c l = record { equal = λ v i. sym (c.equal.equal v i) ∙ l.equal v i }
 
   redundant-left : (n a y : Attr) → AreOneClass q s n a → IsRedundant q s n y → IsRedundant q s a y
-  redundant-left n a y c (between e i l m) = between e (along n a e c i) (less-left n a e c l) m
-  redundant-left n a y c (equal_left k i e l) = equal_left k (along n a (element.Const k) c i) (equal-left n a (element.Const k) c e) l
-  redundant-left n a y c (equal_right k i l e) = equal_right k (along n a (element.Const k) c i) (less-left n a (element.Const k) c l) e
+  redundant-left n a y c (between e i l m) = between e i (less-left n a e c l) m
+  redundant-left n a y c (equal_left k i e l) = equal_left k i (equal-left n a (element.Const k) c e) l
+  redundant-left n a y c (equal_right k i l e) = equal_right k i (less-left n a (element.Const k) c l) e
 
   redundant-right : (n a y : Attr) → AreOneClass q s n a → IsRedundant q s y n → IsRedundant q s y a
   redundant-right n a y c (between e i l m) = between e i l (less-right n a e c m)
@@ -171,7 +166,7 @@ module _ (q : QueryValue) (s : List Sign) (p : IsPart q s) where
     unbounded = λ b. m.unbounded (bounded-along n a c b);
     other = m.other;
     inequality = record {
-      across = record { left = class-named n a c m.inequality.across.left; right = m.inequality.across.right; across = λ e. m.inequality.across.across (sym c.stream ∙ e); group = one_group_onward q n a (element.Attr m.other) c.group m.inequality.across.group };
+      across = record { left = class-named n a c m.inequality.across.left; right = m.inequality.across.right; across = λ e. m.inequality.across.across (sym c.stream ∙ e) };
       less = less-left a n (element.Attr m.other) (class_turned n a c) m.inequality.less;
       needed = λ r. m.inequality.needed (redundant-left n a m.other c r);
     };
@@ -182,7 +177,7 @@ module _ (q : QueryValue) (s : List Sign) (p : IsPart q s) where
     unbounded = λ b. m.unbounded (bounded-along n a c b);
     other = m.other;
     inequality = record {
-      across = record { left = m.inequality.across.left; right = class-named n a c m.inequality.across.right; across = λ e. m.inequality.across.across (e ∙ c.stream); group = one_group_onward q m.other a (element.Attr n) m.inequality.across.group (one_group_turned q n a c.group) };
+      across = record { left = m.inequality.across.left; right = class-named n a c m.inequality.across.right; across = λ e. m.inequality.across.across (e ∙ c.stream) };
       less = less-right a n (element.Attr m.other) (class_turned n a c) m.inequality.less;
       needed = λ r. m.inequality.needed (redundant-right n a m.other c r);
     };

@@ -1,27 +1,32 @@
 -- The evaluator that keeps the cells and the printed tuples, as one number, and that it is right.
-use Rattle.std.proofs.Common.{◌≡◌, ℕ, List, [], ◌∷◌, ◌++◌, map, length, cond, Bool, true, false, refl, sym, ap, ap₂, ◌∙◌, ℤ}
+use Rattle.std.proofs.Common.{◌≡◌, ℕ, List, [], ◌∷◌, ◌++◌, map, length, cond, Bool, true, false, refl, sym, ap, ap₂, ◌∙◌, arith, ℤ}
 use Rattle.std.proofs.lemmas.List.{length-map}
-use Rattle.std.specs.declared.option.Option.TheVariants.{None}
+use Rattle.std.proofs.lemmas.List.Elements.{All-contains}
 use Rattle.bq_model.specs.declared.cell.Cell.{Cell}
 use Rattle.bq_model.specs.declared.plan.PartPlan.{PartPlan}
 use Rattle.bq_model.specs.Query.{QueryValue, IsWithinLimits}
 use Rattle.bq_model.specs.Meaning.{Arrival, answers, new_answers}
 use Rattle.bq_model.specs.Tuples.{sorted, distinct_tuples}
-use Rattle.bq_model.specs.Violation.{IsViolation}
-use Rattle.bq_model.specs.Plan.{IsPlanned}
-use Rattle.bq_model.specs.Cells.{synopsis, printed}
+use Rattle.bq_model.specs.Domains.{RowKeeps, RowsKeep}
+use Rattle.bq_model.specs.Plan.{Follow}
+use Rattle.bq_model.specs.Serving.{KeepsStreams}
+use Rattle.bq_model.specs.Cells.{cell_of, laid_out, synopsis, printed}
+use Rattle.bq_model.proofs.Has.{first, later, Has-from_contains}
 use Rattle.bq_model.specs.Combinations.{read_from}
 use Rattle.bq_model.specs.Future.{future}
 use Rattle.bq_model.specs.Merge.{merge, merged_table}
 use Rattle.bq_model.specs.Ranges.{all_tuples}
 use Rattle.bq_model.specs.Numbers.{cell_count}
-use Rattle.bq_laws.proofs.Sufficiency.{synopsis-suffices}
+use Rattle.bq_laws.specs.Sufficiency.{IsReadingOf, IsPlannedAnywhere, nothing, anywhere}
+use Rattle.bq_laws.proofs.Keeping.{row-keeps, rows-keep, rows-more-keep}
+use Rattle.bq_laws.proofs.LaidOut.{laid-out-at}
+use Rattle.bq_laws.proofs.Sufficiency.{readings-suffice, none-read}
+use Rattle.bq_laws.proofs.Walking.{serving-keep}
 use Rattle.bq_laws.proofs.Merge.{synopses-merge, printed-grows}
 use Rattle.bq_laws.proofs.Numbering.{synopsis-has-cells}
 use Rattle.bq_laws.proofs.Interleaving.{appended, ended}
-use Rattle.bq_necessity.specs.Plain.{HasNoDomains}
-use Rattle.bq_necessity.proofs.Plainly.{row-none, rows-none}
-use Rattle.bq_necessity.specs.States.{Evaluator, after, IsRight}
+use Rattle.bq_necessity.specs.States.{Evaluator, after}
+use Rattle.bq_necessity.specs.Within.{IsRightOn}
 use Rattle.bq_necessity.proofs.Pairing.{paired, parted, parted-paired, coded, numbers, numbers-coded}
 use Rattle.bq_necessity.proofs.Numbering.{cell_at, number, cells-numbered}
 use Rattle.bq_necessity.proofs.Marks.{mark, marked, table-again, printed-is}
@@ -66,21 +71,36 @@ cells-again q plan h =
     ∙ ap (λ (k : ℕ). map cell_at (numbers k (coded (map number cells)))) n
     ∙ ap (map cell_at) (numbers-coded (map number cells)) ∙ cells-numbered cells
 
-module _ (q : QueryValue) (plan : List PartPlan) (within : IsWithinLimits q) (none : HasNoDomains q) (is : IsPlanned q plan) (violation : IsViolation q None) where
-  table-stands : (h : List Arrival) → table_of q plan (standing q plan h) ≡ printed q h
+-- the synopsis gives the cells of its history
+reads : (q : QueryValue) (plan : List PartPlan) → IsPlannedAnywhere q plan → Follow 0 plan → (h : List Arrival) → IsReadingOf q plan h (read_from (synopsis q plan h))
+unfolding synopsis
+reads q plan (nothing f e) follow h = none-read q plan h (read_from (synopsis q plan h)) e
+reads q plan (anywhere n is) follow h = found
+  where
+    found : IsReadingOf q plan h (read_from (laid_out (cell_of q h) plan))
+    found part k place i l b =
+        let keeps : KeepsStreams q part = All-contains (KeepsStreams q) plan part (serving-keep q plan is.serves) k in
+        laid-out-at (cell_of q h) plan follow part (Has-from_contains plan part k) place i (omega (arith, l, keeps.count)) b Cell.Empty
+
+module _ (q : QueryValue) (plan : List PartPlan) (within : IsWithinLimits q) (planned : IsPlannedAnywhere q plan) (follow : Follow 0 plan) where
+  table-stands : (h : List Arrival) → RowsKeep q h → table_of q plan (standing q plan h) ≡ printed q h
   unfolding state table_of
-  table-stands h =
+  table-stands h keep =
       let ts : List (List ℤ) = all_tuples q plan in
       let marks : List ℕ = map (mark (printed q h)) ts in
       let n : length ts ≡ length marks = sym (length-map ts (mark (printed q h))) in
       ap (λ (p : ℕ × ℕ). sorted (distinct_tuples (marked (numbers (length ts) p.1) ts))) (parted-paired (coded (map number (synopsis q plan h))) (coded marks))
       ∙ ap (λ (k : ℕ). sorted (distinct_tuples (marked (numbers k (coded marks)) ts))) n
-      ∙ ap (λ (ms : List ℕ). sorted (distinct_tuples (marked ms ts))) (numbers-coded marks) ∙ table-again ts (printed q h) (printed-is q plan within none is violation h)
+      ∙ ap (λ (ms : List ℕ). sorted (distinct_tuples (marked ms ts))) (numbers-coded marks) ∙ table-again ts (printed q h) (printed-is q plan within planned h keep)
 
-  says-right : (h : List Arrival) (r : Arrival) → (evaluator q plan).says (standing q plan h) r ≡ new_answers q h r
-  says-right h r =
+  -- the cells and the printed tuples tell the answers to the next row
+  tells : (h : List Arrival) (r : Arrival) → RowsKeep q h → RowKeeps q r → future q plan (read_from (synopsis q plan h)) (printed q h) r ≡ new_answers q h r
+  tells h r keep_h keep_r = readings-suffice q plan within planned h keep_h (read_from (synopsis q plan h)) (reads q plan planned follow h) r keep_r
+
+  says-right : (h : List Arrival) (r : Arrival) → RowsKeep q h → RowKeeps q r → (evaluator q plan).says (standing q plan h) r ≡ new_answers q h r
+  says-right h r keep_h keep_r =
       ap (λ (cells : List Cell). said q plan cells (table_of q plan (standing q plan h)) r) (cells-again q plan h)
-      ∙ ap (λ (table : List (List ℤ)). said q plan (synopsis q plan h) table r) (table-stands h) ∙ synopsis-suffices q plan within is violation h r (rows-none q none h) (row-none q none r)
+      ∙ ap (λ (table : List (List ℤ)). said q plan (synopsis q plan h) table r) (table-stands h keep_h) ∙ tells h r keep_h keep_r
 
   printed-next : (h : List Arrival) (r : Arrival) → cond q.distinct (merged_table (printed q h) (new_answers q h r)) [] ≡ printed q (h ++ r ∷ [])
   printed-next h r = by q.distinct refl
@@ -91,21 +111,24 @@ module _ (q : QueryValue) (plan : List PartPlan) (within : IsWithinLimits q) (no
           ap (λ b. cond b (merged_table (printed q h) (new_answers q h r)) []) d
           ∙ sym (ap (λ b. cond b (sorted (distinct_tuples (answers q (h ++ r ∷ [])))) []) d)
 
-  steps-right : (h : List Arrival) (r : Arrival) → (evaluator q plan).step (standing q plan h) r ≡ standing q plan (h ++ r ∷ [])
-  steps-right h r =
+  steps-right : (h : List Arrival) (r : Arrival) → RowsKeep q h → RowKeeps q r → (evaluator q plan).step (standing q plan h) r ≡ standing q plan (h ++ r ∷ [])
+  steps-right h r keep_h keep_r =
       ap (λ (cells : List Cell). grown q plan cells (table_of q plan (standing q plan h)) r) (cells-again q plan h)
-      ∙ ap (λ (table : List (List ℤ)). grown q plan (synopsis q plan h) table r) (table-stands h)
-      ∙ ap (λ (new : List (List ℤ)). state q plan (merge plan (synopsis q plan h) (synopsis q plan (r ∷ []))) (cond q.distinct (merged_table (printed q h) new) [])) (synopsis-suffices q plan within is violation h r (rows-none q none h) (row-none q none r))
+      ∙ ap (λ (table : List (List ℤ)). grown q plan (synopsis q plan h) table r) (table-stands h keep_h)
+      ∙ ap (λ (new : List (List ℤ)). state q plan (merge plan (synopsis q plan h) (synopsis q plan (r ∷ []))) (cond q.distinct (merged_table (printed q h) new) [])) (tells h r keep_h keep_r)
       ∙ ap₂ (state q plan) (sym (synopses-merge q plan h (r ∷ []))) (printed-next h r)
 
-  comes : (done h : List Arrival) → after (evaluator q plan) (standing q plan done) h ≡ standing q plan (done ++ h)
-  comes done [] = ap (standing q plan) (sym (ended done))
-  comes done (r ∷ h) =
-      ap (λ (s : ℕ). after (evaluator q plan) s h) (steps-right done r) ∙ comes (done ++ r ∷ []) h ∙ ap (standing q plan) (appended done r h)
+  comes : (done h : List Arrival) → RowsKeep q done → RowsKeep q h → after (evaluator q plan) (standing q plan done) h ≡ standing q plan (done ++ h)
+  comes done [] keep rest = ap (standing q plan) (sym (ended done))
+  comes done (r ∷ h) keep rest =
+      let one : RowKeeps q r = row-keeps q (r ∷ h) rest r first in
+      let more : RowsKeep q h = rows-keep q h (λ o i. row-keeps q (r ∷ h) rest o (later i)) in
+      ap (λ (s : ℕ). after (evaluator q plan) s h) (steps-right done r keep one) ∙ comes (done ++ r ∷ []) h (rows-more-keep q done r keep one) more
+      ∙ ap (standing q plan) (appended done r h)
 
   -- after each history the evaluator is in its state
-  pub comes-to : (h : List Arrival) → after (evaluator q plan) (evaluator q plan).start h ≡ standing q plan h
-  comes-to h = comes [] h
+  pub comes-to : (h : List Arrival) → RowsKeep q h → after (evaluator q plan) (evaluator q plan).start h ≡ standing q plan h
+  comes-to h keep = comes [] h (rows-keep q [] (λ r i. elim i [ ])) keep
 
-  pub evaluates : IsRight q (evaluator q plan)
-  evaluates h r = ap (λ (s : ℕ). (evaluator q plan).says s r) (comes-to h) ∙ says-right h r
+  pub evaluates : IsRightOn (RowKeeps q) q (evaluator q plan)
+  evaluates h r keep_h keep_r = ap (λ (s : ℕ). (evaluator q plan).says s r) (comes-to h keep_h) ∙ says-right h r keep_h keep_r

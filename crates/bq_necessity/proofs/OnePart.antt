@@ -89,11 +89,11 @@ module _ (q : QueryValue) (s : List Sign) (p : IsPart q s) (none : HasNoDomains 
       let n : value z p.one <ℤ p.one y = b.less p.one p.inside in
       omega (arith, ints, e, m, n)
   needed x y e l (equal_left k h a b) =
-      let f : pos 5 ≡ k = five k h.named in
+      let f : pos 5 ≡ k = five k h in
       let m : p.one x ≡ k = a.equal p.one p.inside in
       omega (arith, ints, f, m, l)
   needed x y e l (equal_right k h a b) =
-      let f : pos 5 ≡ k = five k h.named in
+      let f : pos 5 ≡ k = five k h in
       let m : p.one x <ℤ k = a.less p.one p.inside in
       omega (arith, ints, f, m, l)
 

@@ -3,11 +3,6 @@ use Rattle.std.proofs.Common.{◌≡◌, ◌⊎◌, inl, inr, List, [], ◌∷�
 use Rattle.std.proofs.lemmas.List.Elements.{All-contains}
 use Rattle.std.specs.List.{flat_map, list_all}
 use Rattle.std.specs.Prelude.{IsFalse}
-use Rattle.bq_model.proofs.OneGroup.{plain_is_one_group}
-use Rattle.bq_model.proofs.Has.{Has-filter_from}
-use Rattle.bq_model.specs.Groups.{in_one_group}
-use Rattle.bq_model.specs.Parts.{all_pairs}
-use Rattle.bq_model.specs.Links.{IsElementOf}
 use Rattle.bq_model.proofs.Has.{Has, Has-append_cases, Has-flat_map_from, Has-map_from, Contains-from_has}
 use Rattle.bq_model.proofs.Local.{PairOf}
 use Rattle.bq_model.proofs.Once.{once_has}
@@ -61,7 +56,7 @@ soft_sides t p h = by (is_soft t.op) refl h
 pub pair_cases : (q : QueryValue) (p : Pair) → Has (pairs q) p
     → IsLocal p.left p.right ⊎ ((t : Atom) × Has q.atoms t × Has (pair_of t.left t.right) p × (is_soft t.op ≡ true))
 unfolding pairs
-pair_cases q p h = elim (Has-append_cases (flat_map soft_pair q.atoms) (pairs_among (attrs_of q.atoms) (consts_of q.atoms)) p (once_has _ p (Has-filter_from (λ p. in_one_group q p.left p.right) (all_pairs q.atoms) p h))) [
+pair_cases q p h = elim (Has-append_cases (flat_map soft_pair q.atoms) (pairs_among (attrs_of q.atoms) (consts_of q.atoms)) p (once_has _ p h)) [
   | inl k ↦ (
       let r : (t : Atom) × Has q.atoms t × Has (soft_pair t) p = Has-flat_map_from soft_pair q.atoms p k in
       let o = soft_sides r.0 p r.2 in
@@ -85,10 +80,6 @@ pub over-ends : (q : QueryValue) → HasNoDomains q → (P : ℤ → Type 0) →
 over-ends q none P f k h = f k (subst (λ ks. Contains ks k) (ends-are q none) h)
 
 -- each assignment keeps to the domains
--- in a query that is not compact each constant is of each group
-pub const_there : (q : QueryValue) → q.compact ≡ false → (a : Attr) (k : ℤ) → Contains (consts_of q.atoms) k → IsElementOf q a (element.Const k)
-const_there q whole a k h = record { named = h; group = (plain_is_one_group q whole).1 a (element.Const k) }
-
 pub keeps-none : (q : QueryValue) → HasNoDomains q → (v : Assignment) → KeepsDomains q v
 keeps-none q none v = ap (λ (ds : List Domain). list_all (λ d. lies_in d (v d.attr)) ds) none
 

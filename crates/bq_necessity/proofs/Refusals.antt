@@ -1,8 +1,6 @@
 -- An unbounded column that is selected, or equal to one of another stream, gives a family.
 use Rattle.std.proofs.Common.{◌≡◌, ◌≢◌, ℕ, zero, suc, ◌+◌, ◌<◌, ◌≤◌, ◌⊎◌, inl, inr, List, length, not, Bool, true, false, ◌&&◌, refl, sym, ◌∙◌, arith, nat_eq, nat_abs, ℤ, ◌<ℤ◌, Contains}
 use Rattle.std.proofs.lemmas.List.Elements.{All-contains}
-use Rattle.bq_model.proofs.OneGroup.{one_group_turned}
-use Rattle.bq_necessity.proofs.Plainly.{const_there}
 use Rattle.bq_model.proofs.Has.{Has-from_contains, same_at}
 use Rattle.bq_model.proofs.Bounded.{enclosed, too_high, too_low, standing, bounded_between, attr_lt_const, const_lt_attr, sides_are_bounded_together}
 use Rattle.bq_model.specs.declared.atom.Attr.{Attr}
@@ -82,17 +80,17 @@ module _ (q : QueryValue) (within : IsFormed q) (none : HasNoDomains q) (whole :
 
   -- no constant parts the sides of a nonredundant inequality
   no_constant : (x y : Attr) → IsInequality q s x y → (k : ℤ) → Contains (consts_of q.atoms) k → p.one x <ℤ k → k <ℤ p.one y → ⊥
-  no_constant x y i k h l m = i.needed (between (element.Const k) (const_there q whole x k h)
-      (attr_lt_const q s p x k i.across.left (const_there q whole x k h) l) (const_lt_attr q s p y k i.across.right (const_there q whole y k h) m))
+  no_constant x y i k h l m = i.needed (between (element.Const k) h
+      (attr_lt_const q s p x k i.across.left h l) (const_lt_attr q s p y k i.across.right h m))
 
   pub same-end : (x y : Attr) → IsInequality q s x y → ¬ IsBounded q s x → ¬ IsBounded q s y → SameEnd x y
   same-end x y i n m = elim (standing q s p x) [
     | enclosed low high g h l o ↦ absurd (n (bounded_between q s p x low high i.across.left g h l o))
-    | too_high f ↦ both_up (over-ends q none (λ k. k <ℤ p.one x) (λ k h. f k (const_there q whole x k h)))
+    | too_high f ↦ both_up (over-ends q none (λ k. k <ℤ p.one x) (λ k h. f k h))
     | too_low f ↦ elim (standing q s p y) [
       | enclosed low high g h l o ↦ absurd (m (bounded_between q s p y low high i.across.right g h l o))
-      | too_low g ↦ both_down (over-ends q none (λ k. p.one y <ℤ k) (λ k h. g k (const_there q whole y k h)))
-      | too_high g ↦ both_up (over-ends q none (λ k. k <ℤ p.one x) (λ k h. absurd (no_constant x y i k h (f k (const_there q whole x k h)) (g k (const_there q whole y k h)))))
+      | too_low g ↦ both_down (over-ends q none (λ k. p.one y <ℤ k) (λ k h. g k h))
+      | too_high g ↦ both_up (over-ends q none (λ k. k <ℤ p.one x) (λ k h. absurd (no_constant x y i k h (f k h) (g k h))))
     ]
   ]
 
@@ -126,6 +124,6 @@ module _ (q : QueryValue) (within : IsFormed q) (plain : IsPlain q) (s : List Si
   breaks-need joins C1 a b n = first-needs q within plain.domains plain.compact s p joins a b.0 b.1
   breaks-need joins C2 a b n = elim b.2 [
     | inl e ↦ second-needs a b.1 b.0 e.across (λ v i. e.equal.equal v i)
-    | inr e ↦ second-needs a b.1 b.0 record { left = e.across.right; right = e.across.left; across = λ f. e.across.across (sym f); group = one_group_turned q b.1 a e.across.group } (λ v i. sym (e.equal.equal v i))
+    | inr e ↦ second-needs a b.1 b.0 record { left = e.across.right; right = e.across.left; across = λ f. e.across.across (sym f) } (λ v i. sym (e.equal.equal v i))
   ]
   breaks-need joins C3 a b n = absurd (n refl)

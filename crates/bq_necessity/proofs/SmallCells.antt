@@ -1,17 +1,17 @@
 -- The cells of a history of few rows with values within a bound are among few.
-use Rattle.std.proofs.Common.{◌≡◌, ℕ, zero, suc, ◌<◌, ◌≤◌, ◌+◌, ◌*◌, ◌⊎◌, inl, inr, List, [], ◌∷◌, filter, length, cond, Bool, true, false, ◌&&◌, ◌==◌, nat_eq, refl, sym, subst, arith, ℤ, pos, negsuc, nat_abs, int_lt, slice_index_or}
+use Rattle.std.proofs.Common.{◌≡◌, ◌≢◌, ◌↔◌, All, ℕ, zero, suc, ◌<◌, ◌≤◌, ◌+◌, ◌*◌, ◌⊎◌, inl, inr, List, [], ◌∷◌, filter, length, cond, Bool, true, false, ◌&&◌, ◌==◌, nat_eq, refl, sym, subst, arith, ℤ, pos, negsuc, nat_abs, int_lt, slice_index_or}
 use Rattle.std.proofs.lemmas.List.{length-map}
 use Rattle.std.proofs.lemmas.List.Elements.{All-contains}
 use Rattle.bq_model.proofs.Has.{Has, first, later, Has-append_cases, Has-map_from, Has-filter_from, Contains-from_has}
 use Rattle.bq_model.specs.declared.atom.Attr.{Attr}
 use Rattle.bq_model.specs.declared.cell.Cell.{Cell}
-use Rattle.bq_model.specs.declared.part.Sign.{Sign}
 use Rattle.bq_model.specs.declared.plan.Kind.{Kind}
 use Rattle.bq_model.specs.declared.plan.PartPlan.{PartPlan}
 use Rattle.bq_model.specs.declared.plan.StreamPlan.{StreamPlan}
 use Rattle.bq_model.specs.Query.{QueryValue}
 use Rattle.bq_model.specs.Meaning.{Arrival, rows, by_column}
-use Rattle.bq_model.specs.Plan.{IsKind, IsPartPlan, IsPlanned, filter as of_filter, parts, stream_at}
+use Rattle.bq_model.specs.Plan.{stream_at}
+use Rattle.bq_model.specs.Serving.{KeepsStreams}
 use Rattle.bq_model.specs.Cells.{least, greatest, content, cell_of, row_place, upto, by_box, laid_out, synopsis}
 use Rattle.bq_model.specs.Admission.{admits}
 use Rattle.bq_necessity.specs.States.{IsWithin, AreWithin}
@@ -114,21 +114,30 @@ greatest-within most a z (row ∷ rows) k h =
     let v : ℤ = by_column row a.column in
     greatest-within most a (cond (int_lt z v) v z) rows (either-within most (int_lt z v) v z (value-within most row a.column (h row first)) k) (λ other i. h other (later i))
 
-content-among : (q : QueryValue) (signs : List Sign) (place n bound : ℕ) (kind : Kind) → IsKind q signs place kind → (rows : List (List ℤ)) → length rows ≤ n → AllWithin bound rows
+-- cells that do not count are those of DISTINCT
+not-counted : (d : Bool) (kind : Kind) → (kind ≡ Kind.Count) ↔ (d ≡ false) → kind ≢ Kind.Count → d ≡ true
+not-counted true kind k n = refl
+not-counted false kind k n = absurd (n (k.1 refl))
+
+content-among : (q : QueryValue) (n bound : ℕ) (kind : Kind) → (kind ≡ Kind.Count) ↔ (q.distinct ≡ false) → (rows : List (List ℤ)) → length rows ≤ n → AllWithin bound rows
     → Has (contents q.distinct n bound) (content kind rows)
-content-among q signs place n bound Kind.Count k [] l h = subst (λ d. Has (contents d n bound) Cell.Empty) (sym k) (empty-counting n)
-content-among q signs place n bound Kind.Count k (row ∷ rows) l h =
-    subst (λ d. Has (contents d n bound) (Cell.Count (suc (length rows)))) (sym k) (count-counting n (length rows) l)
-content-among q signs place n bound Kind.Present k [] l h = subst (λ d. Has (contents d n bound) Cell.Empty) (sym k.0) (empty-valued bound)
-content-among q signs place n bound Kind.Present k (row ∷ rows) l h = subst (λ d. Has (contents d n bound) Cell.Present) (sym k.0) (present-valued bound)
-content-among q signs place n bound (Kind.Least a) k [] l h = subst (λ d. Has (contents d n bound) Cell.Empty) (sym k.0) (empty-valued bound)
-content-among q signs place n bound (Kind.Least a) k (row ∷ rows) l h =
-    subst (λ d. Has (contents d n bound) (Cell.Extreme (least a (by_column row a.column) rows))) (sym k.0)
+content-among q n bound Kind.Count k [] l h = subst (λ d. Has (contents d n bound) Cell.Empty) (sym (k.0 refl)) (empty-counting n)
+content-among q n bound Kind.Count k (row ∷ rows) l h =
+    subst (λ d. Has (contents d n bound) (Cell.Count (suc (length rows)))) (sym (k.0 refl)) (count-counting n (length rows) l)
+content-among q n bound Kind.Present k [] l h =
+    subst (λ d. Has (contents d n bound) Cell.Empty) (sym (not-counted q.distinct Kind.Present k (λ e. cc))) (empty-valued bound)
+content-among q n bound Kind.Present k (row ∷ rows) l h =
+    subst (λ d. Has (contents d n bound) Cell.Present) (sym (not-counted q.distinct Kind.Present k (λ e. cc))) (present-valued bound)
+content-among q n bound (Kind.Least a) k [] l h =
+    subst (λ d. Has (contents d n bound) Cell.Empty) (sym (not-counted q.distinct (Kind.Least a) k (λ e. cc))) (empty-valued bound)
+content-among q n bound (Kind.Least a) k (row ∷ rows) l h =
+    subst (λ d. Has (contents d n bound) (Cell.Extreme (least a (by_column row a.column) rows))) (sym (not-counted q.distinct (Kind.Least a) k (λ e. cc)))
     (extreme-valued bound (least a (by_column row a.column) rows)
     (least-within bound a (by_column row a.column) rows (value-within bound row a.column (h row first)) (λ other i. h other (later i))))
-content-among q signs place n bound (Kind.Greatest a) k [] l h = subst (λ d. Has (contents d n bound) Cell.Empty) (sym k.0) (empty-valued bound)
-content-among q signs place n bound (Kind.Greatest a) k (row ∷ rows) l h =
-    subst (λ d. Has (contents d n bound) (Cell.Extreme (greatest a (by_column row a.column) rows))) (sym k.0)
+content-among q n bound (Kind.Greatest a) k [] l h =
+    subst (λ d. Has (contents d n bound) Cell.Empty) (sym (not-counted q.distinct (Kind.Greatest a) k (λ e. cc))) (empty-valued bound)
+content-among q n bound (Kind.Greatest a) k (row ∷ rows) l h =
+    subst (λ d. Has (contents d n bound) (Cell.Extreme (greatest a (by_column row a.column) rows))) (sym (not-counted q.distinct (Kind.Greatest a) k (λ e. cc)))
     (extreme-valued bound (greatest a (by_column row a.column) rows)
     (greatest-within bound a (by_column row a.column) rows (value-within bound row a.column (h row first)) (λ other i. h other (later i))))
 
@@ -156,11 +165,11 @@ module _ (n bound : ℕ) (h : List Arrival) (few : length h ≤ n) (within : Are
       = Has-map_from (λ (r : Arrival). r.values) (filter (λ (r : Arrival). r.stream == stream) h) row k in
       subst (IsWithin bound) s.2 (arrival-within bound h s.0 within (Has-filter_from (λ (r : Arrival). r.stream == stream) h s.0 s.1))
 
-  cell-among : (q : QueryValue) (part : PartPlan) → IsPartPlan q part → (place i : ℕ) → place < length part.streams.items → Has (contents q.distinct n bound) (cell_of q h part place i)
-  cell-among q part is place i l =
+  cell-among : (q : QueryValue) (part : PartPlan) → KeepsStreams q part → (place i : ℕ) → place < length part.streams.items → Has (contents q.distinct n bound) (cell_of q h part place i)
+  cell-among q part keeps place i l =
       let test : List ℤ → Bool = λ row. admits q part place (by_column row) && nat_eq (row_place (stream_at part place).dims.items (by_column row)) i in
       let all : List (List ℤ) = rows h (slice_index_or q.from place 0) in
-      content-among q part.signs.items place n bound (stream_at part place).kind (is.streams place (omega (arith, l, is.count))).kind (filter test all)
+      content-among q n bound (stream_at part place).kind (keeps.kind place (omega (arith, l, keeps.count))) (filter test all)
       (omega (arith, filter-shorter test all, rows-few (slice_index_or q.from place 0)))
       (λ row k. rows-within (slice_index_or q.from place 0) row (Has-filter_from test all row k))
 
@@ -194,16 +203,9 @@ module _ {X : Type 0} (P : X → Type 0) where
     | inr i ↦ all-laid_out f plan (λ p j. h p (later j)) x i
   ]
 
-pub synopsis-among : (q : QueryValue) (plan : List PartPlan) → IsPlanned q plan → (n bound : ℕ) (h : List Arrival) → length h ≤ n → AreWithin bound h
+pub synopsis-among : (q : QueryValue) (plan : List PartPlan) → All (KeepsStreams q) plan → (n bound : ℕ) (h : List Arrival) → length h ≤ n → AreWithin bound h
     → (c : Cell) → Has (synopsis q plan h) c → Has (contents q.distinct n bound) c
 unfolding synopsis
-synopsis-among q plan is n bound h few within c k =
-    all-laid_out (Has (contents q.distinct n bound)) (cell_of q h) plan (λ part j place i l. cell-among n bound h few within q part (part_plan is part j) place i l) c k
-  where
-    none : (plan : List PartPlan) → plan ≡ [] → (part : PartPlan) → Has plan part → IsPartPlan q part
-    none [] e part j = elim j [ ]
-    none (p ∷ plan) e part j = absurd cc
-
-    part_plan : IsPlanned q plan → (part : PartPlan) → Has plan part → IsPartPlan q part
-    part_plan (of_filter f e) part j = none plan e part j
-    part_plan (parts n is) part j = All-contains (IsPartPlan q) plan part is.plans (Contains-from_has plan part j)
+synopsis-among q plan keep n bound h few within c k =
+    all-laid_out (Has (contents q.distinct n bound)) (cell_of q h) plan
+    (λ part j place i l. cell-among n bound h few within q part (All-contains (KeepsStreams q) plan part keep (Contains-from_has plan part j)) place i l) c k

@@ -2,8 +2,6 @@
 use Rattle.std.proofs.Common.{◌≡◌, ◌≢◌, ℕ, zero, suc, ◌-◌, ◌⊎◌, inl, inr, List, [], ◌∷◌, true, false, refl, sym, subst, arith, nat_eq, ℤ, pos, ◌+ℤ◌, ◌-ℤ◌, ◌<ℤ◌, ◌≤ℤ◌, Contains, Some, slice_get}
 use Rattle.std.proofs.lemmas.Int.{ints}
 use Rattle.std.proofs.lemmas.List.Elements.{All-contains}
-use Rattle.bq_model.proofs.OneGroup.{one_group_turned}
-use Rattle.bq_necessity.proofs.Plainly.{const_there}
 use Rattle.bq_model.proofs.Has.{Has, first, later, Contains-from_has}
 use Rattle.bq_model.proofs.Bounded.{enclosed, too_high, too_low, standing, bounded_between}
 use Rattle.bq_model.specs.declared.atom.Attr.{Attr}
@@ -16,7 +14,7 @@ use Rattle.bq_model.specs.Laws.{ends_of}
 use Rattle.bq_model.specs.Links.{AreAcross}
 use Rattle.bq_model.specs.Order.{IsBounded}
 use Rattle.bq_model.specs.Parts.{InPart, IsPart}
-use Rattle.bq_model.specs.Violation.{Breaks, Failure, failure_lt, Fails, IsViolation, filter}
+use Rattle.bq_model.specs.Violation.{Breaks, Failure, failure_lt, IsViolation, filter}
 use Rattle.bq_model.specs.Violation as violation
 use Rattle.bq_necessity.specs.Plain.{HasNoDomains}
 use Rattle.bq_necessity.specs.States.{NeedsStates}
@@ -64,9 +62,9 @@ module _ (q : QueryValue) (within : IsFormed q) (none : HasNoDomains q) (whole :
   equal-need : (a b : Attr) → ¬ IsBounded q s a → AreAcross q a b → ((v : Assignment) → InPart q s v → v a ≡ v b) → NeedsStates q
   equal-need a b n across equal = elim (standing q s p a) [
     | enclosed low high i j l m ↦ absurd (n (bounded_between q s p a low high across.left i j l m))
-    | too_high f ↦ above-need a b across never (over-ends q none (λ k. k <ℤ p.one a) (λ k h. f k (const_there q whole a k h)))
+    | too_high f ↦ above-need a b across never (over-ends q none (λ k. k <ℤ p.one a) (λ k h. f k h))
     | too_low f ↦ below-need a b across never (λ k h. (let e : p.one a ≡ p.one b = equal p.one p.inside in
-        let l : p.one a <ℤ k = over-ends q none (λ k. p.one a <ℤ k) (λ k h. f k (const_there q whole a k h)) k h in omega (arith, ints, e, l)))
+        let l : p.one a <ℤ k = over-ends q none (λ k. p.one a <ℤ k) (λ k h. f k h) k h in omega (arith, ints, e, l)))
   ]
     where
       never : (v : Assignment) → InPart q s v → v a ≤ℤ v b
@@ -76,7 +74,7 @@ module _ (q : QueryValue) (within : IsFormed q) (none : HasNoDomains q) (whole :
   later-need C1 a n b = absurd (n refl)
   later-need C2 a n b = elim b.2 [
     | inl e ↦ equal-need a b.1 b.0 e.across (λ v i. e.equal.equal v i)
-    | inr e ↦ equal-need a b.1 b.0 record { left = e.across.right; right = e.across.left; across = λ f. e.across.across (sym f); group = one_group_turned q b.1 a e.across.group } (λ v i. sym (e.equal.equal v i))
+    | inr e ↦ equal-need a b.1 b.0 record { left = e.across.right; right = e.across.left; across = λ f. e.across.across (sym f) } (λ v i. sym (e.equal.equal v i))
   ]
   later-need C3 a n b = elim b.0 [
     | inl m ↦ (let t = unbounded-both q within none whole s p a m.other m.inequality (inl m.unbounded) in

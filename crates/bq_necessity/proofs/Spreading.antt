@@ -1,7 +1,6 @@
 -- Assignments of a part in which an unbounded column has different values.
 use Rattle.std.proofs.Common.{◌≡◌, ◌≢◌, ℕ, inl, inr, List, cond, true, false, sym, ◌∙◌, arith, ℤ, pos, ◌+ℤ◌, ◌-ℤ◌, ◌<ℤ◌, ◌≤ℤ◌, Contains, nat_abs, int_lt, ◌≤◌, ◌+◌, Bool, false}
 use Rattle.std.proofs.lemmas.Int.{ints}
-use Rattle.bq_necessity.proofs.Plainly.{const_there}
 use Rattle.bq_model.proofs.Has.{Contains-from_has}
 use Rattle.bq_model.proofs.Shift.{raised, raised-rises, raised-same, raised-above, lowered, lowered-rises, lowered-same, lowered-below, moved, InPart-moved}
 use Rattle.bq_model.proofs.Bounded.{enclosed, too_high, too_low, standing, bounded_between}
@@ -93,8 +92,8 @@ pub record Spread (q : QueryValue) (s : List Sign) (a : Attr) : Type 0 where
 spread_named : (q : QueryValue) → HasNoDomains q → q.compact ≡ false → (s : List Sign) (p : IsPart q s) (a : Attr) → Contains (attrs_of q.atoms) a → ¬ IsBounded q s a → Spread q s a
 spread_named q none whole s p a h n = elim (standing q s p a) [
   | enclosed low high i j l m ↦ absurd (n (bounded_between q s p a low high h i j l m))
-  | too_high f ↦ up (over-ends q none (λ k. k <ℤ p.one a) (λ k h. f k (const_there q whole a k h)))
-  | too_low f ↦ down (over-ends q none (λ k. p.one a <ℤ k) (λ k h. f k (const_there q whole a k h)))
+  | too_high f ↦ up (over-ends q none (λ k. k <ℤ p.one a) (λ k h. f k h))
+  | too_low f ↦ down (over-ends q none (λ k. p.one a <ℤ k) (λ k h. f k h))
 ]
   where
     above : (x c : ℤ) (i j : ℕ) → x +ℤ pos i ≡ x +ℤ pos j → i ≡ j

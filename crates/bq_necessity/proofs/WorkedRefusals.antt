@@ -124,7 +124,7 @@ module _ (distinct : Bool) where
 
   paid_equal : IsEquality q three_signs s_a t_c
   paid_equal = record {
-    across = record { left = (0, omega arith, refl); right = (2, omega arith, refl); across = λ e. omega (arith, e); group = refl };
+    across = record { left = (0, omega arith, refl); right = (2, omega arith, refl); across = λ e. omega (arith, e) };
     equal = record { equal = λ v i. paid_same v i.holds };
   }
 
@@ -191,7 +191,7 @@ under_link = record {
   unbounded = unbounded u three_signs under_part refl refl s_a under_six;
   other = t_c;
   inequality = record {
-    across = record { left = (0, omega arith, refl); right = (2, omega arith, refl); across = λ e. omega (arith, e); group = refl };
+    across = record { left = (0, omega arith, refl); right = (2, omega arith, refl); across = λ e. omega (arith, e) };
     less = record { less = λ v i. under_less v i.holds };
     needed = needed u three_signs under_part refl refl s_a t_c under_next under_six;
   };
@@ -280,7 +280,7 @@ module _ (distinct : Bool) where
     unbounded = unbounded w four_signs window_part refl refl s_a window_seven;
     other = t_d;
     inequality = record {
-      across = record { left = (0, omega arith, refl); right = (3, omega arith, refl); across = λ e. omega (arith, e); group = refl };
+      across = record { left = (0, omega arith, refl); right = (3, omega arith, refl); across = λ e. omega (arith, e) };
       less = record { less = λ v i. window_right v i.holds };
       needed = needed w four_signs window_part refl refl s_a t_d window_last window_seven;
     };
@@ -291,7 +291,7 @@ module _ (distinct : Bool) where
     unbounded = unbounded w four_signs window_part refl refl s_a window_seven;
     other = t_c;
     inequality = record {
-      across = record { left = (2, omega arith, refl); right = (0, omega arith, refl); across = λ e. omega (arith, e); group = refl };
+      across = record { left = (2, omega arith, refl); right = (0, omega arith, refl); across = λ e. omega (arith, e) };
       less = record { less = λ v i. window_left v i.holds };
       needed = needed w four_signs window_part refl refl t_c s_a window_next window_six;
     };

@@ -11,3 +11,5 @@ pub mod Closed
 pub mod Compact
 pub mod Unlike
 pub mod Loose
+pub mod Served
+pub mod Forms

@@ -1,5 +1,7 @@
 //! The counterpart of the law on refused queries, and both as one.
 ghost use Rattle.bq_necessity.specs.CatalogExact.{CatalogConditionsAreExact};
+ghost use Rattle.bq_necessity.specs.Forms.{FormsHaveFewStates, FormsNeedFewStates};
+ghost use Rattle.bq_necessity.specs.Served.{ServingHasStates, ServingHasFewStates};
 ghost use Rattle.bq_necessity.specs.Accepted.{PolynomiallyManyAreFew, AcceptedHasStates, FewStatesDecide, ConditionsAreExact, NoneLacksPlan};
 
 /// Polynomially many states, in the number of rows and the bound on their values, are few.
@@ -31,4 +33,26 @@ pub fn none_lacks_plan()
 /// The same of evaluators that are right only on rows as a catalog has them.
 pub fn catalog_conditions_are_exact()
     ensures { CatalogConditionsAreExact }
+{}
+
+/// Where the parts of a plan serve, or the query is a filter, some evaluator is right on rows within the domains, and has no more states than the cells
+/// and the answers of the plan tell.
+pub fn serving_has_states()
+    ensures { ServingHasStates }
+{}
+
+/// So it has few.
+pub fn serving_has_few_states()
+    ensures { ServingHasFewStates }
+{}
+
+/// A query that breaks no condition of its form and has a plan, compact or not, with domains and soft comparisons or without, has an evaluator that is
+/// right on rows within its domains and has few states.
+pub fn forms_have_few_states()
+    ensures { FormsHaveFewStates }
+{}
+
+/// So it does not need many on such rows.
+pub fn forms_need_few_states()
+    ensures { FormsNeedFewStates }
 {}

@@ -33,7 +33,7 @@ pub struct AtomAst {
     pub right: OperandAst,
 }
 
-/// A query as it is written: whether columns are compared within their groups alone, whether an answer counts once, the selected
+/// A query as it is written: whether it is planned by its forms, whether an answer counts once, the selected
 /// columns, the streams and the atoms.
 #[derive(Drop)]
 pub struct SelectAst {

@@ -57,7 +57,7 @@ pub choice_there : (q : QueryValue) (ps : List ChoiceValue) (ss : List Sign) (i 
 choice_there q ps ss i h p l = omega (arith, l, zip_length (IsChoice q) (pairs q) ps h, long q ss p)
 
 -- there is room for the constraints of one sign more
-pub room_for : (q : QueryValue) (ss : List Sign) (i n m : ℕ) → IsPart q ss → IsWithinLimits q → i < length ss → n + 2 * length (filter (λ t. is_soft t.op) q.atoms) ≤ 56 + 2 * i → m ≤ 2 → n + m ≤ 268
+pub room_for : (q : QueryValue) (ss : List Sign) (i n m : ℕ) → IsPart q ss → IsWithinLimits q → i < length ss → n + 2 * length (filter (λ t. is_soft t.op) q.atoms) ≤ 56 + 2 * i → m ≤ 2 → n + m ≤ 300
 room_for q ss i n m p w l h k = omega (arith, l, h, k, long q ss p, few_with_soft q w)
 
 -- ---- distances

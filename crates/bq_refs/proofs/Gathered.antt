@@ -102,26 +102,26 @@ module _ (q : QueryValue) (s : List Sign) where
 
   pub room_for_equality : (ls ys : List Link) (i : ℕ) (d : Link) → length (attrs_of q.atoms) ≤ 12 → AreLinksAcross q ls → i < length ls → IsOrderedEquality q s (slice_index_or ls i d) → Sifts (IsOrderedEquality q s) (take i ls) ys → length ys < 66
   room_for_equality ls ys i d few e l p t =
-      room_next (IsOrderedEquality q s) equality_one_way (λ m h. h.1.across.across) (attrs_of q.atoms) (Ascends-attrs_of q.atoms) few (IsAcross q) ls ys i d e l p t
+      room_next (IsOrderedEquality q s) equality_one_way (λ m h. h.1.across.across) (attrs_of q.atoms) (Ascends-attrs_of q.atoms) few IsAcross ls ys i d e l p t
 
   pub room_for_inequality : IsPart q s → (ls ys : List Link) (i : ℕ) (d : Link) → length (attrs_of q.atoms) ≤ 12 → AreLinksAcross q ls → i < length ls → IsOrderedInequality q s (slice_index_or ls i d) → Sifts (IsOrderedInequality q s) (take i ls) ys → length ys < 66
   room_for_inequality r ls ys i d few e l p t =
-      room_next (IsOrderedInequality q s) (inequality_one_way r) (λ m h. h.across.across) (attrs_of q.atoms) (Ascends-attrs_of q.atoms) few (IsAcross q) ls ys i d e l p t
+      room_next (IsOrderedInequality q s) (inequality_one_way r) (λ m h. h.across.across) (attrs_of q.atoms) (Ascends-attrs_of q.atoms) few IsAcross ls ys i d e l p t
 
   -- the sides of a link are attributes
   pub sides_among : (ls : List Link) (i : ℕ) (d : Link) → AreLinksAcross q ls → i < length ls → Contains (attrs_of q.atoms) (slice_index_or ls i d).left × Contains (attrs_of q.atoms) (slice_index_or ls i d).right
   sides_among ls i d e l =
       let h : Has ls (slice_index_or ls i d) = Has-from_contains ls _ (Contains-get_or ls i d l) in
-      let g : Has (links_among (attrs_of q.atoms) (attrs_of q.atoms)) (slice_index_or ls i d) = (member_from (IsAcross q) _ e h).0 in
+      let g : Has (links_among (attrs_of q.atoms) (attrs_of q.atoms)) (slice_index_or ls i d) = (member_from IsAcross _ e h).0 in
       let r : Has (attrs_of q.atoms) (slice_index_or ls i d).left × Has (attrs_of q.atoms) (slice_index_or ls i d).right = sides_of _ _ _ g in
       (Contains-from_has _ _ r.0, Contains-from_has _ _ r.1)
 
   -- the equalities of all links are those of the links across
   pub all_equalities : (ls ys : List Link) → AreLinksAcross q ls → Sifts (IsOrderedEquality q s) ls ys → Sifts (IsOrderedEquality q s) (links_among (attrs_of q.atoms) (attrs_of q.atoms)) ys
-  all_equalities ls ys a t = sift_twice (IsOrderedEquality q s) (IsAcross q) (λ m h. (h.1.across.across, h.1.across.group)) a t
+  all_equalities ls ys a t = sift_twice (IsOrderedEquality q s) IsAcross (λ m h. h.1.across.across) a t
 
   pub all_inequalities : (ls ys : List Link) → AreLinksAcross q ls → Sifts (IsOrderedInequality q s) ls ys → Sifts (IsOrderedInequality q s) (links_among (attrs_of q.atoms) (attrs_of q.atoms)) ys
-  all_inequalities ls ys a t = sift_twice (IsOrderedInequality q s) (IsAcross q) (λ m h. (h.across.across, h.across.group)) a t
+  all_inequalities ls ys a t = sift_twice (IsOrderedInequality q s) IsAcross (λ m h. h.across.across) a t
 
   pub are_inequalities : (ls : List Link) → Sifts (IsOrderedInequality q s) (links_among (attrs_of q.atoms) (attrs_of q.atoms)) ls → AreInequalities q s ls
   are_inequalities ls t = record {
@@ -143,12 +143,12 @@ module _ (q : QueryValue) (s : List Sign) where
   -- ---- redundant inequalities
 
   pub redundant_by_attr : (x y : Attr) → Any (λ a. LiesBetween q s x y (element.Attr a)) (attrs_of q.atoms) → IsRedundant q s x y
-  redundant_by_attr x y w = between (element.Attr w.1) record { named = (w.0, w.2, w.3); group = w.4.0 } w.4.1 w.4.2
+  redundant_by_attr x y w = between (element.Attr w.1) (w.0, w.2, w.3) w.4.0 w.4.1
 
   by_parts : (x y : Attr) (k : ℤ) → Contains (consts_of q.atoms) k → Parts q s x y (element.Const k) → IsRedundant q s x y
-  by_parts x y k h (middle m) = between (element.Const k) record { named = h; group = m.0 } m.1 m.2
-  by_parts x y k h (left m) = equal_left k record { named = h; group = m.0 } m.1 m.2
-  by_parts x y k h (right m) = equal_right k record { named = h; group = m.0 } m.1 m.2
+  by_parts x y k h (middle m) = between (element.Const k) h m.0 m.1
+  by_parts x y k h (left m) = equal_left k h m.0 m.1
+  by_parts x y k h (right m) = equal_right k h m.0 m.1
 
   pub redundant_by_const : (x y : Attr) → Any (λ k. Parts q s x y (element.Const k)) (consts_of q.atoms) → IsRedundant q s x y
   redundant_by_const x y w = by_parts x y w.1 (w.0, w.2, w.3) w.4
@@ -157,10 +157,10 @@ module _ (q : QueryValue) (s : List Sign) where
   any_of P xs x h p = (h.0, x, h.1, h.2, p)
 
   pub const_where_no_attr : (x y : Attr) → ¬ Any (λ a. LiesBetween q s x y (element.Attr a)) (attrs_of q.atoms) → IsRedundant q s x y → Any (λ k. Parts q s x y (element.Const k)) (consts_of q.atoms)
-  const_where_no_attr x y n (between (element.Attr a) h l m) = absurd (n (any_of (λ a. LiesBetween q s x y (element.Attr a)) (attrs_of q.atoms) a h.named (h.group, l, m)))
-  const_where_no_attr x y n (between (element.Const k) h l m) = any_of (λ k. Parts q s x y (element.Const k)) (consts_of q.atoms) k h.named (middle (h.group, l, m))
-  const_where_no_attr x y n (equal_left k h e l) = any_of (λ k. Parts q s x y (element.Const k)) (consts_of q.atoms) k h.named (left (h.group, e, l))
-  const_where_no_attr x y n (equal_right k h l e) = any_of (λ k. Parts q s x y (element.Const k)) (consts_of q.atoms) k h.named (right (h.group, l, e))
+  const_where_no_attr x y n (between (element.Attr a) h l m) = absurd (n (any_of (λ a. LiesBetween q s x y (element.Attr a)) (attrs_of q.atoms) a h (l, m)))
+  const_where_no_attr x y n (between (element.Const k) h l m) = any_of (λ k. Parts q s x y (element.Const k)) (consts_of q.atoms) k h (middle (l, m))
+  const_where_no_attr x y n (equal_left k h e l) = any_of (λ k. Parts q s x y (element.Const k)) (consts_of q.atoms) k h (left (e, l))
+  const_where_no_attr x y n (equal_right k h l e) = any_of (λ k. Parts q s x y (element.Const k)) (consts_of q.atoms) k h (right (l, e))
 
   -- ---- references
 

@@ -4,7 +4,7 @@ use Rattle.bq_model.specs.declared.plan.Link.{Link}
 use Rattle.bq_closure.specs.declared.distances.Distances.{Distances}
 use Rattle.bq_closure.specs.ChoiceValue.{ChoiceValue}
 
--- the distances of the query's comparisons and domains, what each pair adds by each sign, and the links of each attribute with each of another stream and its group
+-- the distances of the query's comparisons and domains, what each pair adds by each sign, and the links of each attribute with each of another stream
 pub record BasisValue : Type 0 where
   pub distances : Distances
   pub choices : List ChoiceValue

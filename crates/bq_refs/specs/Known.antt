@@ -28,7 +28,7 @@ pub record AreKnown (q : QueryValue) (s : List Sign) (d : Distances) : Type 0 wh
   pub few : length (attrs_of q.atoms) ≤ 12
   pub distances : AreDistancesOf d (length (attrs_of q.atoms)) (of_prefix q s)
 
--- the distances are those of the query's comparisons and domains, there is a choice for each of its pairs, and a link of each attribute with each of another stream and its group
+-- the distances are those of the query's comparisons and domains, there is a choice for each of its pairs, and a link of each attribute with each of another stream
 pub record IsBasis (q : QueryValue) (b : BasisValue) : Type 0 where
   pub within : IsWithinLimits q
   pub distances : AreDistancesOf b.distances (length (attrs_of q.atoms)) (of_base q)

@@ -1,26 +1,25 @@
--- How an element of the group of two columns parts them.
-use Rattle.std.specs.Prelude.{List, IsTrue}
+-- How an element parts two columns.
+use Rattle.std.specs.Prelude.{List}
 use Rattle.bq_model.specs.declared.atom.Attr.{Attr}
 use Rattle.bq_model.specs.declared.atom.Element.{Element}
 use Rattle.bq_model.specs.declared.atom.Element.TheVariants as element
 use Rattle.bq_model.specs.declared.part.Sign.{Sign}
 use Rattle.bq_model.specs.Query.{QueryValue}
-use Rattle.bq_model.specs.Groups.{in_one_group}
 use Rattle.bq_model.specs.Order.{IsLess, IsEqual}
 
--- e is in one group with x, and lies between x and y
+-- e lies between x and y
 abbrev pub LiesBetween : QueryValue → List Sign → Attr → Attr → Element → Type 0
-LiesBetween q s x y e = IsTrue (in_one_group q x e) × IsLess q s (element.Attr x) e × IsLess q s e (element.Attr y)
+LiesBetween q s x y e = IsLess q s (element.Attr x) e × IsLess q s e (element.Attr y)
 
--- e is in one group with x, equals x and is less than y
+-- e equals x and is less than y
 abbrev pub EqualsLeft : QueryValue → List Sign → Attr → Attr → Element → Type 0
-EqualsLeft q s x y e = IsTrue (in_one_group q x e) × IsEqual q s (element.Attr x) e × IsLess q s e (element.Attr y)
+EqualsLeft q s x y e = IsEqual q s (element.Attr x) e × IsLess q s e (element.Attr y)
 
--- e is in one group with x, x is less than e, and e equals y
+-- x is less than e, and e equals y
 abbrev pub EqualsRight : QueryValue → List Sign → Attr → Attr → Element → Type 0
-EqualsRight q s x y e = IsTrue (in_one_group q x e) × IsLess q s (element.Attr x) e × IsEqual q s e (element.Attr y)
+EqualsRight q s x y e = IsLess q s (element.Attr x) e × IsEqual q s e (element.Attr y)
 
--- e is in one group with x, and lies between x and y, or equals one and parts it from the other
+-- e lies between x and y, or equals one and parts it from the other
 pub data Parts (q : QueryValue) (s : List Sign) (x y : Attr) (e : Element) : Type 0 where
   middle : LiesBetween q s x y e → Parts q s x y e
   left : EqualsLeft q s x y e → Parts q s x y e

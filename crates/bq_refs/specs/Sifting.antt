@@ -1,7 +1,6 @@
 -- What is left of a list by a property.
 use Rattle.std.specs.Prelude.{List, [], ◌∷◌, ◌++◌, map, IsTrue, Contains, ◌↔◌, ◌≢◌}
 use Rattle.bq_model.specs.declared.atom.Element.TheVariants as element
-use Rattle.bq_model.specs.Groups.{in_one_group}
 use Rattle.bq_model.specs.Order.{IsLess}
 use Rattle.bq_model.specs.declared.atom.Attr.{Attr}
 use Rattle.bq_model.specs.declared.plan.Link.{Link}
@@ -21,13 +20,13 @@ abbrev pub links_among : List Attr → List Attr → List Link
 links_among [] ys = []
 links_among (x ∷ xs) ys = map (link x) ys ++ links_among xs ys
 
--- the sides are of different streams and one group
-abbrev pub IsAcross : QueryValue → Link → Type 0
-IsAcross q l = (l.left.stream ≢ l.right.stream) × IsTrue (in_one_group q l.left (element.Attr l.right))
+-- the sides are of different streams
+abbrev pub IsAcross : Link → Type 0
+IsAcross l = l.left.stream ≢ l.right.stream
 
--- the links, in order, of each attribute with each that is of another stream and its group
+-- the links, in order, of each attribute with each that is of another stream
 abbrev pub AreLinksAcross : QueryValue → List Link → Type 0
-AreLinksAcross q links = Sifts (IsAcross q) (links_among (attrs_of q.atoms) (attrs_of q.atoms)) links
+AreLinksAcross q links = Sifts IsAcross (links_among (attrs_of q.atoms) (attrs_of q.atoms)) links
 
 -- an equality between streams with the earlier attribute on the left
 abbrev pub IsOrderedEquality : QueryValue → List Sign → Link → Type 0
@@ -37,9 +36,9 @@ IsOrderedEquality q s l = IsTrue (attr_lt l.left l.right) × IsEquality q s l.le
 abbrev pub IsOrderedInequality : QueryValue → List Sign → Link → Type 0
 IsOrderedInequality q s l = IsInequality q s l.left l.right
 
--- the sides are of different streams and one group, and the left one is less than the right one
+-- the sides are of different streams, and the left one is less than the right one
 abbrev pub IsLessAcross : QueryValue → List Sign → Link → Type 0
-IsLessAcross q s l = (l.left.stream ≢ l.right.stream) × IsTrue (in_one_group q l.left (element.Attr l.right)) × IsLess q s (element.Attr l.left) (element.Attr l.right)
+IsLessAcross q s l = (l.left.stream ≢ l.right.stream) × IsLess q s (element.Attr l.left) (element.Attr l.right)
 
 -- the links are the nonredundant inequalities between streams
 pub record AreInequalities (q : QueryValue) (s : List Sign) (links : List Link) : Type 0 where

@@ -1,4 +1,4 @@
-//! The classes of attributes of one stream and one group that are equal in a part.
+//! The classes of attributes of one stream that are equal in a part.
 ghost use Rattle.std.specs.Prelude.{◌↔◌, IsTrue};
 ghost use Rattle.std.specs.List.{AllZip};
 ghost use Rattle.bq_model.specs.Query.{attrs_of};
@@ -11,7 +11,7 @@ use crate::order::is_equal;
 use crate::placed::{NamedAttr, as_element, named_at};
 use arrayvec::ArrayVec;
 use bq_closure::Distances;
-use bq_model::{Element, Part, Query};
+use bq_model::{Part, Query};
 
 // Whether two attributes are of one class.
 fn are_one_class(q: &Query, p: &Part, bounds: &Distances, a: NamedAttr, b: NamedAttr) -> bool
@@ -20,9 +20,7 @@ fn are_one_class(q: &Query, p: &Part, bounds: &Distances, a: NamedAttr, b: Named
     requires right { IsNamed q.now b }
     ensures { IsTrue result ↔ AreOneClass q.now p.now.signs.items a.attr b.attr }
 {
-    a.attr.stream == b.attr.stream
-        && q.in_one_group(a.attr, Element::Attr(b.attr))
-        && is_equal(q, p, bounds, as_element(q, a), as_element(q, b))
+    a.attr.stream == b.attr.stream && is_equal(q, p, bounds, as_element(q, a), as_element(q, b))
 }
 
 // The place of the attribute that names the class of another.

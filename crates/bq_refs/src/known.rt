@@ -12,7 +12,7 @@ use bq_model::{Link, Part, Query, Sign};
 use std::marker::Model;
 
 /// What all parts of a query share: the distances of its comparisons and domains, what each sign of each pair adds to them, and the
-/// links of each attribute with each of another stream and its group. A clause sees the distances, and two lists.
+/// links of each attribute with each of another stream. A clause sees the distances, and two lists.
 #[derive(Drop)]
 pub struct Basis {
     distances: Distances,
@@ -40,7 +40,7 @@ impl Basis {
         }
     }
 
-    /// Returns the links of each attribute with each of another stream and its group.
+    /// Returns the links of each attribute with each of another stream.
     pub fn links(&self) -> &[Link]
         ensures { result.now ≡ self.now.links }
     {

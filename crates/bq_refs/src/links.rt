@@ -38,15 +38,14 @@ fn all_links(attrs: &[Attr]) -> ArrayVec<Link, 144>
     list
 }
 
-// Whether the sides are of different streams and one group.
-fn is_across(q: &Query, l: Link) -> bool
-    ensures { IsTrue result ↔ IsAcross q.now l }
+// Whether the sides are of different streams.
+fn is_across(l: Link) -> bool
+    ensures { IsTrue result ↔ IsAcross l }
 {
-    let Link { left, right } = l;
-    left.stream != right.stream && q.in_one_group(left, Element::Attr(right))
+    l.left.stream != l.right.stream
 }
 
-/// Returns the links of each attribute with each of another stream and its group.
+/// Returns the links of each attribute with each of another stream.
 pub fn links_across(q: &Query) -> ArrayVec<Link, 144>
     ensures across { AreLinksAcross q.now result.items }
     ensures limits { IsWithinLimits q.now }
@@ -55,7 +54,7 @@ pub fn links_across(q: &Query) -> ArrayVec<Link, 144>
     let links = every.as_slice();
     let mut list = ArrayVec::new();
     for i in 0..links.len() {
-        if is_across(q, links[i]) {
+        if is_across(links[i]) {
             list.push(links[i]);
         }
     }
@@ -71,7 +70,6 @@ fn is_equality(q: &Query, p: &Part, bounds: &Distances, l: Link) -> bool
 {
     is_before(l.left, l.right)
         && l.left.stream != l.right.stream
-        && q.in_one_group(l.left, Element::Attr(l.right))
         && is_equal(
             q,
             p,
@@ -81,7 +79,7 @@ fn is_equality(q: &Query, p: &Part, bounds: &Distances, l: Link) -> bool
         )
 }
 
-// Whether the sides are of different streams and one group, and the left one is less than the right one.
+// Whether the sides are of different streams, and the left one is less than the right one.
 fn is_less_across(q: &Query, p: &Part, bounds: &Distances, l: Link) -> bool
     requires known { AreKnown q.now p.now.signs.items bounds.now }
     requires left { Contains (attrs_of q.now.atoms) l.left }
@@ -89,7 +87,6 @@ fn is_less_across(q: &Query, p: &Part, bounds: &Distances, l: Link) -> bool
     ensures { IsTrue result ↔ IsLessAcross q.now p.now.signs.items l }
 {
     l.left.stream != l.right.stream
-        && q.in_one_group(l.left, Element::Attr(l.right))
         && is_less(
             q,
             p,

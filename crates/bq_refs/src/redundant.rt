@@ -13,7 +13,7 @@ use crate::placed::{NamedAttr, Placed, as_element, attr_with_node, named_at, wit
 use bq_closure::Distances;
 use bq_model::{Attr, Element, Part, Query};
 
-// Whether e is in one group with x, and lies between x and y.
+// Whether e lies between x and y.
 fn lies_between(
     q: &Query,
     p: &Part,
@@ -28,12 +28,10 @@ fn lies_between(
     requires middle { IsPlaced q.now e }
     ensures { IsTrue result ↔ LiesBetween q.now p.now.signs.items x.attr y.attr e.element }
 {
-    q.in_one_group(x.attr, e.element)
-        && is_less(q, p, bounds, as_element(q, x), e)
-        && is_less(q, p, bounds, e, as_element(q, y))
+    is_less(q, p, bounds, as_element(q, x), e) && is_less(q, p, bounds, e, as_element(q, y))
 }
 
-// Whether e is in one group with x, equals x and is less than y.
+// Whether e equals x and is less than y.
 fn equals_left(
     q: &Query,
     p: &Part,
@@ -48,12 +46,10 @@ fn equals_left(
     requires middle { IsPlaced q.now e }
     ensures { IsTrue result ↔ EqualsLeft q.now p.now.signs.items x.attr y.attr e.element }
 {
-    q.in_one_group(x.attr, e.element)
-        && is_equal(q, p, bounds, as_element(q, x), e)
-        && is_less(q, p, bounds, e, as_element(q, y))
+    is_equal(q, p, bounds, as_element(q, x), e) && is_less(q, p, bounds, e, as_element(q, y))
 }
 
-// Whether e is in one group with x, x is less than e, and e equals y.
+// Whether x is less than e, and e equals y.
 fn equals_right(
     q: &Query,
     p: &Part,
@@ -68,12 +64,10 @@ fn equals_right(
     requires middle { IsPlaced q.now e }
     ensures { IsTrue result ↔ EqualsRight q.now p.now.signs.items x.attr y.attr e.element }
 {
-    q.in_one_group(x.attr, e.element)
-        && is_less(q, p, bounds, as_element(q, x), e)
-        && is_equal(q, p, bounds, e, as_element(q, y))
+    is_less(q, p, bounds, as_element(q, x), e) && is_equal(q, p, bounds, e, as_element(q, y))
 }
 
-// Whether a constant of the group lies between x and y, or equals one and parts it from the other.
+// Whether e lies between x and y, or equals one and parts it from the other.
 fn parts(q: &Query, p: &Part, bounds: &Distances, x: NamedAttr, y: NamedAttr, e: Placed) -> bool
     requires known { AreKnown q.now p.now.signs.items bounds.now }
     requires left { IsNamed q.now x }
@@ -86,7 +80,7 @@ fn parts(q: &Query, p: &Part, bounds: &Distances, x: NamedAttr, y: NamedAttr, e:
         || equals_right(q, p, bounds, x, y, e)
 }
 
-// Whether an attribute of the group lies between x and y.
+// Whether an attribute lies between x and y.
 fn some_attr_between(q: &Query, p: &Part, bounds: &Distances, x: NamedAttr, y: NamedAttr) -> bool
     requires known { AreKnown q.now p.now.signs.items bounds.now }
     requires left { IsNamed q.now x }
@@ -102,7 +96,7 @@ fn some_attr_between(q: &Query, p: &Part, bounds: &Distances, x: NamedAttr, y: N
     false
 }
 
-// Whether a constant of the group parts x from y.
+// Whether a constant parts x from y.
 fn some_const_parts(q: &Query, p: &Part, bounds: &Distances, x: NamedAttr, y: NamedAttr) -> bool
     requires known { AreKnown q.now p.now.signs.items bounds.now }
     requires left { IsNamed q.now x }

@@ -340,9 +340,10 @@ fn of_domain(q: &Query, domain: &Domain) -> ArrayVec<Constraint, 2>
 
 /// Returns what the comparisons of a query bound, in order, and then the domains of its attributes, as constraints on the nodes of attributes. There is
 /// room for more behind them.
-pub fn system_constraints(q: &Query) -> ArrayVec<Constraint, 268>
+pub fn system_constraints(q: &Query) -> ArrayVec<Constraint, 300>
     ensures value { result.items ≡ closed_constraints q.now }
     ensures within { All (IsWithin (length (attrs_of q.now.atoms))) result.items }
+    ensures few { length result.items ≤ 72 }
     ensures limits { IsWithinLimits q.now }
 {
     let mut list = ArrayVec::new();

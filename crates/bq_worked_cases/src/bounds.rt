@@ -42,7 +42,7 @@ fn node(integer: i64, attrs: u8) -> Result<u8, Fault>
 // Adds a constraint.
 fn add(bounds: &mut Bounds, attrs: u8, left: i64, right: i64, bound: i64) -> Result<(), Fault>
     requires attrs { bounds.old.attrs ≡ attrs }
-    requires few { length bounds.old.constraints < 268 }
+    requires few { length bounds.old.constraints < 300 }
     ensures attrs { bounds.new.attrs ≡ attrs }
     ensures few { length bounds.new.constraints ≤ length bounds.old.constraints + 1 }
 {
@@ -58,7 +58,7 @@ fn add(bounds: &mut Bounds, attrs: u8, left: i64, right: i64, bound: i64) -> Res
 // Adds constraints, each by three integers.
 fn add_all(bounds: &mut Bounds, attrs: u8, integers: &[i64]) -> Result<(), Fault>
     requires attrs { bounds.old.attrs ≡ attrs }
-    requires few { length bounds.old.constraints + length integers.now < 268 }
+    requires few { length bounds.old.constraints + length integers.now < 300 }
     ensures { bounds.new.attrs ≡ attrs }
 {
     match integers {

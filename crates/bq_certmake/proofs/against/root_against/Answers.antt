@@ -1,11 +1,12 @@
+use Rattle.bq_certcheck.specs.Shown.{branching_of}
 use Rattle.bq_certmake.proofs.Closing.{placed, root_named, root_none}
 use Rattle.bq_certmake.proofs.against.root_against.Goals as goal
 
 pub number-requires : goal.number-requires
-number-requires c = placed c.args.q.now c.atoms.result.now c.atoms.ensures.value _ c.in-Some.place c.atoms.ensures.limits c.in-Some.ensures
+number-requires c = placed (branching_of c.args.shown c.args.q.now) c.closing_atoms.result.now c.closing_atoms.ensures.value _ c.in-Some.place c.closing_atoms.ensures.few c.in-Some.ensures
 
 pub returns-in-Some-clause-against : goal.returns-in-Some-clause-against
-returns-in-Some-clause-against c = root_named c.args.q.now c.atoms.result.now c.atoms.ensures.value c.in-Some.place _ c.in-Some.ensures c.number.ensures
+returns-in-Some-clause-against c = root_named (branching_of c.args.shown c.args.q.now) c.closing_atoms.result.now c.closing_atoms.ensures.value c.in-Some.place _ c.in-Some.ensures c.number.ensures
 
 pub returns-in-None-clause-against : goal.returns-in-None-clause-against
-returns-in-None-clause-against c = root_none c.args.q.now c.atoms.result.now c.atoms.ensures.value c.in-None.ensures
+returns-in-None-clause-against c = root_none (branching_of c.args.shown c.args.q.now) c.closing_atoms.result.now c.closing_atoms.ensures.value c.in-None.ensures

@@ -1,4 +1,4 @@
-use Rattle.std.proofs.Common.{List, ℕ, sym, ap, ◌∙◌}
+use Rattle.std.proofs.Common.{sym, ap, ◌∙◌}
 use Rattle.std.specs.List.{find}
 use Rattle.bq_diagnosis.specs.declared.fault.Asks.TheVariants as asks
 use Rattle.bq_diagnosis.specs.Faults.{first_repeated, is_no_stream}

@@ -3,4 +3,4 @@ use Rattle.bq_refs.specs.Sifting.{Sifts, IsAcross}
 use Rattle.bq_refs.proofs.links.links_across.Given as goal
 
 abbrev pub invariant-loop-i : goal.invariant-loop-i
-invariant-loop-i l = Sifts (IsAcross l.q) (take l.i l.links) l.list.items
+invariant-loop-i l = Sifts IsAcross (take l.i l.links) l.list.items

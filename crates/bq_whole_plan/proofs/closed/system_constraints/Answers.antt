@@ -84,3 +84,10 @@ returns-clause-value c =
     let q = c.args.q.now in
     let past : length q.domains ≤ c.loop-domain.domain-index = rw c.domains-domain-items.ensures.value at c.loop-domain-test.false in
     bounds_all (attrs_of q.atoms) (named_bounds (attrs_of q.atoms)) (map (constraint_of (attrs_of q.atoms)) (flat_map atom_bounds q.atoms)) c.loop-domain.list.items q.domains c.loop-domain.domain-index past c.loop-domain.invariant.items ∙ sym (closed_parts q)
+
+pub returns-clause-few : goal.returns-clause-few
+returns-clause-few c =
+    let r = c.loop-domain.invariant.reach in
+    let f = c.loop-domain.invariant.few in
+    let k = c.domains-domain-items.ensures.limits.few_domains in
+    omega (arith, r, f, k)

@@ -5,7 +5,7 @@ use Rattle.bq_certcheck.proofs.cursor.TreeCursor.go_on.Given as goal
 
 abbrev pub invariant-loop-sign : goal.invariant-loop-sign
 invariant-loop-sign l = record {
-  stands : Stands l.q l.self;
+  stands : Stands l.q l.shown l.self;
   same : following l.self.signs.items ≡ following l.fn.self.signs.items;
 }
 

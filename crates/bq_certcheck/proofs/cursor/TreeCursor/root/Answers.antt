@@ -1,9 +1,11 @@
-use Rattle.std.proofs.Common.{length}
+use Rattle.std.proofs.Common.{◌≤◌, List, length, subst}
 use Rattle.bq_model.specs.Query.{attrs_of}
+use Rattle.bq_constraints.specs.declared.constraint.Constraint.{Constraint}
 use Rattle.bq_certcheck.proofs.Standing.{stands_root, within_12}
 use Rattle.bq_certcheck.proofs.cursor.TreeCursor.root.Goals as goal
 
 pub returns-clause-stands : goal.returns-clause-stands
 returns-clause-stands c =
-    let w = within_12 (length (attrs_of c.args.q.now.atoms)) c.of_query.result.items c.of_query.ensures.limits.few_attrs c.of_query.ensures.within in
-    stands_root c.args.q.now record { signs = c.new.result; constraints = c.of_query.result } c.new.ensures c.of_query.ensures.value w c.of_query.ensures.limits
+    let r = c.root_constraints.ensures in
+    let w = within_12 (length (attrs_of c.args.q.now.atoms)) c.root_constraints.result.items r.limits.few_attrs r.within in
+    stands_root c.args.q.now c.args.shown record { signs = c.new.result; constraints = c.root_constraints.result } c.new.ensures r.constraints w c.requires.room (subst (λ (z : List Constraint). length z ≤ 72) r.constraints r.few) r.limits

@@ -1,9 +1,11 @@
-use Rattle.std.proofs.Common.{◌≡◌, false}
-use Rattle.bq_model.specs.Query.{is_filter}
-use Rattle.bq_certcheck.proofs.Choosing.{decided}
+use Rattle.bq_certcheck.proofs.ByForm.{plain_finishes, whole_finishes, split_finishes}
 use Rattle.bq_certcheck.proofs.decision.DecisionSoFar.finish.Goals as goal
 
-pub returns-else-is_filter : goal.returns-else-is_filter
-returns-else-is_filter c =
-    let f : is_filter c.args.q.now ≡ false = cc (c.is_filter.ensures, c.if-is_filter.false) in
-    decided c.args.q.now c.select-columns.ensures.limits c.args.self.decision f
+pub returns-in-Plain : goal.returns-in-Plain
+returns-in-Plain c = plain_finishes c.args.q.now c.select-columns.ensures.limits c.args.shown c.args.self c.in-Plain.is c.of_parts.result c.of_parts.ensures
+
+pub returns-in-Whole : goal.returns-in-Whole
+returns-in-Whole c = whole_finishes c.args.q.now c.select-columns.ensures.limits c.args.shown c.args.self c.in-Whole.is
+
+pub returns-in-Split : goal.returns-in-Split
+returns-in-Split c = split_finishes c.args.q.now c.select-columns.ensures.limits c.args.shown c.args.self c.in-Split.is

@@ -2,4 +2,4 @@ use Rattle.std.proofs.Common.{◌≡◌, take, length, ◌<◌}
 use Rattle.bq_closure.proofs.bounds.Bounds.copy.Given as goal
 
 abbrev pub invariant-loop-c : goal.invariant-loop-c
-invariant-loop-c l = (length l.c-items < 269) × (l.constraints.items ≡ take l.c-index l.c-items)
+invariant-loop-c l = (length l.c-items < 301) × (l.constraints.items ≡ take l.c-index l.c-items)

@@ -12,11 +12,12 @@ use Rattle.bq_executor.proofs.TakenRow.{filter-plan, row-taken}
 use Rattle.bq_executor.proofs.Rows.{ready_row, room_clear, table_later, sound_later}
 use Rattle.bq_executor.proofs.RowReads.{rows-upto}
 use Rattle.bq_executor.proofs.PlanFacts.{serving_in}
+use Rattle.bq_executor.proofs.AccessPaths.{lookup-direct}
 use Rattle.bq_executor.proofs.executor.Executor.apply_by_cells.Goals as goal
 
 pub meet_by_cells-there-requires-clause-direct : goal.meet_by_cells-there-requires-clause-direct
 meet_by_cells-there-requires-clause-direct g c =
-    c.self.invariant.3 c.in-Some.direct.now c.in-Some.ensures.0 (let e = c.in-Some.ensures.1 in let f = c.ranges.stream in omega (arith, e, f))
+    lookup-direct c.self.inside.query c.self.inside.plan c.self.inside.prefilter c.self.inside.access c.in-Some.direct.now c.self.invariant.3 c.in-Some.ensures.0 (let e = c.in-Some.ensures.1 in let f = c.ranges.stream in omega (arith, e, f))
 
 pub meet_by_cells-there-requires-clause-ready : goal.meet_by_cells-there-requires-clause-ready
 meet_by_cells-there-requires-clause-ready g c =
@@ -41,7 +42,7 @@ invariant_of-self g c =
     let is : c.answer_anew.new.table ≡ with_entries e.table (with_all e.query.distinct (answered_by e.query e.plan (read_from (cells_of c.args.pool.now e.extent)) r) (cleared e.query.distinct e.table.entries))
     = c.answer_anew.ensures.table ∙ ap (λ (fs : List Found). with_entries e.table (with_all e.query.distinct fs (cleared e.query.distinct e.table.entries))) (sym c.meet_by_cells-there.ensures.answers) in
     let table = table_later e c.self.invariant.0 c.args.pool.now ready r c.self.invariant.0.ascends e.query.distinct refl (with_entries e.table (cleared e.query.distinct e.table.entries)) c.answer_anew.new.table refl is in
-    (subst (λ (t : TableValue). IsSound (let o : ExecutorValue = record { query = c.self.inside.query; shared = c.self.inside.shared; plan = c.self.inside.plan; extent = c.self.inside.extent; given = c.self.inside.given + 1; table = t; saturation = c.self.inside.saturation } in o)) (sym table) (sound_later e c.self.invariant.0 c.args.pool.now ready r c.self.invariant.0.ascends), c.self.invariant.1, c.self.invariant.2, c.self.invariant.3, c.self.invariant.4)
+    (subst (λ (t : TableValue). IsSound (let o : ExecutorValue = record { query = c.self.inside.query; shared = c.self.inside.shared; plan = c.self.inside.plan; extent = c.self.inside.extent; given = c.self.inside.given + 1; table = t; saturation = c.self.inside.saturation } in o)) (sym table) (sound_later e c.self.invariant.0 c.args.pool.now ready r c.self.invariant.0.ascends), c.self.invariant.1, c.self.invariant.2, c.self.invariant.3)
 
 pub returns-clause-took : goal.returns-clause-took
 returns-clause-took g c =

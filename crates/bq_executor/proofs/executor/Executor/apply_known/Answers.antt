@@ -3,17 +3,12 @@ use Rattle.bq_model.specs.Domains.{RowKeeps}
 use Rattle.bq_answers.specs.Entries.{TableValue}
 use Rattle.bq_executor.specs.Executor.{ExecutorValue, arrival, IsSound, cleared}
 use Rattle.bq_executor.specs.Standing.{IsReady}
-use Rattle.bq_filter.specs.Prefilter.{IsRefused}
 use Rattle.bq_executor.specs.Row.{KeepsToReads, TakesRow}
 use Rattle.bq_executor.proofs.TakenRow.{filter-plan, row-taken}
 use Rattle.bq_executor.proofs.Rows.{nothing-new, ready_row, room_clear, table_later, sound_later}
 use Rattle.bq_executor.proofs.Refused.{quiet-spelled}
 use Rattle.bq_executor.proofs.PlanFacts.{serving_in}
 use Rattle.bq_executor.proofs.executor.Executor.apply_known.Goals as goal
-
-pub apply_row-requires-clause-prefilter : goal.apply_row-requires-clause-prefilter
-apply_row-requires-clause-prefilter g c = λ no.
-    subst (λ (x : ExecutorValue). IsRefused x.query x.plan (arrival c.args.stream c.args.row.now.items)) (sym c.self.view_is) (c.requires.prefilter no)
 
 pub apply_row-requires-clause-ready : goal.apply_row-requires-clause-ready
 apply_row-requires-clause-ready g c =
@@ -43,7 +38,7 @@ invariant_of-self g c =
     let ready : IsReady e c.args.pool.now = subst (λ (x : ExecutorValue). IsReady x c.args.pool.now) (sym c.self.view_is) c.requires.ready in
     let r = arrival c.args.stream c.args.row.now.items in
     let table = table_later e c.self.invariant.0 c.args.pool.now ready r c.self.invariant.0.ascends c.distinct.result c.distinct.ensures c.clear.new.table c.apply_row.new.table c.clear.ensures c.apply_row.ensures.table in
-    (subst (λ (t : TableValue). IsSound (let o : ExecutorValue = record { query = c.self.inside.query; shared = c.self.inside.shared; plan = c.self.inside.plan; extent = c.self.inside.extent; given = c.self.inside.given + 1; table = t; saturation = c.self.inside.saturation } in o)) (sym table) (sound_later e c.self.invariant.0 c.args.pool.now ready r c.self.invariant.0.ascends), c.self.invariant.1, c.self.invariant.2, c.self.invariant.3, c.self.invariant.4)
+    (subst (λ (t : TableValue). IsSound (let o : ExecutorValue = record { query = c.self.inside.query; shared = c.self.inside.shared; plan = c.self.inside.plan; extent = c.self.inside.extent; given = c.self.inside.given + 1; table = t; saturation = c.self.inside.saturation } in o)) (sym table) (sound_later e c.self.invariant.0 c.args.pool.now ready r c.self.invariant.0.ascends), c.self.invariant.1, c.self.invariant.2, c.self.invariant.3)
 
 pub returns-clause-took : goal.returns-clause-took
 returns-clause-took g c =

@@ -17,7 +17,7 @@ use Rattle.bq_executor.proofs.executor.Executor.give_up.Goals as goal
 pub invariant_of-self : goal.invariant_of-self
 invariant_of-self c =
     let e : ExecutorValue = record { query = c.self.inside.query; shared = c.self.inside.shared; plan = c.self.inside.plan; extent = c.self.inside.extent; given = c.self.inside.given; table = c.self.inside.table; saturation = c.self.inside.saturation } in
-    (subst (λ (t : TableValue). IsSound (let o : ExecutorValue = record { query = c.self.inside.query; shared = c.self.inside.shared; plan = c.self.inside.plan; extent = c.self.inside.extent; given = c.self.inside.given; table = t; saturation = c.self.inside.saturation } in o)) (sym c.settle.ensures) (written-sound e c.self.invariant.0), c.self.invariant.1, c.self.invariant.2, c.self.invariant.3, c.self.invariant.4)
+    (subst (λ (t : TableValue). IsSound (let o : ExecutorValue = record { query = c.self.inside.query; shared = c.self.inside.shared; plan = c.self.inside.plan; extent = c.self.inside.extent; given = c.self.inside.given; table = t; saturation = c.self.inside.saturation } in o)) (sym c.settle.ensures) (written-sound e c.self.invariant.0), c.self.invariant.1, c.self.invariant.2, c.self.invariant.3)
 
 pub returns-clause-none : goal.returns-clause-none
 returns-clause-none c =

@@ -19,7 +19,7 @@ invariant_of-self c =
     let e : ExecutorValue = record { query = c.self.inside.query; shared = c.self.inside.shared; plan = c.self.inside.plan; extent = c.self.inside.extent; given = c.self.inside.given; table = c.self.inside.table; saturation = c.self.inside.saturation } in
     let told : TableValue → ExecutorValue = λ t. record { query = c.self.inside.query; shared = c.self.inside.shared; plan = c.self.inside.plan; extent = c.self.inside.extent; given = c.self.inside.given; table = t; saturation = c.self.inside.saturation } in
     let wide = c.requires.width ∙ sym (ap (λ (x : ExecutorValue). length x.query.select) c.self.view_is) in
-    (tuple-sound e c.self.invariant.0 c.args.t.now.items wide c.put_printed.result c.put_printed.ensures.value c.put_printed.new.table c.put_printed.ensures.table, c.self.invariant.1, c.self.invariant.2, c.self.invariant.3, c.self.invariant.4)
+    (tuple-sound e c.self.invariant.0 c.args.t.now.items wide c.put_printed.result c.put_printed.ensures.value c.put_printed.new.table c.put_printed.ensures.table, c.self.invariant.1, c.self.invariant.2, c.self.invariant.3)
 
 pub returns-clause-loads : goal.returns-clause-loads
 returns-clause-loads c =

@@ -30,8 +30,7 @@ invariant_of-result c =
       },
       c.in-Ok.ensures,
       c.prefilter_of-prefilter.ensures,
-      c.direct_lookups-direct.ensures,
-      c.plain_filter_of-plain_filter.ensures,
+      c.access_of-access.ensures,
     )
 
 pub returns-in-Ok-new-clause-history : goal.returns-in-Ok-new-clause-history
