@@ -23,8 +23,8 @@ OLDEST = re.compile(rb"-- whole rows (\d+) lines (\d+) bytes (\d+) output (\d+)"
 # How far the reading of a file is: which file, by device, inode and a sum of bytes that were read, and the byte.
 Mark = namedtuple("Mark", "device inode offset sum")
 # How far a session is: rows taken, lines and bytes of the input, bytes of replies, changes by the operator; the file,
-# and the producer's own mark.
-Place = namedtuple("Place", "rows lines bytes output changes mark token", defaults=(0, 0, 0, 0, 0, None, b""))
+# and the producer's own mark; and how many bytes this run has sent, which stands in no file.
+Place = namedtuple("Place", "rows lines bytes output changes mark token sent", defaults=(0, 0, 0, 0, 0, None, b"", 0))
 # What a session goes on from; number 0 where nothing is. The plan has a line `reply ..` for each reply to the CREATE
 # lines, and for each query a line `plan NAME SUM`, a sum of EXPLAIN. The oldest form has no plan, program and sums.
 Checkpoint = namedtuple("Checkpoint", "body place plan program script output_sum number",

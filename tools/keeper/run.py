@@ -10,23 +10,20 @@ import select
 import signal
 import threading
 import time
-from collections import deque
 from concurrent.futures import ThreadPoolExecutor
 from contextlib import suppress
 
 from keeper import Fault, log
 from keeper.agree import plan_of, script_of, version_of
 from keeper.checkpoint import Checkpoint, Place, choose, creates_of, locked, numbers_in, path_of, save, sum_at, written
-from keeper.follow import source_for
 from keeper.heard import Acks, Changes
-from keeper.session import ERROR, Session
-from keeper.sink import Sink
-from keeper.source import PIECE
+from keeper.session import Session
+from keeper.sink import ERROR, Sink
+from keeper.source import source_for
 from keeper.watch import Watch
 
-# how many bytes of the input are kept for a bq that has to be begun again, in how many pieces, as each has its own cost;
-# and after how many bytes a checkpoint is asked for
-KEPT, PIECES, MUCH = 64 << 20, 1 << 20, 16 << 20
+# how many bytes of the input are kept for a bq that has to be begun again, and after how many a checkpoint is asked for
+KEPT, MUCH = 64 << 20, 16 << 20
 # seconds: the longest pause before bq is begun again, how long a good one lives, between two looks, and a file rests
 LONGEST_PAUSE, SOON, TICK, REST = 30, 60, 0.1, 0.02
 # how often it is looked for what comes next, for some 50 us; where that was in vain twice, behind how many waits again
@@ -48,8 +45,7 @@ class Run:
         if not os.access(folder, os.W_OK):
             raise Fault(f"{folder} is a folder in which this user may not write: change its owner or mode")
         self.lock, self.sink, self.acks = locked(folder), Sink(options.output), Acks(options.ack)
-        # the newest checkpoint; pieces of the input behind it, each with the number of lines before its end
-        self.kept, self.pieces = choose(folder, self.acks.number, options.begins), deque()
+        self.kept = choose(folder, self.acks.number, options.begins)
         self.version = version_of(options.program, self.kept)
         self.script, self.script_sum = script_of(options, self.kept)
         self.source = source_for(options, self.kept.place)
@@ -98,7 +94,7 @@ class Run:
             self.watch.show(time.monotonic())
 
     def mind_signals(self, told):
-        """Notes what signals ask for, also while the loop waits for a disk; behind one that ends the run it has its grace."""
+        """Notes what signals ask for, also while the loop waits for a disk; who ends the run gives it its grace."""
         while not self.is_told:
             setattr(self, SIGNALS[os.read(told, 1)[0]], True)
         time.sleep(self.options.grace)
@@ -110,53 +106,70 @@ class Run:
                         b" %g s\n" % self.options.grace)
         os._exit(1)
 
+    def ways(self):
+        """By handle: whether what comes goes on as it came, else by what; from where, to where, and who counts it."""
+        session, sink, source, replies = self.session, self.sink, self.source, self.session.replies
+        # None where a handle takes more first: replies come only where they go on, a row only where bq takes it
+        is_plain = not (replies.rest or session.groups or sink.behind)
+        ways = {sink.fd: None} if sink.pending else {replies.fd: (is_plain, self.receive, replies, sink, sink.count)}
+        if session.pending:
+            ways[session.fd] = None
+        elif not (session.is_gone or self.is_ending or source.is_at_rest):
+            is_plain = not source.rest and self.applied == len(self.changes.known)
+            ways[source.fd] = is_plain, self.feed, source, session, source.count
+        return ways
+
     def turn(self):
-        """Goes on with what comes first, as long as the same is waited for.
+        """Passes on what comes first, as long as the same is waited for.
 
         To be woken takes long, so what comes is looked for before the run sleeps, where that was not in vain of late.
+        Most pieces are whole lines, and most replies have no blank, as they are answers: these go on as they came, and
+        are counted behind the write, while whoever waits for them wakes. All else is cut, changed, or taken out first.
         """
-        session, sink, source, poll = self.session, self.sink, self.source, select.poll()
-        # replies only where they go on, a row only where bq takes it
-        does = {sink.fd: sink.put} if sink.pending else {session.replies.fd: self.receive}
-        if session.pending:
-            does[session.fd] = session.put
-        elif not (session.is_gone or self.is_ending or source.is_at_rest):
-            does[source.fd] = self.feed
-        for fd in does:
-            poll.register(fd, select.POLLOUT if fd in (sink.fd, session.fd) else select.POLLIN)
+        ways, poll, source, is_same = self.ways(), select.poll(), self.source, True
+        for fd, way in ways.items():
+            poll.register(fd, select.POLLIN if way else select.POLLOUT)
         pause, source.is_at_rest = 1000 * (REST if source.is_at_rest else TICK), False
-        is_same, look = True, poll.poll
+        look, read, write = poll.poll, os.read, os.write
         while is_same:
             looks = LOOKS if self.vain % REFRAINS < 2 else 0
             while not (ready := look(0 if looks else pause)) and looks:
                 looks -= 1
-            is_same = ready and does[ready[0][0]]() and time.monotonic() < self.next_tick
+            is_same = False
+            if ready and (way := ways[(fd := ready[0][0])]):
+                is_plain, change, lines, outlet, count = way
+                piece, taken = read(fd, lines.size), 0
+                if is_plain and piece[-1:] == b"\n" and len(piece) <= outlet.room and (
+                        lines is source or BLANK not in piece):
+                    # what fails is tried once more, where that is minded
+                    try:
+                        taken = write(outlet.fd, piece)
+                    except OSError:
+                        pass
+                if taken:
+                    outlet.took(piece, taken)
+                    count(lines.cut(piece))
+                    is_same = not outlet.pending and time.monotonic() < self.next_tick
+                else:
+                    change(piece)
+            elif ready:
+                (self.sink if fd == self.sink.fd else self.session).put()
             self.vain = 0 if looks else self.vain + 1
 
-    def feed(self):
-        """Sends what came, and has the last checkpoint taken where it ends. Whether the same is waited for then."""
-        source, session = self.source, self.session
-        text = source.cut(os.read(source.fd, PIECE) or source.at_end())
-        session.put(self.say(text, source.lines) if self.applied < len(self.changes.known) else text)
+    def feed(self, piece):
+        """Sends what came, and has the last checkpoint taken where it ends."""
+        source = self.source
+        text = source.cut(piece or source.at_end())
+        self.session.put(self.say(text, source.lines))
         source.count(text)
-        if text:
-            self.pieces.append((source.lines, text))
         if source.is_ended:
             self.end()
-        return text and not (session.pending or session.is_gone or source.is_ended)
 
-    def receive(self):
-        """Takes replies, or the end of bq. Whether the same is waited for then."""
-        session, sink, piece = self.session, self.sink, os.read(self.session.replies.fd, PIECE)
-        text = session.replies.cut(piece)
-        # most are answers, which have no blank
-        if session.groups or BLANK in text:
-            session.take(text)
-        elif text:
-            sink.take(text)
+    def receive(self, piece):
+        """Takes replies, or the end of bq."""
+        self.session.take(self.session.replies.cut(piece))
         if not piece:
             self.on_end_of_bq()
-        return piece and not sink.pending
 
     def say(self, text, before):
         """Sends what the operator said among lines behind so many others, with those before it; gives the rest."""
@@ -190,7 +203,7 @@ class Run:
         else:
             # no reply may be out before a checkpoint says where replies begin
             self.ask()
-        self.session.put(self.say(b"".join(it for _, it in self.pieces), place.lines))
+        self.session.put(self.say(bytes(self.source.sent), place.lines))
         if self.is_ending:
             self.end()
 
@@ -207,7 +220,7 @@ class Run:
         what, place = f"bq ended by itself, with {status}", self.kept.place
         if not self.kept.number:
             raise Fault(f"{what}, before the first checkpoint stood")
-        if self.is_told or sum(it.count(b"\n") for _, it in self.pieces) < self.source.lines - place.lines:
+        if self.is_told or self.source.sent.count(b"\n") < self.source.lines - place.lines:
             raise Fault(f"{what}, and what came behind the newest checkpoint is no more kept: start again, from where"
                         " --where says")
         self.pause = min(LONGEST_PAUSE, 2 * self.pause) if self.pause and now - self.begun_at < SOON else 0.1
@@ -229,8 +242,8 @@ class Run:
 
     def ask(self):
         """Asks for a checkpoint of where the input stands, and for no other until it is settled."""
-        at = self.source
-        self.asked, self.asked_at = Place(0, at.lines, at.bytes, 0, self.applied, at.mark, at.token), time.monotonic()
+        at, self.asked_at = self.source, time.monotonic()
+        self.asked = Place(0, at.lines, at.bytes, 0, self.applied, at.mark, at.token, at.total)
         self.is_asked, self.is_wanted = True, False
         self.session.ask(b"CHECKPOINT\n", functools.partial(self.on_checkpoint, self.asked))
 
@@ -278,8 +291,7 @@ class Run:
             log.error("no checkpoint could be written: %s; the one before it stands", fault)
             return
         watch.stored_at = time.monotonic()
-        while self.pieces and self.pieces[0][0] <= self.kept.place.lines:
-            self.pieces.popleft()
+        self.source.forget(self.kept.place.sent)
 
     def on_changed(self, statement, number, said):
         said = ERROR.sub(rb"error \2", said.rstrip(b"\n"))
@@ -296,8 +308,8 @@ class Run:
             self.settle()
         if self.session:
             self.look_at_bq(self.session)
-            if source.bytes - self.kept.place.bytes > KEPT or len(self.pieces) > PIECES:
-                self.pieces.clear()
+            if len(source.sent) > KEPT:
+                source.forget(source.total)
         elif now >= self.begin_at or self.is_told:
             self.begin()
         if self.session and not self.is_ending:

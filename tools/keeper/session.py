@@ -12,13 +12,12 @@ from collections import deque
 from contextlib import suppress
 
 from keeper import Fault
-from keeper.sink import AT_ONCE, Outlet
+from keeper.sink import AT_ONCE, ERROR, Outlet
 from keeper.source import Lines
 
 # F_SETPIPE_SZ of Linux, and the most that is allowed without more rights
 SET_SIZE, PIPE_SIZE = 1031, 1 << 20
 LOCKED, UNLOCKED = b"\nok lock\n", b"\nok unlock\n"
-ERROR = re.compile(rb"^error (\d+) (\w+)$", re.MULTILINE)
 REFUSED = re.compile(rb"^(?!ok (?:stream|query|drop) ).+", re.MULTILINE)
 
 
@@ -59,8 +58,7 @@ class Session(Outlet):
 
     def fail(self, fault):
         """Of a bq that has ended the replies tell; it takes nothing."""
-        self.is_gone = True
-        return b""
+        self.is_gone, self.pending = True, b""
 
     def take(self, text):
         """Gives replies to the input to `give`, and others to whom they belong."""

@@ -11,7 +11,7 @@ from collections import Counter
 from keeper import Fault, log
 from keeper.checkpoint import locked, sum_at
 
-ERROR, ANSWER = re.compile(rb"^error \d+ (\w+)$", re.MULTILINE), re.compile(rb"^(\w+),", re.MULTILINE)
+ERROR, ANSWER = re.compile(rb"^error (\d+) (\w+)$", re.MULTILINE), re.compile(rb"^(\w+),", re.MULTILINE)
 # how many bytes are counted at once, and how many a file or a pipe of its own is given at once
 FEW, AT_ONCE = 1 << 12, 1 << 20
 
@@ -24,28 +24,27 @@ class Outlet:
 
     def __init__(self, fd, name, most=select.PIPE_BUF):
         self.fd, self.name, self.most, self.pending, self.written, self.room = fd, name, most, b"", 0, 0
-        self.poll = select.poll()
-        self.poll.register(fd, select.POLLOUT)
 
     def put(self, text=b""):
         """Takes bytes, and writes what is taken without waiting."""
-        if self.pending:
-            text = memoryview(bytes(self.pending) + text) if text else self.pending
+        if text:
+            self.pending = memoryview(bytes(self.pending) + text)
         try:
-            while part := text:
-                if len(text) > self.room:
-                    text, self.room = memoryview(text), self.most if self.poll.poll(0) else 0
-                    part = text[:self.room]
-                    if not part:
-                        break
-                count = os.write(self.fd, part)
-                text, self.written, self.room = text[count:], self.written + count, self.room - count
+            while self.pending:
+                if len(self.pending) > self.room:
+                    self.room = self.most if select.select([], [self.fd], [], 0)[1] else 0
+                if not self.room:
+                    return
+                self.took(self.pending, os.write(self.fd, self.pending[:self.room]))
         except BlockingIOError:
             # it has less room, or others who share it took some
             self.room = 0
         except OSError as fault:
-            text = self.fail(fault)
-        self.pending = text
+            self.fail(fault)
+
+    def took(self, text, count):
+        """So many bytes of a text were written, the rest waits."""
+        self.pending, self.written, self.room = text[count:], self.written + count, self.room - count
 
     def fail(self, fault):
         raise OSError(fault.errno, fault.strerror, self.name) from None
@@ -83,9 +82,7 @@ class Sink(Outlet):
         if self.behind:
             text = self.pass_by(text)
         self.put(text)
-        self.uncounted += text
-        if len(self.uncounted) > FEW:
-            self.count()
+        self.count(text)
 
     def pass_by(self, text):
         """Leaves out what a reader may have seen. A file with other bytes, as behind a torn disk, is cut there."""
@@ -101,8 +98,12 @@ class Sink(Outlet):
         self.uncounted += front[front.rfind(b"\n") + 1:]
         return text[len(front):]
 
-    def count(self):
-        """Counts what was taken, not at once, so that no row waits for it."""
-        self.errors.update(ERROR.findall(self.uncounted) if b"error " in self.uncounted else ())
+    def count(self, text=b""):
+        """Counts what was taken: many lines at once, and all where no more is given."""
+        self.uncounted += text
+        if text and len(self.uncounted) <= FEW:
+            return
+        if b"error " in self.uncounted:
+            self.errors.update(word for _, word in ERROR.findall(self.uncounted))
         self.answers.update(ANSWER.findall(self.uncounted))
         self.uncounted.clear()

@@ -485,6 +485,8 @@ class Control(Faults):
         self.until(lambda: self.get("out") == answers(1, 2, 3) + b"r,3\n" + answers(4) + b"r,4\n")
         self.end(process)
         self.assertNotIn(b"is cut there", self.get("said"))
+        # rows on both sides of it count, though they came at once
+        self.assertEqual(self.keep("--where", script=None).stdout, b"rows 4 lines 4 bytes 16 output 24\n")
 
     def test_a_control_that_is_no_named_pipe_is_refused(self):
         self.put("control", b"DROP QUERY q\n")

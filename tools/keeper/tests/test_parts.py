@@ -5,7 +5,6 @@ import sys
 import tempfile
 import unittest
 import warnings
-from collections import deque
 from types import SimpleNamespace
 
 sys.dont_write_bytecode = True
@@ -13,11 +12,10 @@ sys.path.insert(0, os.path.dirname(os.path.dirname(os.path.dirname(os.path.abspa
 
 from keeper import Fault  # noqa: E402
 from keeper.checkpoint import Checkpoint, Mark, Place, choose, path_of, read, save, sum_of, written  # noqa: E402
-from keeper.follow import File  # noqa: E402
 from keeper.heard import Acks, Changes  # noqa: E402
-from keeper.run import KEPT, PIECES, Run  # noqa: E402
+from keeper.run import KEPT, Run  # noqa: E402
 from keeper.sink import Outlet, Sink  # noqa: E402
-from keeper.source import LONGEST, Source  # noqa: E402
+from keeper.source import LONGEST, File, Source  # noqa: E402
 
 
 def plain_lines(text):
@@ -248,6 +246,17 @@ class NobodyIsWaitedFor(unittest.TestCase):
                 outlet.put()
             self.assertEqual((came == text, outlet.written, len(outlet.pending)), (True, len(text), 0))
 
+    def test_what_was_taken_in_part_goes_on_before_what_comes_next(self):
+        """As where a row was written as it came."""
+        of, to = os.pipe()
+        with open(of, "rb", buffering=0) as reader, open(to, "wb", buffering=0):
+            outlet, text = Outlet(to, "pipe"), b"S,1\n"
+            outlet.put(b"S,0\n")
+            outlet.took(text, os.write(to, text[:3]))
+            self.assertEqual((bytes(outlet.pending), outlet.written), (b"\n", 7))
+            outlet.put(b"S,2\n")
+            self.assertEqual((reader.read(100), outlet.written, len(outlet.pending)), (b"S,0\nS,1\nS,2\n", 12, 0))
+
     def test_what_others_that_share_it_left_no_room_for_stays(self):
         of, to = os.pipe()
         with open(of, "rb", buffering=0) as reader, open(to, "wb", buffering=0) as other:
@@ -267,22 +276,30 @@ class LinesAreKept(unittest.TestCase):
     """For a bq that is to be begun again."""
 
     @staticmethod
-    def left(count, size, session):
-        """How many pieces are left of so many that have so many bytes, behind a look at the clock."""
-        run = Run.__new__(Run)
-        vars(run).update(session=session, keeping=None, begin_at=1, is_told=False, is_curious=False, is_ending=True, pieces=deque([(1, b"S,1\n")] * count), kept=Checkpoint(),
-                         look_at_bq=lambda _: None, source=SimpleNamespace(bytes=size, lines=1), acks=SimpleNamespace(read=lambda: None), watch=SimpleNamespace(next_look=1))
+    def left(size, session):
+        """How many bytes are left of so many, behind a look at the clock."""
+        run, source = Run.__new__(Run), Source(None, Place())
+        source.sent = bytearray(size)
+        vars(run).update(session=session, keeping=None, begin_at=1, is_told=False, is_curious=False, is_ending=True, kept=Checkpoint(),
+                         look_at_bq=lambda _: None, source=source, acks=SimpleNamespace(read=lambda: None), watch=SimpleNamespace(next_look=1))
         run.tick(0)
-        return len(run.pieces)
+        return len(source.sent), source.total
 
     def test_however_many_until_it_runs(self):
-        self.assertEqual(self.left(1, KEPT + 1, None), 1)
-        self.assertEqual(self.left(PIECES + 1, KEPT, None), PIECES + 1)
+        self.assertEqual(self.left(KEPT + 1, None), (KEPT + 1, KEPT + 1))
 
     def test_no_more_than_so_many_while_one_runs(self):
-        self.assertEqual(self.left(PIECES, KEPT, object()), PIECES)
-        self.assertEqual(self.left(1, KEPT + 1, object()), 0)
-        self.assertEqual(self.left(PIECES + 1, KEPT, object()), 0)
+        self.assertEqual(self.left(KEPT, object()), (KEPT, KEPT))
+        self.assertEqual(self.left(KEPT + 1, object()), (0, KEPT + 1))
+
+    def test_those_behind_the_newest_checkpoint_whatever_was_asked_for_meanwhile(self):
+        source, places = Source(None, Place()), []
+        for text in (b"S,1\n", b"S,2\nS,3\n", b"S,4\n"):
+            source.count(text)
+            places.append(source.total)
+        for place, left in zip((places[0], places[1], places[0], places[2]), (b"S,2\nS,3\nS,4\n", b"S,4\n", b"S,4\n", b"")):
+            source.forget(place)
+            self.assertEqual((bytes(source.sent), source.total), (left, 16))
 
 
 class OutputsAreNeverCut(InAFolder):
