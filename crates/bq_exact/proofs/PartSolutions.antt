@@ -1,0 +1,227 @@
+-- What each solution of the system of a split part has: the signs of the part, all comparisons and domains; and which differences stand between streams.
+use Rattle.std.proofs.Common.{◌≡◌, pos, ◌+ℤ◌, ◌-ℤ◌, ◌<ℤ◌, inl, inr, Bool, true, false, not, ◌&&◌, cond, List, [], ◌∷◌, ◌++◌, map, filter, nat_eq, refl, sym, ◌∙◌, ap, subst, arith}
+use Rattle.std.specs.List.{flat_map}
+use Rattle.std.proofs.lemmas.Int.{ints}
+use Rattle.std.proofs.lemmas.List.Elements.{All-contains}
+use Rattle.bq_model.specs.declared.atom.Attr.{Attr}
+use Rattle.bq_model.specs.declared.atom.Atom.{Atom}
+use Rattle.bq_model.specs.declared.atom.Domain.{Domain}
+use Rattle.bq_model.specs.declared.atom.Element.{Element}
+use Rattle.bq_model.specs.declared.atom.Element.TheVariants as element
+use Rattle.bq_model.specs.declared.atom.Op.{Op}
+use Rattle.bq_model.specs.declared.part.Pair.{Pair}
+use Rattle.bq_model.specs.declared.part.Sign.{Sign}
+use Rattle.bq_model.specs.Query.{QueryValue, attr_lt, attrs_of, consts_of, HasAttr, IsWithinLimits}
+use Rattle.bq_model.specs.Groups.{same_group}
+use Rattle.bq_model.specs.Assignment.{Assignment, value, lies_in, holds, AtomHolds, Holds, KeepsDomains}
+use Rattle.bq_model.specs.Parts.{same_stream, pair, pair_of, sign_at}
+use Rattle.bq_model.proofs.Has.{Has, first, later, Has-nil, same_at, Contains-from_has, Has-append_left, Has-append_right, Has-append_cases, Has-map_from, Has-filter_holds, Has-flat_map, Has-flat_map_from}
+use Rattle.bq_model.proofs.Holding.{Holds-each, Holds-from_each}
+use Rattle.bq_model.proofs.Domains.{keeps_each, each_keeps, lies, lies_low, lies_high}
+use Rattle.bq_model.proofs.Elements.{HasElement, SidesIn, sides_in}
+use Rattle.bq_model.proofs.Once.{has_once, once_has}
+use Rattle.bq_laws.proofs.Tests.{false_if, nat_true}
+use Rattle.bq_laws.specs.Cases.{atom}
+use Rattle.bq_constraints.specs.Soft.{denies_itself}
+use Rattle.bq_constraints.proofs.Softly.{denied_fails}
+use Rattle.bq_form_pairs.specs.Outer.{outer_integers}
+use Rattle.bq_form_pairs.specs.Ends.{has_both_ends}
+use Rattle.bq_form_pairs.specs.Pairs.{unlike_pair, are_beside, column_pairs, own_pairs, split_pairs}
+use Rattle.bq_form_pairs.specs.SplitParts.{IsSplitPart}
+use Rattle.bq_form_pairs.proofs.Naming.{unlikes_are_pairs}
+use Rattle.bq_form_parts.proofs.Unlike.{one_pair, unlike_holds, unlike_sign}
+use Rattle.bq_whole.specs.System.{Difference, atom_bounds, domain_bounds, system, Solves, IsOf}
+use Rattle.bq_whole.specs.Links.{are_across}
+use Rattle.bq_whole.specs.Signed.{said, all_said}
+use Rattle.bq_whole.proofs.Suffice.{met_holds, bounds_sides, atom_says, atom_if, solves_query}
+use Rattle.bq_whole.proofs.Signed.{said_from, said_no_unlike, signs_are_said, signed_holds, solutions_satisfy}
+use Rattle.bq_forms.specs.Split.{part_query}
+use Rattle.bq_forms.proofs.PartQueries.{as_many_signs}
+use Rattle.bq_necessity.specs.Within.{as_comparisons, written}
+use Rattle.bq_exact.specs.Split.{HasNoUnlikeBetween}
+use Rattle.bq_exact.proofs.Paths.{Step}
+
+-- ---- the domains as comparisons
+
+comparison_met : (d : Domain) (v : Assignment) → lies_in d (v d.attr) ≡ true → (t : Atom) → Has (as_comparisons d) t → AtomHolds v t
+comparison_met d v h t first = atom_if v t (let l = lies_low d (v d.attr) h in omega (arith, ints, l))
+comparison_met d v h t (later first) = atom_if v t (let l = lies_high d (v d.attr) h in omega (arith, ints, l))
+comparison_met d v h t (later (later k)) = Has-nil k
+
+-- an assignment that satisfies a query within its domains satisfies the query with its domains written as comparisons
+pub written_if : (q : QueryValue) (v : Assignment) → Holds q v → KeepsDomains q v → Holds (written q) v
+written_if q v h k = Holds-from_each (written q) v (λ t i. elim (Has-append_cases q.atoms (flat_map as_comparisons q.domains) t i) [
+  | inl j ↦ Holds-each q v h t j
+  | inr j ↦ (let r = Has-flat_map_from as_comparisons q.domains t j in comparison_met r.0 v (keeps_each q v k r.0 r.1) t r.2)
+])
+
+-- and the other way round
+pub written_only : (q : QueryValue) (v : Assignment) → Holds (written q) v → Holds q v × KeepsDomains q v
+written_only q v h = (Holds-from_each q v (λ t i. each t (Has-append_left (flat_map as_comparisons q.domains) i)), each_keeps q v domain)
+  where
+    each : (t : Atom) → Has (written q).atoms t → AtomHolds v t
+    each t i = Holds-each (written q) v h t i
+
+    domain : (d : Domain) → Has q.domains d → lies_in d (v d.attr) ≡ true
+    domain d i =
+        let low = atom (element.Attr d.attr) Op.Gt (element.Const (d.lo -ℤ pos 1)) in
+        let high = atom (element.Attr d.attr) Op.Lt (element.Const (d.hi +ℤ pos 1)) in
+        let a = atom_says v low (each low (Has-append_right q.atoms (Has-flat_map as_comparisons q.domains d low i first))) in
+        let b = atom_says v high (each high (Has-append_right q.atoms (Has-flat_map as_comparisons q.domains d high i (later first)))) in
+        lies d (v d.attr) (omega (arith, ints, a)) (omega (arith, ints, b))
+
+-- ---- differences between columns
+
+-- a domain bounds a column by an integer
+domain_apart : (e : Domain) (d : Difference) (x y : Attr) → Has (domain_bounds e) d → d.left ≡ element.Attr x → d.right ≡ element.Attr y → ⊥
+domain_apart e d x y first l r = absurd cc
+domain_apart e d x y (later first) l r = absurd cc
+domain_apart e d x y (later (later k)) l r = Has-nil k
+
+-- the columns of a difference between streams are attributes
+pub step_named : (q : QueryValue) (x y : Attr) → Step (system q) x y → Has (attrs_of q.atoms) x × Has (attrs_of q.atoms) y
+step_named q x y s = elim (Has-append_cases (flat_map atom_bounds q.atoms) (flat_map domain_bounds q.domains) s.of s.among) [
+  | inl i ↦ (let r = Has-flat_map_from atom_bounds q.atoms s.of i in
+      let n : SidesIn q.atoms r.0 = sides_in q.atoms r.0 r.1 in
+      let m = bounds_sides (HasElement (attrs_of q.atoms) (consts_of q.atoms)) r.0.op r.0.left r.0.right n.left n.right s.of r.2 in
+      (subst (HasElement (attrs_of q.atoms) (consts_of q.atoms)) s.left m.0, subst (HasElement (attrs_of q.atoms) (consts_of q.atoms)) s.right m.1))
+  | inr i ↦ (let r = Has-flat_map_from domain_bounds q.domains s.of i in absurd (domain_apart r.0 s.of x y r.2 s.left s.right))
+]
+
+-- where it is not met the query fails
+pub step_fails : (q : QueryValue) (v : Assignment) (x y : Attr) (s : Step (system q) x y) → (s.of.by +ℤ v y) <ℤ v x → holds (written q) v ≡ false
+step_fails q v x y s l = false_if (holds (written q) v) (λ h.
+    let r = written_only q v h in
+    let m = solves_query q v r.0 r.1 s.of s.among in
+    let e : value s.of.left v ≡ v x = ap (λ z. value z v) s.left in
+    let f : value s.of.right v ≡ v y = ap (λ z. value z v) s.right in
+    omega (arith, ints, l, m, e, f))
+
+-- ---- no split pair is of two streams
+
+module _ (q : QueryValue) where
+  column_local : (a : Attr) (rest : List Attr) (p : Pair) → Has (column_pairs q a rest) p → are_across (element.Attr p.left) p.right ≡ false
+  column_local a rest p h = by (has_both_ends q a) h
+    where
+      P : Pair → Type 0
+      P p = are_across (element.Attr p.left) p.right ≡ false
+
+      ks : List Pair
+      ks = map (λ k. pair a (element.Const k)) (outer_integers q a)
+
+      bs : List Pair
+      bs = map (λ b. pair a (element.Attr b)) (filter (are_beside q a) rest)
+
+      beside : (b c : Bool) → (b && c) ≡ true → not b ≡ false
+      beside true c e = refl
+      beside false c e = absurd cc
+
+      all : Has (ks ++ bs) p → P p
+      all i = elim (Has-append_cases ks bs p i) [
+        | inl j ↦ (let r = Has-map_from (λ k. pair a (element.Const k)) (outer_integers q a) p j in subst P r.2 refl)
+        | inr j ↦ (let r = Has-map_from (λ b. pair a (element.Attr b)) (filter (are_beside q a) rest) p j in
+            subst P r.2 (beside (same_stream a r.0) (same_group q.atoms a r.0) (Has-filter_holds (are_beside q a) rest r.0 r.1)))
+      ]
+
+      by : (b : Bool) → Has (cond {A = List Pair} b [] (ks ++ bs)) p → P p
+      by true i = Has-nil i
+      by false i = all i
+
+  own_local : (xs : List Attr) (p : Pair) → Has (own_pairs q xs) p → are_across (element.Attr p.left) p.right ≡ false
+  own_local [] p h = Has-nil h
+  own_local (a ∷ rest) p h = elim (Has-append_cases (column_pairs q a rest) (own_pairs q rest) p h) [
+    | inl i ↦ column_local a rest p i
+    | inr i ↦ own_local rest p i
+  ]
+
+-- the pair of two elements that are not of two streams is not either
+pair_local : (x y : Element) (p : Pair) → are_across x y ≡ false → Has (pair_of x y) p → are_across (element.Attr p.left) p.right ≡ false
+pair_local (element.Attr a) (element.Attr b) p n h = by (attr_lt a b) (attr_lt b a) h
+  where
+    P : Pair → Type 0
+    P p = are_across (element.Attr p.left) p.right ≡ false
+
+    turned : (i j : Attr) → not (same_stream i j) ≡ false → not (same_stream j i) ≡ false
+    turned i j e = grind arith
+
+    by : (c d : Bool) → Has (cond {A = List Pair} c (pair a (element.Attr b) ∷ []) (cond d (pair b (element.Attr a) ∷ []) [])) p → P p
+    by true d i = subst P (one_pair (pair a (element.Attr b)) p i) n
+    by false true i = subst P (one_pair (pair b (element.Attr a)) p i) (turned a b n)
+    by false false i = Has-nil i
+pair_local (element.Attr a) (element.Const k) p n h = subst (λ p. are_across (element.Attr p.left) p.right ≡ false) (one_pair (pair a (element.Const k)) p h) refl
+pair_local (element.Const k) (element.Attr a) p n h = subst (λ p. are_across (element.Attr p.left) p.right ≡ false) (one_pair (pair a (element.Const k)) p h) refl
+pair_local (element.Const j) (element.Const k) p n h = Has-nil h
+
+pub split_local : (q : QueryValue) → IsWithinLimits q → HasNoUnlikeBetween q → (p : Pair) → Has (split_pairs q) p → are_across (element.Attr p.left) p.right ≡ false
+split_local q within none p h =
+    elim (Has-append_cases (flat_map unlike_pair q.atoms) (own_pairs q (attrs_of q.atoms)) p (once_has (flat_map unlike_pair q.atoms ++ own_pairs q (attrs_of q.atoms)) p h)) [
+      | inl i ↦ (let t = (unlikes_are_pairs q within).only p (has_once (flat_map unlike_pair q.atoms) p i) in pair_local t.0.left t.0.right p (none t.0 t.1 t.2) t.3)
+      | inr i ↦ own_local q (attrs_of q.atoms) p i
+    ]
+
+-- ---- the solutions of a part
+
+module _ (q : QueryValue) (within : IsWithinLimits q) (ss : List Sign) (is : IsSplitPart q ss) where
+  -- the assignment that has the signs is one
+  pub base_solves : Solves (system (part_query q ss)) is.one
+  base_solves = solves_query (part_query q ss) is.one ((signed_holds q (split_pairs q) ss (as_many_signs q ss is) is.one).1 (is.holds, is.has)) is.domains
+
+  -- each has the same signs
+  pub signs_alike : (v : Assignment) → Solves (system (part_query q ss)) v → (p : Pair) → Has (split_pairs q) p → sign_at v p ≡ sign_at is.one p
+  signs_alike v s p h = same_at (sign_at v) (sign_at is.one) ((signs_are_said v (split_pairs q) ss (as_many_signs q ss is)).1 says ∙ sym is.has) h
+    where
+      says : (t : Atom) → Has (all_said (split_pairs q) ss) t → AtomHolds v t
+      says t i = atom_if v t (met_holds t.op t.left t.right v (said_no_unlike (split_pairs q) ss t i) (λ d k. s d
+          (Has-append_left (flat_map domain_bounds q.domains) (Has-flat_map atom_bounds (all_said (split_pairs q) ss ++ q.atoms) t d (Has-append_left q.atoms i) k))))
+
+  -- each meets the `<>` of the query
+  unlike_met : (v : Assignment) → Solves (system (part_query q ss)) v → (t : Atom) → Has q.atoms t → t.op ≡ Op.Ne → AtomHolds v t
+  unlike_met v s t h e = unlike_holds v t (All-contains HasAttr q.atoms t within.sides (Contains-from_has q.atoms t h)) e
+      (false_if (denies_itself t) (λ n. denied_fails t is.one n at_base))
+      (λ p i k. unlike_sign is.one t e at_base p i (sym (signs_alike v s p (among p i)) ∙ k))
+    where
+      at_base : AtomHolds is.one t
+      at_base = Holds-each q is.one is.holds t h
+
+      among : (p : Pair) → Has (pair_of t.left t.right) p → Has (split_pairs q) p
+      among p i = let b = unlikes_are_pairs q within in subst (λ ps. Has ps p) (sym b.joined) (Has-append_left b.others (b.each t h e p i))
+
+  -- and satisfies it within its domains
+  pub solution_satisfies : (v : Assignment) → Solves (system (part_query q ss)) v → Holds q v × KeepsDomains q v
+  solution_satisfies v s =
+      let r = solutions_satisfy (part_query q ss) v s (λ t h e. elim (Has-append_cases (all_said (split_pairs q) ss) q.atoms t h) [
+        | inl i ↦ absurd (said_no_unlike (split_pairs q) ss t i e)
+        | inr i ↦ unlike_met v s t i e
+      ]) in
+      (((signed_holds q (split_pairs q) ss (as_many_signs q ss is) v).0 r.0).0, r.1)
+
+  pub solution_written : (v : Assignment) → Solves (system (part_query q ss)) v → Holds (written q) v
+  solution_written v s = let r = solution_satisfies v s in written_if q v r.0 r.1
+
+  -- a difference between streams is one of the query
+  pub step_of_query : HasNoUnlikeBetween q → (x y : Attr) → Step (system (part_query q ss)) x y → Step (system q) x y
+  step_of_query none x y s = elim (Has-append_cases (flat_map atom_bounds (all_said (split_pairs q) ss ++ q.atoms)) (flat_map domain_bounds q.domains) s.of s.among) [
+    | inl i ↦ (let r = Has-flat_map_from atom_bounds (all_said (split_pairs q) ss ++ q.atoms) s.of i in
+        elim (Has-append_cases (all_said (split_pairs q) ss) q.atoms r.0 r.1) [
+          | inl j ↦ absurd (of_said r.0 j r.2)
+          | inr j ↦ of_query (Has-append_left (flat_map domain_bounds q.domains) (Has-flat_map atom_bounds q.atoms r.0 s.of j r.2))
+        ])
+    | inr i ↦ of_query (Has-append_right (flat_map atom_bounds q.atoms) i)
+  ]
+    where
+      of_query : Has (system q) s.of → Step (system q) x y
+      of_query h = record { of = s.of; among = h; left = s.left; right = s.right; across = s.across }
+
+      beside : (a : Attr) (e : Element) → are_across (element.Attr a) e ≡ false → IsOf a.stream e
+      beside a (element.Attr b) n = nat_true b.stream a.stream (turned n)
+        where
+          turned : not (same_stream a b) ≡ false → nat_eq b.stream a.stream ≡ true
+          turned n = grind arith
+      beside a (element.Const k) n = tt
+
+      of_said : (t : Atom) → Has (all_said (split_pairs q) ss) t → Has (atom_bounds t) s.of → ⊥
+      of_said t j k =
+          let m = said_from (split_pairs q) ss t j in
+          let a : Atom = said m.0 m.1 in
+          let b = bounds_sides (IsOf m.0.left.stream) a.op a.left a.right refl (beside m.0.left m.0.right (split_local q within none m.0 m.2)) s.of (subst (λ t. Has (atom_bounds t) s.of) (sym m.3) k) in
+          s.across (subst (IsOf m.0.left.stream) s.left b.0 ∙ sym (subst (IsOf m.0.left.stream) s.right b.1))

@@ -1,0 +1,4 @@
+pub mod Split
+pub mod Refused
+pub mod Accepted
+pub mod Verdicts

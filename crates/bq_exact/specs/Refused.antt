@@ -1,0 +1,30 @@
+-- Which parts of the split form tell that many states are needed, whatever the integers are.
+use Rattle.std.specs.Prelude.{◌≡◌, ◌≢◌, ◌⊎◌, IsFalse, List}
+use Rattle.std.specs.declared.option.Option.TheVariants.{Some}
+use Rattle.bq_model.specs.declared.atom.Atom.{Atom}
+use Rattle.bq_model.specs.declared.atom.Attr.{Attr}
+use Rattle.bq_model.specs.declared.condition.Condition.{Condition}
+use Rattle.bq_model.specs.declared.condition.Condition.TheVariants.{C1, C3}
+use Rattle.bq_model.specs.declared.part.Sign.{Sign}
+use Rattle.bq_model.specs.Query.{QueryValue, is_filter, IsWithinLimits}
+use Rattle.bq_model.specs.Violation.{Failure}
+use Rattle.bq_form_pairs.specs.SplitParts.{IsSplitPart}
+use Rattle.bq_whole.specs.Links.{AreLinks}
+use Rattle.bq_whole.specs.Whole.{WholeBreaks}
+use Rattle.bq_forms.specs.Split.{part_query}
+use Rattle.bq_forms.specs.SplitBreaks.{IsSplitViolation}
+use Rattle.bq_necessity.specs.Within.{NeedsStatesWithin}
+use Rattle.bq_exact.specs.Split.{HasNoUnlikeBetween}
+
+-- where a part fails first and by C1, the query needs many states on rows within its domains
+abbrev pub FirstConditionTells : Type 0
+FirstConditionTells =
+    (q : QueryValue) → IsWithinLimits q → IsFalse (is_filter q)
+    → (f : Failure) → IsSplitViolation q (Some f) → f.condition ≡ C1 → NeedsStatesWithin q
+
+-- where some part breaks C1 or C2, or without DISTINCT any condition, and no `<>` stands between streams
+abbrev pub BrokenPartsTell : Type 0
+BrokenPartsTell =
+    (q : QueryValue) → IsWithinLimits q → IsFalse (is_filter q) → HasNoUnlikeBetween q
+    → (ss : List Sign) → IsSplitPart q ss → (links : List Atom) → AreLinks (part_query q ss) links
+    → (c : Condition) (a : Attr) → WholeBreaks (part_query q ss) links c a → (c ≢ C3) ⊎ IsFalse q.distinct → NeedsStatesWithin q
