@@ -43,13 +43,13 @@ use Rattle.bq_exact.proofs.Standing.{sides_of}
 
 -- ---- comparisons of a column with an integer
 
-same_column : (a b : Attr) → element.Attr a ≡ element.Attr b → a ≡ b
+pub same_column : (a b : Attr) → element.Attr a ≡ element.Attr b → a ≡ b
 same_column a b e = cc
 
 same_integer : (j k : ℤ) → element.Const j ≡ element.Const k → j ≡ k
 same_integer j k e = cc
 
-no_integer : (a : Attr) (k : ℤ) → element.Attr a ≡ element.Const k → ⊥
+pub no_integer : (a : Attr) (k : ℤ) → element.Attr a ≡ element.Const k → ⊥
 no_integer a k e = cc
 
 -- with its sides exchanged and its operator turned, a comparison has the same differences
@@ -222,7 +222,7 @@ outside_alike ts a b h e k i = subst (λ t. Has (cond {A = List ℤ} t ((e.lo -�
 -- ---- pairs
 
 -- the sides of a pair are those of what it is the pair of
-pair_sides : (x y : Element) (p : Pair) → Has (pair_of x y) p → ((x ≡ element.Attr p.left) × (y ≡ p.right)) ⊎ ((y ≡ element.Attr p.left) × (x ≡ p.right))
+pub pair_sides : (x y : Element) (p : Pair) → Has (pair_of x y) p → ((x ≡ element.Attr p.left) × (y ≡ p.right)) ⊎ ((y ≡ element.Attr p.left) × (x ≡ p.right))
 pair_sides (element.Attr a) (element.Attr b) p h = by (attr_lt a b) (attr_lt b a) h
   where
     by : (c d : Bool) → Has (cond {A = List Pair} c (pair a (element.Attr b) ∷ []) (cond d (pair b (element.Attr a) ∷ []) [])) p
@@ -237,7 +237,7 @@ pair_sides (element.Const k) (element.Attr a) p (later h) = Has-nil h
 pair_sides (element.Const j) (element.Const k) p h = Has-nil h
 
 -- a pair of a column with an outer integer, or with a column of its stream and group
-abbrev IsOwn : QueryValue → Pair → Type 0
+abbrev pub IsOwn : QueryValue → Pair → Type 0
 IsOwn q p = ((k : ℤ) × (p.right ≡ element.Const k) × Has (outer_integers q p.left) k) ⊎ ((b : Attr) × (p.right ≡ element.Attr b) × (are_beside q p.left b ≡ true))
 
 column_own : (q : QueryValue) (a : Attr) (rest : List Attr) (p : Pair) → Has (column_pairs q a rest) p → IsOwn q p
@@ -299,7 +299,7 @@ pub data Source (q : QueryValue) (d : Difference) : Type 0 where
   of_atom : (t : Atom) → Has q.atoms t → Has (atom_bounds t) d → Source q d
   of_domain : (e : Domain) → Has q.domains e → Has (domain_bounds e) d → Source q d
 
-source : (q : QueryValue) (ss : List Sign) (d : Difference) → Has (system (part_query q ss)) d → Source q d
+pub source : (q : QueryValue) (ss : List Sign) (d : Difference) → Has (system (part_query q ss)) d → Source q d
 source q ss d h = elim (Has-append_cases (flat_map atom_bounds (all_said (split_pairs q) ss ++ q.atoms)) (flat_map domain_bounds q.domains) d h) [
   | inl i ↦ (let r = Has-flat_map_from atom_bounds (all_said (split_pairs q) ss ++ q.atoms) d i in
       elim (Has-append_cases (all_said (split_pairs q) ss) q.atoms r.0 r.1) [
@@ -366,7 +366,7 @@ module _ (q : QueryValue) (within : IsWithinLimits q) (ss : List Sign) (is : IsS
   -- ---- a path stays in one group
 
   -- the comparison that a pair of `<>` is of, or what an own pair is of
-  from_pair : (p : Pair) → Has (split_pairs q) p → ((t : Atom) × Has q.atoms t × (t.op ≡ Op.Ne) × Has (pair_of t.left t.right) p) ⊎ IsOwn q p
+  pub from_pair : (p : Pair) → Has (split_pairs q) p → ((t : Atom) × Has q.atoms t × (t.op ≡ Op.Ne) × Has (pair_of t.left t.right) p) ⊎ IsOwn q p
   from_pair p h = elim (Has-append_cases (flat_map unlike_pair q.atoms) (own_pairs q (attrs_of q.atoms)) p (once_has (flat_map unlike_pair q.atoms ++ own_pairs q (attrs_of q.atoms)) p h)) [
     | inl i ↦ inl ((unlikes_are_pairs q within).only p (has_once (flat_map unlike_pair q.atoms) p i))
     | inr i ↦ inr (own_is q (attrs_of q.atoms) p i)
@@ -459,7 +459,7 @@ module _ (q : QueryValue) (within : IsWithinLimits q) (ss : List Sign) (is : IsS
       below : Bool
       below = list_any (λ t. bounds_below a t.left t.op t.right) q.atoms
 
-  lacks_both : (a : Attr) → NoTop ds a ⊎ NoBottom ds a → has_both_ends q a ≡ false
+  pub lacks_both : (a : Attr) → NoTop ds a ⊎ NoBottom ds a → has_both_ends q a ≡ false
   lacks_both a o = false_if (has_both_ends q a) (λ e. let r = closed_by_text a e in elim o [ inl n ↦ n r.0 r.2 | inr n ↦ n r.1 r.3 ])
 
   -- ---- an end is an integer that is given, or stands before one

@@ -27,11 +27,12 @@ use Rattle.bq_forms.specs.Split.{part_query}
 use Rattle.bq_forms.specs.SplitBreaks.{LacksEnd, IsOpenDim}
 use Rattle.bq_forms.proofs.PartQueries.{part_queries_are_well_formed}
 use Rattle.bq_necessity.proofs.Possible.{either}
-use Rattle.bq_exact.specs.Split.{HasNoUnlikeBetween, HasRoomOutside}
+use Rattle.bq_exact.specs.Split.{HasRoomOutside}
 use Rattle.bq_exact.proofs.Paths.{Step, step_leads, leads_bound}
 use Rattle.bq_exact.proofs.Ends.{NoTop, NoBottom, top_over, bottom_under, open_ends}
-use Rattle.bq_exact.proofs.PartSolutions.{step_named, step_of_query}
-use Rattle.bq_exact.proofs.OpenLinks.{link_op, link_steps, no_unlike_link}
+use Rattle.bq_exact.proofs.OpenLinks.{link_op, link_steps}
+use Rattle.bq_exact.proofs.FreeSteps.{part_step_named}
+use Rattle.bq_exact.proofs.UnlikeLinks.{no_unlike_link}
 use Rattle.bq_exact.proofs.Between.{leads_grouped, over_all, under_all}
 
 -- ---- ends of windows
@@ -114,7 +115,7 @@ not_stuck ds o x y (inr e) high low l f g s = subst (λ o. Stuck ds o x y) e s h
 
 -- ---- a class whose own range lacks an end
 
-module _ (q : QueryValue) (within : IsWithinLimits q) (none : HasNoUnlikeBetween q) (room : HasRoomOutside q) (ss : List Sign) (is : IsSplitPart q ss)
+module _ (q : QueryValue) (within : IsWithinLimits q) (room : HasRoomOutside q) (ss : List Sign) (is : IsSplitPart q ss)
     (links : List Atom) (are : AreLinks (part_query q ss) links) (a : Attr) where
   abbrev r : QueryValue
   r = part_query q ss
@@ -124,7 +125,7 @@ module _ (q : QueryValue) (within : IsWithinLimits q) (none : HasNoUnlikeBetween
 
   -- the left side of a link stands at or under the right one, and both are of one group
   step : (t : Atom) → Has links t → (x y : Attr) → t.left ≡ element.Attr x → t.right ≡ element.Attr y → Step ds x y
-  step t h x y ex ey = link_steps r links are t h x y ex ey (no_unlike_link q ss none links are t h)
+  step t h x y ex ey = link_steps r links are t h x y ex ey (no_unlike_link q within ss is links are t h)
 
   -- an integer between the sides is against the link
   no_integer : (t : Atom) → Has links t → IsStrict t.op → (x y : Attr) → t.left ≡ element.Attr x → t.right ≡ element.Attr y
@@ -138,7 +139,7 @@ module _ (q : QueryValue) (within : IsWithinLimits q) (none : HasNoUnlikeBetween
       → NoTop ds y → (h : ℤ) → Bound ds (element.Attr x) (element.Const h) (pos 0) → ⊥
   right_ends t i o x y ex ey n h b =
       let s : Step ds x y = step t i x y ex ey in
-      let named = step_named q x y (step_of_query q within ss is none x y s) in
+      let named = part_step_named q within ss is x y s in
       over_all q within ss is room x y named.1 (leads_grouped q within ss is x y (step_leads ds x y s)) n h b
       (λ k. no_integer t i o x y ex ey k.0 (k.0 +ℤ pos 1) (omega (arith, ints)) k.1 k.2)
 
@@ -147,7 +148,7 @@ module _ (q : QueryValue) (within : IsWithinLimits q) (none : HasNoUnlikeBetween
       → NoBottom ds x → (l : ℤ) → Bound ds (element.Const l) (element.Attr y) (pos 0) → ⊥
   left_ends t i o x y ex ey n l b =
       let s : Step ds x y = step t i x y ex ey in
-      let named = step_named q x y (step_of_query q within ss is none x y s) in
+      let named = part_step_named q within ss is x y s in
       under_all q within ss is room y x named.0 (sym (leads_grouped q within ss is x y (step_leads ds x y s))) n l b
       (λ k. no_integer t i o x y ex ey (k.0 -ℤ pos 1) k.0 (omega (arith, ints)) k.2 k.1)
 
@@ -155,7 +156,7 @@ module _ (q : QueryValue) (within : IsWithinLimits q) (none : HasNoUnlikeBetween
     strict : (t : Atom) → Has links t → (b : Attr) → (t.left ≡ element.Attr b) ⊎ (t.right ≡ element.Attr b) → AreOneClass ds a b → IsStrict t.op
     strict t h b s c = elim (link_op r links are t h) [
       | inl o ↦ o
-      | inr o ↦ elim o [ inl e ↦ absurd (other (kept.linked t h e b s c)) | inr e ↦ absurd (no_unlike_link q ss none links are t h e) ]
+      | inr o ↦ elim o [ inl e ↦ absurd (other (kept.linked t h e b s c)) | inr e ↦ absurd (no_unlike_link q within ss is links are t h e) ]
     ]
 
     -- what is asked of a class without a greatest value has no greatest either
@@ -201,9 +202,9 @@ module _ (q : QueryValue) (within : IsWithinLimits q) (none : HasNoUnlikeBetween
       open_own f = lacks f.lo f.hi record { low = subst (IsLowest ds a) f.low k.is_own.low; high = subst (IsHighest ds a) f.high k.is_own.high }
 
 -- no dim of a part that breaks no condition lacks an end
-pub no_open_dim : (q : QueryValue) → IsWithinLimits q → HasNoUnlikeBetween q → HasRoomOutside q → (ss : List Sign) → IsSplitPart q ss
+pub no_open_dim : (q : QueryValue) → IsWithinLimits q → HasRoomOutside q → (ss : List Sign) → IsSplitPart q ss
     → (f : Form) → IsWholePlan (part_query q ss) f → IsFirstWholeBreak (part_query q ss) f.links None → (a : Attr) → IsOpenDim (part_query q ss) f a → ⊥
-no_open_dim q within none room ss is f plan unbroken a d =
+no_open_dim q within room ss is f plan unbroken a d =
     let finite : IsFinite d.dim.range = (plans_tell_breaks (part_query q ss) (part_queries_are_well_formed q within ss is) f plan).1 unbroken d.place d.stream d.dim d.among in
     let planned : IsPlannedDim (part_query q ss) f.links d.place (f.keeps d.place).kind d.dim = (plan.streams d.place d.stream).dims d.dim d.among in
-    own_ends q within none room ss is f.links plan.links d.dim.attr d.dim.range planned.range finite (subst (LacksEnd (part_query q ss)) (sym d.is) d.lacks)
+    own_ends q within room ss is f.links plan.links d.dim.attr d.dim.range planned.range finite (subst (LacksEnd (part_query q ss)) (sym d.is) d.lacks)

@@ -19,14 +19,15 @@ use Rattle.bq_forms.specs.Split.{part_query}
 use Rattle.bq_necessity.specs.States.{NeedsStates}
 use Rattle.bq_necessity.specs.Within.{written}
 use Rattle.bq_necessity.proofs.Possible.{either}
-use Rattle.bq_exact.specs.Split.{HasNoUnlikeBetween, HasRoomOutside}
+use Rattle.bq_exact.specs.Split.{HasClosedUnlikes, HasRoomOutside}
 use Rattle.bq_exact.proofs.Paths.{bounds_tight, Leads, Step, step_leads, leads_bound, leads_more, leaving}
 use Rattle.bq_exact.proofs.Ends.{NoTop, NoBottom, Free, up, down, top_over, bottom_under}
-use Rattle.bq_exact.proofs.PartSolutions.{base_solves, step_of_query, step_named}
+use Rattle.bq_exact.proofs.PartSolutions.{base_solves}
+use Rattle.bq_exact.proofs.FreeSteps.{part_step_named}
 use Rattle.bq_exact.proofs.OpenLinks.{strict_not_unlike, link_steps, OpenLink}
 use Rattle.bq_exact.proofs.MovedFamilies.{both_sides_need}
 use Rattle.bq_exact.proofs.OpposedFamilies.{Side, at_left, at_right, OneSide, lefts, rights, OtherSides, left_right, right_left, OneEnd, apart_need, beside_need}
-use Rattle.bq_exact.proofs.Standing.{StandsFor, link_beside, step_stands, part_no_unlike}
+use Rattle.bq_exact.proofs.Standing.{StandsFor, link_beside, step_stands}
 use Rattle.bq_exact.proofs.Between.{leads_grouped, over_all, ordered}
 
 -- what `<` and `<=` say
@@ -75,7 +76,7 @@ strict_bound r links are x y k = leads_bound r x y (step_leads (system r) x y (s
 abbrev pub AreApart : List Difference → ℕ → Attr → Attr → Attr → Attr → Type 0
 AreApart ds place x1 y1 x2 y2 = (x1.stream ≡ place → x2.stream ≡ place → AreOneClass ds x1 x2 → ⊥) × (y1.stream ≡ place → y2.stream ≡ place → AreOneClass ds y1 y2 → ⊥)
 
-module _ (q : QueryValue) (within : IsWithinLimits q) (ss : List Sign) (is : IsSplitPart q ss) (none : HasNoUnlikeBetween q)
+module _ (q : QueryValue) (within : IsWithinLimits q) (ss : List Sign) (is : IsSplitPart q ss) (closed : HasClosedUnlikes q)
     (links : List Atom) (are : AreLinks (part_query q ss) links) where
   abbrev ds : List Difference
   ds = system (part_query q ss)
@@ -122,7 +123,7 @@ module _ (q : QueryValue) (within : IsWithinLimits q) (ss : List Sign) (is : IsS
   path_needs x y n p free then m = elim (leaving ds x y p) [
     | inl e ↦ absurd (n e)
     | inr l ↦ elim (leaving ds l.1 y l.5) [
-      | inl e ↦ step_stands (part_query q ss) is.one (base_solves q within ss is) (part_no_unlike q ss none) links are l.0 l.1 l.4 (kept_free l.0 l.1 l.2 l.5) (λ s.
+      | inl e ↦ step_stands (part_query q ss) is.one (base_solves q within ss is) links are l.0 l.1 l.4 (kept_free l.0 l.1 l.2 l.5) (λ s.
           then record {
             one = s.one;
             among = s.among;
@@ -137,7 +138,7 @@ module _ (q : QueryValue) (within : IsWithinLimits q) (ss : List Sign) (is : IsS
             enters = s.enters ∙ e;
             after = λ v o. (let a = s.after v o in let b = leads_bound (part_query q ss) l.1 y l.5 v o in omega (arith, ints, a, b));
           } m)
-      | inr k ↦ both_sides_need q within ss is none l.1.stream k.0 k.1 l.0 l.1 k.4 l.4 k.3 refl
+      | inr k ↦ both_sides_need q within ss is closed l.1.stream k.0 k.1 l.0 l.1 k.4 l.4 k.3 refl
           (both_free k.0 k.1 l.0 l.1 (leads_more ds x l.1 k.0 (leads_more ds x l.0 l.1 l.2 (step_leads ds l.0 l.1 l.4)) k.2) k.5 l.2 l.5) m
     ]
   ]
@@ -159,7 +160,7 @@ module _ (q : QueryValue) (within : IsWithinLimits q) (ss : List Sign) (is : IsS
   -- ---- two links at one stream
 
   pub strict_named : (x y : Attr) → IsStrict links x y → Has (attrs_of q.atoms) x × Has (attrs_of q.atoms) y
-  strict_named x y k = step_named q x y (step_of_query q within ss is none x y (strict_step (part_query q ss) links are x y k))
+  strict_named x y k = part_step_named q within ss is x y (strict_step (part_query q ss) links are x y k)
 
   pub strict_grouped : (x y : Attr) → IsStrict links x y → group_of q.atoms x ≡ group_of q.atoms y
   strict_grouped x y k = leads_grouped q within ss is x y (step_leads ds x y (strict_step (part_query q ss) links are x y k))
@@ -225,19 +226,19 @@ module _ (q : QueryValue) (within : IsWithinLimits q) (ss : List Sign) (is : IsS
       one_end_needs (inl o) end apart m = either {A = Leads ds x2 y1} (λ i. elim i [
         | inl p ↦ either {A = Leads ds x1 y2} (λ j. elim j [
           | inl r ↦ links_cross o end apart p r m
-          | inr n ↦ beside_need q within ss is none distinct place x2 y2 x1 y1 (strict_step (part_query q ss) links are x2 y2 k2) (strict_step (part_query q ss) links are x1 y1 k1) (turned_side place x1 y1 x2 y2 o) (turned_end ds x1 y1 x2 y2 end) n m
+          | inr n ↦ beside_need q within ss is closed distinct place x2 y2 x1 y1 (strict_step (part_query q ss) links are x2 y2 k2) (strict_step (part_query q ss) links are x1 y1 k1) (turned_side place x1 y1 x2 y2 o) (turned_end ds x1 y1 x2 y2 end) n m
         ])
-        | inr n ↦ beside_need q within ss is none distinct place x1 y1 x2 y2 (strict_step (part_query q ss) links are x1 y1 k1) (strict_step (part_query q ss) links are x2 y2 k2) o end n m
+        | inr n ↦ beside_need q within ss is closed distinct place x1 y1 x2 y2 (strict_step (part_query q ss) links are x1 y1 k1) (strict_step (part_query q ss) links are x2 y2 k2) o end n m
       ])
-      one_end_needs (inr (left_right e f)) end apart m = both_sides_need q within ss is none place x1 y1 x2 y2 (strict_step (part_query q ss) links are x1 y1 k1) (strict_step (part_query q ss) links are x2 y2 k2) e f end m
+      one_end_needs (inr (left_right e f)) end apart m = both_sides_need q within ss is closed place x1 y1 x2 y2 (strict_step (part_query q ss) links are x1 y1 k1) (strict_step (part_query q ss) links are x2 y2 k2) e f end m
       one_end_needs (inr (right_left e f)) end apart m =
-          both_sides_need q within ss is none place x2 y2 x1 y1 (strict_step (part_query q ss) links are x2 y2 k2) (strict_step (part_query q ss) links are x1 y1 k1) f e (turned_end ds x1 y1 x2 y2 end) m
+          both_sides_need q within ss is closed place x2 y2 x1 y1 (strict_step (part_query q ss) links are x2 y2 k2) (strict_step (part_query q ss) links are x1 y1 k1) f e (turned_end ds x1 y1 x2 y2 end) m
 
       -- the first is free upward, the second downward
       pub two_ends_need : HasRoomOutside q → OneSide place x1 y1 x2 y2 ⊎ OtherSides place x1 y1 x2 y2 → AreApart ds place x1 y1 x2 y2 → NoTop ds x1 → NoBottom ds y2 → NeedsStates (written q)
       two_ends_need room o apart t b m = either {A = NoTop ds x2} (λ i. elim i [
         | inl s ↦ one_end_needs o (inl (t, s)) apart m
-        | inr n ↦ apart_need q within ss is none distinct place x1 y1 x2 y2 (strict_step (part_query q ss) links are x1 y1 k1) (side_one o) (strict_step (part_query q ss) links are x2 y2 k2) (side_two o) t b (λ p. ends n p) m
+        | inr n ↦ apart_need q within ss is closed distinct place x1 y1 x2 y2 (strict_step (part_query q ss) links are x1 y1 k1) (side_one o) (strict_step (part_query q ss) links are x2 y2 k2) (side_two o) t b (λ p. ends n p) m
       ])
         where
           side_one : OneSide place x1 y1 x2 y2 ⊎ OtherSides place x1 y1 x2 y2 → Side place x1 y1

@@ -15,7 +15,7 @@ use Rattle.bq_forms.specs.Split.{part_query}
 use Rattle.bq_forms.specs.SplitBreaks.{IsPartBreak, broken, unbounded, none, BreaksAt, IsSplitViolation}
 use Rattle.bq_necessity.specs.Within.{NeedsStatesWithin}
 use Rattle.bq_necessity.proofs.SoftRefused.{member_at}
-use Rattle.bq_exact.specs.Split.{HasNoUnlikeBetween, HasRoomOutside}
+use Rattle.bq_exact.specs.Split.{HasRoomOutside}
 use Rattle.bq_exact.proofs.Bounded.{no_open_dim}
 use Rattle.bq_exact.proofs.Unbroken.{unbroken-parts-need-few-states}
 
@@ -34,14 +34,14 @@ module _ (q : QueryValue) (failure : Failure)
 
   -- the failure of a part tells, unless that is a dim without an end
   part_needs : (ss : List Sign) → IsSplitPart q ss → (o : Option Break) → o ≡ Some break → IsPartBreak (part_query q ss) o
-      → (failure.condition ≢ C3) ⊎ (HasRoomOutside q × HasNoUnlikeBetween q × IsWithinLimits q) → NeedsStatesWithin q
+      → (failure.condition ≢ C3) ⊎ (HasRoomOutside q × IsWithinLimits q) → NeedsStatesWithin q
   part_needs ss is o e (broken links are d i) n =
       tell ss is links are (subst (λ b. WholeBreaks (part_query q ss) links b.condition b.attr) (some_break d break e) i.0)
   part_needs ss is o e (unbounded f plan i a k) (inl n) = absurd (n (sym (ap (λ b. b.condition) (some_break record { condition = C3; attr = a } break e))))
-  part_needs ss is o e (unbounded f plan i a k) (inr n) = absurd (no_open_dim q n.2 n.1 n.0 ss is f plan i a k.0)
+  part_needs ss is o e (unbounded f plan i a k) (inr n) = absurd (no_open_dim q n.1 n.0 ss is f plan i a k.0)
   part_needs ss is o e (none p own i) n = absurd cc
 
-  pub violation_needs : IsSplitViolation q (Some failure) → (failure.condition ≢ C3) ⊎ (HasRoomOutside q × HasNoUnlikeBetween q × IsWithinLimits q) → NeedsStatesWithin q
+  pub violation_needs : IsSplitViolation q (Some failure) → (failure.condition ≢ C3) ⊎ (HasRoomOutside q × IsWithinLimits q) → NeedsStatesWithin q
   violation_needs v n =
       part_needs v.first.1.signs (part_at q (Some failure) v (failure.part - 1) (Some break) v.first.1) (Some break) refl v.first.1.breaks n
 

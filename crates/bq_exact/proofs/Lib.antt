@@ -4,10 +4,12 @@ pub mod Reach
 pub mod Motions
 pub mod PartSolutions
 pub mod OpenLinks
-pub mod MovedFamilies
-pub mod PartsTell
 pub mod Standing
 pub mod Between
+pub mod FreeSteps
+pub mod UnlikeLinks
+pub mod MovedFamilies
+pub mod PartsTell
 pub mod OpposedFamilies
 pub mod CrossedLinks
 pub mod PartsNeed

@@ -21,12 +21,13 @@ use Rattle.bq_necessity.proofs.OneLong.{mixed}
 use Rattle.bq_necessity.proofs.Ranges.{IsNear}
 use Rattle.bq_necessity.proofs.Sides.{written-attrs}
 use Rattle.bq_necessity.proofs.TwoLinks.{times_more, gone-small}
-use Rattle.bq_exact.specs.Split.{HasNoUnlikeBetween}
+use Rattle.bq_exact.specs.Split.{HasClosedUnlikes}
 use Rattle.bq_exact.proofs.Paths.{here, Step, step_leads, system_tight}
 use Rattle.bq_exact.proofs.Ends.{NoTop, NoBottom, Free, up, down}
 use Rattle.bq_exact.proofs.Reach.{IsAhead, IsBehind, raised_with, lowered_with}
 use Rattle.bq_exact.proofs.Motions.{moved, moved_solves, moved_near, two_blocks, blocks_either, blocks_ahead, blocks_behind}
-use Rattle.bq_exact.proofs.PartSolutions.{base_solves, solution_written, step_of_query, step_named, step_fails}
+use Rattle.bq_exact.proofs.PartSolutions.{base_solves, solution_written, step_named, step_fails}
+use Rattle.bq_exact.proofs.FreeSteps.{step_of_query}
 
 -- ---- the written query is well formed
 
@@ -237,7 +238,7 @@ module _ (q : QueryValue) (within : IsWithinLimits q) (ss : List Sign) (is : IsS
       (λ i j l. right_fails q place x2 y2 s2 e2 (w j) (w i) (r2 i j l))
       (λ i j l. left_fails q place x1 y1 s1 e1 (w j) (w i) (r1 j i l))
 
-  module _ (none : HasNoUnlikeBetween q) where
+  module _ (closed : HasClosedUnlikes q) where
     pub both_sides_need : (place : ℕ) (x1 y1 x2 y2 : Attr) → Step (system (part_query q ss)) x1 y1 → Step (system (part_query q ss)) x2 y2 → x1.stream ≡ place → y2.stream ≡ place
         → (NoTop (system (part_query q ss)) x1 × NoTop (system (part_query q ss)) x2) ⊎ (NoBottom (system (part_query q ss)) y1 × NoBottom (system (part_query q ss)) y2)
         → NeedsStates (written q)
@@ -249,11 +250,14 @@ module _ (q : QueryValue) (within : IsWithinLimits q) (ss : List Sign) (is : IsS
         m2 : ℕ
         m2 = span (is.one x2) (is.one y2)
 
+        free : Free (system (part_query q ss)) x1 y1 × Free (system (part_query q ss)) x2 y2
+        free = elim o [ inl t ↦ (up t.0, up t.1) | inr t ↦ (down t.0, down t.1) ]
+
         t1 : Step (system q) x1 y1
-        t1 = step_of_query q within ss is none x1 y1 s1
+        t1 = step_of_query q within ss is closed x1 y1 s1 free.0
 
         t2 : Step (system q) x2 y2
-        t2 = step_of_query q within ss is none x2 y2 s2
+        t2 = step_of_query q within ss is closed x2 y2 s2 free.1
 
         by : (NoTop (system (part_query q ss)) x1 × NoTop (system (part_query q ss)) x2) ⊎ (NoBottom (system (part_query q ss)) y1 × NoBottom (system (part_query q ss)) y2) → ⊥
         by (inl t) = raised_with (part_query q ss) x1 t.0 (λ f. raised_with (part_query q ss) x2 t.1 (λ g.
@@ -273,7 +277,7 @@ module _ (q : QueryValue) (within : IsWithinLimits q) (ss : List Sign) (is : IsS
         m = span (is.one x) (is.one y)
 
         t : Step (system q) x y
-        t = step_of_query q within ss is none x y s
+        t = step_of_query q within ss is closed x y s o
 
         at : x.stream < length q.from
         at = place_of q within x (step_named q x y t).0

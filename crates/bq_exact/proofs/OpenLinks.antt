@@ -7,29 +7,23 @@ use Rattle.bq_model.specs.declared.atom.Attr.{Attr}
 use Rattle.bq_model.specs.declared.atom.Element.{Element}
 use Rattle.bq_model.specs.declared.atom.Element.TheVariants as element
 use Rattle.bq_model.specs.declared.atom.Op.{Op}
-use Rattle.bq_model.specs.declared.part.Sign.{Sign}
 use Rattle.bq_model.specs.Query.{QueryValue}
-use Rattle.bq_model.proofs.Has.{Has, first, later, Has-nil, Has-append_left, Has-append_cases, Has-flat_map, Has-map_from, Has-filter_from, Has-filter_holds}
-use Rattle.bq_form_pairs.specs.Pairs.{split_pairs}
+use Rattle.bq_model.proofs.Has.{Has, first, later, Has-nil, Has-append_left, Has-flat_map, Has-map_from, Has-filter_from, Has-filter_holds}
 use Rattle.bq_whole.specs.System.{Difference, bounds_of, atom_bounds, domain_bounds, system, AreOneClass}
 use Rattle.bq_whole.specs.Links.{are_across, comparison, comes_late, turned_by, between_streams, across, AreLinks}
-use Rattle.bq_whole.specs.Signed.{all_said}
 use Rattle.bq_whole.specs.Ranges as ranges
 use Rattle.bq_whole.specs.Ranges.{Range, moved, window, flipped, lesser, greater, widest, sooner}
 use Rattle.bq_whole.specs.Kept as kept
 use Rattle.bq_whole.specs.Kept.{IsLowest, IsHighest, IsRange, IsKeptAsItIs, IsAsked, IsKeptRange}
 use Rattle.bq_whole.specs.Whole.{IsFinite, IsOpen}
-use Rattle.bq_whole.proofs.Signed.{said_no_unlike}
 use Rattle.bq_whole.proofs.Suffice.{thins_among, once_from}
-use Rattle.bq_forms.specs.Split.{part_query}
-use Rattle.bq_exact.specs.Split.{HasNoUnlikeBetween}
 use Rattle.bq_exact.proofs.Paths.{Step}
 use Rattle.bq_exact.proofs.Ends.{NoTop, NoBottom, Free, up, down, top_over, bottom_under}
 
 -- ---- comparisons that are turned
 
 -- what is known of two sides in both orders is known of those of the turned comparison
-turned_both : (P : Element → Element → Type 0) (o : Op) (x y : Element) → P x y → P y x → let t = turned_by o x y in P t.left t.right
+pub turned_both : (P : Element → Element → Type 0) (o : Op) (x y : Element) → P x y → P y x → let t = turned_by o x y in P t.left t.right
 turned_both P Op.Lt x y p r = p
 turned_both P Op.Le x y p r = p
 turned_both P Op.Gt x y p r = r
@@ -181,17 +175,6 @@ module _ (r : QueryValue) (links : List Atom) (are : AreLinks r links) where
         link_steps t h x y ex ey (λ f. (let g : Op.Eq ≡ Op.Ne = sym e ∙ f in cc)),
         record { of = s.0; among = link_bounds t h s.0 s.1; left = s.2 ∙ ey; right = s.3 ∙ ex; across = λ f. link_apart t h x y ex ey (sym f) },
       )
-
--- where no `<>` stands between streams, no link of a part is `<>`
-pub no_unlike_link : (q : QueryValue) (ss : List Sign) → HasNoUnlikeBetween q → (links : List Atom) → AreLinks (part_query q ss) links
-    → (t : Atom) → Has links t → t.op ≡ Op.Ne → ⊥
-no_unlike_link q ss none links are t h e =
-    let u = turns (part_query q ss) links are t h in
-    let f : u.from.op ≡ Op.Ne = turned_unlike u.from.op u.from.left u.from.right (ap (λ t. t.op) u.is ∙ e) in
-    elim (Has-append_cases (all_said (split_pairs q) ss) q.atoms u.from u.among) [
-      | inl i ↦ said_no_unlike (split_pairs q) ss u.from i f
-      | inr i ↦ (let n : are_across u.from.left u.from.right ≡ false = none u.from i f in let k : true ≡ false = sym u.across ∙ n in cc)
-    ]
 
 -- ---- ends
 

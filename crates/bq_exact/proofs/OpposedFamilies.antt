@@ -15,12 +15,13 @@ use Rattle.bq_necessity.proofs.Families.{IsFamily, sets-need}
 use Rattle.bq_necessity.proofs.Ranges.{size, IsNear}
 use Rattle.bq_necessity.proofs.Separated.{NeedsAt, needs-all}
 use Rattle.bq_necessity.proofs.TwoLinks.{times_more, gone-small, left_of, left_less, left-small, falls_by, falls_less}
-use Rattle.bq_exact.specs.Split.{HasNoUnlikeBetween}
+use Rattle.bq_exact.specs.Split.{HasClosedUnlikes}
 use Rattle.bq_exact.proofs.Paths.{Leads, here, leads_more, Step, step_leads}
-use Rattle.bq_exact.proofs.Ends.{NoTop, NoBottom}
+use Rattle.bq_exact.proofs.Ends.{NoTop, NoBottom, Free, up, down}
 use Rattle.bq_exact.proofs.Reach.{Reach, ReachedBy, raised_with, lowered_with}
 use Rattle.bq_exact.proofs.Motions.{moved, moved_solves, moved_near, two_blocks, blocks_first, blocks_second, blocks_ahead, blocks_behind, blocks_apart}
-use Rattle.bq_exact.proofs.PartSolutions.{base_solves, solution_written, step_of_query, step_named}
+use Rattle.bq_exact.proofs.PartSolutions.{base_solves, solution_written, step_named}
+use Rattle.bq_exact.proofs.FreeSteps.{step_of_query}
 use Rattle.bq_exact.proofs.MovedFamilies.{span, spans_left, spans_right, written_formed, place_of, step_two, left_fails, right_fails}
 
 -- ---- numbers
@@ -127,7 +128,7 @@ sides_of_both place x1 y1 x2 y2 (at_right e) (at_right f) = inl (rights e f)
 abbrev pub OneEnd : List Difference → Attr → Attr → Attr → Attr → Type 0
 OneEnd ds x1 y1 x2 y2 = (NoTop ds x1 × NoTop ds x2) ⊎ (NoBottom ds y1 × NoBottom ds y2)
 
-module _ (q : QueryValue) (within : IsWithinLimits q) (ss : List Sign) (is : IsSplitPart q ss) (none : HasNoUnlikeBetween q) (distinct : q.distinct ≡ true) where
+module _ (q : QueryValue) (within : IsWithinLimits q) (ss : List Sign) (is : IsSplitPart q ss) (closed : HasClosedUnlikes q) (distinct : q.distinct ≡ true) where
   abbrev ds : List Difference
   ds = system (part_query q ss)
 
@@ -168,12 +169,12 @@ module _ (q : QueryValue) (within : IsWithinLimits q) (ss : List Sign) (is : IsS
 
   -- ---- the first free upward, the second downward
 
-  module _ (x1 y1 x2 y2 : Attr) (s1 : Step ds x1 y1) (s2 : Step ds x2 y2) where
+  module _ (x1 y1 x2 y2 : Attr) (s1 : Step ds x1 y1) (s2 : Step ds x2 y2) (free1 : Free ds x1 y1) (free2 : Free ds x2 y2) where
     t1 : Step (system q) x1 y1
-    t1 = step_of_query q within ss is none x1 y1 s1
+    t1 = step_of_query q within ss is closed x1 y1 s1 free1
 
     t2 : Step (system q) x2 y2
-    t2 = step_of_query q within ss is none x2 y2 s2
+    t2 = step_of_query q within ss is closed x2 y2 s2 free2
 
     -- longer than the columns of both are apart
     abbrev far : ℕ
@@ -305,14 +306,14 @@ module _ (q : QueryValue) (within : IsWithinLimits q) (ss : List Sign) (is : IsS
       → NoTop ds x1 → NoBottom ds y2 → (Leads ds x1 y2 → ⊥) → NeedsStates (written q)
   apart_need place x1 y1 x2 y2 s1 p1 s2 p2 top bottom away m =
       raised_with (part_query q ss) x1 top (λ f. lowered_with (part_query q ss) y2 bottom (λ g.
-      parted_needs x1 y1 x2 y2 s1 s2 place (sides_of_both place x1 y1 x2 y2 p1 p2) f.0 g.0 f.1 g.1 away m))
+      parted_needs x1 y1 x2 y2 s1 s2 (up top) (down bottom) place (sides_of_both place x1 y1 x2 y2 p1 p2) f.0 g.0 f.1 g.1 away m))
 
   -- of two differences on one side of a stream, free at one end, the second can be moved by more than the first
   pub beside_need : (place : ℕ) (x1 y1 x2 y2 : Attr) → Step ds x1 y1 → Step ds x2 y2 → OneSide place x1 y1 x2 y2
       → OneEnd ds x1 y1 x2 y2 → (Leads ds x2 y1 → ⊥) → NeedsStates (written q)
   beside_need place x1 y1 x2 y2 s1 s2 o (inl t) away m =
       raised_with (part_query q ss) x2 t.1 (λ f. raised_with (part_query q ss) x1 t.0 (λ g.
-      raised_needs x1 y1 x2 y2 s1 s2 place o f.0 g.0 f.1 g.1 away m))
+      raised_needs x1 y1 x2 y2 s1 s2 (up t.0) (up t.1) place o f.0 g.0 f.1 g.1 away m))
   beside_need place x1 y1 x2 y2 s1 s2 o (inr t) away m =
       lowered_with (part_query q ss) y1 t.0 (λ f. lowered_with (part_query q ss) y2 t.1 (λ g.
-      lowered_needs x1 y1 x2 y2 s1 s2 place o f.0 g.0 f.1 g.1 away m))
+      lowered_needs x1 y1 x2 y2 s1 s2 (down t.0) (down t.1) place o f.0 g.0 f.1 g.1 away m))

@@ -1,44 +1,37 @@
--- What each solution of the system of a split part has: the signs of the part, all comparisons and domains; and which differences stand between streams.
-use Rattle.std.proofs.Common.{◌≡◌, pos, ◌+ℤ◌, ◌-ℤ◌, ◌<ℤ◌, inl, inr, Bool, true, false, not, ◌&&◌, cond, List, [], ◌∷◌, ◌++◌, map, filter, nat_eq, refl, sym, ◌∙◌, ap, subst, arith}
+-- What each solution of the system of a split part has: the signs of the part, all comparisons and domains.
+use Rattle.std.proofs.Common.{◌≡◌, pos, ◌+ℤ◌, ◌-ℤ◌, ◌<ℤ◌, inl, inr, true, false, List, ◌++◌, sym, ◌∙◌, ap, subst, arith}
 use Rattle.std.specs.List.{flat_map}
 use Rattle.std.proofs.lemmas.Int.{ints}
 use Rattle.std.proofs.lemmas.List.Elements.{All-contains}
 use Rattle.bq_model.specs.declared.atom.Attr.{Attr}
 use Rattle.bq_model.specs.declared.atom.Atom.{Atom}
 use Rattle.bq_model.specs.declared.atom.Domain.{Domain}
-use Rattle.bq_model.specs.declared.atom.Element.{Element}
 use Rattle.bq_model.specs.declared.atom.Element.TheVariants as element
 use Rattle.bq_model.specs.declared.atom.Op.{Op}
 use Rattle.bq_model.specs.declared.part.Pair.{Pair}
 use Rattle.bq_model.specs.declared.part.Sign.{Sign}
-use Rattle.bq_model.specs.Query.{QueryValue, attr_lt, attrs_of, consts_of, HasAttr, IsWithinLimits}
-use Rattle.bq_model.specs.Groups.{same_group}
+use Rattle.bq_model.specs.Query.{QueryValue, attrs_of, consts_of, HasAttr, IsWithinLimits}
 use Rattle.bq_model.specs.Assignment.{Assignment, value, lies_in, holds, AtomHolds, Holds, KeepsDomains}
-use Rattle.bq_model.specs.Parts.{same_stream, pair, pair_of, sign_at}
-use Rattle.bq_model.proofs.Has.{Has, first, later, Has-nil, same_at, Contains-from_has, Has-append_left, Has-append_right, Has-append_cases, Has-map_from, Has-filter_holds, Has-flat_map, Has-flat_map_from}
+use Rattle.bq_model.specs.Parts.{pair_of, sign_at}
+use Rattle.bq_model.proofs.Has.{Has, first, later, Has-nil, same_at, Contains-from_has, Has-append_left, Has-append_right, Has-append_cases, Has-flat_map, Has-flat_map_from}
 use Rattle.bq_model.proofs.Holding.{Holds-each, Holds-from_each}
 use Rattle.bq_model.proofs.Domains.{keeps_each, each_keeps, lies, lies_low, lies_high}
 use Rattle.bq_model.proofs.Elements.{HasElement, SidesIn, sides_in}
-use Rattle.bq_model.proofs.Once.{has_once, once_has}
-use Rattle.bq_laws.proofs.Tests.{false_if, nat_true}
+use Rattle.bq_laws.proofs.Tests.{false_if}
 use Rattle.bq_laws.specs.Cases.{atom}
 use Rattle.bq_constraints.specs.Soft.{denies_itself}
 use Rattle.bq_constraints.proofs.Softly.{denied_fails}
-use Rattle.bq_form_pairs.specs.Outer.{outer_integers}
-use Rattle.bq_form_pairs.specs.Ends.{has_both_ends}
-use Rattle.bq_form_pairs.specs.Pairs.{unlike_pair, are_beside, column_pairs, own_pairs, split_pairs}
+use Rattle.bq_form_pairs.specs.Pairs.{split_pairs}
 use Rattle.bq_form_pairs.specs.SplitParts.{IsSplitPart}
 use Rattle.bq_form_pairs.proofs.Naming.{unlikes_are_pairs}
-use Rattle.bq_form_parts.proofs.Unlike.{one_pair, unlike_holds, unlike_sign}
-use Rattle.bq_whole.specs.System.{Difference, atom_bounds, domain_bounds, system, Solves, IsOf}
-use Rattle.bq_whole.specs.Links.{are_across}
-use Rattle.bq_whole.specs.Signed.{said, all_said}
+use Rattle.bq_form_parts.proofs.Unlike.{unlike_holds, unlike_sign}
+use Rattle.bq_whole.specs.System.{Difference, atom_bounds, domain_bounds, system, Solves}
+use Rattle.bq_whole.specs.Signed.{all_said}
 use Rattle.bq_whole.proofs.Suffice.{met_holds, bounds_sides, atom_says, atom_if, solves_query}
-use Rattle.bq_whole.proofs.Signed.{said_from, said_no_unlike, signs_are_said, signed_holds, solutions_satisfy}
+use Rattle.bq_whole.proofs.Signed.{said_no_unlike, signs_are_said, signed_holds, solutions_satisfy}
 use Rattle.bq_forms.specs.Split.{part_query}
 use Rattle.bq_forms.proofs.PartQueries.{as_many_signs}
 use Rattle.bq_necessity.specs.Within.{as_comparisons, written}
-use Rattle.bq_exact.specs.Split.{HasNoUnlikeBetween}
 use Rattle.bq_exact.proofs.Paths.{Step}
 
 -- ---- the domains as comparisons
@@ -97,68 +90,6 @@ step_fails q v x y s l = false_if (holds (written q) v) (λ h.
     let f : value s.of.right v ≡ v y = ap (λ z. value z v) s.right in
     omega (arith, ints, l, m, e, f))
 
--- ---- no split pair is of two streams
-
-module _ (q : QueryValue) where
-  column_local : (a : Attr) (rest : List Attr) (p : Pair) → Has (column_pairs q a rest) p → are_across (element.Attr p.left) p.right ≡ false
-  column_local a rest p h = by (has_both_ends q a) h
-    where
-      P : Pair → Type 0
-      P p = are_across (element.Attr p.left) p.right ≡ false
-
-      ks : List Pair
-      ks = map (λ k. pair a (element.Const k)) (outer_integers q a)
-
-      bs : List Pair
-      bs = map (λ b. pair a (element.Attr b)) (filter (are_beside q a) rest)
-
-      beside : (b c : Bool) → (b && c) ≡ true → not b ≡ false
-      beside true c e = refl
-      beside false c e = absurd cc
-
-      all : Has (ks ++ bs) p → P p
-      all i = elim (Has-append_cases ks bs p i) [
-        | inl j ↦ (let r = Has-map_from (λ k. pair a (element.Const k)) (outer_integers q a) p j in subst P r.2 refl)
-        | inr j ↦ (let r = Has-map_from (λ b. pair a (element.Attr b)) (filter (are_beside q a) rest) p j in
-            subst P r.2 (beside (same_stream a r.0) (same_group q.atoms a r.0) (Has-filter_holds (are_beside q a) rest r.0 r.1)))
-      ]
-
-      by : (b : Bool) → Has (cond {A = List Pair} b [] (ks ++ bs)) p → P p
-      by true i = Has-nil i
-      by false i = all i
-
-  own_local : (xs : List Attr) (p : Pair) → Has (own_pairs q xs) p → are_across (element.Attr p.left) p.right ≡ false
-  own_local [] p h = Has-nil h
-  own_local (a ∷ rest) p h = elim (Has-append_cases (column_pairs q a rest) (own_pairs q rest) p h) [
-    | inl i ↦ column_local a rest p i
-    | inr i ↦ own_local rest p i
-  ]
-
--- the pair of two elements that are not of two streams is not either
-pair_local : (x y : Element) (p : Pair) → are_across x y ≡ false → Has (pair_of x y) p → are_across (element.Attr p.left) p.right ≡ false
-pair_local (element.Attr a) (element.Attr b) p n h = by (attr_lt a b) (attr_lt b a) h
-  where
-    P : Pair → Type 0
-    P p = are_across (element.Attr p.left) p.right ≡ false
-
-    turned : (i j : Attr) → not (same_stream i j) ≡ false → not (same_stream j i) ≡ false
-    turned i j e = grind arith
-
-    by : (c d : Bool) → Has (cond {A = List Pair} c (pair a (element.Attr b) ∷ []) (cond d (pair b (element.Attr a) ∷ []) [])) p → P p
-    by true d i = subst P (one_pair (pair a (element.Attr b)) p i) n
-    by false true i = subst P (one_pair (pair b (element.Attr a)) p i) (turned a b n)
-    by false false i = Has-nil i
-pair_local (element.Attr a) (element.Const k) p n h = subst (λ p. are_across (element.Attr p.left) p.right ≡ false) (one_pair (pair a (element.Const k)) p h) refl
-pair_local (element.Const k) (element.Attr a) p n h = subst (λ p. are_across (element.Attr p.left) p.right ≡ false) (one_pair (pair a (element.Const k)) p h) refl
-pair_local (element.Const j) (element.Const k) p n h = Has-nil h
-
-pub split_local : (q : QueryValue) → IsWithinLimits q → HasNoUnlikeBetween q → (p : Pair) → Has (split_pairs q) p → are_across (element.Attr p.left) p.right ≡ false
-split_local q within none p h =
-    elim (Has-append_cases (flat_map unlike_pair q.atoms) (own_pairs q (attrs_of q.atoms)) p (once_has (flat_map unlike_pair q.atoms ++ own_pairs q (attrs_of q.atoms)) p h)) [
-      | inl i ↦ (let t = (unlikes_are_pairs q within).only p (has_once (flat_map unlike_pair q.atoms) p i) in pair_local t.0.left t.0.right p (none t.0 t.1 t.2) t.3)
-      | inr i ↦ own_local q (attrs_of q.atoms) p i
-    ]
-
 -- ---- the solutions of a part
 
 module _ (q : QueryValue) (within : IsWithinLimits q) (ss : List Sign) (is : IsSplitPart q ss) where
@@ -197,31 +128,3 @@ module _ (q : QueryValue) (within : IsWithinLimits q) (ss : List Sign) (is : IsS
 
   pub solution_written : (v : Assignment) → Solves (system (part_query q ss)) v → Holds (written q) v
   solution_written v s = let r = solution_satisfies v s in written_if q v r.0 r.1
-
-  -- a difference between streams is one of the query
-  pub step_of_query : HasNoUnlikeBetween q → (x y : Attr) → Step (system (part_query q ss)) x y → Step (system q) x y
-  step_of_query none x y s = elim (Has-append_cases (flat_map atom_bounds (all_said (split_pairs q) ss ++ q.atoms)) (flat_map domain_bounds q.domains) s.of s.among) [
-    | inl i ↦ (let r = Has-flat_map_from atom_bounds (all_said (split_pairs q) ss ++ q.atoms) s.of i in
-        elim (Has-append_cases (all_said (split_pairs q) ss) q.atoms r.0 r.1) [
-          | inl j ↦ absurd (of_said r.0 j r.2)
-          | inr j ↦ of_query (Has-append_left (flat_map domain_bounds q.domains) (Has-flat_map atom_bounds q.atoms r.0 s.of j r.2))
-        ])
-    | inr i ↦ of_query (Has-append_right (flat_map atom_bounds q.atoms) i)
-  ]
-    where
-      of_query : Has (system q) s.of → Step (system q) x y
-      of_query h = record { of = s.of; among = h; left = s.left; right = s.right; across = s.across }
-
-      beside : (a : Attr) (e : Element) → are_across (element.Attr a) e ≡ false → IsOf a.stream e
-      beside a (element.Attr b) n = nat_true b.stream a.stream (turned n)
-        where
-          turned : not (same_stream a b) ≡ false → nat_eq b.stream a.stream ≡ true
-          turned n = grind arith
-      beside a (element.Const k) n = tt
-
-      of_said : (t : Atom) → Has (all_said (split_pairs q) ss) t → Has (atom_bounds t) s.of → ⊥
-      of_said t j k =
-          let m = said_from (split_pairs q) ss t j in
-          let a : Atom = said m.0 m.1 in
-          let b = bounds_sides (IsOf m.0.left.stream) a.op a.left a.right refl (beside m.0.left m.0.right (split_local q within none m.0 m.2)) s.of (subst (λ t. Has (atom_bounds t) s.of) (sym m.3) k) in
-          s.across (subst (IsOf m.0.left.stream) s.left b.0 ∙ sym (subst (IsOf m.0.left.stream) s.right b.1))

@@ -28,9 +28,10 @@ use Rattle.bq_necessity.specs.Within.{written, NeedsStatesWithin}
 use Rattle.bq_necessity.proofs.Formed.{formed}
 use Rattle.bq_necessity.proofs.Possible.{either}
 use Rattle.bq_necessity.proofs.Skipping.{written-decides-at}
-use Rattle.bq_exact.specs.Split.{HasNoUnlikeBetween, HasRoomOutside, BrokenPartsNeedStates}
+use Rattle.bq_exact.specs.Split.{HasClosedUnlikes, HasRoomOutside, BrokenPartsNeedStates}
 use Rattle.bq_exact.proofs.Ends.{NoTop, NoBottom, Free, up, down, top_over, bottom_under}
-use Rattle.bq_exact.proofs.OpenLinks.{link_op, no_unlike_link, OpenLink, open_link}
+use Rattle.bq_exact.proofs.OpenLinks.{link_op, OpenLink, open_link}
+use Rattle.bq_exact.proofs.UnlikeLinks.{no_unlike_link}
 use Rattle.bq_exact.proofs.MovedFamilies.{both_sides_need}
 use Rattle.bq_exact.proofs.OpposedFamilies.{Side, at_left, at_right, OneSide, OtherSides, sides_of_both, OneEnd}
 use Rattle.bq_exact.proofs.Between.{over_all, under_all}
@@ -58,7 +59,7 @@ one_class ds a b x y c d e = record {
   above = λ v s. let f = c.above v s in let g = e.above v s in let h = d.below v s in omega (arith, ints, f, g, h);
 }
 
-module _ (q : QueryValue) (within : IsWithinLimits q) (ss : List Sign) (is : IsSplitPart q ss) (none : HasNoUnlikeBetween q)
+module _ (q : QueryValue) (within : IsWithinLimits q) (ss : List Sign) (is : IsSplitPart q ss) (closed : HasClosedUnlikes q)
     (links : List Atom) (are : AreLinks (part_query q ss) links) where
   abbrev ds : List Difference
   ds = system (part_query q ss)
@@ -100,46 +101,46 @@ module _ (q : QueryValue) (within : IsWithinLimits q) (ss : List Sign) (is : IsS
         apart_turned = (λ f g c. apart.0 g f (class_turned ds m.x l.x c), λ f g c. apart.1 g f (class_turned ds m.y l.y c))
 
         by : Free ds l.x l.y → Free ds m.x m.y → NeedsStates (written q)
-        by (up t) (up s) = one_end_needs q within ss is none links are a.stream l.x l.y m.x m.y k1 k2 distinct sides (inl (t, s)) apart
-        by (down t) (down s) = one_end_needs q within ss is none links are a.stream l.x l.y m.x m.y k1 k2 distinct sides (inr (t, s)) apart
-        by (up t) (down s) = two_ends_need q within ss is none links are a.stream l.x l.y m.x m.y k1 k2 distinct room sides apart t s
-        by (down t) (up s) = two_ends_need q within ss is none links are a.stream m.x m.y l.x l.y k2 k1 distinct room (turned_sides a.stream l.x l.y m.x m.y sides) apart_turned s t
+        by (up t) (up s) = one_end_needs q within ss is closed links are a.stream l.x l.y m.x m.y k1 k2 distinct sides (inl (t, s)) apart
+        by (down t) (down s) = one_end_needs q within ss is closed links are a.stream l.x l.y m.x m.y k1 k2 distinct sides (inr (t, s)) apart
+        by (up t) (down s) = two_ends_need q within ss is closed links are a.stream l.x l.y m.x m.y k1 k2 distinct room sides apart t s
+        by (down t) (up s) = two_ends_need q within ss is closed links are a.stream m.x m.y l.x l.y k2 k1 distinct room (turned_sides a.stream l.x l.y m.x m.y sides) apart_turned s t
 
   module _ (room : HasRoomOutside q) where
     -- an open link of a class, and one with the class on its other side
     left_then_right : (a x1 y1 x2 y2 : Attr) (k1 : IsStrict links x1 y1) (k2 : IsStrict links x2 y2) → AreOneClass ds a x1 → AreOneClass ds a y2 → Free ds x1 y1 → NeedsStates (written q)
     left_then_right a x1 y1 x2 y2 k1 k2 c d (up t) m = either {A = NoTop ds x2} (λ i. elim i [
       | inl s ↦ both (inl (t, s)) m
-      | inr n ↦ n (λ h l. over_all q within ss is room x2 y2 (strict_named q within ss is none links are x2 y2 k2).1 (strict_grouped q within ss is none links are x2 y2 k2) over h l (λ k.
+      | inr n ↦ n (λ h l. over_all q within ss is room x2 y2 (strict_named q within ss is closed links are x2 y2 k2).1 (strict_grouped q within ss is closed links are x2 y2 k2) over h l (λ k.
           strict_stuck ds k2.one.op (element.Attr x2) (element.Attr y2) k2.strict
           (subst (λ z. Stuck ds k2.one.op z (element.Attr y2)) k2.left (subst (λ z. Stuck ds k2.one.op k2.one.left z) k2.right (link_stuck (part_query q ss) links are k2.one k2.among)))
           k.0 (k.0 +ℤ pos 1) k.1 k.2 (omega (arith, ints))))
     ])
       where
         both : OneEnd ds x1 y1 x2 y2 → NeedsStates (written q)
-        both end = both_sides_need q within ss is none a.stream x1 y1 x2 y2 (strict_step (part_query q ss) links are x1 y1 k1) (strict_step (part_query q ss) links are x2 y2 k2) (sym c.stream) (sym d.stream) end
+        both end = both_sides_need q within ss is closed a.stream x1 y1 x2 y2 (strict_step (part_query q ss) links are x1 y1 k1) (strict_step (part_query q ss) links are x2 y2 k2) (sym c.stream) (sym d.stream) end
 
         over : NoTop ds y2
         over = top_over ds a y2 (pos 0) d.below (top_over ds x1 a (pos 0) c.above t)
     left_then_right a x1 y1 x2 y2 k1 k2 c d (down b) m =
-        both_sides_need q within ss is none a.stream x1 y1 x2 y2 (strict_step (part_query q ss) links are x1 y1 k1) (strict_step (part_query q ss) links are x2 y2 k2) (sym c.stream) (sym d.stream)
+        both_sides_need q within ss is closed a.stream x1 y1 x2 y2 (strict_step (part_query q ss) links are x1 y1 k1) (strict_step (part_query q ss) links are x2 y2 k2) (sym c.stream) (sym d.stream)
         (inr (b, bottom_under ds y2 a (pos 0) d.above (bottom_under ds a x1 (pos 0) c.below (bottom_under ds x1 y1 (pos 0) (strict_bound (part_query q ss) links are x1 y1 k1) b)))) m
 
     -- the same with left and right exchanged
     right_then_left : (a x1 y1 x2 y2 : Attr) (k1 : IsStrict links x1 y1) (k2 : IsStrict links x2 y2) → AreOneClass ds a y1 → AreOneClass ds a x2 → Free ds x1 y1 → NeedsStates (written q)
     right_then_left a x1 y1 x2 y2 k1 k2 c d (up t) m =
-        both_sides_need q within ss is none a.stream x2 y2 x1 y1 (strict_step (part_query q ss) links are x2 y2 k2) (strict_step (part_query q ss) links are x1 y1 k1) (sym d.stream) (sym c.stream)
+        both_sides_need q within ss is closed a.stream x2 y2 x1 y1 (strict_step (part_query q ss) links are x2 y2 k2) (strict_step (part_query q ss) links are x1 y1 k1) (sym d.stream) (sym c.stream)
         (inl (top_over ds a x2 (pos 0) d.below (top_over ds y1 a (pos 0) c.above (top_over ds x1 y1 (pos 0) (strict_bound (part_query q ss) links are x1 y1 k1) t)), t)) m
     right_then_left a x1 y1 x2 y2 k1 k2 c d (down b) m = either {A = NoBottom ds y2} (λ i. elim i [
       | inl s ↦ both (inr (s, b)) m
-      | inr n ↦ n (λ h l. under_all q within ss is room y2 x2 (strict_named q within ss is none links are x2 y2 k2).0 (sym (strict_grouped q within ss is none links are x2 y2 k2)) under h l (λ k.
+      | inr n ↦ n (λ h l. under_all q within ss is room y2 x2 (strict_named q within ss is closed links are x2 y2 k2).0 (sym (strict_grouped q within ss is closed links are x2 y2 k2)) under h l (λ k.
           strict_stuck ds k2.one.op (element.Attr x2) (element.Attr y2) k2.strict
           (subst (λ z. Stuck ds k2.one.op z (element.Attr y2)) k2.left (subst (λ z. Stuck ds k2.one.op k2.one.left z) k2.right (link_stuck (part_query q ss) links are k2.one k2.among)))
           (k.0 -ℤ pos 1) k.0 k.2 k.1 (omega (arith, ints))))
     ])
       where
         both : OneEnd ds x2 y2 x1 y1 → NeedsStates (written q)
-        both end = both_sides_need q within ss is none a.stream x2 y2 x1 y1 (strict_step (part_query q ss) links are x2 y2 k2) (strict_step (part_query q ss) links are x1 y1 k1) (sym d.stream) (sym c.stream) end
+        both end = both_sides_need q within ss is closed a.stream x2 y2 x1 y1 (strict_step (part_query q ss) links are x2 y2 k2) (strict_step (part_query q ss) links are x1 y1 k1) (sym d.stream) (sym c.stream) end
 
         under : NoBottom ds x2
         under = bottom_under ds x2 a (pos 0) d.above (bottom_under ds a y1 (pos 0) c.below b)
@@ -151,7 +152,7 @@ module _ (q : QueryValue) (within : IsWithinLimits q) (ss : List Sign) (is : IsS
     strict_link : (t : Atom) → Has links t → (b : Attr) → AreOneClass ds a b → (t.left ≡ element.Attr b) ⊎ (t.right ≡ element.Attr b) → (t.op ≡ Op.Lt) ⊎ (t.op ≡ Op.Le)
     strict_link t h b c s = elim (link_op (part_query q ss) links are t h) [
       | inl o ↦ o
-      | inr o ↦ elim o [ inl e ↦ absurd (other (kept.linked t h e b s c)) | inr e ↦ absurd (no_unlike_link q ss none links are t h e) ]
+      | inr o ↦ elim o [ inl e ↦ absurd (other (kept.linked t h e b s c)) | inr e ↦ absurd (no_unlike_link q within ss is links are t h e) ]
     ]
 
     columns_of : (t : Atom) → Has links t → AreColumnsOf (part_query q ss) t
@@ -187,19 +188,19 @@ module _ (q : QueryValue) (within : IsWithinLimits q) (ss : List Sign) (is : IsS
   -- with DISTINCT: so it may be the extreme of its stream, and an earlier open class is that already
   distinct_breaks : HasRoomOutside q → q.distinct ≡ true → (a : Attr) → WholeBreaks (part_query q ss) links C3 a → NeedsStates (written q)
   distinct_breaks room distinct a b m =
-      let l : OpenLink (part_query q ss) links a = open_link (part_query q ss) links are (no_unlike_link q ss none links are) a b.0.unbounded b.1 in
+      let l : OpenLink (part_query q ss) links a = open_link (part_query q ss) links are (no_unlike_link q within ss is links are) a b.0.unbounded b.1 in
       let e : HasEarlier (part_query q ss) links a = b.3 distinct (one_way room a b.1 l (λ n. n m)) in
       let k : OpenLink (part_query q ss) links e.first
-      = open_link (part_query q ss) links are (no_unlike_link q ss none links are) e.first e.unbounded.unbounded (not_kept e.first e.way) in
+      = open_link (part_query q ss) links are (no_unlike_link q within ss is links are) e.first e.unbounded.unbounded (not_kept e.first e.way) in
       two_classes_need distinct room e.first a e.stream e.apart k l m
 
 pub broken-parts-need-states : BrokenPartsNeedStates
-broken-parts-need-states q within joins none room ss is links are c a b = elim (true_or_false q.distinct) [
+broken-parts-need-states q within joins closed room ss is links are c a b = elim (true_or_false q.distinct) [
   | inl d ↦ by c b d
-  | inr d ↦ broken-parts-tell q within joins none ss is links are c a b (inr d)
+  | inr d ↦ broken-parts-tell q within joins closed ss is links are c a b (inr d)
 ]
   where
     by : (c : Condition) → WholeBreaks (part_query q ss) links c a → q.distinct ≡ true → NeedsStatesWithin q
-    by C1 b d = broken-parts-tell q within joins none ss is links are C1 a b (inl (λ e. absurd cc))
-    by C2 b d = broken-parts-tell q within joins none ss is links are C2 a b (inl (λ e. absurd cc))
-    by C3 b d = (written-decides-at q (formed q within)).1 (distinct_breaks q within ss is none links are room d a b)
+    by C1 b d = broken-parts-tell q within joins closed ss is links are C1 a b (inl (λ e. absurd cc))
+    by C2 b d = broken-parts-tell q within joins closed ss is links are C2 a b (inl (λ e. absurd cc))
+    by C3 b d = (written-decides-at q (formed q within)).1 (distinct_breaks q within ss is closed links are room d a b)

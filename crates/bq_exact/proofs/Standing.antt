@@ -1,5 +1,5 @@
 -- For a difference between streams that an end leaves free, some link remains, with paths to its sides.
-use Rattle.std.proofs.Common.{◌≡◌, ◌⊎◌, inl, inr, ℕ, ℤ, pos, List, [], ◌∷◌, ◌++◌, filter, Bool, true, false, not, cond, IsFalse, refl, sym, ap, ◌∙◌, subst, arith}
+use Rattle.std.proofs.Common.{◌≡◌, ◌⊎◌, inl, inr, ℕ, ℤ, pos, List, [], ◌∷◌, ◌++◌, filter, Bool, true, false, not, cond, refl, sym, ap, ◌∙◌, subst, arith}
 use Rattle.std.proofs.lemmas.Int.{ints}
 use Rattle.std.specs.List.{flat_map}
 use Rattle.bq_model.specs.declared.atom.Attr.{Attr}
@@ -8,43 +8,37 @@ use Rattle.bq_model.specs.declared.atom.Domain.{Domain}
 use Rattle.bq_model.specs.declared.atom.Element.{Element}
 use Rattle.bq_model.specs.declared.atom.Element.TheVariants as element
 use Rattle.bq_model.specs.declared.atom.Op.{Op}
-use Rattle.bq_model.specs.declared.part.Sign.{Sign}
 use Rattle.bq_model.specs.Assignment.{Assignment}
 use Rattle.bq_model.specs.Parts.{same_stream}
 use Rattle.bq_model.specs.Query.{QueryValue}
 use Rattle.bq_model.proofs.Has.{Has, first, later, Has-nil, Has-append_left, Has-append_right, Has-append_cases, Has-flat_map, Has-flat_map_from, Has-map, Has-map_from, Has-filter, Has-filter_from, Has-filter_holds}
 use Rattle.bq_laws.proofs.OnePartFits.{has_cases}
 use Rattle.bq_laws.proofs.Tests.{false_if, nat_true}
-use Rattle.bq_form_pairs.specs.Pairs.{split_pairs}
 use Rattle.bq_whole.specs.System.{Difference, bounds_of, atom_bounds, domain_bounds, system, Solves, Bound, IsOf}
 use Rattle.bq_whole.specs.Links.{are_across, comparison, comes_late, turned_by, across, between_streams, Follows, ranges, link, Goes, bounds, less, greater, Thins, done, goes, stays, AreLinks}
-use Rattle.bq_whole.specs.Signed.{all_said}
 use Rattle.bq_whole.proofs.Suffice.{thins_among, once_has, once_from}
-use Rattle.bq_whole.proofs.Signed.{said_no_unlike}
-use Rattle.bq_forms.specs.Split.{part_query}
 use Rattle.bq_necessity.proofs.Possible.{Possible, possible, followed}
-use Rattle.bq_exact.specs.Split.{HasNoUnlikeBetween}
 use Rattle.bq_exact.proofs.Paths.{Step, leads_bound}
 use Rattle.bq_exact.proofs.Ends.{NoTop, NoBottom, Free, up, down, top_over, bottom_under}
 use Rattle.bq_exact.proofs.Motions.{tight}
-use Rattle.bq_exact.proofs.OpenLinks.{turned_unlike, turned_bounds, swapped}
+use Rattle.bq_exact.proofs.OpenLinks.{turned_bounds, swapped}
 
 -- ---- lists
 
 -- kept ++ t ∷ rest has t and the members of kept ++ rest
-between_cases : {A : Type 0} (xs ys : List A) (y x : A) → Has (xs ++ y ∷ ys) x → (y ≡ x) ⊎ Has (xs ++ ys) x
+pub between_cases : {A : Type 0} (xs ys : List A) (y x : A) → Has (xs ++ y ∷ ys) x → (y ≡ x) ⊎ Has (xs ++ ys) x
 between_cases xs ys y x h = elim (Has-append_cases xs (y ∷ ys) x h) [
   | inl k ↦ inr (Has-append_left ys k)
   | inr k ↦ elim (has_cases y x ys k) [ inl e ↦ inl e | inr l ↦ inr (Has-append_right xs l) ]
 ]
 
-between_other : {A : Type 0} (xs ys : List A) (y x : A) → Has (xs ++ ys) x → Has (xs ++ y ∷ ys) x
+pub between_other : {A : Type 0} (xs ys : List A) (y x : A) → Has (xs ++ ys) x → Has (xs ++ y ∷ ys) x
 between_other xs ys y x h = elim (Has-append_cases xs ys x h) [
   | inl k ↦ Has-append_left (y ∷ ys) k
   | inr k ↦ Has-append_right xs (later k)
 ]
 
-regroup : {A : Type 0} (xs ys : List A) (y x : A) → Has (xs ++ y ∷ ys) x → Has ((xs ++ y ∷ []) ++ ys) x
+pub regroup : {A : Type 0} (xs ys : List A) (y x : A) → Has (xs ++ y ∷ ys) x → Has ((xs ++ y ∷ []) ++ ys) x
 regroup xs ys y x h = elim (Has-append_cases xs (y ∷ ys) x h) [
   | inl k ↦ Has-append_left ys (Has-append_left (y ∷ []) k)
   | inr k ↦ elim (has_cases y x ys k) [
@@ -53,7 +47,7 @@ regroup xs ys y x h = elim (Has-append_cases xs (y ∷ ys) x h) [
   ]
 ]
 
-regroup_back : {A : Type 0} (xs ys : List A) (y x : A) → Has ((xs ++ y ∷ []) ++ ys) x → Has (xs ++ y ∷ ys) x
+pub regroup_back : {A : Type 0} (xs ys : List A) (y x : A) → Has ((xs ++ y ∷ []) ++ ys) x → Has (xs ++ y ∷ ys) x
 regroup_back xs ys y x h = elim (Has-append_cases (xs ++ y ∷ []) ys x h) [
   | inl k ↦ elim (Has-append_cases xs (y ∷ []) x k) [
     | inl l ↦ Has-append_left (y ∷ ys) l
@@ -90,9 +84,12 @@ link_beside r links are t m h i n = elim (stays_beside (system r) [] (across r.a
 
 -- ---- the link that stands for a difference
 
--- a comparison that is no `<>`, with differences of the system, between columns
-pub record IsPlainLink (ds : List Difference) (t : Atom) : Type 0 where
-  pub plain : t.op ≡ Op.Ne → ⊥
+-- `<>` has no difference
+pub no_difference : (t : Atom) (d : Difference) → Has (atom_bounds t) d → t.op ≡ Op.Ne → ⊥
+no_difference t d k e = Has-nil (subst (λ o. Has (bounds_of o t.left t.right) d) e k)
+
+-- a comparison whose differences are of the system, between columns
+pub record IsColumnLink (ds : List Difference) (t : Atom) : Type 0 where
   pub each : (d : Difference) → Has (atom_bounds t) d → (x : Attr) × (y : Attr) × Has ds d × (d.left ≡ element.Attr x) × (d.right ≡ element.Attr y)
 
 -- a link with a difference, paths from x to its left side and from its right side to y, each within one stream
@@ -158,7 +155,7 @@ module _ (r : QueryValue) (u : Assignment) (solves : Solves (system r) u) (resul
   streams_back : (e : Element) (a y : Attr) → e ≡ element.Attr a → (place : ℕ) × IsOf place e × IsOf place (element.Attr y) → a.stream ≡ y.stream
   streams_back e a y i o = subst (λ e. IsOf o.0 e) i o.1 ∙ sym o.2
 
-  follows_stand : (ts : List Atom) → ((t : Atom) → Has ts t → IsPlainLink ds t) → AllStand ts
+  follows_stand : (ts : List Atom) → ((t : Atom) → Has ts t → IsColumnLink ds t) → AllStand ts
       → (x y : Attr) (c : ℤ) → Follows ds ts (element.Attr x) (element.Attr y) c → Free ds x y → Possible (StandsFor ds result x y)
   follows_stand ts each all x y c (ranges high low a b l) (up n) = absurd (n high a)
   follows_stand ts each all x y c (ranges high low a b l) (down n) = absurd (n low b)
@@ -177,15 +174,15 @@ module _ (r : QueryValue) (u : Assignment) (solves : Solves (system r) u) (resul
       followed (all t h d k p o e i w.1) (λ z.
       possible (stand_wider x p o y (streams_alike x d.left p e a) before (streams_back d.right o y i b) after z))))
 
-  goes_stand : (ts : List Atom) → ((t : Atom) → Has ts t → IsPlainLink ds t) → AllStand ts → (t : Atom) → IsPlainLink ds t → Goes ds ts t
+  goes_stand : (ts : List Atom) → ((t : Atom) → Has ts t → IsColumnLink ds t) → AllStand ts → (t : Atom) → Goes ds ts t
       → (d : Difference) → Has (atom_bounds t) d → (x y : Attr) → d.left ≡ element.Attr x → d.right ≡ element.Attr y → Free ds x y → Possible (StandsFor ds result x y)
-  goes_stand ts each all t p (bounds n f) d k x y e i free =
+  goes_stand ts each all t (bounds n f) d k x y e i free =
       follows_stand ts each all x y d.by (subst (λ z. Follows ds ts z (element.Attr y) d.by) e (subst (λ z. Follows ds ts d.left z d.by) i (f d k))) free
-  goes_stand ts each all t p (less e f) d k x y g i free = absurd (p.plain e)
-  goes_stand ts each all t p (greater e f) d k x y g i free = absurd (p.plain e)
+  goes_stand ts each all t (less e f) d k x y g i free = absurd (no_difference t d k e)
+  goes_stand ts each all t (greater e f) d k x y g i free = absurd (no_difference t d k e)
 
   -- backwards through the steps, for each comparison
-  pub stands : (kept rest : List Atom) → Thins ds kept rest result → ((t : Atom) → Has (kept ++ rest) t → IsPlainLink ds t) → AllStand (kept ++ rest)
+  pub stands : (kept rest : List Atom) → Thins ds kept rest result → ((t : Atom) → Has (kept ++ rest) t → IsColumnLink ds t) → AllStand (kept ++ rest)
   stands kept [] done each t h d k x y e i free = elim (Has-append_cases kept [] t h) [
     | inl j ↦ possible record {
       one = t;
@@ -204,10 +201,10 @@ module _ (r : QueryValue) (u : Assignment) (solves : Solves (system r) u) (resul
     | inr j ↦ Has-nil j
   ]
   stands kept (o ∷ rest) (goes g r) each t h d k x y e i free =
-      let plain : (t : Atom) → Has (kept ++ rest) t → IsPlainLink ds t = λ t j. each t (between_other kept rest o t j) in
+      let plain : (t : Atom) → Has (kept ++ rest) t → IsColumnLink ds t = λ t j. each t (between_other kept rest o t j) in
       let others : AllStand (kept ++ rest) = stands kept rest r plain in
       elim (between_cases kept rest o t h) [
-        | inl f ↦ goes_stand (kept ++ rest) plain others t (each t h) (subst (λ t. Goes ds (kept ++ rest) t) f g) d k x y e i free
+        | inl f ↦ goes_stand (kept ++ rest) plain others t (subst (λ t. Goes ds (kept ++ rest) t) f g) d k x y e i free
         | inr j ↦ others t j d k x y e i free
       ]
   stands kept (o ∷ rest) (stays g r) each t h d k x y e i free =
@@ -216,13 +213,13 @@ module _ (r : QueryValue) (u : Assignment) (solves : Solves (system r) u) (resul
 -- ---- the comparisons between the streams of a query
 
 -- both sides are columns
-sides_columns : (x y : Element) → are_across x y ≡ true → (a : Attr) × (b : Attr) × (x ≡ element.Attr a) × (y ≡ element.Attr b)
+pub sides_columns : (x y : Element) → are_across x y ≡ true → (a : Attr) × (b : Attr) × (x ≡ element.Attr a) × (y ≡ element.Attr b)
 sides_columns (element.Attr a) (element.Attr b) h = (a, b, refl, refl)
 sides_columns (element.Attr a) (element.Const k) h = absurd cc
 sides_columns (element.Const k) y h = absurd cc
 
 -- a turned comparison has the differences of the one that was written
-turned_into : (o : Op) (x y : Element) (d : Difference) → Has (bounds_of o x y) d → Has (atom_bounds (turned_by o x y)) d
+pub turned_into : (o : Op) (x y : Element) (d : Difference) → Has (bounds_of o x y) d → Has (atom_bounds (turned_by o x y)) d
 turned_into Op.Lt x y d h = h
 turned_into Op.Le x y d h = h
 turned_into Op.Gt x y d h = h
@@ -250,7 +247,7 @@ sides_of Op.Ge x y d (later k) = Has-nil k
 sides_of Op.Ne x y d k = Has-nil k
 
 -- columns of two streams, on whichever side
-across_if : (x y : Attr) → (x.stream ≡ y.stream → ⊥) → are_across (element.Attr x) (element.Attr y) ≡ true
+pub across_if : (x y : Attr) → (x.stream ≡ y.stream → ⊥) → are_across (element.Attr x) (element.Attr y) ≡ true
 across_if x y n = ap not (false_if (same_stream x y) (λ e. n (nat_true x.stream y.stream e)))
 
 module _ (r : QueryValue) where
@@ -258,27 +255,22 @@ module _ (r : QueryValue) where
   atom_there t h d k = Has-append_left (flat_map domain_bounds r.domains) (Has-flat_map atom_bounds r.atoms t d h k)
 
   -- each comparison between streams is one of the query, turned
-  turned_of : (t : Atom) → Has (across r.atoms) t → (o : Atom) × Has r.atoms o × (are_across o.left o.right ≡ true) × (turned_by o.op o.left o.right ≡ t)
+  pub turned_of : (t : Atom) → Has (across r.atoms) t → (o : Atom) × Has r.atoms o × (are_across o.left o.right ≡ true) × (turned_by o.op o.left o.right ≡ t)
   turned_of t h =
       let z : (o : Atom) × Has (filter (λ t. are_across t.left t.right) r.atoms) o × (turned_by o.op o.left o.right ≡ t)
       = Has-map_from (λ t. turned_by t.op t.left t.right) (filter (λ t. are_across t.left t.right) r.atoms) t (once_from (between_streams r.atoms) t h) in
       (z.0, Has-filter_from (λ t. are_across t.left t.right) r.atoms z.0 z.1, Has-filter_holds (λ t. are_across t.left t.right) r.atoms z.0 z.1, z.2)
 
-  plain_across : HasNoUnlikeBetween r → (t : Atom) → Has (across r.atoms) t → IsPlainLink (system r) t
-  plain_across none t h =
+  pub column_across : (t : Atom) → Has (across r.atoms) t → IsColumnLink (system r) t
+  column_across t h =
       let z : (o : Atom) × Has r.atoms o × (are_across o.left o.right ≡ true) × (turned_by o.op o.left o.right ≡ t) = turned_of t h in
-      subst (IsPlainLink (system r)) z.3 (of z.0 z.1 z.2)
+      subst (IsColumnLink (system r)) z.3 (of z.0 z.1 z.2)
     where
-      of : (o : Atom) → Has r.atoms o → are_across o.left o.right ≡ true → IsPlainLink (system r) (turned_by o.op o.left o.right)
+      of : (o : Atom) → Has r.atoms o → are_across o.left o.right ≡ true → IsColumnLink (system r) (turned_by o.op o.left o.right)
       of o h a = record {
-        plain = λ e. not_across (are_across o.left o.right) a (none o h (turned_unlike o.op o.left o.right e));
         each = λ d k. (let i : Has (atom_bounds o) d = turned_bounds o.op o.left o.right d k in let c = columns d i in (c.0, c.1, atom_there o h d i, c.2, c.3));
       }
         where
-          not_across : (b : Bool) → b ≡ true → IsFalse b → ⊥
-          not_across true e f = cc
-          not_across false e f = cc
-
           columns : (d : Difference) → Has (atom_bounds o) d → (x : Attr) × (y : Attr) × (d.left ≡ element.Attr x) × (d.right ≡ element.Attr y)
           columns d k =
               let c : (a : Attr) × (b : Attr) × (o.left ≡ element.Attr a) × (o.right ≡ element.Attr b) = sides_columns o.left o.right a in
@@ -288,9 +280,9 @@ module _ (r : QueryValue) where
               ]
 
 -- for each step that is free a link stands
-pub step_stands : (r : QueryValue) (u : Assignment) → Solves (system r) u → HasNoUnlikeBetween r → (links : List Atom) → AreLinks r links
+pub step_stands : (r : QueryValue) (u : Assignment) → Solves (system r) u → (links : List Atom) → AreLinks r links
     → (x y : Attr) → Step (system r) x y → Free (system r) x y → Possible (StandsFor (system r) links x y)
-step_stands r u solves none links are x y s free =
+step_stands r u solves links are x y s free =
     elim (Has-append_cases (flat_map atom_bounds r.atoms) (flat_map domain_bounds r.domains) s.of s.among) [
       | inl h ↦ (let z = Has-flat_map_from atom_bounds r.atoms s.of h in of z.0 z.1 z.2)
       | inr h ↦ (let z = Has-flat_map_from domain_bounds r.domains s.of h in absurd (no_domain z.0 s.of z.2 s.left s.right))
@@ -311,11 +303,4 @@ step_stands r u solves none links are x y s free =
     of o h k =
         let t : Atom = turned_by o.op o.left o.right in
         let i : Has (across r.atoms) t = once_has (between_streams r.atoms) t (Has-map (λ t. turned_by t.op t.left t.right) (Has-filter (λ t. are_across t.left t.right) (across_of o k) h)) in
-        stands r u solves links [] (across r.atoms) are (plain_across r none) t i s.of (turned_into o.op o.left o.right s.of k) x y s.left s.right free
-
--- the query of a part has no `<>` between streams that the query does not have
-pub part_no_unlike : (q : QueryValue) (ss : List Sign) → HasNoUnlikeBetween q → HasNoUnlikeBetween (part_query q ss)
-part_no_unlike q ss none t h e = elim (Has-append_cases (all_said (split_pairs q) ss) q.atoms t h) [
-  | inl k ↦ absurd (said_no_unlike (split_pairs q) ss t k e)
-  | inr k ↦ none t k e
-]
+        stands r u solves links [] (across r.atoms) are (column_across r) t i s.of (turned_into o.op o.left o.right s.of k) x y s.left s.right free

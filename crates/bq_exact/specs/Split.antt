@@ -1,27 +1,31 @@
 -- Refused means many states, of the split form of any query: with domains and soft comparisons or without, with DISTINCT or without.
-use Rattle.std.specs.Prelude.{◌≡◌, ◌≢◌, ◌↔◌, All, Contains, IsTrue, IsFalse, List}
+use Rattle.std.specs.Prelude.{◌≡◌, ◌≢◌, ◌↔◌, ◌⊎◌, All, Contains, IsTrue, IsFalse, List}
 use Rattle.std.specs.declared.option.Option.{Option}
 use Rattle.std.specs.declared.option.Option.TheVariants.{None, Some}
 use Rattle.bq_model.specs.declared.atom.Atom.{Atom}
 use Rattle.bq_model.specs.declared.atom.Attr.{Attr}
+use Rattle.bq_model.specs.declared.atom.Element.TheVariants as element
 use Rattle.bq_model.specs.declared.atom.Op.{Op}
 use Rattle.bq_model.specs.declared.condition.Condition.{Condition}
 use Rattle.bq_model.specs.declared.part.Sign.{Sign}
 use Rattle.bq_model.specs.Members.{Has}
 use Rattle.bq_model.specs.Query.{QueryValue, attrs_of, is_filter, IsShort, IsWithinLimits}
 use Rattle.bq_model.specs.Violation.{Failure}
+use Rattle.bq_form_pairs.specs.Ends.{has_both_ends}
 use Rattle.bq_form_pairs.specs.Outer.{given_integers}
 use Rattle.bq_form_pairs.specs.SplitParts.{IsSplitPart}
-use Rattle.bq_whole.specs.Links.{are_across, AreLinks}
+use Rattle.bq_whole.specs.Links.{AreLinks}
 use Rattle.bq_whole.specs.Whole.{WholeBreaks}
 use Rattle.bq_forms.specs.Split.{part_query}
 use Rattle.bq_forms.specs.SplitBreaks.{IsSplitViolation}
 use Rattle.bq_forms.specs.Parts.{IsFormViolation}
 use Rattle.bq_necessity.specs.Within.{NeedsStatesWithin}
 
--- no `<>` stands between columns of two streams
-abbrev pub HasNoUnlikeBetween : QueryValue → Type 0
-HasNoUnlikeBetween q = (t : Atom) → Has q.atoms t → t.op ≡ Op.Ne → IsFalse (are_across t.left t.right)
+-- of each `<>` between columns of two streams one side has both ends by the text
+abbrev pub HasClosedUnlikes : QueryValue → Type 0
+HasClosedUnlikes q =
+    (t : Atom) → Has q.atoms t → t.op ≡ Op.Ne → (a b : Attr) → t.left ≡ element.Attr a → t.right ≡ element.Attr b → a.stream ≢ b.stream
+    → IsTrue (has_both_ends q a) ⊎ IsTrue (has_both_ends q b)
 
 -- the integers just outside of what is written have at most 15 digits, too
 abbrev pub HasRoomOutside : QueryValue → Type 0
@@ -30,18 +34,18 @@ HasRoomOutside q = (a : Attr) → Contains (attrs_of q.atoms) a → All IsShort 
 -- a query of which some split part breaks a condition needs many states on rows within its domains
 abbrev pub BrokenPartsNeedStates : Type 0
 BrokenPartsNeedStates =
-    (q : QueryValue) → IsWithinLimits q → IsFalse (is_filter q) → HasNoUnlikeBetween q → HasRoomOutside q
+    (q : QueryValue) → IsWithinLimits q → IsFalse (is_filter q) → HasClosedUnlikes q → HasRoomOutside q
     → (ss : List Sign) → IsSplitPart q ss → (links : List Atom) → AreLinks (part_query q ss) links
     → (c : Condition) (a : Attr) → WholeBreaks (part_query q ss) links c a → NeedsStatesWithin q
 
 -- a compact query that is refused by a condition needs many states on rows within its domains
 abbrev pub RefusedFormsNeedStates : Type 0
 RefusedFormsNeedStates =
-    (q : QueryValue) → IsWithinLimits q → IsTrue q.compact → HasNoUnlikeBetween q → HasRoomOutside q
+    (q : QueryValue) → IsWithinLimits q → IsTrue q.compact → HasClosedUnlikes q → HasRoomOutside q
     → (f : Failure) → IsFormViolation q (Some f) → NeedsStatesWithin q
 
 -- the conditions of the split form are exact for each query that is no filter, whether or not it is compact
 abbrev pub SplitConditionsAreExact : Type 0
 SplitConditionsAreExact =
-    (q : QueryValue) → IsWithinLimits q → IsFalse (is_filter q) → HasNoUnlikeBetween q → HasRoomOutside q
+    (q : QueryValue) → IsWithinLimits q → IsFalse (is_filter q) → HasClosedUnlikes q → HasRoomOutside q
     → (violation : Option Failure) → IsSplitViolation q violation → NeedsStatesWithin q ↔ (violation ≢ None)

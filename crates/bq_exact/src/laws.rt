@@ -9,8 +9,8 @@ pub fn first_condition_tells()
     ensures { FirstConditionTells }
 {}
 
-/// Where some part of the split form of a query breaks C1 or C2, or without DISTINCT any condition, and no `<>` stands between streams, the query needs
-/// many states on rows within its domains.
+/// Where some part of the split form of a query breaks C1 or C2, or without DISTINCT any condition, and each `<>` between streams has a side with both
+/// ends by the text, the query needs many states on rows within its domains.
 pub fn broken_parts_tell()
     ensures { BrokenPartsTell }
 {}
@@ -36,8 +36,9 @@ pub fn unbroken_parts_need_few_states()
     ensures { UnbrokenPartsNeedFewStates }
 {}
 
-/// The conditions of the split form are exact: a query that is no filter, compact or not, without `<>` between streams, of which the integers just outside
-/// of those written have at most 15 digits, needs many states on rows within its domains, exactly where some part breaks a condition.
+/// The conditions of the split form are exact: a query that is no filter, compact or not, of which each `<>` between streams has a side with both ends by
+/// the text and the integers just outside of those written have at most 15 digits, needs many states on rows within its domains, exactly where some part
+/// breaks a condition.
 pub fn split_conditions_are_exact()
     ensures { SplitConditionsAreExact }
 {}
