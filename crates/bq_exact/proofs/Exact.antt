@@ -6,18 +6,18 @@ use Rattle.bq_model.specs.Violation.{Failure}
 use Rattle.bq_forms.specs.Parts as by_parts
 use Rattle.bq_forms.specs.SplitBreaks.{IsSplitViolation}
 use Rattle.bq_necessity.specs.Within.{NeedsStatesWithin}
-use Rattle.bq_exact.specs.Split.{HasClosedUnlikes, HasRoomOutside, RefusedFormsNeedStates, SplitConditionsAreExact}
+use Rattle.bq_exact.specs.Split.{HasToldUnlikes, HasRoomOutside, RefusedFormsNeedStates, SplitConditionsAreExact}
 use Rattle.bq_exact.proofs.Deciding.{violation_needs, violations_decide}
 use Rattle.bq_exact.proofs.PartsNeed.{broken-parts-need-states}
 
-failures_need : (q : QueryValue) → IsWithinLimits q → IsFalse (is_filter q) → HasClosedUnlikes q → HasRoomOutside q → (f : Failure) → IsSplitViolation q (Some f) → NeedsStatesWithin q
-failures_need q within joins closed room f v =
-    violation_needs q f (λ ss is links are. broken-parts-need-states q within joins closed room ss is links are f.condition f.attr) v (inr (room, within))
+failures_need : (q : QueryValue) → IsWithinLimits q → IsFalse (is_filter q) → HasToldUnlikes q → HasRoomOutside q → (f : Failure) → IsSplitViolation q (Some f) → NeedsStatesWithin q
+failures_need q within joins told room f v =
+    violation_needs q f (λ ss is links are. broken-parts-need-states q within joins told room ss is links are f.condition f.attr) v (inr (room, within))
 
 pub refused-forms-need-states : RefusedFormsNeedStates
-refused-forms-need-states q within compact closed room f (by_parts.filter i e) = absurd cc
-refused-forms-need-states q within compact closed room f (by_parts.plain joins c v) = let k : true ≡ false = sym compact ∙ c in absurd cc
-refused-forms-need-states q within compact closed room f (by_parts.split joins c v) = failures_need q within joins closed room f v
+refused-forms-need-states q within compact told room f (by_parts.filter i e) = absurd cc
+refused-forms-need-states q within compact told room f (by_parts.plain joins c v) = let k : true ≡ false = sym compact ∙ c in absurd cc
+refused-forms-need-states q within compact told room f (by_parts.split joins c v) = failures_need q within joins told room f v
 
 pub split-conditions-are-exact : SplitConditionsAreExact
-split-conditions-are-exact q within joins closed room = violations_decide q within (failures_need q within joins closed room)
+split-conditions-are-exact q within joins told room = violations_decide q within (failures_need q within joins told room)

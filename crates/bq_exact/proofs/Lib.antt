@@ -9,6 +9,8 @@ pub mod Between
 pub mod FreeSteps
 pub mod UnlikeLinks
 pub mod MovedFamilies
+pub mod TwoQuestions
+pub mod CountedUnlike
 pub mod PartsTell
 pub mod OpposedFamilies
 pub mod CrossedLinks
@@ -19,3 +21,4 @@ pub mod Deciding
 pub mod Refusing
 pub mod Exact
 pub mod Verdicts
+pub mod Cells

@@ -60,7 +60,7 @@ differ_if_less i j l e = omega (arith, l, e)
 differ_if_more : (i j : ℕ) → j < i → i ≢ j
 differ_if_more i j l e = omega (arith, l, e)
 
-two_places : (a b n : ℕ) → a ≢ b → a < n → b < n → 1 < n
+pub two_places : (a b n : ℕ) → a ≢ b → a < n → b < n → 1 < n
 two_places a b n d l m = grind (arith, d, l, m)
 
 few_or_more : (n : ℕ) → 0 < n → (n ≡ 1) ⊎ (1 < n)
@@ -238,6 +238,30 @@ module _ (q : QueryValue) (within : IsWithinLimits q) (ss : List Sign) (is : IsS
       (λ i j l. right_fails q place x2 y2 s2 e2 (w j) (w i) (r2 i j l))
       (λ i j l. left_fails q place x1 y1 s1 e1 (w j) (w i) (r1 j i l))
 
+  -- without DISTINCT one difference that is one of the query is enough
+  pub open_step_needs : q.distinct ≡ false → (x y : Attr) → Step (system (part_query q ss)) x y → Step (system q) x y → Free (system (part_query q ss)) x y → NeedsStates (written q)
+  open_step_needs d x y s t o n = by o
+    where
+      m : ℕ
+      m = span (is.one x) (is.one y)
+
+      at : x.stream < length q.from
+      at = place_of q within x (step_named q x y t).0
+
+      by : Free (system (part_query q ss)) x y → ⊥
+      by (up h) = raised_with (part_query q ss) x h (λ f.
+          (let w : ℕ → Assignment = rising f.0 f.0 (suc (m + m)) in
+          let g : IsDrift w (2 * suc (m + m)) = rising_drift f.0 f.0 (suc (m + m)) f.1.ahead f.1.ahead in
+          let r : Rise w x y = rising_rise f.0 f.0 (suc (m + m)) x y (inl (f.1.all x here)) (inl (f.1.all y (step_leads (system (part_query q ss)) x y s))) (spans_left m m) in
+          upward-needs (written q) (written_formed q within) x.stream w (drift_family w (2 * suc (m + m)) g x.stream at) (step_two q within x y t) d is.one (2 * suc (m + m)) g.near
+          (λ i j l. left_fails q x.stream x y t refl (w j) (w i) (r i j l)) n))
+      by (down h) = lowered_with (part_query q ss) y h (λ f.
+          (let w : ℕ → Assignment = falling f.0 f.0 (suc (m + m)) in
+          let g : IsDrift w (2 * suc (m + m)) = falling_drift f.0 f.0 (suc (m + m)) f.1.behind f.1.behind in
+          let r : Fall w x y = falling_fall f.0 f.0 (suc (m + m)) x y (inl (f.1.all x (step_leads (system (part_query q ss)) x y s))) (inl (f.1.all y here)) (spans_left m m) in
+          downward-needs (written q) (written_formed q within) x.stream w (drift_family w (2 * suc (m + m)) g x.stream at) (step_two q within x y t) d is.one (2 * suc (m + m)) g.near
+          (λ i j l. left_fails q x.stream x y t refl (w j) (w i) (r j i l)) n))
+
   module _ (closed : HasClosedUnlikes q) where
     pub both_sides_need : (place : ℕ) (x1 y1 x2 y2 : Attr) → Step (system (part_query q ss)) x1 y1 → Step (system (part_query q ss)) x2 y2 → x1.stream ≡ place → y2.stream ≡ place
         → (NoTop (system (part_query q ss)) x1 × NoTop (system (part_query q ss)) x2) ⊎ (NoBottom (system (part_query q ss)) y1 × NoBottom (system (part_query q ss)) y2)
@@ -268,30 +292,3 @@ module _ (q : QueryValue) (within : IsWithinLimits q) (ss : List Sign) (is : IsS
             fall_needs (falling f.0 g.0 (suc (m1 + m2))) (2 * suc (m1 + m2)) (falling_drift f.0 g.0 (suc (m1 + m2)) f.1.behind g.1.behind) place x1 y1 x2 y2 t1 t2 e1 e2
             (falling_fall f.0 g.0 (suc (m1 + m2)) x1 y1 (inl (f.1.all x1 (step_leads (system (part_query q ss)) x1 y1 s1))) (inl (f.1.all y1 here)) (spans_left m1 m2))
             (falling_fall f.0 g.0 (suc (m1 + m2)) x2 y2 (inr (g.1.all x2 (step_leads (system (part_query q ss)) x2 y2 s2))) (inr (g.1.all y2 here)) (spans_right m1 m2)) n))
-
-    -- without DISTINCT one difference is enough
-    pub open_step_needs : q.distinct ≡ false → (x y : Attr) → Step (system (part_query q ss)) x y → Free (system (part_query q ss)) x y → NeedsStates (written q)
-    open_step_needs d x y s o n = by o
-      where
-        m : ℕ
-        m = span (is.one x) (is.one y)
-
-        t : Step (system q) x y
-        t = step_of_query q within ss is closed x y s o
-
-        at : x.stream < length q.from
-        at = place_of q within x (step_named q x y t).0
-
-        by : Free (system (part_query q ss)) x y → ⊥
-        by (up h) = raised_with (part_query q ss) x h (λ f.
-            (let w : ℕ → Assignment = rising f.0 f.0 (suc (m + m)) in
-            let g : IsDrift w (2 * suc (m + m)) = rising_drift f.0 f.0 (suc (m + m)) f.1.ahead f.1.ahead in
-            let r : Rise w x y = rising_rise f.0 f.0 (suc (m + m)) x y (inl (f.1.all x here)) (inl (f.1.all y (step_leads (system (part_query q ss)) x y s))) (spans_left m m) in
-            upward-needs (written q) (written_formed q within) x.stream w (drift_family w (2 * suc (m + m)) g x.stream at) (step_two q within x y t) d is.one (2 * suc (m + m)) g.near
-            (λ i j l. left_fails q x.stream x y t refl (w j) (w i) (r i j l)) n))
-        by (down h) = lowered_with (part_query q ss) y h (λ f.
-            (let w : ℕ → Assignment = falling f.0 f.0 (suc (m + m)) in
-            let g : IsDrift w (2 * suc (m + m)) = falling_drift f.0 f.0 (suc (m + m)) f.1.behind f.1.behind in
-            let r : Fall w x y = falling_fall f.0 f.0 (suc (m + m)) x y (inl (f.1.all x (step_leads (system (part_query q ss)) x y s))) (inl (f.1.all y here)) (spans_left m m) in
-            downward-needs (written q) (written_formed q within) x.stream w (drift_family w (2 * suc (m + m)) g x.stream at) (step_two q within x y t) d is.one (2 * suc (m + m)) g.near
-            (λ i j l. left_fails q x.stream x y t refl (w j) (w i) (r j i l)) n))

@@ -11,7 +11,7 @@ use Rattle.bq_model.specs.declared.condition.Condition.TheVariants.{C1, C2, C3}
 use Rattle.bq_model.specs.declared.part.Sign.{Sign}
 use Rattle.bq_model.specs.Query.{QueryValue, IsWithinLimits}
 use Rattle.bq_model.proofs.Has.{Has}
-use Rattle.bq_laws.proofs.Tests.{true_or_false}
+use Rattle.bq_laws.proofs.Tests.{true_or_false, not_both}
 use Rattle.bq_form_pairs.specs.SplitParts.{IsSplitPart}
 use Rattle.bq_whole.specs.System.{Difference, system, Bound, AreOneClass}
 use Rattle.bq_whole.specs.Links.{AreLinks}
@@ -195,12 +195,15 @@ module _ (q : QueryValue) (within : IsWithinLimits q) (ss : List Sign) (is : IsS
       two_classes_need distinct room e.first a e.stream e.apart k l m
 
 pub broken-parts-need-states : BrokenPartsNeedStates
-broken-parts-need-states q within joins closed room ss is links are c a b = elim (true_or_false q.distinct) [
+broken-parts-need-states q within joins told room ss is links are c a b = elim (true_or_false q.distinct) [
   | inl d ↦ by c b d
-  | inr d ↦ broken-parts-tell q within joins closed ss is links are c a b (inr d)
+  | inr d ↦ broken-parts-tell q within joins told ss is links are c a b (inr d)
 ]
   where
     by : (c : Condition) → WholeBreaks (part_query q ss) links c a → q.distinct ≡ true → NeedsStatesWithin q
-    by C1 b d = broken-parts-tell q within joins closed ss is links are C1 a b (inl (λ e. absurd cc))
-    by C2 b d = broken-parts-tell q within joins closed ss is links are C2 a b (inl (λ e. absurd cc))
-    by C3 b d = (written-decides-at q (formed q within)).1 (distinct_breaks q within ss is closed links are room d a b)
+    by C1 b d = broken-parts-tell q within joins told ss is links are C1 a b (inl (λ e. absurd cc))
+    by C2 b d = broken-parts-tell q within joins told ss is links are C2 a b (inl (λ e. absurd cc))
+    by C3 b d = elim told [
+      | inl closed ↦ (written-decides-at q (formed q within)).1 (distinct_breaks q within ss is closed links are room d a b)
+      | inr n ↦ absurd (not_both q.distinct d n)
+    ]

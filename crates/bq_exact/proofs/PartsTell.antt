@@ -1,5 +1,5 @@
 -- A query of which a split part breaks the first or the second condition, or without DISTINCT any, needs many states.
-use Rattle.std.proofs.Common.{◌≡◌, ◌≢◌, pos, ◌⊎◌, inl, inr, List, false, refl, sym, subst}
+use Rattle.std.proofs.Common.{◌≡◌, ◌≢◌, ℕ, pos, ◌⊎◌, inl, inr, List, false, refl, sym, subst}
 use Rattle.std.specs.Prelude.{IsFalse}
 use Rattle.bq_model.specs.declared.atom.Atom.{Atom}
 use Rattle.bq_model.specs.declared.atom.Attr.{Attr}
@@ -24,29 +24,39 @@ use Rattle.bq_necessity.specs.States.{NeedsStates}
 use Rattle.bq_necessity.specs.Within.{written}
 use Rattle.bq_necessity.proofs.Formed.{formed}
 use Rattle.bq_necessity.proofs.Skipping.{written-decides-at}
-use Rattle.bq_exact.specs.Split.{HasClosedUnlikes}
-use Rattle.bq_exact.specs.Refused.{BrokenPartsTell}
+use Rattle.bq_exact.specs.Split.{HasToldUnlikes}
+use Rattle.bq_exact.specs.Refused.{BrokenPartsTell, CountedPartsTell}
 use Rattle.bq_exact.proofs.Paths.{Leads, Step, step_leads, leads_bound, leaving, entering}
 use Rattle.bq_exact.proofs.Ends.{NoTop, NoBottom, up, down, top_over, bottom_under, open_ends}
 use Rattle.bq_exact.proofs.Motions.{tight}
 use Rattle.bq_exact.proofs.PartSolutions.{base_solves}
 use Rattle.bq_exact.proofs.OpenLinks.{strict_not_unlike, link_steps, equal_steps, OpenLink, open_link}
 use Rattle.bq_exact.proofs.UnlikeLinks.{no_unlike_link}
-use Rattle.bq_exact.proofs.MovedFamilies.{open_column_needs, both_sides_need, open_step_needs}
+use Rattle.bq_exact.proofs.MovedFamilies.{open_column_needs, both_sides_need}
+use Rattle.bq_exact.proofs.CountedUnlike.{counted_step_needs}
 
 module _ (q : QueryValue) (within : IsWithinLimits q) (ss : List Sign) (is : IsSplitPart q ss) (links : List Atom) (are : AreLinks (part_query q ss) links) (joins : IsFalse (is_filter q)) where
   pub selected_breaks : (a : Attr) → WholeBreaks (part_query q ss) links C1 a → NeedsStates (written q)
   selected_breaks a b = open_column_needs q within ss is joins a b.0 (open_ends (system (part_query q ss)) a b.1.0 b.1.1 b.1.2)
 
-  module _ (closed : HasClosedUnlikes q) where
+  module _ (told : HasToldUnlikes q) where
+    -- two differences of one stream, without an end at the same side
+    two_sides_need : (place : ℕ) (x1 y1 x2 y2 : Attr) → Step (system (part_query q ss)) x1 y1 → Step (system (part_query q ss)) x2 y2 → x1.stream ≡ place → y2.stream ≡ place
+        → (NoTop (system (part_query q ss)) x1 × NoTop (system (part_query q ss)) x2) ⊎ (NoBottom (system (part_query q ss)) y1 × NoBottom (system (part_query q ss)) y2)
+        → NeedsStates (written q)
+    two_sides_need place x1 y1 x2 y2 s1 s2 e1 e2 o m = elim told [
+      | inl closed ↦ both_sides_need q within ss is closed place x1 y1 x2 y2 s1 s2 e1 e2 o m
+      | inr d ↦ counted_step_needs q within ss is joins d x1 y1 s1 (elim o [ inl t ↦ up t.0 | inr t ↦ down t.0 ]) m
+    ]
+
     -- x and y lead to each other, and lack an end
     equals_need : (x y : Attr) → Step (system (part_query q ss)) x y → Step (system (part_query q ss)) y x
         → NoTop (system (part_query q ss)) x ⊎ NoBottom (system (part_query q ss)) x → NeedsStates (written q)
     equals_need x y s t (inl n) =
-        both_sides_need q within ss is closed x.stream x y y x s t refl refl
+        two_sides_need x.stream x y y x s t refl refl
         (inl (n, top_over (system (part_query q ss)) x y (pos 0) (leads_bound (part_query q ss) x y (step_leads (system (part_query q ss)) x y s)) n))
     equals_need x y s t (inr n) =
-        both_sides_need q within ss is closed x.stream x y y x s t refl refl
+        two_sides_need x.stream x y y x s t refl refl
         (inr (bottom_under (system (part_query q ss)) y x (pos 0) (leads_bound (part_query q ss) y x (step_leads (system (part_query q ss)) y x t)) n, n))
 
     -- differences lead from a to a column of another stream and back
@@ -56,7 +66,7 @@ module _ (q : QueryValue) (within : IsWithinLimits q) (ss : List Sign) (is : IsS
       | inl e ↦ absurd (n (sym e))
       | inr l ↦ elim (entering (system (part_query q ss)) b a r) [
         | inl e ↦ absurd (n e)
-        | inr m ↦ both_sides_need q within ss is closed a.stream l.0 l.1 m.0 m.1 l.4 m.3 l.3 m.4 (elim o [
+        | inr m ↦ two_sides_need a.stream l.0 l.1 m.0 m.1 l.4 m.3 l.3 m.4 (elim o [
           | inl t ↦ inl (
             top_over (system (part_query q ss)) a l.0 (pos 0) (leads_bound (part_query q ss) a l.0 l.2) t,
             top_over (system (part_query q ss)) b m.0 (pos 0) (leads_bound (part_query q ss) b m.0 m.2)
@@ -116,7 +126,7 @@ module _ (q : QueryValue) (within : IsWithinLimits q) (ss : List Sign) (is : IsS
     pub counted_breaks : q.distinct ≡ false → (a : Attr) → IsOpenSide (part_query q ss) links a → (IsKeptAsItIs (part_query q ss) links a → ⊥) → NeedsStates (written q)
     counted_breaks d a o n =
         let l : OpenLink (part_query q ss) links a = open_link (part_query q ss) links are (no_unlike_link q within ss is links are) a o.unbounded n in
-        open_step_needs q within ss is closed d l.x l.y
+        counted_step_needs q within ss is joins d l.x l.y
         (link_steps (part_query q ss) links are l.link l.among l.x l.y l.left l.right (strict_not_unlike l.link.op l.strict_or)) l.free
 
     broken_needs : (c : Condition) (a : Attr) → WholeBreaks (part_query q ss) links c a → (c ≢ C3) ⊎ IsFalse q.distinct → NeedsStates (written q)
@@ -129,5 +139,8 @@ module _ (q : QueryValue) (within : IsWithinLimits q) (ss : List Sign) (is : IsS
     broken_needs C3 a b (inr d) = counted_breaks d a b.0 b.1
 
 pub broken-parts-tell : BrokenPartsTell
-broken-parts-tell q within joins closed ss is links are c a b o =
-    (written-decides-at q (formed q within)).1 (broken_needs q within ss is links are joins closed c a b o)
+broken-parts-tell q within joins told ss is links are c a b o =
+    (written-decides-at q (formed q within)).1 (broken_needs q within ss is links are joins told c a b o)
+
+pub counted-parts-tell : CountedPartsTell
+counted-parts-tell q within joins d ss is links are c a b = broken-parts-tell q within joins (inr d) ss is links are c a b (inr d)

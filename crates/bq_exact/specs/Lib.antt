@@ -2,3 +2,4 @@ pub mod Split
 pub mod Refused
 pub mod Accepted
 pub mod Verdicts
+pub mod Cells

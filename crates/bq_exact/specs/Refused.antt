@@ -14,7 +14,7 @@ use Rattle.bq_whole.specs.Whole.{WholeBreaks}
 use Rattle.bq_forms.specs.Split.{part_query}
 use Rattle.bq_forms.specs.SplitBreaks.{IsSplitViolation}
 use Rattle.bq_necessity.specs.Within.{NeedsStatesWithin}
-use Rattle.bq_exact.specs.Split.{HasClosedUnlikes}
+use Rattle.bq_exact.specs.Split.{HasToldUnlikes}
 
 -- where a part fails first and by C1, the query needs many states on rows within its domains
 abbrev pub FirstConditionTells : Type 0
@@ -22,9 +22,16 @@ FirstConditionTells =
     (q : QueryValue) → IsWithinLimits q → IsFalse (is_filter q)
     → (f : Failure) → IsSplitViolation q (Some f) → f.condition ≡ C1 → NeedsStatesWithin q
 
--- where some part breaks C1 or C2, or without DISTINCT any condition, and each `<>` between streams has a side with both ends by the text
+-- where some part breaks C1 or C2, and each `<>` between streams has a side with both ends by the text, or without DISTINCT any condition
 abbrev pub BrokenPartsTell : Type 0
 BrokenPartsTell =
-    (q : QueryValue) → IsWithinLimits q → IsFalse (is_filter q) → HasClosedUnlikes q
+    (q : QueryValue) → IsWithinLimits q → IsFalse (is_filter q) → HasToldUnlikes q
     → (ss : List Sign) → IsSplitPart q ss → (links : List Atom) → AreLinks (part_query q ss) links
     → (c : Condition) (a : Attr) → WholeBreaks (part_query q ss) links c a → (c ≢ C3) ⊎ IsFalse q.distinct → NeedsStatesWithin q
+
+-- without DISTINCT each part that breaks a condition tells, whatever stands between streams
+abbrev pub CountedPartsTell : Type 0
+CountedPartsTell =
+    (q : QueryValue) → IsWithinLimits q → IsFalse (is_filter q) → IsFalse q.distinct
+    → (ss : List Sign) → IsSplitPart q ss → (links : List Atom) → AreLinks (part_query q ss) links
+    → (c : Condition) (a : Attr) → WholeBreaks (part_query q ss) links c a → NeedsStatesWithin q

@@ -27,6 +27,10 @@ HasClosedUnlikes q =
     (t : Atom) → Has q.atoms t → t.op ≡ Op.Ne → (a b : Attr) → t.left ≡ element.Attr a → t.right ≡ element.Attr b → a.stream ≢ b.stream
     → IsTrue (has_both_ends q a) ⊎ IsTrue (has_both_ends q b)
 
+-- with DISTINCT that is asked, without it nothing: each combination is counted
+abbrev pub HasToldUnlikes : QueryValue → Type 0
+HasToldUnlikes q = HasClosedUnlikes q ⊎ IsFalse q.distinct
+
 -- the integers just outside of what is written have at most 15 digits, too
 abbrev pub HasRoomOutside : QueryValue → Type 0
 HasRoomOutside q = (a : Attr) → Contains (attrs_of q.atoms) a → All IsShort (given_integers q a)
@@ -34,18 +38,18 @@ HasRoomOutside q = (a : Attr) → Contains (attrs_of q.atoms) a → All IsShort 
 -- a query of which some split part breaks a condition needs many states on rows within its domains
 abbrev pub BrokenPartsNeedStates : Type 0
 BrokenPartsNeedStates =
-    (q : QueryValue) → IsWithinLimits q → IsFalse (is_filter q) → HasClosedUnlikes q → HasRoomOutside q
+    (q : QueryValue) → IsWithinLimits q → IsFalse (is_filter q) → HasToldUnlikes q → HasRoomOutside q
     → (ss : List Sign) → IsSplitPart q ss → (links : List Atom) → AreLinks (part_query q ss) links
     → (c : Condition) (a : Attr) → WholeBreaks (part_query q ss) links c a → NeedsStatesWithin q
 
 -- a compact query that is refused by a condition needs many states on rows within its domains
 abbrev pub RefusedFormsNeedStates : Type 0
 RefusedFormsNeedStates =
-    (q : QueryValue) → IsWithinLimits q → IsTrue q.compact → HasClosedUnlikes q → HasRoomOutside q
+    (q : QueryValue) → IsWithinLimits q → IsTrue q.compact → HasToldUnlikes q → HasRoomOutside q
     → (f : Failure) → IsFormViolation q (Some f) → NeedsStatesWithin q
 
 -- the conditions of the split form are exact for each query that is no filter, whether or not it is compact
 abbrev pub SplitConditionsAreExact : Type 0
 SplitConditionsAreExact =
-    (q : QueryValue) → IsWithinLimits q → IsFalse (is_filter q) → HasClosedUnlikes q → HasRoomOutside q
+    (q : QueryValue) → IsWithinLimits q → IsFalse (is_filter q) → HasToldUnlikes q → HasRoomOutside q
     → (violation : Option Failure) → IsSplitViolation q violation → NeedsStatesWithin q ↔ (violation ≢ None)

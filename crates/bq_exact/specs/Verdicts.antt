@@ -7,11 +7,11 @@ use Rattle.bq_model.specs.Verdict as verdicts
 use Rattle.bq_model.specs.Violation.{Failure}
 use Rattle.bq_forms.specs.Forms.{IsFormVerdict}
 use Rattle.bq_necessity.specs.Within.{NeedsStatesWithin}
-use Rattle.bq_exact.specs.Split.{HasClosedUnlikes, HasRoomOutside}
+use Rattle.bq_exact.specs.Split.{HasToldUnlikes, HasRoomOutside}
 
 -- unless it has too many parts, a compact query needs many states on rows within its domains exactly where its verdict is that it violates a condition
 abbrev pub CompactVerdictsAreExact : Type 0
 CompactVerdictsAreExact =
-    (q : QueryValue) → IsWithinLimits q → IsTrue q.compact → HasClosedUnlikes q → HasRoomOutside q
+    (q : QueryValue) → IsWithinLimits q → IsTrue q.compact → HasToldUnlikes q → HasRoomOutside q
     → (shared : Bool) (free : ℕ) (verdict : Verdict) → IsFormVerdict shared q free verdict → verdict ≢ verdicts.limit which.Parts
     → NeedsStatesWithin q ↔ ((f : Failure) × (verdict ≡ verdicts.violation f))
