@@ -1,8 +1,8 @@
 -- The counts of faults of feeds are those of files.
 use Rattle.std.proofs.Common.{List, [], ◌∷◌, inl, inr}
-use Rattle.bq_io.specs.Source.{SourceState}
-use Rattle.bq_feeds.specs.FeedsEnd as feeds
-use Rattle.bq_top.specs.Files as files
+use Rattle.io_streams.specs.Source.{SourceState}
+use Rattle.cmd_feeds.specs.FeedsEnd as feeds
+use Rattle.cmd_dispatch.specs.Files as files
 
 pub none-fell : (xs ys : List SourceState) → feeds.NoneFell xs ys → files.NoneFell xs ys
 none-fell [] [] h = tt

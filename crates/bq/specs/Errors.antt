@@ -1,8 +1,8 @@
 -- What the program writes to standard error.
 use Rattle.std.specs.Prelude.{ℕ, Bool, true, false, ◌⊎◌, List, [], ◌++◌, codes}
-use Rattle.bq_io.specs.Sink.{SinkState, Wrote, BrokeOff}
-use Rattle.bq_io.specs.declared.status.Status.{Status}
-use Rattle.bq_io.specs.declared.status.Status.TheVariants as status
+use Rattle.io_streams.specs.Sink.{SinkState, Wrote, BrokeOff}
+use Rattle.io_streams.specs.declared.status.Status.{Status}
+use Rattle.io_streams.specs.declared.status.Status.TheVariants as status
 use Rattle.bq.specs.declared.errors.TheConstants.{USAGE}
 
 -- that the words are no form of the command, as it stands in the code

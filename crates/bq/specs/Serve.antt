@@ -3,11 +3,11 @@ use Rattle.std.specs.Prelude.{◌≡◌, ℕ, Bool, true, false, List, [], ◌�
 use Rattle.std.specs.Str.{bytes_eq}
 use Rattle.std.specs.String.{string_bytes}
 use Rattle.std.specs.declared.alloc.Global.{Global}
-use Rattle.bq_io.specs.declared.status.Status.{Status}
-use Rattle.bq_io.specs.Source.{SourceState}
-use Rattle.bq_io.specs.Sink.{SinkState}
-use Rattle.bq_top.specs.Ends.{Ends}
-use Rattle.bq_feeds.specs.FeedsEnd.{FeedsEnd}
+use Rattle.io_streams.specs.declared.status.Status.{Status}
+use Rattle.io_streams.specs.Source.{SourceState}
+use Rattle.io_streams.specs.Sink.{SinkState}
+use Rattle.cmd_dispatch.specs.Ends.{Ends}
+use Rattle.cmd_feeds.specs.FeedsEnd.{FeedsEnd}
 use Rattle.bq.specs.Errors.{Tells, told_of}
 
 -- the first word is `feeds`

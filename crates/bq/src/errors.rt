@@ -1,10 +1,10 @@
 //! What the program writes to standard error: where the words are no form of the command, and where the file that they name cannot be read.
 ghost use Rattle.std.specs.Prelude.{◌≡◌, ◌≤◌};
-ghost use Rattle.bq_io.specs.Sink.{Writes};
+ghost use Rattle.io_streams.specs.Sink.{Writes};
 ghost use Rattle.bq.specs.Errors.{Tells, told_of, unread_text, usage_text};
 
-use bq_io::{Sink, Status, WriteFault, write_all, write_pieces};
-use bq_top::Ended;
+use cmd_dispatch::Ended;
+use io_streams::{Sink, Status, WriteFault, write_all, write_pieces};
 
 /// What is written where the words are no form of the command.
 const USAGE: &str = "\

@@ -6,9 +6,9 @@ mod top;
 
 use crate::errors::tell_usage;
 use crate::top::serve;
-use bq_feeds::{feeds_of, file_in};
-use bq_io::{FileSource, Status, StdSink, StdSource};
-use bq_top::name_file;
+use cmd_dispatch::name_file;
+use cmd_feeds::{feeds_of, file_in};
+use io_streams::{FileSource, Status, StdSink, StdSource};
 use std::alloc::AllocError;
 use std::env;
 use std::io::ErrorKind;

@@ -1,17 +1,17 @@
 //! The one top call of the program.
 ghost use Rattle.std.specs.Prelude.{◌≡◌, ◌≤◌, map};
 ghost use Rattle.std.specs.String.{string_bytes};
-ghost use Rattle.bq_io.specs.Counts.{Rose};
-ghost use Rattle.bq_session.specs.Run.{IsNoFault};
-ghost use Rattle.bq_feeds.specs.FeedsEnd.{FeedsEnd};
-ghost use Rattle.bq_top.specs.Files.{NoneFell, SomeRose};
+ghost use Rattle.io_streams.specs.Counts.{Rose};
+ghost use Rattle.cmd_session.specs.Run.{IsNoFault};
+ghost use Rattle.cmd_feeds.specs.FeedsEnd.{FeedsEnd};
+ghost use Rattle.cmd_dispatch.specs.Files.{NoneFell, SomeRose};
 ghost use Rattle.bq.specs.Serve.{asks_feeds, file_name, file_place, Served, Serves};
 
 use crate::errors::tell;
-use bq_feeds::run_feeds;
-use bq_io::{Sink, Source, Status};
-use bq_session::is_word;
-use bq_top::{Ended, run};
+use cmd_dispatch::{Ended, run};
+use cmd_feeds::run_feeds;
+use cmd_session::is_word;
+use io_streams::{Sink, Source, Status};
 use std::alloc::Global;
 
 // Whether the first word is `feeds`.

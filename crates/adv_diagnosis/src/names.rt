@@ -1,0 +1,183 @@
+//! Names of a query that stand for no stream and for no column.
+ghost use Rattle.std.specs.Prelude.{◌≡◌, ◌≤◌, ◌<◌, ◌+◌, ◌++◌, length};
+ghost use Rattle.std.specs.List.{find};
+ghost use Rattle.sql_parser.specs.Limits.{column_in, columns_in};
+ghost use Rattle.sql_parser.specs.Resolution as resolution;
+ghost use Rattle.adv_diagnosis.specs.Faults as faults;
+ghost use Rattle.adv_diagnosis.specs.Faults.{IsNameFault};
+
+use crate::fault::Fault;
+use crate::finding::repeated_name;
+use arrayvec::ArrayVec;
+use sql_catalog::Catalog;
+use sql_parser::{AtomAst, ColumnAst, OperandAst, SelectAst};
+use sql_text::Name;
+
+// Whether the name is that of no stream.
+fn is_no_stream(name: &Name, catalog: &Catalog) -> bool
+    ensures { result ≡ faults.is_no_stream catalog.now name.now }
+{
+    catalog.find(name).is_none()
+}
+
+// The place of FROM at which the stream of a column stands.
+fn place_in(from: &[Name], column: &ColumnAst) -> Option<usize>
+    ensures { result ≡ resolution.place_in from.now column.now }
+{
+    from.iter().position(|name| *name == column.stream)
+}
+
+// Whether the stream of a column stands nowhere in FROM.
+fn is_not_from(from: &[Name], column: &ColumnAst) -> bool
+    ensures { result ≡ faults.is_not_from from.now column.now }
+{
+    place_in(from, column).is_none()
+}
+
+// The place of a column in its stream, where both are there.
+fn place_under(column: &ColumnAst, catalog: &Catalog) -> Option<u8>
+    ensures { result ≡ resolution.place_under catalog.now column.now }
+{
+    let stream = catalog.find(&column.stream)?;
+    catalog.column(stream, &column.column)
+}
+
+// Whether a column is none of its stream.
+fn is_no_column(column: &ColumnAst, catalog: &Catalog) -> bool
+    ensures { result ≡ faults.is_no_column catalog.now column.now }
+{
+    place_under(column, catalog).is_none()
+}
+
+/// Returns the first name that is that of no stream.
+pub fn unknown_stream(names: &[Name], catalog: &Catalog) -> Option<Name>
+    ensures { result ≡ find (faults.is_no_stream catalog.now) names.now }
+{
+    match names {
+        [] => None,
+        [first, others @ ..] => {
+            if is_no_stream(first, catalog) {
+                Some(*first)
+            } else {
+                unknown_stream(others, catalog)
+            }
+        }
+    }
+}
+
+// The first column whose stream is not in FROM.
+fn column_outside(columns: &[ColumnAst], from: &[Name]) -> Option<ColumnAst>
+    ensures { result ≡ find (faults.is_not_from from.now) columns.now }
+{
+    match columns {
+        [] => None,
+        [first, others @ ..] => {
+            if is_not_from(from, first) {
+                Some(*first)
+            } else {
+                column_outside(others, from)
+            }
+        }
+    }
+}
+
+// The first column that is none of its stream.
+fn unknown_column(columns: &[ColumnAst], catalog: &Catalog) -> Option<ColumnAst>
+    ensures { result ≡ find (faults.is_no_column catalog.now) columns.now }
+{
+    match columns {
+        [] => None,
+        [first, others @ ..] => {
+            if is_no_column(first, catalog) {
+                Some(*first)
+            } else {
+                unknown_column(others, catalog)
+            }
+        }
+    }
+}
+
+// Adds the column that a side of an atom is.
+fn put_column(columns: &mut ArrayVec<ColumnAst, 40>, operand: OperandAst)
+    requires { length columns.old.items < 40 }
+    ensures items { columns.new.items ≡ columns.old.items ++ column_in operand }
+    ensures short { length columns.new.items ≤ length columns.old.items + 1 }
+{
+    match operand {
+        OperandAst::Column(column) => columns.push(column),
+        OperandAst::Integer(_) => {}
+    }
+}
+
+// Adds the columns that atoms name.
+fn put_compared(columns: &mut ArrayVec<ColumnAst, 40>, atoms: &[AtomAst])
+    requires few { length atoms.now ≤ 16 }
+    requires room { length columns.old.items ≤ 8 }
+    ensures { columns.new.items ≡ columns.old.items ++ columns_in atoms.now }
+{
+    for atom in atoms {
+        put_column(columns, atom.left);
+        put_column(columns, atom.right);
+    }
+}
+
+// The columns that are named: those that are selected, and those of the atoms.
+fn named_columns(select: &SelectAst) -> ArrayVec<ColumnAst, 40>
+    ensures { result.items ≡ resolution.named_columns select.now }
+{
+    let mut columns = ArrayVec::new();
+    for column in select.select.as_slice() {
+        columns.push(*column);
+    }
+    put_compared(&mut columns, select.atoms.as_slice());
+    columns
+}
+
+// The first name of FROM that is that of no stream.
+fn stream_lacking(select: &SelectAst, catalog: &Catalog) -> Option<Name>
+    ensures { result ≡ find (faults.is_no_stream catalog.now) select.now.from.items }
+{
+    unknown_stream(select.from.as_slice(), catalog)
+}
+
+// The first column whose stream FROM does not name.
+fn column_beyond(select: &SelectAst) -> Option<ColumnAst>
+    ensures { result ≡ find (faults.is_not_from select.now.from.items) (resolution.named_columns select.now) }
+{
+    let columns = named_columns(select);
+    column_outside(columns.as_slice(), select.from.as_slice())
+}
+
+// The first column that its stream does not have.
+fn column_lacking(select: &SelectAst, catalog: &Catalog) -> Option<ColumnAst>
+    ensures { result ≡ find (faults.is_no_column catalog.now) (resolution.named_columns select.now) }
+{
+    let columns = named_columns(select);
+    unknown_column(columns.as_slice(), catalog)
+}
+
+// The first name that FROM has twice.
+fn stream_again(select: &SelectAst) -> Option<Name>
+    ensures { result ≡ faults.first_repeated select.now.from.items }
+{
+    repeated_name(select.from.as_slice())
+}
+
+/// Returns the first cause why the names of a query stand for none, where there is one.
+pub fn query_fault(select: &SelectAst, catalog: &Catalog) -> Option<Fault>
+    ensures { IsNameFault catalog.now select.now result }
+{
+    if let Some(name) = stream_lacking(select, catalog) {
+        return Some(Fault::NoStream { name });
+    }
+    if let Some(column) = column_beyond(select) {
+        return Some(Fault::NotInFrom { column });
+    }
+    if let Some(column) = column_lacking(select, catalog) {
+        return Some(Fault::NoColumn { column });
+    }
+    if let Some(name) = stream_again(select) {
+        return Some(Fault::SelfJoin { name });
+    }
+    None
+}

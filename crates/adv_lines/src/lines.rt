@@ -1,0 +1,291 @@
+//! The lines and the pieces of lines that tell names and numbers. Each is a template with its holes filled.
+ghost use Rattle.std.specs.Prelude.{◌≡◌};
+ghost use Rattle.io_streams.specs.Sink.{Writes};
+ghost use Rattle.sem_query.specs.Verdict.{most};
+ghost use Rattle.sql_replies.specs.Texts as texts;
+ghost use Rattle.adv_lines.specs.Lines as line;
+
+use crate::names::Named;
+use crate::templates;
+use adv_templates::{Filling, Written, write_filled};
+use io_streams::{Sink, write_all, write_pieces};
+use sem_query::{Condition, Dim, Numbers, Op, Which};
+use sql_replies::condition_text;
+use sql_text::Name;
+
+/// Writes the four numbers of a query: `: parts 1 cells 1998 answers 999 work 1`.
+#[tactic(auto, unfolding(crate::specs::Lines::numbers_text))]
+pub fn write_numbers<O: Sink>(out: &mut O, numbers: Numbers) -> Written
+    ensures { Writes result (O.seen out.old) (O.seen out.new) (line.numbers_text numbers) }
+{
+    let fillings = [
+        Filling::Count(numbers.parts),
+        Filling::Count(numbers.cells),
+        Filling::Count(numbers.answers),
+        Filling::Count(numbers.work),
+    ];
+    write_filled(out, templates::NUMBERS, &fillings)
+}
+
+/// Writes the query of a line, and what is said of it: `line 5: query wide`.
+#[tactic(auto, unfolding(crate::specs::Lines::query_line))]
+pub fn write_query_line<'a, O: Sink>(
+    out: &mut O,
+    number: u64,
+    name: &'a Name,
+    behind: &'a [u8],
+) -> Written
+    ensures { Writes result (O.seen out.old) (O.seen out.new) (line.query_line number name.now behind.now) }
+{
+    let fillings = [
+        Filling::Number(number),
+        Filling::Text(name.bytes()),
+        Filling::Text(behind),
+    ];
+    write_filled(out, templates::QUERY, &fillings)
+}
+
+/// Writes that a query needs more pages than are free.
+#[tactic(auto, unfolding(crate::specs::Lines::pool_line))]
+pub fn write_pool<O: Sink>(out: &mut O, number: u64, name: &Name, needed: u32, free: u32) -> Written
+    ensures { Writes result (O.seen out.old) (O.seen out.new) (line.pool_line number name.now needed free) }
+{
+    let fillings = [
+        Filling::Number(number),
+        Filling::Text(name.bytes()),
+        Filling::Count(needed),
+        Filling::Count(free),
+    ];
+    write_filled(out, templates::POOL, &fillings)
+}
+
+fn which_text(which: Which) -> &'static [u8]
+    ensures { result.now ≡ texts.which_text which }
+{
+    match which {
+        Which::Parts => b"parts",
+        Which::Cells => b"cells",
+        Which::Answers => b"answers",
+        Which::Work => b"work",
+    }
+}
+
+// The most that there may be of a number.
+fn most_of(which: Which) -> u32
+    ensures { result ≡ most which }
+{
+    match which {
+        Which::Parts => 4096,
+        Which::Cells => 262_144,
+        Which::Answers => 65_536,
+        Which::Work => 4_194_304,
+    }
+}
+
+// Whether a number is the greatest of 64 bits, which stands for all numbers from there on.
+fn is_capped(value: u64) -> bool
+    ensures { result ≡ line.is_capped value }
+{
+    value == u64::MAX
+}
+
+// What stands before a number.
+fn at_least(value: u64) -> &'static [u8]
+    ensures { result.now ≡ line.at_least value }
+{
+    if is_capped(value) { b"at least " } else { b"" }
+}
+
+/// Writes that a number of a query is above its limit; the greatest of 64 bits stands for all from there on.
+#[tactic(auto, unfolding(crate::specs::Lines::above_line))]
+pub fn write_above<O: Sink>(
+    out: &mut O,
+    number: u64,
+    name: &Name,
+    which: Which,
+    value: u64,
+) -> Written
+    ensures { Writes result (O.seen out.old) (O.seen out.new) (line.above_line number name.now which value) }
+{
+    let fillings = [
+        Filling::Number(number),
+        Filling::Text(name.bytes()),
+        Filling::Fixed(which_text(which)),
+        Filling::Fixed(at_least(value)),
+        Filling::Number(value),
+        Filling::Count(most_of(which)),
+    ];
+    write_filled(out, templates::ABOVE, &fillings)
+}
+
+// Why a column breaks a condition, by whether an answer counts once.
+fn reason_text(distinct: bool, condition: Condition) -> &'static [u8]
+    ensures { result.now ≡ line.reason_text distinct condition }
+{
+    match condition {
+        Condition::C1 => b" is selected and nothing bounds it\n",
+        Condition::C2 => b" equals a column of another stream and nothing bounds it\n",
+        Condition::C3 => {
+            if distinct {
+                b" is one unbounded column too many: of each stream one may be compared with other streams, and on one side\n"
+            } else {
+                b" is compared with a column of another stream and nothing bounds it\n"
+            }
+        }
+    }
+}
+
+/// Writes that a query breaks a condition first in this part and at this column.
+#[tactic(auto, unfolding(crate::specs::Lines::violation_line))]
+pub fn write_violation<'a, O: Sink>(
+    out: &mut O,
+    number: u64,
+    name: &'a Name,
+    part: u32,
+    distinct: bool,
+    condition: Condition,
+    column: Named<'a>,
+) -> Written
+    ensures { Writes result (O.seen out.old) (O.seen out.new) (line.violation_line number name.now part distinct condition (record { stream = column.entry.stream.now; column = column.entry.column.now })) }
+{
+    let fillings = [
+        Filling::Number(number),
+        Filling::Text(name.bytes()),
+        Filling::Fixed(condition_text(condition)),
+        Filling::Count(part),
+        Filling::Text(column.stream),
+        Filling::Text(column.column),
+        Filling::Fixed(reason_text(distinct, condition)),
+    ];
+    write_filled(out, templates::VIOLATION, &fillings)
+}
+
+/// Returns a comparison between two spaces.
+pub fn op_text(op: Op) -> &'static [u8]
+    ensures { result.now ≡ line.op_text op }
+{
+    match op {
+        Op::Lt => b" < ",
+        Op::Eq => b" = ",
+        Op::Gt => b" > ",
+        Op::Le => b" <= ",
+        Op::Ge => b" >= ",
+        Op::Ne => b" <> ",
+    }
+}
+
+/// Writes a change that has a name: `    with COMPACT`.
+#[tactic(auto, unfolding(crate::specs::Lines::change_head))]
+pub fn write_change_head<O: Sink>(out: &mut O, change: &[u8]) -> Written
+    ensures { Writes result (O.seen out.old) (O.seen out.new) (line.change_head change.now) }
+{
+    write_filled(out, templates::CHANGE, &[Filling::Text(change)])
+}
+
+/// Writes a column between two integers: ` AND S.a > LO AND S.a < HI`.
+#[tactic(auto, unfolding(crate::specs::Lines::bounds_item))]
+pub fn write_bounds_item<O: Sink>(out: &mut O, column: Named<'_>) -> Written
+    ensures { Writes result (O.seen out.old) (O.seen out.new) (line.bounds_item (record { stream = column.entry.stream.now; column = column.entry.column.now })) }
+{
+    let (stream, name) = (column.stream, column.column);
+    let pieces: [&[u8]; 9] = [
+        b" AND ",
+        stream,
+        b".",
+        name,
+        b" > LO AND ",
+        stream,
+        b".",
+        name,
+        b" < HI",
+    ];
+    write_pieces(out, &pieces)
+}
+
+/// Writes a column in a domain: ` S.a IN LO..HI`.
+#[tactic(auto, unfolding(crate::specs::Lines::domain_item))]
+pub fn write_domain_item<O: Sink>(out: &mut O, column: Named<'_>) -> Written
+    ensures { Writes result (O.seen out.old) (O.seen out.new) (line.domain_item (record { stream = column.entry.stream.now; column = column.entry.column.now })) }
+{
+    let fillings = [Filling::Text(column.stream), Filling::Text(column.column)];
+    write_filled(out, templates::DOMAIN, &fillings)
+}
+
+/// Writes that a part has the elements that follow: `  part 23 has`.
+#[tactic(auto, unfolding(crate::specs::Lines::part_head))]
+pub fn write_part<O: Sink>(out: &mut O, part: u32) -> Written
+    ensures { Writes result (O.seen out.old) (O.seen out.new) (line.part_head part) }
+{
+    write_filled(out, templates::PART, &[Filling::Count(part)])
+}
+
+// What stands behind the number of cells.
+fn cells_text(cells: u64) -> &'static [u8]
+    ensures { result.now ≡ line.cells_text cells }
+{
+    if cells == 1 { b" cell: " } else { b" cells: " }
+}
+
+// Whether all cells of a part are of one stream: not where there are so many that 64 bits do not tell.
+fn is_alone(cells: u64, kept: u64) -> bool
+    ensures { result ≡ line.is_alone cells kept }
+{
+    if is_capped(cells) {
+        false
+    } else {
+        cells == kept
+    }
+}
+
+/// Writes how many cells a part keeps, and of which stream so many of them are: `  part 5 keeps 1369 cells: Temp`, or
+/// `  part 5 keeps 2738 cells, 1369 of them of Temp`.
+#[tactic(auto, unfolding(crate::specs::Lines::kept_head))]
+pub fn write_kept<O: Sink>(out: &mut O, part: u32, cells: u64, kept: u64, stream: &[u8]) -> Written
+    ensures { Writes result (O.seen out.old) (O.seen out.new) (line.kept_head part cells kept stream.now) }
+{
+    if is_alone(cells, kept) {
+        let fillings = [
+            Filling::Count(part),
+            Filling::Number(cells),
+            Filling::Fixed(cells_text(cells)),
+            Filling::Text(stream),
+        ];
+        return write_filled(out, templates::KEPT, &fillings);
+    }
+    let fillings = [
+        Filling::Count(part),
+        Filling::Fixed(at_least(cells)),
+        Filling::Number(cells),
+        Filling::Fixed(at_least(kept)),
+        Filling::Number(kept),
+        Filling::Text(stream),
+    ];
+    write_filled(out, templates::MOST_KEPT, &fillings)
+}
+
+/// Writes a column with its least and greatest value behind a text: `, S.b 3..39`.
+#[tactic(auto, unfolding(crate::specs::Lines::range_text))]
+pub fn write_range<'a, O: Sink>(
+    out: &mut O,
+    lead: &'a [u8],
+    column: Named<'a>,
+    dim: &Dim,
+) -> Written
+    ensures { Writes result (O.seen out.old) (O.seen out.new) (line.range_text lead.now (record { stream = column.entry.stream.now; column = column.entry.column.now }) dim.now.lo dim.now.hi) }
+{
+    let fillings = [
+        Filling::Text(lead),
+        Filling::Text(column.stream),
+        Filling::Text(column.column),
+        Filling::Integer(dim.lo),
+        Filling::Integer(dim.hi),
+    ];
+    write_filled(out, templates::RANGE, &fillings)
+}
+
+/// Writes a text where it is due.
+pub fn write_if<O: Sink>(out: &mut O, due: bool, text: &[u8]) -> Written
+    ensures { Writes result (O.seen out.old) (O.seen out.new) (line.text_if due text.now) }
+{
+    if due { write_all(out, text) } else { Ok(()) }
+}

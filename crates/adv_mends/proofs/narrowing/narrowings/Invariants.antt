@@ -1,0 +1,6 @@
+use Rattle.std.proofs.Common.{take}
+use Rattle.adv_mends.specs.Narrowed.{AreNarrowed}
+use Rattle.adv_mends.proofs.narrowing.narrowings.Given as goal
+
+abbrev pub invariant-columns : goal.invariant-columns
+invariant-columns l = AreNarrowed l.shared l.query l.own (take l.column-index l.column-items) l.best.items

@@ -1,0 +1,155 @@
+//! What a query comes to.
+ghost use Rattle.std.specs.Prelude.{◌≡◌, IsFalse, Some, IfOk};
+ghost use Rattle.sem_query.specs.Query.{is_filter};
+ghost use Rattle.sem_forms.specs.Forms.{HasWholeForm, IsWholeFormOr};
+ghost use Rattle.adv_mends.specs.Sets.{IsMendOf};
+ghost use Rattle.adv_mends.specs.Numbered.{IsJudgement, IsJudgementWith, AreNumbersWith, accepted, shares};
+
+use crate::mend::Mend;
+use crate::writing::written;
+use plan_forms::{PartsRefusal, parts_plan, whole_form};
+use sem_query::{Attr, Condition, Numbers, Plan, Query, Which};
+use std::alloc::{AllocError, Global};
+
+/// What a query comes to, whatever pages are free.
+#[derive(Clone, Copy, Debug, PartialEq, Eq)]
+pub enum Judgement {
+    /// It answers each row by that row alone.
+    Filter,
+    /// It meets all conditions, or is compact and has a whole form that fits, and its numbers are within their limits.
+    Accepted(Numbers),
+    /// It meets all conditions. The first of cells, answers and work that is above its limit, and that number, or 2^64 - 1 where it is above that.
+    Above {
+        which: Which,
+        value: u64,
+    },
+    /// The first part that breaks a condition, in it the first condition, and for it the first column.
+    Violation {
+        part: u32,
+        condition: Condition,
+        attr: Attr,
+    },
+    /// It has more than 4,096 parts, or is compact and has more than 114 pairs that cut them.
+    ManyParts,
+}
+
+// What a query that is no filter, and whose whole form does not fit, comes to, by its parts.
+fn judge_parts(alloc: Global, query: &Query, shared: bool) -> Result<Judgement, AllocError>
+    requires plain { IsFalse (is_filter query.now) }
+    requires split { ¬ HasWholeForm query.now }
+    ensures { IfOk result (IsJudgement shared query.now) }
+{
+    match parts_plan(alloc, query, shared) {
+        Ok(Plan::Filter) => Ok(Judgement::Filter),
+        Ok(Plan::Parts { parts: _, numbers }) => Ok(Judgement::Accepted(numbers)),
+        Err(PartsRefusal::TooManyParts) => Ok(Judgement::ManyParts),
+        Err(
+            PartsRefusal::Violation {
+                part,
+                condition,
+                attr,
+            },
+        ) => Ok(Judgement::Violation {
+            part,
+            condition,
+            attr,
+        }),
+        Err(PartsRefusal::Limit { which, value }) => Ok(Judgement::Above { which, value }),
+        Err(PartsRefusal::Memory) => Err(AllocError),
+    }
+}
+
+// What a query comes to of which this plan is the whole form that fits.
+fn judge_whole(query: &Query, shared: bool, plan: &Plan) -> Judgement
+    requires plain { IsFalse (is_filter query.now) }
+    requires whole { IsWholeFormOr query.now (Some plan.now) }
+    ensures { IsJudgement shared query.now result }
+{
+    // Named for the proof alone: the contract speaks of them.
+    let (_query, _shared) = (query, shared);
+    match plan {
+        Plan::Filter => Judgement::Filter,
+        Plan::Parts { parts: _, numbers } => Judgement::Accepted(*numbers),
+    }
+}
+
+/// Returns what the query comes to, with shared cells or without, as CREATE QUERY judges it but for the pages that are free. `AllocError` where the list of
+/// parts, or a plan, finds no memory.
+pub fn judge(alloc: Global, query: &Query, shared: bool) -> Result<Judgement, AllocError>
+    ensures { IfOk result (IsJudgement shared query.now) }
+{
+    if query.is_filter() {
+        return Ok(Judgement::Filter);
+    }
+    match whole_form(alloc, query)? {
+        Some(plan) => Ok(judge_whole(query, shared, &plan)),
+        None => judge_parts(alloc, query, shared),
+    }
+}
+
+// Whether boxes that are the same have their cells once, with a change.
+fn shares(mend: &Mend, shared: bool) -> bool
+    ensures { result ≡ shares mend.now shared }
+{
+    match mend {
+        Mend::Shared => true,
+        Mend::Distinct
+        | Mend::Domains(_, _)
+        | Mend::Bounds(_, _)
+        | Mend::Comparison(_)
+        | Mend::Compact => shared,
+    }
+}
+
+/// Returns what the query comes to with a change, with shared cells or without, or none where it would pass a limit of a statement. `AllocError` where the list
+/// of parts, or the plan, finds no memory.
+pub fn judge_with(
+    alloc: Global,
+    query: &Query,
+    shared: bool,
+    mend: &Mend,
+) -> Result<Option<Judgement>, AllocError>
+    requires { IsMendOf query.now mend.now }
+    ensures { IfOk result (IsJudgementWith shared query.now mend.now) }
+{
+    match written(query, mend) {
+        Some(other) => match judge(alloc, &other, shares(mend, shared)) {
+            Ok(judgement) => Ok(Some(judgement)),
+            Err(fault) => Err(fault),
+        },
+        None => Ok(None),
+    }
+}
+
+// The numbers of a judgement that accepts.
+fn accepted(judgement: Option<Judgement>) -> Option<Numbers>
+    ensures { result ≡ accepted judgement }
+{
+    match judgement {
+        Some(Judgement::Accepted(numbers)) => Some(numbers),
+        Some(
+            Judgement::Filter
+            | Judgement::Above { .. }
+            | Judgement::Violation { .. }
+            | Judgement::ManyParts,
+        )
+        | None => None,
+    }
+}
+
+/// Returns the numbers of the query with a change, with shared cells or without, or none where it is not accepted with it. `AllocError` where the list of parts,
+/// or the plan, finds no memory.
+pub fn numbers_with(
+    alloc: Global,
+    query: &Query,
+    shared: bool,
+    mend: &Mend,
+) -> Result<Option<Numbers>, AllocError>
+    requires { IsMendOf query.now mend.now }
+    ensures { IfOk result (AreNumbersWith shared query.now mend.now) }
+{
+    match judge_with(alloc, query, shared, mend) {
+        Ok(judgement) => Ok(accepted(judgement)),
+        Err(fault) => Err(fault),
+    }
+}

@@ -1,0 +1,149 @@
+//! Whether a query meets all conditions and has a part.
+ghost use Rattle.std.specs.Prelude.{◌↔◌, ◌≤◌, IsTrue, IsFalse, length, IfOk};
+ghost use Rattle.sem_query.specs.Query.{is_filter};
+ghost use Rattle.sem_query.specs.Parts.{AreParts, sign_lists};
+ghost use Rattle.adv_mends.specs.Meeting.{Meets, HasPart, Stands, MeetsWith, NeverMeets};
+
+use plan_conditions::decide;
+use plan_forms::{PartsRefusal, parts_drafts};
+use plan_parts::{SplitError, split};
+use sem_query::{Decision, Part, Query};
+use std::alloc::{AllocError, Global};
+
+// Whether a query of these parts has one.
+fn is_some(query: &Query, parts: &[Part]) -> bool
+    requires { AreParts query.now (sign_lists parts.now) }
+    ensures { IsTrue result ↔ HasPart query.now }
+{
+    // Named for the proof alone: the contract speaks of it.
+    let _query = query;
+    parts.len() != 0
+}
+
+// Whether some combination of rows meets the comparisons of a query. `AllocError` where the list of parts finds no memory.
+fn has_part(alloc: Global, query: &Query) -> Result<bool, AllocError>
+    ensures { IfOk result (λ has. IsTrue has ↔ HasPart query.now) }
+{
+    match split(alloc, query) {
+        Ok(parts) => Ok(is_some(query, &parts)),
+        Err(SplitError::TooManyParts) => Ok(true),
+        Err(SplitError::Memory) => Err(AllocError),
+    }
+}
+
+// Whether the parts of a query that is not compact break no condition.
+fn parts_meet(query: &Query, parts: &[Part]) -> bool
+    requires plain { IsFalse query.now.compact }
+    requires parts { AreParts query.now (sign_lists parts.now) }
+    requires few { length parts.now ≤ 4096 }
+    ensures { IsTrue result ↔ Meets query.now }
+{
+    match decide(query, parts) {
+        Decision::Bounded => true,
+        Decision::Violation { .. } => false,
+    }
+}
+
+// How many parts a query has that is not compact, no filter, and has these, where they break no condition.
+fn count_plain(query: &Query, parts: &[Part]) -> Option<usize>
+    requires plain { IsFalse query.now.compact }
+    requires parts { AreParts query.now (sign_lists parts.now) }
+    requires few { length parts.now ≤ 4096 }
+    ensures { MeetsWith query.now result }
+{
+    if parts_meet(query, parts) {
+        Some(parts.len())
+    } else {
+        None
+    }
+}
+
+// The same, where the parts have still to be found.
+fn plain_parts(alloc: Global, query: &Query) -> Result<Option<usize>, AllocError>
+    requires filter { IsFalse (is_filter query.now) }
+    requires plain { IsFalse query.now.compact }
+    ensures { IfOk result (MeetsWith query.now) }
+{
+    match split(alloc, query) {
+        Ok(parts) => Ok(count_plain(query, &parts)),
+        Err(SplitError::TooManyParts) => Ok(None),
+        Err(SplitError::Memory) => Err(AllocError),
+    }
+}
+
+// How many parts a query that is no filter has, where there are not too many and none breaks a condition, by the plans of all.
+fn drafted_parts(alloc: Global, query: &Query) -> Result<Option<usize>, AllocError>
+    requires { IsFalse (is_filter query.now) }
+    ensures { IfOk result (MeetsWith query.now) }
+{
+    match parts_drafts(alloc, query) {
+        Ok(plans) => Ok(Some(plans.len())),
+        Err(PartsRefusal::Memory) => Err(AllocError),
+        Err(PartsRefusal::TooManyParts) => Ok(None),
+        Err(
+            PartsRefusal::Violation {
+                part: _part,
+                condition: _condition,
+                attr: _attr,
+            },
+        ) => Ok(None),
+        Err(
+            PartsRefusal::Limit {
+                which: _which,
+                value: _value,
+            },
+        ) => unreachable!(),
+    }
+}
+
+// How many parts a query that is no filter has, where it meets all conditions. A query that is not compact is decided without plans.
+fn parts_met(alloc: Global, query: &Query) -> Result<Option<usize>, AllocError>
+    requires { IsFalse (is_filter query.now) }
+    ensures { IfOk result (MeetsWith query.now) }
+{
+    if query.compact() {
+        drafted_parts(alloc, query)
+    } else {
+        plain_parts(alloc, query)
+    }
+}
+
+/// Returns whether the query meets all conditions: a filter does, and else it has not too many parts, and none of them breaks one. `AllocError` where a list of
+/// parts or of their plans finds no memory.
+pub fn meets(alloc: Global, query: &Query) -> Result<bool, AllocError>
+    ensures { IfOk result (λ meets. IsTrue meets ↔ Meets query.now) }
+{
+    if query.is_filter() {
+        return Ok(true);
+    }
+    match parts_met(alloc, query) {
+        Ok(Some(_parts)) => Ok(true),
+        Ok(None) => Ok(false),
+        Err(fault) => Err(fault),
+    }
+}
+
+/// Returns whether the query has a part and meets all conditions: a filter does meet them, and else it has not too many parts, and none of them breaks one.
+/// `AllocError` where a list of parts or of their plans finds no memory.
+pub fn stands(alloc: Global, query: &Query) -> Result<bool, AllocError>
+    ensures { IfOk result (λ stands. IsTrue stands ↔ Stands query.now) }
+{
+    if query.is_filter() {
+        return has_part(alloc, query);
+    }
+    match parts_met(alloc, query) {
+        Ok(Some(parts)) => Ok(0 < parts),
+        Ok(None) => Ok(false),
+        Err(fault) => Err(fault),
+    }
+}
+
+/// Returns whether no combination of rows meets the comparisons of the query. `AllocError` where the list of parts finds no memory.
+pub fn never_meets(alloc: Global, query: &Query) -> Result<bool, AllocError>
+    ensures { IfOk result (λ never. IsTrue never ↔ NeverMeets query.now) }
+{
+    match has_part(alloc, query) {
+        Ok(has) => Ok(!has),
+        Err(fault) => Err(fault),
+    }
+}

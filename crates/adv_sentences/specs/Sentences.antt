@@ -1,0 +1,249 @@
+-- The sentence of each fault.
+use Rattle.std.specs.Prelude.{ℕ, ◌+◌, ◌==◌, ◌||◌, ℤ, Bool, List, [], ◌∷◌, ◌++◌, map, take, drop, if◌then◌else◌, decimal, codes, unwrap_or, Option, Some, None}
+use Rattle.std.specs.List.{find, flat_map, list_any, slice_index_or}
+use Rattle.std.specs.Str.{str_eq_ignore_ascii_case}
+use Rattle.std.specs.Fmt.{signed_decimal}
+use Rattle.sql_text.specs.Blank.{trimmed}
+use Rattle.sql_text.specs.Word.{is_letter, word_of}
+use Rattle.sql_catalog.specs.Streams.{Shape, column_names, column_at, shape_at, stream_number, domain_at}
+use Rattle.sql_catalog.specs.Rows.{fields_of}
+use Rattle.sql_parser.specs.declared.parsing.What.{What}
+use Rattle.sql_parser.specs.declared.parsing.What.TheVariants as limits
+use Rattle.sql_parser.specs.declared.tree.ColumnAst.{ColumnAst}
+use Rattle.adv_templates.specs.Template.{filled}
+use Rattle.adv_sentences.specs.declared.texts.TheConstants as texts
+use Rattle.adv_hints.specs.declared.candidates.Candidate.{Candidate}
+use Rattle.adv_hints.specs.declared.hints.Hint.{Hint}
+use Rattle.adv_hints.specs.declared.hints.Hint.TheVariants as hints
+use Rattle.adv_hints.specs.declared.hints.Standing.{Standing}
+use Rattle.adv_hints.specs.declared.hints.Standing.TheVariants as standing
+use Rattle.adv_diagnosis.specs.declared.fault.Fault.{Fault}
+use Rattle.adv_diagnosis.specs.declared.fault.Fault.TheVariants as faults
+use Rattle.adv_hints.specs.Bytes.{is_quote}
+use Rattle.adv_hints.specs.Candidates.{told_as}
+use Rattle.adv_hints.specs.Hints.{is_empty, hint_of, standing_of}
+
+-- a limit that is passed
+abbrev pub limit_template : What → List ℕ
+limit_template limits.Name = texts.LIMIT_NAME.now
+limit_template limits.Columns = texts.LIMIT_COLUMNS.now
+limit_template limits.Select = texts.LIMIT_SELECT.now
+limit_template limits.From = texts.LIMIT_FROM.now
+limit_template limits.Atoms = texts.LIMIT_ATOMS.now
+limit_template limits.Soft = texts.LIMIT_SOFT.now
+limit_template limits.Attrs = texts.LIMIT_ATTRS.now
+limit_template limits.Value = texts.LIMIT_VALUE.now
+limit_template limits.Consts = texts.LIMIT_CONSTS.now
+limit_template limits.Domain = texts.LIMIT_DOMAIN.now
+limit_template limits.Tuple = texts.LIMIT_TUPLE.now
+limit_template limits.Streams = texts.LIMIT_STREAMS.now
+
+-- a number, where there is one
+abbrev pub number_text : Option ℕ → List ℕ
+number_text None = []
+number_text (Some n) = decimal n
+
+-- a limit that is passed, with the number that is found
+abbrev pub limit_text : What → Option ℕ → List ℕ
+limit_text what found = filled (limit_template what) (number_text found ∷ [])
+
+-- what is meant
+abbrev pub hint_text : Hint → List ℕ
+hint_text hints.ByteOrderMark = texts.HINT_BOM.now
+hint_text hints.Quoted = texts.HINT_QUOTED.now
+hint_text hints.Unequal = texts.HINT_UNEQUAL.now
+hint_text hints.Star = texts.HINT_STAR.now
+hint_text hints.AtMost = texts.HINT_AT_MOST.now
+hint_text hints.AtLeast = texts.HINT_AT_LEAST.now
+hint_text hints.Equal = texts.HINT_EQUAL.now
+hint_text hints.Decimal = texts.HINT_DECIMAL.now
+hint_text hints.Or = texts.HINT_OR.now
+hint_text hints.BareColumn = texts.HINT_BARE_COLUMN.now
+hint_text hints.ReservedName = texts.HINT_RESERVED.now
+hint_text hints.BareRow = texts.HINT_BARE_ROW.now
+hint_text hints.Comment = texts.HINT_COMMENT.now
+hint_text hints.Interval = texts.HINT_INTERVAL.now
+hint_text hints.Arithmetic = texts.HINT_ARITHMETIC.now
+hint_text hints.Hyphen = texts.HINT_HYPHEN.now
+hint_text hints.CommaAtEnd = texts.HINT_COMMA_AT_END.now
+hint_text hints.Function = texts.HINT_FUNCTION.now
+hint_text hints.Parenthesis = texts.HINT_PARENTHESIS.now
+hint_text hints.Negation = texts.HINT_NEGATION.now
+hint_text hints.Between = texts.HINT_BETWEEN.now
+hint_text hints.Pattern = texts.HINT_PATTERN.now
+hint_text hints.Null = texts.HINT_NULL.now
+hint_text hints.Order = texts.HINT_ORDER.now
+hint_text hints.Join = texts.HINT_JOIN.now
+hint_text hints.Clause = texts.HINT_CLAUSE.now
+hint_text hints.Choice = texts.HINT_CHOICE.now
+hint_text hints.BareQuery = texts.HINT_BARE_QUERY.now
+hint_text hints.Alias = texts.HINT_ALIAS.now
+hint_text hints.Typed = texts.HINT_TYPE.now
+hint_text hints.Chained = texts.HINT_CHAINED.now
+hint_text hints.Streamless = texts.HINT_STREAMLESS.now
+hint_text hints.Exponent = texts.HINT_EXPONENT.now
+hint_text hints.DropStream = texts.HINT_DROP_STREAM.now
+hint_text hints.ExplainQuery = texts.HINT_EXPLAIN_QUERY.now
+hint_text hints.Replace = texts.HINT_REPLACE.now
+hint_text hints.Show = texts.HINT_SHOW.now
+hint_text hints.Continued = texts.HINT_CONTINUED.now
+
+-- a text, or another where it is empty
+abbrev pub or_text : List ℕ → List ℕ → List ℕ
+or_text text other = if is_empty text then other else text
+
+-- an example of a column: the first of the first stream, where there is one
+abbrev pub example_text : List Shape → List ℕ
+example_text streams = filled texts.EXAMPLE.now (or_text (shape_at streams 0).name texts.STREAM_EXAMPLE.now ∷ or_text (column_at (shape_at streams 0).columns 0) texts.COLUMN_EXAMPLE.now ∷ [])
+
+-- the example, where one stands behind a hint
+abbrev pub example_for : Hint → List Shape → List ℕ
+example_for hints.BareColumn streams = example_text streams
+example_for _ streams = []
+
+-- what is meant, with an example where one stands behind it
+abbrev pub hint_sentence : Hint → List Shape → List ℕ
+hint_sentence hint streams = hint_text hint ++ example_for hint streams
+
+-- what stands at a place
+abbrev pub standing_text : Standing → List ℕ
+standing_text standing.End = texts.STANDS_END.now
+standing_text standing.Word = texts.STANDS_WORD.now
+standing_text standing.Reserved = texts.STANDS_RESERVED.now
+standing_text standing.Integer = texts.STANDS_INTEGER.now
+standing_text standing.Sign = texts.STANDS_SIGN.now
+standing_text standing.Strange = texts.STANDS_STRANGE.now
+
+-- texts with a comma and a space between two
+abbrev pub listed : {X : Type 0} → (X → List ℕ) → List X → List ℕ
+listed f [] = []
+listed f (x ∷ xs) = f x ++ flat_map (λ y. codes ", " ++ f y) xs
+
+-- a name is told by its bytes
+abbrev pub name_text : List ℕ → List ℕ
+name_text name = name
+
+-- names that are there
+abbrev pub there_are : List (List ℕ) → List ℕ
+there_are [] = texts.THERE_IS_NONE.now
+there_are (x ∷ xs) = texts.THERE_ARE.now ++ listed name_text (x ∷ xs)
+
+-- a name that is the word but for the case of letters
+abbrev pub alike : List ℕ → List (List ℕ) → Option (List ℕ)
+alike word names = find (λ n. str_eq_ignore_ascii_case n word) names
+
+-- that name, where there is one
+abbrev pub alike_text : Option (List ℕ) → List ℕ
+alike_text None = []
+alike_text (Some name) = filled texts.ALIKE.now (name ∷ [])
+
+-- names that are there, and the one that a word may mean
+abbrev pub there_are_like : List ℕ → List (List ℕ) → List ℕ
+there_are_like word names = there_are names ++ alike_text (alike word names)
+
+-- the names of streams
+abbrev pub stream_names : List Shape → List (List ℕ)
+stream_names streams = map (λ s. s.name) streams
+
+-- what is said where no candidate may stand: a byte that begins nothing may stand behind the place where the statement goes wrong
+abbrev pub nothing_text : Standing → List ℕ
+nothing_text standing.Strange = texts.NOTHING_FITS.now
+nothing_text _ = texts.NOTHING_MAY.now
+
+-- what may stand at a place, or else that nothing may
+abbrev pub next_text : List ℕ → List Candidate → List ℕ
+next_text nothing [] = nothing
+next_text nothing (c ∷ next) = texts.MAY_STAND.now ++ listed told_as (c ∷ next)
+
+-- what is meant, or else what stands at the place and what may stand there
+abbrev pub meant_or : Option Hint → List ℕ → List Candidate → List Shape → List ℕ
+meant_or (Some hint) rest next streams = hint_sentence hint streams
+meant_or None rest next streams = standing_text (standing_of rest) ++ next_text (nothing_text (standing_of rest)) next
+
+-- where the grammar is left
+abbrev pub syntax_text : List ℕ → ℕ → List Candidate → List Shape → List ℕ
+syntax_text text at next streams = meant_or (hint_of (take at text) (drop at text) next streams) (drop at text) next streams
+
+-- the letter before an exponent
+abbrev pub is_exponent_letter : ℕ → Bool
+is_exponent_letter b = b == 101 || b == 69
+
+-- why a field is no integer
+abbrev pub field_text : List ℕ → List ℕ
+field_text [] = texts.FIELD_EMPTY.now
+field_text (b ∷ bs) =
+    if is_quote b then texts.FIELD_QUOTED.now else
+    (if is_letter b then texts.FIELD_WORD.now else
+    (if list_any (λ c. c == 46) (b ∷ bs) then texts.FIELD_DECIMAL.now else
+    (if list_any is_exponent_letter (b ∷ bs) then texts.FIELD_EXPONENT.now else texts.FIELD_OTHER.now)))
+
+-- the field of a row line at a place, without the blanks at its ends
+abbrev pub field_at : List ℕ → ℕ → List ℕ
+field_at line place = trimmed (slice_index_or (fields_of line) place [])
+
+-- a field that is no integer
+abbrev pub value_text : List ℕ → ℕ → List ℕ
+value_text line field = filled texts.FIELD.now (decimal (field + 1) ∷ field_text (field_at line field) ∷ [])
+
+-- a row of a stream with the wrong number of fields
+abbrev pub arity_text : ℕ → ℕ → ℕ → List Shape → List ℕ
+arity_text stream wanted found streams = filled texts.ROW_COUNTS.now ((shape_at streams stream).name ∷ decimal wanted ∷ decimal found ∷ []) ++ listed name_text (column_names (shape_at streams stream).columns)
+
+-- the ends of a domain, where there is one
+abbrev pub ends_text : Option (ℤ × ℤ) → List ℕ
+ends_text None = []
+ends_text (Some ends) = filled texts.DOMAIN.now (signed_decimal ends.0 ∷ signed_decimal ends.1 ∷ [])
+
+-- a value outside the domain of its column
+abbrev pub domain_text : ℕ → ℕ → List Shape → List ℕ
+domain_text stream field streams =
+    filled texts.FIELD_OUTSIDE.now (decimal (field + 1) ∷ (shape_at streams stream).name ∷ column_at (shape_at streams stream).columns field ∷ []) ++ ends_text (domain_at streams stream field)
+
+-- a column that is none of its stream
+abbrev pub column_fault : List Shape → ColumnAst → List ℕ
+column_fault streams c = filled texts.NO_COLUMN.now (c.stream ∷ c.column ∷ []) ++ there_are_like c.column (column_names (shape_at streams (unwrap_or (stream_number streams c.stream) 255)).columns)
+
+-- the sentence of a fault of the name of a stream
+unfoldable pub stream_sentence : Fault → List Shape → List ℕ
+stream_sentence (faults.DuplicateStream name) streams = filled texts.STREAM_THERE.now (name ∷ [])
+stream_sentence (faults.SelfJoin name) streams = filled texts.TWICE_IN_FROM.now (name ∷ [])
+stream_sentence (faults.NoStream name) streams = filled texts.NO_STREAM.now (name ∷ []) ++ there_are_like name (stream_names streams)
+stream_sentence (faults.LockTwice name) streams = filled texts.LOCK_TWICE.now (name ∷ [])
+stream_sentence (faults.LockNoStream name) streams = filled texts.LOCK_NO_STREAM.now (name ∷ []) ++ there_are_like name (stream_names streams)
+stream_sentence _ streams = []
+
+-- the sentence of a fault of names
+unfoldable pub name_sentence : Fault → List Shape → List (List ℕ) → List ℕ
+name_sentence (faults.DuplicateColumn name) streams live = filled texts.COLUMN_TWICE.now (name ∷ [])
+name_sentence (faults.DuplicateQuery name) streams live = filled texts.QUERY_LIVE.now (name ∷ [])
+name_sentence (faults.NotInFrom column) streams live = filled texts.NOT_IN_FROM.now (column.stream ∷ column.column ∷ [])
+name_sentence (faults.NoColumn column) streams live = column_fault streams column
+name_sentence (faults.NoQuery name) streams live = filled texts.NO_QUERY.now (name ∷ []) ++ there_are_like name live
+name_sentence fault streams live = stream_sentence fault streams
+
+-- the sentence of a fault of a row
+unfoldable pub row_sentence : List ℕ → Fault → List Shape → List ℕ
+row_sentence text faults.RowKey streams = texts.ROW_KEY.now
+row_sentence text (faults.RowName bytes) streams = filled texts.ROW_NAME.now (decimal bytes ∷ [])
+row_sentence text faults.RowStream streams = filled texts.ROW_STREAM.now [] ++ there_are_like (word_of text) (stream_names streams)
+row_sentence text (faults.Arity stream wanted found) streams = arity_text stream wanted found streams
+row_sentence text (faults.Value field) streams = value_text text field
+row_sentence text (faults.Domain stream field) streams = domain_text stream field streams
+row_sentence text _ streams = []
+
+-- the sentence of a fault, over what is left of its line, the streams, and the names of the live queries
+unfoldable pub sentence_text : List ℕ → Fault → List Shape → List (List ℕ) → List ℕ
+sentence_text text faults.LineTooLong streams live = texts.LONG_LINE.now
+sentence_text text (faults.Syntax at next) streams live = syntax_text text at next.items streams
+sentence_text text (faults.Limit what found) streams live = limit_text what found
+sentence_text text (faults.Locked line) streams live = filled texts.LOCKED.now (decimal line ∷ [])
+sentence_text text faults.NoLock streams live = texts.NO_LOCK.now
+sentence_text text faults.TooManyStreams streams live = texts.MANY_STREAMS.now
+sentence_text text faults.TooManyQueries streams live = texts.MANY_QUERIES.now
+sentence_text text faults.RowKey streams live = row_sentence text faults.RowKey streams
+sentence_text text (faults.RowName bytes) streams live = row_sentence text (faults.RowName bytes) streams
+sentence_text text faults.RowStream streams live = row_sentence text faults.RowStream streams
+sentence_text text (faults.Arity stream wanted found) streams live = row_sentence text (faults.Arity stream wanted found) streams
+sentence_text text (faults.Value field) streams live = row_sentence text (faults.Value field) streams
+sentence_text text (faults.Domain stream field) streams live = row_sentence text (faults.Domain stream field) streams
+sentence_text text fault streams live = name_sentence fault streams live

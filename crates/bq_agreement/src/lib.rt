@@ -1,7 +1,0 @@
-//! Laws that what is found for a line is what a session answers, and that what `advise` tells is so in a session.
-//!
-//! The laws are public functions without a body, and their clauses are the laws, over the definitions of `bq_diagnosis`, `bq_advice`, `bq_mend` and of
-//! `bq_session`.
-#![tactic(auto)]
-
-pub mod laws;

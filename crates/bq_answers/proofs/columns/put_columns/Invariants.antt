@@ -1,6 +1,0 @@
-use Rattle.std.proofs.Common.{◌≡◌, map, take}
-use Rattle.bq_model.specs.Meaning.{by_column}
-use Rattle.bq_answers.proofs.columns.put_columns.Given as goal
-
-abbrev pub invariant-loop-column : goal.invariant-loop-column
-invariant-loop-column l = l.tuple.items ≡ map (by_column l.row) (take l.column-index l.columns)

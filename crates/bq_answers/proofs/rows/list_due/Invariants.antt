@@ -1,9 +1,0 @@
-use Rattle.std.proofs.Common.{◌≡◌, filter, take}
-use Rattle.bq_answers.specs.Rows.{counts_for}
-use Rattle.bq_answers.proofs.rows.list_due.Given as goal
-
-abbrev pub invariant-loop-i : goal.invariant-loop-i
-invariant-loop-i l = record {
-  due : l.due.items ≡ filter (counts_for l.counts) (take l.i l.order.items);
-  room : l.due.room ≡ l.fn.due.room;
-}

@@ -1,4 +1,0 @@
-use Rattle.bq_c.proofs.feed.Goals as goal
-
-pub returns-clause-fed : goal.returns-clause-fed
-returns-clause-fed c = record { outcome = c.feed-fed.result.outcome; told = c.number_of.ensures; fed = c.feed-fed.ensures }

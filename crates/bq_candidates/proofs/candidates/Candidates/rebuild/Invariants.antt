@@ -1,8 +1,0 @@
-use Rattle.bq_candidates.specs.Buckets.{AreNamed, AreColumns}
-use Rattle.bq_candidates.proofs.candidates.Candidates.rebuild.Given as goal
-
-abbrev pub invariant-loop-column : goal.invariant-loop-column
-invariant-loop-column l = record {
-  named : AreNamed l.boxes l.self.named;
-  columns : AreColumns l.boxes l.self.columns.items;
-}

@@ -1,8 +1,0 @@
-use Rattle.std.proofs.Common.{take}
-use Rattle.bq_model.specs.declared.condition.Condition.TheVariants.{C1}
-use Rattle.bq_model.specs.Violation.{Breaks}
-use Rattle.bq_model.specs.FirstBreak.{IsFirstAmong}
-use Rattle.bq_certcheck.proofs.breaking.first_selected.Given as goal
-
-abbrev pub invariant-loop-i : goal.invariant-loop-i
-invariant-loop-i l = IsFirstAmong (Breaks l.leaf.query.now l.leaf.signs.now C1) (take l.i l.leaf.query.now.select) l.found

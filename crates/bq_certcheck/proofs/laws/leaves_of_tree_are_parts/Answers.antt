@@ -1,5 +1,0 @@
-use Rattle.bq_certcheck.proofs.Preorders as preorders
-use Rattle.bq_certcheck.proofs.laws.leaves_of_tree_are_parts.Goals as goal
-
-pub returns : goal.returns
-returns c = preorders.leaves_of_tree_are_parts

@@ -1,5 +1,0 @@
-use Rattle.bq_certcheck.proofs.LeavesInOrder as order
-use Rattle.bq_certcheck.proofs.laws.split_leaves_are_parts.Goals as goal
-
-pub returns : goal.returns
-returns c = order.split_leaves

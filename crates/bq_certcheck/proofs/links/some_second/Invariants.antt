@@ -1,8 +1,0 @@
-use Rattle.std.proofs.Common.{All, take}
-use Rattle.bq_model.specs.declared.atom.Attr.{Attr}
-use Rattle.bq_model.specs.Query.{attrs_of}
-use Rattle.bq_certcheck.specs.OnLeaf.{IsSecond}
-use Rattle.bq_certcheck.proofs.links.some_second.Given as goal
-
-abbrev pub invariant-loop-i : goal.invariant-loop-i
-invariant-loop-i l = All (λ (a : Attr). ¬ IsSecond l.leaf.query.now l.leaf.signs.now l.side l.attr a) (take l.i (attrs_of l.leaf.query.now.atoms))

@@ -1,5 +1,0 @@
-use Rattle.std.proofs.Common.{length}
-use Rattle.bq_certcheck.proofs.refuting.+is_false_under.Given as goal
-
-abbrev pub decreases-is_false_under : goal.decreases-is_false_under
-decreases-is_false_under l = length l.pairs.now

@@ -1,5 +1,0 @@
-use Rattle.bq_certificate.proofs.Added.{text_added}
-use Rattle.bq_certificate.proofs.certificate.Certificate.add_line.Goals as goal
-
-pub returns-in-Some : goal.returns-in-Some
-returns-in-Some c = text_added c.add.result c.args.text.now c.in-Some.line c.args.self.now c.add.new.self c.in-Some.ensures c.add.ensures

@@ -1,5 +1,0 @@
-use Rattle.bq_certify.proofs.Agreeing.{certificates_agree}
-use Rattle.bq_certify.proofs.laws.certificates_agree.Goals as goal
-
-pub returns : goal.returns
-returns c = certificates_agree

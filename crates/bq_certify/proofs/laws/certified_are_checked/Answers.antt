@@ -1,5 +1,0 @@
-use Rattle.bq_certify.proofs.Rooted.{certified_are_checked}
-use Rattle.bq_certify.proofs.laws.certified_are_checked.Goals as goal
-
-pub returns : goal.returns
-returns c = certified_are_checked

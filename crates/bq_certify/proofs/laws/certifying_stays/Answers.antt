@@ -1,5 +1,0 @@
-use Rattle.bq_certify.proofs.MoreLines.{certifying-stays}
-use Rattle.bq_certify.proofs.laws.certifying_stays.Goals as goal
-
-pub returns : goal.returns
-returns c = certifying-stays

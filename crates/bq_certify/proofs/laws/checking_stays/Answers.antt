@@ -1,5 +1,0 @@
-use Rattle.bq_certify.proofs.MoreLines.{checking-stays}
-use Rattle.bq_certify.proofs.laws.checking_stays.Goals as goal
-
-pub returns : goal.returns
-returns c = checking-stays

@@ -1,5 +1,0 @@
-use Rattle.bq_certify.proofs.OneChecked.{one-checked}
-use Rattle.bq_certify.proofs.laws.one_answer.Goals as goal
-
-pub returns : goal.returns
-returns c = one-checked

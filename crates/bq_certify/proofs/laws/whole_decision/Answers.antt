@@ -1,5 +1,0 @@
-use Rattle.bq_certify.proofs.WholeDecided.{whole_decision}
-use Rattle.bq_certify.proofs.laws.whole_decision.Goals as goal
-
-pub returns : goal.returns
-returns c = whole_decision

@@ -1,6 +1,0 @@
-use Rattle.std.proofs.Common.{◌≡◌, ◌≤◌, take}
-use Rattle.bq_choices.specs.Counting.{choice_count}
-use Rattle.bq_choices.proofs.counting.has_many_choices.Given as goal
-
-abbrev pub invariant-loop-i : goal.invariant-loop-i
-invariant-loop-i l = (l.count ≡ choice_count (take l.i l.widths)) × (l.count ≤ 1048576)

@@ -1,7 +1,0 @@
-use Rattle.std.proofs.Common.{ℕ, List, ◌++◌, take}
-use Rattle.bq_constraints.specs.declared.constraint.Constraint.{Constraint}
-use Rattle.bq_closure.specs.Closure.{IsClosureOf}
-use Rattle.bq_closure.proofs.closure.Closure.add_all.Given as goal
-
-abbrev pub invariant-loop-c : goal.invariant-loop-c
-invariant-loop-c l = (n : ℕ) (ks : List Constraint) → IsClosureOf l.fn.self n ks → IsClosureOf l.self n (ks ++ take l.c-index l.cs)

@@ -1,6 +1,0 @@
-use Rattle.std.proofs.Common.{refl}
-use Rattle.bq_closure.proofs.Facts.{start_closure}
-use Rattle.bq_closure.proofs.closure.Closure.new.Goals as goal
-
-pub returns : goal.returns
-returns c = start_closure _ c.args.attrs c.requires refl refl refl c.unlinked.ensures

@@ -1,8 +1,0 @@
-use Rattle.std.proofs.Common.{ℕ, List, All, take}
-use Rattle.bq_constraints.specs.declared.constraint.Constraint.{Constraint}
-use Rattle.bq_constraints.specs.Solutions.{Allows}
-use Rattle.bq_closure.specs.Shortest.{AreDistancesOf}
-use Rattle.bq_closure.proofs.distances.Distances.allows_each.Given as goal
-
-abbrev pub invariant-loop-c : goal.invariant-loop-c
-invariant-loop-c l = (n : ℕ) (ks : List Constraint) → AreDistancesOf l.self n ks → All (Allows ks) (take l.c-index l.cs)

@@ -1,6 +1,0 @@
-use Rattle.std.proofs.Common.{refl}
-use Rattle.bq_closure.proofs.Least.{start_distances}
-use Rattle.bq_closure.proofs.distances.Distances.new.Goals as goal
-
-pub returns : goal.returns
-returns c = start_distances _ c.args.attrs c.requires refl refl c.apart.ensures

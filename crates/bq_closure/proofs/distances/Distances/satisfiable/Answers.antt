@@ -1,5 +1,0 @@
-use Rattle.bq_closure.proofs.Least.{satisfiable}
-use Rattle.bq_closure.proofs.distances.Distances.satisfiable.Goals as goal
-
-pub returns : goal.returns
-returns c = λ n cs h. satisfiable c.args.self.now n cs h

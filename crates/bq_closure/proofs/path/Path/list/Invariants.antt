@@ -1,5 +1,0 @@
-use Rattle.std.proofs.Common.{◌≡◌, take, length, ◌≤◌}
-use Rattle.bq_closure.proofs.path.Path.list.Given as goal
-
-abbrev pub invariant-loop-step : goal.invariant-loop-step
-invariant-loop-step l = (length l.step-items ≤ 12) × (l.list.items ≡ take l.step-index l.step-items)

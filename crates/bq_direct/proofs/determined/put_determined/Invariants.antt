@@ -1,9 +1,0 @@
-use Rattle.std.proofs.Common.{◌≡◌, length, take}
-use Rattle.bq_direct.specs.Known.{AreKnown}
-use Rattle.bq_direct.proofs.determined.put_determined.Given as goal
-
-abbrev pub invariant-columns : goal.invariant-columns
-invariant-columns l = record {
-  many : length l.tuple.items ≡ l.a-index;
-  known : AreKnown l.part l.pos l.row (take l.a-index l.columns) l.tuple.items;
-}

@@ -1,6 +1,0 @@
-use Rattle.std.proofs.Common.{◌≡◌, map, take}
-use Rattle.bq_model.specs.Meaning.{by_column}
-use Rattle.bq_direct.proofs.direct.put_selected.Given as goal
-
-abbrev pub invariant-columns : goal.invariant-columns
-invariant-columns l = l.tuple.items ≡ map (by_column l.row) (take l.column-index l.columns)

@@ -1,5 +1,0 @@
-use Rattle.bq_embed.proofs.Pieces.{replies_are_to_the_text}
-use Rattle.bq_embed.proofs.laws.replies_are_to_the_text.Goals as goal
-
-pub returns : goal.returns
-returns c = replies_are_to_the_text

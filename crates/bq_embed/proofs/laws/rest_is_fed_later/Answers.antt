@@ -1,5 +1,0 @@
-use Rattle.bq_embed.proofs.Pieces.{rest_is_fed_later}
-use Rattle.bq_embed.proofs.laws.rest_is_fed_later.Goals as goal
-
-pub returns : goal.returns
-returns c = rest_is_fed_later

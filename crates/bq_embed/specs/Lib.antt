@@ -1,5 +1,0 @@
--- What the contracts of `bq_embed` cite.
-pub mod Seen
-pub mod Fed
-pub mod Embedded
-pub mod Laws

@@ -1,8 +1,0 @@
-use Rattle.bq_executor.specs.Executor.{ExecutorValue}
-use Rattle.bq_executor.proofs.Loadings.{cell-stands}
-use Rattle.bq_executor.proofs.executor.Executor.cell.Goals as goal
-
-pub read-requires-clause-within : goal.read-requires-clause-within
-read-requires-clause-within g c =
-    let e : ExecutorValue = record { query = c.self.inside.query; shared = c.self.inside.shared; plan = c.self.inside.plan; extent = c.self.inside.extent; given = c.self.inside.given; table = c.self.inside.table; saturation = c.self.inside.saturation } in
-    cell-stands e c.args.self.now c.self.view_is c.self.invariant.0 c.args.i c.requires.there

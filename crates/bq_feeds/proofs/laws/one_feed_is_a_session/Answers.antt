@@ -1,5 +1,0 @@
-use Rattle.bq_feeds.proofs.OneText.{one-feed-is-a-session}
-use Rattle.bq_feeds.proofs.laws.one_feed_is_a_session.Goals as goal
-
-pub returns : goal.returns
-returns c = one-feed-is-a-session

@@ -1,9 +1,0 @@
-use Rattle.std.proofs.Common.{◌≡◌, ℤ, List, [], ◌∷◌, map, take, length}
-use Rattle.bq_model.specs.Meaning.{by_column, assignment_of}
-use Rattle.bq_filter.proofs.plain_filter.selected_columns.Given as goal
-
-abbrev pub invariant-selected : goal.invariant-selected
-invariant-selected l = record {
-  count : length l.columns.items ≡ l.attr-index;
-  value : (values : List ℤ) → map (assignment_of (values ∷ [])) (take l.attr-index l.select) ≡ map (by_column values) l.columns.items;
-}

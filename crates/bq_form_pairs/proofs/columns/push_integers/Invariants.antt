@@ -1,7 +1,0 @@
-use Rattle.std.proofs.Common.{◌≡◌, ◌+◌, ◌≤◌, ◌++◌, take, map, length}
-use Rattle.bq_model.specs.declared.atom.Element.TheVariants as element
-use Rattle.bq_model.specs.Parts.{pair}
-use Rattle.bq_form_pairs.proofs.columns.push_integers.Given as goal
-
-abbrev pub invariant-loop-integer : goal.invariant-loop-integer
-invariant-loop-integer l = (length l.fn.list.items + length l.integers ≤ 68) × (l.list.items ≡ l.fn.list.items ++ map (λ k. pair l.attr (element.Const k)) (take l.integer-index l.integers))

@@ -1,5 +1,0 @@
-use Rattle.bq_form_pairs.proofs.Naming.{unlikes_are_pairs}
-use Rattle.bq_form_pairs.proofs.laws.unlikes_are_pairs.Goals as goal
-
-pub returns : goal.returns
-returns c = unlikes_are_pairs

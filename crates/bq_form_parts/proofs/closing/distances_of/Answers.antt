@@ -1,8 +1,0 @@
-use Rattle.bq_closure.proofs.Each.{known_of}
-use Rattle.bq_form_parts.proofs.closing.distances_of.Goals as goal
-
-pub add_all-requires-clause-known : goal.add_all-requires-clause-known
-add_all-requires-clause-known c = known_of _ _ _ c.new-distances.ensures
-
-pub returns-clause-distances : goal.returns-clause-distances
-returns-clause-distances c = rw (c.attrs.ensures.value, c.as_slice.ensures.value, c.system_constraints.ensures.value) at (c.add_all.ensures _ _ c.new-distances.ensures)

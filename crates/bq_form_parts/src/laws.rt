@@ -1,7 +1,0 @@
-//! A law, as a public function without a body.
-ghost use Rattle.bq_form_parts.specs.Signed.{SplitPairsAreSigned};
-
-/// The split pairs of a query can have any signs, as many as there are pairs.
-pub fn split_pairs_are_signed()
-    ensures { SplitPairsAreSigned }
-{}

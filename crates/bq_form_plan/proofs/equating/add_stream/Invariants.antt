@@ -1,5 +1,0 @@
-use Rattle.bq_form_plan.specs.Equated.{AreStreams}
-use Rattle.bq_form_plan.proofs.equating.add_stream.Given as goal
-
-abbrev pub invariant-dims : goal.invariant-dims
-invariant-dims l = AreStreams l.closed l.streams l.place l.fn.list.items l.k l.list.items

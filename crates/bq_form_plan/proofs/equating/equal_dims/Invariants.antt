@@ -1,5 +1,0 @@
-use Rattle.bq_form_plan.specs.Equated.{AreBefore}
-use Rattle.bq_form_plan.proofs.equating.equal_dims.Given as goal
-
-abbrev pub invariant-streams : goal.invariant-streams
-invariant-streams l = AreBefore l.closed l.streams l.place l.list.items

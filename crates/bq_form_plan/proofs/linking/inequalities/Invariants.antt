@@ -1,8 +1,0 @@
-use Rattle.std.proofs.Common.{◌≡◌, ◌≤◌, length, map, filter, take}
-use Rattle.bq_model.specs.declared.atom.Op.{Op}
-use Rattle.bq_whole_plan.specs.Columns.{atom_of}
-use Rattle.bq_forms.specs.Part.{read_as, has_op}
-use Rattle.bq_form_plan.proofs.linking.inequalities.Given as goal
-
-abbrev pub invariant-links : goal.invariant-links
-invariant-links l = (map (read_as Op.Lt) l.list.items ≡ filter (has_op Op.Lt) (map atom_of (take l.i l.links))) × (length l.list.items ≤ l.i)

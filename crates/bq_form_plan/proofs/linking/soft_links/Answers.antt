@@ -1,5 +1,0 @@
-use Rattle.bq_form_plan.proofs.Softly.{soft_room}
-use Rattle.bq_form_plan.proofs.linking.soft_links.Goals as goal
-
-pub add_soft-requires : goal.add_soft-requires
-add_soft-requires c = soft_room c.args.links.now c.links.i _ c.links.list.items c.links-test.true c.links.invariant c.requires

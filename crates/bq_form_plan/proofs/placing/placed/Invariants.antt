@@ -1,7 +1,0 @@
-use Rattle.std.proofs.Common.{◌≡◌, take}
-use Rattle.std.specs.List.{sum_by}
-use Rattle.bq_form_plan.specs.Placed.{cells_over, ArePlaced}
-use Rattle.bq_form_plan.proofs.placing.placed.Given as goal
-
-abbrev pub invariant-streams : goal.invariant-streams
-invariant-streams l = ArePlaced l.is_alone 0 (take l.i l.streams) l.list.items × (l.next ≡ sum_by (λ s. cells_over l.is_alone s.dims.items) (take l.i l.streams))

@@ -1,5 +1,0 @@
-use Rattle.bq_forms.proofs.Forms.{form_plans_serve}
-use Rattle.bq_forms.proofs.laws.form_plans_serve.Goals as goal
-
-pub returns : goal.returns
-returns c = form_plans_serve

@@ -1,5 +1,0 @@
-use Rattle.bq_forms.proofs.Forms.{has_one_form_plan}
-use Rattle.bq_forms.proofs.laws.has_one_form_plan.Goals as goal
-
-pub returns : goal.returns
-returns c = has_one_form_plan

@@ -1,5 +1,0 @@
-use Rattle.bq_forms.proofs.SplitOne.{one_list_of_split_parts}
-use Rattle.bq_forms.proofs.laws.has_one_list_of_split_parts.Goals as goal
-
-pub returns : goal.returns
-returns c = one_list_of_split_parts

@@ -1,5 +1,0 @@
-use Rattle.bq_forms.proofs.SplitOne.{one_split_plan}
-use Rattle.bq_forms.proofs.laws.has_one_split_plan.Goals as goal
-
-pub returns : goal.returns
-returns c = one_split_plan

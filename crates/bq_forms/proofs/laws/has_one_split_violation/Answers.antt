@@ -1,5 +1,0 @@
-use Rattle.bq_forms.proofs.PartBreaks.{one_split_violation}
-use Rattle.bq_forms.proofs.laws.has_one_split_violation.Goals as goal
-
-pub returns : goal.returns
-returns c = one_split_violation

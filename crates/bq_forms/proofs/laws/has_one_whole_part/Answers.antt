@@ -1,5 +1,0 @@
-use Rattle.bq_forms.proofs.One.{one_whole_part}
-use Rattle.bq_forms.proofs.laws.has_one_whole_part.Goals as goal
-
-pub returns : goal.returns
-returns c = one_whole_part

@@ -1,5 +1,0 @@
-use Rattle.bq_forms.proofs.SplitServes.{parts_take}
-use Rattle.bq_forms.proofs.laws.parts_take.Goals as goal
-
-pub returns : goal.returns
-returns c = parts_take

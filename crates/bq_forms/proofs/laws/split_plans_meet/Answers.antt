@@ -1,5 +1,0 @@
-use Rattle.bq_forms.proofs.PartBreaks.{split_plans_meet}
-use Rattle.bq_forms.proofs.laws.split_plans_meet.Goals as goal
-
-pub returns : goal.returns
-returns c = split_plans_meet

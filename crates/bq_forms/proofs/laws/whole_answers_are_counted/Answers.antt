@@ -1,5 +1,0 @@
-use Rattle.bq_forms.proofs.WholeServes.{whole_answers_are_counted}
-use Rattle.bq_forms.proofs.laws.whole_answers_are_counted.Goals as goal
-
-pub returns : goal.returns
-returns c = whole_answers_are_counted

@@ -1,5 +1,0 @@
-use Rattle.bq_forms.proofs.One.{whole_parts_are_finite}
-use Rattle.bq_forms.proofs.laws.whole_parts_are_finite.Goals as goal
-
-pub returns : goal.returns
-returns c = whole_parts_are_finite

@@ -1,5 +1,0 @@
-use Rattle.bq_forms.proofs.PartBreaks.{whole_parts_break_nothing}
-use Rattle.bq_forms.proofs.laws.whole_parts_break_nothing.Goals as goal
-
-pub returns : goal.returns
-returns c = whole_parts_break_nothing

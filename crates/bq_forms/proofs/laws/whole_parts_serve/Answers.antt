@@ -1,5 +1,0 @@
-use Rattle.bq_forms.proofs.WholeServes.{whole_parts_serve}
-use Rattle.bq_forms.proofs.laws.whole_parts_serve.Goals as goal
-
-pub returns : goal.returns
-returns c = whole_parts_serve

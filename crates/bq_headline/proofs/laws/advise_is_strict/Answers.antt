@@ -1,5 +1,0 @@
-use Rattle.bq_headline.proofs.AdviseEnds.{advise-is-strict}
-use Rattle.bq_headline.proofs.laws.advise_is_strict.Goals as goal
-
-pub returns : goal.returns
-returns c = advise-is-strict

@@ -1,5 +1,0 @@
-use Rattle.bq_headline.proofs.Headlines.{headline}
-use Rattle.bq_headline.proofs.laws.headline.Goals as goal
-
-pub returns : goal.returns
-returns c = headline

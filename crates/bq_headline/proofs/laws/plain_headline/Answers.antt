@@ -1,5 +1,0 @@
-use Rattle.bq_headline.proofs.Headlines.{plain-headline}
-use Rattle.bq_headline.proofs.laws.plain_headline.Goals as goal
-
-pub returns : goal.returns
-returns c = plain-headline

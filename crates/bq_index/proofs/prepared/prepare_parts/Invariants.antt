@@ -1,7 +1,0 @@
-use Rattle.std.proofs.Common.{take}
-use Rattle.bq_model.specs.Parts.{pairs}
-use Rattle.bq_index.specs.Prepared.{ArePrepared}
-use Rattle.bq_index.proofs.prepared.prepare_parts.Given as goal
-
-abbrev pub invariant-parts : goal.invariant-parts
-invariant-parts l = ArePrepared (pairs l.q) (take l.i l.parts) l.prepared.items

@@ -1,6 +1,0 @@
-use Rattle.std.proofs.Common.{take}
-use Rattle.bq_index.specs.Showing.{pairs_tested, AreSignsOf}
-use Rattle.bq_index.proofs.tests.all_signs.Given as goal
-
-abbrev pub invariant-parts : goal.invariant-parts
-invariant-parts l = AreSignsOf l.q l.place (pairs_tested l.tests) (take l.k l.parts) l.all.items

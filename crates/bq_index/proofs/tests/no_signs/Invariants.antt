@@ -1,6 +1,0 @@
-use Rattle.std.proofs.Common.{[], take}
-use Rattle.bq_index.specs.Showing.{AreSignsOf}
-use Rattle.bq_index.proofs.tests.no_signs.Given as goal
-
-abbrev pub invariant-parts : goal.invariant-parts
-invariant-parts l = AreSignsOf l.q l.place [] (take l.k l.parts) l.all.items

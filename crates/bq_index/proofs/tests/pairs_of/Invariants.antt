@@ -1,6 +1,0 @@
-use Rattle.std.proofs.Common.{◌≡◌, take}
-use Rattle.bq_index.specs.Showing.{pairs_tested}
-use Rattle.bq_index.proofs.tests.pairs_of.Given as goal
-
-abbrev pub invariant-tests : goal.invariant-tests
-invariant-tests l = l.pairs.items ≡ pairs_tested (take l.test-index l.tests)

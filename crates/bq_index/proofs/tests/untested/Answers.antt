@@ -1,6 +1,0 @@
-use Rattle.std.proofs.Common.{[]}
-use Rattle.bq_index.proofs.TestsLaws.{all_shown}
-use Rattle.bq_index.proofs.tests.untested.Goals as goal
-
-pub returns-clause-shown : goal.returns-clause-shown
-returns-clause-shown c = all_shown c.args.q.now c.args.place [] c.args.parts.now _ c.new.ensures.items c.in_ok-signs.ensures

@@ -1,5 +1,0 @@
-use Rattle.bq_io.proofs.Writing.{Underway-more}
-use Rattle.bq_io.proofs.write.write_all.Goals as goal
-
-pub writing-preserved : goal.writing-preserved
-writing-preserved g c = Underway-more _ _ _ _ _ _ c.writing.invariant c.in-Took.ensures.2

@@ -1,5 +1,0 @@
-use Rattle.bq_laws.proofs.Saturated.{cells-stay-or-turn}
-use Rattle.bq_laws.proofs.laws.cells_stay_or_turn.Goals as goal
-
-pub returns : goal.returns
-returns c = cells-stay-or-turn

@@ -1,5 +1,0 @@
-use Rattle.bq_laws.proofs.ClosedTables.{cells-stay-saturated}
-use Rattle.bq_laws.proofs.laws.cells_stay_saturated.Goals as goal
-
-pub returns : goal.returns
-returns c = cells-stay-saturated

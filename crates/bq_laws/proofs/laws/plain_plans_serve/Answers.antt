@@ -1,5 +1,0 @@
-use Rattle.bq_laws.proofs.PlainServes.{plain_plans_serve}
-use Rattle.bq_laws.proofs.laws.plain_plans_serve.Goals as goal
-
-pub returns : goal.returns
-returns c = plain_plans_serve

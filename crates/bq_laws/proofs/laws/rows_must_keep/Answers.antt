@@ -1,5 +1,0 @@
-use Rattle.bq_laws.proofs.DomainCases.{rows-must-keep}
-use Rattle.bq_laws.proofs.laws.rows_must_keep.Goals as goal
-
-pub returns : goal.returns
-returns c = rows-must-keep

@@ -1,6 +1,0 @@
-use Rattle.std.proofs.Common.{◌≡◌, All, take}
-use Rattle.bq_model.specs.declared.atom.Attr.{Attr}
-use Rattle.bq_layout.proofs.lookup.place_of.Given as goal
-
-abbrev pub invariant-loop-i : goal.invariant-loop-i
-invariant-loop-i l = All (λ (m : Attr). ¬ (m ≡ l.attr)) (take l.i l.columns)

@@ -1,6 +1,0 @@
-use Rattle.std.proofs.Common.{◌∙◌}
-use Rattle.bq_layout.proofs.Sharing.{greatest_next}
-use Rattle.bq_layout.proofs.shares.share.Goals as goal
-
-pub streams-preserved : goal.streams-preserved
-streams-preserved c = c.max-greatest.ensures ∙ greatest_next c.args.part.now c.streams.arriving c.streams.greatest c.share_of.result c.streams.invariant c.share_of.ensures

@@ -1,8 +1,0 @@
-use Rattle.std.proofs.Common.{◌≡◌, map}
-use Rattle.std.specs.List.{range_with_len}
-use Rattle.bq_model.specs.Numbers.{share_of, greatest_of}
-use Rattle.bq_layout.specs.Capped.{capped}
-use Rattle.bq_layout.proofs.shares.share.Given as goal
-
-abbrev pub invariant-streams : goal.invariant-streams
-invariant-streams l = l.greatest ≡ capped (greatest_of (map (share_of l.part) (range_with_len 0 l.arriving)))

@@ -1,5 +1,0 @@
-use Rattle.bq_lexer.proofs.Exactly as exactly
-use Rattle.bq_lexer.proofs.laws.tokens_are_longest.Goals as goal
-
-pub returns : goal.returns
-returns c = exactly.tokens_are_longest

@@ -1,5 +1,0 @@
-use Rattle.bq_locking.proofs.Told.{key_is_not_told as law}
-use Rattle.bq_locking.proofs.laws.key_is_not_told.Goals as goal
-
-pub returns : goal.returns
-returns c = law

@@ -1,5 +1,0 @@
-use Rattle.bq_locking.proofs.Classes.{lines_are_few_kinds as law}
-use Rattle.bq_locking.proofs.laws.lines_are_few_kinds.Goals as goal
-
-pub returns : goal.returns
-returns c = law

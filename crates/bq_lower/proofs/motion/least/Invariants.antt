@@ -1,6 +1,0 @@
-use Rattle.std.proofs.Common.{◌≤ℤ◌, All, take}
-use Rattle.bq_lower.specs.Moving.{IsNearby}
-use Rattle.bq_lower.proofs.motion.least.Given as goal
-
-abbrev pub invariant-loop-i : goal.invariant-loop-i
-invariant-loop-i l = IsNearby l.least × All (λ v. l.least ≤ℤ v) (take l.i l.values)

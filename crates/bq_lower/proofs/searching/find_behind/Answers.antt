@@ -1,9 +1,0 @@
-use Rattle.std.proofs.Common.{arith}
-use Rattle.bq_lower.specs.Passing.{ArePartedLinks}
-use Rattle.bq_lower.proofs.Found.{none-of}
-use Rattle.bq_lower.proofs.searching.find_behind.Goals as goal
-
-pub returns : goal.returns
-returns c = record {
-  none = none-of (ArePartedLinks c.args.q.now c.args.p.now.signs.items c.args.attr.stream c.args.first) c.args.links.now c.loop-j.j (let l = c.loop-j-test.false in omega (arith, l)) c.loop-j.invariant;
-}

@@ -1,4 +1,0 @@
-use Rattle.bq_lto_split.proofs.tree.is_implied.Goals as goal
-
-pub returns : goal.returns
-returns c = λ t n ks h. rw c.by.ensures at ((c.implies_each.ensures n ks h).0 t)

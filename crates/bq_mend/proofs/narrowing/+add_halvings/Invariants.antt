@@ -1,4 +1,0 @@
-use Rattle.bq_mend.proofs.narrowing.+add_halvings.Given as goal
-
-abbrev pub decreases-add_halvings : goal.decreases-add_halvings
-decreases-add_halvings l = l.more

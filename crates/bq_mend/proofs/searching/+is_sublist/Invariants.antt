@@ -1,5 +1,0 @@
-use Rattle.std.proofs.Common.{length}
-use Rattle.bq_mend.proofs.searching.+is_sublist.Given as goal
-
-abbrev pub decreases-is_sublist : goal.decreases-is_sublist
-decreases-is_sublist l = length l.others.now

@@ -1,5 +1,0 @@
-use Rattle.bq_mend.specs.Sets.{AreLeastAmong}
-use Rattle.bq_mend.proofs.searching.look_through.Given as goal
-
-abbrev pub invariant-loop-i : goal.invariant-loop-i
-invariant-loop-i l = AreLeastAmong l.kind l.query l.i l.found.items

@@ -1,9 +1,0 @@
-use Rattle.std.proofs.Common.{◌≡◌, ◌≤◌, take, map, length, cond}
-use Rattle.bq_model.specs.Query.{attr_eq}
-use Rattle.bq_model.proofs.groups.replaced.Given as goal
-
-abbrev pub invariant-columns : goal.invariant-columns
-invariant-columns l = record {
-  is : l.list.items ≡ map (λ g. cond (attr_eq g l.old) l.new g) (take l.column-index l.table);
-  few : length l.list.items ≤ l.column-index;
-}

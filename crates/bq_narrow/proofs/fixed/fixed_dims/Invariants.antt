@@ -1,8 +1,0 @@
-use Rattle.std.proofs.Common.{length}
-use Rattle.bq_narrow.specs.Values.{value_in}
-use Rattle.bq_synopsis.specs.Narrowing.{narrow}
-use Rattle.bq_narrow.proofs.FixedLaws.{SoFixed}
-use Rattle.bq_narrow.proofs.fixed.fixed_dims.Given as goal
-
-abbrev pub invariant-dims : goal.invariant-dims
-invariant-dims l = SoFixed (narrow l.at.arriving (length l.known) l.at.part.now.equal.items l.at.part.now.less.items (value_in l.at.pairs.now l.at.part.now l.at.arriving l.at.row.now l.known)) l.dim-items l.dims.items l.dim-index l.place

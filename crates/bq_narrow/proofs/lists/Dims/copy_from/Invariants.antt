@@ -1,5 +1,0 @@
-use Rattle.std.proofs.Common.{◌≡◌, take}
-use Rattle.bq_narrow.proofs.lists.Dims.copy_from.Given as goal
-
-abbrev pub invariant-dims : goal.invariant-dims
-invariant-dims l = l.self.items ≡ take l.dim-index l.dims

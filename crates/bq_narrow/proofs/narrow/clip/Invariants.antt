@@ -1,9 +1,0 @@
-use Rattle.std.proofs.Common.{◌≡◌, drop, length}
-use Rattle.bq_narrow.specs.Values.{value_in}
-use Rattle.bq_synopsis.specs.Narrowing.{clip}
-use Rattle.bq_narrow.proofs.narrow.clip.Given as goal
-
-abbrev pub invariant-links : goal.invariant-links
-invariant-links l =
-    clip l.at.arriving (length l.known) (drop l.link-index l.link-items) (value_in l.at.pairs.now l.at.part.now l.at.arriving l.at.row.now l.known) l.left
-    ≡ clip l.at.arriving (length l.known) l.at.part.now.less.items (value_in l.at.pairs.now l.at.part.now l.at.arriving l.at.row.now l.known) l.fn.dim

@@ -1,7 +1,0 @@
-use Rattle.std.proofs.Common.{◌≡◌, take, map, length}
-use Rattle.bq_narrow.specs.Values.{value_in}
-use Rattle.bq_synopsis.specs.Narrowing.{narrow}
-use Rattle.bq_narrow.proofs.narrow.narrowed_dims.Given as goal
-
-abbrev pub invariant-dims : goal.invariant-dims
-invariant-dims l = l.dims.items ≡ map (narrow l.at.arriving (length l.known) l.at.part.now.equal.items l.at.part.now.less.items (value_in l.at.pairs.now l.at.part.now l.at.arriving l.at.row.now l.known)) (take l.d-index l.d-items)

@@ -1,9 +1,0 @@
-use crate::lists::Values;
-use bq_model::Cell;
-
-/// What a walk has chosen at one place of FROM: a cell and the values of its dims; for the arriving row, no values.
-#[derive(Drop, Default)]
-pub struct Binding {
-    pub values: Values,
-    pub cell: Cell,
-}

@@ -1,5 +1,0 @@
-use Rattle.bq_parser.proofs.NamedAttrs.{attributes_are_named}
-use Rattle.bq_parser.proofs.laws.attributes_are_named.Goals as goal
-
-pub returns : goal.returns
-returns c = attributes_are_named

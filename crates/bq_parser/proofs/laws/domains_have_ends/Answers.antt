@@ -1,5 +1,0 @@
-use Rattle.bq_parser.proofs.Taken.{domains_have_ends}
-use Rattle.bq_parser.proofs.laws.domains_have_ends.Goals as goal
-
-pub returns : goal.returns
-returns c = domains_have_ends

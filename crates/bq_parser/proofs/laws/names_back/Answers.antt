@@ -1,5 +1,0 @@
-use Rattle.bq_parser.proofs.NamedAgain.{names_back}
-use Rattle.bq_parser.proofs.laws.names_back.Goals as goal
-
-pub returns : goal.returns
-returns c = names_back

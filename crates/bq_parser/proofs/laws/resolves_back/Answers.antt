@@ -1,5 +1,0 @@
-use Rattle.bq_parser.proofs.Resolved.{resolves_back}
-use Rattle.bq_parser.proofs.laws.resolves_back.Goals as goal
-
-pub returns : goal.returns
-returns c = resolves_back

@@ -1,5 +1,0 @@
-use Rattle.bq_parser.proofs.RowText.{rows_are_rows}
-use Rattle.bq_parser.proofs.laws.rows_are_rows.Goals as goal
-
-pub returns : goal.returns
-returns c = rows_are_rows

@@ -1,5 +1,0 @@
-use Rattle.bq_parser.proofs.DomainRows.{rows_keep_domains}
-use Rattle.bq_parser.proofs.laws.rows_keep_domains.Goals as goal
-
-pub returns : goal.returns
-returns c = rows_keep_domains

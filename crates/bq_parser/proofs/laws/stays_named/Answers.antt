@@ -1,5 +1,0 @@
-use Rattle.bq_parser.proofs.Placed.{stays_named}
-use Rattle.bq_parser.proofs.laws.stays_named.Goals as goal
-
-pub returns : goal.returns
-returns c = stays_named

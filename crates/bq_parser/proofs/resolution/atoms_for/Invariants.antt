@@ -1,6 +1,0 @@
-use Rattle.std.proofs.Common.{◌≡◌, map, take}
-use Rattle.bq_parser.specs.Resolution as names
-use Rattle.bq_parser.proofs.resolution.atoms_for.Given as goal
-
-abbrev pub invariant-loop-atom : goal.invariant-loop-atom
-invariant-loop-atom l = l.comparisons.items ≡ map (names.atom_for l.catalog l.from) (take l.atom-index l.atoms)

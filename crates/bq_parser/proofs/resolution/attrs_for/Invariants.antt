@@ -1,6 +1,0 @@
-use Rattle.std.proofs.Common.{◌≡◌, map, take}
-use Rattle.bq_parser.specs.Resolution as names
-use Rattle.bq_parser.proofs.resolution.attrs_for.Given as goal
-
-abbrev pub invariant-loop-column : goal.invariant-loop-column
-invariant-loop-column l = l.attrs.items ≡ map (names.attr_for l.catalog l.from) (take l.column-index l.columns)

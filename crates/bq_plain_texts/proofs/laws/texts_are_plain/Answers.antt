@@ -1,5 +1,0 @@
-use Rattle.bq_plain_texts.proofs.PlainTexts.{texts-are-plain}
-use Rattle.bq_plain_texts.proofs.laws.texts_are_plain.Goals as goal
-
-pub returns : goal.returns
-returns c = texts-are-plain

@@ -1,6 +1,0 @@
-use Rattle.std.proofs.Common.{◌≡◌, map, take}
-use Rattle.bq_parser.specs.Resolution as names
-use Rattle.bq_print.proofs.names.columns_named.Given as goal
-
-abbrev pub invariant-loop-attr : goal.invariant-loop-attr
-invariant-loop-attr l = l.columns.items ≡ map (names.column_named l.catalog l.from) (take l.attr-index l.attrs)

@@ -1,8 +1,0 @@
-use Rattle.std.proofs.Common.{take, codes}
-use Rattle.std.specs.Fmt.{signed_decimal}
-use Rattle.bq_io.specs.Sink.{Wrote}
-use Rattle.bq_print.specs.PrintedParts.{each_behind}
-use Rattle.bq_print.proofs.printing.put_each_value.Given as goal
-
-abbrev pub invariant-loop-value : goal.invariant-loop-value
-invariant-loop-value g l = Wrote (g.O.Sink.seen l.fn.out) (g.O.Sink.seen l.out) (each_behind (codes " ") signed_decimal (take l.value-index l.values))

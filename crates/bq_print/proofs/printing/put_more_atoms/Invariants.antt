@@ -1,7 +1,0 @@
-use Rattle.std.proofs.Common.{take, codes}
-use Rattle.bq_io.specs.Sink.{Wrote}
-use Rattle.bq_print.specs.PrintedParts.{each_behind, atom_text}
-use Rattle.bq_print.proofs.printing.put_more_atoms.Given as goal
-
-abbrev pub invariant-loop-atom : goal.invariant-loop-atom
-invariant-loop-atom g l = Wrote (g.O.Sink.seen l.fn.out) (g.O.Sink.seen l.out) (each_behind (codes " AND ") atom_text (take l.atom-index l.atoms))

@@ -1,7 +1,0 @@
-use Rattle.std.proofs.Common.{◌++◌, codes}
-use Rattle.bq_print.specs.PrintedParts.{coldef_text}
-use Rattle.bq_print.proofs.WritesBehind.{stops_at_item}
-use Rattle.bq_print.proofs.printing.put_more_coldefs.Goals as goal
-
-pub returns-in-Err : goal.returns-in-Err
-returns-in-Err g c = stops_at_item (λ x. codes ", " ++ coldef_text x) c.args.columns.now c.loop-column.column-index c.column-item.result _ _ _ c.column-item.is c.loop-column-test.true c.loop-column.invariant c.in-Err.ensures

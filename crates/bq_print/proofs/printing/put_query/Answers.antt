@@ -1,9 +1,0 @@
-use Rattle.std.proofs.Common.{refl}
-use Rattle.bq_print.proofs.WritesBehind.{writes_then, writes_stop}
-use Rattle.bq_print.proofs.printing.put_query.Goals as goal
-
-pub returns-in-Ok : goal.returns-in-Ok
-returns-in-Ok g c = writes_then c.put_select.result _ _ _ _ _ _ (refl) c.in-Ok.ensures c.put_select.ensures
-
-pub returns-in-Err : goal.returns-in-Err
-returns-in-Err g c = writes_stop _ _ _ _ _ (refl) c.in-Err.ensures

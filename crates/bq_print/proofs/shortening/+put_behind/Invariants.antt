@@ -1,5 +1,0 @@
-use Rattle.std.proofs.Common.{length}
-use Rattle.bq_print.proofs.shortening.+put_behind.Given as goal
-
-abbrev pub decreases-put_behind : goal.decreases-put_behind
-decreases-put_behind g l = length l.others.now

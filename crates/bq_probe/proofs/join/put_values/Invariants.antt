@@ -1,6 +1,0 @@
-use Rattle.std.proofs.Common.{◌≡◌, take}
-use Rattle.bq_probe.specs.Joining.{told_values}
-use Rattle.bq_probe.proofs.join.put_values.Given as goal
-
-abbrev pub invariant-selected : goal.invariant-selected
-invariant-selected l = l.tuple.items ≡ told_values l.listed l.arriving l.row (take l.a-index l.select)

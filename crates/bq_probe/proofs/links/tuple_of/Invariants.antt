@@ -1,6 +1,0 @@
-use Rattle.std.proofs.Common.{◌≡◌, take, map}
-use Rattle.bq_narrow.specs.Values.{value_in}
-use Rattle.bq_probe.proofs.links.tuple_of.Given as goal
-
-abbrev pub invariant-selected : goal.invariant-selected
-invariant-selected l = l.tuple.items ≡ map (value_in l.at.pairs.now l.at.part.now l.at.arriving l.at.row.now l.known) (take l.a-index l.select)

@@ -1,5 +1,0 @@
-use Rattle.bq_ranges.proofs.Ranged.{ranges-answer}
-use Rattle.bq_ranges.proofs.laws.ranges_answer.Goals as goal
-
-pub returns : goal.returns
-returns c = ranges-answer

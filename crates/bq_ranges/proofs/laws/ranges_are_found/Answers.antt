@@ -1,5 +1,0 @@
-use Rattle.bq_ranges.proofs.Found.{ranges-are-found}
-use Rattle.bq_ranges.proofs.laws.ranges_are_found.Goals as goal
-
-pub returns : goal.returns
-returns c = ranges-are-found

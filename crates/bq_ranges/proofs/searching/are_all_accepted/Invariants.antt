@@ -1,6 +1,0 @@
-use Rattle.bq_ranges.proofs.Searched.{AcceptedUpTo}
-use Rattle.bq_ranges.proofs.searching.are_all_accepted.Given as goal
-
--- it is accepted in the ranges so far
-abbrev pub invariant-loop-number : goal.invariant-loop-number
-invariant-loop-number l = AcceptedUpTo l.shared l.query l.columns l.ends l.ranges l.number

@@ -1,6 +1,0 @@
-use Rattle.bq_ranges.proofs.Searched.{NoneYet}
-use Rattle.bq_ranges.proofs.searching.least_ranges.Given as goal
-
--- none of the numbers so far is one
-abbrev pub invariant-loop-before : goal.invariant-loop-before
-invariant-loop-before l = NoneYet l.shared l.query l.columns l.ends l.before

@@ -1,6 +1,0 @@
-use Rattle.std.proofs.Common.{take}
-use Rattle.bq_refs.specs.Sifting.{Sifts, IsOrderedInequality}
-use Rattle.bq_refs.proofs.links.inequalities.Given as goal
-
-abbrev pub invariant-loop-i : goal.invariant-loop-i
-invariant-loop-i l = Sifts (IsOrderedInequality l.q l.p.signs.items) (take l.i l.links) l.list.items

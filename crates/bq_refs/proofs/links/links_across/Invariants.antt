@@ -1,6 +1,0 @@
-use Rattle.std.proofs.Common.{take}
-use Rattle.bq_refs.specs.Sifting.{Sifts, IsAcross}
-use Rattle.bq_refs.proofs.links.links_across.Given as goal
-
-abbrev pub invariant-loop-i : goal.invariant-loop-i
-invariant-loop-i l = Sifts IsAcross (take l.i l.links) l.list.items

@@ -1,5 +1,0 @@
-use Rattle.bq_registry.proofs.Passing.{spared_rows_pass}
-use Rattle.bq_registry.proofs.laws.spared_rows_pass.Goals as goal
-
-pub returns : goal.returns
-returns c = spared_rows_pass

@@ -1,9 +1,0 @@
-use Rattle.std.proofs.Common.{subst}
-use Rattle.bq_executor.specs.Executor.{ExecutorValue, arrival}
-use Rattle.bq_registry.specs.Live.{named}
-use Rattle.bq_registry.specs.RowByQuery.{TookOne}
-use Rattle.bq_registry.proofs.taking.take_next.Goals as goal
-
-pub returns-clause-taken : goal.returns-clause-taken
-returns-clause-taken g c = λ name.
-    subst (λ (e : ExecutorValue). TookOne (arrival c.args.stream c.args.row.now.items) c.args.pool.now c.apply_to_one.new.pool (named name e) (named name c.apply_to_one.new.executor)) c.catch_up.ensures.executor (c.apply_to_one.ensures.taken name)

@@ -1,5 +1,0 @@
-use Rattle.std.proofs.Common.{length}
-use Rattle.bq_schema.proofs.columns.+columns_differ.Given as goal
-
-abbrev pub decreases-columns_differ : goal.decreases-columns_differ
-decreases-columns_differ l = length l.columns.now

@@ -1,6 +1,0 @@
-use Rattle.std.proofs.Common.{◌∙◌}
-use Rattle.bq_schema.proofs.NamedShapes.{position-shapes}
-use Rattle.bq_schema.proofs.entries.place_of_name.Goals as goal
-
-pub returns-clause-place : goal.returns-clause-place
-returns-clause-place c = c.get_index_of.ensures.index ∙ position-shapes c.args.name.now c.args.streams.now.entries

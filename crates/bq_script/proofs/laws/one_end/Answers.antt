@@ -1,5 +1,0 @@
-use Rattle.bq_script.proofs.OneEnd as ends
-use Rattle.bq_script.proofs.laws.one_end.Goals as goal
-
-pub returns : goal.returns
-returns c = ends.one_end

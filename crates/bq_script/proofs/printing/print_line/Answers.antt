@@ -1,6 +1,0 @@
-use Rattle.std.proofs.Common.{refl}
-use Rattle.bq_print.proofs.WritesBehind.{writes_then}
-use Rattle.bq_script.proofs.printing.print_line.Goals as goal
-
-pub returns-in-Ok : goal.returns-in-Ok
-returns-in-Ok g c = writes_then c.write_all.result _ _ _ _ _ _ refl c.in-Ok.ensures c.write_all.ensures

@@ -1,8 +1,0 @@
-use Rattle.std.proofs.Common.{take}
-use Rattle.bq_io.specs.Sink.{Wrote}
-use Rattle.bq_script.specs.Texts.{streams_text}
-use Rattle.bq_script.proofs.printing.print_streams.Given as goal
-
--- the statements of the streams so far were written
-abbrev pub invariant-loop-number : goal.invariant-loop-number
-invariant-loop-number g l = Wrote (g.O.Sink.seen l.fn.out) (g.O.Sink.seen l.out) (streams_text (take l.number l.catalog))

@@ -1,5 +1,0 @@
-use Rattle.bq_session.proofs.Alike.{one_checkpoint}
-use Rattle.bq_session.proofs.laws.alike_states_have_one_checkpoint.Goals as goal
-
-pub returns : goal.returns
-returns c = one_checkpoint

@@ -1,5 +1,0 @@
-use Rattle.bq_showing.specs.Showing.{HasPossible}
-use Rattle.bq_showing.proofs.showing.left_by_conditions.Given as goal
-
-abbrev pub invariant-conditions : goal.invariant-conditions
-invariant-conditions l = HasPossible l.part l.place l.pair l.possible

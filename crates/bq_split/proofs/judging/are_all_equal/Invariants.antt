@@ -1,6 +1,0 @@
-use Rattle.bq_split.specs.Judged.{by_stream}
-use Rattle.bq_split.proofs.KeyPlaces.{EqualBefore}
-use Rattle.bq_split.proofs.judging.are_all_equal.Given as goal
-
-abbrev pub invariant-loop-place : goal.invariant-loop-place
-invariant-loop-place l = EqualBefore l.q (by_stream l.choice) l.a l.place

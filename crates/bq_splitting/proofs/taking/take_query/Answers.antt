@@ -1,6 +1,0 @@
-use Rattle.bq_splitting.proofs.Taken.{live_taken}
-use Rattle.bq_splitting.proofs.taking.take_query.Goals as goal
-
-pub returns-in-Ok : goal.returns-in-Ok
-returns-in-Ok c = live_taken c.add_query.result c.args.state.now _ c.args.name c.args.query c.args.shared c.in-Ok.keyed c.in-Ok.ensures.query c.in-Ok.ensures.shared c.in-Ok.ensures.known
-    c.add_query.ensures

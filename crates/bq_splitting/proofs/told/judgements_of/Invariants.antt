@@ -1,8 +1,0 @@
-use Rattle.std.proofs.Common.{take}
-use Rattle.std.specs.List.{AllZip}
-use Rattle.bq_split.specs.Judged.{IsJudged}
-use Rattle.bq_choices.specs.Choices.{keys_in}
-use Rattle.bq_splitting.proofs.told.judgements_of.Given as goal
-
-abbrev pub invariant-loop-i : goal.invariant-loop-i
-invariant-loop-i l = AllZip (λ k how. IsJudged k.query (keys_in l.choice) how) (take l.i l.queries) l.judgements.items

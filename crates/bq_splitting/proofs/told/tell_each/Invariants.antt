@@ -1,7 +1,0 @@
-use Rattle.std.proofs.Common.{take}
-use Rattle.std.specs.List.{AllZip}
-use Rattle.bq_splitting.specs.Finding.{IsTold}
-use Rattle.bq_splitting.proofs.told.tell_each.Given as goal
-
-abbrev pub invariant-loop-i : goal.invariant-loop-i
-invariant-loop-i l = AllZip (IsTold l.queries) (take l.i l.choices) l.told.items

@@ -1,9 +1,0 @@
-use Rattle.std.proofs.Common.{◌≡◌, length}
-use Rattle.bq_synopsis.specs.Axes.{AreBoxLayouts}
-use Rattle.bq_synopsis.proofs.axes.places_of.Given as goal
-
-abbrev pub invariant-places : goal.invariant-places
-invariant-places l = record {
-  many : length l.places.items ≡ l.place;
-  each : AreBoxLayouts l.part l.places.items;
-}

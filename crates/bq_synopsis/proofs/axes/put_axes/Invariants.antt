@@ -1,5 +1,0 @@
-use Rattle.bq_synopsis.proofs.AxisLaws.{Listed}
-use Rattle.bq_synopsis.proofs.axes.put_axes.Given as goal
-
-abbrev pub invariant-dims : goal.invariant-dims
-invariant-dims l = Listed l.dims l.axes.items l.dim-index l.cells

@@ -1,6 +1,0 @@
-use Rattle.std.proofs.Common.{◌≡◌, map, take}
-use Rattle.bq_synopsis.specs.Joining.{key_dim}
-use Rattle.bq_synopsis.proofs.join_lookup.key_dims.Given as goal
-
-abbrev pub invariant-keys : goal.invariant-keys
-invariant-keys l = l.dims.items ≡ map key_dim (take l.key-index l.keys)

@@ -1,6 +1,0 @@
-use Rattle.std.proofs.Common.{◌∙◌, sym}
-use Rattle.bq_synopsis.proofs.UnaskedLaws.{none-asked-else}
-use Rattle.bq_synopsis.proofs.join_lookup.meets_all.Goals as goal
-
-pub returns : goal.returns
-returns c = λ told v inside. none-asked-else c.args.part.now c.args.place c.args.asked.now c.requires (sym c.asks_none.ensures ∙ told) v inside

@@ -1,8 +1,0 @@
-use Rattle.std.proofs.Common.{refl, lit≤}
-use Rattle.bq_text.specs.Key.{key_of}
-use Rattle.bq_text.specs.Name.{is_name}
-use Rattle.bq_text.proofs.name.NameDefault.default.Goals as goal
-
-pub invariant_of-result : goal.invariant_of-result
-unfolding is_name key_of
-invariant_of-result c = record { name = refl; short = lit≤ tt; filled = refl; zeros = refl }

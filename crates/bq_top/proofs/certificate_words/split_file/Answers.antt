@@ -1,5 +1,0 @@
-use Rattle.bq_top.proofs.ScriptForms.{advise_split_words}
-use Rattle.bq_top.proofs.certificate_words.split_file.Goals as goal
-
-pub returns-in-Some : goal.returns-in-Some
-returns-in-Some c = advise_split_words _ _ c.file_behind_split.result c.in-Some.ensures c.file_behind_split.ensures

@@ -1,9 +1,0 @@
-use Rattle.std.proofs.Common.{length}
-use Rattle.bq_top.proofs.LoadSteps.{LoadProgress}
-use Rattle.bq_top.proofs.load.answer_lines.Given as goal
-
-abbrev pub invariant-answering : goal.invariant-answering
-invariant-answering g l = LoadProgress l.fn.script l.script l.session l.lines
-
-abbrev pub decreases-answering : goal.decreases-answering
-decreases-answering g l = length l.script

@@ -1,5 +1,0 @@
-use Rattle.bq_top.proofs.LowerForms.{within_family_sizes}
-use Rattle.bq_top.proofs.lower_words.lower_form.Goals as goal
-
-pub returns-clause-within : goal.returns-clause-within
-returns-clause-within c = within_family_sizes c.args.words.now c.form_of.result c.form_of.ensures

@@ -1,5 +1,0 @@
-use Rattle.bq_top.proofs.WordForms.{run_words}
-use Rattle.bq_top.proofs.words.form_of.Goals as goal
-
-pub returns-in-Some : goal.returns-in-Some
-returns-in-Some c = run_words _ _ c.options.result c.in-Some.ensures c.options.ensures

@@ -1,5 +1,0 @@
-use Rattle.bq_top.proofs.WordForms.{within_limits}
-use Rattle.bq_top.proofs.words.run_form.Goals as goal
-
-pub returns-clause-within : goal.returns-clause-within
-returns-clause-within c = within_limits c.args.words.now c.form_of.result c.form_of.ensures

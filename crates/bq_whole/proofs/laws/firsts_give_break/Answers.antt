@@ -1,5 +1,0 @@
-use Rattle.bq_whole.proofs.Failing.{firsts_give_break}
-use Rattle.bq_whole.proofs.laws.firsts_give_break.Goals as goal
-
-pub returns : goal.returns
-returns c = firsts_give_break

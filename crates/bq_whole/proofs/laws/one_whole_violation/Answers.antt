@@ -1,5 +1,0 @@
-use Rattle.bq_whole.proofs.Failing.{one_whole_violation}
-use Rattle.bq_whole.proofs.laws.one_whole_violation.Goals as goal
-
-pub returns : goal.returns
-returns c = one_whole_violation

@@ -1,5 +1,0 @@
-use Rattle.bq_whole.proofs.Planned.{plans_are_forms}
-use Rattle.bq_whole.proofs.laws.plans_are_forms.Goals as goal
-
-pub returns : goal.returns
-returns c = plans_are_forms

@@ -1,5 +1,0 @@
-use Rattle.bq_whole.proofs.Failing.{plans_tell_violations}
-use Rattle.bq_whole.proofs.laws.plans_tell_violations.Goals as goal
-
-pub returns : goal.returns
-returns c = plans_tell_violations

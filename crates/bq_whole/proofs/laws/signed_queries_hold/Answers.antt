@@ -1,5 +1,0 @@
-use Rattle.bq_whole.proofs.Signed.{signed_holds}
-use Rattle.bq_whole.proofs.laws.signed_queries_hold.Goals as goal
-
-pub returns : goal.returns
-returns c = signed_holds

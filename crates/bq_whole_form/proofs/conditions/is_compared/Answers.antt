@@ -1,5 +1,0 @@
-use Rattle.std.proofs.Common.{◌↔◌, ◌∙◌, IsTrue, Contains, subst}
-use Rattle.bq_whole_form.proofs.conditions.is_compared.Goals as goal
-
-pub returns : goal.returns
-returns c = subst (λ xs. IsTrue c.is_among.result ↔ Contains xs c.args.a) (c.attrs.ensures.value ∙ c.query.ensures.attrs) c.is_among.ensures

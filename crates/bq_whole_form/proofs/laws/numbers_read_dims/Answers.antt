@@ -1,5 +1,0 @@
-use Rattle.bq_whole_form.proofs.Counting.{numbers_read_dims}
-use Rattle.bq_whole_form.proofs.laws.numbers_read_dims.Goals as goal
-
-pub returns : goal.returns
-returns c = numbers_read_dims

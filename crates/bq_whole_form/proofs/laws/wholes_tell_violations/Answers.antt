@@ -1,5 +1,0 @@
-use Rattle.bq_whole_form.proofs.Assembling.{wholes_tell_violations}
-use Rattle.bq_whole_form.proofs.laws.wholes_tell_violations.Goals as goal
-
-pub returns : goal.returns
-returns c = wholes_tell_violations

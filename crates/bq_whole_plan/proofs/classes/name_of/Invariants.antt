@@ -1,5 +1,0 @@
-use Rattle.bq_whole_plan.proofs.Classing.{NoneBefore}
-use Rattle.bq_whole_plan.proofs.classes.name_of.Given as goal
-
-abbrev pub invariant-loop-column : goal.invariant-loop-column
-invariant-loop-column l = NoneBefore l.closed l.a l.column

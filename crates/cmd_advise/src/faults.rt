@@ -1,0 +1,90 @@
+//! What is said of a line that is at fault. Of rows that are wrong the first are told, and those behind them are counted alone: a stream that could not be created,
+//! a column in another unit, or a lock makes all rows wrong.
+ghost use Rattle.std.specs.Prelude.{◌≡◌, ◌+◌, ◌-◌, ◌^◌, ◌<◌};
+ghost use Rattle.io_streams.specs.Sink.{Writes};
+ghost use Rattle.sql_parser.specs.LineKind.{stripped, kind_of_line};
+ghost use Rattle.adv_sentences.specs.Texts.{fault_text};
+ghost use Rattle.cmd_advise.specs.Finding as finding;
+
+use crate::state::Advising;
+use adv_diagnosis::{Fault, Known};
+use adv_sentences::write_fault;
+use adv_templates::{Filling, Written, write_filled};
+use io_streams::Sink;
+use sql_parser::{LineKind, classify};
+
+/// Of how many rows it is told what is wrong.
+const MOST_ROWS: u64 = 20;
+
+/// What is said of the first row that is counted alone.
+const COUNTED: &[u8] =
+    b"line _: 20 wrong rows are told above; this one is wrong too, and from here on such rows are counted alone\n";
+
+// Whether a line is a row.
+fn is_row(line: &[u8]) -> bool
+    ensures { result ≡ finding.is_row_kind (kind_of_line (stripped line.now)) }
+{
+    matches!(classify(line).0, LineKind::RowLine)
+}
+
+/// Returns whether a fault of a line is one of a row. Where a lock does not let the line, that is where it is one.
+pub fn is_row_fault(line: &[u8], fault: &Fault) -> bool
+    ensures { result ≡ finding.is_row_fault line.now fault.now }
+{
+    match fault {
+        Fault::Locked { .. } => is_row(line),
+        Fault::RowKey
+        | Fault::RowName { .. }
+        | Fault::RowStream
+        | Fault::Arity { .. }
+        | Fault::Value { .. }
+        | Fault::Domain { .. } => true,
+        _ => false,
+    }
+}
+
+// What is wrong with the next line.
+fn write_wrong<O: Sink>(state: &Advising, line: &[u8], fault: &Fault, out: &mut O) -> Written
+    requires { state.now.lines < 2 ^ 64 - 1 }
+    ensures { Writes result (O.seen out.old) (O.seen out.new) (fault_text (state.now.lines + 1) line.now fault.now state.now.streams state.now.live) }
+{
+    let known = Known {
+        catalog: state.catalog(),
+        live: state.live(),
+    };
+    write_fault(out, state.lines() + 1, line, fault, &known)
+}
+
+// That a row is wrong, by the number of its line, and that from here on such rows are counted alone.
+#[tactic(auto, unfolding(crate::specs::Finding::counted_text))]
+fn write_counted<O: Sink>(out: &mut O, number: u64) -> Written
+    ensures { Writes result (O.seen out.old) (O.seen out.new) (finding.counted_text number) }
+{
+    write_filled(out, COUNTED, &[Filling::Number(number)])
+}
+
+// What is said of the next line, which is a row that is wrong.
+fn write_row<O: Sink>(state: &Advising, line: &[u8], fault: &Fault, out: &mut O) -> Written
+    requires { state.now.lines < 2 ^ 64 - 1 }
+    ensures { Writes result (O.seen out.old) (O.seen out.new) (finding.row_text state.now line.now fault.now) }
+{
+    if state.rows() < MOST_ROWS {
+        write_wrong(state, line, fault, out)
+    } else if state.rows() == MOST_ROWS {
+        write_counted(out, state.lines() + 1)
+    } else {
+        Ok(())
+    }
+}
+
+/// Writes what is said of the next line, which is at fault.
+pub fn tell_fault<O: Sink>(state: &Advising, line: &[u8], fault: &Fault, out: &mut O) -> Written
+    requires { state.now.lines < 2 ^ 64 - 1 }
+    ensures { Writes result (O.seen out.old) (O.seen out.new) (finding.told_text state.now line.now fault.now) }
+{
+    if is_row_fault(line, fault) {
+        write_row(state, line, fault, out)
+    } else {
+        write_wrong(state, line, fault, out)
+    }
+}

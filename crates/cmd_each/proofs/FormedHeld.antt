@@ -1,0 +1,102 @@
+-- What of the texts of events was passed on, and what is held, where replies are written in a form.
+use Rattle.std.proofs.Common.{◌≡◌, ℕ, ◌≤◌, List, [], ◌∷◌, ◌++◌, sym, ap, ◌∙◌, subst, append_assoc, append-nil, length-append, arith, IfSome}
+use Rattle.std.specs.Io.KnownBytes.{Appends}
+use Rattle.std.proofs.KnownBytes.{Appends-nil}
+use Rattle.io_streams.specs.Sink.{SinkState, Wrote, BrokeOff}
+use Rattle.io_streams.specs.Gathered.{gathered_seen, StaysHeld}
+use Rattle.cmd_session.specs.State.{State}
+use Rattle.cmd_session.proofs.Passing.{Passed, passed-more, passed-flush, passed-all, IfSome-map}
+use Rattle.cmd_session.proofs.ToldEvents.{Told, IsTold, reply, at, AreTold, AreTold-push}
+use Rattle.cmd_session.proofs.Held.{IfSome-each}
+use Rattle.cmd_each.proofs.FormedTold.{told_as, told-none, told-append, told-push}
+use Rattle.cmd_each.proofs.FormedStops.{Stopped, stopped}
+
+-- Each of these events came to this, one after another. The texts of those that were answered before the last read of a source stand
+-- below. Those of the pending events, which came since, may be held.
+pub record Held (form : List ℕ → List ℕ) (s : State) (answered pending : List Told) (before below : SinkState) (held : List ℕ) : Type 0 where
+  pub are : AreTold s (answered ++ pending)
+  pub sunk : IfSome before.written (λ _. Passed before.written below.written (told_as form s answered) (told_as form (at s answered) pending) held)
+  pub later : before.faults ≤ below.faults
+
+none-passed : (form : List ℕ → List ℕ) (s : State) (before : SinkState) (held : List ℕ) → held ≡ [] → Passed before.written before.written (told_as form s []) (told_as form (at s []) []) held
+none-passed form s before held e = record {
+  passed = [];
+  written = subst (Appends before.written before.written) (sym (ap (λ l. l ++ []) (told-none form s))) (Appends-nil before.written);
+  whole = e ∙ sym (told-none form (at s []));
+}
+
+-- nothing came
+pub held-none : (form : List ℕ → List ℕ) (s : State) (before : SinkState) (held : List ℕ) → held ≡ [] → Held form s [] [] before before held
+held-none form s before held empty = record {
+  are = tt;
+  sunk = IfSome-each before.written (λ _. Passed before.written before.written (told_as form s []) (told_as form (at s []) []) held) (λ _. none-passed form s before held empty);
+  later = omega arith;
+}
+
+-- what was held is written, so the texts of all events stand below
+pub held-all : (form : List ℕ → List ℕ) (s : State) (answered pending : List Told) (before below below' : SinkState) (held : List ℕ) → Held form s answered pending before below held
+    → Appends below.written below'.written held → Appends before.written below'.written (told_as form s (answered ++ pending))
+held-all form s answered pending before below below' held h w =
+    subst (Appends before.written below'.written) (sym (told-append form s answered pending))
+    (passed-all before.written below.written below'.written (told_as form s answered) (told_as form (at s answered) pending) held h.sunk w)
+
+pub held-flushed : (form : List ℕ → List ℕ) (s : State) (answered pending : List Told) (before below below' : SinkState) (held held' : List ℕ) → Held form s answered pending before below held
+    → Wrote below below' held → held' ≡ [] → Held form s (answered ++ pending) [] before below' held'
+held-flushed form s answered pending before below below' held held' h wrote none =
+    let all = answered ++ pending in
+    let below-all = held-all form s answered pending before below below' held h wrote.bytes in
+    record {
+      are = subst (AreTold s) (sym (append-nil all)) h.are;
+      sunk = IfSome-each before.written (λ _. Passed before.written below'.written (told_as form s all) (told_as form (at s all) []) held') (λ _. record {
+        passed = [];
+        written = subst (Appends before.written below'.written) (sym (append-nil (told_as form s all))) below-all;
+        whole = none ∙ sym (told-none form (at s all));
+      });
+      later = omega (arith, h.later, wrote.later.faults);
+    }
+
+-- the text of one more event was written to the gatherer
+pub held-more : (form : List ℕ → List ℕ) (s : State) (answered pending : List Told) (before below below' : SinkState) (held held' : List ℕ) (name name' : ℕ) (t : Told) → Held form s answered pending before below held
+    → IsTold (at s (answered ++ pending)) t → Wrote (gathered_seen below name held) (gathered_seen below' name' held') (form (reply (at s (answered ++ pending)) t))
+    → Held form s answered (pending ++ t ∷ []) before below' held'
+held-more form s answered pending before below below' held held' name name' t h told wrote =
+    let all = answered ++ pending in
+    let more = passed-more before.written below.written below'.written (told_as form s answered) (told_as form (at s answered) pending) held held' (form (reply (at s all) t)) h.sunk wrote.bytes wrote.later.passed in
+    record {
+      are = subst (AreTold s) (append_assoc answered pending (t ∷ [])) (AreTold-push s all t h.are told);
+      sunk = subst (λ u. IfSome before.written (λ _. Passed before.written below'.written (told_as form s answered) u held')) (sym (told-push form s answered pending t)) more;
+      later = omega (arith, h.later, wrote.later.faults);
+    }
+
+-- nothing was written to the gatherer
+pub held-still : (form : List ℕ → List ℕ) (s : State) (answered pending : List Told) (before below below' : SinkState) (held held' : List ℕ) (name name' : ℕ) → Held form s answered pending before below held
+    → Wrote (gathered_seen below name held) (gathered_seen below' name' held') [] → Held form s answered pending before below' held'
+held-still form s answered pending before below below' held held' name name' h wrote =
+    let more = passed-more before.written below.written below'.written (told_as form s answered) (told_as form (at s answered) pending) held held' [] h.sunk wrote.bytes wrote.later.passed in
+    record {
+      are = h.are;
+      sunk = subst (λ u. IfSome before.written (λ _. Passed before.written below'.written (told_as form s answered) u held')) (append-nil (told_as form (at s answered) pending)) more;
+      later = omega (arith, h.later, wrote.later.faults);
+    }
+
+-- the sink failed while what was held was written
+pub held-stopped : (form : List ℕ → List ℕ) (s : State) (answered pending : List Told) (before below below' : SinkState) (held kept : List ℕ) → Held form s answered pending before below held
+    → StaysHeld below below' held kept → IfSome before.written (λ _. Stopped form s answered pending before below')
+held-stopped form s answered pending before below below' held kept h stays =
+    let passed = passed-flush before.written below.written below'.written (told_as form s answered) (told_as form (at s answered) pending) held stays.front kept h.sunk stays.whole stays.wrote.bytes in
+    IfSome-map before.written (λ _. Passed before.written below'.written (told_as form s answered) (told_as form (at s answered) pending) kept) (λ _. Stopped form s answered pending before below')
+    (λ _ q. stopped form s answered pending before below' kept (omega (arith, stays.some)) q) passed
+
+-- the sink failed in the text of one more event, or in an earlier one that was held
+pub held-broke : (form : List ℕ → List ℕ) (s : State) (answered pending : List Told) (before below below' : SinkState) (held held' : List ℕ) (name name' : ℕ) (t : Told) → Held form s answered pending before below held
+    → BrokeOff (gathered_seen below name held) (gathered_seen below' name' held') (form (reply (at s (answered ++ pending)) t))
+    → IfSome before.written (λ _. Stopped form s answered (pending ++ t ∷ []) before below')
+held-broke form s answered pending before below below' held held' name name' t h broke =
+    let pushed = pending ++ t ∷ [] in
+    let more = passed-more before.written below.written below'.written (told_as form s answered) (told_as form (at s answered) pending) held held' broke.front h.sunk broke.wrote.bytes broke.wrote.later.passed in
+    let begun : told_as form (at s answered) pushed ≡ (told_as form (at s answered) pending ++ broke.front) ++ broke.rest =
+    told-push form s answered pending t ∙ ap (λ l. told_as form (at s answered) pending ++ l) broke.whole ∙ sym (append_assoc (told_as form (at s answered) pending) broke.front broke.rest) in
+    IfSome-map before.written (λ _. Passed before.written below'.written (told_as form s answered) (told_as form (at s answered) pending ++ broke.front) held') (λ _. Stopped form s answered pushed before below')
+    (λ _ q. stopped form s answered pushed before below' (held' ++ broke.rest) (omega (arith, length-append pending (t ∷ [])))
+    (record { passed = q.passed; written = q.written; whole = sym (append_assoc q.passed held' broke.rest) ∙ ap (λ l. l ++ broke.rest) q.whole ∙ sym begun }))
+    more

@@ -1,0 +1,205 @@
+//! What is found for the query of a script.
+ghost use Rattle.std.specs.Prelude.{◌≡◌, ◌≤◌, IsTrue, length};
+ghost use Rattle.sem_query.specs.Parts.{AreParts, sign_lists};
+ghost use Rattle.sql_parser.specs.Resolution.{HasNamed};
+ghost use Rattle.cmd_lower.specs.Formed as formed;
+ghost use Rattle.cmd_lower.specs.Formed.{GoesByPlain};
+ghost use Rattle.cmd_lower.specs.Found as found;
+ghost use Rattle.cmd_lower.specs.Found.{FindsFor};
+
+use crate::form::{Families, LowerForm};
+use fam_fooling_sets::{Family, LowerError};
+use fam_text::family;
+use plan_conditions::decide;
+use plan_forms::{PartsRefusal, parts_plan};
+use plan_parts::{SplitError, split};
+use sem_query::{Attr, Condition, Decision, Part, Query};
+use sql_replies::Refusal;
+use sql_script::{Script, ScriptEnd};
+use std::alloc::Global;
+
+/// Why a query has no family.
+#[derive(Clone, Copy, Debug, PartialEq, Eq)]
+pub enum NoFamily {
+    /// It breaks no condition.
+    Bounded,
+    /// It is compact, and breaks a condition by its form, while none of the parts that it has without COMPACT breaks one.
+    Form,
+    /// The first condition that it breaks is the second, and a pair lies between streams.
+    C2,
+    /// The first condition that it breaks is the third, and no family is made for that; or it is compact, a column has a domain, or a pair lies between
+    /// streams.
+    C3,
+}
+
+/// What is found for a query.
+#[derive(Drop)]
+pub enum LowerFinding {
+    /// There is no family.
+    Nothing(NoFamily),
+    /// A family for the condition that this part breaks at a column.
+    Rows {
+        part: u32,
+        condition: Condition,
+        attr: Attr,
+        family: Family,
+    },
+}
+
+// Whether a query is compact and no filter. It is judged by its form then.
+fn goes_by_form(query: &Query) -> bool
+    ensures { result ≡ formed.goes_by_form query.now }
+{
+    query.compact() && !query.is_filter()
+}
+
+// Why there is no family where no plain part breaks a condition.
+fn none_broken(query: &Query) -> NoFamily
+    ensures { result ≡ found.none_broken query.now }
+{
+    if goes_by_form(query) {
+        NoFamily::Form
+    } else {
+        NoFamily::Bounded
+    }
+}
+
+// What the decision by the plain parts and the answer to the call for a family come to.
+fn finding_of(
+    unbroken: NoFamily,
+    decision: Decision,
+    answer: Result<Family, LowerError>,
+) -> Result<LowerFinding, ScriptEnd>
+    ensures { result ≡ found.finding_of unbroken decision answer }
+{
+    match decision {
+        Decision::Bounded => Ok(LowerFinding::Nothing(unbroken)),
+        Decision::Violation {
+            part,
+            condition,
+            attr,
+        } => match answer {
+            Ok(family) => Ok(LowerFinding::Rows {
+                part,
+                condition,
+                attr,
+                family,
+            }),
+            Err(LowerError::Bounded) => Ok(LowerFinding::Nothing(unbroken)),
+            Err(LowerError::C2) => Ok(LowerFinding::Nothing(NoFamily::C2)),
+            Err(LowerError::C3) => Ok(LowerFinding::Nothing(NoFamily::C3)),
+            Err(LowerError::Memory) => Err(ScriptEnd::Memory),
+        },
+    }
+}
+
+// Whether the first condition that is broken is one for which no families are made.
+fn is_left_out(families: Families, decision: Decision) -> bool
+    ensures { result ≡ found.is_left_out families decision }
+{
+    match families {
+        Families::All => false,
+        Families::FirstTwo => match decision {
+            Decision::Bounded => false,
+            Decision::Violation {
+                part: _,
+                condition,
+                attr: _,
+            } => match condition {
+                Condition::C1 => false,
+                Condition::C2 => false,
+                Condition::C3 => true,
+            },
+        },
+    }
+}
+
+// How a script ends whose query has too many parts.
+fn refused(script: &Script) -> ScriptEnd
+    ensures { result ≡ found.refused script.now }
+{
+    ScriptEnd::Refused {
+        line: script.line,
+        word: Refusal::Limit,
+    }
+}
+
+// The family of the query of a script, or why there is none, by these plain parts of the query.
+fn find_in(
+    alloc: Global,
+    script: &Script,
+    parts: &[Part],
+    form: LowerForm,
+) -> Result<LowerFinding, ScriptEnd>
+    requires named { HasNamed script.now.catalog script.now.query }
+    requires plain { GoesByPlain script.now.query }
+    requires parts { AreParts script.now.query (sign_lists parts.now) }
+    requires few { length parts.now ≤ 4096 }
+    ensures { FindsFor result script.now form }
+{
+    let decision = decide(&script.query, parts);
+    if is_left_out(form.families, decision) {
+        return Ok(LowerFinding::Nothing(NoFamily::C3));
+    }
+    let answer = family(
+        alloc,
+        &script.query,
+        parts,
+        &decision,
+        &script.catalog,
+        form.rows,
+    );
+    finding_of(none_broken(&script.query), decision, answer)
+}
+
+// The same by the plain parts.
+fn find_by_parts(alloc: Global, script: &Script, form: LowerForm) -> Result<LowerFinding, ScriptEnd>
+    requires named { HasNamed script.now.catalog script.now.query }
+    requires plain { GoesByPlain script.now.query }
+    ensures { FindsFor result script.now form }
+{
+    match split(alloc, &script.query) {
+        Ok(parts) => find_in(alloc, script, &parts, form),
+        Err(SplitError::TooManyParts) => Err(refused(script)),
+        Err(SplitError::Memory) => Err(ScriptEnd::Memory),
+    }
+}
+
+// The same for a query that is judged by its form. COMPACT changes no answer, so where that form breaks a condition the plain parts tell the family.
+fn find_by_form(alloc: Global, script: &Script, form: LowerForm) -> Result<LowerFinding, ScriptEnd>
+    requires named { HasNamed script.now.catalog script.now.query }
+    requires formed { IsTrue (formed.goes_by_form script.now.query) }
+    ensures { FindsFor result script.now form }
+{
+    match parts_plan(alloc, &script.query, false) {
+        Ok(_plan) => Ok(LowerFinding::Nothing(NoFamily::Bounded)),
+        Err(
+            PartsRefusal::Limit {
+                which: _which,
+                value: _value,
+            },
+        ) => Ok(LowerFinding::Nothing(NoFamily::Bounded)),
+        Err(
+            PartsRefusal::Violation {
+                part: _part,
+                condition: _condition,
+                attr: _attr,
+            },
+        ) => find_by_parts(alloc, script, form),
+        Err(PartsRefusal::TooManyParts) => Err(refused(script)),
+        Err(PartsRefusal::Memory) => Err(ScriptEnd::Memory),
+    }
+}
+
+/// Returns the family that is asked for of the query of a script, or why there is none. A query of more than 4,096 parts is refused at its line, as is a
+/// compact one with more split pairs or split parts than a query may have; or no memory is found.
+pub fn find(alloc: Global, script: &Script, form: LowerForm) -> Result<LowerFinding, ScriptEnd>
+    requires { HasNamed script.now.catalog script.now.query }
+    ensures { FindsFor result script.now form }
+{
+    if goes_by_form(&script.query) {
+        find_by_form(alloc, script, form)
+    } else {
+        find_by_parts(alloc, script, form)
+    }
+}

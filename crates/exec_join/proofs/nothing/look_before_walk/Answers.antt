@@ -1,0 +1,241 @@
+use Rattle.std.proofs.Common.{◌≡◌, ℕ, ◌+◌, ◌*◌, ◌<◌, ◌≤◌, ◌⊎◌, inl, inr, Bool, true, false, List, [], length, map, refl, sym, ap, ◌∙◌, subst, arith, ℤ, if◌then◌else◌}
+use Rattle.sem_query.specs.declared.cell.Cell.TheVariants.{Empty}
+use Rattle.sem_query.specs.declared.part.Pair.{Pair}
+use Rattle.sem_query.specs.declared.plan.Dim.{Dim}
+use Rattle.sem_query.specs.declared.plan.PartPlan.{PartPlan}
+use Rattle.sem_query.specs.Combinations.{Found, read_from}
+use Rattle.sem_query.specs.Meaning.{by_column}
+use Rattle.sem_query.specs.Numbers.{share}
+use Rattle.sem_query.specs.Parts.{pairs}
+use Rattle.sem_query.specs.Probing.{found_beside}
+use Rattle.sem_query.specs.Query.{QueryValue}
+use Rattle.exec_pool.specs.declared.pool.Extent.{Extent}
+use Rattle.exec_pool.specs.Extents.{PoolValue, cells_of}
+use Rattle.exec_join.specs.Beside.{last_beside, IsEmptyBeside}
+use Rattle.exec_join.specs.Choosing.{setting, start, both}
+use Rattle.exec_join.specs.Costs.{tried_size, walk_reads}
+use Rattle.exec_join.specs.Joining.{Tells}
+use Rattle.exec_join.specs.Walk.{walk}
+use Rattle.exec_join.specs.declared.join.FirstLook.{FirstLook}
+use Rattle.exec_join.specs.declared.join.FirstLook.TheVariants as look
+use Rattle.exec_ranges.specs.Lined.{AreFixed}
+use Rattle.exec_synopsis.specs.Premises.{IsReady}
+use Rattle.exec_ranges.specs.Narrowed.{narrowed_dims}
+use Rattle.exec_join.proofs.AheadLaws.{clear-ahead}
+use Rattle.exec_join.proofs.AloneLaws.{alone}
+use Rattle.exec_join.proofs.BesideLaws.{last-there, nothing-beside}
+use Rattle.exec_join.proofs.NothingLaws.{first-within, first-empty}
+use Rattle.exec_join.proofs.StartLaws.{share-some, tried-share, look-and-walk, look-and-walk-four, walk-alone}
+use Rattle.exec_join.proofs.nothing.look_before_walk.Goals as goal
+
+-- what is seen at the last place
+seen-last : (q : QueryValue) (part : PartPlan) (pool : PoolValue) (e : Extent) (pos : ℕ) (row seen : List ℤ) → pos < length q.from → IsReady q part pool e → seen ≡ row
+    → (2 < length part.streams.items) × IsEmptyBeside part (read_from (cells_of pool e)) pos seen (last_beside (length part.streams.items) pos) → found_beside q part (read_from (cells_of pool e)) pos (by_column row) ≡ []
+seen-last q part pool e pos row seen within ready same empty =
+    let walked = ready.held.walked in
+    let here : pos < length part.streams.items = omega (arith, within, walked.plan.count) in
+    let there = last-there pos (length part.streams.items) (omega (arith, empty.0)) here in
+    nothing-beside q part pos row (read_from (cells_of pool e)) walked here (last_beside (length part.streams.items) pos) there.0 there.1
+    (subst (λ (r : List ℤ). IsEmptyBeside part (read_from (cells_of pool e)) pos r (last_beside (length part.streams.items) pos)) same empty.1)
+
+told-nothing : (seen : Bool) (told : FirstLook) (tuple : List ℤ) (finds : List Found) → told ≡ (if seen then look.Nothing else look.Unknown) → (seen ≡ true → finds ≡ []) → Tells told tuple finds
+told-nothing seen told tuple finds e none = subst (λ (t : FirstLook). Tells t tuple finds) (sym e) (by seen none)
+  where
+    by : (s : Bool) → (s ≡ true → finds ≡ []) → Tells (if s then look.Nothing else look.Unknown) tuple finds
+    by true h = h refl
+    by false h = tt
+
+-- a walk may follow what reads no more than the share
+room-for-more : (q : QueryValue) (part : PartPlan) (pool : PoolValue) (e : Extent) (pos before : ℕ) → pos < length q.from → IsReady q part pool e → length part.streams.items ≤ 3
+    → (reads : ℕ) → reads ≤ before + share part → reads + walk_reads part pos ≤ before + 3 * share part
+room-for-more q part pool e pos before within ready few reads most =
+    let walked = ready.held.walked in
+    look-and-walk q part pos walked (omega (arith, within, walked.plan.count)) few before reads most
+
+-- what marks tell of a place reads no more than the share
+marks-few : (q : QueryValue) (part : PartPlan) (pool : PoolValue) (e : Extent) (pos before place : ℕ) → pos < length q.from → IsReady q part pool e
+    → (reads : ℕ) (A : Type 0) → (A → place < length part.streams.items) → (reads ≡ before) ⊎ (A × (reads ≤ before + tried_size part pos place)) → reads ≤ before + share part
+marks-few q part pool e pos before place within ready reads A there (inl same) = omega (arith, same)
+marks-few q part pool e pos before place within ready reads A there (inr some) =
+    (let walked = ready.held.walked in
+    let t = tried-share q part pos place walked (omega (arith, within, walked.plan.count)) (there some.0) in
+    let r = some.1 in omega (arith, t, r))
+
+-- half of it is no more than all of it
+half-few : (before tried reads : ℕ) (A : Type 0) → (reads ≡ before) ⊎ (A × (2 * reads ≤ 2 * before + tried)) → (reads ≡ before) ⊎ (A × (reads ≤ before + tried))
+half-few before tried reads A (inl same) = inl same
+half-few before tried reads A (inr some) = inr (some.0, (let r = some.1 in omega (arith, r)))
+
+-- and of marks that were looked at where a walk begins, half the share
+marks-half : (q : QueryValue) (part : PartPlan) (pool : PoolValue) (e : Extent) (pos before place : ℕ) → pos < length q.from → IsReady q part pool e
+    → (reads : ℕ) → (reads ≡ before) ⊎ ((place < length part.streams.items) × (2 * reads ≤ 2 * before + tried_size part pos place)) → 2 * reads ≤ 2 * before + share part
+marks-half q part pool e pos before place within ready reads (inl same) = omega (arith, same)
+marks-half q part pool e pos before place within ready reads (inr some) =
+    (let walked = ready.held.walked in
+    let t = tried-share q part pos place walked (omega (arith, within, walked.plan.count)) some.0 in
+    let r = some.1 in omega (arith, t, r))
+
+-- over two streams none is looked at where a walk ends
+cut-none : (part : PartPlan) (before reads more : ℕ) → length part.streams.items ≡ 2 → (reads ≡ before) ⊎ ((2 < length part.streams.items) × (part.equal.items ≡ []) × (reads ≤ before + more)) → 2 * reads ≤ 2 * before + share part
+cut-none part before reads more two (inl same) = omega (arith, same)
+cut-none part before reads more two (inr some) = absurd (let many = some.0 in omega (arith, many, two))
+
+-- where a walk ends
+cut-few : (q : QueryValue) (part : PartPlan) (pool : PoolValue) (e : Extent) (pos before : ℕ) → pos < length q.from → IsReady q part pool e
+    → (reads : ℕ) → (reads ≡ before) ⊎ ((2 < length part.streams.items) × (part.equal.items ≡ []) × (reads ≤ before + tried_size part pos (last_beside (length part.streams.items) pos))) → reads ≤ before + share part
+cut-few q part pool e pos before within ready reads (inl same) = omega (arith, same)
+cut-few q part pool e pos before within ready reads (inr some) =
+    (let walked = ready.held.walked in
+    let many = some.0 in
+    let here : pos < length part.streams.items = omega (arith, within, walked.plan.count) in
+    let t = tried-share q part pos (last_beside (length part.streams.items) pos) walked here (last-there pos (length part.streams.items) (omega (arith, many)) here).0 in
+    let r = some.2 in omega (arith, t, r))
+
+-- one read is no more than the share
+one-read : (q : QueryValue) (part : PartPlan) (pool : PoolValue) (e : Extent) (pos before : ℕ) → pos < length q.from → IsReady q part pool e
+    → (reads : ℕ) → reads ≤ before + 1 → reads ≤ before + share part
+one-read q part pool e pos before within ready reads most =
+    let held = ready.held in
+    let here : pos < length part.streams.items = omega (arith, within, held.walked.plan.count) in
+    let some = share-some q part pos held.walked here in
+    omega (arith, some, most)
+
+same-fixed : (ps sp : List Pair) (part : PartPlan) (pos : ℕ) (row seen : List ℤ) (fixed : List Dim) (first : ℕ) → sp ≡ ps → seen ≡ row
+    → AreFixed part (length (start pos)) (narrowed_dims sp part pos seen (start pos)) fixed first → AreFixed part (length (start pos)) (narrowed_dims ps part pos row (start pos)) fixed first
+same-fixed ps sp part pos row seen fixed first e f h = subst (λ (ds : List Dim). AreFixed part (length (start pos)) ds fixed first) (λ k. narrowed_dims (e k) part pos (f k) (start pos)) h
+
+pub returns-then-streams-gt3-clause-found : goal.returns-then-streams-gt3-clause-found
+returns-then-streams-gt3-clause-found g c =
+    told-nothing c.is_cut_off-seen.result c.nothing_where-then-streams-gt3.result _ _ c.nothing_where-then-streams-gt3.ensures
+    (λ t. seen-last c.args.part.now.q.now c.args.part.now.plan.now c.args.pool.now c.args.part.now.extent.now c.args.at.now.pos _ _ c.requires.here c.requires.ready c.as_slice-row.ensures.value (c.is_cut_off-seen.ensures.empty t))
+
+pub read-cell-requires-clause-within : goal.read-cell-requires-clause-within
+read-cell-requires-clause-within g c =
+    let q = c.args.part.now.q.now in
+    let part = c.args.part.now.plan.now in
+    let pos = c.args.at.now.pos in
+    let held = c.requires.ready.held in
+    let here : pos < length part.streams.items = omega (arith, c.requires.here, held.walked.plan.count) in
+    let are = same-fixed (pairs q) _ part pos c.args.at.now.row.now.items _ c.first_cell.new.self.dims.items c.in-Some.number (c.as_slice.ensures.value ∙ c.pairs.ensures) c.as_slice-row.ensures.value c.in-Some.ensures.first.1 in
+    first-within q part held.walked pos c.args.at.now.row.now.items here c.in-Some.ensures.first.0 (64 * c.args.part.now.extent.now.pages) held.within c.first_cell.new.self.dims.items c.in-Some.number are
+
+pub returns-then-is_empty-2-clause-found : goal.returns-then-is_empty-2-clause-found
+returns-then-is_empty-2-clause-found g c =
+    let q = c.args.part.now.q.now in
+    let part = c.args.part.now.plan.now in
+    let pos = c.args.at.now.pos in
+    let held = c.requires.ready.held in
+    let here : pos < length part.streams.items = omega (arith, c.requires.here, held.walked.plan.count) in
+    let are = same-fixed (pairs q) _ part pos c.args.at.now.row.now.items _ c.first_cell.new.self.dims.items c.in-Some.number (c.as_slice.ensures.value ∙ c.pairs.ensures) c.as_slice-row.ensures.value c.in-Some.ensures.first.1 in
+    first-empty q part held.walked pos c.args.at.now.row.now.items here c.in-Some.ensures.first.0 (64 * c.args.part.now.extent.now.pages) held.within c.first_cell.new.self.dims.items c.in-Some.number are
+    (cells_of c.args.pool.now c.args.part.now.extent.now) (sym (c.read-cell.ensures.cell Empty) ∙ c.is_empty-2.ensures.yes c.if-is_empty-2.true)
+
+pub returns-clause-found : goal.returns-clause-found
+returns-clause-found g c =
+    let q = c.args.part.now.q.now in
+    let part = c.args.part.now.plan.now in
+    let pos = c.args.at.now.pos in
+    let row = c.args.at.now.row.now.items in
+    let held = c.requires.ready.held in
+    let here : pos < length part.streams.items = omega (arith, c.requires.here, held.walked.plan.count) in
+    let ps = c.as_slice.ensures.value ∙ c.pairs.ensures in
+    let rs = c.as_slice-row.ensures.value in
+    let are = same-fixed (pairs q) _ part pos row _ c.first_cell.new.self.dims.items c.in-Some.number ps rs c.in-Some.ensures.first.1 in
+    let two : length part.streams.items ≡ 2 = (let v = ap length c.as_slice-streams.ensures.value in let t = c.if-streams-ne2.false in omega (arith, v, t)) in
+    let read = read_from (cells_of c.args.pool.now c.args.part.now.extent.now) in
+    let values = map (λ d. d.lo) c.first_cell.new.self.dims.items in
+    let is : found_beside q part read pos (by_column row) ≡ walk (setting (pairs q) q.select part pos row read) 0 (both pos values c.read-cell.result)
+    = alone q part held.walked pos row here c.in-Some.ensures.first.0 (64 * c.args.part.now.extent.now.pages) held.within c.first_cell.new.self.dims.items c.in-Some.number are
+    (cells_of c.args.pool.now c.args.part.now.extent.now) two c.read-cell.result (sym (c.read-cell.ensures.cell Empty)) (c.is_empty-2.ensures.no c.if-is_empty-2.false) in
+    let told = subst (λ (xs : List Pair). Tells c.look_alone.result c.look_alone.new.tuple.items (walk (setting xs q.select part pos row read) 0 (both pos values c.read-cell.result))) ps
+    (subst (λ (xs : List ℤ). Tells c.look_alone.result c.look_alone.new.tuple.items (walk (setting c.as_slice.result.now q.select part pos xs read) 0 (both pos values c.read-cell.result))) rs (c.look_alone.ensures.found read)) in
+    subst (λ (finds : List Found). Tells c.look_alone.result c.look_alone.new.tuple.items finds) (sym is) told
+
+pub returns-then-is_empty-2-clause-reads : goal.returns-then-is_empty-2-clause-reads
+returns-then-is_empty-2-clause-reads g c =
+    room-for-more c.args.part.now.q.now c.args.part.now.plan.now c.args.pool.now c.args.part.now.extent.now c.args.at.now.pos _ c.requires.here c.requires.ready
+    (let v = ap length c.as_slice-streams.ensures.value in let f = c.if-streams-gt3.false in omega (arith, v, f)) _ (one-read c.args.part.now.q.now c.args.part.now.plan.now c.args.pool.now c.args.part.now.extent.now c.args.at.now.pos _ c.requires.here c.requires.ready _ (let r = c.read-cell.ensures.reads in omega (arith, r)))
+
+pub returns-then-streams-ne2-clause-reads : goal.returns-then-streams-ne2-clause-reads
+returns-then-streams-ne2-clause-reads g c =
+    room-for-more c.args.part.now.q.now c.args.part.now.plan.now c.args.pool.now c.args.part.now.extent.now c.args.at.now.pos _ c.requires.here c.requires.ready
+    (let v = ap length c.as_slice-streams.ensures.value in let f = c.if-streams-gt3.false in omega (arith, v, f)) _ (one-read c.args.part.now.q.now c.args.part.now.plan.now c.args.pool.now c.args.part.now.extent.now c.args.at.now.pos _ c.requires.here c.requires.ready _ (let r = c.read-cell.ensures.reads in omega (arith, r)))
+
+pub returns-clause-reads : goal.returns-clause-reads
+returns-clause-reads g c =
+    room-for-more c.args.part.now.q.now c.args.part.now.plan.now c.args.pool.now c.args.part.now.extent.now c.args.at.now.pos _ c.requires.here c.requires.ready
+    (let v = ap length c.as_slice-streams.ensures.value in let f = c.if-streams-gt3.false in omega (arith, v, f)) _ (one-read c.args.part.now.q.now c.args.part.now.plan.now c.args.pool.now c.args.part.now.extent.now c.args.at.now.pos _ c.requires.here c.requires.ready _ (let r = c.read-cell.ensures.reads in omega (arith, r)))
+
+pub returns-then-is_empty-2-clause-few : goal.returns-then-is_empty-2-clause-few
+returns-then-is_empty-2-clause-few g c =
+    one-read c.args.part.now.q.now c.args.part.now.plan.now c.args.pool.now c.args.part.now.extent.now c.args.at.now.pos _ c.requires.here c.requires.ready _ (let r = c.read-cell.ensures.reads in omega (arith, r))
+
+pub returns-then-streams-ne2-clause-few : goal.returns-then-streams-ne2-clause-few
+returns-then-streams-ne2-clause-few g c =
+    one-read c.args.part.now.q.now c.args.part.now.plan.now c.args.pool.now c.args.part.now.extent.now c.args.at.now.pos _ c.requires.here c.requires.ready _ (let r = c.read-cell.ensures.reads in omega (arith, r))
+
+pub returns-clause-few : goal.returns-clause-few
+returns-clause-few g c =
+    one-read c.args.part.now.q.now c.args.part.now.plan.now c.args.pool.now c.args.part.now.extent.now c.args.at.now.pos _ c.requires.here c.requires.ready _ (let r = c.read-cell.ensures.reads in omega (arith, r))
+
+pub returns-then-streams-ne2-clause-alone : goal.returns-then-streams-ne2-clause-alone
+returns-then-streams-ne2-clause-alone g c two unknown = absurd (let v = ap length c.as_slice-streams.ensures.value in let t = c.if-streams-ne2.true in omega (arith, v, t, two))
+
+pub returns-clause-alone : goal.returns-clause-alone
+returns-clause-alone g c two unknown = absurd (c.look_alone.ensures.sure unknown)
+
+pub returns-then-streams-gt3-clause-few : goal.returns-then-streams-gt3-clause-few
+returns-then-streams-gt3-clause-few g c = cut-few c.args.part.now.q.now c.args.part.now.plan.now c.args.pool.now c.args.part.now.extent.now c.args.at.now.pos _ c.requires.here c.requires.ready _ c.is_cut_off-seen.ensures.reads
+
+pub returns-then-streams-gt3-clause-reads : goal.returns-then-streams-gt3-clause-reads
+returns-then-streams-gt3-clause-reads g c =
+    look-and-walk-four c.args.part.now.q.now c.args.part.now.plan.now c.args.at.now.pos c.requires.ready.held.walked (let w = c.requires.ready.held.walked in omega (arith, c.requires.here, w.plan.count))
+    (let v = ap length c.as_slice-streams.ensures.value in let t = c.if-streams-gt3.true in omega (arith, v, t)) (let v = ap length c.as_slice-streams.ensures.value in let f = c.as_slice-streams.ensures.fits in omega (arith, v, f))
+    (c.has_single_cells.ensures c.if-has_single_cells.false) _ _ c.is_cut_off-seen.ensures.reads
+
+pub returns-then-has_single_cells-clause-found : goal.returns-then-has_single_cells-clause-found
+returns-then-has_single_cells-clause-found g c = told-nothing false _ _ _ c.nothing_where.ensures (λ t. absurd (let z : ⊥ = cc in z))
+
+pub returns-then-has_single_cells-clause-reads : goal.returns-then-has_single_cells-clause-reads
+returns-then-has_single_cells-clause-reads g c =
+    let walked = c.requires.ready.held.walked in
+    let w = walk-alone c.args.part.now.q.now c.args.part.now.plan.now c.args.at.now.pos walked (omega (arith, c.requires.here, walked.plan.count))
+    (let v = ap length c.as_slice-streams.ensures.value in let f = c.as_slice-streams.ensures.fits in omega (arith, v, f)) in
+    omega (arith, w)
+
+pub returns-then-is_empty-clause-found : goal.returns-then-is_empty-clause-found
+returns-then-is_empty-clause-found g c =
+    told-nothing c.is_cut_off-seen-then-is_empty.result c.nothing_where-then-is_empty.result _ _ c.nothing_where-then-is_empty.ensures
+    (λ t. seen-last c.args.part.now.q.now c.args.part.now.plan.now c.args.pool.now c.args.part.now.extent.now c.args.at.now.pos _ _ c.requires.here c.requires.ready c.as_slice-row.ensures.value (c.is_cut_off-seen-then-is_empty.ensures.empty t))
+
+pub returns-then-is_empty-clause-few : goal.returns-then-is_empty-clause-few
+returns-then-is_empty-clause-few g c = cut-few c.args.part.now.q.now c.args.part.now.plan.now c.args.pool.now c.args.part.now.extent.now c.args.at.now.pos _ c.requires.here c.requires.ready _ c.is_cut_off-seen-then-is_empty.ensures.reads
+
+pub returns-then-is_empty-clause-reads : goal.returns-then-is_empty-clause-reads
+returns-then-is_empty-clause-reads g c =
+    room-for-more c.args.part.now.q.now c.args.part.now.plan.now c.args.pool.now c.args.part.now.extent.now c.args.at.now.pos _ c.requires.here c.requires.ready (let v = ap length c.as_slice-streams.ensures.value in let f = c.if-streams-gt3.false in omega (arith, v, f)) _ (cut-few c.args.part.now.q.now c.args.part.now.plan.now c.args.pool.now c.args.part.now.extent.now c.args.at.now.pos _ c.requires.here c.requires.ready _ c.is_cut_off-seen-then-is_empty.ensures.reads)
+
+pub returns-in_default-clause-found : goal.returns-in_default-clause-found
+returns-in_default-clause-found g c =
+    let held = c.requires.ready.held in
+    let here : c.args.at.now.pos < length c.args.part.now.plan.now.streams.items = omega (arith, c.requires.here, held.walked.plan.count) in
+    told-nothing c.is_clear_ahead-clear.result c.nothing_where-in_default.result _ _ c.nothing_where-in_default.ensures
+    (λ t. clear-ahead c.args.part.now.q.now c.args.part.now.plan.now c.args.at.now.pos c.args.at.now.row.now.items _ _ (read_from (cells_of c.args.pool.now c.args.part.now.extent.now)) held.walked here
+    (c.as_slice.ensures.value ∙ c.pairs.ensures) c.as_slice-row.ensures.value (c.is_clear_ahead-clear.ensures.clear t))
+
+pub returns-in_default-clause-few : goal.returns-in_default-clause-few
+returns-in_default-clause-few g c = marks-few c.args.part.now.q.now c.args.part.now.plan.now c.args.pool.now c.args.part.now.extent.now c.args.at.now.pos _ (length (start c.args.at.now.pos)) c.requires.here c.requires.ready _ (length (start c.args.at.now.pos) < length c.args.part.now.plan.now.streams.items) (λ there. there) (half-few _ _ _ _ c.is_clear_ahead-clear.ensures.reads)
+
+pub returns-in_default-clause-reads : goal.returns-in_default-clause-reads
+returns-in_default-clause-reads g c =
+    room-for-more c.args.part.now.q.now c.args.part.now.plan.now c.args.pool.now c.args.part.now.extent.now c.args.at.now.pos _ c.requires.here c.requires.ready (let v = ap length c.as_slice-streams.ensures.value in let f = c.if-streams-gt3.false in omega (arith, v, f)) _
+    (marks-few c.args.part.now.q.now c.args.part.now.plan.now c.args.pool.now c.args.part.now.extent.now c.args.at.now.pos _ (length (start c.args.at.now.pos)) c.requires.here c.requires.ready _ (length (start c.args.at.now.pos) < length c.args.part.now.plan.now.streams.items) (λ there. there) (half-few _ _ _ _ c.is_clear_ahead-clear.ensures.reads))
+
+pub returns-then-is_empty-clause-alone : goal.returns-then-is_empty-clause-alone
+returns-then-is_empty-clause-alone g c two unknown = cut-none c.args.part.now.plan.now _ _ _ two c.is_cut_off-seen-then-is_empty.ensures.reads
+
+pub returns-in_default-clause-alone : goal.returns-in_default-clause-alone
+returns-in_default-clause-alone g c two unknown = marks-half c.args.part.now.q.now c.args.part.now.plan.now c.args.pool.now c.args.part.now.extent.now c.args.at.now.pos _ (length (start c.args.at.now.pos)) c.requires.here c.requires.ready _ c.is_clear_ahead-clear.ensures.reads
+
+pub returns-then-streams-gt3-clause-alone : goal.returns-then-streams-gt3-clause-alone
+returns-then-streams-gt3-clause-alone g c two unknown = absurd (let v = ap length c.as_slice-streams.ensures.value in let t = c.if-streams-gt3.true in omega (arith, v, t, two))

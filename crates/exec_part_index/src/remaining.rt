@@ -1,0 +1,392 @@
+//! What a part asks of a row that lies in the ranges of its dims and has its code: the signs and conditions that no tested pair says.
+ghost use Rattle.std.specs.Prelude.{◌≡◌, ◌≤◌, ◌<◌, ◌&&◌, ◌||◌, not, true, false, ℕ, ℤ, pos, ◌+ℤ◌, length, take, slice_get, All, IfOk, OnOk};
+ghost use Rattle.std.specs.List.{list_all};
+ghost use Rattle.sem_query.specs.declared.plan.PartPlan.{PartPlan};
+ghost use Rattle.sem_query.specs.Assignment.{compares};
+ghost use Rattle.sem_query.specs.Parts.{pairs, is_within, sign, sign_at};
+ghost use Rattle.sem_query.specs.Admission.{alone, sign_eq, meets_local, keeps_local};
+ghost use Rattle.exec_synopsis.specs.Preparing.{IsPrepared, keeps_pair, keeps_tests};
+ghost use Rattle.exec_part_index.specs.Span.{in_span, IsSpan};
+ghost use Rattle.exec_part_index.specs.PartIndex.{signs_at, code_after, AsksOnly};
+ghost use Rattle.exec_part_index.specs.Prepared.{ArePrepared};
+ghost use Rattle.exec_part_index.specs.Showing.{shown_signs, AreShown};
+ghost use Rattle.exec_part_index.specs.Remaining.{meets_any, AreRemaining};
+ghost use Rattle.plan_implied_signs.specs.Showing.{SaysCondition};
+
+use crate::shifts::prepared_of;
+use crate::span::Span;
+use crate::tests::Tested;
+use exec_synopsis::Prepared;
+use plan_implied_signs::says_condition;
+use sem_query::{
+    Attr, Element, LocalCondition, Op, Pair, PartPlan, PartPlans, Query, Sign, is_same,
+    is_same_element, is_within,
+};
+use std::alloc::{AllocError, Global};
+
+/// The conditions that remain to be asked at a place of FROM, and which of them are a part's.
+#[derive(Drop)]
+pub struct Remaining {
+    pub conditions: Vec<LocalCondition>,
+    pub spans: Vec<Span>,
+}
+
+// Pairs, and a sign of each.
+#[derive(Clone, Copy)]
+struct Signed<'a> {
+    pairs: &'a [Pair],
+    signs: &'a [Sign],
+}
+
+// Whether a condition asks for this sign of a pair, and for nothing else.
+#[tactic(auto, using(crate::proofs::RemainingLaws::asks_sign))]
+fn is_for_sign(pair: Pair, wanted: Sign, condition: LocalCondition) -> bool
+    ensures { result ≡ true → SaysCondition pair wanted condition }
+{
+    let asked = LocalCondition {
+        left: pair.left,
+        op: op_of(wanted),
+        right: pair.right,
+        by: 0,
+    };
+    is_same_condition(condition, asked)
+}
+
+// Whether a condition asks for the sign of one of some pairs.
+#[tactic(auto, using(crate::proofs::RemainingLaws::said_or_not))]
+fn is_for_one(signed: &Signed<'_>, condition: LocalCondition) -> bool
+    requires { length signed.now.signs.now ≡ length signed.now.pairs.now }
+    ensures { result ≡ true → (v : ℕ → ℤ) → signs_at v signed.now.pairs.now ≡ signed.now.signs.now → meets_local (alone v) condition ≡ true }
+{
+    'pairs: for (i, pair) in signed.pairs.iter().enumerate() {
+        if is_for_sign(*pair, signed.signs[i], condition) {
+            return true;
+        }
+    }
+    false
+}
+
+// Whether the sign of one of some pairs says that a condition holds.
+#[tactic(auto, using(crate::proofs::RemainingLaws::said_or_not))]
+fn is_said_by_one(signed: &Signed<'_>, condition: LocalCondition) -> bool
+    requires { length signed.now.signs.now ≡ length signed.now.pairs.now }
+    ensures { result ≡ true → (v : ℕ → ℤ) → signs_at v signed.now.pairs.now ≡ signed.now.signs.now → meets_local (alone v) condition ≡ true }
+{
+    'pairs: for (i, pair) in signed.pairs.iter().enumerate() {
+        if says_condition(*pair, signed.signs[i], condition) {
+            return true;
+        }
+    }
+    false
+}
+
+// Whether the signs of some pairs say that a condition holds. Most conditions ask for the sign of one of them, which is found sooner than what a sign says.
+fn is_said(signed: &Signed<'_>, condition: LocalCondition) -> bool
+    requires { length signed.now.signs.now ≡ length signed.now.pairs.now }
+    ensures { result ≡ true → (v : ℕ → ℤ) → signs_at v signed.now.pairs.now ≡ signed.now.signs.now → meets_local (alone v) condition ≡ true }
+{
+    is_for_one(signed, condition) || is_said_by_one(signed, condition)
+}
+
+// The operator that says a sign.
+fn op_of(wanted: Sign) -> Op
+    ensures { (x y : ℤ) → compares result x (y +ℤ pos 0) ≡ sign_eq (sign x y) wanted }
+{
+    match wanted {
+        Sign::Lt => Op::Lt,
+        Sign::Eq => Op::Eq,
+        Sign::Gt => Op::Gt,
+    }
+}
+
+// What a pair asks of a row by its sign, where it is of the stream at a place.
+fn of_sign(place: u8, pair: Pair, wanted: Sign) -> Option<LocalCondition>
+    ensures { (v : ℕ → ℤ) → meets_any v result ≡ (not (is_within place pair.left pair.right) || sign_eq (sign_at (alone v) pair) wanted) }
+{
+    if is_within(usize::from(place), pair) {
+        Some(LocalCondition {
+            left: pair.left,
+            op: op_of(wanted),
+            right: pair.right,
+            by: 0,
+        })
+    } else {
+        None
+    }
+}
+
+// A condition that no row meets: that a column is less than itself.
+fn never(place: u8) -> LocalCondition
+    ensures { (v : ℕ → ℤ) → meets_local (alone v) result ≡ false }
+{
+    let first = Attr {
+        stream: place,
+        column: 0,
+    };
+    LocalCondition {
+        left: first,
+        op: Op::Lt,
+        right: Element::Attr(first),
+        by: 0,
+    }
+}
+
+// What a pair asks of a row by its sign, where it is of the stream at a place; no row has the sign of what is not there.
+fn of_test(place: u8, pair: Option<Pair>, sign: Option<Sign>) -> Option<LocalCondition>
+    ensures { (v : ℕ → ℤ) → meets_any v result ≡ keeps_pair place (alone v) pair sign }
+{
+    match pair {
+        Some(pair) => match sign {
+            Some(sign) => of_sign(place, pair, sign),
+            None => Some(never(place)),
+        },
+        None => Some(never(place)),
+    }
+}
+
+// The same of the pair of a number.
+fn of_number(place: u8, pairs: &[Pair], signs: &[Sign], i: u8) -> Option<LocalCondition>
+    ensures { (v : ℕ → ℤ) → meets_any v result ≡ keeps_pair place (alone v) (slice_get pairs.now i) (slice_get signs.now i) }
+{
+    let i = usize::from(i);
+    of_test(place, pairs.get(i).copied(), signs.get(i).copied())
+}
+
+// A condition, where it is of the stream at a place.
+fn of_condition(place: u8, condition: LocalCondition) -> Option<LocalCondition>
+    ensures { (v : ℕ → ℤ) → meets_any v result ≡ (not (is_within place condition.left condition.right) || meets_local (alone v) condition) }
+{
+    let (left, right) = (condition.left, condition.right);
+    if is_within(usize::from(place), Pair { left, right }) {
+        Some(condition)
+    } else {
+        None
+    }
+}
+
+// Adds a condition that the signs of some pairs do not say. An error says that memory was not found.
+#[tactic(auto, using(crate::proofs::RemainingLaws::pushed_all, crate::proofs::RemainingLaws::nothing_more))]
+fn add(
+    list: &mut Vec<LocalCondition>,
+    signed: &Signed<'_>,
+    condition: LocalCondition,
+) -> Result<(), AllocError>
+    requires { length signed.now.signs.now ≡ length signed.now.pairs.now }
+    ensures { OnOk result ((v : ℕ → ℤ) → signs_at v signed.now.pairs.now ≡ signed.now.signs.now → list_all (meets_local (alone v)) list.new.items ≡ (list_all (meets_local (alone v)) list.old.items && meets_local (alone v) condition)) }
+{
+    if is_said(signed, condition) {
+        return Ok(());
+    }
+    list.push(condition)?;
+    Ok(())
+}
+
+// Adds a condition, where there is one, that the signs of some pairs do not say. An error says that memory was not found.
+fn ask(
+    list: &mut Vec<LocalCondition>,
+    signed: &Signed<'_>,
+    condition: Option<LocalCondition>,
+) -> Result<(), AllocError>
+    requires { length signed.now.signs.now ≡ length signed.now.pairs.now }
+    ensures { OnOk result ((v : ℕ → ℤ) → signs_at v signed.now.pairs.now ≡ signed.now.signs.now → list_all (meets_local (alone v)) list.new.items ≡ (list_all (meets_local (alone v)) list.old.items && meets_any v condition)) }
+{
+    match condition {
+        Some(condition) => add(list, signed, condition),
+        None => Ok(()),
+    }
+}
+
+// What a part asks of a row that has these signs at these pairs, beside the ranges of its dims. An error says that memory was not found.
+fn asked_beside(
+    alloc: Global,
+    q: &Query,
+    part: &PartPlan,
+    prepared: &Prepared,
+    place: u8,
+    signed: &Signed<'_>,
+) -> Result<Vec<LocalCondition>, AllocError>
+    requires { length signed.now.signs.now ≡ length signed.now.pairs.now }
+    ensures { IfOk result (λ list. (v : ℕ → ℤ) → signs_at v signed.now.pairs.now ≡ signed.now.signs.now → list_all (meets_local (alone v)) list.items ≡ (keeps_tests place (alone v) (pairs q.now) part.now.signs.items prepared.now.tests.items && keeps_local place (alone v) prepared.now.asked.items)) }
+{
+    let mut list: Vec<LocalCondition> = Vec::new(alloc);
+    let (pairs, signs) = (q.pairs().as_slice(), part.signs.as_slice());
+    'tests: for test in prepared.tests() {
+        ask(&mut list, signed, of_number(place, pairs, signs, *test))?;
+    }
+    'asked: for condition in prepared.asked() {
+        ask(&mut list, signed, of_condition(place, *condition))?;
+    }
+    Ok(list)
+}
+
+// What the code of a row does not tell of a part that shows these signs at these pairs. An error says that memory was not found.
+#[tactic(auto, using(crate::proofs::RemainingLaws::said_or_left))]
+fn remaining_of(
+    alloc: Global,
+    q: &Query,
+    part: &PartPlan,
+    prepared: &Prepared,
+    place: u8,
+    signed: &Signed<'_>,
+) -> Result<Vec<LocalCondition>, AllocError>
+    requires full { length signed.now.signs.now ≡ length signed.now.pairs.now }
+    requires few { length signed.now.pairs.now ≤ 20 }
+    requires prepared { IsPrepared (pairs q.now) part.now prepared.now }
+    ensures { IfOk result (λ list. AsksOnly q.now part.now place signed.now.pairs.now (code_after 0 signed.now.signs.now) list.items) }
+{
+    asked_beside(alloc, q, part, prepared, place, signed)
+}
+
+// The signs that the part of a number shows at the tested pairs.
+fn signed_at<'a>(q: &Query, parts: &PartPlans, place: u8, tested: &'a Tested, i: u32) -> Signed<'a>
+    requires inside { i < length parts.now }
+    requires shown { AreShown q.now parts.now place tested.now }
+    ensures pairs { result.pairs.now ≡ tested.now.pairs.items }
+    ensures signs { result.signs.now ≡ shown_signs tested.now i }
+    ensures full { length result.signs.now ≡ length result.pairs.now }
+{
+    // Named for the proof alone: the contract speaks of them.
+    let (_query, _parts, _place) = (q, parts.len(), place);
+    Signed {
+        pairs: tested.pairs.as_slice(),
+        signs: tested.signs[i as usize].as_slice(),
+    }
+}
+
+// What the code of a row does not tell of the part of a number. An error says that memory was not found.
+fn remaining_of_part(
+    alloc: Global,
+    q: &Query,
+    parts: &PartPlans,
+    prepared: &[Prepared],
+    place: u8,
+    tested: &Tested,
+    i: u32,
+) -> Result<Vec<LocalCondition>, AllocError>
+    requires inside { i < length parts.now }
+    requires prepared { ArePrepared (pairs q.now) parts.now prepared.now }
+    requires shown { AreShown q.now parts.now place tested.now }
+    requires few { length tested.now.pairs.items ≤ 20 }
+    ensures { IfOk result (λ list. (part : PartPlan) → slice_get parts.now i ≡ Some part → AsksOnly q.now part place tested.now.pairs.items (code_after 0 (shown_signs tested.now i)) list.items) }
+{
+    let signed = signed_at(q, parts, place, tested, i);
+    let prepared = prepared_of(q, parts, prepared, i);
+    remaining_of(alloc, q, parts.get(i), prepared, place, &signed)
+}
+
+// Whether two operators are the same.
+fn is_same_op(op: Op, other: Op) -> bool
+    ensures { result ≡ true → op ≡ other }
+{
+    op == other
+}
+
+// Whether two conditions are the same.
+#[tactic(auto, using(crate::proofs::RemainingLaws::same_condition))]
+fn is_same_condition(c: LocalCondition, d: LocalCondition) -> bool
+    ensures { result ≡ true → c ≡ d }
+{
+    is_same(c.left, d.left)
+        && is_same_op(c.op, d.op)
+        && is_same_element(c.right, d.right)
+        && c.by == d.by
+}
+
+// Whether two lists of conditions are the same.
+fn are_same(list: &[LocalCondition], other: &[LocalCondition]) -> bool
+    ensures { result ≡ true → list.now ≡ other.now }
+{
+    if list.len() != other.len() {
+        return false;
+    }
+    'conditions: for (i, condition) in list.iter().enumerate() {
+        if !is_same_condition(*condition, other[i]) {
+            return false;
+        }
+    }
+    true
+}
+
+// The number of a place in a list, where it has 32 bits; a list that is longer is taken as one that finds no memory.
+fn short(n: usize) -> Result<u32, AllocError>
+    ensures { IfOk result (λ k. k ≡ n) }
+{
+    match u32::try_from(n) {
+        Ok(k) => Ok(k),
+        Err(_) => Err(AllocError),
+    }
+}
+
+// Puts conditions behind a list, and returns their span. An error says that memory was not found.
+fn append(list: &mut Vec<LocalCondition>, own: &[LocalCondition]) -> Result<Span, AllocError>
+    ensures kept { IfOk result (λ _. take (length list.old.items) list.new.items ≡ list.old.items) }
+    ensures span { IfOk result (IsSpan (length list.new.items)) }
+    ensures own { IfOk result (λ span. in_span list.new.items span ≡ own.now) }
+{
+    let from = short(list.len())?;
+    list.extend_from_slice(own)?;
+    let to = short(list.len())?;
+    Ok(Span { from, to })
+}
+
+// The span of a part's conditions: none for none, that of the next part of its bucket where this has the same, or else one behind the list. An error says
+// that memory was not found.
+fn listed(
+    list: &mut Vec<LocalCondition>,
+    next: Span,
+    own: &[LocalCondition],
+) -> Result<Span, AllocError>
+    requires { IsSpan (length list.old.items) next }
+    ensures kept { IfOk result (λ _. take (length list.old.items) list.new.items ≡ list.old.items) }
+    ensures span { IfOk result (IsSpan (length list.new.items)) }
+    ensures own { IfOk result (λ span. in_span list.new.items span ≡ own.now) }
+{
+    if own.is_empty() {
+        return Ok(Span { from: 0, to: 0 });
+    }
+    if are_same(&list[next.from as usize..next.to as usize], own) {
+        return Ok(next);
+    }
+    append(list, own)
+}
+
+// The span of the part of a number; none where there is no such part.
+fn span_of(spans: &[Span], i: u32) -> Span
+    ensures { (n : ℕ) → All (IsSpan n) spans.now → IsSpan n result }
+{
+    spans
+        .get(i as usize)
+        .copied()
+        .unwrap_or(Span { from: 0, to: 0 })
+}
+
+/// Returns what the code of a row does not tell of each part at a place; a part that is asked the same as the next one of its bucket shares its span. An error says that
+/// memory was not found, or that the conditions are more than 32 bits count.
+pub fn remaining_at(
+    alloc: Global,
+    q: &Query,
+    parts: &PartPlans,
+    prepared: &[Prepared],
+    place: u8,
+    tested: &Tested,
+    links: &[u32],
+) -> Result<Remaining, AllocError>
+    requires prepared { ArePrepared (pairs q.now) parts.now prepared.now }
+    requires shown { AreShown q.now parts.now place tested.now }
+    requires few { length tested.now.pairs.items ≤ 20 }
+    requires links { length links.now ≡ length parts.now }
+    ensures { IfOk result (AreRemaining q.now parts.now place tested.now) }
+{
+    let count = parts.len();
+    let mut conditions: Vec<LocalCondition> = Vec::new(alloc);
+    let mut spans: Vec<Span> = vec![in alloc; Span { from: 0, to: 0 }; count as usize]?;
+    let mut i = count;
+    'parts: while i > 0 {
+        i -= 1;
+        let own = remaining_of_part(alloc, q, parts, prepared, place, tested, i)?;
+        let next = span_of(spans.as_slice(), links[i as usize]);
+        let span = listed(&mut conditions, next, own.as_slice())?;
+        spans[i as usize] = span;
+    }
+    Ok(Remaining { conditions, spans })
+}

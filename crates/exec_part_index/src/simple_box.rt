@@ -1,0 +1,99 @@
+//! The box of a part at a place of FROM as a row is asked of it, where it has at most one dim.
+ghost use Rattle.std.specs.Prelude.{IfSome};
+ghost use Rattle.sem_query.specs.Meaning.{by_column};
+ghost use Rattle.exec_synopsis.specs.Axes.{IsAbove, IsShort, IsBoxLayout};
+ghost use Rattle.exec_part_index.specs.SimpleBox.{IsSimpleBox, IsOneDimBox, IsInBox, axis_in};
+
+use crate::shift::CellAt;
+use exec_synopsis::{BoxLayout, Placement};
+use sem_query::{Kind, PartPlan, value_at};
+
+/// A box of one dim: its least value, how many values there are, the first cell, the column, and what the cells keep of rows.
+#[derive(Clone, Copy, Debug, PartialEq, Eq, Drop)]
+pub struct OneDimBox {
+    pub lo: i64,
+    pub size: u32,
+    pub base: u32,
+    pub column: u8,
+    pub kind: Kind,
+}
+
+/// A box of at most one dim.
+#[derive(Clone, Copy, Debug, PartialEq, Eq, Drop)]
+pub enum SimpleBox {
+    /// The box has more dims, or the numbers of its cells have no 32 bits.
+    Unlisted,
+    /// There is no dim, and so one cell.
+    Cell(CellAt),
+    /// There is one dim.
+    OneDim(OneDimBox),
+}
+
+impl OneDimBox {
+    // How far the value of the dim is above its least one, where it is in range.
+    fn offset_in(self, row: &[i64]) -> Option<u32>
+        requires { IsShort (axis_in self) }
+        ensures { IsAbove (by_column row.now self.column) (axis_in self) result }
+    {
+        let offset = value_at(row, self.column).wrapping_sub(self.lo);
+        if 0 <= offset && offset < i64::from(self.size) {
+            Some(offset as u32)
+        } else {
+            None
+        }
+    }
+
+    // Where a row stands in the part.
+    fn placement(self, part: &PartPlan, pos: u8, row: &[i64]) -> Placement
+        requires { IsOneDimBox part.now pos self }
+        ensures { IsInBox part.now pos row.now result }
+    {
+        // Named for the proof alone: the contract speaks of them.
+        let (_part, _pos) = (part, pos);
+        match self.offset_in(row) {
+            Some(offset) => Placement::Cell {
+                number: self.base + offset,
+                kind: self.kind,
+            },
+            None => Placement::Outside,
+        }
+    }
+}
+
+impl SimpleBox {
+    /// Returns where a row stands by the ranges of the dims, where the box is listed.
+    #[inline(always)]
+    pub fn placement(self, part: &PartPlan, pos: u8, row: &[i64]) -> Option<Placement>
+        requires { IsSimpleBox part.now pos self }
+        ensures { IfSome result (λ placement. IsInBox part.now pos row.now placement) }
+    {
+        match self {
+            SimpleBox::Unlisted => None,
+            SimpleBox::Cell(cell) => Some(cell.placement()),
+            SimpleBox::OneDim(single) => Some(single.placement(part, pos, row)),
+        }
+    }
+}
+
+/// Returns the box of a part as it is listed for every row.
+pub fn simple_box_of(part: &PartPlan, place: u8, listed: &BoxLayout) -> SimpleBox
+    requires { IsBoxLayout part.now place listed.now }
+    ensures { IsSimpleBox part.now place result }
+{
+    // Named for the proof alone: the contract speaks of them.
+    let (_part, _place) = (part, place);
+    match listed.axes.as_slice() {
+        [] => SimpleBox::Cell(CellAt {
+            number: listed.base,
+            kind: listed.kind,
+        }),
+        [axis] => SimpleBox::OneDim(OneDimBox {
+            lo: axis.lo,
+            size: axis.size,
+            base: listed.base,
+            column: axis.column,
+            kind: listed.kind,
+        }),
+        _ => SimpleBox::Unlisted,
+    }
+}

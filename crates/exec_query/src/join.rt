@@ -1,0 +1,398 @@
+//! What a row does in one part: what the cells answer to it waits in the table, and its own cell takes it.
+ghost use Rattle.std.specs.Prelude.{◌≡◌, ◌<◌, ◌≤◌, ◌+◌, ◌*◌, ◌||◌, length, slice_index_or, true, false, IsTrue, if◌then◌else◌, Some, None, IfSome, MatchOption};
+ghost use Rattle.sem_query.specs.declared.cell.Cell.TheVariants as cells;
+ghost use Rattle.sem_query.specs.Admission.{admits};
+ghost use Rattle.sem_query.specs.Meaning.{by_column};
+ghost use Rattle.sem_query.specs.Combinations.{Reading, read_from, found_in};
+ghost use Rattle.sem_query.specs.Probing.{found_beside};
+ghost use Rattle.exec_pool.specs.Extents.{cells_of, with_cells};
+ghost use Rattle.sem_query.specs.Parts.{pairs};
+ghost use Rattle.exec_synopsis.specs.Premises.{IsHeld, IsReady, HasRoom, row_cell};
+ghost use Rattle.exec_synopsis.specs.Inserting.{cells_with_row};
+ghost use Rattle.exec_synopsis.specs.Preparing.{IsPrepared};
+ghost use Rattle.exec_synopsis.specs.Axes.{IsCell};
+ghost use Rattle.exec_synopsis.specs.Own as own_cells;
+ghost use Rattle.exec_synopsis.specs.Own.{IsOwnCell};
+ghost use Rattle.exec_join.specs.Costs.{walk_reads};
+ghost use Rattle.exec_join.specs.Remaining.{as_found};
+ghost use Rattle.exec_answer_table.specs.Entries.{with_entries, Fits};
+ghost use Rattle.exec_query.specs.FoundTable.{with_found, with_all, HaveRoom, AreOld};
+ghost use Rattle.exec_query.specs.CellSteps.{arrives, with_row, CanCount};
+ghost use Rattle.exec_point_lookup.specs.Known.{IsDetermined};
+ghost use Rattle.exec_query.specs.Reads.{most_reads};
+ghost use Rattle.exec_part_index.specs.Leaving.{reads_of, LeavesCell};
+
+use exec_answer_lines::LINE_ROOM;
+use exec_answer_table::Answers;
+use exec_join::{FirstLook, Probe, ProbeScratch, first_look, is_nothing, look_before_walk};
+use exec_point_lookup::determined_tuple;
+use exec_pool::{Pool, Steps};
+use exec_ranges::PartAt;
+use exec_synopsis::{Admitted, OwnCell, own_cell, put_own};
+use sem_query::{Row, Tuple};
+use std::sync::ledger::Ledger;
+
+/// The most times that one answer waits.
+pub const MOST_TIMES: u128 = 1 << 127;
+
+/// How a part takes a row: whether it takes it into a box of its own, and whether it is known that a row which leaves its cell as it is
+/// is answered nothing new; and the row's own cell, where it was read.
+#[derive(Clone, Copy, Debug, PartialEq, Eq, Drop)]
+pub struct Takes {
+    pub owns: bool,
+    pub known: bool,
+    pub own: Option<OwnCell>,
+}
+
+impl Takes {
+    // Whether the row's own cell is looked at.
+    fn looks(self) -> bool
+        ensures { result ≡ (self.owns || self.known) }
+    {
+        self.owns || self.known
+    }
+
+    // Whether the row is known to be answered nothing new, by its own cell.
+    fn spares(self, own: &OwnCell, row: &Row) -> bool
+        ensures known { result ≡ true → self.known ≡ true }
+        ensures stays { result ≡ true → own_cells.with_row own.now row.now.items ≡ own.now.held }
+        ensures sure { self.known ≡ true → own_cells.with_row own.now row.now.items ≡ own.now.held → result ≡ true }
+    {
+        if !self.known {
+            return false;
+        }
+        own.stays(row)
+    }
+}
+
+/// Room to work in, of which nothing is asked.
+#[derive(Drop)]
+pub struct Scratch {
+    pub room: ProbeScratch,
+    pub tuple: Tuple,
+    pub line: [u8; LINE_ROOM],
+}
+
+impl Scratch {
+    /// Returns room to work in.
+    pub fn new() -> Scratch {
+        Scratch {
+            room: ProbeScratch::default(),
+            tuple: Tuple::new(),
+            line: [0; LINE_ROOM],
+        }
+    }
+}
+
+/// Takes up a tuple that was found: with DISTINCT it waits once, and that only where it has no entry.
+pub fn record_found(distinct: bool, tuple: &Tuple, count: u128, table: &mut Answers)
+    requires width { length tuple.now.items ≡ table.old.width }
+    requires room { Fits tuple.now.items table.old }
+    ensures { table.new ≡ with_entries table.old (with_found distinct (as_found tuple.now.items count) table.old.entries) }
+{
+    if distinct {
+        table.add_new(tuple);
+    } else {
+        table.add_upto(tuple, count, MOST_TIMES);
+    }
+}
+
+// Takes up all that a walk over the cells of a part finds for a row.
+fn walk_all<L: Ledger>(
+    pool: &Pool,
+    part: &PartAt<'_>,
+    at: &Admitted<'_>,
+    room: &mut ProbeScratch,
+    tuple: &mut Tuple,
+    table: &mut Answers,
+    steps: &mut Steps<L>,
+)
+    requires here { at.now.pos < length part.now.q.now.from }
+    requires ready { IsReady part.now.q.now part.now.plan.now pool.now part.now.extent.now }
+    requires prepared { IsPrepared (pairs part.now.q.now) part.now.plan.now part.now.prepared.now }
+    requires room { HaveRoom part.now.q.now.distinct (found_beside part.now.q.now part.now.plan.now (read_from (cells_of pool.now part.now.extent.now)) at.now.pos (by_column at.now.row.now.items)) table.old }
+    ensures table { table.new ≡ with_entries table.old (with_all part.now.q.now.distinct (found_beside part.now.q.now part.now.plan.now (read_from (cells_of pool.now part.now.extent.now)) at.now.pos (by_column at.now.row.now.items)) table.old.entries) }
+    ensures reads { steps.new.reads ≤ steps.old.reads + walk_reads part.now.plan.now at.now.pos }
+    ensures writes { steps.new.writes ≡ steps.old.writes }
+{
+    let seen = room.look_along(pool, part, at, steps);
+    if is_nothing(seen) {
+        return;
+    }
+    let (q, plan, prepared) = (part.q, part.plan, part.prepared);
+    let mut probe = Probe::new_behind(q, plan, prepared, at.pos, at.row, room, seen);
+    'walk: while let Some(count) = probe.next(pool, part.extent, q, plan, tuple, steps) {
+        record_found(q.distinct(), tuple, count, table);
+        probe.pass_repeats(q, plan, tuple);
+    }
+}
+
+// Takes up the one tuple that a part can answer to a row: the walk ends at the first find.
+fn answer_once<L: Ledger>(
+    pool: &Pool,
+    part: &PartAt<'_>,
+    at: &Admitted<'_>,
+    room: &mut ProbeScratch,
+    tuple: &mut Tuple,
+    table: &mut Answers,
+    steps: &mut Steps<L>,
+)
+    requires here { at.now.pos < length part.now.q.now.from }
+    requires ready { IsReady part.now.q.now part.now.plan.now pool.now part.now.extent.now }
+    requires prepared { IsPrepared (pairs part.now.q.now) part.now.plan.now part.now.prepared.now }
+    requires room { HaveRoom part.now.q.now.distinct (found_beside part.now.q.now part.now.plan.now (read_from (cells_of pool.now part.now.extent.now)) at.now.pos (by_column at.now.row.now.items)) table.old }
+    requires one { IsDetermined part.now.q.now part.now.plan.now at.now.pos at.now.row.now.items tuple.old.items }
+    ensures table { table.new ≡ with_entries table.old (with_all part.now.q.now.distinct (found_beside part.now.q.now part.now.plan.now (read_from (cells_of pool.now part.now.extent.now)) at.now.pos (by_column at.now.row.now.items)) table.old.entries) }
+    ensures reads { steps.new.reads ≤ steps.old.reads + walk_reads part.now.plan.now at.now.pos }
+    ensures writes { steps.new.writes ≡ steps.old.writes }
+{
+    let seen = room.look_along(pool, part, at, steps);
+    if is_nothing(seen) {
+        return;
+    }
+    let (q, plan, prepared) = (part.q, part.plan, part.prepared);
+    let mut probe = Probe::new_behind(q, plan, prepared, at.pos, at.row, room, seen);
+    match probe.next(pool, part.extent, q, plan, tuple, steps) {
+        Some(count) => record_found(true, tuple, count, table),
+        None => {}
+    }
+}
+
+// Takes up all that a walk over the cells of a part finds for a row, or the first find where there can be no other tuple. It is not
+// inlined: most rows are answered before a walk begins.
+#[inline(never)]
+fn walk<L: Ledger>(
+    pool: &Pool,
+    part: &PartAt<'_>,
+    at: &Admitted<'_>,
+    room: &mut ProbeScratch,
+    tuple: &mut Tuple,
+    table: &mut Answers,
+    steps: &mut Steps<L>,
+)
+    requires here { at.now.pos < length part.now.q.now.from }
+    requires ready { IsReady part.now.q.now part.now.plan.now pool.now part.now.extent.now }
+    requires prepared { IsPrepared (pairs part.now.q.now) part.now.plan.now part.now.prepared.now }
+    requires room { HaveRoom part.now.q.now.distinct (found_beside part.now.q.now part.now.plan.now (read_from (cells_of pool.now part.now.extent.now)) at.now.pos (by_column at.now.row.now.items)) table.old }
+    ensures table { table.new ≡ with_entries table.old (with_all part.now.q.now.distinct (found_beside part.now.q.now part.now.plan.now (read_from (cells_of pool.now part.now.extent.now)) at.now.pos (by_column at.now.row.now.items)) table.old.entries) }
+    ensures reads { steps.new.reads ≤ steps.old.reads + walk_reads part.now.plan.now at.now.pos }
+    ensures writes { steps.new.writes ≡ steps.old.writes }
+{
+    if determined_tuple(part.q, part.plan, at.pos, at.row, tuple) {
+        answer_once(pool, part, at, room, tuple, table, steps);
+    } else {
+        walk_all(pool, part, at, room, tuple, table, steps);
+    }
+}
+
+// Whether all that a part can answer to a row is one tuple that the row alone tells, and that has an entry. No cell is read, and where
+// there is no entry nothing is asked.
+fn is_answered(part: &PartAt<'_>, at: &Admitted<'_>, tuple: &mut Tuple, table: &Answers) -> bool
+    requires here { at.now.pos < length part.now.plan.now.streams.items }
+    ensures { result ≡ true → (read : Reading) → AreOld part.now.q.now.distinct (found_beside part.now.q.now part.now.plan.now read at.now.pos (by_column at.now.row.now.items)) table.now.entries }
+{
+    if table.len() == 0 || !determined_tuple(part.q, part.plan, at.pos, at.row, tuple) {
+        return false;
+    }
+    table.has(tuple)
+}
+
+// Takes up all that the cells of a part answer to a row. Where that is one tuple that has an entry, nothing changes. It is not inlined: with
+// DISTINCT most rows do without it.
+#[inline(never)]
+fn look_then_walk<L: Ledger>(
+    pool: &Pool,
+    part: &PartAt<'_>,
+    at: &Admitted<'_>,
+    room: &mut ProbeScratch,
+    tuple: &mut Tuple,
+    table: &mut Answers,
+    steps: &mut Steps<L>,
+)
+    requires here { at.now.pos < length part.now.q.now.from }
+    requires ready { IsReady part.now.q.now part.now.plan.now pool.now part.now.extent.now }
+    requires prepared { IsPrepared (pairs part.now.q.now) part.now.plan.now part.now.prepared.now }
+    requires room { HaveRoom part.now.q.now.distinct (found_beside part.now.q.now part.now.plan.now (read_from (cells_of pool.now part.now.extent.now)) at.now.pos (by_column at.now.row.now.items)) table.old }
+    ensures table { table.new ≡ with_entries table.old (with_all part.now.q.now.distinct (found_beside part.now.q.now part.now.plan.now (read_from (cells_of pool.now part.now.extent.now)) at.now.pos (by_column at.now.row.now.items)) table.old.entries) }
+    ensures reads { steps.new.reads ≤ steps.old.reads + most_reads part.now.plan.now }
+    ensures writes { steps.new.writes ≡ steps.old.writes }
+{
+    if is_answered(part, at, tuple, table) {
+        return;
+    }
+    match look_before_walk(pool, part, at, room, tuple, steps) {
+        FirstLook::Nothing => {}
+        FirstLook::One(count) => {
+            record_found(part.q.distinct(), tuple, u128::from(count), table)
+        }
+        FirstLook::Unknown => walk(pool, part, at, room, tuple, table, steps),
+    }
+}
+
+/// Takes up what one look-up tells of the answers of a part to a row, or what a walk finds where it tells nothing.
+#[inline(always)]
+pub fn look<L: Ledger>(
+    pool: &Pool,
+    part: &PartAt<'_>,
+    at: &Admitted<'_>,
+    room: &mut ProbeScratch,
+    tuple: &mut Tuple,
+    table: &mut Answers,
+    steps: &mut Steps<L>,
+)
+    requires here { at.now.pos < length part.now.q.now.from }
+    requires ready { IsReady part.now.q.now part.now.plan.now pool.now part.now.extent.now }
+    requires prepared { IsPrepared (pairs part.now.q.now) part.now.plan.now part.now.prepared.now }
+    requires room { HaveRoom part.now.q.now.distinct (found_beside part.now.q.now part.now.plan.now (read_from (cells_of pool.now part.now.extent.now)) at.now.pos (by_column at.now.row.now.items)) table.old }
+    ensures table { table.new ≡ with_entries table.old (with_all part.now.q.now.distinct (found_beside part.now.q.now part.now.plan.now (read_from (cells_of pool.now part.now.extent.now)) at.now.pos (by_column at.now.row.now.items)) table.old.entries) }
+    ensures reads { steps.new.reads ≤ steps.old.reads + most_reads part.now.plan.now }
+    ensures writes { steps.new.writes ≡ steps.old.writes }
+{
+    match first_look(pool, part, at, tuple, steps) {
+        FirstLook::Nothing => {}
+        FirstLook::One(count) => {
+            record_found(part.q.distinct(), tuple, u128::from(count), table)
+        }
+        FirstLook::Unknown => {
+            // Copies of its own for the call that is not inlined, so that the others stay in registers.
+            let (met, row) = (*part, *at);
+            look_then_walk(pool, &met, &row, room, tuple, table, steps);
+        }
+    }
+}
+
+// Takes up all that the cells of a part answer to a row: by one look-up where it is listed how the row finds the one cell that can
+// answer with it, else by a walk.
+#[inline(always)]
+fn answer<L: Ledger>(
+    pool: &Pool,
+    part: &PartAt<'_>,
+    at: &Admitted<'_>,
+    scratch: &mut Scratch,
+    table: &mut Answers,
+    steps: &mut Steps<L>,
+)
+    requires here { at.now.pos < length part.now.q.now.from }
+    requires ready { IsReady part.now.q.now part.now.plan.now pool.now part.now.extent.now }
+    requires prepared { IsPrepared (pairs part.now.q.now) part.now.plan.now part.now.prepared.now }
+    requires room { HaveRoom part.now.q.now.distinct (found_beside part.now.q.now part.now.plan.now (read_from (cells_of pool.now part.now.extent.now)) at.now.pos (by_column at.now.row.now.items)) table.old }
+    ensures table { table.new ≡ with_entries table.old (with_all part.now.q.now.distinct (found_beside part.now.q.now part.now.plan.now (read_from (cells_of pool.now part.now.extent.now)) at.now.pos (by_column at.now.row.now.items)) table.old.entries) }
+    ensures reads { steps.new.reads ≤ steps.old.reads + most_reads part.now.plan.now }
+    ensures writes { steps.new.writes ≡ steps.old.writes }
+{
+    let (room, tuple) = (&mut scratch.room, &mut scratch.tuple);
+    if part.prepared.join_lookup(at.pos).is_some() {
+        look(pool, part, at, room, tuple, table, steps);
+    } else {
+        look_then_walk(pool, part, at, room, tuple, table, steps);
+    }
+}
+
+// Takes up all that the cells of a part answer to a row, and then takes the row into its own cell, where that was read for it. It is not
+// inlined: with DISTINCT most rows leave their own cells as they are.
+#[inline(never)]
+fn answer_and_put<L: Ledger>(
+    pool: &mut Pool,
+    part: &PartAt<'_>,
+    at: &Admitted<'_>,
+    own: &Option<OwnCell>,
+    scratch: &mut Scratch,
+    table: &mut Answers,
+    steps: &mut Steps<L>,
+)
+    requires here { at.now.pos < length part.now.q.now.from }
+    requires ready { IsReady part.now.q.now part.now.plan.now pool.old part.now.extent.now }
+    requires prepared { IsPrepared (pairs part.now.q.now) part.now.plan.now part.now.prepared.now }
+    requires own { IfSome own.now (λ cell. IsOwnCell part.now.plan.now at.now.pos at.now.row.now.items (cells_of pool.old part.now.extent.now) cell × (cell.number < 64 * part.now.extent.now.pages) × HasRoom cell.held) }
+    requires room { HaveRoom part.now.q.now.distinct (found_beside part.now.q.now part.now.plan.now (read_from (cells_of pool.old part.now.extent.now)) at.now.pos (by_column at.now.row.now.items)) table.old }
+    ensures table { table.new ≡ with_entries table.old (with_all part.now.q.now.distinct (found_beside part.now.q.now part.now.plan.now (read_from (cells_of pool.old part.now.extent.now)) at.now.pos (by_column at.now.row.now.items)) table.old.entries) }
+    ensures pool { MatchOption own.now (pool.new ≡ pool.old) (λ cell. pool.new ≡ with_cells pool.old part.now.extent.now (cells_with_row part.now.plan.now at.now.pos at.now.row.now.items (cells_of pool.old part.now.extent.now))) }
+    ensures reads { steps.new.reads ≤ steps.old.reads + most_reads part.now.plan.now }
+    ensures writes { steps.new.writes ≤ steps.old.writes + 1 }
+{
+    answer(pool, part, at, scratch, table, steps);
+    match own {
+        Some(own) => put_own(pool, part.extent, part.plan, at, own, steps),
+        None => {}
+    }
+}
+
+// The own cell of a row, where a part takes rows into a box of its own.
+fn cell_to_put(owns: bool, own: OwnCell) -> Option<OwnCell>
+    ensures { result ≡ (if owns then Some own else None) }
+{
+    if owns { Some(own) } else { None }
+}
+
+// The cell that a row falls into in a part that admits it. This is one read, where it was not read before.
+fn read_once<L: Ledger>(
+    pool: &Pool,
+    part: &PartAt<'_>,
+    at: &Admitted<'_>,
+    own: Option<OwnCell>,
+    steps: &mut Steps<L>,
+) -> OwnCell
+    requires here { at.now.pos < length part.now.q.now.from }
+    requires several { 1 < length part.now.q.now.from }
+    requires held { IsHeld part.now.q.now part.now.plan.now pool.now part.now.extent.now }
+    requires admitted { IsTrue (admits part.now.q.now part.now.plan.now at.now.pos (by_column at.now.row.now.items)) }
+    requires placement { IsCell part.now.plan.now at.now.pos at.now.row.now.items at.now.placement }
+    requires room { HasRoom (slice_index_or (cells_of pool.now part.now.extent.now) (row_cell part.now.plan.now at.now.pos at.now.row.now.items) cells.Empty) }
+    requires own { IfSome own (λ cell. IsOwnCell part.now.plan.now at.now.pos at.now.row.now.items (cells_of pool.now part.now.extent.now) cell × (cell.number < 64 * part.now.extent.now.pages)) }
+    ensures own { IsOwnCell part.now.plan.now at.now.pos at.now.row.now.items (cells_of pool.now part.now.extent.now) result }
+    ensures inside { result.number < 64 * part.now.extent.now.pages }
+    ensures room { HasRoom result.held }
+    ensures reads { steps.new.reads + reads_of own ≡ steps.old.reads + 1 }
+    ensures writes { steps.new.writes ≡ steps.old.writes }
+{
+    match own {
+        Some(own) => own,
+        None => own_cell(pool, part.extent, part.q, part.plan, at, steps),
+    }
+}
+
+/// Takes a row into a part that admits it: all that the cells answer to it is taken up, and where the part takes rows into a box of its
+/// own, the row's own cell takes it. Where it is known that a row which leaves its cell as it is is answered nothing new, such a row
+/// walks over no cell. A cell that was read is not read again. Returns false where no cell changed.
+pub fn apply_to_part<L: Ledger>(
+    pool: &mut Pool,
+    part: &PartAt<'_>,
+    at: &Admitted<'_>,
+    takes: Takes,
+    scratch: &mut Scratch,
+    table: &mut Answers,
+    steps: &mut Steps<L>,
+) -> bool
+    requires here { at.now.pos < length part.now.q.now.from }
+    requires ready { IsReady part.now.q.now part.now.plan.now pool.old part.now.extent.now }
+    requires prepared { IsPrepared (pairs part.now.q.now) part.now.plan.now part.now.prepared.now }
+    requires admitted { admits part.now.q.now part.now.plan.now at.now.pos (by_column at.now.row.now.items) ≡ true }
+    requires placement { IsCell part.now.plan.now at.now.pos at.now.row.now.items at.now.placement }
+    requires own { IfSome takes.own (λ cell. IsOwnCell part.now.plan.now at.now.pos at.now.row.now.items (cells_of pool.old part.now.extent.now) cell × (cell.number < 64 * part.now.extent.now.pages)) }
+    requires several { (takes.owns || takes.known) ≡ true → 1 < length part.now.q.now.from }
+    requires counts { (takes.owns || takes.known) ≡ true → CanCount part.now.plan.now (read_from (cells_of pool.old part.now.extent.now)) }
+    requires old { takes.known ≡ true → LeavesCell part.now.plan.now (read_from (cells_of pool.old part.now.extent.now)) at.now.pos at.now.row.now.items → AreOld part.now.q.now.distinct (found_in part.now.q.now part.now.plan.now (read_from (cells_of pool.old part.now.extent.now)) (arrives part.now.q.now at.now.pos at.now.row.now.items)) table.old.entries }
+    requires room { HaveRoom part.now.q.now.distinct (found_in part.now.q.now part.now.plan.now (read_from (cells_of pool.old part.now.extent.now)) (arrives part.now.q.now at.now.pos at.now.row.now.items)) table.old }
+    ensures table { table.new ≡ with_entries table.old (with_all part.now.q.now.distinct (found_in part.now.q.now part.now.plan.now (read_from (cells_of pool.old part.now.extent.now)) (arrives part.now.q.now at.now.pos at.now.row.now.items)) table.old.entries) }
+    ensures pool { pool.new ≡ with_row takes.owns part.now.q.now part.now.plan.now at.now.pos at.now.row.now.items part.now.extent.now pool.old }
+    ensures same { result ≡ false → pool.new ≡ pool.old }
+    ensures reads { steps.new.reads + reads_of takes.own ≤ steps.old.reads + most_reads part.now.plan.now + 1 }
+    ensures writes { steps.new.writes ≤ steps.old.writes + 1 }
+{
+    // Read for the proof alone: the call tells how many streams there are.
+    let _from = part.q.from();
+    // Copies of their own for the calls that are not inlined, so that the others stay in registers.
+    if !takes.looks() {
+        let (met, row) = (*part, *at);
+        answer_and_put(pool, &met, &row, &None, scratch, table, steps);
+        return false;
+    }
+    let own = read_once(pool, part, at, takes.own, steps);
+    if takes.spares(&own, at.row) {
+        return false;
+    }
+    let put = cell_to_put(takes.owns, own);
+    let (met, row) = (*part, *at);
+    answer_and_put(pool, &met, &row, &put, scratch, table, steps);
+    takes.owns
+}

@@ -1,0 +1,176 @@
+//! What a row does in a query of one part where one column tells the two cells that it meets.
+ghost use Rattle.std.specs.Prelude.{◌≡◌, [], ◌<◌, ◌≤◌, ◌+◌, ◌*◌, length, map, true, false, Some};
+ghost use Rattle.sem_query.specs.Meaning.{by_column};
+ghost use Rattle.sem_query.specs.Combinations.{read_from};
+ghost use Rattle.exec_pool.specs.Extents.{cells_of};
+ghost use Rattle.exec_ranges.specs.Values.{rows_in};
+ghost use Rattle.exec_join.specs.Remaining.{as_found};
+ghost use Rattle.exec_answer_table.specs.Entries.{with_entries, Fits};
+ghost use Rattle.exec_query.specs.Executor.{cleared, spelled};
+ghost use Rattle.exec_query.specs.FoundTable.{with_found, with_all, HaveRoom};
+ghost use Rattle.exec_query.specs.Reads.{row_reads};
+ghost use Rattle.exec_query.specs.CellSteps.{arrives, all_found, HasTaken, AreReady};
+ghost use Rattle.exec_query.specs.TwoCells.{told_by};
+ghost use Rattle.exec_point_lookup.specs.Direct.{IsDirect};
+
+use crate::executor::clear;
+use crate::join::{MOST_TIMES, record_found};
+use crate::route::PartsAt;
+use exec_answer_table::Answers;
+use exec_point_lookup::{DirectLookup, offset_in, put_selected};
+use exec_pool::{Pool, Steps};
+use exec_ranges::{is_empty, rows_in};
+use exec_synopsis::{Admitted, Placement, own_cell, put_own};
+use sem_query::{Cell, Kind, Query, Row, Tuple};
+use std::sync::ledger::Ledger;
+
+// Takes up the values of these columns of a row with DISTINCT. It is not inlined: most such queries have no DISTINCT.
+#[inline(never)]
+fn take_up_once(columns: &[u8], row: &[i64], tuple: &mut Tuple, table: &mut Answers)
+    requires few { length columns.now ≤ 8 }
+    requires width { length (map (by_column row.now) columns.now) ≡ table.old.width }
+    requires room { Fits (map (by_column row.now) columns.now) table.old }
+    ensures { table.new ≡ with_entries table.old (with_found true (as_found (map (by_column row.now) columns.now) 1) table.old.entries) }
+{
+    put_selected(columns, row, tuple);
+    record_found(true, tuple, 1, table);
+}
+
+// Takes up what a cell with rows answers to a row. To call it costs more than to inline it.
+#[inline(always)]
+fn take_up(
+    q: &Query,
+    direct: &DirectLookup,
+    row: &Row,
+    cell: Cell,
+    tuple: &mut Tuple,
+    table: &mut Answers,
+)
+    requires width { length (map (by_column row.now.items) direct.now.selected.items) ≡ table.old.width }
+    requires room { Fits (map (by_column row.now.items) direct.now.selected.items) table.old }
+    ensures { table.new ≡ with_entries table.old (with_found q.now.distinct (as_found (map (by_column row.now.items) direct.now.selected.items) (rows_in cell)) table.old.entries) }
+{
+    let (columns, values) = (direct.selected.as_slice(), row.as_slice());
+    if q.distinct() {
+        take_up_once(columns, values, tuple, table);
+    } else {
+        table.add_columns_upto(columns, values, u128::from(rows_in(cell)), MOST_TIMES);
+    }
+}
+
+// Takes up what the other cell tells of the answers to a row.
+#[inline(always)]
+fn answer_by_cell(
+    q: &Query,
+    direct: &DirectLookup,
+    row: &Row,
+    cell: Cell,
+    tuple: &mut Tuple,
+    table: &mut Answers,
+)
+    requires { HaveRoom q.now.distinct (told_by direct.now row.now.items cell) table.old }
+    ensures { table.new ≡ with_entries table.old (with_all q.now.distinct (told_by direct.now row.now.items cell) table.old.entries) }
+{
+    if is_empty(cell) {
+        return;
+    }
+    take_up(q, direct, row, cell, tuple, table);
+}
+
+// Gives up what waited, and takes up what the other cell tells. It is not inlined: most rows meet an empty cell.
+#[inline(never)]
+fn take_up_anew(
+    q: &Query,
+    direct: &DirectLookup,
+    row: &Row,
+    cell: Cell,
+    tuple: &mut Tuple,
+    table: &mut Answers,
+)
+    requires { HaveRoom q.now.distinct (told_by direct.now row.now.items cell) (with_entries table.old (cleared q.now.distinct table.old.entries)) }
+    ensures { table.new ≡ with_entries table.old (with_all q.now.distinct (told_by direct.now row.now.items cell) (cleared q.now.distinct table.old.entries)) }
+{
+    clear(q.distinct(), table);
+    answer_by_cell(q, direct, row, cell, tuple, table);
+}
+
+// Gives up what waited. It is not inlined, so that a row before which nothing waited pays nothing for it.
+#[cold]
+#[inline(never)]
+fn give_up(q: &Query, table: &mut Answers)
+    ensures { table.new ≡ with_entries table.old (cleared q.now.distinct table.old.entries) }
+{
+    clear(q.distinct(), table);
+}
+
+// Gives up what waited, where there is anything.
+#[inline(always)]
+fn give_up_listed(q: &Query, table: &mut Answers)
+    ensures { table.new ≡ with_entries table.old (cleared q.now.distinct table.old.entries) }
+{
+    if table.len() == 0 {
+        return;
+    }
+    give_up(q, table);
+}
+
+/// Gives up what waited, takes up what the other cell tells of the answers to a row, and returns whether any may wait.
+#[inline(always)]
+pub fn answer_anew(
+    q: &Query,
+    direct: &DirectLookup,
+    row: &Row,
+    cell: Cell,
+    tuple: &mut Tuple,
+    table: &mut Answers,
+) -> bool
+    requires { HaveRoom q.now.distinct (told_by direct.now row.now.items cell) (with_entries table.old (cleared q.now.distinct table.old.entries)) }
+    ensures table { table.new ≡ with_entries table.old (with_all q.now.distinct (told_by direct.now row.now.items cell) (cleared q.now.distinct table.old.entries)) }
+    ensures none { result ≡ false → spelled table.new.entries ≡ [] }
+{
+    if is_empty(cell) {
+        give_up_listed(q, table);
+        return false;
+    }
+    take_up_anew(q, direct, row, cell, tuple, table);
+    true
+}
+
+/// Takes a row of a stream of FROM into its own cell, where the only part of a query admits it, and returns what the other cell holds, which
+/// tells the answers: nothing, where the part does not admit it.
+#[inline(always)]
+pub fn meet_cells<L: Ledger>(
+    pool: &mut Pool,
+    all: &PartsAt<'_>,
+    direct: &DirectLookup,
+    row: &Row,
+    steps: &mut Steps<L>,
+) -> Cell
+    requires direct { IsDirect all.now.q.now all.now.parts.now direct.now }
+    requires ready { AreReady all.now.q.now all.now.parts.now pool.old all.now.extent.now }
+    ensures answers { all_found all.now.q.now all.now.parts.now (read_from (cells_of pool.old all.now.extent.now)) (arrives all.now.q.now direct.now.pos row.now.items) ≡ told_by direct.now row.now.items result }
+    ensures pool { HasTaken all.now.q.now all.now.parts.now all.now.extent.now (arrives all.now.q.now direct.now.pos row.now.items) (length all.now.parts.now) pool.old pool.new }
+    ensures reads { steps.new.reads ≤ steps.old.reads + row_reads all.now.parts.now + length all.now.parts.now }
+    ensures writes { steps.new.writes ≤ steps.old.writes + length all.now.parts.now }
+{
+    let (q, extent) = (all.q, all.extent);
+    let plan = all.parts.get(0);
+    let values = row.as_slice();
+    let Some(offset) = offset_in(direct.range, values) else {
+        return Cell::Empty;
+    };
+    let placement = Placement::Cell {
+        number: direct.own + offset,
+        kind: Kind::Count,
+    };
+    let at = Admitted {
+        row,
+        pos: direct.pos,
+        placement,
+    };
+    // The own cell is read last, and put at once: where it stands is still at hand.
+    let there = pool.read(extent, direct.other + offset, steps);
+    let own = own_cell(pool, extent, q, plan, &at, steps);
+    put_own(pool, extent, plan, &at, &own, steps);
+    there
+}

@@ -1,0 +1,224 @@
+//! What a row does to all live queries.
+ghost use Rattle.std.specs.Prelude.{◌≡◌, ◌<◌, ◌≤◌, ◌+◌, ◌%◌, ◌^◌, All, List, ℕ, true, false, length, [], IfSome};
+ghost use Rattle.sem_query.specs.Domains.{RowKeeps};
+ghost use Rattle.exec_query.specs.Executor.{arrival, waiting_in};
+ghost use Rattle.exec_query.specs.Standing.{IsReady};
+ghost use Rattle.exec_registry.specs.Live.{named, plan_reads, plan_writes};
+ghost use Rattle.exec_registry.specs.Registry.{IsSound, KeepsToEach, most_reads, most_writes};
+ghost use Rattle.exec_registry.specs.RowByQuery.{AreSpared, IsOnlyBit, TookOne, TookFirst};
+ghost use Rattle.exec_registry.specs.Counted.{IsCounted, run_to};
+ghost use Rattle.exec_registry.specs.Waiting.{AreQuiet};
+
+use crate::queries::{Queries, Runner};
+use crate::waiting::noted;
+use exec_pool::{Pool, Steps};
+use exec_query::Executor;
+use exec_query_index::{Concerns, has_bit, lowest_bit, without_bit};
+use sem_query::Row;
+use std::sync::ledger::Ledger;
+
+// Gives a row to what runs a live query, whatever its name. Where it is within, the prefilter need not be asked.
+#[inline(always)]
+#[tactic(auto, using(crate::proofs::InTurn::took_one))]
+fn apply_to_one<L: Ledger>(
+    pool: &mut Pool,
+    executor: &mut Executor,
+    is_within: bool,
+    stream: u8,
+    row: &Row,
+    steps: &mut Steps<L>,
+) -> bool
+    requires ready { IsReady executor.old pool.old }
+    requires keeps { RowKeeps executor.old.query (arrival stream row.now.items) }
+    ensures none { result ≡ false → waiting_in executor.new ≡ [] }
+    ensures taken { (name : List ℕ) → TookOne (arrival stream row.now.items) pool.old pool.new (named name executor.old) (named name executor.new) }
+    ensures reads { steps.new.reads ≤ steps.old.reads + plan_reads executor.old.plan }
+    ensures writes { steps.new.writes ≤ steps.old.writes + plan_writes executor.old.plan }
+{
+    let waits = executor.apply(is_within, pool, stream, row, steps);
+    // Read for the proof alone: the call tells what is true of what runs the query.
+    let _sound = executor.plan();
+    waits
+}
+
+// Gives a row to what runs a live query, of which so many rows were counted.
+#[inline(always)]
+fn take_next<L: Ledger>(
+    pool: &mut Pool,
+    runner: &mut Runner,
+    is_within: bool,
+    rows: u64,
+    stream: u8,
+    row: &Row,
+    steps: &mut Steps<L>,
+) -> bool
+    requires counted { IsCounted rows runner.old }
+    requires ready { IsReady (run_to rows runner.old) pool.old }
+    requires keeps { RowKeeps runner.old.executor.query (arrival stream row.now.items) }
+    ensures none { result ≡ false → waiting_in runner.new.executor ≡ [] }
+    ensures taken { (name : List ℕ) → TookOne (arrival stream row.now.items) pool.old pool.new (named name (run_to rows runner.old)) (named name runner.new.executor) }
+    ensures before { runner.new.before ≡ runner.old.before }
+    ensures reads { steps.new.reads ≤ steps.old.reads + plan_reads runner.old.executor.plan }
+    ensures writes { steps.new.writes ≤ steps.old.writes + plan_writes runner.old.executor.plan }
+{
+    runner.catch_up(rows);
+    apply_to_one(pool, &mut runner.executor, is_within, stream, row, steps)
+}
+
+// The number of rows with one more. Where no query is live it is of no account, and may be too large.
+fn one_more(rows: u64) -> u64
+    ensures { result ≡ (rows + 1) % 2 ^ 64 }
+{
+    rows.wrapping_add(1)
+}
+
+// Gives a row to the live queries that a word has, in order of creation, and counts it for all others. It is not inlined, so that a row of
+// one live query pays nothing for the loop.
+#[cold]
+#[inline(never)]
+fn apply_to_each<L: Ledger>(
+    pool: &mut Pool,
+    live: &mut Queries,
+    asked: Concerns,
+    stream: u8,
+    row: &Row,
+    steps: &mut Steps<L>,
+) -> u64
+    requires sound { IsSound pool.old live.old }
+    requires few { All (λ l. l.executor.given < 2 ^ 40) live.old }
+    requires keeps { KeepsToEach live.old (arrival stream row.now.items) }
+    requires spared { AreSpared asked.word (arrival stream row.now.items) live.old }
+    ensures taken { TookFirst (arrival stream row.now.items) (length live.old) pool.old pool.new live.old live.new }
+    ensures waiting { AreQuiet result live.new }
+    ensures reads { steps.new.reads ≤ steps.old.reads + most_reads live.old }
+    ensures writes { steps.new.writes ≤ steps.old.writes + most_writes live.old }
+{
+    let rows = live.rows;
+    let runners = live.runners.as_mut_slice();
+    let mut waiting = 0;
+    let mut left = asked.word;
+    // The places before it are done.
+    let mut next = 0;
+    'bits: while left != 0 {
+        let place = lowest_bit(left);
+        left = without_bit(left, place);
+        let is_within = has_bit(asked.within, place);
+        let waits = take_next(
+            pool,
+            &mut runners[place],
+            is_within,
+            rows,
+            stream,
+            row,
+            steps,
+        );
+        waiting = noted(waiting, place, waits);
+        next = place + 1;
+    }
+    live.rows = one_more(rows);
+    waiting
+}
+
+// Returns the word where an answer waits, and else none of its bits.
+#[inline(always)]
+fn kept_where(waits: bool, word: u64) -> u64
+    ensures some { waits ≡ true → result ≡ word }
+    ensures none { waits ≡ false → result ≡ 0 }
+{
+    if waits { word } else { 0 }
+}
+
+/// Returns the place of the bit of a word that has no other.
+#[inline(always)]
+#[tactic(auto, using(crate::proofs::Ended::only_left))]
+pub(crate) fn only_bit(word: u64) -> Option<usize>
+    requires { 0 < word }
+    ensures { IfSome result (λ place. IsOnlyBit word place) }
+{
+    let place = lowest_bit(word);
+    if without_bit(word, place) != 0 {
+        return None;
+    }
+    Some(place)
+}
+
+// Counts a row for all live queries, none of which it concerns.
+#[inline(always)]
+fn apply_to_none(pool: &Pool, live: &mut Queries, word: u64, stream: u8, row: &Row) -> u64
+    requires none { word ≡ 0 }
+    requires sound { IsSound pool.now live.old }
+    requires few { All (λ l. l.executor.given < 2 ^ 40) live.old }
+    requires keeps { KeepsToEach live.old (arrival stream row.now.items) }
+    requires spared { AreSpared word (arrival stream row.now.items) live.old }
+    ensures taken { TookFirst (arrival stream row.now.items) (length live.old) pool.now pool.now live.old live.new }
+    ensures waiting { AreQuiet result live.new }
+{
+    live.rows = one_more(live.rows);
+    0
+}
+
+// Gives a row to the live query at a place, the only one that a word has, and counts it for all others.
+#[inline(always)]
+fn apply_to_only<L: Ledger>(
+    pool: &mut Pool,
+    live: &mut Queries,
+    asked: Concerns,
+    place: usize,
+    stream: u8,
+    row: &Row,
+    steps: &mut Steps<L>,
+) -> u64
+    requires only { IsOnlyBit asked.word place }
+    requires sound { IsSound pool.old live.old }
+    requires few { All (λ l. l.executor.given < 2 ^ 40) live.old }
+    requires keeps { KeepsToEach live.old (arrival stream row.now.items) }
+    requires spared { AreSpared asked.word (arrival stream row.now.items) live.old }
+    ensures taken { TookFirst (arrival stream row.now.items) (length live.old) pool.old pool.new live.old live.new }
+    ensures waiting { AreQuiet result live.new }
+    ensures reads { steps.new.reads ≤ steps.old.reads + most_reads live.old }
+    ensures writes { steps.new.writes ≤ steps.old.writes + most_writes live.old }
+{
+    let rows = live.rows;
+    live.rows = one_more(rows);
+    let runners = live.runners.as_mut_slice();
+    let is_within = asked.word & asked.within != 0;
+    let waits = take_next(
+        pool,
+        &mut runners[place],
+        is_within,
+        rows,
+        stream,
+        row,
+        steps,
+    );
+    kept_where(waits, asked.word)
+}
+
+/// Gives a row, whose values lie in the domains of each live query that names its stream, to the live queries that a word has, in order of
+/// creation, and counts it for all others, which it does not concern. Of those that are told answers may wait then.
+#[inline(always)]
+pub fn apply_to_all<L: Ledger>(
+    pool: &mut Pool,
+    live: &mut Queries,
+    asked: Concerns,
+    stream: u8,
+    row: &Row,
+    steps: &mut Steps<L>,
+) -> u64
+    requires sound { IsSound pool.old live.old }
+    requires few { All (λ l. l.executor.given < 2 ^ 40) live.old }
+    requires keeps { KeepsToEach live.old (arrival stream row.now.items) }
+    requires spared { AreSpared asked.word (arrival stream row.now.items) live.old }
+    ensures taken { TookFirst (arrival stream row.now.items) (length live.old) pool.old pool.new live.old live.new }
+    ensures waiting { AreQuiet result live.new }
+    ensures reads { steps.new.reads ≤ steps.old.reads + most_reads live.old }
+    ensures writes { steps.new.writes ≤ steps.old.writes + most_writes live.old }
+{
+    if asked.word == 0 {
+        return apply_to_none(pool, live, asked.word, stream, row);
+    }
+    match only_bit(asked.word) {
+        Some(place) => apply_to_only(pool, live, asked, place, stream, row, steps),
+        None => apply_to_each(pool, live, asked, stream, row, steps),
+    }
+}

@@ -1,0 +1,18 @@
+use Rattle.std.proofs.Common.{◌≡◌, ◌⊎◌, ◌+◌, ◌≤◌}
+use Rattle.exec_answer_table.specs.Entries.{tuples_of}
+use Rattle.sem_query.specs.Combinations.{read_from}
+use Rattle.exec_pool.specs.Extents.{cells_of}
+use Rattle.exec_saturation.specs.declared.saturation.Saturation.{Saturation}
+use Rattle.exec_saturation.specs.Known.{IsBefore, AreSaturated}
+use Rattle.exec_saturation.proofs.cursor.look_on.Given as goal
+
+abbrev pub invariant-cells : goal.invariant-cells
+invariant-cells g l = record {
+  known : AreSaturated (Saturation.Before l.came.at) l.all.q.now l.all.parts.now (read_from (cells_of l.pool l.all.extent.now)) (tuples_of l.all.table.now.entries);
+  moved : ((l.came.at ≡ l.fn.cursor) × (l.came.left ≡ l.fn.budget)) ⊎ IsBefore l.came.at l.fn.cursor.part l.fn.cursor.place l.fn.cursor.cell;
+  reads : l.steps.reads + l.came.left ≤ l.fn.steps.reads + l.budget;
+  writes : l.steps.writes ≡ l.fn.steps.writes;
+}
+
+abbrev pub decreases-cells : goal.decreases-cells
+decreases-cells g l = l.came.left

@@ -1,0 +1,5 @@
+use Rattle.lib_session.proofs.Pieces.{replies_are_session_text}
+use Rattle.lib_session.proofs.laws.replies_are_session_text.Goals as goal
+
+pub returns : goal.returns
+returns c = replies_are_session_text

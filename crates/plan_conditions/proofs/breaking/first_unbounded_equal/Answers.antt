@@ -1,0 +1,12 @@
+use Rattle.std.proofs.Common.{List, subst}
+use Rattle.sem_query.specs.declared.atom.Attr.{Attr}
+use Rattle.sem_query.specs.declared.condition.Condition.TheVariants.{C2}
+use Rattle.sem_query.specs.Query.{attrs_of}
+use Rattle.sem_query.specs.Violation.{Breaks}
+use Rattle.sem_query.specs.FirstBreak.{IsFirstAmong}
+use Rattle.sem_query.proofs.FirstColumns.{first_of_all}
+use Rattle.sem_query.proofs.FirstBreaks.{named_in_equality}
+use Rattle.plan_conditions.proofs.breaking.first_unbounded_equal.Goals as goal
+
+pub returns : goal.returns
+returns c = first_of_all (Breaks c.args.q.now c.args.p.now.signs.items C2) (attrs_of c.args.q.now.atoms) c.first_among.result (named_in_equality c.args.q.now c.args.p.now.signs.items) (subst (λ (z : List Attr). IsFirstAmong (Breaks c.args.q.now c.args.p.now.signs.items C2) z c.first_among.result) c.attrs.ensures.value c.first_among.ensures)

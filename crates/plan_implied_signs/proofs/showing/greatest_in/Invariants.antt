@@ -1,0 +1,5 @@
+use Rattle.std.specs.Prelude.{⊤}
+use Rattle.plan_implied_signs.proofs.showing.greatest_in.Given as goal
+
+abbrev pub invariant-conditions : goal.invariant-conditions
+invariant-conditions l = ⊤

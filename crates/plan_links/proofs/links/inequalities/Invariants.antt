@@ -1,0 +1,6 @@
+use Rattle.std.proofs.Common.{take}
+use Rattle.plan_links.specs.Sifting.{Sifts, IsOrderedInequality}
+use Rattle.plan_links.proofs.links.inequalities.Given as goal
+
+abbrev pub invariant-loop-i : goal.invariant-loop-i
+invariant-loop-i l = Sifts (IsOrderedInequality l.q l.p.signs.items) (take l.i l.links) l.list.items

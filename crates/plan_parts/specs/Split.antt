@@ -1,0 +1,10 @@
+-- What a split answers.
+use Rattle.std.specs.Prelude.{Result, Ok, Err}
+use Rattle.plan_parts.specs.declared.error.SplitError.{SplitError}
+use Rattle.plan_parts.specs.declared.error.SplitError.TheVariants as why
+
+-- P holds where the answer is that there are too many parts
+abbrev pub OnTooMany : {A : Type 0} → Result A SplitError → Type 0 → Type 0
+OnTooMany (Ok x) P = Unit {0}
+OnTooMany (Err why.TooManyParts) P = P
+OnTooMany (Err why.Memory) P = Unit {0}

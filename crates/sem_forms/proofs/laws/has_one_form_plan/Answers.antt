@@ -1,0 +1,5 @@
+use Rattle.sem_forms.proofs.Forms.{has_one_form_plan}
+use Rattle.sem_forms.proofs.laws.has_one_form_plan.Goals as goal
+
+pub returns : goal.returns
+returns c = has_one_form_plan

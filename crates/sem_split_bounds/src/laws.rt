@@ -1,0 +1,65 @@
+//! What the parts of the split form of a query tell of its states.
+ghost use Rattle.sem_split_bounds.specs.Accepted.{UnbrokenPartsHaveFewStates, UnbrokenPartsNeedFewStates};
+ghost use Rattle.sem_split_bounds.specs.Cells.{CellsDoNotTell};
+ghost use Rattle.sem_split_bounds.specs.Refused.{FirstConditionTells, BrokenPartsTell, CountedPartsTell};
+ghost use Rattle.sem_split_bounds.specs.Split.{BrokenPartsNeedStates, RefusedFormsNeedStates, SplitConditionsAreExact};
+ghost use Rattle.sem_split_bounds.specs.Verdicts.{CompactVerdictsAreExact};
+
+/// A query that is no filter, of which a part of the split form fails first and by C1, needs many states on rows within its domains.
+pub fn first_condition_tells()
+    ensures { FirstConditionTells }
+{}
+
+/// Where some part of the split form of a query breaks C1 or C2, and each `<>` between streams has a side with both ends by the text, or without DISTINCT
+/// any condition, the query needs many states on rows within its domains.
+pub fn broken_parts_tell()
+    ensures { BrokenPartsTell }
+{}
+
+/// Without DISTINCT each part of the split form that breaks a condition tells that the query needs many states on rows within its domains, whatever stands
+/// between its streams.
+pub fn counted_parts_tell()
+    ensures { CountedPartsTell }
+{}
+
+/// Each part that breaks a condition tells it, where the integers just outside of those written have at most 15 digits and, with DISTINCT, each `<>`
+/// between streams has a side with both ends by the text.
+pub fn broken_parts_need_states()
+    ensures { BrokenPartsNeedStates }
+{}
+
+/// Under these premises a compact query that is refused by a condition needs many states on rows within its domains.
+pub fn refused_forms_need_states()
+    ensures { RefusedFormsNeedStates }
+{}
+
+/// Where no part of the split form breaks anything, some evaluator is right on rows within the domains and has few states, whatever the numbers of the
+/// query.
+pub fn unbroken_parts_have_few_states()
+    ensures { UnbrokenPartsHaveFewStates }
+{}
+
+/// So the query does not need many on such rows.
+pub fn unbroken_parts_need_few_states()
+    ensures { UnbrokenPartsNeedFewStates }
+{}
+
+/// The conditions of the split form are exact: a query that is no filter, compact or not, of which the integers just outside of those written have at most
+/// 15 digits and, with DISTINCT, each `<>` between streams has a side with both ends by the text, needs many states on rows within its domains, exactly
+/// where some part breaks a condition.
+pub fn split_conditions_are_exact()
+    ensures { SplitConditionsAreExact }
+{}
+
+/// The verdict on a compact query is exact: under these premises, unless it has too many parts, it needs many states on rows within its domains exactly
+/// where its verdict is that it violates a condition.
+pub fn compact_verdicts_are_exact()
+    ensures { CompactVerdictsAreExact }
+{}
+
+/// Few states are enough for a query with DISTINCT and two `<>` (`unlike_may_mislead`), but cells of one integer each do not tell its answers: however rows
+/// are led to cells by how their columns stand to each other and to integers, two histories leave the same numbers of rows, least and greatest values in
+/// each cell, and a row is answered differently after them.
+pub fn cells_do_not_tell()
+    ensures { CellsDoNotTell }
+{}
